@@ -1,0 +1,27 @@
+// Whole-number JSON values, their canonical text, and where bytes come from and go to.
+#![tactic(auto)]
+
+mod build;
+mod laws;
+mod members;
+mod memory;
+mod rewrite;
+mod stream;
+mod value;
+mod view;
+mod whole;
+
+pub use crate::build::{ListBuilder, ObjectBuilder};
+pub use crate::laws::{text_is_one_line, text_spells_its_value, text_tells_values_apart};
+pub use crate::members::{Member, Members};
+pub use crate::memory::{FailingWrite, MemorySink, MemorySource};
+pub use crate::stream::{Failed, FromStd, Sink, Source};
+pub use crate::value::{Json, JsonFault, quoted};
+pub use crate::view::View;
+pub use crate::whole::{OutFault, WholeFault, read_rest, read_whole, write_whole};
+pub use std::alloc::AllocError as Memory;
+
+#[cfg(test)]
+mod stream_tests;
+#[cfg(test)]
+mod tests;
