@@ -1,0 +1,11 @@
+pub mod Entries
+pub mod Longest
+pub mod MapWalks
+pub mod Members
+pub mod Nodes
+pub mod Outcome
+pub mod Risings
+pub mod Seeks
+pub mod SeveralKeys
+pub mod Strings
+pub mod Walks

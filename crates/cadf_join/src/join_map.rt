@@ -1,0 +1,226 @@
+//! A map from texts to values that join.
+ghost use Rattle.std.specs.Prelude.{◌≡◌, OnOk, OnErr, IfSome, is_some, IsSome, length, not, map, string_bytes};
+ghost use Rattle.std.specs.Option.{option_copied};
+ghost use Rattle.std.specs.FinMap as fin;
+ghost use Rattle.std.specs.Prelude.{IfOk, IsTrue, ◌↔◌, Some};
+ghost use Rattle.cadf_join.specs.Sets as set;
+ghost use Rattle.cadf_join.specs.Contents.{Text, IsBetween, under, section, next_after};
+ghost use Rattle.cadf_join.specs.Maps.{joined, held, heads, HasKeyed, NoneIsEmpty};
+ghost use Rattle.cadf_join.specs.Prefixes.{saturated};
+ghost use Rattle.cadf_join.specs.Several.{several};
+ghost use Rattle.cadf_join.specs.MapLaws.{joined_keyed, Puts, PartMissing};
+
+use crate::prefix::longer;
+use crate::text_set::is_after;
+use crate::{HasFirsts, Join, Memory};
+use std::alloc::Global;
+use std::collections::BTreeMap;
+use std::marker::Model;
+
+/// Values by their keys. No key is held whose value is empty.
+#[derive(Drop)]
+pub struct JoinMap<V: Join> {
+    parts: BTreeMap<String, V>,
+    alloc: Global,
+}
+
+impl<V: Join> Model for JoinMap<V> {
+    ghost use Rattle.cadf_join.specs.Maps.{MapValue, map_code, map_of, NoneIsEmpty};
+
+    ghost Value = { MapValue V };
+
+    ghost coded = { map_code V.code };
+
+    ghost view = { λ m. map_of m.parts.entries };
+
+    ghost invariant = { λ m. NoneIsEmpty V.contents (map_of m.parts.entries) };
+}
+
+impl<V: Join> JoinMap<V> {
+    pub fn new(alloc: Global) -> JoinMap<V>
+        ensures empty { joined V.contents result ≡ set.empty }
+        ensures no_key { result ≡ fin.empty }
+    {
+        JoinMap {
+            parts: BTreeMap::new(alloc),
+            alloc,
+        }
+    }
+
+    /// The value at the key, which is not empty.
+    pub fn get(&self, key: &str) -> Option<&V>
+        ensures part { held V.contents (option_copied result) ≡ section (joined V.contents self.now) key.now }
+        ensures some { IfSome result (λ v. V.contents v.now ≡ set.empty → ⊥) }
+    {
+        self.parts.get(key)
+    }
+
+    /// Joins a value into that of the key.
+    pub fn join_at(&mut self, key: &str, value: &V) -> Result<(), Memory>
+        ensures ok { OnOk result (joined V.contents self.new ≡ set.union (joined V.contents self.old) (under key.now (V.contents value.now))) }
+        ensures err { OnErr result (IsBetween (joined V.contents self.old) (joined V.contents self.new) (set.union (joined V.contents self.old) (under key.now (V.contents value.now)))) }
+    {
+        if value.is_empty() {
+            return Ok(());
+        }
+        if let Some(part) = self.parts.get_mut(key) {
+            return part.join(value);
+        }
+        let part = value.copy()?;
+        self.parts.insert(String::from_str(self.alloc, key)?, part)?;
+        Ok(())
+    }
+
+    /// The number of keys.
+    pub fn key_count(&self) -> usize
+        ensures { result ≡ length (set.rising (heads (joined V.contents self.now))) }
+    {
+        self.parts.len()
+    }
+
+    /// The least key above the given text, or the least of all for `None`.
+    pub fn after(&self, text: Option<&str>) -> Option<&str>
+        ensures { option_copied result ≡ next_after (heads (joined V.contents self.now)) (option_copied text.entry) }
+    {
+        for (key, _) in &self.parts {
+            if is_after(text, key.as_str()) {
+                return Some(key.as_str());
+            }
+        }
+        None
+    }
+
+    /// Each key once, in order.
+    pub fn keys(&self) -> Result<Vec<String>, Memory>
+        ensures { IfOk result (λ keys. map string_bytes keys.items ≡ set.rising (heads (joined V.contents self.now))) }
+    {
+        let mut keys = Vec::new(self.alloc);
+        for (key, _) in &self.parts {
+            keys.push(String::from_str(self.alloc, key.as_str())?)?;
+        }
+        Ok(keys)
+    }
+
+    /// Puts a value that is not empty at the key.
+    fn put(&mut self, key: &str, value: V) -> Result<(), Memory>
+        requires { V.contents value ≡ set.empty → ⊥ }
+        ensures { OnOk result (Puts self.old self.new key.now value) }
+    {
+        self.parts
+            .insert(String::from_str(self.alloc, key)?, value)?;
+        Ok(())
+    }
+
+    /// Whether each key has the same contents in `other`.
+    fn agrees_with(&self, other: &JoinMap<V>) -> bool
+        ensures { IsTrue result ↔ ((k : Text) (v : V) → fin.get self.now k ≡ Some v → V.contents v ≡ held V.contents (fin.get other.now k)) }
+    {
+        for (key, part) in &self.parts {
+            let Some(held) = other.parts.get(key.as_str()) else {
+                return false;
+            };
+            if !part.same(held) {
+                return false;
+            }
+        }
+        true
+    }
+
+    /// Whether each key of `other` is held.
+    fn has_keys_of(&self, other: &JoinMap<V>) -> bool
+        ensures test { IsTrue result ↔ ((k : Text) → IsSome (fin.get other.now k) → IsSome (fin.get self.now k)) }
+        ensures none_empty { NoneIsEmpty V.contents other.now }
+    {
+        for (key, _) in &other.parts {
+            if !self.parts.contains_key(key.as_str()) {
+                return false;
+            }
+        }
+        true
+    }
+}
+
+impl<V: HasFirsts> JoinMap<V> {
+    /// The number of keys with several first texts behind them, or `u64::MAX` where there are more.
+    pub fn several_count(&self) -> u64
+        ensures { result ≡ saturated (length (several (joined V.contents self.now))) }
+    {
+        let mut count: u64 = 0;
+        for (_, part) in &self.parts {
+            if part.has_several() {
+                count = count.saturating_add(1);
+            }
+        }
+        count
+    }
+}
+
+/// What a value lacks in the other one, or in nothing.
+fn missing_part<V: Join>(part: &V, other: Option<&V>) -> Result<Option<V>, Memory>
+    requires { V.contents part.now ≡ set.empty → ⊥ }
+    ensures { IfOk result (PartMissing V.contents V.is_contents (Some part.now) (option_copied other.entry)) }
+{
+    match other {
+        Some(other) => part.missing_from(other),
+        None => Ok(Some(part.copy()?)),
+    }
+}
+
+impl<V: Join> Join for JoinMap<V> {
+    ghost contents = { joined V.contents };
+
+    ghost is_contents = { HasKeyed V.is_contents };
+
+    fn join(&mut self, other: &JoinMap<V>) -> Result<(), Memory> {
+        for (key, part) in &other.parts {
+            self.join_at(key.as_str(), part)?;
+        }
+        Ok(())
+    }
+
+    fn missing_from(&self, other: &JoinMap<V>) -> Result<Option<JoinMap<V>>, Memory> {
+        let mut missing = JoinMap::new(self.alloc);
+        for (key, part) in &self.parts {
+            match missing_part(part, other.parts.get(key.as_str()))? {
+                Some(lacking) => missing.put(key.as_str(), lacking)?,
+                None => {}
+            }
+        }
+        if missing.parts.is_empty() {
+            return Ok(None);
+        }
+        Ok(Some(missing))
+    }
+
+    fn copy(&self) -> Result<JoinMap<V>, Memory> {
+        let mut copied = JoinMap::new(self.alloc);
+        copied.join(self)?;
+        Ok(copied)
+    }
+
+    fn same(&self, other: &JoinMap<V>) -> bool {
+        self.agrees_with(other) && self.has_keys_of(other)
+    }
+
+    fn is_empty(&self) -> bool {
+        self.parts.is_empty()
+    }
+
+    fn list_count(&self) -> u64 {
+        let mut count: u64 = 0;
+        for (_, part) in &self.parts {
+            count = count.saturating_add(part.list_count());
+        }
+        count
+    }
+
+    fn append_lists(&self, prefix: &[String], lists: &mut Vec<Vec<String>>) -> Result<(), Memory> {
+        for (key, part) in &self.parts {
+            let behind = longer(self.alloc, prefix, key.as_str())?;
+            part.append_lists(behind.as_slice(), lists)?;
+        }
+        Ok(())
+    }
+
+    ghost contents_are = { joined_keyed V.contents V.is_contents V.contents_are };
+}

@@ -1,0 +1,153 @@
+//! A set of texts.
+ghost use Rattle.std.specs.Prelude.{◌≡◌, OnOk, OnErr, IfOk, length, not, [], map, string_bytes};
+ghost use Rattle.cadf_join.specs.Sets as set;
+ghost use Rattle.std.specs.Option.{option_copied};
+ghost use Rattle.cadf_join.specs.Contents.{text_cmp, singles, HasSingles, next_after, is_after};
+ghost use Rattle.cadf_join.specs.ContentsLaws.{singles_are_single};
+
+use crate::prefix::longer;
+use crate::{Join, Memory};
+use std::alloc::Global;
+use std::collections::BTreeSet;
+use std::marker::Model;
+
+#[derive(Drop)]
+pub struct TextSet {
+    texts: BTreeSet<String>,
+    alloc: Global,
+}
+
+impl Model for TextSet {
+    ghost use Rattle.std.specs.Prelude.{map, string_bytes};
+    ghost use Rattle.cadf_join.specs.Sets as set;
+    ghost use Rattle.cadf_join.specs.Contents.{TextSetValue, text_set_code};
+
+    ghost Value = { TextSetValue };
+
+    ghost coded = { text_set_code };
+
+    ghost view = { λ s. set.from_list (map string_bytes s.texts.keys) };
+}
+
+impl TextSet {
+    pub fn new(alloc: Global) -> TextSet
+        ensures { result ≡ set.empty }
+    {
+        TextSet {
+            texts: BTreeSet::new(alloc),
+            alloc,
+        }
+    }
+
+    /// Adds the text, and tells whether it is new.
+    pub fn insert(&mut self, text: &str) -> Result<bool, Memory>
+        ensures added { IfOk result (λ new. new ≡ not (set.contains self.old text.now)) }
+        ensures ok { OnOk result (self.new ≡ set.insert self.old text.now) }
+        ensures err { OnErr result (self.new ≡ self.old) }
+    {
+        if self.texts.contains(text) {
+            return Ok(false);
+        }
+        self.texts.insert(String::from_str(self.alloc, text)?)?;
+        Ok(true)
+    }
+
+    pub fn contains(&self, text: &str) -> bool
+        ensures { result ≡ set.contains self.now text.now }
+    {
+        self.texts.contains(text)
+    }
+
+    /// The number of texts.
+    pub fn text_count(&self) -> usize
+        ensures { result ≡ length (set.rising self.now) }
+    {
+        self.texts.len()
+    }
+
+    /// The least text above the given one, or the least of all for `None`.
+    pub fn after(&self, text: Option<&str>) -> Option<&str>
+        ensures { option_copied result ≡ next_after self.now (option_copied text.entry) }
+    {
+        for held in &self.texts {
+            if is_after(text, held.as_str()) {
+                return Some(held.as_str());
+            }
+        }
+        None
+    }
+
+    /// Each text once, in order.
+    pub fn texts(&self) -> Result<Vec<String>, Memory>
+        ensures { IfOk result (λ texts. map string_bytes texts.items ≡ set.rising self.now) }
+    {
+        let mut texts = Vec::new(self.alloc);
+        for text in &self.texts {
+            texts.push(String::from_str(self.alloc, text.as_str())?)?;
+        }
+        Ok(texts)
+    }
+}
+
+/// Whether the text comes after the given one, as each does where none is given.
+pub(crate) fn is_after(given: Option<&str>, text: &str) -> bool
+    ensures { result ≡ is_after text_cmp (option_copied given.entry) text.now }
+{
+    match given {
+        None => true,
+        Some(given) => given < text,
+    }
+}
+
+impl Join for TextSet {
+    ghost contents = { singles };
+
+    ghost is_contents = { HasSingles };
+
+    fn join(&mut self, other: &TextSet) -> Result<(), Memory> {
+        for text in &other.texts {
+            self.insert(text.as_str())?;
+        }
+        Ok(())
+    }
+
+    fn missing_from(&self, other: &TextSet) -> Result<Option<TextSet>, Memory> {
+        let mut part = TextSet::new(self.alloc);
+        for text in &self.texts {
+            if !other.contains(text.as_str()) {
+                part.insert(text.as_str())?;
+            }
+        }
+        if part.is_empty() {
+            return Ok(None);
+        }
+        Ok(Some(part))
+    }
+
+    fn copy(&self) -> Result<TextSet, Memory> {
+        let mut copied = TextSet::new(self.alloc);
+        copied.join(self)?;
+        Ok(copied)
+    }
+
+    fn same(&self, other: &TextSet) -> bool {
+        self.texts.is_subset(&other.texts) && other.texts.is_subset(&self.texts)
+    }
+
+    fn is_empty(&self) -> bool {
+        self.texts.is_empty()
+    }
+
+    fn list_count(&self) -> u64 {
+        self.text_count() as u64
+    }
+
+    fn append_lists(&self, prefix: &[String], lists: &mut Vec<Vec<String>>) -> Result<(), Memory> {
+        for text in &self.texts {
+            lists.push(longer(self.alloc, prefix, text.as_str())?)?;
+        }
+        Ok(())
+    }
+
+    ghost contents_are = { singles_are_single };
+}
