@@ -1,0 +1,87 @@
+#!/usr/bin/env python3
+"""Times `cadf show` beside `jq -cS .` on generated log documents.
+
+    bench/show.py [--sizes 10,100] [--runs 3] [BINARY]
+
+BINARY is crates/cadf/out/cadf unless given. Both programs run on the same file in the same run; what counts are
+the ratios, of the least wall time and of the greatest resident memory. Prints one line a size.
+"""
+import argparse
+import hashlib
+import os
+import resource
+import subprocess
+import sys
+import tempfile
+import time
+
+TOP = os.path.dirname(os.path.dirname(os.path.abspath(__file__)))
+
+
+def event(n):
+    """An event as OpenStack's audit middleware writes it, its identifier and time from n."""
+    key = hashlib.sha256(str(n).encode()).hexdigest()
+    ident = "-".join((key[:8], key[8:12], key[12:16], key[16:20], key[20:32]))
+    seconds = n % 86400
+    stamp = "2014-02-%02dT%02d:%02d:%02d.%06d+0000" % (
+        1 + n // 86400 % 28, seconds // 3600, seconds // 60 % 60, seconds % 60, n * 7919 % 1000000)
+    return (
+        '{"typeURI": "http://schemas.dmtf.org/cloud/audit/1.0/event", "eventType": "activity", "id": "%s", '
+        '"eventTime": "%s", "action": "read/list", "outcome": "success", "observer": {"id": "target"}, '
+        '"initiator": {"id": "user-%d", "typeURI": "service/security/account/user", "name": "demo", '
+        '"host": {"address": "192.168.0.%d", "agent": "python-novaclient"}, "project_id": "%s"}, '
+        '"target": {"id": "urn:uuid:%s", "typeURI": "service/compute/servers", "name": "nova"}, '
+        '"requestPath": "/v2.1/servers/detail?marker=%d", "tags": ["correlation_id?value=%s"], '
+        '"reason": {"reasonType": "HTTP", "reasonCode": "200"}, '
+        '"reporterchain": [{"role": "modifier", "reporterTime": "%s", "reporter": {"id": "target"}}]}'
+        % (ident, stamp, n % 997, n % 250, key[:32], key[32:], n, key[20:52], stamp))
+
+
+def document(path, size):
+    with open(path, "w") as out:
+        out.write('{"id": "openstack:audit", "events": [')
+        written, n = 0, 0
+        while written < size:
+            text = (", " if n else "") + event(n)
+            out.write(text)
+            written += len(text)
+            n += 1
+        out.write("]}\n")
+    return n
+
+
+def measured(command, runs):
+    """The least wall time in seconds, and the greatest resident memory in MB, of that many runs."""
+    best, peak = None, 0
+    for _ in range(runs):
+        start = time.monotonic()
+        with open(os.devnull, "w") as null:
+            child = subprocess.Popen(command, stdout=null, stdin=subprocess.DEVNULL)
+            _, status, usage = os.wait4(child.pid, 0)
+        spent = time.monotonic() - start
+        if status != 0:
+            sys.exit("%s ended with status %d" % (command[0], status))
+        best = spent if best is None else min(best, spent)
+        peak = max(peak, usage.ru_maxrss / 1024)
+    return best, peak
+
+
+def main():
+    parser = argparse.ArgumentParser(description=__doc__, formatter_class=argparse.RawDescriptionHelpFormatter)
+    parser.add_argument("--sizes", default="10,100", help="in MB, parted by commas")
+    parser.add_argument("--runs", type=int, default=3)
+    parser.add_argument("binary", nargs="?", default=os.path.join(TOP, "crates", "cadf", "out", "cadf"))
+    options = parser.parse_args()
+    resource.setrlimit(resource.RLIMIT_CORE, (0, 0))
+    for size in (int(word) for word in options.sizes.split(",")):
+        with tempfile.TemporaryDirectory() as folder:
+            path = os.path.join(folder, "log.json")
+            events = document(path, size * 1000000)
+            ours = measured([options.binary, "show", path], options.runs)
+            theirs = measured(["jq", "-cS", ".", path], options.runs)
+        print("%d MB, %d events: cadf %.2f s %.0f MB, jq %.2f s %.0f MB, time %.2f, memory %.2f" % (
+            size, events, ours[0], ours[1], theirs[0], theirs[1], ours[0] / theirs[0], ours[1] / theirs[1]))
+
+
+if __name__ == "__main__":
+    main()
