@@ -7,21 +7,15 @@ BINARY is crates/cadf/out/cadf unless given. Both programs run on the same file 
 the ratios, of the least wall time and of the greatest resident memory. Prints one line a size.
 """
 import argparse
-import hashlib
 import os
-import resource
-import subprocess
-import sys
 import tempfile
-import time
 
-TOP = os.path.dirname(os.path.dirname(os.path.abspath(__file__)))
+from measure import BINARY, identifier_of, key_of, measured
 
 
 def event(n):
     """An event as OpenStack's audit middleware writes it, its identifier and time from n."""
-    key = hashlib.sha256(str(n).encode()).hexdigest()
-    ident = "-".join((key[:8], key[8:12], key[12:16], key[16:20], key[20:32]))
+    key, ident = key_of(n), identifier_of(n)
     seconds = n % 86400
     stamp = "2014-02-%02dT%02d:%02d:%02d.%06d+0000" % (
         1 + n // 86400 % 28, seconds // 3600, seconds // 60 % 60, seconds % 60, n * 7919 % 1000000)
@@ -50,29 +44,12 @@ def document(path, size):
     return n
 
 
-def measured(command, runs):
-    """The least wall time in seconds, and the greatest resident memory in MB, of that many runs."""
-    best, peak = None, 0
-    for _ in range(runs):
-        start = time.monotonic()
-        with open(os.devnull, "w") as null:
-            child = subprocess.Popen(command, stdout=null, stdin=subprocess.DEVNULL)
-            _, status, usage = os.wait4(child.pid, 0)
-        spent = time.monotonic() - start
-        if status != 0:
-            sys.exit("%s ended with status %d" % (command[0], status))
-        best = spent if best is None else min(best, spent)
-        peak = max(peak, usage.ru_maxrss / 1024)
-    return best, peak
-
-
 def main():
     parser = argparse.ArgumentParser(description=__doc__, formatter_class=argparse.RawDescriptionHelpFormatter)
     parser.add_argument("--sizes", default="10,100", help="in MB, parted by commas")
     parser.add_argument("--runs", type=int, default=3)
-    parser.add_argument("binary", nargs="?", default=os.path.join(TOP, "crates", "cadf", "out", "cadf"))
+    parser.add_argument("binary", nargs="?", default=BINARY)
     options = parser.parse_args()
-    resource.setrlimit(resource.RLIMIT_CORE, (0, 0))
     for size in (int(word) for word in options.sizes.split(",")):
         with tempfile.TemporaryDirectory() as folder:
             path = os.path.join(folder, "log.json")

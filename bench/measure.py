@@ -1,0 +1,69 @@
+"""What the benchmarks share: a command's wall time and peak memory, and generated events and replica files."""
+import hashlib
+import json
+import os
+import subprocess
+import sys
+import time
+
+TOP = os.path.dirname(os.path.dirname(os.path.abspath(__file__)))
+BINARY = os.path.join(TOP, "crates", "cadf", "out", "cadf")
+EVENT = "http://schemas.dmtf.org/cloud/audit/1.0/event"
+
+
+def measured(command, runs):
+    """The least wall time in seconds, and the greatest resident memory in MB, of that many runs."""
+    best, peak = None, 0
+    for _ in range(runs):
+        start = time.monotonic()
+        with open(os.devnull, "w") as null:
+            child = subprocess.Popen(command, stdout=null, stdin=subprocess.DEVNULL)
+            _, status, usage = os.wait4(child.pid, 0)
+        spent = time.monotonic() - start
+        if status != 0:
+            sys.exit("%s ended with status %d" % (command[0], status))
+        best = spent if best is None else min(best, spent)
+        peak = max(peak, usage.ru_maxrss / 1024)
+    return best, peak
+
+
+def key_of(number):
+    """64 hexadecimal digits that stand for the number."""
+    return hashlib.sha256(str(number).encode()).hexdigest()
+
+
+def identifier_of(number):
+    key = key_of(number)
+    return "-".join((key[:8], key[8:12], key[12:16], key[16:20], key[20:32]))
+
+
+def spelled(value):
+    """The canonical text of a value whose names are ASCII."""
+    return json.dumps(value, ensure_ascii=False, separators=(",", ":"), sort_keys=True)
+
+
+def atoms_of(number):
+    """The three atoms of an event: itself, a chain of one step, a tag."""
+    key, seconds = key_of(number), number % 86400
+    stamp = "2014-02-%02dT%02d:%02d:%02dZ" % (
+        1 + number // 86400 % 28, seconds // 3600, seconds // 60 % 60, seconds % 60)
+    body = spelled({
+        "action": "read/list", "eventTime": stamp, "eventType": "activity", "id": identifier_of(number),
+        "initiator": {"id": "user-%d" % (number % 997), "typeURI": "service/security/account/user",
+                      "name": "demo", "project_id": key[:32]},
+        "observer": {"id": "target"}, "outcome": "success",
+        "target": {"id": "urn:uuid:" + key[32:], "typeURI": "service/compute/servers", "name": "nova"},
+        "typeURI": EVENT})
+    step = spelled({"reporter": {"id": "target"}, "reporterTime": stamp, "role": "modifier"})
+    carrier = ("E", identifier_of(number), body)
+    return [carrier, carrier + ("C", step), carrier + ("T", "correlation_id?value=" + key[20:52])]
+
+
+def replica_file(path, log, events):
+    """Writes the replica file of these events' atoms, and says how many atoms it has."""
+    atoms = sorted((tuple(part.encode() for part in atom) for event in events for atom in atoms_of(event)))
+    text = b"CADF-REPLICA 1\nL " + spelled(log).encode() + b"\n"
+    text += b"".join(spelled([part.decode() for part in atom]).encode() + b"\n" for atom in atoms)
+    with open(path, "wb") as out:
+        out.write(text + b"Z " + hashlib.sha256(text).hexdigest().encode() + b"\n")
+    return len(atoms)
