@@ -44,18 +44,21 @@ impl<'v> View<'v> {
         self.value.as_str()
     }
 
+    /// Whether it is `null`; a member that is not there is no part at all.
     pub fn is_null(&self) -> bool
         ensures { result ≡ is_some (as_null self.now) }
     {
         self.value.is_null()
     }
 
+    /// Whether it is an object, which may be empty.
     pub fn is_object(&self) -> bool
         ensures { result ≡ is_object self.now }
     {
         self.value.is_object()
     }
 
+    /// Whether it is a list, which may be empty.
     pub fn is_list(&self) -> bool
         ensures { result ≡ is_some (as_array self.now) }
     {

@@ -1,0 +1,4 @@
+pub mod Reading
+pub mod StampFault
+pub mod Time
+pub mod WrittenView

@@ -1,0 +1,10 @@
+//! Times: an instant with the offset at which it was written, and its one spelling.
+#![tactic(auto)]
+
+pub mod laws;
+mod time;
+
+pub use time::{Stamp, StampFault};
+
+#[cfg(test)]
+mod tests;
