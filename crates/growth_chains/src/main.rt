@@ -1,21 +1,32 @@
-// Inserts and joins of which any one growth may be refused, and what must hold afterwards. Standard
-// input names a step and how many growths are to be made idly before its call, so that a runner
-// that refuses one growth of fixed number refuses each growth of that call in turn. What is written
-// to standard output is the same in every run; standard error tells which growth was refused.
+// Calls of which any one growth may be refused, and what must hold afterwards. Standard input names
+// a step and how many growths are to be made idly before its call, so that a runner that refuses one
+// growth of fixed number refuses each growth of that call in turn. What is written to standard
+// output is the same in every run; standard error tells which growth was refused.
 #![tactic(auto)]
 
+mod inserts;
 mod steps;
+mod values;
+mod watched;
 
-use crate::steps::{Report, Step, run};
+use crate::steps::{Step, run};
+use crate::watched::Report;
 use std::io;
 
-const STEPS: [Step; 6] = [
+const STEPS: [Step; 13] = [
     Step::Insert,
+    Step::InsertText,
+    Step::JoinAt,
+    Step::JoinDeepTrees,
     Step::JoinTrees,
     Step::MissingTrees,
     Step::LookIntoTree,
+    Step::JoinTexts,
+    Step::MissingTexts,
+    Step::LookIntoTexts,
     Step::JoinMaps,
     Step::MissingMaps,
+    Step::LookIntoMap,
 ];
 
 // The number of idle growths that the line asks for before that step.
