@@ -17,7 +17,7 @@ use std::alloc::Global;
 use std::collections::BTreeMap;
 use std::marker::Model;
 
-/// Values by their keys. No key is held whose value is empty.
+/// Values by their keys; maps nest. Its contents are those of each value, each list behind its key. No key is held whose value is empty.
 #[derive(Drop)]
 pub struct JoinMap<V: Join> {
     parts: BTreeMap<String, V>,
@@ -37,6 +37,7 @@ impl<V: Join> Model for JoinMap<V> {
 }
 
 impl<V: Join> JoinMap<V> {
+    /// An empty map, which grows in that allocator. Takes no memory.
     pub fn new(alloc: Global) -> JoinMap<V>
         ensures empty { joined V.contents result ≡ set.empty }
         ensures no_key { result ≡ fin.empty }
@@ -55,7 +56,7 @@ impl<V: Join> JoinMap<V> {
         self.parts.get(key)
     }
 
-    /// Joins a value into that of the key.
+    /// Joins a value into that of the key. An empty value changes nothing. After a refused growth the other keys are as before and this one lies between.
     pub fn join_at(&mut self, key: &str, value: &V) -> Result<(), Memory>
         ensures ok { OnOk result (joined V.contents self.new ≡ set.union (joined V.contents self.old) (under key.now (V.contents value.now))) }
         ensures err { OnErr result (IsBetween (joined V.contents self.old) (joined V.contents self.new) (set.union (joined V.contents self.old) (under key.now (V.contents value.now)))) }
@@ -78,7 +79,7 @@ impl<V: Join> JoinMap<V> {
         self.parts.len()
     }
 
-    /// The least key above the given text, or the least of all for `None`.
+    /// The least key above the given text, held or not, by their bytes, or the least of all for `None`. Walks all keys before it: `keys` lists them all.
     pub fn after(&self, text: Option<&str>) -> Option<&str>
         ensures { option_copied result ≡ next_after (heads (joined V.contents self.now)) (option_copied text.entry) }
     {

@@ -22,7 +22,9 @@ pub use text_set::TextSet;
 /// The allocator refused a growth.
 pub type Memory = AllocError;
 
-/// A set of lists of texts that only grows.
+/// A set of lists of texts that only grows. Values join in any order, grouping and repetition with the same outcome.
+///
+/// A call that answers `Memory` was refused a growth: what it was to change lies between what it was and what it was to be, and the same call again may succeed.
 pub trait Join: Drop {
     /// The lists that a value holds.
     ghost contents: { Self → Contents };

@@ -11,6 +11,7 @@ use std::alloc::Global;
 use std::collections::BTreeSet;
 use std::marker::Model;
 
+/// A set of texts that only grows. Its contents are lists of one text each.
 #[derive(Drop)]
 pub struct TextSet {
     texts: BTreeSet<String>,
@@ -30,6 +31,7 @@ impl Model for TextSet {
 }
 
 impl TextSet {
+    /// An empty set, which grows in that allocator. Takes no memory.
     pub fn new(alloc: Global) -> TextSet
         ensures { result ≡ set.empty }
     {
@@ -39,7 +41,7 @@ impl TextSet {
         }
     }
 
-    /// Adds the text, and tells whether it is new.
+    /// Adds the text, and tells whether it is new. After a refused growth the set is as before.
     pub fn insert(&mut self, text: &str) -> Result<bool, Memory>
         ensures added { IfOk result (λ new. new ≡ not (set.contains self.old text.now)) }
         ensures ok { OnOk result (self.new ≡ set.insert self.old text.now) }
@@ -52,6 +54,7 @@ impl TextSet {
         Ok(true)
     }
 
+    /// Whether the set has the text.
     pub fn contains(&self, text: &str) -> bool
         ensures { result ≡ set.contains self.now text.now }
     {
@@ -65,7 +68,7 @@ impl TextSet {
         self.texts.len()
     }
 
-    /// The least text above the given one, or the least of all for `None`.
+    /// The least text above the given one, held or not, by their bytes, or the least of all for `None`. Walks all texts before it: `texts` lists them all.
     pub fn after(&self, text: Option<&str>) -> Option<&str>
         ensures { option_copied result ≡ next_after self.now (option_copied text.entry) }
     {
