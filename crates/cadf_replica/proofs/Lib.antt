@@ -8,6 +8,7 @@ pub mod History
 pub mod Keys
 pub mod Lists
 pub mod Missing
+pub mod Nexts
 pub mod OrderLemmas
 pub mod Ordered
 pub mod Outcome

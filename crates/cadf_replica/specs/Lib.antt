@@ -16,5 +16,6 @@ pub mod Rehearsal
 pub mod Replica
 pub mod Retry
 pub mod Schedule
+pub mod Seek
 pub mod Shown
 pub mod ValueTests

@@ -9,6 +9,7 @@ mod name;
 pub mod path;
 pub mod rehearsal;
 pub mod replica;
+mod seek;
 mod seen;
 mod shape;
 
