@@ -1,5 +1,6 @@
 //! Inputs that are loaded by themselves.
 use crate::support::spelled;
+use cadf_file::FileFault;
 use cadf_json::MemorySource;
 use cadf_tool::{LoadFault, Loaded, load};
 use std::test::Fail;
@@ -11,12 +12,16 @@ fn loads(rt: HostRuntime) -> Result<(), Fail> {
     let event = spelled(alloc, "V1")?;
     for piece in [1usize, 7, 4096] {
         let mut source = MemorySource::new(log.as_bytes(), piece, 0);
-        let Loaded::Document(document) = load(alloc, &mut source)?;
+        let Loaded::Document(document) = load(alloc, &mut source)? else {
+            return Err("a file".into());
+        };
         assert!(rt; document.log().is_some_and(|log| log.as_str() == "g"));
         assert!(rt; document.sightings().len() == 2);
         assert!(rt; document.properties().len() == 1);
         let mut source = MemorySource::new(event.as_bytes(), piece, 0);
-        let Loaded::Document(document) = load(alloc, &mut source)?;
+        let Loaded::Document(document) = load(alloc, &mut source)? else {
+            return Err("a file".into());
+        };
         assert!(rt; document.log().is_none());
         assert!(rt; document.sightings().len() == 1);
     }
@@ -33,5 +38,5 @@ fn answers_a_failed_read(rt: HostRuntime) {
     }
     let mut source = MemorySource::new(input, 7, 0);
     let answer = load(rt.alloc(), &mut source).err();
-    assert!(rt; answer == Some(LoadFault::NotYet));
+    assert!(rt; answer == Some(LoadFault::File(FileFault::Truncated)));
 }

@@ -2,7 +2,13 @@
 #![tactic(auto)]
 
 #[cfg(test)]
+mod checks;
+#[cfg(test)]
+mod files;
+#[cfg(test)]
 mod inputs;
+#[cfg(test)]
+mod joins;
 #[cfg(test)]
 mod limits;
 #[cfg(test)]

@@ -7,16 +7,9 @@ use std::process::Abort;
 use std::test::Fail;
 
 /// Inputs, and why they are refused.
-const REFUSED: [(&str, &str); 39] = [
-    (
-        r#"CADF-REPLICA 1
-L "g"
-Z 91bc889dd4ac00c804e2d4f04ccbfda0bbcf55a21f9e4c428088c3db65a96ea9
-"#,
-        "input 1: not yet",
-    ),
+const REFUSED: [(&str, &str); 38] = [
     ("CADF", "input 1: not JSON"),
-    ("CADF-", "input 1: not yet"),
+    ("CADF-", "input 1: truncated"),
     ("", "input 1: not JSON"),
     ("[1.5", "input 1: not JSON"),
     ("[1.5]", "input 1: a number is not whole"),

@@ -1,3 +1,8 @@
+pub mod Starts
+pub mod FileReading
+pub mod DocumentReading
+pub mod LoadedLists
+pub mod Telling
 pub mod LoadLemmas
 pub mod OneDocument
 pub mod OneText

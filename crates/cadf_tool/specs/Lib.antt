@@ -1,5 +1,10 @@
 pub mod Input
 pub mod InputFault
 pub mod Faults
+pub mod Told
+pub mod OneInput
 pub mod Shown
-pub mod ShowWrites
+pub mod Inputs
+pub mod InputsRefusal
+pub mod Join
+pub mod JoinWrites

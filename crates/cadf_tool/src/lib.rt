@@ -1,13 +1,19 @@
 //! The engines of the command: what each writes of what it read.
 #![tactic(auto)]
 
+mod check;
 mod fault;
 mod input;
+mod inputs;
+mod join;
 pub mod laws;
 mod show;
+mod told;
 
+pub use crate::check::run_check;
 pub use crate::fault::{ToolFault, status};
 pub use crate::input::{LoadFault, Loaded, load};
+pub use crate::join::run_join;
 pub use crate::show::run_show;
 
 /// The most bytes that an input may have.

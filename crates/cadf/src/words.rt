@@ -1,0 +1,65 @@
+//! The words of the command line.
+use clap::builder::ValueParser;
+use clap::{Arg, ArgAction, Command, Error};
+use std::alloc::Global;
+
+/// `join`, with its words.
+fn join<'a>(alloc: Global) -> Result<Command<'a>, Error> {
+    let log = Arg::new(alloc, "log")
+        .long("log")
+        .value_name("ID")
+        .value_parser(ValueParser::string())
+        .help("The log's identifier, else that of the first input that names one");
+    let files = Arg::new(alloc, "FILE")
+        .required(true)
+        .num_args(1..)
+        .help("Replica files, logs or events");
+    Ok(
+        Command::new(alloc, "join")
+            .about("Writes the replica file of what all inputs tell")
+            .arg(log)?
+            .arg(files)?,
+    )
+}
+
+/// `show`, with its words.
+fn show<'a>(alloc: Global) -> Result<Command<'a>, Error> {
+    let conflicts = Arg::new(alloc, "conflicts")
+        .long("conflicts")
+        .action(ArgAction::SetTrue)
+        .help("Print the keys with several values instead");
+    let file = Arg::new(alloc, "FILE")
+        .required(true)
+        .help("A replica file or a log");
+    Ok(
+        Command::new(alloc, "show")
+            .about("Prints what a file tells, as a log")
+            .arg(conflicts)?
+            .arg(file)?,
+    )
+}
+
+/// `check`, with its words.
+fn check<'a>(alloc: Global) -> Result<Command<'a>, Error> {
+    let file = Arg::new(alloc, "FILE")
+        .required(true)
+        .help("A replica file or a log");
+    Ok(
+        Command::new(alloc, "check")
+            .about("Reads a file whole, and counts its atoms and its conflicts")
+            .arg(file)?,
+    )
+}
+
+/// The command with its subcommands.
+pub(crate) fn command<'a>(alloc: Global) -> Result<Command<'a>, Error> {
+    Ok(
+        Command::new(alloc, "cadf")
+            .version("0.1.0")
+            .about("Keeps replicas of a CADF log and makes them converge")
+            .subcommand_required(true)
+            .subcommand(join(alloc)?)?
+            .subcommand(show(alloc)?)?
+            .subcommand(check(alloc)?)?,
+    )
+}

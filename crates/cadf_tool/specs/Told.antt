@@ -1,0 +1,40 @@
+-- What an engine with one input writes, as one function of the bytes of its input.
+--     log_named loaded, atoms_of loaded     the log that an input names, and the atoms that it contributes
+--     IsHeld bytes h                        the bytes are an input that names a log, and h is this log and the input's atoms
+--     WritesTold tell before after bytes    what `tell` makes of them was written
+use Rattle.std.specs.Prelude.{◌≡◌, List, ℕ, Option, Some, None}
+use Rattle.std.specs.Io.KnownBytes.{Appends}
+use Rattle.cadf_json.specs.Streams.{AppendsFront}
+use Rattle.cadf_join.specs.Contents.{Text, Contents}
+use Rattle.cadf_replica.specs.Contributions.{document_atoms}
+use Rattle.cadf_replica.specs.Replica.{Held}
+use Rattle.cadf_tool.specs.declared.input.Loaded.{Loaded}
+use Rattle.cadf_tool.specs.declared.input.Loaded.TheVariants.{Replica, Document}
+use Rattle.cadf_tool.specs.Input.{IsInput}
+
+-- an event by itself names none
+abbrev pub log_named : Loaded → Option Text
+log_named (Replica h) = Some h.log
+log_named (Document doc) = doc.log
+
+abbrev pub atoms_of : Loaded → Contents
+atoms_of (Replica h) = h.atoms
+atoms_of (Document doc) = document_atoms doc
+
+pub record IsHeld (bytes : List ℕ) (h : Held) : Type 0 where
+  pub loaded : Loaded
+  pub input : IsInput bytes loaded
+  pub named : log_named loaded ≡ Some h.log
+  pub atoms : h.atoms ≡ atoms_of loaded
+
+-- the bytes are an input that names no log
+abbrev pub IsUnnamed : List ℕ → Type 0
+IsUnnamed bytes = (loaded : Loaded) × (IsInput bytes loaded × (log_named loaded ≡ None))
+
+-- the text of the bytes was written, and nothing else
+abbrev pub WritesTold : (Held → Text) → Option (List ℕ) → Option (List ℕ) → List ℕ → Type 0
+WritesTold tell before after bytes = (h : Held) × (IsHeld bytes h × Appends before after (tell h))
+
+-- a front of that text was written, and nothing else
+abbrev pub WritesFront : (Held → Text) → Option (List ℕ) → Option (List ℕ) → List ℕ → Type 0
+WritesFront tell before after bytes = (h : Held) × (IsHeld bytes h × AppendsFront before after (tell h))
