@@ -1,0 +1,15 @@
+//! Examples of atoms and replicas: what is read, taken, held, joined and missing.
+#![tactic(auto)]
+
+#[cfg(test)]
+mod atoms;
+#[cfg(test)]
+mod exchange;
+#[cfg(test)]
+mod faults;
+#[cfg(test)]
+mod parts;
+#[cfg(test)]
+mod support;
+#[cfg(test)]
+mod taking;
