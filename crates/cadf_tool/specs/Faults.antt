@@ -1,5 +1,5 @@
 -- How the faults of the engines come of other faults, and which exit status each has.
-use Rattle.std.specs.Prelude.{ℕ, Bool, true, false, Option, Some, None, Result, Ok, Err}
+use Rattle.std.specs.Prelude.{ℕ, Bool, true, false, Option, Some, Result, Ok, Err}
 use Rattle.cadf_tool.specs.declared.input.LoadFault.{LoadFault}
 use Rattle.cadf_tool.specs.declared.input.LoadFault.TheVariants.{File, TooLarge, ReadFault, Json, Document, Memory}
 use Rattle.cadf_tool.specs.declared.fault.ToolFault.{ToolFault}
@@ -32,7 +32,7 @@ read_failure (Err NoLog) = Some false
 read_failure (Err (OtherLog n)) = Some false
 read_failure (Err (ReadFailed n)) = Some true
 read_failure (Err WriteFault) = Some false
-read_failure (Err OutOfMemory) = None
+read_failure (Err OutOfMemory) = Some false
 
 -- the text was not written whole, since a write failed
 abbrev pub is_write_fault : {T : Type 0} → Result T ToolFault → Bool

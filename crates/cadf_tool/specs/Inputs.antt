@@ -1,14 +1,12 @@
 -- Several sources, loaded one after another.
 --     AllLoaded old new P        all were loaded, and P holds of what they are
 --     IsRefusedAt old new n f    the source of that number was refused, after those before it were loaded
-use Rattle.std.specs.Prelude.{◌≡◌, ◌≤◌, ◌+◌, ℕ, List, [], ◌∷◌, length, take, drop, Option}
-use Rattle.cadf_json.specs.Streams.{one_more}
+use Rattle.std.specs.Prelude.{◌≡◌, ◌≤◌, ◌+◌, ℕ, List, [], ◌∷◌, length, take, drop, Option, Err}
 use Rattle.cadf_tool.specs.declared.TheConstants.{FILE_LIMIT}
 use Rattle.cadf_tool.specs.declared.input.Loaded.{Loaded}
 use Rattle.cadf_tool.specs.declared.input.LoadFault.{LoadFault}
-use Rattle.cadf_tool.specs.declared.input.LoadFault.TheVariants.{ReadFault}
 use Rattle.cadf_tool.specs.Input.{GivesAll, IsInput}
-use Rattle.cadf_tool.specs.InputFault.{IsLoadFault}
+use Rattle.cadf_tool.specs.InputFault.{IsLoadFault, IsCounted, failure_of}
 
 -- what contracts see of a source: the bytes that are left where they are known, and how many reads failed
 pub record Seen : Type 0 where
@@ -34,9 +32,9 @@ AreLoaded (o ∷ os) (n ∷ ns) (l ∷ ls) = IsLoadedAs o n l × AreLoaded os ns
 abbrev pub AllLoaded : List Seen → List Seen → (List Loaded → Type 0) → Type 0
 AllLoaded old new P = (loaded : List Loaded) × (AreLoaded old new loaded × P loaded)
 
--- a source was refused; where a failed read is answered, one read failed
+-- a source was refused, and a read of it failed where that is answered
 abbrev pub IsRefusedAs : Seen → Seen → LoadFault → Type 0
-IsRefusedAs old new f = IsLoadFault old.left new.left f × (f ≡ ReadFault → new.failures ≡ one_more old.failures)
+IsRefusedAs old new f = IsLoadFault old.left new.left f × IsCounted (failure_of {T = Unit {0}} (Err f)) old.failures new.failures
 
 -- the first source was refused, and the others were not read
 abbrev pub IsRefusedFirst : List Seen → List Seen → LoadFault → Type 0
