@@ -2,6 +2,7 @@ pub mod Starts
 pub mod FileReading
 pub mod DocumentReading
 pub mod LoadedLists
+pub mod Convergence
 pub mod Telling
 pub mod LoadLemmas
 pub mod OneDocument
