@@ -6,7 +6,7 @@ mod words;
 use crate::words::command;
 use cadf_event::{Name, NameFault};
 use cadf_json::FromStd;
-use cadf_tool::{ToolFault, run_check, run_join, run_show, status};
+use cadf_tool::{ToolFault, run_check, run_join, run_missing, run_show, status};
 use clap::error::ErrorKind;
 use clap::{ArgMatches, Error};
 use std::alloc::Global;
@@ -83,6 +83,26 @@ fn join(rt: &HostRuntime, matches: &ArgMatches) -> Result<(), Stop> {
     Ok(flushed(output)?)
 }
 
+/// Runs `missing` on two files and standard output.
+fn missing(rt: &HostRuntime, matches: &ArgMatches) -> Result<(), Stop> {
+    let from = matches.get_str("FROM").unwrap_or_default();
+    let Ok(from) = fs::open(rt, from) else {
+        return Err(Stop::Tool(ToolFault::ReadFault(1)));
+    };
+    let to = matches.get_str("TO").unwrap_or_default();
+    let Ok(to) = fs::open(rt, to) else {
+        return Err(Stop::Tool(ToolFault::ReadFault(2)));
+    };
+    let Ok(buffer) = BufWriter::new(rt.alloc(), io::writer(rt)) else {
+        return Err(Stop::Tool(ToolFault::Memory));
+    };
+    let mut from = FromStd::new(from);
+    let mut to = FromStd::new(to);
+    let mut output = FromStd::new(buffer);
+    run_missing(rt.alloc(), &mut from, &mut to, &mut output)?;
+    Ok(flushed(output)?)
+}
+
 /// Runs `check` on a file and standard output.
 fn check(rt: &HostRuntime, matches: &ArgMatches) -> Result<(), Stop> {
     let path = matches.get_str("FILE").unwrap_or_default();
@@ -145,6 +165,7 @@ fn run(rt: &HostRuntime, words: &[String]) -> Result<ExitCode, Error> {
     let matches = command(rt.alloc())?.try_get_matches_from(words)?;
     let done = match matches.subcommand() {
         Some(("join", matches)) => join(rt, matches),
+        Some(("missing", matches)) => missing(rt, matches),
         Some(("show", matches)) => show(rt, matches),
         Some(("check", matches)) => check(rt, matches),
         _ => return Ok(ExitCode::from(REFUSED)),

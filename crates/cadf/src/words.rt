@@ -22,6 +22,22 @@ fn join<'a>(alloc: Global) -> Result<Command<'a>, Error> {
     )
 }
 
+/// `missing`, with its words.
+fn missing<'a>(alloc: Global) -> Result<Command<'a>, Error> {
+    let from = Arg::new(alloc, "FROM")
+        .required(true)
+        .help("The sender's file");
+    let to = Arg::new(alloc, "TO")
+        .required(true)
+        .help("The receiver's file, as it is or was");
+    Ok(
+        Command::new(alloc, "missing")
+            .about("Writes the replica file of what TO lacks of FROM")
+            .arg(from)?
+            .arg(to)?,
+    )
+}
+
 /// `show`, with its words.
 fn show<'a>(alloc: Global) -> Result<Command<'a>, Error> {
     let conflicts = Arg::new(alloc, "conflicts")
@@ -59,6 +75,7 @@ pub(crate) fn command<'a>(alloc: Global) -> Result<Command<'a>, Error> {
             .about("Keeps replicas of a CADF log and makes them converge")
             .subcommand_required(true)
             .subcommand(join(alloc)?)?
+            .subcommand(missing(alloc)?)?
             .subcommand(show(alloc)?)?
             .subcommand(check(alloc)?)?,
     )

@@ -14,6 +14,8 @@ mod limits;
 #[cfg(test)]
 mod logs;
 #[cfg(test)]
+mod missing;
+#[cfg(test)]
 mod refusals;
 #[cfg(test)]
 mod streams;

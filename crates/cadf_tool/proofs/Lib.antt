@@ -9,3 +9,4 @@ pub mod OneDocument
 pub mod OneText
 pub mod Exclusion
 pub mod TakenAlone
+pub mod MissingLemmas

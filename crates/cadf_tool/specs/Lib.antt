@@ -8,3 +8,4 @@ pub mod Inputs
 pub mod InputsRefusal
 pub mod Join
 pub mod JoinWrites
+pub mod Missing

@@ -7,6 +7,7 @@ mod input;
 mod inputs;
 mod join;
 pub mod laws;
+mod missing;
 mod show;
 mod told;
 
@@ -14,6 +15,7 @@ pub use crate::check::run_check;
 pub use crate::fault::{ToolFault, status};
 pub use crate::input::{LoadFault, Loaded, load};
 pub use crate::join::run_join;
+pub use crate::missing::run_missing;
 pub use crate::show::run_show;
 
 /// The most bytes that an input may have.
