@@ -43,7 +43,7 @@ pub grouped : (h : Held) (ls ms : List Loaded) → h.atoms ≡ union_of ls → u
 grouped h ls ms e = ap (λ s. set.union s (union_of ms)) e ∙ sym (union_of_more ls ms)
 
 -- what is told of equal sets is equal
-told_alike : (h k : Held) → h ≡ k → IsToldAlike h k
+pub told_alike : (h k : Held) → h ≡ k → IsToldAlike h k
 told_alike h k e = record {
   files = ap file e;
   logs = ap (shown_text false) e;

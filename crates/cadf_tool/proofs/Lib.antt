@@ -10,3 +10,7 @@ pub mod OneText
 pub mod Exclusion
 pub mod TakenAlone
 pub mod MissingLemmas
+pub mod GroundedInputs
+pub mod InputUnions
+pub mod ExchangeLemmas
+pub mod ExchangeLaws

@@ -9,3 +9,4 @@ pub mod InputsRefusal
 pub mod Join
 pub mod JoinWrites
 pub mod Missing
+pub mod Exchange

@@ -2,6 +2,7 @@
 #![tactic(auto)]
 
 mod check;
+pub mod exchange;
 mod fault;
 mod input;
 mod inputs;
