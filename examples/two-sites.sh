@@ -9,8 +9,8 @@ work=$(mktemp -d)
 trap 'rm -r "$work"' EXIT
 cd "$work"
 
-# One login, reported by the node that saw it. The relay to the south hands it on and adds its step;
-# south also hears that it failed, and of another event, later.
+# A login and a read. The relay on the way to the south adds its step to the login's chain, and drops its
+# tag; later south hears that the read failed.
 cat >north.json <<'END'
 {"id": "federation", "events": [
   {"id": "e1", "eventType": "activity", "eventTime": "2024-03-01T12:00:00+0000", "action": "authenticate",
@@ -23,7 +23,9 @@ cat >south.json <<'END'
 {"id": "federation", "events": [
   {"id": "e1", "eventType": "activity", "eventTime": "2024-03-01T12:00:00.000Z", "action": "authenticate",
    "outcome": "success", "initiatorId": "u1", "targetId": "t1", "observerId": "s1",
-   "reporterchain": [{"reporterId": "s1", "role": "observer"}, {"reporterId": "s2", "role": "relay"}]}]}
+   "reporterchain": [{"reporterId": "s1", "role": "observer"}, {"reporterId": "s2", "role": "relay"}]},
+  {"id": "e2", "eventType": "activity", "eventTime": "2024-03-01T12:05:00Z", "action": "read",
+   "outcome": "success", "initiatorId": "u1", "targetId": "t2", "observerId": "s1"}]}
 END
 cat >late.json <<'END'
 {"id": "federation", "events": [
