@@ -18,7 +18,10 @@ fn check_line(
     let piece = piece.max(1);
     let mut source = MemorySource::new(input.as_bytes(), piece, 0);
     let mut sink = MemorySink::new(alloc, piece, FailingWrite::Never);
-    assert!(rt; run_check(alloc, &mut source, &mut sink) == Ok(()), "{line}");
+    assert!(rt;
+        run_check(alloc, &mut source, &mut sink) == Ok(()),
+        "{line}"
+    );
     assert!(rt; sink.bytes() == line.as_bytes(), "{line}");
     Ok(())
 }

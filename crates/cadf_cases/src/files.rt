@@ -13,14 +13,8 @@ const PARTS: [(&str, &str); 4] = [
         "QFAIL",
         r#""{\"action\":\"read\",\"eventTime\":\"2024-03-01T12:00:00Z\",\"eventType\":\"activity\",\"initiatorId\":\"u1\",\"observerId\":\"s1\",\"outcome\":\"failure\",\"targetId\":\"t1\"}""#,
     ),
-    (
-        "QONE",
-        r#""{\"reporterId\":\"s1\",\"role\":\"observer\"}""#,
-    ),
-    (
-        "QTWO",
-        r#""{\"reporterId\":\"s2\",\"role\":\"relay\"}""#,
-    ),
+    ("QONE", r#""{\"reporterId\":\"s1\",\"role\":\"observer\"}""#),
+    ("QTWO", r#""{\"reporterId\":\"s2\",\"role\":\"relay\"}""#),
 ];
 
 /// A replica of nothing.

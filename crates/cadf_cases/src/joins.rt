@@ -125,14 +125,14 @@ fn refused(rt: HostRuntime) -> Result<(), Fail> {
             r#"{"id":"h","events":[]}"#,
             "input 2: other log",
         ),
-        (
-            "V1",
-            r#"{"id":"g","events":[V1]"#,
-            "input 2: not JSON",
-        ),
+        ("V1", r#"{"id":"g","events":[V1]"#, "input 2: not JSON"),
         ("V1", "V2", "no log named"),
         ("CADF-REPLICA 3\n", "{", "input 1: version"),
-        (EMPTY, r#"{"id":"h","events":{}}"#, "input 2: events is not a list"),
+        (
+            EMPTY,
+            r#"{"id":"h","events":{}}"#,
+            "input 2: events is not a list",
+        ),
     ] {
         check_refused(&rt, rt.alloc(), None, (first, second), text)?;
     }
