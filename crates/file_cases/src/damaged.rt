@@ -1,0 +1,146 @@
+//! Damaged files are refused for their first fault.
+use crate::support::{CHAINS, EMPTY, LIMIT, TWO, refusal, written};
+use cadf_file::{Cause, FileFault, read_replica};
+use cadf_json::MemorySource;
+use std::test::Fail;
+
+/// Files, and why they are refused.
+const REFUSED: [(&str, FileFault); 24] = [
+    ("", FileFault::Truncated),
+    ("CADF-REPLICA 3\n", FileFault::Version),
+    ("CADF-REPLICA 1\r\n", FileFault::Version),
+    ("CADF-REPLICA 1\nL g\n", FileFault::LogLine),
+    ("CADF-REPLICA 1\nL \"\"\n", FileFault::LogLine),
+    ("CADF-REPLICA 1\n[\"E\",\"e1\",BODY]\n", FileFault::LogLine),
+    ("HEAD{\n", FileFault::Line(3, Cause::Json)),
+    ("HEAD[\"P\",\"n\",1.5]\n", FileFault::Line(3, Cause::Json)),
+    (
+        "HEAD[\"E\", \"e1\",BODY]\n",
+        FileFault::Line(3, Cause::NotCanonical),
+    ),
+    ("HEAD[\"X\",\"a\"]\n", FileFault::Line(3, Cause::Shape)),
+    ("HEAD[\"P\",\"n\",1]\n", FileFault::Line(3, Cause::Shape)),
+    (
+        "HEAD[\"P\",\"n\",\"1.5\"]\n",
+        FileFault::Line(3, Cause::Shape),
+    ),
+    (
+        "HEAD[\"P\",\"id\",\"1\"]\n",
+        FileFault::Line(3, Cause::Shape),
+    ),
+    (
+        "HEAD[\"E\",\"e1\",EXCHANGED]\n",
+        FileFault::Line(3, Cause::Shape),
+    ),
+    (
+        "HEAD[\"R\",\"r1\",\"{\\\"id\\\":\\\"r2\\\"}\"]\n",
+        FileFault::Line(3, Cause::Shape),
+    ),
+    (
+        "HEAD[\"U\",\"E\",\"e1\",\"x\"]\n",
+        FileFault::Line(3, Cause::Shape),
+    ),
+    (
+        "HEAD[\"E\",\"e1\",BODY,\"T\",\"x\"]\n",
+        FileFault::Line(3, Cause::Ungrounded),
+    ),
+    (
+        "HEAD[\"E\",\"e2\",BODY]\n[\"E\",\"e1\",BODY]\n",
+        FileFault::Line(4, Cause::Order),
+    ),
+    (
+        "HEAD[\"E\",\"e1\",BODY]\n[\"E\",\"e1\",BODY]\n",
+        FileFault::Line(4, Cause::Order),
+    ),
+    (
+        "HEAD[\"E\",\"e1\",BODY]\n\n",
+        FileFault::Line(4, Cause::Json),
+    ),
+    ("HEAD[\"E\",\"e1\",BODY]\nZ\n", FileFault::Digest),
+    (
+        "HEADZ 91BC889DD4AC00C804E2D4F04CCBFDA0BBCF55A21F9E4C428088C3DB65A96EA9\n",
+        FileFault::Digest,
+    ),
+    (
+        "HEADZ 91bc889dd4ac00c804e2d4f04ccbfda0bbcf55a21f9e4c428088c3db65a96ea9",
+        FileFault::Truncated,
+    ),
+    (
+        "HEADZ 91bc889dd4ac00c804e2d4f04ccbfda0bbcf55a21f9e4c428088c3db65a96ea9\n\n",
+        FileFault::Trailing,
+    ),
+];
+
+#[test]
+fn refused(rt: HostRuntime) -> Result<(), Fail> {
+    for (text, fault) in REFUSED {
+        let file = written(rt.alloc(), text)?;
+        for piece in [1usize, 7, 4096] {
+            let found = refusal(rt.alloc(), file.as_bytes(), piece, LIMIT);
+            assert!(rt; found == Some(fault), "{text}: {found:?}");
+        }
+    }
+    Ok(())
+}
+
+#[test]
+fn no_text(rt: HostRuntime) {
+    let bytes = b"CADF-REPLICA 1\nL \"g\"\n\xff\n";
+    let found = refusal(rt.alloc(), bytes, 7, LIMIT);
+    assert!(rt; found == Some(FileFault::Line(3, Cause::NotUtf8)));
+}
+
+#[test]
+fn too_large(rt: HostRuntime) -> Result<(), Fail> {
+    let file = written(rt.alloc(), EMPTY)?;
+    assert!(rt; refusal(rt.alloc(), file.as_bytes(), 7, 88).is_none());
+    assert!(rt; refusal(rt.alloc(), file.as_bytes(), 7, 87) == Some(FileFault::TooLarge));
+    Ok(())
+}
+
+/// Each proper front of a file is cut off.
+#[test]
+fn fronts(rt: HostRuntime) -> Result<(), Fail> {
+    let file = written(rt.alloc(), TWO)?;
+    for end in 0..file.len() {
+        let front = file.as_bytes().get(..end).unwrap_or_default();
+        let found = refusal(rt.alloc(), front, 7, LIMIT);
+        assert!(rt; found == Some(FileFault::Truncated), "{end}");
+    }
+    Ok(())
+}
+
+fn change(bytes: &mut [u8], place: usize, bit: u8) {
+    if let Some(byte) = bytes.get_mut(place) {
+        *byte ^= bit;
+    }
+}
+
+/// No file with one bit changed is accepted.
+#[test]
+fn changed_bits(rt: HostRuntime) -> Result<(), Fail> {
+    let mut bytes = written(rt.alloc(), CHAINS)?.into_bytes();
+    for place in 0..807 {
+        for bit in [1u8, 2, 4, 8, 16, 32, 64, 128] {
+            change(&mut bytes, place, bit);
+            assert!(rt;
+                refusal(rt.alloc(), &bytes, 4096, LIMIT).is_some(),
+                "{place}"
+            );
+            change(&mut bytes, place, bit);
+        }
+    }
+    Ok(())
+}
+
+/// A reader that fails after the digest line was read.
+#[test]
+fn failed_reads(rt: HostRuntime) -> Result<(), Fail> {
+    let file = written(rt.alloc(), EMPTY)?;
+    for failing in 1u64..90 {
+        let mut source = MemorySource::new(file.as_bytes(), 1, failing);
+        let found = read_replica(rt.alloc(), &mut source, LIMIT).err();
+        assert!(rt; found == Some(FileFault::ReadFault), "{failing}");
+    }
+    Ok(())
+}

@@ -1,0 +1,13 @@
+//! Examples of replica files: whole, damaged, and in pieces.
+#![tactic(auto)]
+
+#[cfg(test)]
+mod damaged;
+#[cfg(test)]
+mod faults;
+#[cfg(test)]
+mod feeds;
+#[cfg(test)]
+mod support;
+#[cfg(test)]
+mod whole;
