@@ -8,7 +8,6 @@ import time
 
 TOP = os.path.dirname(os.path.dirname(os.path.abspath(__file__)))
 BINARY = os.path.join(TOP, "crates", "cadf", "out", "cadf")
-EVENT = "http://schemas.dmtf.org/cloud/audit/1.0/event"
 
 
 def measured(command, runs):
@@ -48,12 +47,11 @@ def atoms_of(number):
     stamp = "2014-02-%02dT%02d:%02d:%02dZ" % (
         1 + number // 86400 % 28, seconds // 3600, seconds // 60 % 60, seconds % 60)
     body = spelled({
-        "action": "read/list", "eventTime": stamp, "eventType": "activity", "id": identifier_of(number),
+        "action": "read/list", "eventTime": stamp, "eventType": "activity",
         "initiator": {"id": "user-%d" % (number % 997), "typeURI": "service/security/account/user",
                       "name": "demo", "project_id": key[:32]},
         "observer": {"id": "target"}, "outcome": "success",
-        "target": {"id": "urn:uuid:" + key[32:], "typeURI": "service/compute/servers", "name": "nova"},
-        "typeURI": EVENT})
+        "target": {"id": "urn:uuid:" + key[32:], "typeURI": "service/compute/servers", "name": "nova"}})
     step = spelled({"reporter": {"id": "target"}, "reporterTime": stamp, "role": "modifier"})
     carrier = ("E", identifier_of(number), body)
     return [carrier, carrier + ("C", step), carrier + ("T", "correlation_id?value=" + key[20:52])]

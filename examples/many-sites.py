@@ -1,0 +1,131 @@
+#!/usr/bin/env python3
+"""Many exchanges between sites, by the built command: all must end with the bytes of one join.
+
+    examples/many-sites.py [--exchanges 40] [--seed 7] [CADF]
+
+Ten documents are made of the events in this folder, with other outcomes, tags and relays. In each exchange two to
+five sites are told them in some order, some of them twice, and send each other parts, each made against some earlier
+state of its receiver, late, or again, until each has heard of all. Then every site's file must be the file of one
+join of the ten documents, and its log and conflict list those of that file.
+"""
+import argparse
+import copy
+import glob
+import json
+import os
+import random
+import subprocess
+import sys
+import tempfile
+
+HERE = os.path.dirname(os.path.abspath(__file__))
+BINARY = os.path.join(HERE, "..", "crates", "cadf", "out", "cadf")
+
+
+class Command:
+    """The built command, and a folder for what it writes."""
+
+    def __init__(self, binary, folder):
+        self.binary, self.folder, self.files = binary, folder, 0
+
+    def keep(self, content):
+        """A new file with that content."""
+        self.files += 1
+        path = os.path.join(self.folder, str(self.files))
+        with open(path, "wb") as out:
+            out.write(content)
+        return path
+
+    def written(self, *words):
+        done = subprocess.run([self.binary, *words], capture_output=True)
+        if done.returncode:
+            sys.exit("cadf %s: %s" % (" ".join(words), done.stderr.decode()))
+        return done.stdout
+
+    def join(self, *files):
+        return self.keep(self.written("join", "--log", "federation", *files))
+
+    def missing(self, sender, receiver):
+        return self.keep(self.written("missing", sender, receiver))
+
+
+def events():
+    found = []
+    for path in sorted(glob.glob(os.path.join(HERE, "*.json"))):
+        with open(path) as text:
+            document = json.load(text)
+        found += document.get("events", [document])
+    return found
+
+
+def varied(event, number):
+    """The event as one of a few relays hands it on."""
+    event = copy.deepcopy(event)
+    event["id"] = "%s-%d" % (event["id"], number)
+    if random.random() < 0.3:
+        event["outcome"] = random.choice(["success", "failure"])
+    if random.random() < 0.5:
+        event["tags"] = event.get("tags", []) + ["tag-%d" % random.randrange(4)]
+    if random.random() < 0.5:
+        relay = {"role": "relay", "reporterId": "relay-%d" % random.randrange(3)}
+        event["reporterchain"] = event.get("reporterchain", []) + [relay]
+    return event
+
+
+def documents(command):
+    kinds = [(event, number) for event in events() for number in range(6)]
+    for _ in range(10):
+        told = [varied(event, number) for event, number in random.sample(kinds, 6)]
+        yield command.keep(json.dumps({"id": "federation", "name": random.choice("ab"), "events": told}).encode())
+
+
+def exchanged(command, pool):
+    """The last files of some sites that were told all of the pool between them."""
+    told = [[] for _ in range(random.randint(2, 5))]
+    for document in pool + random.sample(pool, 4):
+        random.choice(told).append(document)
+    states = [[command.join(*documents[:1] or pool[:1])] for documents in told]
+    for site, documents in enumerate(told):
+        for document in documents[1:]:
+            states[site].append(command.join(states[site][-1], document))
+            late = command.missing(random.choice(random.choice(states)), random.choice(states[site]))
+            operands = [states[site][-1], late]
+            random.shuffle(operands)
+            states[site].append(command.join(*operands))
+    for sender in list(range(len(states))) * 2:  # twice around the ring
+        receiver = states[(sender + 1) % len(states)]
+        part = command.missing(states[sender][-1], random.choice(receiver))
+        operands = [receiver[-1], part, part]
+        random.shuffle(operands)
+        receiver.append(command.join(*operands))
+    return [state[-1] for state in states]
+
+
+def told(command, file):
+    """All that the command tells of a file: its bytes, its log, its conflict list, its counts."""
+    with open(file, "rb") as content:
+        return content.read(), command.written("show", file), command.written("show", "--conflicts", file), command.written("check", file)
+
+
+def main():
+    parser = argparse.ArgumentParser(description=__doc__, formatter_class=argparse.RawDescriptionHelpFormatter)
+    parser.add_argument("--exchanges", type=int, default=40)
+    parser.add_argument("--seed", type=int, default=7)
+    parser.add_argument("binary", nargs="?", default=BINARY)
+    options = parser.parse_args()
+    random.seed(options.seed)
+    with tempfile.TemporaryDirectory() as folder:
+        command = Command(options.binary, folder)
+        pool = list(documents(command))
+        wanted = told(command, command.join(*pool))
+        sites = 0
+        for number in range(options.exchanges):
+            for file in exchanged(command, pool):
+                sites += 1
+                if told(command, file) != wanted:
+                    sys.exit("exchange %d ended with other bytes" % (number + 1))
+        print("%d exchanges, %d sites, %d files: %s" % (options.exchanges, sites, command.files, wanted[3].decode().strip()))
+
+
+if __name__ == "__main__":
+    main()
