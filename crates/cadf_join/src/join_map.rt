@@ -68,8 +68,21 @@ impl<V: Join> JoinMap<V> {
             return part.join(value);
         }
         let part = value.copy()?;
-        self.parts.insert(String::from_str(self.alloc, key)?, part)?;
-        Ok(())
+        self.put(key, part)
+    }
+
+    /// Joins a value into that of the key, and keeps it as it is where there was none, so that nothing is copied. An empty value changes nothing. After a refused growth the other keys are as before and this one lies between.
+    pub fn take_at(&mut self, key: &str, value: V) -> Result<(), Memory>
+        ensures ok { OnOk result (joined V.contents self.new ≡ set.union (joined V.contents self.old) (under key.now (V.contents value))) }
+        ensures err { OnErr result (IsBetween (joined V.contents self.old) (joined V.contents self.new) (set.union (joined V.contents self.old) (under key.now (V.contents value)))) }
+    {
+        if value.is_empty() {
+            return Ok(());
+        }
+        if let Some(part) = self.parts.get_mut(key) {
+            return part.join(&value);
+        }
+        self.put(key, value)
     }
 
     /// The number of keys.
@@ -105,7 +118,8 @@ impl<V: Join> JoinMap<V> {
     /// Puts a value that is not empty at the key.
     fn put(&mut self, key: &str, value: V) -> Result<(), Memory>
         requires { V.contents value ≡ set.empty → ⊥ }
-        ensures { OnOk result (Puts self.old self.new key.now value) }
+        ensures ok { OnOk result (Puts self.old self.new key.now value) }
+        ensures err { OnErr result (self.new ≡ self.old) }
     {
         self.parts
             .insert(String::from_str(self.alloc, key)?, value)?;

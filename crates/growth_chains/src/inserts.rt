@@ -1,7 +1,7 @@
 // The calls that one kind of value has, watched, and what must hold after a refusal.
 use crate::values::{Map, long_chain, long_tree, put};
 use crate::watched::{Report, Watched, grow_idly, is_between, join_of, told};
-use cadf_join::{Join, Memory, TextSet};
+use cadf_join::{Join, JoinMap, Memory, TextSet};
 use std::alloc::Global;
 
 /// A refused insert changes nothing, and the same insert again adds the chain.
@@ -50,6 +50,30 @@ pub fn join_at(alloc: Global, idle: u64) -> Result<Report, Memory> {
     }
     let whole = map.same(&union);
     Ok(told(idle_refused, refused, between && whole))
+}
+
+/// A refused taking at a key leaves something between, and the same again the union.
+pub fn take_at(alloc: Global, idle: u64) -> Result<Report, Memory> {
+    let old = Map::new(alloc);
+    let union = Map::large(alloc)?;
+    let mut map = Map::new(alloc);
+    let part = outer_of(alloc, &union)?;
+    let idle_refused = grow_idly(alloc, idle);
+    let refused = map.take_at("outer", part).is_err();
+    let between = is_between(&old, &map, &union)?;
+    if refused {
+        map.take_at("outer", outer_of(alloc, &union)?)?;
+    }
+    let whole = map.same(&union);
+    Ok(told(idle_refused, refused, between && whole))
+}
+
+// A copy of what the map has at its one key.
+fn outer_of(alloc: Global, map: &Map) -> Result<JoinMap<TextSet>, Memory> {
+    match map.get("outer") {
+        Some(inner) => inner.copy(),
+        None => Ok(JoinMap::new(alloc)),
+    }
 }
 
 // Joins what the other map has at its one key.

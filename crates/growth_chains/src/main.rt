@@ -13,10 +13,11 @@ use crate::steps::{Step, run};
 use crate::watched::Report;
 use std::io;
 
-const STEPS: [Step; 13] = [
+const STEPS: [Step; 14] = [
     Step::Insert,
     Step::InsertText,
     Step::JoinAt,
+    Step::TakeAt,
     Step::JoinDeepTrees,
     Step::JoinTrees,
     Step::MissingTrees,

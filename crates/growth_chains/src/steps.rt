@@ -1,5 +1,5 @@
 // The steps: each makes its values, then idle growths, then the one call that is watched.
-use crate::inserts::{insert_chain, insert_text, join_at, join_deep_trees};
+use crate::inserts::{insert_chain, insert_text, join_at, join_deep_trees, take_at};
 use crate::values::Map;
 use crate::watched::{Report, join, look, missing};
 use cadf_join::{ChainTree, Memory, TextSet};
@@ -12,6 +12,7 @@ pub enum Step {
     Insert,
     InsertText,
     JoinAt,
+    TakeAt,
     /// A tree that shares 255 steps with the other.
     JoinDeepTrees,
     JoinTrees,
@@ -32,6 +33,7 @@ impl Step {
             Step::Insert => "insert",
             Step::InsertText => "insert-text",
             Step::JoinAt => "join-at",
+            Step::TakeAt => "take-at",
             Step::JoinDeepTrees => "join-deep-trees",
             Step::JoinTrees => "join-trees",
             Step::MissingTrees => "missing-trees",
@@ -59,6 +61,7 @@ fn tried(alloc: Global, step: Step, idle: u64) -> Result<Report, Memory> {
         Step::Insert => insert_chain(alloc, idle),
         Step::InsertText => insert_text(alloc, idle),
         Step::JoinAt => join_at(alloc, idle),
+        Step::TakeAt => take_at(alloc, idle),
         Step::JoinDeepTrees => join_deep_trees(alloc, idle),
         Step::JoinTrees => join::<ChainTree>(alloc, idle),
         Step::MissingTrees => missing::<ChainTree>(alloc, idle),

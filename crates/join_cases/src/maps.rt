@@ -1,5 +1,5 @@
 //! Maps of values that join, by example.
-use crate::support::{holds, misses, put, spells, tree_of};
+use crate::support::{holds, misses, put, set_of, spells, tree_of};
 use cadf_join::prefix::longer;
 use cadf_join::{HasFirsts, Join, JoinMap, Memory, TextSet};
 use std::alloc::Global;
@@ -57,6 +57,29 @@ fn an_empty_value_is_not_held(rt: HostRuntime) -> Result<(), Fail> {
     put(alloc, &mut map, "k", "a")?;
     put(alloc, &mut map, "z", "")?;
     assert!(rt; map.get("z").is_none() && !map.is_empty());
+    Ok(())
+}
+
+/// A map that took the set of "a" and then that of "b" at one key.
+fn taken_twice(alloc: Global) -> Result<JoinMap<TextSet>, Memory> {
+    let mut map = JoinMap::new(alloc);
+    map.take_at("k", set_of(alloc, "a")?)?;
+    map.take_at("k", set_of(alloc, "b")?)?;
+    Ok(map)
+}
+
+#[test]
+fn values_are_taken_at_a_key(rt: HostRuntime) -> Result<(), Fail> {
+    let map = taken_twice(rt.alloc())?;
+    assert!(rt; holds(rt.alloc(), &map, "k/a k/b")?);
+    Ok(())
+}
+
+#[test]
+fn an_empty_value_is_not_taken(rt: HostRuntime) -> Result<(), Fail> {
+    let mut map = taken_twice(rt.alloc())?;
+    map.take_at("z", TextSet::new(rt.alloc()))?;
+    assert!(rt; map.get("z").is_none() && map.key_count() == 1);
     Ok(())
 }
 
