@@ -2,6 +2,7 @@
 use crate::support::{CHAINS, EMPTY, LIMIT, TWO, refusal, written};
 use cadf_file::{Cause, FileFault, read_replica};
 use cadf_json::MemorySource;
+use std::alloc::Global;
 use std::test::Fail;
 
 /// Files, and why they are refused.
@@ -79,6 +80,51 @@ fn refused(rt: HostRuntime) -> Result<(), Fail> {
             let found = refusal(rt.alloc(), file.as_bytes(), piece, LIMIT);
             assert!(rt; found == Some(fault), "{text}: {found:?}");
         }
+    }
+    Ok(())
+}
+
+/// A line of one event whose body has a member of so many lists in one another.
+fn deep(alloc: Global, lists: usize) -> Result<String, Fail> {
+    let mut text = written(alloc, "HEAD[\"E\",\"e1\",BODY")?;
+    text.truncate(text.len().saturating_sub(2));
+    text.push_str(",\\\"x\\\":")?;
+    text.push_str("[".repeat(alloc, lists)?.as_str())?;
+    text.push_str("]".repeat(alloc, lists)?.as_str())?;
+    text.push_str("}\"]\n")?;
+    Ok(text)
+}
+
+/// A body nests at most 100 deep.
+#[test]
+fn deep_bodies(rt: HostRuntime) -> Result<(), Fail> {
+    for (lists, fault) in [
+        (99usize, FileFault::Truncated),
+        (100, FileFault::Line(3, Cause::Shape)),
+    ] {
+        let file = deep(rt.alloc(), lists)?;
+        let found = refusal(rt.alloc(), file.as_bytes(), 7, LIMIT);
+        assert!(rt; found == Some(fault), "{lists}");
+    }
+    Ok(())
+}
+
+/// A chain has at most 256 steps.
+#[test]
+fn long_chains(rt: HostRuntime) -> Result<(), Fail> {
+    for (steps, fault) in [
+        (256usize, FileFault::Truncated),
+        (257, FileFault::Line(4, Cause::Shape)),
+    ] {
+        let mut text = written(
+            rt.alloc(),
+            "HEAD[\"E\",\"e1\",BODY]\n[\"E\",\"e1\",BODY,\"C\"",
+        )?;
+        let step = written(rt.alloc(), ",STEP1")?;
+        text.push_str(step.repeat(rt.alloc(), steps)?.as_str())?;
+        text.push_str("]\n")?;
+        let found = refusal(rt.alloc(), text.as_bytes(), 4096, 1 << 20);
+        assert!(rt; found == Some(fault), "{steps}");
     }
     Ok(())
 }

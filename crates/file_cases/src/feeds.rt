@@ -28,3 +28,45 @@ fn again(rt: HostRuntime) -> Result<(), Fail> {
     assert!(rt; feed.finish(false).err() == fault);
     Ok(())
 }
+
+/// The verdict on a whole file of 468 bytes, and on one that is a byte short.
+#[test]
+fn ends(rt: HostRuntime) -> Result<(), Fail> {
+    let file = written(rt.alloc(), TWO)?;
+    for (length, failed, wanted) in [
+        (467usize, false, Some(FileFault::Truncated)),
+        (467, true, Some(FileFault::ReadFault)),
+        (468, false, None),
+    ] {
+        let mut feed = ReplicaFeed::new(rt.alloc(), LIMIT);
+        feed.feed(file.as_bytes().get(..length).unwrap_or_default())?;
+        assert!(rt; feed.finish(failed).err() == wanted, "{length}");
+    }
+    Ok(())
+}
+
+/// The byte after the limit is refused at once.
+#[test]
+fn above_the_limit(rt: HostRuntime) -> Result<(), Fail> {
+    let file = written(rt.alloc(), TWO)?;
+    let mut feed = ReplicaFeed::new(rt.alloc(), 467);
+    assert!(rt; feed.feed(file.as_bytes()).err() == Some(FileFault::TooLarge));
+    let mut feed = ReplicaFeed::new(rt.alloc(), 468);
+    feed.feed(file.as_bytes())?;
+    assert!(rt; feed.feed(b"x").err() == Some(FileFault::TooLarge));
+    Ok(())
+}
+
+/// A byte behind the file, within the limit, is refused at the end.
+#[test]
+fn behind_the_file(rt: HostRuntime) -> Result<(), Fail> {
+    let file = written(rt.alloc(), TWO)?;
+    for failed in [false, true] {
+        let mut feed = ReplicaFeed::new(rt.alloc(), 469);
+        feed.feed(file.as_bytes())?;
+        feed.feed(b"x")?;
+        assert!(rt; feed.pending() == 0);
+        assert!(rt; feed.finish(failed).err() == Some(FileFault::Trailing));
+    }
+    Ok(())
+}
