@@ -17,9 +17,7 @@ pub mod PathKinds
 pub mod Puts
 pub mod Retry
 pub mod RuleLaws
-pub mod RunTurns
 pub mod Schedule
-pub mod SeenWorld
 pub mod Shown
 pub mod Slices
 pub mod Takes

@@ -12,7 +12,6 @@ pub mod Order
 pub mod Parts
 pub mod PathKind
 pub mod Refusals
-pub mod Rehearsal
 pub mod Replica
 pub mod Retry
 pub mod Schedule

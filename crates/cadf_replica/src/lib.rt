@@ -7,14 +7,11 @@ mod body_parts;
 pub mod laws;
 mod name;
 pub mod path;
-pub mod rehearsal;
 pub mod replica;
 mod seek;
 mod seen;
 mod shape;
 
 pub use atom::{Atom, AtomFault};
-pub use atom_set::AtomSet;
-pub use body_parts::BodyParts;
 pub use name::log_name;
 pub use replica::{Replica, ReplicaFault};

@@ -7,7 +7,7 @@ ghost use Rattle.cadf_join.specs.Prefixes.{chain_texts, texts_found};
 ghost use Rattle.cadf_replica.specs.Parts.{parts_of};
 ghost use Rattle.cadf_replica.specs.Seek.{at_first, first_text, rests_behind};
 
-use crate::BodyParts;
+use crate::body_parts::BodyParts;
 use cadf_join::{ChainTree, Join, JoinMap, Memory, TextSet};
 use std::alloc::Global;
 use std::cmp::Ordering;
