@@ -20,7 +20,7 @@ use Rattle.cadf_tool.specs.JoinWrites.{WritesJoin}
 use Rattle.cadf_tool.specs.Missing.{missing_of, BothLoaded, WritesMissing}
 use Rattle.cadf_tool.specs.Exchange.{Making, Joined, Operands, End, Whole, Part, IsReadOf, IsPartOf, IsMade, AreRead, outside, HaveSameOutside, log_of, IsTold, IsExchange, GivesFile, AreSources}
 use Rattle.cadf_tool.proofs.InputUnions.{in_all, of_all, listed_within, left_within, right_within, both_within, more_within, loaded_file, IsJoin, join_is, IsPart, part_is, part_within, part_or_held}
-use Rattle.cadf_tool.proofs.Convergence.{told_alike}
+use Rattle.cadf_tool.proofs.Convergence.{same_union, told_alike}
 use Rattle.cadf_tool.proofs.ExchangeLemmas.{read_as, joined_told}
 
 -- ---- what files hold
@@ -34,16 +34,12 @@ pub file_told : (log : Option Text) (operands : Operands) (bytes : List ℕ) →
     → (h : Held) × IsTold (Joined log operands) h × (bytes ≡ file h)
 file_told log operands bytes x (inputs, read, (h, joined, is)) = (h, joined_told log operands inputs h x read joined, is)
 
-same_atoms : (m n : Making) → HaveSameOutside m n → union_of (outside m) ≡ union_of (outside n)
-same_atoms m n same = laws.same_from_within texts_total texts_same _ _
-    (listed_within (outside m) (outside n) (λ l k. contains_listed _ l ((same l).0 (listed_contains _ l k))))
-    (listed_within (outside n) (outside m) (λ l k. contains_listed _ l ((same l).1 (listed_contains _ l k))))
-
-one_some : (x y : Text) → Some x ≡ Some y → x ≡ y
+pub one_some : (x y : Text) → Some x ≡ Some y → x ≡ y
 one_some x y e = cc
 
-pub read_replica : (log : Option Text) (operands : Operands) (bytes : List ℕ) (h : Held) → IsMade (Joined log operands) bytes → IsHeld bytes h → IsReplica h
-read_replica log operands bytes h (inputs, read, (k, joined, is)) held =
+-- what is read of a file is the replica that it is of
+pub file_replica : (bytes : List ℕ) (k h : Held) → bytes ≡ file k → IsHeld bytes h → IsReplica h
+file_replica bytes k h is held =
     let same : held.loaded ≡ Replica k = loaded_file bytes k held.loaded is held.input in
     let input : IsInput bytes (Replica k) = subst (IsInput bytes) same held.input in
     let names : k.log ≡ h.log = one_some k.log h.log (sym (ap log_named same) ∙ held.named) in
@@ -51,10 +47,13 @@ read_replica log operands bytes h (inputs, read, (k, joined, is)) held =
     let one : k ≡ h = λ i. record { log = names i; atoms = atoms i } in
     subst IsReplica one input.replica
 
-one_told : (m n : Making) (h k : Held) → log_of m ≡ log_of n → HaveSameOutside m n → IsTold m h → IsTold n k → h ≡ k
+pub read_replica : (log : Option Text) (operands : Operands) (bytes : List ℕ) (h : Held) → IsMade (Joined log operands) bytes → IsHeld bytes h → IsReplica h
+read_replica log operands bytes h (inputs, read, (k, joined, is)) held = file_replica bytes k h is held
+
+pub one_told : (m n : Making) (h k : Held) → log_of m ≡ log_of n → HaveSameOutside m n → IsTold m h → IsTold n k → h ≡ k
 one_told m n h k log same s t =
     let names : h.log ≡ k.log = one_some h.log k.log (sym s.log ∙ log ∙ t.log) in
-    let atoms : h.atoms ≡ k.atoms = s.atoms ∙ same_atoms m n same ∙ sym t.atoms in
+    let atoms : h.atoms ≡ k.atoms = s.atoms ∙ same_union (outside m) (outside n) same ∙ sym t.atoms in
     λ i. record { log = names i; atoms = atoms i }
 
 pub same_file : (log other : Option Text) (operands others : Operands) (b c : List ℕ) → IsExchange (Joined log operands) → IsExchange (Joined other others)
@@ -142,7 +141,7 @@ are_read (Part from to operands) (o ∷ os) [] ls s r = absurd r
 are_read (Part from to operands) (o ∷ os) (n ∷ ns) [] s r = absurd r
 are_read (Part from to operands) (o ∷ os) (n ∷ ns) (l ∷ ls) s r = (read_of _ o n l s.0 r.0, are_read operands os ns ls s.1 r.1)
 
-written_behind : (before : List ℕ) (after : Option (List ℕ)) (bytes : List ℕ) → Appends (Some before) after bytes → after ≡ Some (before ++ bytes)
+pub written_behind : (before : List ℕ) (after : Option (List ℕ)) (bytes : List ℕ) → Appends (Some before) after bytes → after ≡ Some (before ++ bytes)
 written_behind before None bytes w = absurd w
 written_behind before (Some all) bytes w = ap Some w
 

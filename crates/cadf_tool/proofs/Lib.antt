@@ -14,3 +14,4 @@ pub mod GroundedInputs
 pub mod InputUnions
 pub mod ExchangeLemmas
 pub mod ExchangeLaws
+pub mod TwoTexts

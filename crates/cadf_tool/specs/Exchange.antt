@@ -32,15 +32,15 @@ mutual
 
 -- ---- what the runs wrote
 
--- the file of what an engine answers
+-- an engine answered a replica, and the bytes are its file
 abbrev pub IsFileOf : Result Held ToolFault → List ℕ → Type 0
 IsFileOf answer bytes = (h : Held) × (answer ≡ Ok h) × (bytes ≡ file h)
 
--- some bytes of which that holds were loaded as this input
+-- bytes of which P holds were loaded as this input
 abbrev pub IsReadOf : (List ℕ → Type 0) → Loaded → Type 0
 IsReadOf P loaded = (bytes : List ℕ) × P bytes × IsInput bytes loaded
 
--- the bytes are what `missing` wrote of two files
+-- the bytes are what `missing FROM TO` wrote of two files
 abbrev pub IsPartOf : (from to : List ℕ → Type 0) → List ℕ → Type 0
 IsPartOf from to bytes = (one : Loaded) × (other : Loaded) × IsReadOf from one × IsReadOf to other × IsFileOf (missing_of one other) bytes
 
@@ -116,6 +116,7 @@ abbrev mutual
 
 -- ---- sources that give the files
 
+-- the source has the bytes left of which P holds
 abbrev pub GivesFile : (List ℕ → Type 0) → Seen → Type 0
 GivesFile P source = (bytes : List ℕ) × (source.left ≡ Some bytes) × P bytes
 

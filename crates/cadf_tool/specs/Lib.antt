@@ -10,3 +10,4 @@ pub mod Join
 pub mod JoinWrites
 pub mod Missing
 pub mod Exchange
+pub mod TwoTexts
