@@ -16,24 +16,13 @@ use Rattle.cadf_tool.specs.declared.input.Loaded.{Loaded}
 use Rattle.cadf_tool.specs.declared.input.Loaded.TheVariants.{Replica}
 use Rattle.cadf_tool.specs.Told.{atoms_of}
 use Rattle.cadf_tool.specs.Join.{union_of}
-
-in_union_of : (ls : List Loaded) (l : Loaded) → Listed l ls → IsWithin (atoms_of l) (union_of ls)
-in_union_of [] l k q h = absurd k
-in_union_of (m ∷ ls) l (inl e) q h = members.in_union_left texts_total texts_same (atoms_of m) _ q (subst (λ x. Has (atoms_of x) q) e h)
-in_union_of (m ∷ ls) l (inr k) q h = members.in_union_right texts_total texts_same (atoms_of m) _ q (in_union_of ls l k q h)
-
-of_union_of : (ls : List Loaded) (q : Texts) → Has (union_of ls) q → (l : Loaded) × Listed l ls × Has (atoms_of l) q
-of_union_of [] q h = absurd (members.not_in_empty texts_total texts_same q h)
-of_union_of (m ∷ ls) q h = elim (members.of_union texts_total texts_same (atoms_of m) _ q h) [
-  | inl k ↦ (m, inl refl, k)
-  | inr k ↦ let t = of_union_of ls q k in (t.0, inr t.1, t.2)
-]
-
-within : (ls ms : List Loaded) → ((l : Loaded) → Contains ls l → Contains ms l) → IsWithin (union_of ls) (union_of ms)
-within ls ms f q h = let t = of_union_of ls q h in in_union_of ms t.0 (contains_listed ms t.0 (f t.0 (listed_contains ls t.0 t.1))) q t.2
+use Rattle.cadf_tool.proofs.InputUnions.{listed_within}
 
 pub same_union : (ls ms : List Loaded) → ((l : Loaded) → Contains ls l ↔ Contains ms l) → union_of ls ≡ union_of ms
 same_union ls ms same = laws.same_from_within texts_total texts_same _ _ (within ls ms (λ l. (same l).0)) (within ms ls (λ l. (same l).1))
+  where
+    within : (ks ns : List Loaded) → ((l : Loaded) → Contains ks l → Contains ns l) → IsWithin (union_of ks) (union_of ns)
+    within ks ns f = listed_within ks ns (λ l k. contains_listed ns l (f l (listed_contains ks l k)))
 
 union_of_more : (ls ms : List Loaded) → union_of (ls ++ ms) ≡ set.union (union_of ls) (union_of ms)
 union_of_more [] ms = sym (laws.empty-union texts_total texts_same (union_of ms))

@@ -5,7 +5,6 @@ pub mod LoadedLists
 pub mod Convergence
 pub mod Telling
 pub mod LoadLemmas
-pub mod OneDocument
 pub mod OneText
 pub mod Exclusion
 pub mod TakenAlone
