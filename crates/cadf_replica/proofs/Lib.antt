@@ -20,5 +20,6 @@ pub mod RuleLaws
 pub mod Schedule
 pub mod Shown
 pub mod Slices
+pub mod Tails
 pub mod Takes
 pub mod ValueLaws

@@ -17,4 +17,5 @@ pub mod Retry
 pub mod Schedule
 pub mod Seek
 pub mod Shown
+pub mod Tails
 pub mod ValueTests

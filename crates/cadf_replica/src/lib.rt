@@ -11,6 +11,7 @@ pub mod replica;
 mod seek;
 mod seen;
 mod shape;
+mod tail;
 
 pub use atom::{Atom, AtomFault};
 pub use name::log_name;
