@@ -1,5 +1,6 @@
 -- What the two texts hold that `show` writes of a file: the text of the log, and the text of the conflict list.
---     IsShown conflicts m text     `show` wrote this text of the file m; where `conflicts` is true, of its conflict list
+--     IsShown conflicts m text     `show` wrote this text of the file m; `show --conflicts`, where `conflicts` is true
+--     IsKnownFile m                m is a replica file, or a document of which is known what is of each that is read
 --     IsInLog log q                the text of a log, read again as a document, contributes the atom q
 --     IsInList list q              the text of a conflict list, read again, contributes it
 --     IsInOne log list q           one of the two contributes it, and the other does not
@@ -15,7 +16,7 @@ use Rattle.cadf_tool.specs.Told.{IsHeld}
 use Rattle.cadf_tool.specs.Shown.{shown_text}
 use Rattle.cadf_tool.specs.Exchange.{Making, Outside, Joined, IsMade}
 
--- the text of what was read of the file's bytes
+-- the bytes of the file were read, and the text is of what they hold
 pub record IsShown (conflicts : Bool) (m : Making) (text : Text) : Type 0 where
   pub bytes : List ℕ
   pub made : IsMade m bytes
@@ -23,7 +24,7 @@ pub record IsShown (conflicts : Bool) (m : Making) (text : Text) : Type 0 where
   pub read : IsHeld bytes held
   pub written : text ≡ shown_text conflicts held
 
--- a replica file, or a document whose names are text, as those of each document are that the program reads
+-- nothing is asked of a replica file; of a document, what is known of each that the program reads: its names are text, and its parts' texts canonical
 abbrev pub IsKnownFile : Making → Type 0
 IsKnownFile (Outside given (Replica h)) = Unit {0}
 IsKnownFile (Outside given (Document doc)) = IsKnownDocument doc
