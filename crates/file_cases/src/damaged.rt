@@ -6,7 +6,7 @@ use std::alloc::Global;
 use std::test::Fail;
 
 /// Files, and why they are refused.
-const REFUSED: [(&str, FileFault); 24] = [
+const REFUSED: [(&str, FileFault); 30] = [
     ("", FileFault::Truncated),
     ("CADF-REPLICA 3\n", FileFault::Version),
     ("CADF-REPLICA 1\r\n", FileFault::Version),
@@ -56,6 +56,30 @@ const REFUSED: [(&str, FileFault); 24] = [
     (
         "HEAD[\"E\",\"e1\",BODY]\n\n",
         FileFault::Line(4, Cause::Json),
+    ),
+    (
+        "HEAD[\"E\",\"e1\",BODY]\n[\"E\",\"e1\",BODY,]\n",
+        FileFault::Line(4, Cause::Json),
+    ),
+    (
+        "HEAD[\"E\",\"e1\",BODY]\n[\"E\",\"e1\",BODY,1.5]\n",
+        FileFault::Line(4, Cause::Json),
+    ),
+    (
+        "HEAD[\"E\",\"e1\",BODY]\n[\"E\",\"e1\",BODY, \"T\",\"x\"]\n",
+        FileFault::Line(4, Cause::NotCanonical),
+    ),
+    (
+        "HEAD[\"E\",\"e1\",BODY]\n[\"E\",\"e1\",BODY,\"T\"]\n",
+        FileFault::Line(4, Cause::Shape),
+    ),
+    (
+        "HEAD[\"E\",\"e1\",BODY]\n[\"E\",\"e1\",BODY,\"C\",STEP1,STEP2]\n[\"E\",\"e1\",BODY,\"C\",STEP1]\n",
+        FileFault::Line(5, Cause::Order),
+    ),
+    (
+        "HEAD[\"E\",\"e1\",BODY]\n[\"E\",\"e1\",BODY,\"T\",\"x\"]\n[\"E\",\"e2\",BODY,\"T\",\"x\"]\n",
+        FileFault::Line(5, Cause::Ungrounded),
     ),
     ("HEAD[\"E\",\"e1\",BODY]\nZ\n", FileFault::Digest),
     (
