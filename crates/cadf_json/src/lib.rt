@@ -1,4 +1,4 @@
-// Whole-number JSON values, their canonical text, and where bytes come from and go to.
+//! Whole-number JSON values, their canonical text, and where bytes come from and go to.
 #![tactic(auto)]
 
 mod build;

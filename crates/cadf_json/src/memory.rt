@@ -1,4 +1,4 @@
-// Sources and sinks in memory, which move bytes in pieces and fail where they are told to: for tests.
+//! Sources and sinks in memory, which move bytes in pieces and fail where they are told to: for tests.
 ghost use Rattle.std.specs.Prelude.{◌≡◌, ◌<◌, ◌==◌, if◌then◌else◌, true, [], Some, IfOk, is_err, length, min};
 ghost use Rattle.std.specs.Io.{ReadsAtMost, WritesAtMost};
 ghost use Rattle.std.specs.Io.KnownBytes.{ReadConsumes, WriteAppends};

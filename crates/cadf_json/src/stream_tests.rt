@@ -1,5 +1,5 @@
-// What no clause fixes of sources and sinks: that whole reads and writes succeed, in pieces of any
-// size, and what a failure at each call in turn leaves.
+//! What no clause fixes of sources and sinks: that whole reads and writes succeed, in pieces of any
+//! size, and what a failure at each call in turn leaves.
 ghost use Rattle.std.specs.Prelude.{◌<◌};
 
 use crate::memory::{FailingWrite, MemorySink, MemorySource};

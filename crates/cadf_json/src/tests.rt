@@ -1,4 +1,4 @@
-// What no clause fixes of values: examples of texts and refusals, and that calls succeed.
+//! What no clause fixes of values: examples of texts and refusals, and that calls succeed.
 ghost use Rattle.std.specs.Prelude.{◌≤◌};
 ghost use Rattle.serde_json.specs.Data.{depth as nesting};
 

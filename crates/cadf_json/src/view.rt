@@ -1,4 +1,4 @@
-// A borrowed part of a value.
+//! A borrowed part of a value.
 ghost use Rattle.std.specs.Prelude.{◌≡◌, ◌≤◌, IfOk, IfSome, length, nat_le, option_map, is_some, slice_get, string_bytes};
 ghost use Rattle.serde_json.specs.Find.{as_null, as_str, as_array, get};
 ghost use Rattle.serde_json.specs.Data.{string as text_value, object as object_of, depth as nesting, items_depth, members_depth};
