@@ -34,7 +34,7 @@ AllLoaded old new P = (loaded : List Loaded) × (AreLoaded old new loaded × P l
 
 -- a source was refused, and a read of it failed where that is answered
 abbrev pub IsRefusedAs : Seen → Seen → LoadFault → Type 0
-IsRefusedAs old new f = IsLoadFault old.left new.left f × IsCounted (failure_of {T = Unit {0}} (Err f)) old.failures new.failures
+IsRefusedAs old new f = IsLoadFault old.left new.left old.failures new.failures f × IsCounted (failure_of {T = Unit {0}} (Err f)) old.failures new.failures
 
 -- the first source was refused, and the others are as they were
 abbrev pub IsRefusedFirst : List Seen → List Seen → LoadFault → Type 0
