@@ -11,6 +11,8 @@ pub mod TakenAlone
 pub mod MissingLemmas
 pub mod GroundedInputs
 pub mod InputUnions
+pub mod UnitingLemmas
+pub mod JoinLemmas
 pub mod ExchangeLemmas
 pub mod ExchangeLaws
 pub mod TwoTexts

@@ -7,6 +7,7 @@ pub mod Shown
 pub mod Inputs
 pub mod InputsRefusal
 pub mod Join
+pub mod Uniting
 pub mod JoinWrites
 pub mod Missing
 pub mod Exchange

@@ -11,6 +11,7 @@ pub mod laws;
 mod missing;
 mod show;
 mod told;
+mod uniting;
 
 pub use crate::check::run_check;
 pub use crate::fault::{ToolFault, status};
