@@ -1,7 +1,8 @@
 -- Several sources, loaded one after another.
 --     AllLoaded old new P        all were loaded, and P holds of what they are
+--     NoneFailed old new         no read of any failed
 --     IsRefusedAt old new n f    the source of that number was refused, after those before it were loaded
-use Rattle.std.specs.Prelude.{◌≡◌, ◌≤◌, ◌+◌, ℕ, List, [], ◌∷◌, length, take, drop, Option, Err}
+use Rattle.std.specs.Prelude.{◌≡◌, ◌≤◌, ◌+◌, ℕ, List, [], ◌∷◌, map, length, take, drop, Option, Err}
 use Rattle.cadf_tool.specs.declared.TheConstants.{FILE_LIMIT}
 use Rattle.cadf_tool.specs.declared.input.Loaded.{Loaded}
 use Rattle.cadf_tool.specs.declared.input.LoadFault.{LoadFault}
@@ -19,6 +20,10 @@ seen left failures s = record { left = left s; failures = failures s }
 -- a source was loaded, and no read of it failed
 abbrev pub IsLoadedAs : Seen → Seen → Loaded → Type 0
 IsLoadedAs old new loaded = GivesAll old.left new.left (λ bytes. IsInput bytes loaded) × (new.failures ≡ old.failures)
+
+-- no read of any source failed
+abbrev pub NoneFailed : List Seen → List Seen → Type 0
+NoneFailed old new = map (λ (s : Seen). s.failures) new ≡ map (λ (s : Seen). s.failures) old
 
 -- each source was loaded as the input that stands in its place
 abbrev pub AreLoaded : List Seen → List Seen → List Loaded → Type 0
