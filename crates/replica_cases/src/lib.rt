@@ -12,4 +12,6 @@ mod parts;
 #[cfg(test)]
 mod support;
 #[cfg(test)]
+mod tails;
+#[cfg(test)]
 mod taking;

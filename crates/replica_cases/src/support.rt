@@ -66,7 +66,7 @@ pub const FAILED: &str =
     r#"{"id":"g","events":[{"action":"read","eventTime":"2024-03-01T12:00:00Z","eventType":"activity","id":"e1","initiatorId":"u1","observerId":"s1","outcome":"failure","reporterchain":[{"reporterId":"s2","role":"relay"}],"targetId":"t1"}]}"#;
 
 /// The line of the atom of that word.
-fn line(word: &str) -> &'static str {
+pub fn line(word: &str) -> &'static str {
     for (short, line) in ATOMS {
         if short == word {
             return line;
