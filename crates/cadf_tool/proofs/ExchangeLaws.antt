@@ -19,7 +19,7 @@ use Rattle.cadf_tool.specs.Join.{first_named, union_of, join_of}
 use Rattle.cadf_tool.specs.JoinWrites.{WritesJoin}
 use Rattle.cadf_tool.specs.Missing.{missing_of, BothLoaded, WritesMissing}
 use Rattle.cadf_tool.specs.Exchange.{Making, Joined, Operands, End, Whole, Part, IsReadOf, IsPartOf, IsMade, AreRead, outside, HaveSameOutside, log_of, IsTold, IsExchange, GivesFile, AreSources}
-use Rattle.cadf_tool.proofs.InputUnions.{in_all, of_all, listed_within, left_within, right_within, both_within, more_within, loaded_file, IsJoin, join_is, IsPart, part_is, part_within, part_or_held}
+use Rattle.cadf_tool.proofs.InputUnions.{in_all, of_all, left_within, right_within, both_within, more_within, loaded_file, IsJoin, join_is, IsPart, part_is, part_within, part_or_held}
 use Rattle.cadf_tool.proofs.Convergence.{same_union, told_alike}
 use Rattle.cadf_tool.proofs.ExchangeLemmas.{read_as, joined_told}
 
