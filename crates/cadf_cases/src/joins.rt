@@ -32,9 +32,10 @@ const JOINS: [(&str, &str, &str); 4] = [
 ];
 
 /// Files and events by themselves, and the file of their join in either order.
-const FILES: [(&str, &str, &str); 4] = [
+const FILES: [(&str, &str, &str); 5] = [
     (CHAINS, CHAINS, CHAINS),
     (CHAINS, EMPTY, CHAINS),
+    ("V1", EMPTY, ONE),
     ("V1", r#"{"id":"g","events":[]}"#, ONE),
     (r#"{"id":"g","events":[]}"#, EMPTY, EMPTY),
 ];
@@ -144,12 +145,19 @@ fn of_the_given_log(rt: HostRuntime) -> Result<(), Fail> {
     let alloc = rt.alloc();
     let other = Name::read(alloc, "h")?;
     check_refused(&rt, alloc, Some(other), (EMPTY, "V1"), "input 1: other log")?;
-    let event = written(alloc, "V1")?;
-    let wanted = written(alloc, ONE)?;
-    let log = Name::read(alloc, "g")?;
-    let (answer, sink) = joined(alloc, Some(log), &event, &event, 7);
-    assert!(rt; answer == Ok(()));
-    assert!(rt; sink.bytes() == wanted.as_bytes());
+    for (first, second, file) in [
+        ("V1", "V1", ONE),
+        ("V1", CHAINS, CHAINS),
+        (CHAINS, "V1", CHAINS),
+    ] {
+        let first = written(alloc, first)?;
+        let second = written(alloc, second)?;
+        let wanted = written(alloc, file)?;
+        let log = Name::read(alloc, "g")?;
+        let (answer, sink) = joined(alloc, Some(log), &first, &second, 7);
+        assert!(rt; answer == Ok(()), "{file}");
+        assert!(rt; sink.bytes() == wanted.as_bytes(), "{file}");
+    }
     Ok(())
 }
 
