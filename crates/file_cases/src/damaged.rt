@@ -110,8 +110,7 @@ fn refused(rt: HostRuntime) -> Result<(), Fail> {
 
 /// A line of one event whose body has a member of so many lists in one another.
 fn deep(alloc: Global, lists: usize) -> Result<String, Fail> {
-    let mut text = written(alloc, "HEAD[\"E\",\"e1\",BODY")?;
-    text.truncate(text.len().saturating_sub(2));
+    let mut text = written(alloc, "HEAD[\"E\",\"e1\",BEGUN")?;
     text.push_str(",\\\"x\\\":")?;
     text.push_str("[".repeat(alloc, lists)?.as_str())?;
     text.push_str("]".repeat(alloc, lists)?.as_str())?;

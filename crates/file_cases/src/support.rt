@@ -8,10 +8,15 @@ use std::test::Fail;
 pub const LIMIT: u64 = 4096;
 
 /// What stands for longer texts in the files.
-const PARTS: [(&str, &str); 5] = [
+const PARTS: [(&str, &str); 6] = [
     (
         "BODY",
         r#""{\"action\":\"read\",\"eventTime\":\"2024-03-01T12:00:00Z\",\"eventType\":\"activity\",\"initiatorId\":\"u1\",\"observerId\":\"s1\",\"outcome\":\"success\",\"targetId\":\"t1\"}""#,
+    ),
+    // the body without its end
+    (
+        "BEGUN",
+        r#""{\"action\":\"read\",\"eventTime\":\"2024-03-01T12:00:00Z\",\"eventType\":\"activity\",\"initiatorId\":\"u1\",\"observerId\":\"s1\",\"outcome\":\"success\",\"targetId\":\"t1\""#,
     ),
     (
         "EXCHANGED",
