@@ -12,7 +12,9 @@ mod view;
 mod whole;
 
 pub use crate::build::{ListBuilder, ObjectBuilder};
-pub use crate::laws::{text_is_one_line, text_spells_its_value, text_tells_values_apart};
+pub use crate::laws::{
+    bytes_spell_values, text_is_one_line, text_spells_its_value, text_tells_values_apart,
+};
 pub use crate::members::{Member, Members};
 pub use crate::memory::{FailingWrite, MemorySink, MemorySource};
 pub use crate::stream::{Failed, FromStd, Sink, Source};
