@@ -13,6 +13,7 @@ pub mod GroundedInputs
 pub mod InputUnions
 pub mod UnitingLemmas
 pub mod JoinLemmas
+pub mod HeldReplicas
 pub mod ExchangeLemmas
 pub mod ExchangeLaws
 pub mod TwoTexts
