@@ -7,6 +7,7 @@ pub mod Telling
 pub mod LoadLemmas
 pub mod OneText
 pub mod Exclusion
+pub mod OfTheBytes
 pub mod TakenAlone
 pub mod MissingLemmas
 pub mod GroundedInputs
