@@ -1,0 +1,120 @@
+"""The command: what a call's words mean, and its exit status and streams."""
+import json_text
+from events import Fault, document, is_name
+from replica_files import file_of, read_file
+from shown_texts import check_line, conflict_text, log_text
+
+DIRECTORY = object()  # stands for the content of a folder
+FILES_WANTED = {b"missing": 2, b"show": 1, b"check": 1}
+
+
+class Usage(Exception):
+    """The words are no call."""
+
+
+class Answer:
+    """An exit status and what was written; `error` is None where it is a text of clap's."""
+
+    def __init__(self, status, output, error):
+        self.status, self.output, self.error = status, output, error
+
+
+class Call:
+    """A call's command, options and files."""
+
+    def __init__(self, words):
+        try:
+            b"".join(word + b"\n" for word in words).decode()
+        except UnicodeDecodeError:
+            raise Usage
+        if not words or words[0] not in (b"join", b"missing", b"show", b"check"):
+            raise Usage
+        self.command, self.log, self.conflicts, self.files = words[0], None, False, []
+        self.rest = list(words[1:])
+        while self.rest:
+            self.take(self.rest.pop(0))
+        if len(self.files) != FILES_WANTED.get(self.command, max(1, len(self.files))):
+            raise Usage
+
+    def take(self, word):
+        """One word, and the one behind it where it is an option's value."""
+        if word == b"-" or not word.startswith(b"-"):
+            self.files.append(word)
+        elif word == b"--":
+            self.files += self.rest
+            self.rest = []
+        elif self.command == b"show" and word == b"--conflicts" and not self.conflicts:
+            self.conflicts = True
+        elif self.command == b"join" and word.partition(b"=")[0] == b"--log" and self.log is None:
+            self.log = word[len(b"--log="):] if b"=" in word else self.value()
+        else:
+            raise Usage
+
+    def value(self):
+        if not self.rest or self.rest[0].startswith(b"-") and self.rest[0] != b"-":
+            raise Usage
+        return self.rest.pop(0)
+
+
+def loaded(number, data):
+    """The log and the atoms of an input."""
+    if data is DIRECTORY:
+        raise Fault("input %d: read fault" % number, 3)
+    try:
+        if data.startswith(b"CADF-"):
+            return read_file(data)
+        return document(json_text.read(data))
+    except json_text.NotJson:
+        raise Fault("input %d: not JSON" % number)
+    except json_text.NotWhole:
+        raise Fault("input %d: a number is not whole" % number)
+    except Fault as fault:
+        raise Fault("input %d: %s" % (number, fault.said))
+
+
+def log_written(call, logs):
+    """The log under which is written; every input that names a log must name that one."""
+    if call.command == b"join":
+        named = call.log.decode() if call.log is not None else next((log for log in logs if log is not None), None)
+    else:
+        named = None if None in logs else logs[0]
+    if named is None:
+        raise Fault("no log named")
+    for number, log in enumerate(logs, 1):
+        if log not in (None, named):
+            raise Fault("input %d: other log" % number)
+    return named
+
+
+def missing(atoms, held):
+    """The atoms that are not held, each with its carrier."""
+    lacking = atoms - held
+    return lacking | {atom[:3] for atom in lacking}
+
+
+def written(call, files):
+    if call.log is not None and not is_name(call.log.decode()):
+        raise Fault("log name", 2)
+    for number, name in enumerate(call.files, 1):  # all are opened before one is read
+        if name not in files:
+            raise Fault("input %d: read fault" % number, 3)
+    inputs = [loaded(number, files[name]) for number, name in enumerate(call.files, 1)]
+    log = log_written(call, [log for log, _ in inputs])
+    sets = [atoms for _, atoms in inputs]
+    if call.command == b"join":
+        return file_of(log, set().union(*sets))
+    if call.command == b"missing":
+        return file_of(log, missing(*sets))
+    if call.command == b"check":
+        return check_line(log, *sets)
+    return conflict_text(log, *sets) if call.conflicts else log_text(log, *sets)
+
+
+def answer(words, files):
+    """What a call with these words answers where the files have these contents; all names are bytes."""
+    try:
+        return Answer(0, written(Call(words), files), b"")
+    except Usage:
+        return Answer(2, b"", None)
+    except Fault as fault:
+        return Answer(fault.status, b"", ("cadf: %s\n" % fault.said).encode())

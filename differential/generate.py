@@ -1,0 +1,365 @@
+"""Generated cases: the words of a call, and the contents of the files in its folder."""
+import glob
+import os
+import random
+
+import odd_events
+import odd_files
+from command import DIRECTORY
+from json_text import quoted, read_canonical, spelled
+from odd_events import chain, event
+from odd_files import HEAD, atoms_of, damaged, documents_told, grounded_part, some_carrier, some_file
+from odd_values import any_value, good_name, good_time, nested, number, number_near_a_border, odd_name, odd_text, time
+from replica_files import file_of, sealed
+from shown_texts import log_text
+from spelling import spelled_oddly
+
+TOP = os.path.dirname(os.path.dirname(os.path.abspath(__file__)))
+ODD_JSON = [
+    b"nul", b"nulL", b"True", b"tru", b"truex", b"falsee", b"[,]", b"[1,]", b"[1 2]", b"{,}", b'{"a"}', b'{"a":}',
+    b'{"a":1,}', b"{1:1}", b"{'a':1}", b'{"a" :1}', b"[1,,2]", b"[", b"]", b"{", b"}", b"[1}", b'{"a":1]', b"//x",
+    b"/**/1", b"#", b"\x0c1", b"\xc2\xa01", b"1;", b"undefined", b'{"a":1 "b":2}', b'"a""b"', b"[null true]",
+    b"{null:1}", b'{"":1}', b'{"a":{"a":{"a":1}},"a":2}', b'{"$serde_json::private::Number":"5"}',
+    b'{"$serde_json::private::Number":"1.5"}', b'{"$serde_json::private::RawValue":"[1]"}',
+    b'{"$serde_json::private::Number":"x","b":1}']
+ODD_INPUTS = [
+    b"", b" ", b"\n", b"CADF", b"CADF-", b"CADF-\n", b"cadf-\n", b" CADF-", b"CADF_REPLICA 1\n", b"CADF-REPLICA 1\n",
+    b'CADF-REPLICA 1\nL "g"\n', b"\xef\xbb\xbfCADF-REPLICA 1\n", b"CADF-REPLICA 1\n\n", b"\x00",
+    b'CADF-REPLICA 2\nL "g"\n', b"null", b"0", b'""', b"[]", b"{}"]
+TOKENS = [b"{", b"}", b"[", b"]", b",", b":", b'"', b'"id"', b'"events"', b'"g"', b"1", b" ", b"null"]
+LIKELY_WORDS = ["a", "b", "c", "g", "e", "nothere", "folder", "-", "--", "--log", "--log=g", "--log="]
+WORDS = LIKELY_WORDS + [
+    "--log=\x7f", "--log=" + "x" * 1024, "--log=" + "x" * 1025, "--conflicts", "--conflicts=1", "--nope", "-l", b"\xff", "",
+    "-x", "--log=h", b"--log=\xff", "--log=-", "--log=-x", "--log=a=b", "--log=\u00e9", "--log=\n"]
+
+
+def example_contents():
+    contents = []
+    for path in sorted(glob.glob(os.path.join(TOP, "examples", "*.json"))):
+        with open(path, "rb") as file:
+            contents.append(file.read())
+    return contents
+
+
+EXAMPLES = example_contents()
+
+
+def reading(chance, data):
+    """A call that reads one input."""
+    return chance.choice([
+        ["show", "a"], ["show", "a"], ["show", "a"], ["show", "--conflicts", "a"], ["check", "a"], ["join", "a"],
+        ["join", "--log", "g", "a"], ["missing", "a", "a"]]), {"a": data}
+
+
+def log_with(member):
+    return b'{"id":"g","events":[],' + member + b"}"
+
+
+def file_with(*values):
+    return sealed(HEAD + [spelled(value).encode() for value in values])
+
+
+def numbers(chance):
+    first = (number(chance) if chance.random() < 0.8 else number_near_a_border(chance)).encode()
+    second = number(chance).encode()
+    end = chance.choice([b"]}", b"]", b""])
+    return reading(chance, chance.choice([
+        first, log_with(b'"x":' + first), log_with(b'"x":%s,"x":%s' % (first, second)),
+        b'{"id":"g","events":[],"x":[' + first + b"," + second + end,
+        file_with(["P", "n", first.decode()]), sealed(HEAD + [b'["P","n",%s]' % first])]))
+
+
+def texts(chance):
+    text = odd_text(chance).data
+    try:
+        line = spelled(["P", "x", text.decode()]).encode()
+    except UnicodeDecodeError:
+        line = b'["P","x",%s]' % text
+    return reading(chance, chance.choice([
+        text, log_with(b'"x":' + text), log_with(text + b":1"), b'{"id":%s,"events":[]}' % text,
+        sealed([HEAD[0], b"L " + text]), sealed(HEAD + [b'["P",%s,"1"]' % text]), sealed(HEAD + [line])]))
+
+
+def deep_document(chance):
+    deep = nested(chance, chance.choice([98, 99, 100]))
+    made = event(chance)
+    kind = chance.randrange(5)
+    if kind == 0:
+        return {"id": "g", "events": [], "p": nested(chance, chance.choice([99, 100, 101, 125, 126, 127, 128]))}
+    if kind == 1:
+        member, value = odd_events.deep_member(chance, [-1, 0, 1, 2, 22, 23, 24, 25])
+        made[member] = value
+        return chance.choice([made, {"id": "g", "events": [made]}])
+    if kind == 2:
+        member, key = chance.choice(odd_events.ENTITY_MEMBERS)
+        return {"id": "g", "events": [], member: [{key: "a", "d": deep}]}
+    if kind == 3:
+        step = {"role": "relay", "reporterId": "s", "d": deep}
+        made.update(chance.choice([{"reporterchain": [step]}, {"reporterchains": [[step]]}]))
+    else:
+        made.update({"attachments": [{"d": deep}], "x": nested(chance, chance.choice([98, 99, 99]))})
+    return {"id": "g", "events": [made]}
+
+
+def deep_file(chance):
+    deep = nested(chance, chance.choice([97, 98, 99, 100])).data.decode()
+    carrier = some_carrier(chance, "e")
+    kind = chance.randrange(4)
+    if kind == 0:
+        return file_with(["P", "n", nested(chance, chance.choice([99, 100, 101, 126, 127, 128])).data.decode()])
+    if kind == 1:
+        return file_with(["E", "e", spelled(dict(read_canonical(carrier[2]), zz="DEEP")).replace('"DEEP"', deep)])
+    if kind == 2:
+        step = '{"d":%s,"reporterId":"s","role":"relay"}' % deep
+        plain = '{"reporterId":"s","role":"relay"}'
+        return file_with(carrier, carrier + chance.choice(
+            [["C", step], ["C", plain, step], ["A", '{"d":%s}' % deep], ["A", deep]]))
+    letter, key = chance.choice([("R", "id"), ("G", "id"), ("M", "metricId")])
+    return file_with([letter, "a", '{"d":%s,"%s":"a"}' % (deep, key)])
+
+
+def depths(chance):
+    kind = chance.randrange(10)
+    if kind == 0:
+        return reading(chance, nested(chance, chance.choice([99, 100, 126, 127, 128, 129, 200])).data)
+    return reading(chance, spelled_oddly(chance, deep_document(chance)) if kind < 6 else deep_file(chance))
+
+
+def times(chance):
+    made = event(chance)
+    step = {"role": "relay", "reporterId": "s", "reporterTime": time(chance)}
+    if chance.random() < 0.2:
+        carrier = some_carrier(chance, "e")
+        if chance.random() < 0.4:
+            return reading(chance, file_with(carrier, carrier + ["C", spelled(step)]))
+        body = dict(read_canonical(carrier[2]), eventTime=time(chance))
+        return reading(chance, file_with(["E", "e", spelled(body)]))
+    if chance.random() < 0.7:
+        made["eventTime"] = time(chance)
+    else:
+        made["reporterchain"] = [step]
+    return reading(chance, spelled_oddly(chance, {"id": "g", "events": [made]}))
+
+
+def orders(chance):
+    """Events whose order is by their instants, and at one instant by their identifiers."""
+    made = []
+    for place in range(chance.randint(2, 8)):
+        made.append(event(chance, good_name(chance) + chance.choice(["", "a", str(place)])))
+        near = "2024-03-01T%02d:00:00" % chance.choice([11, 12, 13])
+        near += chance.choice(["", ".0", ".5", ".000000001"]) + chance.choice(["Z", "+01:00", "-01:00", "+0100"])
+        made[-1]["eventTime"] = chance.choice([near, good_time(chance)])
+    return reading(chance, spelled_oddly(chance, {"id": "g", "events": made}, chance.choice([0, 0.1])))
+
+
+def name_in_a_document(chance, name):
+    made = event(chance)
+    document = {"id": "g", "events": [made]}
+    party = chance.choice(odd_events.PARTIES)
+    chance.choice([
+        lambda: document.update(id=name),
+        lambda: made.update({chance.choice(["id", "action", "initiatorId", "targetId", "observerId"]): name}),
+        lambda: made.update({party: {"id": name}}),
+        lambda: made.update(tags=["a", name]),
+        lambda: made.update(reporterchain=[dict({"role": "relay"}, **chance.choice(
+            [{"reporterId": name}, {"reporter": {"id": name}}]))]),
+        lambda: document.update({name: any_value(chance, 1)}),
+        lambda: document.update(resources=[{"id": name}], metrics=[{"metricId": name}])])()
+    return spelled_oddly(chance, document, chance.choice([0, 0.3]))
+
+
+def names(chance):
+    name = odd_name(chance)
+    kind = chance.randrange(9)
+    if kind < 7:
+        return reading(chance, name_in_a_document(chance, name))
+    if kind == 7:
+        atom = chance.choice([["P", name, "1"], ["R", name, spelled({"id": name})], ["M", name, spelled({"metricId": name})],
+                              ["E", name, some_carrier(chance)[2]]])
+        log = quoted(chance.choice(["g", name])).encode()
+        return reading(chance, sealed([HEAD[0], b"L " + log, spelled(atom).encode()]))
+    word = chance.choice([name.replace("\x00", ""), name.replace("\x00", ""), "g"])  # no word has a zero byte
+    document = chance.choice([event(chance), {"id": name, "events": []}, {"id": word, "events": [event(chance)]}])
+    return chance.choice([["join", "--log=" + word, "a"], ["join", "--log", word, "a"]]), \
+        {"a": spelled_oddly(chance, document)}
+
+
+def events(chance):
+    made = event(chance)
+    for _ in range(chance.choice([0, 1, 1, 1, 2, 3])):
+        made = odd_events.broken(chance, made)
+    whole = chance.choice([
+        made, {"id": "g", "events": [made]}, {"id": "g", "events": [event(chance), made]},
+        {"id": "g", "events": [event(chance), made, odd_events.broken(chance, event(chance))]}])
+    if chance.random() < 0.1:
+        whole = odd_events.repeated(chance, whole)
+    return reading(chance, spelled_oddly(chance, whole, chance.choice([0, 0, 0.05, 0.3])))
+
+
+def documents(chance):
+    made = chance.choice([odd_events.odd_document, odd_events.document])(chance)
+    kind = chance.random()
+    if kind < 0.15:
+        made = odd_events.repeated(chance, made)
+    elif kind < 0.25:
+        made = chance.choice([[], [made], None, True, 7, "x", {}, {"events": []}, {"event": made}, {"id": "g"},
+                              {"events": None, "id": "g"}, {"Events": []}])
+    before = chance.choice([b""] * 8 + [b"\xef\xbb\xbf", b" ", b"\n\r\t "])
+    behind = chance.choice([b""] * 8 + [b"\n", b" \r\n\t", b"\x00", b"x", b",", b"\x0b", b"\xc2\xa0", b"{}"])
+    return reading(chance, before + spelled_oddly(chance, made, chance.choice([0, 0, 0.05, 0.3])) + behind)
+
+
+def as_input(chance, document):
+    """What the document tells, in one of the forms that an input may have."""
+    log = document["id"]
+    kind = chance.random()
+    if kind < 0.4:
+        return file_of(log, atoms_of([document]))
+    if kind < 0.5 and document["events"]:
+        return spelled_oddly(chance, document["events"][0], chance.choice([0, 0.1]))
+    if kind < 0.6:
+        return log_text(log, atoms_of([document]))
+    return spelled_oddly(chance, document, chance.choice([0, 0.1]))
+
+
+def joins(chance):
+    files = {"folder": DIRECTORY}
+    for place, document in enumerate(documents_told(chance)):
+        if chance.random() < 0.06:
+            document["id"] = chance.choice(["h", "g ", "G", 'g"'])
+        data = as_input(chance, document)
+        files["f%d" % place] = damaged(chance, data) if chance.random() < 0.06 else data
+    inputs = [name for name in files if name != "folder"]
+    inputs += [chance.choice(inputs)] * chance.choice([0, 0, 1])
+    chance.shuffle(inputs)
+    for odd in ("nothere", "folder"):
+        if chance.random() < 0.03:
+            inputs.insert(chance.randint(0, len(inputs)), odd)
+    log = chance.choice([[]] * 12 + [["--log", "g"], ["--log=g"], ["--log", "g"], ["--log", "h"], ["--log", "g "]])
+    place = chance.choice([0, 1])
+    return ["join"] + inputs[:place] + log + inputs[place:], files
+
+
+def missings(chance):
+    told = documents_told(chance, 2, 5)
+    files = {}
+    for name in ("from", "to"):
+        atoms = atoms_of([document for document in told if chance.random() < 0.6])
+        if chance.random() < 0.3:
+            atoms = grounded_part(chance, atoms_of(told))
+        log = "g" if chance.random() < 0.96 else "h"
+        kind = chance.random()
+        if kind < 0.6:
+            files[name] = file_of(log, atoms)
+        else:
+            document = dict(chance.choice(told), id=log)
+            files[name] = log_text(log, atoms) if kind < 0.75 else spelled_oddly(chance, document)
+        if chance.random() < 0.05:
+            files[name] = damaged(chance, files[name])
+        if chance.random() < 0.03:
+            files[name] = spelled_oddly(chance, event(chance))
+    operands = chance.choice([["from", "to"]] * 9 + [["to", "from"], ["from", "from"], ["from", "nothere"], ["nothere", "to"]])
+    return ["missing"] + operands, files
+
+
+def shows(chance):
+    words = chance.choice([["show", "a"], ["show", "--conflicts", "a"], ["show", "a", "--conflicts"], ["check", "a"]])
+    return words, {"a": file_of("g", atoms_of(documents_told(chance, 1, 6)))}
+
+
+def damages(chance):
+    return reading(chance, chance.choice([odd_files.file_with_odd_lines, odd_files.file_with_odd_end])(chance))
+
+
+def atoms(chance):
+    return reading(chance, odd_files.odd_atoms_file(chance))
+
+
+def example_documents(chance):
+    data = chance.choice(EXAMPLES)
+    return reading(chance, data if chance.random() < 0.08 else damaged(chance, data))
+
+
+def example_joins(chance):
+    files = {}
+    for place, data in enumerate(chance.sample(EXAMPLES, chance.randint(1, 4))):
+        files["f%d" % place] = data if chance.random() < 0.8 else damaged(chance, data, 1)
+        if chance.random() < 0.3:
+            files["g%d" % place] = data.replace(b"success", b"failure").replace(b"unknown", b"pending")
+    return ["join"] + sorted(files), files
+
+
+def chains(chance):
+    made, long = event(chance), odd_events.long_chain(chance)
+    made.update(chance.choice([
+        {"reporterchain": long}, {"reporterchains": [chain(chance), long]},
+        {"reporterchain": long, "reporterchains": [long[:-1], long]}, {"reporterchains": [None] * 3 + [long]},
+        {"reporterchains": [[]] * 300 + [odd_events.odd_chain(chance)]},
+        {"reporterchains": [chain(chance) for _ in range(30)]}]))
+    return reading(chance, spelled_oddly(chance, {"id": "g", "events": [made]}))
+
+
+def json_texts(chance):
+    value = spelled_oddly(chance, any_value(chance, 4), chance.choice([0, 0.2]))
+    if chance.random() < 0.5:
+        value = damaged(chance, value, 1)
+    if chance.random() < 0.3:
+        value = chance.choice(ODD_JSON)
+    return reading(chance, chance.choice([value, log_with(b'"x":' + value), b'{"id":"g","x":' + value + b',"events":[]}']))
+
+
+def byte_texts(chance):
+    def some(pieces, least, most):
+        return b"".join(chance.choice(pieces) for _ in range(chance.randint(least, most)))
+
+    return reading(chance, chance.choice([
+        b"CADF-REPLICA 1\n"[:chance.randint(0, 15)],
+        bytes(chance.randrange(256) for _ in range(chance.choice([0, 1, 2, 3, 5, 10, 50]))),
+        chance.choice(ODD_INPUTS),
+        b"CADF-" + some([bytes([byte]) for byte in b'REPLICA 12\n\rLgZ"[]'], 0, 40),
+        b'CADF-REPLICA 1\nL "g"\n' + some([bytes([byte]) for byte in b'Z \n\r[]"PEn1,\xff0'], 0, 40),
+        some(TOKENS, 1, 14)]))
+
+
+def words(chance):
+    files = {"a": spelled_oddly(chance, odd_events.document(chance)), "b": some_file(chance), "c": b"{", "-": b"{}",
+             "-x": some_file(chance), "g": some_file(chance, "h"), "folder": DIRECTORY,
+             "e": spelled_oddly(chance, event(chance))}
+    command = chance.choice(["join", "join", "missing", "show", "check", "Join", "", "joi", "--log"])
+    behind = [chance.choice(LIKELY_WORDS if chance.random() < 0.6 else WORDS) for _ in range(chance.randint(0, 4))]
+    return [command] + behind, files
+
+
+def large(chance):
+    """Some hundred events in two inputs."""
+    count = chance.choice([50, 200, 600])
+    made = [event(chance, "e%d" % chance.randrange(count)) for _ in range(count)]
+    for one in made:
+        if chance.random() < 0.3:
+            one["reporterchains"] = [chain(chance) for _ in range(chance.randint(0, 6))]
+    cut = chance.randint(0, count)
+    first, second = {"id": "g", "events": made[:cut]}, {"id": "g", "events": made[cut:], "name": "x"}
+    mine, theirs = atoms_of([first]), atoms_of([second])
+    return chance.choice([
+        (["join", "a", "b"], {"a": spelled_oddly(chance, first), "b": spelled_oddly(chance, second)}),
+        (["missing", "a", "b"], {"a": file_of("g", mine | grounded_part(chance, theirs)), "b": file_of("g", theirs)}),
+        (chance.choice([["show", "a"], ["show", "--conflicts", "a"], ["check", "a"]]), {"a": file_of("g", mine | theirs)})])
+
+
+# Each kind of case, and how many there are of it beside the others.
+KINDS = {
+    numbers: 8, texts: 8, depths: 8, times: 10, orders: 4, names: 8, events: 12, documents: 10, joins: 12, missings: 10,
+    shows: 6, damages: 12, atoms: 12, example_documents: 8, example_joins: 2, chains: 3, json_texts: 8, byte_texts: 4,
+    words: 5, large: 1}
+
+
+class Case:
+    """The kind of a case, the words of its call and the contents of its files, all of whose names are bytes."""
+
+    def __init__(self, seed, number):
+        chance = random.Random("%d/%d" % (seed, number))  # a case depends on nothing but its seed and number
+        kind, = chance.choices(list(KINDS), list(KINDS.values()))
+        words, files = kind(chance)
+        self.kind = kind.__name__
+        self.words = [word if isinstance(word, bytes) else word.encode() for word in words]
+        self.files = {name.encode(): content for name, content in files.items()}
