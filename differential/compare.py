@@ -131,8 +131,8 @@ def main():
         sys.exit("%s can't be run" % binary)
     sys.stdout.reconfigure(errors="surrogateescape")  # a word that isn't UTF-8 is printed as it is
     one = functools.partial(compared, binary, options.seed)
-    with concurrent.futures.ProcessPoolExecutor(len(os.sched_getaffinity(0))) as pool:
-        answers = list(pool.map(one, range(options.count), chunksize=20))
+    with concurrent.futures.ThreadPoolExecutor(len(os.sched_getaffinity(0))) as pool:
+        answers = list(pool.map(one, range(options.count)))
     kinds = collections.Counter(kind for kind, _ in answers)
     differing = [number for number, (_, same) in enumerate(answers) if not same]
     for place, number in enumerate(differing):
