@@ -23,4 +23,5 @@ pub mod Shown
 pub mod Slices
 pub mod Tails
 pub mod Takes
+pub mod Turns
 pub mod ValueLaws
