@@ -26,7 +26,7 @@ sys.dont_write_bytecode = True  # nothing is written beside the sources; so this
 
 from command import DIRECTORY, Answer, answer
 from generate import Case
-from replica_files import sealed
+from sealed_files import sealed
 
 TOP = os.path.dirname(os.path.dirname(os.path.abspath(__file__)))
 BINARY = os.path.join(TOP, "crates", "cadf", "out", "cadf")
