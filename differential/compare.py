@@ -5,9 +5,10 @@
 
 The second implementation, in this folder, is of what docs/FORMATS.md describes. It was written apart from crates/ and
 shares nothing with it, so that a misreading in the definitions there would show as a difference. Compared are the exit
-status, standard output and standard error of `join`, `missing`, `show` and `check`. Not compared: the texts for words
-that are no call, which are clap's own, beyond that the status is 2 and that they go to standard error alone; words that
-aren't UTF-8 count as no call. Nor is anything reached that takes a large input, a failed write or want of memory.
+status, standard output and standard error of `join`, `missing`, `missing-by`, `inventory`, `show` and `check`. Not
+compared: the texts for words that are no call, which are clap's own, beyond that the status is 2 and that they go to
+standard error alone; words that aren't UTF-8 count as no call. Nor is anything reached that takes a large input, a
+failed write or want of memory.
 
 BINARY is crates/cadf/out/cadf unless given. A case depends on its seed and number alone. The status is 1 where
 a case differs; the first ten that do are kept, made smaller, in folders of their own with the call to run there.
@@ -26,7 +27,7 @@ sys.dont_write_bytecode = True  # nothing is written beside the sources; so this
 
 from command import DIRECTORY, Answer, answer
 from generate import Case
-from replica_files import sealed
+from sealed_files import sealed
 
 TOP = os.path.dirname(os.path.dirname(os.path.abspath(__file__)))
 BINARY = os.path.join(TOP, "crates", "cadf", "out", "cadf")
