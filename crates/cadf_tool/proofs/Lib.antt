@@ -1,5 +1,6 @@
 pub mod Starts
 pub mod FileReading
+pub mod AboveLimit
 pub mod DocumentReading
 pub mod LoadedLists
 pub mod Convergence
