@@ -5,7 +5,9 @@ pub mod Behind
 pub mod Content
 pub mod ContributionLaws
 pub mod History
+pub mod Inventories
 pub mod Keys
+pub mod LineDigests
 pub mod Lists
 pub mod Missing
 pub mod Nexts
@@ -22,4 +24,5 @@ pub mod Shown
 pub mod Slices
 pub mod Tails
 pub mod Takes
+pub mod Turns
 pub mod ValueLaws

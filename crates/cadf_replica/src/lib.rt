@@ -4,8 +4,11 @@
 mod atom;
 mod atom_set;
 mod body_parts;
+mod inventory;
 pub mod laws;
+mod line_digest;
 mod name;
+mod noting;
 pub mod path;
 pub mod replica;
 mod seek;
@@ -14,5 +17,6 @@ mod shape;
 mod tail;
 
 pub use atom::{Atom, AtomFault};
+pub use inventory::Inventory;
 pub use name::log_name;
 pub use replica::{Replica, ReplicaFault};
