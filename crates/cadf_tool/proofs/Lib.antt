@@ -15,6 +15,10 @@ pub mod InputUnions
 pub mod UnitingLemmas
 pub mod JoinLemmas
 pub mod HeldReplicas
+pub mod ShownAgain
+pub mod InventoryParts
+pub mod ExchangeWithin
 pub mod ExchangeLemmas
 pub mod ExchangeLaws
+pub mod InventoryRuns
 pub mod TwoTexts
