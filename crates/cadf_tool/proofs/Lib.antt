@@ -14,6 +14,10 @@ pub mod GroundedInputs
 pub mod InputUnions
 pub mod UnitingLemmas
 pub mod HeldReplicas
+pub mod ShownAgain
+pub mod InventoryParts
+pub mod ExchangeWithin
 pub mod ExchangeLemmas
 pub mod ExchangeLaws
+pub mod InventoryRuns
 pub mod TwoTexts
