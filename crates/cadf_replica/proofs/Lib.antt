@@ -7,6 +7,7 @@ pub mod ContributionLaws
 pub mod History
 pub mod Inventories
 pub mod Keys
+pub mod LineDigests
 pub mod Lists
 pub mod Missing
 pub mod Nexts

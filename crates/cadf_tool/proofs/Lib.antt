@@ -1,5 +1,6 @@
 pub mod Starts
 pub mod FileReading
+pub mod AboveLimit
 pub mod DocumentReading
 pub mod LoadedLists
 pub mod Convergence
@@ -13,6 +14,10 @@ pub mod GroundedInputs
 pub mod InputUnions
 pub mod UnitingLemmas
 pub mod HeldReplicas
+pub mod ShownAgain
+pub mod InventoryParts
+pub mod ExchangeWithin
 pub mod ExchangeLemmas
 pub mod ExchangeLaws
+pub mod InventoryRuns
 pub mod TwoTexts

@@ -9,5 +9,6 @@ pub mod Join
 pub mod Uniting
 pub mod JoinWrites
 pub mod Missing
+pub mod MissingBy
 pub mod Exchange
 pub mod TwoTexts

@@ -15,9 +15,9 @@ use Rattle.cadf_tool.specs.declared.input.Loaded.{Loaded}
 use Rattle.cadf_tool.specs.declared.input.LoadFault.{LoadFault}
 use Rattle.cadf_tool.specs.declared.fault.ToolFault.{ToolFault}
 use Rattle.cadf_tool.specs.declared.fault.ToolFault.TheVariants.{WriteFault, Memory}
-use Rattle.cadf_tool.specs.Input.{GivesAll, IsInput}
+use Rattle.cadf_tool.specs.Input.{GivesAll, IsInputWithin}
 use Rattle.cadf_tool.specs.Faults.{of_load, is_write_fault, Stage, Reading, Working, Writing, Starving, stage_of}
-use Rattle.cadf_tool.specs.Inputs.{Seen, seen, AreLoaded, NoneFailed, IsRefusedAs, IsRefusedAt, AreReadWithin}
+use Rattle.cadf_tool.specs.Inputs.{Seen, seen, AreLoaded, NoneFailed, IsRefusedWithin, IsRefusedAt, AreReadWithin}
 
 -- ---- sources
 
@@ -36,8 +36,11 @@ pub record Reader (T : Type 0) : Type 1 where
   pub refuses : Seen → Seen → LoadFault → Type 0
 
 -- a document or a replica file
+abbrev pub as_input_within : ℕ → Reader Loaded
+as_input_within limit = record { limit = limit; is = IsInputWithin limit; refuses = IsRefusedWithin limit }
+
 abbrev pub as_input : Reader Loaded
-as_input = record { limit = FILE_LIMIT; is = IsInput; refuses = IsRefusedAs }
+as_input = as_input_within FILE_LIMIT
 
 -- the source gave all its bytes, no read failed, and they are this
 abbrev pub IsReadAs : {T : Type 0} → Reader T → Turn → T → Type 0
