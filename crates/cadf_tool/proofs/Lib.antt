@@ -16,6 +16,7 @@ pub mod UnitingLemmas
 pub mod JoinLemmas
 pub mod HeldReplicas
 pub mod ShownAgain
+pub mod DigestBytes
 pub mod InventoryParts
 pub mod ExchangeWithin
 pub mod ExchangeLemmas
