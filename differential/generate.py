@@ -6,6 +6,7 @@ import random
 import odd_events
 import odd_files
 import odd_inventories
+import schedules
 from command import DIRECTORY
 from inventory_files import digest_of, inventory_of, inventory_with
 from json_text import quoted, read_canonical, spelled
@@ -400,20 +401,26 @@ def large(chance):
         (chance.choice([["show", "a"], ["show", "--conflicts", "a"], ["check", "a"]]), {"a": file_of("g", mine | theirs)})])
 
 
+def rehearsals(chance):
+    words, script = schedules.call(chance)
+    return words, {"script": script, "folder": DIRECTORY}
+
+
 # Each kind of case, and how many there are of it beside the others.
 KINDS = {
     numbers: 8, texts: 8, depths: 8, times: 10, orders: 4, names: 8, events: 12, documents: 10, joins: 12, missings: 10,
     shows: 6, damages: 12, atoms: 12, example_documents: 8, example_joins: 2, chains: 3, json_texts: 8, byte_texts: 4,
     words: 5, large: 1, inventories: 10,
     damaged_inventories: 12}
+KINDS_WITH_REHEARSALS = {**KINDS, rehearsals: 12}
 
 
 class Case:
     """The kind of a case, the words of its call and the contents of its files, all of whose names are bytes."""
 
-    def __init__(self, seed, number):
-        chance = random.Random("%d/%d" % (seed, number))  # a case depends on nothing but its seed and number
-        kind, = chance.choices(list(KINDS), list(KINDS.values()))
+    def __init__(self, kinds, seed, number):
+        chance = random.Random("%d/%d" % (seed, number))  # a case depends on nothing but the kinds, its seed and number
+        kind, = chance.choices(list(kinds), list(kinds.values()))
         words, files = kind(chance)
         self.kind = kind.__name__
         self.words = [word if isinstance(word, bytes) else word.encode() for word in words]
