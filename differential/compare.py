@@ -10,8 +10,9 @@ compared: the texts for words that are no call, which are clap's own, beyond tha
 standard error alone; words that aren't UTF-8 count as no call. Nor is anything reached that takes a large input, a
 failed write or want of memory.
 
-BINARY is crates/cadf/out/cadf unless given. A case depends on its seed and number alone, and on whether the help
-of BINARY lists `rehearse`, whose calls are compared too where it does. The status is 1 where a case differs; the first ten that do are kept, made smaller, in folders of their own with the call to run there.
+BINARY is crates/cadf/out/cadf unless given. A case depends on its seed and number alone, and on whether the help of
+BINARY lists `rehearse`, whose calls are compared too where it does. The status is 1 where a case differs; the first ten
+that do are kept, made smaller, in folders of their own with the call to run there.
 """
 import argparse
 import collections

@@ -268,10 +268,17 @@ def missings(chance):
     return ["missing"] + operands, files
 
 
+def nearly(chance, digest):
+    """The digest with another digit, mostly behind its front."""
+    place = max(chance.randrange(64), chance.randrange(64))
+    other = b"f" if digest[place:place + 1] == b"0" else b"0"
+    return digest[:place] + other + digest[place + 1:]
+
+
 def some_digests(chance, atoms):
     """Digests of a set, of a part of it or of other atoms."""
     digests = sorted(digest_of(atom) for atom in atoms)
-    kind = chance.randrange(8)
+    kind = chance.randrange(9)
     if kind < 3:
         return set(digests)
     if kind == 3:
@@ -280,8 +287,10 @@ def some_digests(chance, atoms):
         return {digest for digest in digests if chance.random() < 0.5}
     if kind == 5:
         return set()
+    if kind == 6:
+        return {nearly(chance, digest) if chance.random() < 0.6 else digest for digest in digests}
     others = {digest_of(atom) for atom in atoms_of(documents_told(chance))}
-    return others if kind == 6 else others | set(digests[::2])
+    return others if kind == 7 else others | set(digests[::2])
 
 
 def inventories(chance):
@@ -306,9 +315,9 @@ def inventories(chance):
 def damaged_inventories(chance):
     """An inventory with something odd in it, mostly where one is asked for."""
     made = odd_inventories.odd_inventory(chance)
-    source = chance.choice([lambda: some_file(chance), lambda: some_file(chance), lambda: some_file(chance, "h"),
-                            lambda: damaged(chance, some_file(chance), 1), lambda: made,
-                            lambda: spelled_oddly(chance, event(chance))])()
+    source = chance.choice([lambda: some_file(chance)] * 8 + [
+        lambda: some_file(chance, "h"), lambda: damaged(chance, some_file(chance), 1), lambda: made,
+        lambda: spelled_oddly(chance, event(chance))])()
     return chance.choice([["missing-by", "a", "i"]] * 12 + [
         ["missing-by", "i", "i"], ["inventory", "i"], ["check", "i"], ["join", "a", "i"], ["missing", "a", "i"]]), \
         {"a": source, "i": made}
@@ -411,7 +420,7 @@ KINDS = {
     numbers: 8, texts: 8, depths: 8, times: 10, orders: 4, names: 8, events: 12, documents: 10, joins: 12, missings: 10,
     shows: 6, damages: 12, atoms: 12, example_documents: 8, example_joins: 2, chains: 3, json_texts: 8, byte_texts: 4,
     words: 5, large: 1, inventories: 10,
-    damaged_inventories: 12}
+    damaged_inventories: 18}
 KINDS_WITH_REHEARSALS = {**KINDS, rehearsals: 12}
 
 
