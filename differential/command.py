@@ -1,12 +1,14 @@
 """The command: what a call's words mean, and its exit status and streams."""
 import json_text
 from events import Fault, document, is_name
-from inventory_files import digest_of, inventory_of, read_inventory
-from replica_files import file_of, read_file
+from inventory_files import inventory_of, missing_by, read_inventory
+from rehearsal import read_script, rehearsal_text, sites_of
+from replica_files import file_of, read_file, with_carriers
 from shown_texts import check_line, conflict_text, log_text
 
 DIRECTORY = object()  # stands for the content of a folder
-FILES_WANTED = {b"missing": 2, b"missing-by": 2, b"inventory": 1, b"show": 1, b"check": 1}  # `join`: one or more
+# How many words a command wants beside its options; `join` wants one or more.
+WORDS_WANTED = {b"missing": 2, b"missing-by": 2, b"inventory": 1, b"show": 1, b"check": 1, b"rehearse": 3}
 
 
 class Usage(Exception):
@@ -28,14 +30,16 @@ class Call:
             b"".join(word + b"\n" for word in words).decode()
         except UnicodeDecodeError:
             raise Usage
-        if not words or words[0] not in (b"join", *FILES_WANTED):
+        if not words or words[0] not in (b"join", *WORDS_WANTED):
             raise Usage
         self.command, self.log, self.conflicts, self.files = words[0], None, False, []
         self.rest = list(words[1:])
         while self.rest:
             self.take(self.rest.pop(0))
-        if len(self.files) != FILES_WANTED.get(self.command, max(1, len(self.files))):
+        if len(self.files) != WORDS_WANTED.get(self.command, max(1, len(self.files))):
             raise Usage
+        if self.command == b"rehearse":
+            self.log, self.sites, *self.files = self.files
 
     def take(self, word):
         """One word, and the one behind it where it is an option's value."""
@@ -76,15 +80,21 @@ def loaded(number, data, read):
         raise Fault("input %d: %s" % (number, fault.said))
 
 
-def inputs_of(call, files):
-    """The log and the contents of each input; all files are opened before one is read."""
+def opened(call, files):
+    """The contents of a call's files; all are opened before one is read."""
     for number, name in enumerate(call.files, 1):
         if name not in files:
             raise Fault("input %d: read fault" % number, 3)
+    return [files[name] for name in call.files]
+
+
+def inputs_of(call, files):
+    """The log and the contents of each input."""
     reads = [read_input] * len(call.files)
     if call.command == b"missing-by":
         reads[1] = read_inventory
-    return [loaded(number, files[name], read) for number, (name, read) in enumerate(zip(call.files, reads), 1)]
+    contents = opened(call, files)
+    return [loaded(number, data, read) for number, (data, read) in enumerate(zip(contents, reads), 1)]
 
 
 def log_written(call, logs):
@@ -101,19 +111,19 @@ def log_written(call, logs):
     return named
 
 
-def with_carriers(atoms):
-    """The atoms, each with its carrier."""
-    return atoms | {atom[:3] for atom in atoms}
-
-
-def missing_by(atoms, digests):
-    """The atoms whose digest is not there, each with its carrier."""
-    return with_carriers({atom for atom in atoms if digest_of(atom) not in digests})
+def rehearsed(call, files):
+    count = sites_of(call.sites.decode())
+    script, = opened(call, files)
+    if script is DIRECTORY:
+        raise Fault("input 1: read fault", 3)
+    return rehearsal_text(call.log.decode(), count, read_script(script))
 
 
 def written(call, files):
     if call.log is not None and not is_name(call.log.decode()):
         raise Fault("log name", 2)
+    if call.command == b"rehearse":
+        return rehearsed(call, files)
     inputs = inputs_of(call, files)
     log = log_written(call, [log for log, _ in inputs])
     sets = [contents for _, contents in inputs]

@@ -6,6 +6,7 @@ import random
 import odd_events
 import odd_files
 import odd_inventories
+import schedules
 from command import DIRECTORY
 from inventory_files import digest_of, inventory_of, inventory_with
 from json_text import quoted, read_canonical, spelled
@@ -267,10 +268,17 @@ def missings(chance):
     return ["missing"] + operands, files
 
 
+def nearly(chance, digest):
+    """The digest with another digit, mostly behind its front."""
+    place = max(chance.randrange(64), chance.randrange(64))
+    other = b"f" if digest[place:place + 1] == b"0" else b"0"
+    return digest[:place] + other + digest[place + 1:]
+
+
 def some_digests(chance, atoms):
     """Digests of a set, of a part of it or of other atoms."""
     digests = sorted(digest_of(atom) for atom in atoms)
-    kind = chance.randrange(8)
+    kind = chance.randrange(9)
     if kind < 3:
         return set(digests)
     if kind == 3:
@@ -279,8 +287,10 @@ def some_digests(chance, atoms):
         return {digest for digest in digests if chance.random() < 0.5}
     if kind == 5:
         return set()
+    if kind == 6:
+        return {nearly(chance, digest) if chance.random() < 0.6 else digest for digest in digests}
     others = {digest_of(atom) for atom in atoms_of(documents_told(chance))}
-    return others if kind == 6 else others | set(digests[::2])
+    return others if kind == 7 else others | set(digests[::2])
 
 
 def inventories(chance):
@@ -305,9 +315,9 @@ def inventories(chance):
 def damaged_inventories(chance):
     """An inventory with something odd in it, mostly where one is asked for."""
     made = odd_inventories.odd_inventory(chance)
-    source = chance.choice([lambda: some_file(chance), lambda: some_file(chance), lambda: some_file(chance, "h"),
-                            lambda: damaged(chance, some_file(chance), 1), lambda: made,
-                            lambda: spelled_oddly(chance, event(chance))])()
+    source = chance.choice([lambda: some_file(chance)] * 8 + [
+        lambda: some_file(chance, "h"), lambda: damaged(chance, some_file(chance), 1), lambda: made,
+        lambda: spelled_oddly(chance, event(chance))])()
     return chance.choice([["missing-by", "a", "i"]] * 12 + [
         ["missing-by", "i", "i"], ["inventory", "i"], ["check", "i"], ["join", "a", "i"], ["missing", "a", "i"]]), \
         {"a": source, "i": made}
@@ -400,20 +410,26 @@ def large(chance):
         (chance.choice([["show", "a"], ["show", "--conflicts", "a"], ["check", "a"]]), {"a": file_of("g", mine | theirs)})])
 
 
+def rehearsals(chance):
+    words, script = schedules.call(chance)
+    return words, {"script": script, "folder": DIRECTORY}
+
+
 # Each kind of case, and how many there are of it beside the others.
 KINDS = {
     numbers: 8, texts: 8, depths: 8, times: 10, orders: 4, names: 8, events: 12, documents: 10, joins: 12, missings: 10,
     shows: 6, damages: 12, atoms: 12, example_documents: 8, example_joins: 2, chains: 3, json_texts: 8, byte_texts: 4,
     words: 5, large: 1, inventories: 10,
-    damaged_inventories: 12}
+    damaged_inventories: 18}
+KINDS_WITH_REHEARSALS = {**KINDS, rehearsals: 12}
 
 
 class Case:
     """The kind of a case, the words of its call and the contents of its files, all of whose names are bytes."""
 
-    def __init__(self, seed, number):
-        chance = random.Random("%d/%d" % (seed, number))  # a case depends on nothing but its seed and number
-        kind, = chance.choices(list(KINDS), list(KINDS.values()))
+    def __init__(self, kinds, seed, number):
+        chance = random.Random("%d/%d" % (seed, number))  # a case depends on nothing but the kinds, its seed and number
+        kind, = chance.choices(list(kinds), list(kinds.values()))
         words, files = kind(chance)
         self.kind = kind.__name__
         self.words = [word if isinstance(word, bytes) else word.encode() for word in words]

@@ -4,7 +4,7 @@ from events import EVENT_URI
 from json_text import NotJson, NotWhole, read, spelled
 from odd_events import attachment, event, odd_step, step
 from odd_values import PIECES, good_name, number, odd_name, time
-from replica_files import FIRST_LINE, file_of
+from replica_files import FIRST_LINE, file_of, with_carriers
 from sealed_files import sealed
 from spelling import spelled_oddly
 
@@ -78,8 +78,7 @@ def some_file(chance, log="g"):
 
 
 def grounded_part(chance, atoms):
-    part = {atom for atom in sorted(atoms) if chance.random() < 0.6}
-    return part | {atom[:3] for atom in part}
+    return with_carriers({atom for atom in sorted(atoms) if chance.random() < 0.6})
 
 
 def some_carrier(chance, name="e1"):

@@ -1,7 +1,8 @@
 """Generated inventory files with something odd in them, in a line or at the end, and files that stand in their place."""
 from inventory_files import FIRST_LINE, inventory_of
 from odd_events import document, event
-from odd_files import LINE_DAMAGES, ODD_LINES, ODD_LOG_LINES, atoms_of, damaged, documents_told, some_file, with_odd_end
+from odd_files import (ODD_LINES, ODD_LOG_LINES, atoms_of, damaged, documents_told, drop_some, repeat_one, some_file, swap,
+                       with_odd_end)
 from odd_values import digits
 from sealed_files import sealed
 from spelling import spelled_oddly
@@ -15,8 +16,8 @@ NO_INVENTORIES = [
     b'CADF-INVENTORY 1\nL "g"\n', b'CADF-INVENTORY 1\nL "g"\nZ', b'CADF-INVENTORY 1\nL "g"\n\n', b"null\n", b"\x00"]
 
 
-def some_inventory(chance, log="g"):
-    return inventory_of(log, atoms_of(documents_told(chance)))
+def some_inventory(chance):
+    return inventory_of("g", atoms_of(documents_told(chance)))
 
 
 def odd_digits(chance, line):
@@ -24,10 +25,11 @@ def odd_digits(chance, line):
     place = chance.randrange(len(line) + 1)
     front, back = line[:place], line[place:]
     return chance.choice([
-        line.upper(), line[:place] + line[place:].upper(), line[1:], line[:-1], line + b"0", b"0" + line, line + b"\r",
-        line + b" ", b" " + line, line[:32] + b" " + line[32:], line[:32], line * 2, b'"' + line + b'"', b"0x" + line[2:],
+        line.upper(), line.upper(), line[:place] + line[place:].upper(), line[1:], line[:-1], front + back[1:], line + b"0",
+        b"0" + line, front + b"0" + back, line + b"\r", line + b"\r", line + b" ", b" " + line, front + b" " + back, front,
+        line * 2, b'"' + line + b'"', b"0x" + line[2:], b"z" + line, b"Z " + line,
         front + chance.choice([b"g", b"G", b" ", b"-", b"\x00", b"\xff", b"/", b":", b"`", b"@"]) + back[1:],
-        front + chance.choice([b"\xc3\xa9", "\u0661".encode(), "\uff11".encode()]) + back, b"z" + line, b"Z " + line])
+        front + chance.choice(["\u00e9", "\u0661", "\uff11"]).encode() + back])
 
 
 def change_digits(chance, lines):
@@ -59,7 +61,8 @@ def foreign_line(chance, lines):
 
 
 # What may be done to the lines of digits.
-DIGIT_DAMAGES = [change_digits] * 5 + [next_digits] * 3 + [any_digits] * 2 + [foreign_line] * 2 + LINE_DAMAGES
+DIGIT_DAMAGES = [change_digits] * 12 + [next_digits] * 5 + [any_digits] * 2 + [foreign_line] * 2 + [swap, repeat_one] * 2 + [
+    drop_some, lambda chance, lines: lines.reverse()]
 
 
 def inventory_with_odd_lines(chance):
@@ -97,8 +100,8 @@ def no_inventory(chance):
 
 def odd_inventory(chance):
     kind = chance.randrange(10)
-    if kind < 6:
+    if kind < 5:
         return inventory_with_odd_lines(chance)
-    if kind == 6:
+    if kind == 5:
         return damaged(chance, some_inventory(chance))
     return with_odd_end(chance, some_inventory(chance)) if kind < 9 else no_inventory(chance)

@@ -1,9 +1,10 @@
 #!/usr/bin/env python3
-"""Worked rows of the two commands on inventories: what they write is told here, by hashlib and by counts of bytes.
+"""Worked rows of the commands on inventories and of rehearsals: what they write is told here, by hashlib or in full.
 
     differential/rows.py [BINARY]
 
-Each row is answered by the second implementation, and by BINARY where it is given. The status is 1 where one differs.
+Each row is answered by the second implementation, and by BINARY where it is given; those of `rehearse` where its help
+lists that command. The status is 1 where one differs.
 """
 import hashlib
 import os
@@ -12,7 +13,7 @@ import sys
 sys.dont_write_bytecode = True
 
 from command import Answer, answer
-from compare import alike, answered
+from compare import alike, answered, lists
 
 BODY = ('{"action":"read","eventTime":"2024-03-01T12:00:00Z","eventType":"activity","initiatorId":"u1","observerId":"s1",'
         '"outcome":"success","targetId":"t1"}')
@@ -83,6 +84,44 @@ REFUSED = [
 ]
 
 
+FIRST = '{"id":"e1",' + BODY[1:]
+SECOND = FIRST.replace('"e1"', '"e2"')
+SCHEDULE = ["learn 0 " + FIRST, "ask 1", "learn 1 " + SECOND, "answer 0 1", "send 0", "deliver 3 1", "deliver 2 1",
+            "deliver 2 1", "send 1", "deliver 4 0"]
+BOTH_WAYS = ["learn 0 " + FIRST, "ask 1", "learn 1 " + FIRST.replace("success", "failure"), "answer 0 1", "deliver 2 1",
+             "ask 0", "answer 1 3", "deliver 4 0"]
+
+# The number of sites, a script's lines, and what is written.
+REHEARSED = [
+    (3, SCHEDULE, "site 0 atoms 2 as 0\nsite 1 atoms 2 as 0\nsite 2 atoms 0 as 2\n"),
+    (2, BOTH_WAYS, "site 0 atoms 2 as 0\nsite 1 atoms 2 as 0\n"),
+    (2, [], "site 0 atoms 0 as 0\nsite 1 atoms 0 as 0\n"),
+]
+
+# The number of sites, a script's lines, and what is refused.
+STOPPED = [
+    (3, SCHEDULE + ["deliver 2 2"], "line 11: wrong addressee"),
+    (3, SCHEDULE + ["ask 3"], "line 11: no such site"),
+    (3, SCHEDULE + ["deliver 9 0"], "line 11: no such message"),
+    (3, SCHEDULE + ["answer 0 2"], "line 11: not an inventory"),
+    (3, SCHEDULE + ['learn 0 {"id":"h","events":[]}'], "line 11: other log"),
+    (3, SCHEDULE + ["hello"], "line 11: script"),
+    (2, ["ask 00"], "line 1: script"),
+    (2, ["ask  0"], "line 1: script"),
+    (2, ["learn 0 ["], "line 1: script"),
+    (2, ["", ""], "line 1: script"),
+    (2, ["answer 5 9"], "line 1: no such site"),
+]
+
+
+def rehearsal_rows():
+    """Each rehearsal's number of sites, lines and answer."""
+    for sites, lines, output in REHEARSED:
+        yield sites, lines, Answer(0, output.encode(), b"")
+    for sites, lines, said in STOPPED:
+        yield sites, lines, Answer(1, b"", ("cadf: %s\n" % said).encode())
+
+
 def calls():
     """Each row's name, words, files and answer."""
     for name, command, source, by, output in WRITTEN:
@@ -91,14 +130,20 @@ def calls():
     for name, source, by, said in REFUSED:
         fault = ("cadf: %s\n" % said).encode()
         yield name, [b"missing-by", b"from", b"by"], {b"from": source, b"by": by}, Answer(1, b"", fault)
+    for sites, lines, wanted in rehearsal_rows():
+        words = [b"rehearse", b"g", str(sites).encode(), b"script"]
+        yield "rehearsal of " + "; ".join(lines), words, {b"script": "\n".join(lines)}, wanted
 
 
 def main():
     wrong = [("the size of %.40s" % text) for text, size in SIZES if len(text.encode()) != size]
     count = len(SIZES)
+    binaries = [os.path.abspath(binary) for binary in sys.argv[1:2]]
+    rehearsing = [binary for binary in binaries if lists(binary, "rehearse")]
     for name, words, texts, wanted in calls():
         files = {file: text.encode() for file, text in texts.items()}
-        got = [answer(words, files)] + [answered(os.path.abspath(binary), words, files) for binary in sys.argv[1:2]]
+        asked = rehearsing if words[0] == b"rehearse" else binaries
+        got = [answer(words, files)] + [answered(binary, words, files) for binary in asked]
         if not all(alike(wanted, one) for one in got):
             wrong.append(name)
         count += 1
