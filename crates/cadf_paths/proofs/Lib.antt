@@ -1,4 +1,5 @@
 pub mod Above
+pub mod Agrees
 pub mod Merges
 pub mod Outcome
 pub mod Rounds

@@ -1,5 +1,6 @@
 -- Lists of texts as one block of bytes and a list of operations on a path.
 --     common p l          how many texts the two begin with in common
+--     is_text t x         whether x, where there is one, is the text t
 --     text_ops ts         the operations that append the texts
 --     ops_of p ls         the operations that give the lists, from the path p on
 --     bytes_of p ls       the bytes that they take
@@ -9,11 +10,11 @@
 --     IsFlat bs os last   bytes, operations and last list are those of the lists that they give
 --     Moves more a b      a cursor moved to the next list, or there is none
 --     ahead more a        the list that a cursor is at, where it is at one, and those behind it
-use Rattle.std.specs.Prelude.{◌≡◌, ℕ, ◌+◌, Bool, true, false, cond, List, [], ◌∷◌, ◌++◌, length, take, drop}
+use Rattle.std.specs.Prelude.{◌≡◌, ℕ, ◌+◌, Bool, true, false, cond, List, [], ◌∷◌, ◌++◌, length, take, drop, Option, Some, None}
 use Rattle.std.specs.List.{concat, AllByRecursion}
 use Rattle.std.specs.Str.{IsUtf8, IsCharBoundary}
 use Rattle.std.specs.Ordering.{eq_by_cmp, is_lt}
-use Rattle.cadf_join.specs.Contents.{Texts, text_cmp, texts_cmp}
+use Rattle.cadf_join.specs.Contents.{Text, Texts, text_cmp, texts_cmp}
 use Rattle.cadf_paths.specs.declared.rows.Op.{Op}
 use Rattle.cadf_paths.specs.declared.rows.Op.TheVariants.{Cut, Text as Take, End}
 
@@ -21,6 +22,10 @@ abbrev pub common : Texts → Texts → ℕ
 common [] l = 0
 common (t ∷ p) [] = 0
 common (t ∷ p) (u ∷ l) = cond (eq_by_cmp text_cmp t u) (common p l + 1) 0
+
+abbrev pub is_text : Text → Option Text → Bool
+is_text t None = false
+is_text t (Some u) = eq_by_cmp text_cmp t u
 
 abbrev pub text_ops : Texts → List Op
 text_ops [] = []

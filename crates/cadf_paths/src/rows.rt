@@ -1,8 +1,10 @@
 //! Lists of texts in one block of bytes, each behind what it shares with the list before it.
-ghost use Rattle.std.specs.Prelude.{◌≡◌, ◌++◌, [], ◌∷◌, ◌↔◌, OnOk, OnErr, IfOk, IsTrue, length, take, string_bytes};
-ghost use Rattle.std.specs.List.{concat};
+ghost use Rattle.std.specs.Prelude.{◌≡◌, ◌++◌, [], ◌∷◌, ◌↔◌, OnOk, OnErr, IfOk, IsTrue, length, min, take, string_bytes};
+ghost use Rattle.std.specs.List.{concat, list_any, slice_get};
+ghost use Rattle.std.specs.Ordering.{eq_by_cmp};
+ghost use Rattle.cadf_join.specs.Contents.{texts_cmp};
 ghost use Rattle.cadf_join.specs.Prefixes.{chain_texts, texts_at};
-ghost use Rattle.cadf_paths.specs.Flat.{text_ops, Moves, ahead, ends_below};
+ghost use Rattle.cadf_paths.specs.Flat.{text_ops, Moves, ahead, ends_below, is_text};
 ghost use Rattle.cadf_paths.specs.declared.rows.Op.TheVariants.{Cut, End};
 
 use crate::Memory;
@@ -117,6 +119,38 @@ impl Rows {
         }
     }
 
+    /// Whether the list is there. No list is made.
+    pub fn contains(&self, list: &[&str]) -> bool
+        ensures { result ≡ list_any (eq_by_cmp texts_cmp (texts_at list.now)) self.now }
+    {
+        let mut rest = self.block.as_str();
+        let mut depth = 0;
+        let mut agreed = 0;
+        for op in self.ops.as_slice() {
+            match *op {
+                Op::Cut(keep) => {
+                    depth = lesser(depth, keep);
+                    agreed = lesser(agreed, keep);
+                }
+                Op::Text(len) => {
+                    let (text, behind) = rest.split_at(len);
+                    rest = behind;
+                    let deeper = depth + 1;
+                    if agreed == depth && is_text_at(list, depth, text) {
+                        agreed = deeper;
+                    }
+                    depth = deeper;
+                }
+                Op::End => {
+                    if agreed == depth && depth == list.len() {
+                        return true;
+                    }
+                }
+            }
+        }
+        false
+    }
+
     /// Whether there are no lists.
     pub fn is_empty(&self) -> bool
         ensures { IsTrue result ↔ (self.now ≡ []) }
@@ -164,6 +198,27 @@ fn append(
     }
     ops.push(Op::End)?;
     Ok(())
+}
+
+/// The lesser of both.
+fn lesser(a: usize, b: usize) -> usize
+    ensures { result ≡ min a b }
+{
+    if a < b { a } else { b }
+}
+
+/// Whether the list has the text at the index.
+fn is_text_at(list: &[&str], index: usize, text: &str) -> bool
+    ensures { result ≡ is_text text.now (slice_get (texts_at list.now) index) }
+{
+    match list.get(index) {
+        Some(other) => match text.cmp(*other) {
+            Ordering::Less => false,
+            Ordering::Equal => true,
+            Ordering::Greater => false,
+        },
+        None => false,
+    }
 }
 
 /// A place among the lists.
