@@ -14,7 +14,8 @@ pub new-requires : goal.new-requires
 new-requires c =
     let b = c.into_iter-list-iterator.ensures.into_iter_gives in
     let all = YieldsList-from_vec {s = c.into_iter-list-iterator.result} c.args.lists.items b.0 (b.1 ∙ c.args.lists.ok.0) in
-    let turn = YieldsList-turn all c.loop-list.yielded c.loop-list.list-iterator c.loop-list.yielded_by c.next.result c.next.new.self c.in-Some.list c.in-Some.is c.next.ensures.steps in
+    let turn = YieldsList-turn all c.loop-list.yielded c.loop-list.list-iterator c.loop-list.yielded_by
+    c.next.result c.next.new.self c.in-Some.list c.in-Some.is c.next.ensures.steps in
     subst (λ list. IsAtom atom_rules (chain_texts list.items)) (sym turn.1) (c.requires (length c.loop-list.yielded) c.in-Some.list turn.0)
 
 pub loop-list-preserved : goal.loop-list-preserved
@@ -30,5 +31,6 @@ loop-list-preserved c = (
 pub returns : goal.returns
 returns c =
     let b = c.into_iter-list-iterator.ensures.into_iter_gives in
-    let all = (YieldsList-end (YieldsList-from_vec {s = c.into_iter-list-iterator.result} c.args.lists.items b.0 (b.1 ∙ c.args.lists.ok.0)) c.loop-list.yielded c.loop-list.list-iterator c.loop-list.yielded_by c.next.result c.next.new.self c.in-None.is c.next.ensures.steps).0 in
+    let source = YieldsList-from_vec {s = c.into_iter-list-iterator.result} c.args.lists.items b.0 (b.1 ∙ c.args.lists.ok.0) in
+    let all = (YieldsList-end source c.loop-list.yielded c.loop-list.list-iterator c.loop-list.yielded_by c.next.result c.next.new.self c.in-None.is c.next.ensures.steps).0 in
     c.loop-list.invariant.2 ∙ ap (λ ls. carried set.empty (all_texts ls)) (each_item c.loop-list.yielded ∙ all)
