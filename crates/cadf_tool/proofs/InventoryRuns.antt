@@ -4,6 +4,7 @@ use Rattle.std.proofs.KnownBytes.{Consumes-whole}
 use Rattle.cadf_replica.specs.Inventory.{Noted}
 use Rattle.cadf_file.specs.File.{file}
 use Rattle.cadf_file.specs.InventoryFile.{inventory_file}
+use Rattle.cadf_tool.specs.declared.TheConstants.{FILE_LIMIT}
 use Rattle.cadf_tool.specs.declared.input.Loaded.{Loaded}
 use Rattle.cadf_tool.specs.Inputs.{Seen, IsLoadedAs}
 use Rattle.cadf_tool.specs.MissingBy.{IsInventoryInput, IsNotedAs, WritesInventory, WritesMissingBy}
@@ -12,8 +13,8 @@ use Rattle.cadf_tool.proofs.ExchangeLaws.{read_of, written_behind}
 
 noted_of_file : (to : List ℕ → Type 0) (old new : Seen) (noted : Noted) → GivesFile (IsInventoryOf to) old → IsNotedAs old new noted → IsNotedOf to noted
 noted_of_file to old new noted (bytes, left, made) ((given, (consumed, at_end, input)), failures) =
-    let of_given = Consumes-whole old.left new.left given (λ b. IsInventoryInput b noted) consumed at_end input in
-    (bytes, made, subst (λ o. IfSome o (λ b. IsInventoryInput b noted)) left of_given)
+    let of_given = Consumes-whole old.left new.left given (λ b. IsInventoryInput FILE_LIMIT b noted) consumed at_end input in
+    (bytes, made, subst (λ o. IfSome o (λ b. IsInventoryInput FILE_LIMIT b noted)) left of_given)
 
 pub inventory_makes : (to : Making) (source after : Seen) (loaded : Loaded) (before : List ℕ) (written : Option (List ℕ))
     → GivesFile (λ b. IsMade to b) source → IsLoadedAs source after loaded → WritesInventory (Some before) written loaded

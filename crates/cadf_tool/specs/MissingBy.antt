@@ -1,9 +1,9 @@
 -- What an inventory notes of an input, and what an input has that an inventory doesn't note.
 --     noted_of loaded                the log of an input, and the digests of its atoms; or why there are none
 --     missing_by_of from noted       the atoms of FROM whose digest isn't noted, under their log, or why there is no such part
---     IsInventoryInput bytes noted   the bytes are the file of this inventory
+--     IsInventoryInput limit b n     the bytes are the file of this inventory, within the limit
 --     IsNotedAs old new noted        a source was read as this inventory
-use Rattle.std.specs.Prelude.{◌≡◌, ℕ, List, Option, Some, None, Result, Ok, Err}
+use Rattle.std.specs.Prelude.{◌≡◌, ◌≤◌, ℕ, List, length, Option, Some, None, Result, Ok, Err}
 use Rattle.std.specs.Io.KnownBytes.{Appends}
 use Rattle.cadf_join.specs.Contents.{Text}
 use Rattle.cadf_replica.specs.Digest.{atom_digest}
@@ -12,10 +12,11 @@ use Rattle.cadf_replica.specs.Missing.{Digests, digests_of, missing_by}
 use Rattle.cadf_replica.specs.Replica.{Held}
 use Rattle.cadf_file.specs.File.{file}
 use Rattle.cadf_file.specs.InventoryFile.{inventory_file, IsInventory}
+use Rattle.cadf_tool.specs.declared.TheConstants.{FILE_LIMIT}
 use Rattle.cadf_tool.specs.declared.input.Loaded.{Loaded}
 use Rattle.cadf_tool.specs.declared.fault.ToolFault.{ToolFault}
 use Rattle.cadf_tool.specs.declared.fault.ToolFault.TheVariants.{NoLog}
-use Rattle.cadf_tool.specs.Input.{GivesAll, IsWithinLimit}
+use Rattle.cadf_tool.specs.Input.{GivesAll}
 use Rattle.cadf_tool.specs.Told.{log_named, atoms_of}
 use Rattle.cadf_tool.specs.Inputs.{Seen}
 use Rattle.cadf_tool.specs.Missing.{under_one_log}
@@ -33,15 +34,15 @@ noted_of loaded = noted_under (log_named loaded) (digests_of atom_digest (atoms_
 abbrev pub missing_by_of : Loaded → Noted → Result Held ToolFault
 missing_by_of from noted = under_one_log (log_named from) (Some noted.log) (missing_by atom_digest (atoms_of from) noted.digests)
 
--- the bytes are the file of this inventory
-pub record IsInventoryInput (bytes : List ℕ) (noted : Noted) : Type 0 where
+-- the bytes are the file of this inventory, within the limit
+pub record IsInventoryInput (limit : ℕ) (bytes : List ℕ) (noted : Noted) : Type 0 where
   pub is : bytes ≡ inventory_file noted
-  pub within : IsWithinLimit bytes
+  pub within : length bytes ≤ limit
   pub inventory : IsInventory noted
 
 -- a source was read as this inventory, and no read of it failed
 abbrev pub IsNotedAs : Seen → Seen → Noted → Type 0
-IsNotedAs old new noted = GivesAll old.left new.left (λ bytes. IsInventoryInput bytes noted) × (new.failures ≡ old.failures)
+IsNotedAs old new noted = GivesAll old.left new.left (λ bytes. IsInventoryInput FILE_LIMIT bytes noted) × (new.failures ≡ old.failures)
 
 -- the file of the inventory was written, and nothing else
 pub record WritesInventory (before after : Option (List ℕ)) (loaded : Loaded) : Type 0 where
