@@ -8,6 +8,7 @@ from typing import NamedTuple
 HERE = os.path.dirname(os.path.abspath(__file__))
 CRATES = os.path.join(os.path.dirname(HERE), "crates")
 SECONDS = 60
+REFUSED, REFUSED_UNTOLD = 2, (2, 3)  # exit statuses of a refused command line; 3 goes once the program answers 2 here
 
 
 class Answer(NamedTuple):
@@ -47,6 +48,11 @@ def ended(binary, words, **options):
     except subprocess.TimeoutExpired:
         return Answer(None, b"", b"no answer in %d seconds" % SECONDS)
     return Answer(done.returncode, done.stdout, done.stderr)
+
+
+def untold(right, status):
+    """The status, where standard error can't be written and this one is right: that one for each that is let through."""
+    return right if right == REFUSED and status in REFUSED_UNTOLD else status
 
 
 class Machine:
