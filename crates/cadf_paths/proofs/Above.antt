@@ -16,7 +16,7 @@ is_less Less h = refl
 is_less Equal h = absurd (true≢false (sym h))
 is_less Greater h = absurd (true≢false (sym h))
 
-last_listed : (l : Texts) (ls : List Texts) → Listed (last_of l ls) (l ∷ ls)
+pub last_listed : (l : Texts) (ls : List Texts) → Listed (last_of l ls) (l ∷ ls)
 last_listed l [] = inl refl
 last_listed l (k ∷ ls) = inr (last_listed k ls)
 

@@ -1,5 +1,6 @@
 pub mod Above
 pub mod Agrees
+pub mod CarrierLists
 pub mod Merges
 pub mod Outcome
 pub mod Rounds

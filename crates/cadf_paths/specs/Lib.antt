@@ -1,3 +1,4 @@
+pub mod Carriers
 pub mod Flat
 pub mod Kept
 pub mod Merge

@@ -11,8 +11,11 @@ use Rattle.cadf_paths.specs.declared.rows.Op.TheVariants.{Cut, Text as Take, End
 use Rattle.cadf_paths.proofs.Agrees.{Agrees, agrees_at_first, agrees_cut, agrees_grown, agrees_left}
 use Rattle.cadf_paths.proofs.Agrees.{agrees_on, agrees_found, agrees_same, agrees_at_last, first_left}
 use Rattle.cadf_paths.proofs.Rounds.{IsRun-from_flat}
-use Rattle.cadf_paths.proofs.rows.Rows.contains.Goals.{in-Cut, in-Text+then-agreed-depth+then-is_text_at, in-Text+else-agreed-depth, else-agreed-depth-via-then-agreed-depth+else-is_text_at}
-use Rattle.cadf_paths.proofs.rows.Rows.contains.Goals.{else-agreed-depth-via-else-agreed-depth, in-End+else-agreed-depth-2, else-agreed-depth-2-via-then-agreed-depth-2+else-depth-list, else-agreed-depth-2-via-else-agreed-depth-2}
+use Rattle.cadf_paths.proofs.rows.Rows.contains.Goals.{in-Cut, in-Text+then-agreed-depth+then-is_text_at, in-Text+else-agreed-depth}
+use Rattle.cadf_paths.proofs.rows.Rows.contains.Goals.{else-agreed-depth-via-then-agreed-depth+else-is_text_at}
+use Rattle.cadf_paths.proofs.rows.Rows.contains.Goals.{else-agreed-depth-via-else-agreed-depth, in-End+else-agreed-depth-2}
+use Rattle.cadf_paths.proofs.rows.Rows.contains.Goals.{else-agreed-depth-2-via-then-agreed-depth-2+else-depth-list}
+use Rattle.cadf_paths.proofs.rows.Rows.contains.Goals.{else-agreed-depth-2-via-else-agreed-depth-2}
 use Rattle.cadf_paths.proofs.rows.Rows.contains.Goals as goal
 
 pub loop-op-init : goal.loop-op-init
