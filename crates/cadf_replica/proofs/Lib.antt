@@ -2,10 +2,13 @@ pub mod Again
 pub mod AtomLemmas
 pub mod AtomSets
 pub mod Behind
+pub mod Carried
 pub mod Content
 pub mod ContributionLaws
 pub mod History
+pub mod Inventories
 pub mod Keys
+pub mod LineDigests
 pub mod Lists
 pub mod Missing
 pub mod Nexts
@@ -22,4 +25,5 @@ pub mod Shown
 pub mod Slices
 pub mod Tails
 pub mod Takes
+pub mod Turns
 pub mod ValueLaws

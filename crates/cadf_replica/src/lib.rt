@@ -4,15 +4,20 @@
 mod atom;
 mod atom_set;
 mod body_parts;
+mod inventory;
 pub mod laws;
+mod line_digest;
 mod name;
+mod noting;
 pub mod path;
 pub mod replica;
 mod seek;
 mod seen;
 mod shape;
 mod tail;
+mod unnoted;
 
 pub use atom::{Atom, AtomFault};
+pub use inventory::Inventory;
 pub use name::log_name;
 pub use replica::{Replica, ReplicaFault};
