@@ -2,6 +2,7 @@ pub mod Again
 pub mod AtomLemmas
 pub mod AtomSets
 pub mod Behind
+pub mod Carried
 pub mod Content
 pub mod ContributionLaws
 pub mod History

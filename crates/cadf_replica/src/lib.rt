@@ -15,6 +15,7 @@ mod seek;
 mod seen;
 mod shape;
 mod tail;
+mod unnoted;
 
 pub use atom::{Atom, AtomFault};
 pub use inventory::Inventory;
