@@ -5,22 +5,27 @@ use Rattle.cadf_join.specs.Contents.{Text, Contents, IsWithin}
 use Rattle.cadf_replica.specs.Missing.{Digests, digests_of, missing_by, NoCollision}
 use Rattle.cadf_replica.specs.Replica.{Held}
 use Rattle.cadf_replica.proofs.Missing.{with_carriers_least, unknown_has, missing_by_is}
+use Rattle.cadf_file.specs.InventoryFile.{IsInventory}
+use Rattle.cadf_file.proofs.InventoryVerdictLemmas.{inventory-file-tells}
 use Rattle.cadf_tool.specs.declared.input.Loaded.{Loaded}
 use Rattle.cadf_tool.specs.declared.fault.ToolFault.{ToolFault}
 use Rattle.cadf_tool.specs.declared.fault.ToolFault.TheVariants.{OtherLog}
 use Rattle.cadf_tool.specs.Input.{IsInput}
-use Rattle.cadf_tool.specs.Told.{log_named, atoms_of}
+use Rattle.cadf_tool.specs.Told.{log_named, atoms_of, IsHeld}
 use Rattle.cadf_tool.specs.Join.{is_other}
 use Rattle.cadf_tool.specs.Missing.{under_one_log}
 use Rattle.cadf_replica.specs.Digest.{atom_digest}
-use Rattle.cadf_replica.specs.Inventory.{Noted}
+use Rattle.cadf_replica.specs.Inventory.{Noted, AreDigests}
 use Rattle.cadf_tool.specs.MissingBy.{noted_under, noted_of, missing_by_of}
+use Rattle.cadf_tool.specs.Exchange.{IsReadOf, IsNotedOf}
+use Rattle.cadf_tool.proofs.DigestBytes.{are_digests}
 use Rattle.cadf_tool.proofs.GroundedInputs.{input_grounded}
+use Rattle.cadf_tool.proofs.HeldReplicas.{held_replica}
 use Rattle.cadf_tool.proofs.InputUnions.{IsPart}
 
 -- ---- the inventory of an input
 
-pub record IsInventory (loaded : Loaded) (noted : Noted) : Type 0 where
+pub record Notes (loaded : Loaded) (noted : Noted) : Type 0 where
   pub log : log_named loaded ≡ Some noted.log
   pub digests : noted.digests ≡ digests_of atom_digest (atoms_of loaded)
 
@@ -33,14 +38,30 @@ noted_same log digests n e =
     let same : noted_as log digests ≡ n = cc in
     (ap (λ (k : Noted). k.log) same, sym (ap (λ (k : Noted). k.digests) same))
 
-pub inventory_is : (loaded : Loaded) (noted : Noted) → noted_of loaded ≡ Ok noted → IsInventory loaded noted
-inventory_is loaded noted e = by (log_named loaded) refl e
+pub notes : (loaded : Loaded) (noted : Noted) → noted_of loaded ≡ Ok noted → Notes loaded noted
+notes loaded noted e = by (log_named loaded) refl e
   where
-    by : (o : Option Text) → log_named loaded ≡ o → noted_under o (digests_of atom_digest (atoms_of loaded)) ≡ Ok noted → IsInventory loaded noted
+    by : (o : Option Text) → log_named loaded ≡ o → noted_under o (digests_of atom_digest (atoms_of loaded)) ≡ Ok noted → Notes loaded noted
     by None is k = absurd (cc)
     by (Some name) is k =
         let same = noted_same name (digests_of atom_digest (atoms_of loaded)) noted k in
         record { log = is ∙ ap Some same.0; digests = same.1 }
+
+-- what was noted of an input is an inventory
+notes_inventory : (bytes : List ℕ) (loaded : Loaded) (noted : Noted) → IsInput bytes loaded → Notes loaded noted → IsInventory noted
+notes_inventory bytes loaded noted input n =
+    let held : IsHeld bytes (record { log = noted.log; atoms = atoms_of loaded }) = record { loaded = loaded; input = input; named = n.log; atoms = refl } in
+    record {
+      log = (held_replica bytes (record { log = noted.log; atoms = atoms_of loaded }) held).log;
+      digests = subst AreDigests (sym n.digests) (are_digests (atoms_of loaded));
+    }
+
+-- what was read of an inventory's file is what was noted of the input
+pub noted_by : (to : List ℕ → Type 0) (noted : Noted) → IsNotedOf to noted → (other : Loaded) × IsReadOf to other × Notes other noted
+noted_by to noted (bytes, (other, written, read, made, is), input) =
+    let n : Notes other written = notes other written made in
+    let same : written ≡ noted = inventory-file-tells written noted (notes_inventory read.0 other written read.2 n) input.inventory (sym is ∙ input.is) in
+    (other, read, subst (Notes other) same n)
 
 -- ---- the part that an inventory doesn't note
 
@@ -78,7 +99,7 @@ part_by_within bytes from noted part is p =
     (with_carriers_least _ (atoms_of from) (input_grounded bytes from is, unknown_has atom_digest (atoms_of from) noted.digests))
 
 -- where no two different atoms share a digest, it is the missing part
-pub part_by_part : (from to : Loaded) (noted : Noted) (part : Held) → NoCollision atom_digest (set.union (atoms_of from) (atoms_of to)) → IsInventory to noted
+pub part_by_part : (from to : Loaded) (noted : Noted) (part : Held) → NoCollision atom_digest (set.union (atoms_of from) (atoms_of to)) → Notes to noted
     → IsPartBy from noted part → IsPart from to part
 part_by_part from to noted part apart i p = record {
   log = p.log;

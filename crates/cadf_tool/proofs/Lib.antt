@@ -15,6 +15,7 @@ pub mod InputUnions
 pub mod UnitingLemmas
 pub mod HeldReplicas
 pub mod ShownAgain
+pub mod DigestBytes
 pub mod InventoryParts
 pub mod ExchangeWithin
 pub mod ExchangeLemmas
