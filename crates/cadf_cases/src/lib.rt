@@ -10,6 +10,8 @@ mod files;
 #[cfg(test)]
 mod inputs;
 #[cfg(test)]
+mod inventories;
+#[cfg(test)]
 mod joins;
 #[cfg(test)]
 mod limits;

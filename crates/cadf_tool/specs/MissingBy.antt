@@ -33,6 +33,9 @@ noted_of loaded = noted_under (log_named loaded) (digests_of atom_digest (atoms_
 abbrev pub missing_by_of : Loaded → Noted → Result Held ToolFault
 missing_by_of from noted = under_one_log (log_named from) (Some noted.log) (missing_by atom_digest (atoms_of from) noted.digests)
 
+abbrev pub part_by : Loaded × Noted → Result Held ToolFault
+part_by both = missing_by_of both.0 both.1
+
 -- the bytes are the file of this inventory
 pub record IsInventoryInput (bytes : List ℕ) (noted : Noted) : Type 0 where
   pub is : bytes ≡ inventory_file noted
