@@ -25,3 +25,5 @@ mod refusals;
 mod streams;
 #[cfg(test)]
 mod support;
+#[cfg(test)]
+mod within;
