@@ -6,7 +6,9 @@ mod words;
 use crate::words::command;
 use cadf_event::{Name, NameFault};
 use cadf_json::{FromStd, Sink};
-use cadf_tool::{ToolFault, run_check, run_join, run_missing, run_show, status};
+use cadf_tool::{
+    ToolFault, run_check, run_inventory, run_join, run_missing, run_missing_by, run_show, status,
+};
 use clap::error::ErrorKind;
 use clap::{ArgMatches, Error};
 use std::alloc::Global;
@@ -103,6 +105,19 @@ fn missing<W: Sink>(rt: &HostRuntime, matches: &ArgMatches, output: &mut W) -> R
     Ok(run_missing(rt.alloc(), &mut from, &mut to, output)?)
 }
 
+/// Runs `missing-by` on a file and an inventory file.
+fn missing_by<W: Sink>(rt: &HostRuntime, matches: &ArgMatches, output: &mut W) -> Result<(), Stop> {
+    let mut from = open(rt, matches, "FROM", 1)?;
+    let mut inventory = open(rt, matches, "INVENTORY", 2)?;
+    Ok(run_missing_by(rt.alloc(), &mut from, &mut inventory, output)?)
+}
+
+/// Runs `inventory` on a file.
+fn inventory<W: Sink>(rt: &HostRuntime, matches: &ArgMatches, output: &mut W) -> Result<(), Stop> {
+    let mut input = open(rt, matches, "FILE", 1)?;
+    Ok(run_inventory(rt.alloc(), &mut input, output)?)
+}
+
 /// Runs `check` on a file.
 fn check<W: Sink>(rt: &HostRuntime, matches: &ArgMatches, output: &mut W) -> Result<(), Stop> {
     let mut input = open(rt, matches, "FILE", 1)?;
@@ -126,6 +141,8 @@ fn run_engine<W: Sink>(
     match name {
         "join" => join(rt, matches, output),
         "missing" => missing(rt, matches, output),
+        "missing-by" => missing_by(rt, matches, output),
+        "inventory" => inventory(rt, matches, output),
         "show" => show(rt, matches, output),
         "check" => check(rt, matches, output),
         _ => Err(Stop::Command),

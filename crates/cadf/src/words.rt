@@ -38,6 +38,34 @@ fn missing<'a>(alloc: Global) -> Result<Command<'a>, Error> {
     )
 }
 
+/// `missing-by`, with its words.
+fn missing_by<'a>(alloc: Global) -> Result<Command<'a>, Error> {
+    let from = Arg::new(alloc, "FROM")
+        .required(true)
+        .help("The sender's file");
+    let inventory = Arg::new(alloc, "INVENTORY")
+        .required(true)
+        .help("The receiver's inventory, as it is or was");
+    Ok(
+        Command::new(alloc, "missing-by")
+            .about("Writes the replica file of what FROM has beyond INVENTORY")
+            .arg(from)?
+            .arg(inventory)?,
+    )
+}
+
+/// `inventory`, with its words.
+fn inventory<'a>(alloc: Global) -> Result<Command<'a>, Error> {
+    let file = Arg::new(alloc, "FILE")
+        .required(true)
+        .help("A replica file or a log");
+    Ok(
+        Command::new(alloc, "inventory")
+            .about("Writes the digests of all that a file tells")
+            .arg(file)?,
+    )
+}
+
 /// `show`, with its words.
 fn show<'a>(alloc: Global) -> Result<Command<'a>, Error> {
     let conflicts = Arg::new(alloc, "conflicts")
@@ -76,6 +104,8 @@ pub(crate) fn command<'a>(alloc: Global) -> Result<Command<'a>, Error> {
             .subcommand_required(true)
             .subcommand(join(alloc)?)?
             .subcommand(missing(alloc)?)?
+            .subcommand(missing_by(alloc)?)?
+            .subcommand(inventory(alloc)?)?
             .subcommand(show(alloc)?)?
             .subcommand(check(alloc)?)?,
     )

@@ -10,6 +10,8 @@ mod files;
 #[cfg(test)]
 mod inputs;
 #[cfg(test)]
+mod inventories;
+#[cfg(test)]
 mod joins;
 #[cfg(test)]
 mod limits;
@@ -23,3 +25,5 @@ mod refusals;
 mod streams;
 #[cfg(test)]
 mod support;
+#[cfg(test)]
+mod within;

@@ -5,6 +5,7 @@ pub mod DocumentReading
 pub mod LoadedLists
 pub mod Convergence
 pub mod Runs
+pub mod InventoryReading
 pub mod LoadLemmas
 pub mod OneText
 pub mod Exclusion

@@ -5,6 +5,7 @@ pub mod Told
 pub mod Shown
 pub mod Inputs
 pub mod Run
+pub mod InventoryInput
 pub mod Join
 pub mod Uniting
 pub mod JoinWrites

@@ -1,6 +1,7 @@
 -- What an inventory notes of an input, and what an input has that an inventory doesn't note.
 --     noted_of loaded                the log of an input, and the digests of its atoms; or why there are none
 --     missing_by_of from noted       the atoms of FROM whose digest isn't noted, under their log, or why there is no such part
+--     part_by both                   the same of both
 --     IsInventoryInput limit b n     the bytes are the file of this inventory, within the limit
 --     IsNotedAs old new noted        a source was read as this inventory
 use Rattle.std.specs.Prelude.{◌≡◌, ◌≤◌, ℕ, List, length, Option, Some, None, Result, Ok, Err}
@@ -33,6 +34,9 @@ noted_of loaded = noted_under (log_named loaded) (digests_of atom_digest (atoms_
 -- THE MISSING PART BY AN INVENTORY: the least grounded set that contains the atoms of FROM whose digest isn't noted
 abbrev pub missing_by_of : Loaded → Noted → Result Held ToolFault
 missing_by_of from noted = under_one_log (log_named from) (Some noted.log) (missing_by atom_digest (atoms_of from) noted.digests)
+
+abbrev pub part_by : Loaded × Noted → Result Held ToolFault
+part_by both = missing_by_of both.0 both.1
 
 -- the bytes are the file of this inventory, within the limit
 pub record IsInventoryInput (limit : ℕ) (bytes : List ℕ) (noted : Noted) : Type 0 where

@@ -6,9 +6,11 @@ pub mod exchange;
 mod fault;
 mod input;
 mod inputs;
+mod inventory;
 mod join;
 pub mod laws;
 mod missing;
+mod missing_by;
 mod show;
 mod told;
 mod uniting;
@@ -16,8 +18,10 @@ mod uniting;
 pub use crate::check::run_check;
 pub use crate::fault::{ToolFault, status};
 pub use crate::input::{LoadFault, Loaded, load, load_within};
+pub use crate::inventory::run_inventory;
 pub use crate::join::run_join;
 pub use crate::missing::run_missing;
+pub use crate::missing_by::run_missing_by;
 pub use crate::show::run_show;
 
 /// The most bytes that an input may have.

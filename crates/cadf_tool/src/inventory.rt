@@ -1,0 +1,57 @@
+//! The digests of what an input has, as an inventory file.
+ghost use Rattle.cadf_file.specs.InventoryFile.{inventory_file};
+ghost use Rattle.cadf_tool.specs.MissingBy.{noted_of};
+ghost use Rattle.cadf_tool.specs.Run.{one, turn, as_input, IsDue, IsWorked, IsWritten, IsRun};
+
+use crate::fault::{ToolFault, answered, refused};
+use crate::input::{Loaded, load};
+use crate::told::replica_of;
+use cadf_file::write_inventory;
+use cadf_json::{Sink, Source};
+use cadf_replica::Inventory;
+use std::alloc::Global;
+
+/// The inventory of a loaded input.
+fn noted(alloc: Global, loaded: Loaded) -> Result<Inventory, ToolFault>
+    ensures { IsWorked (noted_of loaded) result }
+{
+    let replica = replica_of(alloc, loaded)?;
+    match replica.inventory() {
+        Ok(inventory) => Ok(inventory),
+        Err(_) => Err(ToolFault::Memory),
+    }
+}
+
+/// The inventory of the only input of an engine.
+fn load_noted<R: Source>(alloc: Global, input: &mut R) -> Result<Inventory, ToolFault>
+    ensures { IsDue (one as_input (turn R.Source input.old input.new)) noted_of result }
+{
+    match load(alloc, input) {
+        Ok(loaded) => noted(alloc, loaded),
+        Err(fault) => Err(refused(1, fault)),
+    }
+}
+
+/// Writes the file of the inventory.
+fn write_noted<W: Sink>(
+    alloc: Global,
+    inventory: &Inventory,
+    output: &mut W,
+) -> Result<(), ToolFault>
+    ensures { IsWritten W.Sink output.old output.new (inventory_file inventory.now) result }
+{
+    answered(write_inventory(alloc, inventory, output))
+}
+
+/// Writes the inventory file of an input: the digests of all that it tells, under its log.
+pub fn run_inventory<R: Source, W: Sink>(
+    alloc: Global,
+    input: &mut R,
+    output: &mut W,
+) -> Result<(), ToolFault>
+    ensures { IsRun (one as_input (turn R.Source input.old input.new)) noted_of
+        inventory_file W.Sink output.old output.new result }
+{
+    let inventory = load_noted(alloc, input)?;
+    write_noted(alloc, &inventory, output)
+}

@@ -1,0 +1,64 @@
+//! What an input has beyond an inventory, as a replica file.
+ghost use Rattle.cadf_file.specs.File.{file};
+ghost use Rattle.cadf_tool.specs.declared.input.Loaded.TheVariants as loaded;
+ghost use Rattle.cadf_tool.specs.InventoryInput.{as_inventory};
+ghost use Rattle.cadf_tool.specs.MissingBy.{missing_by_of, part_by};
+ghost use Rattle.cadf_tool.specs.Run.{two, turn, as_input, IsDue, IsWorked, IsRun};
+
+use crate::fault::ToolFault;
+use crate::input::Loaded;
+use crate::inputs::{load_inventory, load_one};
+use crate::join::write_file;
+use crate::told::replica_of;
+use cadf_json::{Sink, Source};
+use cadf_replica::{Inventory, Replica, ReplicaFault};
+use std::alloc::Global;
+
+/// What the replica has beyond the inventory.
+fn beyond(from: &Replica, inventory: &Inventory) -> Result<Replica, ToolFault>
+    ensures { IsWorked (missing_by_of (loaded.Replica from.now) inventory.now) result }
+{
+    match from.missing_by(inventory) {
+        Ok(part) => Ok(part),
+        Err(ReplicaFault::OtherLog) => Err(ToolFault::OtherLog(2)),
+        Err(_) => Err(ToolFault::Memory),
+    }
+}
+
+/// What a loaded input has beyond the inventory.
+fn part(alloc: Global, from: Loaded, inventory: &Inventory) -> Result<Replica, ToolFault>
+    ensures { IsWorked (missing_by_of from inventory.now) result }
+{
+    let from = replica_of(alloc, from)?;
+    beyond(&from, inventory)
+}
+
+/// What the first input has beyond the inventory that is the second.
+fn missing_by<R: Source>(
+    alloc: Global,
+    from: &mut R,
+    inventory: &mut R,
+) -> Result<Replica, ToolFault>
+    ensures { IsDue (two as_input (turn R.Source from.old from.new) as_inventory (turn R.Source inventory.old inventory.new))
+        part_by result }
+{
+    let first = load_one(alloc, 1, from)?;
+    let second = load_inventory(alloc, 2, inventory)?;
+    part(alloc, first, &second)
+}
+
+/// Writes the replica file of what `from` has beyond `inventory`: the least replica that holds each atom
+/// whose digest the inventory hasn't. Inputs count from 1: `from` is the first. The second is read as an
+/// inventory file, whatever it begins with.
+pub fn run_missing_by<R: Source, W: Sink>(
+    alloc: Global,
+    from: &mut R,
+    inventory: &mut R,
+    output: &mut W,
+) -> Result<(), ToolFault>
+    ensures { IsRun (two as_input (turn R.Source from.old from.new) as_inventory (turn R.Source inventory.old inventory.new))
+        part_by file W.Sink output.old output.new result }
+{
+    let part = missing_by(alloc, from, inventory)?;
+    write_file(alloc, &part, output)
+}
