@@ -8,7 +8,7 @@ from typing import NamedTuple
 HERE = os.path.dirname(os.path.abspath(__file__))
 CRATES = os.path.join(os.path.dirname(HERE), "crates")
 SECONDS = 60
-REFUSED, REFUSED_UNTOLD = 2, (2, 3)  # exit statuses of a refused command line; 3 goes once the program answers 2 here
+REFUSED, REFUSED_UNTOLD = 2, (2,)  # exit statuses of a refused command line
 
 
 class Answer(NamedTuple):
