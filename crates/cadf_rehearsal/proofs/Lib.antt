@@ -1,0 +1,3 @@
+pub mod Schedule
+pub mod Seen
+pub mod Played
