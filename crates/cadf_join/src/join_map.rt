@@ -12,6 +12,7 @@ ghost use Rattle.cadf_join.specs.MapLaws.{joined_keyed, Puts, PartMissing};
 
 use crate::prefix::longer;
 use crate::text_set::is_after;
+use crate::walk::{Visitor, Walk, walk_behind};
 use crate::{HasFirsts, Join, Memory};
 use std::alloc::Global;
 use std::collections::BTreeMap;
@@ -238,4 +239,17 @@ impl<V: Join> Join for JoinMap<V> {
     }
 
     ghost contents_are = { joined_keyed V.contents V.is_contents V.contents_are };
+}
+
+impl<V: Walk> Walk for JoinMap<V> {
+    fn walk<'a, S: Visitor>(
+        &'a self,
+        path: &mut Vec<&'a str>,
+        visitor: &mut S,
+    ) -> Result<(), S::Fault> {
+        for (key, part) in &self.parts {
+            walk_behind(key.as_str(), part, path, visitor)?;
+        }
+        Ok(())
+    }
 }

@@ -7,6 +7,7 @@ pub mod laws;
 pub mod prefix;
 mod several;
 mod text_set;
+mod walk;
 
 ghost use Rattle.std.specs.Prelude.{◌≡◌, ◌++◌, OnOk, OnErr, IfOk, IfSome, IsTrue, ◌↔◌, is_some, length, not};
 ghost use Rattle.cadf_join.specs.Sets as set;
@@ -18,6 +19,7 @@ pub use join_map::JoinMap;
 pub use several::HasFirsts;
 use std::alloc::AllocError;
 pub use text_set::TextSet;
+pub use walk::{Visitor, Walk, walk_behind};
 
 /// The allocator refused a growth.
 pub type Memory = AllocError;

@@ -6,6 +6,7 @@ ghost use Rattle.cadf_join.specs.Contents.{text_cmp, singles, HasSingles, next_a
 ghost use Rattle.cadf_join.specs.ContentsLaws.{singles_are_single};
 
 use crate::prefix::longer;
+use crate::walk::{Visitor, Walk, lengthen};
 use crate::{Join, Memory};
 use std::alloc::Global;
 use std::collections::BTreeSet;
@@ -153,4 +154,19 @@ impl Join for TextSet {
     }
 
     ghost contents_are = { singles_are_single };
+}
+
+impl Walk for TextSet {
+    fn walk<'a, S: Visitor>(
+        &'a self,
+        path: &mut Vec<&'a str>,
+        visitor: &mut S,
+    ) -> Result<(), S::Fault> {
+        for text in &self.texts {
+            lengthen(path, text.as_str())?;
+            visitor.visit(path.as_slice())?;
+            path.pop();
+        }
+        Ok(())
+    }
 }

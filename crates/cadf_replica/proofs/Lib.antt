@@ -5,6 +5,7 @@ pub mod Behind
 pub mod Content
 pub mod ContributionLaws
 pub mod History
+pub mod Inventories
 pub mod Keys
 pub mod Lists
 pub mod Missing
@@ -22,4 +23,5 @@ pub mod Shown
 pub mod Slices
 pub mod Tails
 pub mod Takes
+pub mod Turns
 pub mod ValueLaws

@@ -4,7 +4,9 @@ pub mod AtomGives
 pub mod Atoms
 pub mod AtomSets
 pub mod Contributions
+pub mod Digest
 pub mod History
+pub mod Inventory
 pub mod Lettered
 pub mod Line
 pub mod Missing

@@ -4,6 +4,7 @@
 mod atom;
 mod atom_set;
 mod body_parts;
+mod inventory;
 pub mod laws;
 mod name;
 pub mod path;
@@ -14,5 +15,6 @@ mod shape;
 mod tail;
 
 pub use atom::{Atom, AtomFault};
+pub use inventory::Inventory;
 pub use name::log_name;
 pub use replica::{Replica, ReplicaFault};

@@ -1,0 +1,77 @@
+//! A value's lists in order, each shown in its place without being made.
+ghost use Rattle.std.specs.Prelude.{◌≡◌, ◌++◌, ◌∷◌, [], List, OnOk, IfErr};
+ghost use Rattle.std.specs.declared.alloc.AllocError.{AllocError};
+ghost use Rattle.cadf_join.specs.Contents.{Texts, under};
+ghost use Rattle.cadf_join.specs.Prefixes.{rising_behind, texts_at};
+
+use crate::{Join, Memory};
+
+/// What is shown lists in turn.
+pub trait Visitor {
+    /// Why it stops: a reason of its own, or `Memory`.
+    type Fault: From<Memory>;
+
+    /// Being shown those lists leads from the one state to the other.
+    ghost takes: { Self → List Texts → Self → Type 0 };
+
+    /// Stopping for that reason, while those lists were to be shown, leads from the one state to the other.
+    ghost stops: { Self → List Texts → Self.Fault → Self → Type 0 };
+
+    /// Takes the list.
+    fn visit(&mut self, list: &[&str]) -> Result<(), Self::Fault>
+        ensures ok { OnOk result (takes self.old (texts_at list.now ∷ []) self.new) }
+        ensures err { IfErr result (λ f. stops self.old (texts_at list.now ∷ []) f self.new) };
+
+    /// Where no list is shown the state stays.
+    ghost takes_none: { (v : Self) → takes v [] v };
+
+    /// What is shown in two turns is shown in one.
+    ghost takes_more: { (u v w : Self) (xs ys : List Texts) → takes u xs v → takes v ys w → takes u (xs ++ ys) w };
+
+    /// Any list may be refused for want of memory before it is shown.
+    ghost stops_at_once: { (v : Self) (xs : List Texts) (m : AllocError) (f : Self.Fault) → Self.Fault.from_gives m f → stops v xs f v };
+
+    /// What stops after some lists were shown stops while all were to be shown.
+    ghost stops_later: { (u v w : Self) (xs ys : List Texts) (f : Self.Fault) → takes u xs v → stops v ys f w → stops u (xs ++ ys) f w };
+
+    /// What stops before some lists are shown stops while all were to be shown.
+    ghost stops_before: { (u v : Self) (xs ys : List Texts) (f : Self.Fault) → stops u xs f v → stops u (xs ++ ys) f v };
+}
+
+/// A value of `Join` that shows its lists.
+pub trait Walk: Join {
+    /// Shows each list, behind the path, in order, until the visitor stops. No text is copied.
+    fn walk<'a, S: Visitor>(
+        &'a self,
+        path: &mut Vec<&'a str>,
+        visitor: &mut S,
+    ) -> Result<(), S::Fault>
+        ensures path { OnOk result (path.new.items ≡ path.old.items) }
+        ensures shown { OnOk result (S.takes visitor.old (rising_behind (texts_at path.old.items) (Self.contents self.now)) visitor.new) }
+        ensures stopped { IfErr result (λ f. S.stops visitor.old (rising_behind (texts_at path.old.items) (Self.contents self.now)) f visitor.new) };
+}
+
+/// Shows each list of the value, behind the path and the text, in order, until the visitor stops.
+pub fn walk_behind<'a, V: Walk, S: Visitor>(
+    text: &'a str,
+    value: &'a V,
+    path: &mut Vec<&'a str>,
+    visitor: &mut S,
+) -> Result<(), S::Fault>
+    ensures path { OnOk result (path.new.items ≡ path.old.items) }
+    ensures shown { OnOk result (S.takes visitor.old (rising_behind (texts_at path.old.items) (under text.now (V.contents value.now))) visitor.new) }
+    ensures stopped { IfErr result (λ f. S.stops visitor.old (rising_behind (texts_at path.old.items) (under text.now (V.contents value.now))) f visitor.new) }
+{
+    lengthen(path, text)?;
+    value.walk(path, visitor)?;
+    path.pop();
+    Ok(())
+}
+
+/// Adds the text to the path.
+pub(crate) fn lengthen<'a>(path: &mut Vec<&'a str>, text: &'a str) -> Result<(), Memory>
+    ensures { OnOk result (path.new.items ≡ path.old.items ++ text.entry ∷ []) }
+{
+    path.push(text)?;
+    Ok(())
+}
