@@ -121,4 +121,4 @@ left_is log xs w count len logs sites = same_lists xs (left_by log count w) (len
     each k d h =
         let in_range : k < count = omega arith in
         (λ i. record { log = (sym (get_at log_at log xs k d h) ∙ logs k) i; atoms = (sym (get_at held_at sets.empty xs k d h) ∙ sym (sites k)) i })
-        ∙ sym (get_or-map-range_with_len site 0 count k k d in_range refl)
+        ∙ sym (get_or-map-range_with_len site 0 count k k d in_range (omega arith))

@@ -93,7 +93,8 @@ impl Federation {
             return Err(RehearseFault::NoSite(number));
         }
         let held = self.sites[site].inventory()?;
-        self.post(Message::Asked(site, held))
+        self.post(Message::Asked(site, held))?;
+        Ok(())
     }
 
     /// The site sends all that it holds.
@@ -107,7 +108,8 @@ impl Federation {
             return Err(RehearseFault::NoSite(number));
         }
         let copy = self.sites[site].copy()?;
-        self.post(Message::Whole(copy))
+        self.post(Message::Whole(copy))?;
+        Ok(())
     }
 
     /// The site sends what the asker of an inventory lacks.
@@ -130,7 +132,8 @@ impl Federation {
             },
             _ => return Err(RehearseFault::NotInventory(number)),
         };
-        self.post(answer)
+        self.post(answer)?;
+        Ok(())
     }
 
     /// The site takes what a message carries.
@@ -152,9 +155,13 @@ impl Federation {
                 if *asker != site {
                     return Err(RehearseFault::WrongAddressee(number));
                 }
-                joined(&mut self.sites[site], part)
+                joined(&mut self.sites[site], part)?;
+                Ok(())
             }
-            Message::Whole(whole) => joined(&mut self.sites[site], whole),
+            Message::Whole(whole) => {
+                joined(&mut self.sites[site], whole)?;
+                Ok(())
+            }
         }
     }
 

@@ -4,9 +4,9 @@
 mod fault;
 mod federation;
 pub mod laws;
-mod rehearse;
+mod play;
 mod turn;
 
 pub use fault::RehearseFault;
-pub use rehearse::rehearse;
+pub use play::rehearse;
 pub use turn::Turn;

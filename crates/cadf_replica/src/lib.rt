@@ -16,5 +16,5 @@ mod tail;
 
 pub use atom::{Atom, AtomFault};
 pub use inventory::Inventory;
-pub use name::log_name;
+pub use name::{copied, log_name};
 pub use replica::{Replica, ReplicaFault};
