@@ -1,11 +1,14 @@
 """The command: what a call's words mean, and its exit status and streams."""
 import json_text
 from events import Fault, document, is_name
-from replica_files import file_of, read_file
+from inventory_files import inventory_of, missing_by, read_inventory
+from rehearsal import read_script, rehearsal_text, sites_of
+from replica_files import file_of, read_file, with_carriers
 from shown_texts import check_line, conflict_text, log_text
 
 DIRECTORY = object()  # stands for the content of a folder
-FILES_WANTED = {b"missing": 2, b"show": 1, b"check": 1}
+# How many words a command wants beside its options; `join` wants one or more.
+WORDS_WANTED = {b"missing": 2, b"missing-by": 2, b"inventory": 1, b"show": 1, b"check": 1, b"rehearse": 3}
 
 
 class Usage(Exception):
@@ -27,14 +30,16 @@ class Call:
             b"".join(word + b"\n" for word in words).decode()
         except UnicodeDecodeError:
             raise Usage
-        if not words or words[0] not in (b"join", b"missing", b"show", b"check"):
+        if not words or words[0] not in (b"join", *WORDS_WANTED):
             raise Usage
         self.command, self.log, self.conflicts, self.files = words[0], None, False, []
         self.rest = list(words[1:])
         while self.rest:
             self.take(self.rest.pop(0))
-        if len(self.files) != FILES_WANTED.get(self.command, max(1, len(self.files))):
+        if len(self.files) != WORDS_WANTED.get(self.command, max(1, len(self.files))):
             raise Usage
+        if self.command == b"rehearse":
+            self.log, self.sites, *self.files = self.files
 
     def take(self, word):
         """One word, and the one behind it where it is an option's value."""
@@ -56,20 +61,40 @@ class Call:
         return self.rest.pop(0)
 
 
-def loaded(number, data):
+def read_input(data):
     """The log and the atoms of an input."""
+    return read_file(data) if data.startswith(b"CADF-") else document(json_text.read(data))
+
+
+def loaded(number, data, read):
+    """What `read` makes of an input: its log, and its atoms or digests."""
     if data is DIRECTORY:
         raise Fault("input %d: read fault" % number, 3)
     try:
-        if data.startswith(b"CADF-"):
-            return read_file(data)
-        return document(json_text.read(data))
+        return read(data)
     except json_text.NotJson:
         raise Fault("input %d: not JSON" % number)
     except json_text.NotWhole:
         raise Fault("input %d: a number is not whole" % number)
     except Fault as fault:
         raise Fault("input %d: %s" % (number, fault.said))
+
+
+def opened(call, files):
+    """The contents of a call's files; all are opened before one is read."""
+    for number, name in enumerate(call.files, 1):
+        if name not in files:
+            raise Fault("input %d: read fault" % number, 3)
+    return [files[name] for name in call.files]
+
+
+def inputs_of(call, files):
+    """The log and the contents of each input."""
+    reads = [read_input] * len(call.files)
+    if call.command == b"missing-by":
+        reads[1] = read_inventory
+    contents = opened(call, files)
+    return [loaded(number, data, read) for number, (data, read) in enumerate(zip(contents, reads), 1)]
 
 
 def log_written(call, logs):
@@ -86,25 +111,30 @@ def log_written(call, logs):
     return named
 
 
-def missing(atoms, held):
-    """The atoms that are not held, each with its carrier."""
-    lacking = atoms - held
-    return lacking | {atom[:3] for atom in lacking}
+def rehearsed(call, files):
+    count = sites_of(call.sites.decode())
+    script, = opened(call, files)
+    if script is DIRECTORY:
+        raise Fault("input 1: read fault", 3)
+    return rehearsal_text(call.log.decode(), count, read_script(script))
 
 
 def written(call, files):
     if call.log is not None and not is_name(call.log.decode()):
         raise Fault("log name", 2)
-    for number, name in enumerate(call.files, 1):  # all are opened before one is read
-        if name not in files:
-            raise Fault("input %d: read fault" % number, 3)
-    inputs = [loaded(number, files[name]) for number, name in enumerate(call.files, 1)]
+    if call.command == b"rehearse":
+        return rehearsed(call, files)
+    inputs = inputs_of(call, files)
     log = log_written(call, [log for log, _ in inputs])
-    sets = [atoms for _, atoms in inputs]
+    sets = [contents for _, contents in inputs]
     if call.command == b"join":
         return file_of(log, set().union(*sets))
     if call.command == b"missing":
-        return file_of(log, missing(*sets))
+        return file_of(log, with_carriers(sets[0] - sets[1]))
+    if call.command == b"missing-by":
+        return file_of(log, missing_by(*sets))
+    if call.command == b"inventory":
+        return inventory_of(log, *sets)
     if call.command == b"check":
         return check_line(log, *sets)
     return conflict_text(log, *sets) if call.conflicts else log_text(log, *sets)

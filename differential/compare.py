@@ -5,12 +5,14 @@
 
 The second implementation, in this folder, is of what docs/FORMATS.md describes. It was written apart from crates/ and
 shares nothing with it, so that a misreading in the definitions there would show as a difference. Compared are the exit
-status, standard output and standard error of `join`, `missing`, `show` and `check`. Not compared: the texts for words
-that are no call, which are clap's own, beyond that the status is 2 and that they go to standard error alone; words that
-aren't UTF-8 count as no call. Nor is anything reached that takes a large input, a failed write or want of memory.
+status, standard output and standard error of `join`, `missing`, `missing-by`, `inventory`, `show` and `check`. Not
+compared: the texts for words that are no call, which are clap's own, beyond that the status is 2 and that they go to
+standard error alone; words that aren't UTF-8 count as no call. Nor is anything reached that takes a large input, a
+failed write or want of memory.
 
-BINARY is crates/cadf/out/cadf unless given. A case depends on its seed and number alone. The status is 1 where
-a case differs; the first ten that do are kept, made smaller, in folders of their own with the call to run there.
+BINARY is crates/cadf/out/cadf unless given. A case depends on its seed and number alone, and on whether the help of
+BINARY lists `rehearse`, whose calls are compared too where it does. The status is 1 where a case differs; the first ten
+that do are kept, made smaller, in folders of their own with the call to run there.
 """
 import argparse
 import collections
@@ -25,8 +27,8 @@ import tempfile
 sys.dont_write_bytecode = True  # nothing is written beside the sources; so this stands before they are imported
 
 from command import DIRECTORY, Answer, answer
-from generate import Case
-from replica_files import sealed
+from generate import KINDS, KINDS_WITH_REHEARSALS, Case
+from sealed_files import sealed
 
 TOP = os.path.dirname(os.path.dirname(os.path.abspath(__file__)))
 BINARY = os.path.join(TOP, "crates", "cadf", "out", "cadf")
@@ -63,9 +65,15 @@ def alike(wanted, got):
     return got.error != b"" if wanted.error is None else got.error == wanted.error
 
 
-def compared(binary, seed, number):
+def lists(binary, command):
+    """Whether the binary's help has the command."""
+    told = subprocess.run([binary, "--help"], stdin=subprocess.DEVNULL, capture_output=True).stdout.decode()
+    return any(line.split()[:1] == [command] for line in told.splitlines())
+
+
+def compared(binary, kinds, seed, number):
     """The kind of a case, and whether the two answer it alike."""
-    case = Case(seed, number)
+    case = Case(kinds, seed, number)
     return case.kind, alike(answer(case.words, case.files), answered(binary, case.words, case.files))
 
 
@@ -130,20 +138,21 @@ def main():
     if not os.access(binary, os.X_OK):
         sys.exit("%s can't be run" % binary)
     sys.stdout.reconfigure(errors="surrogateescape")  # a word that isn't UTF-8 is printed as it is
-    one = functools.partial(compared, binary, options.seed)
+    kinds = KINDS_WITH_REHEARSALS if lists(binary, "rehearse") else KINDS
+    one = functools.partial(compared, binary, kinds, options.seed)
     with concurrent.futures.ThreadPoolExecutor(len(os.sched_getaffinity(0))) as pool:
         answers = list(pool.map(one, range(options.count)))
-    kinds = collections.Counter(kind for kind, _ in answers)
+    seen = collections.Counter(kind for kind, _ in answers)
     differing = [number for number, (_, same) in enumerate(answers) if not same]
     for place, number in enumerate(differing):
-        case = Case(options.seed, number)
+        case = Case(kinds, options.seed, number)
         print("case %d (%s) differs" % (number, case.kind.replace("_", " ")))
         if place < KEPT:
             difference = Difference(binary, case)
             difference.shrink()
             difference.keep()
     outcome = "%d differ" % len(differing) if differing else "all alike"
-    print("compared %d cases of %d kinds: %s" % (options.count, len(kinds), outcome))
+    print("compared %d cases of %d kinds: %s" % (options.count, len(seen), outcome))
     return 1 if differing else 0
 
 

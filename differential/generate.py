@@ -5,12 +5,16 @@ import random
 
 import odd_events
 import odd_files
+import odd_inventories
+import schedules
 from command import DIRECTORY
+from inventory_files import digest_of, inventory_of, inventory_with
 from json_text import quoted, read_canonical, spelled
 from odd_events import chain, event
 from odd_files import HEAD, atoms_of, damaged, documents_told, grounded_part, some_carrier, some_file
 from odd_values import any_value, good_name, good_time, nested, number, number_near_a_border, odd_name, odd_text, time
-from replica_files import file_of, sealed
+from replica_files import file_of
+from sealed_files import sealed
 from shown_texts import log_text
 from spelling import spelled_oddly
 
@@ -26,8 +30,9 @@ ODD_INPUTS = [
     b"", b" ", b"\n", b"CADF", b"CADF-", b"CADF-\n", b"cadf-\n", b" CADF-", b"CADF_REPLICA 1\n", b"CADF-REPLICA 1\n",
     b'CADF-REPLICA 1\nL "g"\n', b"\xef\xbb\xbfCADF-REPLICA 1\n", b"CADF-REPLICA 1\n\n", b"\x00",
     b'CADF-REPLICA 2\nL "g"\n', b"null", b"0", b'""', b"[]", b"{}"]
+NO_DIGESTS = inventory_of("g", [])
 TOKENS = [b"{", b"}", b"[", b"]", b",", b":", b'"', b'"id"', b'"events"', b'"g"', b"1", b" ", b"null"]
-LIKELY_WORDS = ["a", "b", "c", "g", "e", "nothere", "folder", "-", "--", "--log", "--log=g", "--log="]
+LIKELY_WORDS = ["a", "b", "c", "g", "e", "i", "nothere", "folder", "-", "--", "--log", "--log=g", "--log="]
 WORDS = LIKELY_WORDS + [
     "--log=\x7f", "--log=" + "x" * 1024, "--log=" + "x" * 1025, "--conflicts", "--conflicts=1", "--nope", "-l", b"\xff", "",
     "-x", "--log=h", b"--log=\xff", "--log=-", "--log=-x", "--log=a=b", "--log=\u00e9", "--log=\n"]
@@ -48,7 +53,8 @@ def reading(chance, data):
     """A call that reads one input."""
     return chance.choice([
         ["show", "a"], ["show", "a"], ["show", "a"], ["show", "--conflicts", "a"], ["check", "a"], ["join", "a"],
-        ["join", "--log", "g", "a"], ["missing", "a", "a"]]), {"a": data}
+        ["join", "--log", "g", "a"], ["missing", "a", "a"], ["inventory", "a"], ["missing-by", "a", "i"]]), \
+        {"a": data, "i": NO_DIGESTS}
 
 
 def log_with(member):
@@ -262,13 +268,70 @@ def missings(chance):
     return ["missing"] + operands, files
 
 
+def nearly(chance, digest):
+    """The digest with another digit, mostly behind its front."""
+    place = max(chance.randrange(64), chance.randrange(64))
+    other = b"f" if digest[place:place + 1] == b"0" else b"0"
+    return digest[:place] + other + digest[place + 1:]
+
+
+def some_digests(chance, atoms):
+    """Digests of a set, of a part of it or of other atoms."""
+    digests = sorted(digest_of(atom) for atom in atoms)
+    kind = chance.randrange(9)
+    if kind < 3:
+        return set(digests)
+    if kind == 3:
+        return {digest_of(atom) for atom in grounded_part(chance, atoms)}
+    if kind == 4:
+        return {digest for digest in digests if chance.random() < 0.5}
+    if kind == 5:
+        return set()
+    if kind == 6:
+        return {nearly(chance, digest) if chance.random() < 0.6 else digest for digest in digests}
+    others = {digest_of(atom) for atom in atoms_of(documents_told(chance))}
+    return others if kind == 7 else others | set(digests[::2])
+
+
+def inventories(chance):
+    """Calls of both commands, of which most are answered with a text."""
+    told = documents_told(chance, 1, 5)
+    atoms = atoms_of([document for document in told if chance.random() < 0.7])
+    files = {"folder": DIRECTORY, "from": as_input(chance, chance.choice(told))}
+    if chance.random() < 0.6:
+        files["from"] = file_of("g", atoms_of(told) if chance.random() < 0.7 else atoms)
+    if chance.random() < 0.05:
+        files["from"] = spelled_oddly(chance, event(chance))
+    if chance.random() < 0.3:
+        return ["inventory", "from" if chance.random() < 0.95 else chance.choice(["folder", "nothere"])], files
+    log = "g" if chance.random() < 0.94 else chance.choice(["h", "g ", "G"])
+    files["by"] = inventory_with(log, some_digests(chance, atoms))
+    operands = chance.choice([["from", "by"]] * 20 + [
+        ["by", "from"], ["by", "by"], ["from", "from"], ["from", "folder"], ["from", "nothere"], ["nothere", "by"],
+        ["folder", "by"], ["nothere", "folder"]])
+    return ["missing-by"] + operands, files
+
+
+def damaged_inventories(chance):
+    """An inventory with something odd in it, mostly where one is asked for."""
+    made = odd_inventories.odd_inventory(chance)
+    source = chance.choice([lambda: some_file(chance)] * 8 + [
+        lambda: some_file(chance, "h"), lambda: damaged(chance, some_file(chance), 1), lambda: made,
+        lambda: spelled_oddly(chance, event(chance))])()
+    return chance.choice([["missing-by", "a", "i"]] * 12 + [
+        ["missing-by", "i", "i"], ["inventory", "i"], ["check", "i"], ["join", "a", "i"], ["missing", "a", "i"]]), \
+        {"a": source, "i": made}
+
+
 def shows(chance):
     words = chance.choice([["show", "a"], ["show", "--conflicts", "a"], ["show", "a", "--conflicts"], ["check", "a"]])
     return words, {"a": file_of("g", atoms_of(documents_told(chance, 1, 6)))}
 
 
 def damages(chance):
-    return reading(chance, chance.choice([odd_files.file_with_odd_lines, odd_files.file_with_odd_end])(chance))
+    if chance.random() < 0.5:
+        return reading(chance, odd_files.file_with_odd_lines(chance))
+    return reading(chance, odd_files.with_odd_end(chance, some_file(chance)))
 
 
 def atoms(chance):
@@ -324,8 +387,9 @@ def byte_texts(chance):
 def words(chance):
     files = {"a": spelled_oddly(chance, odd_events.document(chance)), "b": some_file(chance), "c": b"{", "-": b"{}",
              "-x": some_file(chance), "g": some_file(chance, "h"), "folder": DIRECTORY,
-             "e": spelled_oddly(chance, event(chance))}
-    command = chance.choice(["join", "join", "missing", "show", "check", "Join", "", "joi", "--log"])
+             "e": spelled_oddly(chance, event(chance)), "i": NO_DIGESTS}
+    command = chance.choice([
+        "join", "join", "missing", "missing-by", "inventory", "show", "check", "Join", "", "joi", "missing-", "--log"])
     behind = [chance.choice(LIKELY_WORDS if chance.random() < 0.6 else WORDS) for _ in range(chance.randint(0, 4))]
     return [command] + behind, files
 
@@ -346,19 +410,26 @@ def large(chance):
         (chance.choice([["show", "a"], ["show", "--conflicts", "a"], ["check", "a"]]), {"a": file_of("g", mine | theirs)})])
 
 
+def rehearsals(chance):
+    words, script = schedules.call(chance)
+    return words, {"script": script, "folder": DIRECTORY}
+
+
 # Each kind of case, and how many there are of it beside the others.
 KINDS = {
     numbers: 8, texts: 8, depths: 8, times: 10, orders: 4, names: 8, events: 12, documents: 10, joins: 12, missings: 10,
     shows: 6, damages: 12, atoms: 12, example_documents: 8, example_joins: 2, chains: 3, json_texts: 8, byte_texts: 4,
-    words: 5, large: 1}
+    words: 5, large: 1, inventories: 10,
+    damaged_inventories: 18}
+KINDS_WITH_REHEARSALS = {**KINDS, rehearsals: 12}
 
 
 class Case:
     """The kind of a case, the words of its call and the contents of its files, all of whose names are bytes."""
 
-    def __init__(self, seed, number):
-        chance = random.Random("%d/%d" % (seed, number))  # a case depends on nothing but its seed and number
-        kind, = chance.choices(list(KINDS), list(KINDS.values()))
+    def __init__(self, kinds, seed, number):
+        chance = random.Random("%d/%d" % (seed, number))  # a case depends on nothing but the kinds, its seed and number
+        kind, = chance.choices(list(kinds), list(kinds.values()))
         words, files = kind(chance)
         self.kind = kind.__name__
         self.words = [word if isinstance(word, bytes) else word.encode() for word in words]

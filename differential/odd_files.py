@@ -4,7 +4,8 @@ from events import EVENT_URI
 from json_text import NotJson, NotWhole, read, spelled
 from odd_events import attachment, event, odd_step, step
 from odd_values import PIECES, good_name, number, odd_name, time
-from replica_files import FIRST_LINE, file_of, sealed
+from replica_files import FIRST_LINE, file_of, with_carriers
+from sealed_files import sealed
 from spelling import spelled_oddly
 
 HEAD = [FIRST_LINE, b'L "g"']
@@ -77,8 +78,7 @@ def some_file(chance, log="g"):
 
 
 def grounded_part(chance, atoms):
-    part = {atom for atom in sorted(atoms) if chance.random() < 0.6}
-    return part | {atom[:3] for atom in part}
+    return with_carriers({atom for atom in sorted(atoms) if chance.random() < 0.6})
 
 
 def some_carrier(chance, name="e1"):
@@ -266,14 +266,14 @@ def file_with_odd_lines(chance):
     return b"\n".join(head + body + digest) + b"\n"
 
 
-def file_with_odd_end(chance):
-    whole = some_file(chance)
+def with_odd_end(chance, whole):
+    """The file cut, or with something odd in its digest line or behind it."""
     start = whole.rfind(b"Z ")
     place = chance.randrange(start, len(whole) - 1)
     flipped = bytes([whole[place] ^ 1 << chance.randrange(8)])
     return chance.choice([
         whole[:chance.randrange(len(whole))],
-        whole + chance.choice([b"\n", b" ", b"x", b"Z", whole, b"\x00", b"CADF-REPLICA 1\n"]),
+        whole + chance.choice([b"\n", b" ", b"x", b"Z", whole, b"\x00", whole.split(b"\n")[0] + b"\n"]),
         whole[:place] + flipped + whole[place + 1:],
         whole[:start] + whole[start:].upper(),
         whole.replace(b"\n", b"\r\n"),

@@ -5,7 +5,8 @@
 
 Ten documents are made of the events in this folder, with other outcomes, tags and relays. In each exchange two to
 five sites are told them in some order, some of them twice, and send each other parts, each made against some earlier
-state of its receiver, late, or again, until each has heard of all. Then every site's file must be the file of one
+state of its receiver, late, or again, until each has heard of all. Half of the parts are made from the receiver's whole
+file, half from an inventory with which it asked, then or earlier. In the end every site's file must be the file of one
 join of the ten documents, and its log and conflict list those of that file.
 """
 import argparse
@@ -26,7 +27,7 @@ class Command:
     """The built command, and a folder for what it writes."""
 
     def __init__(self, binary, folder):
-        self.binary, self.folder, self.files = binary, folder, 0
+        self.binary, self.folder, self.files, self.inventories = binary, folder, 0, {}
 
     def keep(self, content):
         """A new file with that content."""
@@ -46,7 +47,16 @@ class Command:
         return self.keep(self.written("join", "--log", "federation", *files))
 
     def missing(self, sender, receiver):
-        return self.keep(self.written("missing", sender, receiver))
+        """What the receiver, as it was in that file, lacks of the sender: by its whole file or by an inventory."""
+        if random.random() < 0.5:
+            return self.keep(self.written("missing", sender, receiver))
+        return self.keep(self.written("missing-by", sender, self.inventory(receiver)))
+
+    def inventory(self, file):
+        """The file's inventory, made when it is first asked for."""
+        if file not in self.inventories:
+            self.inventories[file] = self.keep(self.written("inventory", file))
+        return self.inventories[file]
 
 
 def events():

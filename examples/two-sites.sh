@@ -1,6 +1,6 @@
 #!/bin/sh
 # Two sites keep one log. They are told different things, send each other what the other lacks, and end
-# with the same bytes.
+# with the same bytes: by each other's whole files first, then by the digests of what a site holds.
 #
 #     examples/two-sites.sh [CADF]
 set -eu
@@ -53,3 +53,16 @@ cmp north-now.cadf south-now.cadf
 "$cadf" join late.json south.json north.json | cmp - north-now.cadf
 "$cadf" check north-now.cadf
 "$cadf" show --conflicts north-now.cadf
+
+# South need not have north's file at hand: north sends its inventory, and the same part comes back.
+"$cadf" inventory north-later.cadf >north-later.inventory
+"$cadf" missing-by south-now.cadf north-later.inventory | cmp - rest.cadf
+wc -c north-later.cadf north-later.inventory rest.cadf | sed '$d'
+
+# An inventory grows stale and serves all the same; nothing is sent to who lacks nothing.
+"$cadf" inventory north.cadf >north.inventory
+"$cadf" missing-by south-now.cadf north.inventory >more.cadf
+"$cadf" join north-later.cadf more.cadf more.cadf | cmp - south-now.cadf
+"$cadf" inventory north-now.cadf >north-now.inventory
+"$cadf" missing-by south-now.cadf north-now.inventory >nothing.cadf
+"$cadf" check nothing.cadf

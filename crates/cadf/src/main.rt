@@ -5,7 +5,7 @@ mod words;
 
 use crate::words::command;
 use cadf_event::{Name, NameFault};
-use cadf_json::FromStd;
+use cadf_json::{FromStd, Sink};
 use cadf_tool::{ToolFault, run_check, run_join, run_missing, run_show, status};
 use clap::error::ErrorKind;
 use clap::{ArgMatches, Error};
@@ -24,6 +24,8 @@ enum Stop {
     Tool(ToolFault),
     /// The word behind `--log` is no name.
     LogName,
+    /// The first word names no command.
+    Command,
 }
 
 impl From<ToolFault> for Stop {
@@ -32,7 +34,25 @@ impl From<ToolFault> for Stop {
     }
 }
 
-/// The files of these paths, each open.
+/// The file of that path, open: the input of that number.
+fn open_path<R: Files>(rt: &R, path: &str, number: usize) -> Result<FromStd<R::File>, ToolFault> {
+    match fs::open(rt, path) {
+        Ok(file) => Ok(FromStd::new(file)),
+        Err(_) => Err(ToolFault::ReadFault(number)),
+    }
+}
+
+/// The file that the word of that name gives, open: the input of that number.
+fn open<R: Files>(
+    rt: &R,
+    matches: &ArgMatches,
+    name: &str,
+    number: usize,
+) -> Result<FromStd<R::File>, ToolFault> {
+    open_path(rt, matches.get_str(name).unwrap_or_default(), number)
+}
+
+/// The files of these paths, each open, in turn.
 fn open_all<R: Files>(
     rt: &R,
     alloc: Global,
@@ -40,10 +60,8 @@ fn open_all<R: Files>(
 ) -> Result<Vec<FromStd<R::File>>, ToolFault> {
     let mut files = Vec::new(alloc);
     for path in paths {
-        let Ok(file) = fs::open(rt, *path) else {
-            return Err(ToolFault::ReadFault(files.len() + 1));
-        };
-        if files.push(FromStd::new(file)).is_err() {
+        let file = open_path(rt, *path, files.len() + 1)?;
+        if files.push(file).is_err() {
             return Err(ToolFault::Memory);
         }
     }
@@ -70,67 +88,57 @@ fn log_given(alloc: Global, matches: &ArgMatches) -> Result<Option<Name>, Stop> 
     }
 }
 
-/// Runs `join` on files and standard output.
-fn join(rt: &HostRuntime, matches: &ArgMatches) -> Result<(), Stop> {
+/// Runs `join` on files.
+fn join<W: Sink>(rt: &HostRuntime, matches: &ArgMatches, output: &mut W) -> Result<(), Stop> {
     let log = log_given(rt.alloc(), matches)?;
     let paths = matches.get_strs("FILE").unwrap_or_default();
     let mut inputs = open_all(rt, rt.alloc(), paths)?;
-    let Ok(buffer) = BufWriter::new(rt.alloc(), io::writer(rt)) else {
-        return Err(Stop::Tool(ToolFault::Memory));
-    };
-    let mut output = FromStd::new(buffer);
-    run_join(rt.alloc(), log, inputs.as_mut_slice(), &mut output)?;
-    Ok(flushed(output)?)
+    Ok(run_join(rt.alloc(), log, inputs.as_mut_slice(), output)?)
 }
 
-/// Runs `missing` on two files and standard output.
-fn missing(rt: &HostRuntime, matches: &ArgMatches) -> Result<(), Stop> {
-    let from = matches.get_str("FROM").unwrap_or_default();
-    let Ok(from) = fs::open(rt, from) else {
-        return Err(Stop::Tool(ToolFault::ReadFault(1)));
-    };
-    let to = matches.get_str("TO").unwrap_or_default();
-    let Ok(to) = fs::open(rt, to) else {
-        return Err(Stop::Tool(ToolFault::ReadFault(2)));
-    };
-    let Ok(buffer) = BufWriter::new(rt.alloc(), io::writer(rt)) else {
-        return Err(Stop::Tool(ToolFault::Memory));
-    };
-    let mut from = FromStd::new(from);
-    let mut to = FromStd::new(to);
-    let mut output = FromStd::new(buffer);
-    run_missing(rt.alloc(), &mut from, &mut to, &mut output)?;
-    Ok(flushed(output)?)
+/// Runs `missing` on two files.
+fn missing<W: Sink>(rt: &HostRuntime, matches: &ArgMatches, output: &mut W) -> Result<(), Stop> {
+    let mut from = open(rt, matches, "FROM", 1)?;
+    let mut to = open(rt, matches, "TO", 2)?;
+    Ok(run_missing(rt.alloc(), &mut from, &mut to, output)?)
 }
 
-/// Runs `check` on a file and standard output.
-fn check(rt: &HostRuntime, matches: &ArgMatches) -> Result<(), Stop> {
-    let path = matches.get_str("FILE").unwrap_or_default();
-    let Ok(file) = fs::open(rt, path) else {
-        return Err(Stop::Tool(ToolFault::ReadFault(1)));
-    };
-    let Ok(buffer) = BufWriter::new(rt.alloc(), io::writer(rt)) else {
-        return Err(Stop::Tool(ToolFault::Memory));
-    };
-    let mut input = FromStd::new(file);
-    let mut output = FromStd::new(buffer);
-    run_check(rt.alloc(), &mut input, &mut output)?;
-    Ok(flushed(output)?)
+/// Runs `check` on a file.
+fn check<W: Sink>(rt: &HostRuntime, matches: &ArgMatches, output: &mut W) -> Result<(), Stop> {
+    let mut input = open(rt, matches, "FILE", 1)?;
+    Ok(run_check(rt.alloc(), &mut input, output)?)
 }
 
-/// Runs `show` on a file and standard output.
-fn show(rt: &HostRuntime, matches: &ArgMatches) -> Result<(), Stop> {
-    let path = matches.get_str("FILE").unwrap_or_default();
-    let Ok(file) = fs::open(rt, path) else {
-        return Err(Stop::Tool(ToolFault::ReadFault(1)));
-    };
-    let Ok(buffer) = BufWriter::new(rt.alloc(), io::writer(rt)) else {
-        return Err(Stop::Tool(ToolFault::Memory));
-    };
-    let mut input = FromStd::new(file);
-    let mut output = FromStd::new(buffer);
+/// Runs `show` on a file.
+fn show<W: Sink>(rt: &HostRuntime, matches: &ArgMatches, output: &mut W) -> Result<(), Stop> {
+    let mut input = open(rt, matches, "FILE", 1)?;
     let conflicts = matches.get_flag("conflicts");
-    run_show(rt.alloc(), conflicts, &mut input, &mut output)?;
+    Ok(run_show(rt.alloc(), conflicts, &mut input, output)?)
+}
+
+/// Runs the engine of that name.
+fn run_engine<W: Sink>(
+    rt: &HostRuntime,
+    name: &str,
+    matches: &ArgMatches,
+    output: &mut W,
+) -> Result<(), Stop> {
+    match name {
+        "join" => join(rt, matches, output),
+        "missing" => missing(rt, matches, output),
+        "show" => show(rt, matches, output),
+        "check" => check(rt, matches, output),
+        _ => Err(Stop::Command),
+    }
+}
+
+/// Runs the engine of that name on standard output.
+fn run_out(rt: &HostRuntime, name: &str, matches: &ArgMatches) -> Result<(), Stop> {
+    let Ok(buffer) = BufWriter::new(rt.alloc(), io::writer(rt)) else {
+        return Err(Stop::Tool(ToolFault::Memory));
+    };
+    let mut output = FromStd::new(buffer);
+    run_engine(rt, name, matches, &mut output)?;
     Ok(flushed(output)?)
 }
 
@@ -145,6 +153,10 @@ fn report(rt: &HostRuntime, stop: &Stop) -> ExitCode {
             let _ = eprintln!(rt; "cadf: log name");
             ExitCode::from(REFUSED)
         }
+        Stop::Command => {
+            let _ = eprintln!(rt; "cadf: command");
+            ExitCode::from(REFUSED)
+        }
     }
 }
 
@@ -154,23 +166,19 @@ fn answer(rt: &HostRuntime, error: &Error) -> ExitCode {
         return report(rt, &Stop::Tool(ToolFault::Memory));
     }
     match error.print(rt) {
-        Err(_) => report(rt, &Stop::Tool(ToolFault::WriteFault)),
-        Ok(()) if error.use_stderr() => ExitCode::from(REFUSED),
+        _ if error.use_stderr() => ExitCode::from(REFUSED),
         Ok(()) => ExitCode::SUCCESS,
+        Err(_) => report(rt, &Stop::Tool(ToolFault::WriteFault)),
     }
 }
 
 /// Runs the engine that the words name.
 fn run(rt: &HostRuntime, words: &[String]) -> Result<ExitCode, Error> {
     let matches = command(rt.alloc())?.try_get_matches_from(words)?;
-    let done = match matches.subcommand() {
-        Some(("join", matches)) => join(rt, matches),
-        Some(("missing", matches)) => missing(rt, matches),
-        Some(("show", matches)) => show(rt, matches),
-        Some(("check", matches)) => check(rt, matches),
-        _ => return Ok(ExitCode::from(REFUSED)),
+    let Some((name, matches)) = matches.subcommand() else {
+        return Ok(ExitCode::from(REFUSED));
     };
-    match done {
+    match run_out(rt, name, matches) {
         Ok(()) => Ok(ExitCode::SUCCESS),
         Err(stop) => Ok(report(rt, &stop)),
     }

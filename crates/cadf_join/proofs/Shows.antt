@@ -14,7 +14,8 @@ pub record Shown {S : Type 0} (takes : S → List Texts → S → Type 0) (old n
   pub taken : takes old done new
   pub split : done ++ rest ≡ all
 
-module _ {S : Type 0} (takes : S → List Texts → S → Type 0) (more : (u v w : S) (xs ys : List Texts) → takes u xs v → takes v ys w → takes u (xs ++ ys) w) where
+module _ {S : Type 0} (takes : S → List Texts → S → Type 0)
+    (more : (u v w : S) (xs ys : List Texts) → takes u xs v → takes v ys w → takes u (xs ++ ys) w) where
   pub shown_at_first : (u : S) → takes u [] u → (rest all : List Texts) → rest ≡ all → Shown takes u u rest all
   shown_at_first u none rest all e = record {
     done = [];
@@ -25,7 +26,8 @@ module _ {S : Type 0} (takes : S → List Texts → S → Type 0) (more : (u v w
   pub shown_at_last : (u v : S) (rest all : List Texts) → rest ≡ [] → Shown takes u v rest all → takes u all v
   shown_at_last u v rest all e s = subst (λ xs. takes u xs v) (sym (append_nothing s.done) ∙ ap (λ r. s.done ++ r) (sym e) ∙ s.split) s.taken
 
-  pub shown_more : (u v w : S) (before here rest all : List Texts) → before ≡ here ++ rest → Shown takes u v before all → takes v here w → Shown takes u w rest all
+  pub shown_more : (u v w : S) (before here rest all : List Texts) → before ≡ here ++ rest → Shown takes u v before all → takes v here w
+      → Shown takes u w rest all
   shown_more u v w before here rest all e s t = record {
     done = s.done ++ here;
     taken = more u v w s.done here s.taken t;
@@ -38,26 +40,33 @@ module _ {S F : Type 0} (takes : S → List Texts → S → Type 0) (stops : S �
   pub shown_stops : (u v w : S) (rest all : List Texts) (f : F) → Shown takes u v rest all → stops v rest f w → stops u all f w
   shown_stops u v w rest all f s t = subst (λ xs. stops u xs f w) s.split (later u v w s.done rest f s.taken t)
 
-  pub shown_stops_in : ((u v : S) (xs ys : List Texts) (f : F) → stops u xs f v → stops u (xs ++ ys) f v) → (u v w : S) (before here rest all : List Texts) (f : F)
+  pub shown_stops_in : ((u v : S) (xs ys : List Texts) (f : F) → stops u xs f v → stops u (xs ++ ys) f v)
+      → (u v w : S) (before here rest all : List Texts) (f : F)
       → before ≡ here ++ rest → Shown takes u v before all → stops v here f w → stops u all f w
-  shown_stops_in sooner u v w before here rest all f e s t = shown_stops u v w before all f s (subst (λ xs. stops v xs f w) (sym e) (sooner v w here rest f t))
+  shown_stops_in sooner u v w before here rest all f e s t =
+      shown_stops u v w before all f s (subst (λ xs. stops v xs f w) (sym e) (sooner v w here rest f t))
 
 -- the path with one text more
 pub path_longer : (old new : List (Bor Text)) (t : Bor Text) (text : Text) → new ≡ old ++ t ∷ [] → t.now ≡ text → texts_at new ≡ texts_at old ++ text ∷ []
 path_longer old new t text e same = ap texts_at e ∙ map_push (λ x. x.now) old t ∙ ap (λ x. texts_at old ++ x ∷ []) same
 
 -- what stands behind a text, in turn before the rest
-pub behind_path : (path longer : Texts) (text : Text) (cs rest : List Texts) → longer ≡ path ++ text ∷ [] → continued path (map (λ c. text ∷ c) cs ++ rest) ≡ continued longer cs ++ continued path rest
-behind_path path longer text cs rest e = map-append (λ c. path ++ c) (map (λ c. text ∷ c) cs) rest ∙ ap (λ us. us ++ continued path rest) (sym (ap (λ p. continued p cs) e ∙ continued_below path text cs))
+pub behind_path : (path longer : Texts) (text : Text) (cs rest : List Texts) → longer ≡ path ++ text ∷ []
+    → continued path (map (λ c. text ∷ c) cs ++ rest) ≡ continued longer cs ++ continued path rest
+behind_path path longer text cs rest e =
+    map-append (λ c. path ++ c) (map (λ c. text ∷ c) cs) rest
+        ∙ ap (λ us. us ++ continued path rest) (sym (ap (λ p. continued p cs) e ∙ continued_below path text cs))
 
 -- what stands behind a key, in turn before the rest
 pub behind_key : (old here : List (Bor Text)) (k text : Text) (s : Contents) (rest : List Texts) → here ≡ old → k ≡ text
-    → continued (texts_at old) (map (λ c. text ∷ c) (set.rising s) ++ rest) ≡ continued (texts_at here) (set.rising (under k s)) ++ continued (texts_at old) rest
+    → continued (texts_at old) (map (λ c. text ∷ c) (set.rising s) ++ rest)
+    ≡ continued (texts_at here) (set.rising (under k s)) ++ continued (texts_at old) rest
 behind_key old here k text s rest same is =
     map-append (λ c. texts_at old ++ c) (map (λ c. text ∷ c) (set.rising s)) rest
     ∙ ap (λ xs. continued (texts_at old) xs ++ continued (texts_at old) rest) (sym (rising-under text s))
     ∙ ap₂ (λ p t. continued (texts_at p) (set.rising (under t s)) ++ continued (texts_at old) rest) (sym same) (sym is)
 
 -- what is shown behind a longer path is shown behind a text
-pub behind_text : (path longer : Texts) (k : Text) (s : Contents) → longer ≡ path ++ k ∷ [] → continued longer (set.rising s) ≡ continued path (set.rising (under k s))
+pub behind_text : (path longer : Texts) (k : Text) (s : Contents) → longer ≡ path ++ k ∷ []
+    → continued longer (set.rising s) ≡ continued path (set.rising (under k s))
 behind_text path longer k s e = ap (λ p. continued p (set.rising s)) e ∙ continued_below path k (set.rising s) ∙ ap (continued path) (sym (rising-under k s))

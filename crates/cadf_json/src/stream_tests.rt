@@ -183,6 +183,53 @@ fn a_failing_reader_or_writer_of_std_fails(rt: HostRuntime) {
     assert!(rt; write_whole(&mut sink, TEXT).is_ok());
 }
 
+// Gives one byte a call, `left` of them. The call of number `failing` fails, and the next one goes on.
+#[derive(Drop)]
+struct FailsOnce {
+    left: usize,
+    failing: u64,
+    calls: u64,
+}
+
+impl io::Read for FailsOnce {
+    fn read(&mut self, buf: &mut [u8]) -> io::Result<usize> {
+        self.calls = self.calls.saturating_add(1);
+        if self.calls == self.failing {
+            return Err(io::ErrorKind::Interrupted.into());
+        }
+        if self.left == 0 || buf.is_empty() {
+            return Ok(0);
+        }
+        self.left -= 1;
+        buf[0] = b'x';
+        Ok(1)
+    }
+}
+
+// The five bytes take six calls. Were a failed one made again, all would be read.
+#[test]
+fn a_failed_read_of_std_is_not_made_again(rt: HostRuntime) -> Result<(), Fail> {
+    for failing in 1..7u64 {
+        let reader = FailsOnce {
+            left: 5,
+            failing,
+            calls: 0,
+        };
+        let mut source = FromStd::new(reader);
+        let found = read_whole(rt.alloc(), &mut source, 22).err();
+        assert!(rt; found == Some(WholeFault::ReadFault), "{failing}");
+        assert!(rt; source.into_inner().calls == failing, "{failing}");
+    }
+    let mut source = FromStd::new(FailsOnce {
+        left: 5,
+        failing: 7,
+        calls: 0,
+    });
+    assert!(rt; read_whole(rt.alloc(), &mut source, 22)?.len() == 5);
+    assert!(rt; source.into_inner().calls == 6);
+    Ok(())
+}
+
 #[test]
 fn names_its_faults(rt: HostRuntime) -> Result<(), Fail> {
     let alloc = rt.alloc();

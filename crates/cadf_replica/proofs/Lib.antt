@@ -2,11 +2,13 @@ pub mod Again
 pub mod AtomLemmas
 pub mod AtomSets
 pub mod Behind
+pub mod Carried
 pub mod Content
 pub mod ContributionLaws
 pub mod History
 pub mod Inventories
 pub mod Keys
+pub mod LineDigests
 pub mod Lists
 pub mod Missing
 pub mod Nexts

@@ -6,13 +6,16 @@ mod atom_set;
 mod body_parts;
 mod inventory;
 pub mod laws;
+mod line_digest;
 mod name;
+mod noting;
 pub mod path;
 pub mod replica;
 mod seek;
 mod seen;
 mod shape;
 mod tail;
+mod unnoted;
 
 pub use atom::{Atom, AtomFault};
 pub use inventory::Inventory;

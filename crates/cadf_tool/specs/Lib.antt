@@ -2,13 +2,13 @@ pub mod Input
 pub mod InputFault
 pub mod Faults
 pub mod Told
-pub mod OneInput
 pub mod Shown
 pub mod Inputs
-pub mod InputsRefusal
+pub mod Run
 pub mod Join
 pub mod Uniting
 pub mod JoinWrites
 pub mod Missing
+pub mod MissingBy
 pub mod Exchange
 pub mod TwoTexts

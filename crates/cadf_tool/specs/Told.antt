@@ -2,14 +2,15 @@
 --     log_named loaded, atoms_of loaded     the log that an input names, and the atoms that it contributes
 --     IsHeld bytes h                        the bytes are an input that names a log, and h is this log and the input's atoms
 --     WritesTold tell before after bytes    what `tell` makes of them was written
-use Rattle.std.specs.Prelude.{◌≡◌, List, ℕ, Option, Some, None}
+use Rattle.std.specs.Prelude.{◌≡◌, List, ℕ, Option, Some, None, Result, Ok, Err}
 use Rattle.std.specs.Io.KnownBytes.{Appends}
-use Rattle.cadf_json.specs.Streams.{AppendsFront}
 use Rattle.cadf_join.specs.Contents.{Text, Contents}
 use Rattle.cadf_replica.specs.Contributions.{document_atoms}
 use Rattle.cadf_replica.specs.Replica.{Held}
 use Rattle.cadf_tool.specs.declared.input.Loaded.{Loaded}
 use Rattle.cadf_tool.specs.declared.input.Loaded.TheVariants.{Replica, Document}
+use Rattle.cadf_tool.specs.declared.fault.ToolFault.{ToolFault}
+use Rattle.cadf_tool.specs.declared.fault.ToolFault.TheVariants.{NoLog}
 use Rattle.cadf_tool.specs.Input.{IsInput}
 
 -- an event by itself names none
@@ -21,20 +22,21 @@ abbrev pub atoms_of : Loaded → Contents
 atoms_of (Replica h) = h.atoms
 atoms_of (Document doc) = document_atoms doc
 
+-- the log that an input names and its atoms, where it names one
+abbrev pub under_log : Option Text → Contents → Result Held ToolFault
+under_log None atoms = Err NoLog
+under_log (Some log) atoms = Ok (record { log = log; atoms = atoms })
+
+-- THE REPLICA that an input is
+abbrev pub held_of : Loaded → Result Held ToolFault
+held_of loaded = under_log (log_named loaded) (atoms_of loaded)
+
 pub record IsHeld (bytes : List ℕ) (h : Held) : Type 0 where
   pub loaded : Loaded
   pub input : IsInput bytes loaded
   pub named : log_named loaded ≡ Some h.log
   pub atoms : h.atoms ≡ atoms_of loaded
 
--- the bytes are an input that names no log
-abbrev pub IsUnnamed : List ℕ → Type 0
-IsUnnamed bytes = (loaded : Loaded) × (IsInput bytes loaded × (log_named loaded ≡ None))
-
 -- the text of the bytes was written, and nothing else
 abbrev pub WritesTold : (Held → Text) → Option (List ℕ) → Option (List ℕ) → List ℕ → Type 0
 WritesTold tell before after bytes = (h : Held) × (IsHeld bytes h × Appends before after (tell h))
-
--- a front of that text was written, and nothing else
-abbrev pub WritesFront : (Held → Text) → Option (List ℕ) → Option (List ℕ) → List ℕ → Type 0
-WritesFront tell before after bytes = (h : Held) × (IsHeld bytes h × AppendsFront before after (tell h))

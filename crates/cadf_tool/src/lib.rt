@@ -15,7 +15,7 @@ mod uniting;
 
 pub use crate::check::run_check;
 pub use crate::fault::{ToolFault, status};
-pub use crate::input::{LoadFault, Loaded, load};
+pub use crate::input::{LoadFault, Loaded, load, load_within};
 pub use crate::join::run_join;
 pub use crate::missing::run_missing;
 pub use crate::show::run_show;

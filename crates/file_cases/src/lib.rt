@@ -1,4 +1,4 @@
-//! Examples of replica files: whole, damaged, and in pieces.
+//! Examples of replica files and inventory files: whole, damaged, and in pieces.
 #![tactic(auto)]
 
 #[cfg(test)]
@@ -7,6 +7,8 @@ mod damaged;
 mod faults;
 #[cfg(test)]
 mod feeds;
+#[cfg(test)]
+mod inventories;
 #[cfg(test)]
 mod support;
 #[cfg(test)]

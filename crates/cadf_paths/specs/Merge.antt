@@ -1,0 +1,16 @@
+-- What two rising lists make together, and what one has and the other lacks.
+--     sorted_merge cmp true xs ys    those of both, each once, in order
+--     sorted_without cmp xs ys       those of the first that the second lacks, in order
+use Rattle.std.specs.Prelude.{List, [], ◌∷◌}
+use Rattle.std.specs.declared.cmp.Ordering.{Ordering}
+use Rattle.std.specs.Ordering.{match_ordering}
+pub use Rattle.std.specs.Set.{sorted_merge, merge_step}
+
+module _ {K : Type 0} (cmp : K → K → Ordering) where
+  abbrev pub without_step : K → List K → (List K → List K) → List K → List K
+  without_step x xs on [] = x ∷ xs
+  without_step x xs on (y ∷ ys) = match_ordering (cmp x y) (x ∷ on (y ∷ ys)) (on ys) (without_step x xs on ys)
+
+  abbrev pub sorted_without : List K → List K → List K
+  sorted_without [] ys = []
+  sorted_without (x ∷ xs) ys = without_step x xs (sorted_without xs) ys

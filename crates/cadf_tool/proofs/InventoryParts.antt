@@ -1,0 +1,107 @@
+-- What `inventory` and `missing-by` answer of inputs.
+use Rattle.std.proofs.Common.{◌≡◌, ℕ, Bool, true, false, cond, List, Option, None, Some, Result, Ok, Err, refl, sym, ap, ◌∙◌, subst}
+use Rattle.cadf_join.specs.Sets as set
+use Rattle.cadf_join.specs.Contents.{Text, Contents, IsWithin}
+use Rattle.cadf_replica.specs.Missing.{Digests, digests_of, missing_by, NoCollision}
+use Rattle.cadf_replica.specs.Replica.{Held}
+use Rattle.cadf_replica.proofs.Missing.{with_carriers_least, unknown_has, missing_by_is}
+use Rattle.cadf_file.specs.InventoryFile.{IsInventory}
+use Rattle.cadf_file.proofs.InventoryVerdictLemmas.{inventory-file-tells}
+use Rattle.cadf_tool.specs.declared.input.Loaded.{Loaded}
+use Rattle.cadf_tool.specs.declared.fault.ToolFault.{ToolFault}
+use Rattle.cadf_tool.specs.declared.fault.ToolFault.TheVariants.{OtherLog}
+use Rattle.cadf_tool.specs.Input.{IsInput}
+use Rattle.cadf_tool.specs.Told.{log_named, atoms_of, IsHeld}
+use Rattle.cadf_tool.specs.Join.{is_other}
+use Rattle.cadf_tool.specs.Missing.{under_one_log}
+use Rattle.cadf_replica.specs.Digest.{atom_digest}
+use Rattle.cadf_replica.specs.Inventory.{Noted, AreDigests}
+use Rattle.cadf_tool.specs.MissingBy.{noted_under, noted_of, missing_by_of}
+use Rattle.cadf_tool.specs.Exchange.{IsReadOf, IsNotedOf}
+use Rattle.cadf_tool.proofs.DigestBytes.{are_digests}
+use Rattle.cadf_tool.proofs.GroundedInputs.{input_grounded}
+use Rattle.cadf_tool.proofs.HeldReplicas.{held_replica}
+use Rattle.cadf_tool.proofs.InputUnions.{IsPart}
+
+-- ---- the inventory of an input
+
+pub record Notes (loaded : Loaded) (noted : Noted) : Type 0 where
+  pub log : log_named loaded ≡ Some noted.log
+  pub digests : noted.digests ≡ digests_of atom_digest (atoms_of loaded)
+
+abbrev noted_as : Text → Digests → Noted
+noted_as log digests = record { log = log; digests = digests }
+
+noted_same : (log : Text) (digests : Digests) (n : Noted) → ◌≡◌ {A = Result Noted ToolFault} (Ok (noted_as log digests)) (Ok n)
+    → (log ≡ n.log) × (n.digests ≡ digests)
+noted_same log digests n e =
+    let same : noted_as log digests ≡ n = cc in
+    (ap (λ (k : Noted). k.log) same, sym (ap (λ (k : Noted). k.digests) same))
+
+pub notes : (loaded : Loaded) (noted : Noted) → noted_of loaded ≡ Ok noted → Notes loaded noted
+notes loaded noted e = by (log_named loaded) refl e
+  where
+    by : (o : Option Text) → log_named loaded ≡ o → noted_under o (digests_of atom_digest (atoms_of loaded)) ≡ Ok noted → Notes loaded noted
+    by None is k = absurd (cc)
+    by (Some name) is k =
+        let same = noted_same name (digests_of atom_digest (atoms_of loaded)) noted k in
+        record { log = is ∙ ap Some same.0; digests = same.1 }
+
+-- what was noted of an input is an inventory
+notes_inventory : (bytes : List ℕ) (loaded : Loaded) (noted : Noted) → IsInput bytes loaded → Notes loaded noted → IsInventory noted
+notes_inventory bytes loaded noted input n =
+    let held : IsHeld bytes (record { log = noted.log; atoms = atoms_of loaded }) = record { loaded = loaded; input = input; named = n.log; atoms = refl } in
+    record {
+      log = (held_replica bytes (record { log = noted.log; atoms = atoms_of loaded }) held).log;
+      digests = subst AreDigests (sym n.digests) (are_digests (atoms_of loaded));
+    }
+
+-- what was read of an inventory's file is what was noted of the input
+pub noted_by : (to : List ℕ → Type 0) (noted : Noted) → IsNotedOf to noted → (other : Loaded) × IsReadOf to other × Notes other noted
+noted_by to noted (bytes, (other, written, read, made, is), input) =
+    let n : Notes other written = notes other written made in
+    let same : written ≡ noted = inventory-file-tells written noted (notes_inventory read.0 other written read.2 n) input.inventory (sym is ∙ input.is) in
+    (other, read, subst (Notes other) same n)
+
+-- ---- the part that an inventory doesn't note
+
+pub record IsPartBy (from : Loaded) (noted : Noted) (part : Held) : Type 0 where
+  pub log : log_named from ≡ Some part.log
+  pub atoms : part.atoms ≡ missing_by atom_digest (atoms_of from) noted.digests
+
+abbrev held_under : Text → Contents → Held
+held_under log atoms = record { log = log; atoms = atoms }
+
+held_same : (log : Text) (atoms : Contents) (h : Held) → ◌≡◌ {A = Result Held ToolFault} (Ok (held_under log atoms)) (Ok h) → (log ≡ h.log) × (h.atoms ≡ atoms)
+held_same log atoms h e =
+    let same : held_under log atoms ≡ h = cc in
+    (ap (λ (k : Held). k.log) same, sym (ap (λ (k : Held). k.atoms) same))
+
+pub part_by_is : (from : Loaded) (noted : Noted) (part : Held) → missing_by_of from noted ≡ Ok part → IsPartBy from noted part
+part_by_is from noted part e = by (log_named from) refl e
+  where
+    atoms : Contents
+    atoms = missing_by atom_digest (atoms_of from) noted.digests
+
+    one_log : (name : Text) (b : Bool) → log_named from ≡ Some name → cond b (Err (OtherLog 2)) (Ok (held_under name atoms)) ≡ Ok part
+        → IsPartBy from noted part
+    one_log name true is k = absurd (cc)
+    one_log name false is k = let same = held_same name atoms part k in record { log = is ∙ ap Some same.0; atoms = same.1 }
+
+    by : (o : Option Text) → log_named from ≡ o → under_one_log o (Some noted.log) atoms ≡ Ok part → IsPartBy from noted part
+    by None is k = absurd (cc)
+    by (Some name) is k = one_log name (is_other name (Some noted.log)) is k
+
+pub part_by_within : (bytes : List ℕ) (from : Loaded) (noted : Noted) (part : Held) → IsInput bytes from → IsPartBy from noted part
+    → IsWithin part.atoms (atoms_of from)
+part_by_within bytes from noted part is p =
+    subst (λ s. IsWithin s (atoms_of from)) (sym p.atoms)
+    (with_carriers_least _ (atoms_of from) (input_grounded bytes from is, unknown_has atom_digest (atoms_of from) noted.digests))
+
+-- where no two different atoms share a digest, it is the missing part
+pub part_by_part : (from to : Loaded) (noted : Noted) (part : Held) → NoCollision atom_digest (set.union (atoms_of from) (atoms_of to)) → Notes to noted
+    → IsPartBy from noted part → IsPart from to part
+part_by_part from to noted part apart i p = record {
+  log = p.log;
+  atoms = p.atoms ∙ ap (missing_by atom_digest (atoms_of from)) i.digests ∙ missing_by_is atom_digest (atoms_of from) (atoms_of to) apart;
+}

@@ -1,0 +1,56 @@
+-- What an inventory notes of an input, and what an input has that an inventory doesn't note.
+--     noted_of loaded                the log of an input, and the digests of its atoms; or why there are none
+--     missing_by_of from noted       the atoms of FROM whose digest isn't noted, under their log, or why there is no such part
+--     IsInventoryInput bytes noted   the bytes are the file of this inventory
+--     IsNotedAs old new noted        a source was read as this inventory
+use Rattle.std.specs.Prelude.{◌≡◌, ℕ, List, Option, Some, None, Result, Ok, Err}
+use Rattle.std.specs.Io.KnownBytes.{Appends}
+use Rattle.cadf_join.specs.Contents.{Text}
+use Rattle.cadf_replica.specs.Digest.{atom_digest}
+use Rattle.cadf_replica.specs.Inventory.{Noted}
+use Rattle.cadf_replica.specs.Missing.{Digests, digests_of, missing_by}
+use Rattle.cadf_replica.specs.Replica.{Held}
+use Rattle.cadf_file.specs.File.{file}
+use Rattle.cadf_file.specs.InventoryFile.{inventory_file, IsInventory}
+use Rattle.cadf_tool.specs.declared.input.Loaded.{Loaded}
+use Rattle.cadf_tool.specs.declared.fault.ToolFault.{ToolFault}
+use Rattle.cadf_tool.specs.declared.fault.ToolFault.TheVariants.{NoLog}
+use Rattle.cadf_tool.specs.Input.{GivesAll, IsWithinLimit}
+use Rattle.cadf_tool.specs.Told.{log_named, atoms_of}
+use Rattle.cadf_tool.specs.Inputs.{Seen}
+use Rattle.cadf_tool.specs.Missing.{under_one_log}
+
+-- digests under a log, where it is named
+abbrev pub noted_under : Option Text → Digests → Result Noted ToolFault
+noted_under None digests = Err NoLog
+noted_under (Some log) digests = Ok (record { log = log; digests = digests })
+
+-- THE INVENTORY of an input
+abbrev pub noted_of : Loaded → Result Noted ToolFault
+noted_of loaded = noted_under (log_named loaded) (digests_of atom_digest (atoms_of loaded))
+
+-- THE MISSING PART BY AN INVENTORY: the least grounded set that contains the atoms of FROM whose digest isn't noted
+abbrev pub missing_by_of : Loaded → Noted → Result Held ToolFault
+missing_by_of from noted = under_one_log (log_named from) (Some noted.log) (missing_by atom_digest (atoms_of from) noted.digests)
+
+-- the bytes are the file of this inventory
+pub record IsInventoryInput (bytes : List ℕ) (noted : Noted) : Type 0 where
+  pub is : bytes ≡ inventory_file noted
+  pub within : IsWithinLimit bytes
+  pub inventory : IsInventory noted
+
+-- a source was read as this inventory, and no read of it failed
+abbrev pub IsNotedAs : Seen → Seen → Noted → Type 0
+IsNotedAs old new noted = GivesAll old.left new.left (λ bytes. IsInventoryInput bytes noted) × (new.failures ≡ old.failures)
+
+-- the file of the inventory was written, and nothing else
+pub record WritesInventory (before after : Option (List ℕ)) (loaded : Loaded) : Type 0 where
+  pub noted : Noted
+  pub inventory : noted_of loaded ≡ Ok noted
+  pub written : Appends before after (inventory_file noted)
+
+-- the file of the missing part was written, and nothing else
+pub record WritesMissingBy (before after : Option (List ℕ)) (from : Loaded) (noted : Noted) : Type 0 where
+  pub held : Held
+  pub missing : missing_by_of from noted ≡ Ok held
+  pub written : Appends before after (file held)

@@ -1,0 +1,153 @@
+-- THE RUN of an engine: its sources are read in turn, one thing is made of them, and the text of that is written.
+--     one, two, all                     what came of one source, of two, of a list of them
+--     IsDue sources work due            what is made of the sources, or the fault that comes first
+--     IsWritten sink old new text r     the text was written whole, or a front of it
+--     IsRun sources work tell sink old new r     the run, and its answer
+-- A source is refused before the work is begun, and what is written begins when the work is done.
+use Rattle.std.specs.Prelude.{◌≡◌, ◌≤◌, ◌+◌, ◌⊎◌, ℕ, List, map, Result, Ok, Err, OnOk, OnErr, IfErr}
+use Rattle.std.specs.Io.KnownBytes.{Appends}
+use Rattle.cadf_json.specs.declared.stream.Source.{Ghosts as Source}
+use Rattle.cadf_json.specs.declared.stream.Sink.{Ghosts as Sink}
+use Rattle.cadf_json.specs.Streams.{AppendsFront, counted}
+use Rattle.cadf_join.specs.Contents.{Text}
+use Rattle.cadf_tool.specs.declared.TheConstants.{FILE_LIMIT}
+use Rattle.cadf_tool.specs.declared.input.Loaded.{Loaded}
+use Rattle.cadf_tool.specs.declared.input.LoadFault.{LoadFault}
+use Rattle.cadf_tool.specs.declared.fault.ToolFault.{ToolFault}
+use Rattle.cadf_tool.specs.declared.fault.ToolFault.TheVariants.{WriteFault, Memory}
+use Rattle.cadf_tool.specs.Input.{GivesAll, IsInputWithin}
+use Rattle.cadf_tool.specs.Faults.{of_load, is_write_fault, Stage, Reading, Working, Writing, Starving, stage_of}
+use Rattle.cadf_tool.specs.Inputs.{Seen, seen, AreLoaded, NoneFailed, IsRefusedWithin, IsRefusedAt, AreReadWithin}
+
+-- ---- sources
+
+-- a source before and after a run
+pub record Turn : Type 0 where
+  pub old : Seen
+  pub new : Seen
+
+abbrev pub turn : {S : Type 0} → Source S → S → S → Turn
+turn source old new = record { old = seen source old; new = seen source new }
+
+-- how a source is read as a T: the most bytes it may have, what its bytes are, and why it is refused
+pub record Reader (T : Type 0) : Type 1 where
+  pub limit : ℕ
+  pub is : List ℕ → T → Type 0
+  pub refuses : Seen → Seen → LoadFault → Type 0
+
+-- a document or a replica file
+abbrev pub as_input_within : ℕ → Reader Loaded
+as_input_within limit = record { limit = limit; is = IsInputWithin limit; refuses = IsRefusedWithin limit }
+
+abbrev pub as_input : Reader Loaded
+as_input = as_input_within FILE_LIMIT
+
+-- the source gave all its bytes, no read failed, and they are this
+abbrev pub IsReadAs : {T : Type 0} → Reader T → Turn → T → Type 0
+IsReadAs reader t value =
+    GivesAll t.old.left t.new.left (λ bytes. reader.is bytes value) × (t.new.failures ≡ t.old.failures)
+
+abbrev pub IsUnfailed : Turn → Type 0
+IsUnfailed t = t.new.failures ≡ t.old.failures
+
+abbrev pub IsReadWithin : ℕ → Turn → Type 0
+IsReadWithin limit t = t.new.reads ≤ t.old.reads + limit + 2
+
+-- what came of the sources of a run: they are an A, or one is refused. Numbers count from 1
+pub record Sources (A : Type 0) : Type 1 where
+  -- all were read, and together they are this
+  pub are : A → Type 0
+  -- the source of that number is refused so; those before it were read, and those behind it are as they were
+  pub refused : ℕ → LoadFault → Type 0
+  -- no read of any failed
+  pub unfailed : Type 0
+  -- each was read at most as often as its limit says, and twice more
+  pub bounded : Type 0
+
+-- one source alone, which has that number
+abbrev pub numbered : {T : Type 0} → ℕ → Reader T → Turn → Sources T
+numbered number reader t = record {
+  are = IsReadAs reader t;
+  refused = λ n f. (n ≡ number) × reader.refuses t.old t.new f;
+  unfailed = IsUnfailed t;
+  bounded = IsReadWithin reader.limit t;
+}
+
+abbrev pub one : {T : Type 0} → Reader T → Turn → Sources T
+one reader t = numbered 1 reader t
+
+-- the second is read where the first was
+abbrev pub two : {T U : Type 0} → Reader T → Turn → Reader U → Turn → Sources (T × U)
+two {T} reader t other u = record {
+  are = λ both. IsReadAs reader t both.0 × IsReadAs other u both.1;
+  refused = λ n f.
+      ((n ≡ 1) × reader.refuses t.old t.new f × (u.new ≡ u.old))
+      ⊎ ((n ≡ 2) × ((value : T) × IsReadAs reader t value) × other.refuses u.old u.new f);
+  unfailed = IsUnfailed t × IsUnfailed u;
+  bounded = IsReadWithin reader.limit t × IsReadWithin other.limit u;
+}
+
+-- inputs in a list
+abbrev pub all : {S : Type 0} → Source S → List S → List S → Sources (List Loaded)
+all source old new = record {
+  are = AreLoaded (map (seen source) old) (map (seen source) new);
+  refused = IsRefusedAt (map (seen source) old) (map (seen source) new);
+  unfailed = NoneFailed (map (seen source) old) (map (seen source) new);
+  bounded = AreReadWithin (map source.reads old) (map source.reads new);
+}
+
+-- ---- what is due
+
+-- the fault comes first: of a source, or of the work where all were read.
+-- Want of memory may come at any time, but not for a read that failed
+abbrev pub IsFirstFault : {A M : Type 0} → Sources A → (A → Result M ToolFault) → ToolFault → Stage → Type 0
+IsFirstFault sources work fault (Reading n f) = (fault ≡ of_load n f) × sources.refused n f
+IsFirstFault {A} sources work fault Working = (a : A) × sources.are a × (work a ≡ Err fault)
+IsFirstFault sources work fault Writing = ⊥
+IsFirstFault sources work fault Starving = sources.unfailed
+
+-- no work is asked for: a source was refused, or there was no memory to read it
+abbrev pub IsUnread : {A : Type 0} → Sources A → ToolFault → Type 0
+IsUnread sources fault = IsFirstFault sources Ok fault (stage_of fault)
+
+abbrev pub IsDueOf : {A M : Type 0} → Sources A → (A → Result M ToolFault) → Result M ToolFault → Type 0
+IsDueOf {A} sources work (Ok made) = (a : A) × sources.are a × (work a ≡ Ok made)
+IsDueOf sources work (Err fault) = IsFirstFault sources work fault (stage_of fault)
+
+pub record IsDue {A M : Type 0} (sources : Sources A) (work : A → Result M ToolFault)
+    (due : Result M ToolFault) : Type 0 where
+  pub is : IsDueOf sources work due
+  pub bounded : sources.bounded
+
+-- ---- the work
+
+-- the work was done as it should, or there was no memory for it
+abbrev pub IsWorkFault : {M : Type 0} → Result M ToolFault → ToolFault → Stage → Type 0
+IsWorkFault due fault (Reading n f) = ⊥
+IsWorkFault due fault Working = due ≡ Err fault
+IsWorkFault due fault Writing = ⊥
+IsWorkFault due fault Starving = Unit {0}
+
+abbrev pub IsWorked : {M : Type 0} → Result M ToolFault → Result M ToolFault → Type 0
+IsWorked due (Ok made) = due ≡ Ok made
+IsWorked due (Err fault) = IsWorkFault due fault (stage_of fault)
+
+-- ---- what is written
+
+pub record IsWritten {W T : Type 0} (sink : Sink W) (old new : W) (text : Text)
+    (result : Result T ToolFault) : Type 0 where
+  pub whole : OnOk result (Appends (sink.written old) (sink.written new) text)
+  pub front : OnErr result (AppendsFront (sink.written old) (sink.written new) text)
+  pub only : IfErr result (λ fault. (fault ≡ WriteFault) ⊎ (fault ≡ Memory))
+  pub failures : sink.failures new ≡ counted (is_write_fault result) (sink.failures old)
+
+-- what is made is told, and a fault is answered with nothing written
+abbrev pub IsAnswer : {W M T : Type 0} → (M → Text) → Sink W → W → W → Result M ToolFault → Result T ToolFault → Type 0
+IsAnswer tell sink old new (Ok made) result = IsWritten sink old new (tell made) result
+IsAnswer tell sink old new (Err fault) result = (result ≡ Err fault) × (new ≡ old)
+
+pub record IsRun {A M W T : Type 0} (sources : Sources A) (work : A → Result M ToolFault) (tell : M → Text)
+    (sink : Sink W) (old new : W) (result : Result T ToolFault) : Type 0 where
+  pub due : Result M ToolFault
+  pub first : IsDue sources work due
+  pub answer : IsAnswer tell sink old new due result

@@ -1,0 +1,157 @@
+#!/usr/bin/env python3
+"""Worked rows of the commands on inventories and of rehearsals: what they write is told here, by hashlib or in full.
+
+    differential/rows.py [BINARY]
+
+Each row is answered by the second implementation, and by BINARY where it is given; those of `rehearse` where its help
+lists that command. The status is 1 where one differs.
+"""
+import hashlib
+import os
+import sys
+
+sys.dont_write_bytecode = True
+
+from command import Answer, answer
+from compare import alike, answered, lists
+
+BODY = ('{"action":"read","eventTime":"2024-03-01T12:00:00Z","eventType":"activity","initiatorId":"u1","observerId":"s1",'
+        '"outcome":"success","targetId":"t1"}')
+FAILED = BODY.replace("success", "failure")
+STEP_1, STEP_2 = '{"reporterId":"s1","role":"observer"}', '{"reporterId":"s2","role":"relay"}'
+
+
+def digits(text):
+    return hashlib.sha256(text.encode()).hexdigest()
+
+
+def quoted(text):
+    return '"' + text.replace('"', '\\"') + '"'
+
+
+def line(*texts):
+    return "[" + ",".join(quoted(text) for text in texts) + "]"
+
+
+def lined(first, *lines, log="g"):
+    """The file with that first line and these lines."""
+    text = "".join(one + "\n" for one in (first, 'L "%s"' % log) + lines)
+    return text + "Z " + digits(text) + "\n"
+
+
+def replica(*lines):
+    return lined("CADF-REPLICA 1", *lines)
+
+
+def inventory(*lines, log="g"):
+    """The inventory with these lines of digits, in their order."""
+    return lined("CADF-INVENTORY 1", *lines, log=log)
+
+
+EVENT, CHAIN, LONG_CHAIN = line("E", "e1", BODY), line("E", "e1", BODY, "C", STEP_1), line("E", "e1", BODY, "C", STEP_1, STEP_2)
+OTHER, OTHER_CHAIN = line("E", "e1", FAILED), line("E", "e1", FAILED, "C", STEP_2)
+CHAINS = replica(EVENT, CHAIN, LONG_CHAIN)
+CONFLICT = replica(OTHER, OTHER_CHAIN, EVENT, CHAIN)
+LETTERED = min(digits(one) for one in (EVENT, CHAIN, OTHER, OTHER_CHAIN) if any(digit in digits(one) for digit in "abcdef"))
+
+# How many bytes these texts have.
+SIZES = [
+    (BODY, 148), (EVENT, 189), (replica(), 88), (replica(EVENT), 278), (CHAINS, 807), (inventory(), 90),
+    (inventory(digits(EVENT)), 155)]
+
+# What is called, of files FROM and BY, and what is written.
+WRITTEN = [
+    ("the inventory of no atoms", "inventory", replica(), None, inventory()),
+    ("the inventory of one atom", "inventory", replica(EVENT), None, inventory(digits(EVENT))),
+    ("the digests rise", "inventory", CHAINS, None, inventory(*sorted(digits(one) for one in (EVENT, CHAIN, LONG_CHAIN)))),
+    ("a carrier is written with what stands on it", "missing-by", CHAINS, inventory(digits(EVENT)), CHAINS),
+    ("nothing is missing", "missing-by", replica(EVENT), inventory(digits(EVENT)), replica()),
+    ("all of one body is there", "missing-by", CONFLICT, inventory(*sorted([digits(EVENT), digits(CHAIN)])),
+     replica(OTHER, OTHER_CHAIN)),
+    ("a chain is there without its carrier", "missing-by", CONFLICT, inventory(digits(CHAIN)),
+     replica(OTHER, OTHER_CHAIN, EVENT)),
+    ("a carrier is there without its chain", "missing-by", CONFLICT, inventory(digits(EVENT)), CONFLICT),
+]
+
+# What is called, of files FROM and BY, and what is refused.
+REFUSED = [
+    ("digits in upper case", CONFLICT, inventory(LETTERED.upper()), "input 2: line 3: shape"),
+    ("63 digits", CONFLICT, inventory(LETTERED[1:]), "input 2: line 3: shape"),
+    ("a digest twice", CONFLICT, inventory(LETTERED, LETTERED), "input 2: line 4: order"),
+    ("a replica file as inventory", CONFLICT, replica(), "input 2: version"),
+    ("an inventory as FROM", inventory(), inventory(), "input 1: version"),
+    ("an inventory of another log", CONFLICT, inventory(log="h"), "input 2: other log"),
+]
+
+
+FIRST = '{"id":"e1",' + BODY[1:]
+SECOND = FIRST.replace('"e1"', '"e2"')
+SCHEDULE = ["learn 0 " + FIRST, "ask 1", "learn 1 " + SECOND, "answer 0 1", "send 0", "deliver 3 1", "deliver 2 1",
+            "deliver 2 1", "send 1", "deliver 4 0"]
+BOTH_WAYS = ["learn 0 " + FIRST, "ask 1", "learn 1 " + FIRST.replace("success", "failure"), "answer 0 1", "deliver 2 1",
+             "ask 0", "answer 1 3", "deliver 4 0"]
+
+# The number of sites, a script's lines, and what is written.
+REHEARSED = [
+    (3, SCHEDULE, "site 0 atoms 2 as 0\nsite 1 atoms 2 as 0\nsite 2 atoms 0 as 2\n"),
+    (2, BOTH_WAYS, "site 0 atoms 2 as 0\nsite 1 atoms 2 as 0\n"),
+    (2, [], "site 0 atoms 0 as 0\nsite 1 atoms 0 as 0\n"),
+]
+
+# The number of sites, a script's lines, and what is refused.
+STOPPED = [
+    (3, SCHEDULE + ["deliver 2 2"], "line 11: wrong addressee"),
+    (3, SCHEDULE + ["ask 3"], "line 11: no such site"),
+    (3, SCHEDULE + ["deliver 9 0"], "line 11: no such message"),
+    (3, SCHEDULE + ["answer 0 2"], "line 11: not an inventory"),
+    (3, SCHEDULE + ['learn 0 {"id":"h","events":[]}'], "line 11: other log"),
+    (3, SCHEDULE + ["hello"], "line 11: script"),
+    (2, ["ask 00"], "line 1: script"),
+    (2, ["ask  0"], "line 1: script"),
+    (2, ["learn 0 ["], "line 1: script"),
+    (2, ["", ""], "line 1: script"),
+    (2, ["answer 5 9"], "line 1: no such site"),
+]
+
+
+def rehearsal_rows():
+    """Each rehearsal's number of sites, lines and answer."""
+    for sites, lines, output in REHEARSED:
+        yield sites, lines, Answer(0, output.encode(), b"")
+    for sites, lines, said in STOPPED:
+        yield sites, lines, Answer(1, b"", ("cadf: %s\n" % said).encode())
+
+
+def calls():
+    """Each row's name, words, files and answer."""
+    for name, command, source, by, output in WRITTEN:
+        words = [command.encode(), b"from"] + ([b"by"] if by else [])
+        yield name, words, {b"from": source, b"by": by or ""}, Answer(0, output.encode(), b"")
+    for name, source, by, said in REFUSED:
+        fault = ("cadf: %s\n" % said).encode()
+        yield name, [b"missing-by", b"from", b"by"], {b"from": source, b"by": by}, Answer(1, b"", fault)
+    for sites, lines, wanted in rehearsal_rows():
+        words = [b"rehearse", b"g", str(sites).encode(), b"script"]
+        yield "rehearsal of " + "; ".join(lines), words, {b"script": "\n".join(lines)}, wanted
+
+
+def main():
+    wrong = [("the size of %.40s" % text) for text, size in SIZES if len(text.encode()) != size]
+    count = len(SIZES)
+    binaries = [os.path.abspath(binary) for binary in sys.argv[1:2]]
+    rehearsing = [binary for binary in binaries if lists(binary, "rehearse")]
+    for name, words, texts, wanted in calls():
+        files = {file: text.encode() for file, text in texts.items()}
+        asked = rehearsing if words[0] == b"rehearse" else binaries
+        got = [answer(words, files)] + [answered(binary, words, files) for binary in asked]
+        if not all(alike(wanted, one) for one in got):
+            wrong.append(name)
+        count += 1
+    for name in wrong:
+        print("row differs: %s" % name)
+    print("%d rows: %s" % (count, "%d differ" % len(wrong) if wrong else "all as told"))
+    return 1 if wrong else 0
+
+
+if __name__ == "__main__":
+    sys.exit(main())
