@@ -8,6 +8,8 @@ mod exchange;
 #[cfg(test)]
 mod faults;
 #[cfg(test)]
+mod inventories;
+#[cfg(test)]
 mod parts;
 #[cfg(test)]
 mod support;
