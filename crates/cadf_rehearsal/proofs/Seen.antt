@@ -1,5 +1,6 @@
 -- A federation's vectors, as the functions of a world.
-use Rattle.std.proofs.Common.{◌≡◌, ℕ, suc, zero, ◌-◌, ◌<◌, ◌≤◌, Bool, true, false, cond, List, [], ◌∷◌, ◌++◌, map, length, get_or, set, refl, sym, ap, ◌∙◌, arith, lt-ltb, le-leb, eq-eqb, eqb-true, ne_eqb, sub-one, ◌≢◌}
+use Rattle.std.proofs.Common.{◌≡◌, ℕ, suc, zero, ◌-◌, ◌<◌, ◌≤◌, Bool, true, false, cond, List, [], ◌∷◌, ◌++◌, map, length, get_or, set, refl, sym, ap, ◌∙◌}
+use Rattle.std.proofs.Common.{arith, lt-ltb, le-leb, eq-eqb, eqb-true, ne_eqb, sub-one, ◌≢◌}
 use Rattle.std.specs.Cmp.{both_ways}
 use Rattle.std.specs.Prelude.{Result, Ok, Err, nat_eq}
 use Rattle.cadf_join.specs.Sets as sets
@@ -61,10 +62,13 @@ module _ {S M : Type 0} (contents : S → Contents) (message : M → Message) (d
   seen xs ms = record { sites = at_or sets.empty (map contents xs); made = length ms; messages = at_number d (map message ms) }
 
   -- a site takes what s is
-  pub seen_adds : (xs : List S) (ms : List M) (k : ℕ) (old new : S) (s : Contents) → k < length xs → old ≡ get_or xs k old → contents new ≡ sets.union (contents old) s → adds (seen xs ms) k s ≡ seen (set xs k new) ms
+  pub seen_adds : (xs : List S) (ms : List M) (k : ℕ) (old new : S) (s : Contents) → k < length xs → old ≡ get_or xs k old
+      → contents new ≡ sets.union (contents old) s → adds (seen xs ms) k s ≡ seen (set xs k new) ms
   seen_adds xs ms k old new s h at is =
-      let taken : sets.union (at_or sets.empty (map contents xs) k) s ≡ contents new = ap (λ c. sets.union c s) (at_or_read contents sets.empty xs k old h at) ∙ sym is in
-      let each : (j : ℕ) → with_at (at_or sets.empty (map contents xs)) k (sets.union (at_or sets.empty (map contents xs) k) s) j ≡ at_or sets.empty (map contents (set xs k new)) j =
+      let taken : sets.union (at_or sets.empty (map contents xs) k) s ≡ contents new =
+          ap (λ c. sets.union c s) (at_or_read contents sets.empty xs k old h at) ∙ sym is in
+      let each : (j : ℕ) → with_at (at_or sets.empty (map contents xs)) k (sets.union (at_or sets.empty (map contents xs) k) s) j
+          ≡ at_or sets.empty (map contents (set xs k new)) j =
       λ j. ap (λ c. with_at (at_or sets.empty (map contents xs)) k c j) taken ∙ at_or_set contents sets.empty xs k new h j in
       λ i. record { sites = λ j. each j i; made = length ms; messages = at_number d (map message ms) }
 
@@ -79,7 +83,8 @@ pub refused : {A C : Type 0} (b : Bool) (x : Result A C) (e c : C) → b ≡ tru
 refused b x e c h is = ap (λ t. cond t x (Err e)) h ∙ is
 
 module _ {S M : Type 0} (contents : S → Contents) (message : M → Message) (d : Message) where
-  pub seen_posted : (xs ys : List S) (ms ns : List M) (m : M) → ys ≡ xs → ns ≡ ms ++ m ∷ [] → makes (seen contents message d xs ms) (message m) ≡ seen contents message d ys ns
+  pub seen_posted : (xs ys : List S) (ms ns : List M) (m : M) → ys ≡ xs → ns ≡ ms ++ m ∷ []
+      → makes (seen contents message d xs ms) (message m) ≡ seen contents message d ys ns
   seen_posted xs ys ms ns m e f = seen_makes contents message d xs ms m ∙ (λ i. seen contents message d (sym e i) (sym f i))
 
   -- a message that was made is found at its number

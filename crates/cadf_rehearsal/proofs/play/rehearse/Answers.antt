@@ -51,4 +51,5 @@ returns-clause-ok c =
       left_is c.args.log.now f.sites.items (world_of f) c.args.sites kept.count named (λ j. refl))
   where
     named : (j : ℕ) → at_or c.args.log.now (map log_at c.loop-i.federation.sites.items) j ≡ c.args.log.now
-    named j = (λ k. at_or (sym c.loop-i.invariant.log k) (map log_at c.loop-i.federation.sites.items) j) ∙ c.loop-i.invariant.one_log.sites j ∙ c.loop-i.invariant.log
+    named j =
+        (λ k. at_or (sym c.loop-i.invariant.log k) (map log_at c.loop-i.federation.sites.items) j) ∙ c.loop-i.invariant.one_log.sites j ∙ c.loop-i.invariant.log

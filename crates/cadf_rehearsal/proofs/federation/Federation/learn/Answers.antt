@@ -35,7 +35,8 @@ returns-in-Err-OtherLog-clause-err c =
     let f = c.args.self.now in
     let there : c.args.site < length f.sites.items = omega arith in
     let same = site_log f c.args.site c.index_mut.result.now c.requires there c.index_mut.ensures.value in
-    let other = subst (λ log. ¬ IsOfLog log c.args.document.now.log) same (subst (IsDocumentFault c.index_mut.result.now.log c.args.document.now.log) c.in-Err-OtherLog.field-0-is c.in-Err-OtherLog.ensures.err) in
+    let other = subst (λ log. ¬ IsOfLog log c.args.document.now.log) same
+        (subst (IsDocumentFault c.index_mut.result.now.log c.args.document.now.log) c.in-Err-OtherLog.field-0-is c.in-Err-OtherLog.ensures.err) in
     inr (at_site f c.args.site c.args.number _ _ there
     (ap (λ t. cond t (Ok (schedule.adds (world_of f) c.args.site (document_atoms c.args.document.now))) (Err (fault.OtherLog c.args.number)))
         (of_other_log f.log c.args.document.now.log other)))
