@@ -10,7 +10,6 @@ use Rattle.cadf_join.proofs.Members as members
 use Rattle.cadf_join.specs.SetLaws as laws
 use Rattle.cadf_replica.specs.Atoms.{IsGrounded}
 use Rattle.cadf_replica.specs.Missing.{missing, missing_by, digests_of, unknown, NoCollision}
-use Rattle.cadf_event.specs.Document.{DocumentParts}
 use Rattle.cadf_replica.specs.Contributions.{document_atoms}
 use Rattle.cadf_rehearsal.specs.declared.turn.Turn.{Turn}
 use Rattle.cadf_rehearsal.specs.declared.turn.Turn.TheVariants.{Learn, Ask, Answer, Send, Deliver}
@@ -59,9 +58,11 @@ plain_grounded = plain_has IsGrounded none_grounded grounded_union
 
 learnt_within : (turns : List Turn) (t : Contents) → IsWithin (learnt turns) t → AllLearnt (λ d. IsWithin (document_atoms d) t) turns
 learnt_within [] t f = tt
-learnt_within (Learn k d ∷ e) t f =
-    (λ q h. f q (members.in_union_left texts_total texts_same _ _ q h), learnt_within e t
-        (λ q h. f q (members.in_union_right texts_total texts_same (document_atoms d) _ q h)))
+learnt_within (Learn k d ∷ e) t f = (
+  λ q h. f q (members.in_union_left texts_total texts_same _ _ q h),
+  learnt_within e t
+      (λ q h. f q (members.in_union_right texts_total texts_same (document_atoms d) _ q h)),
+)
 learnt_within (Ask k ∷ e) t f = learnt_within e t f
 learnt_within (Answer k m ∷ e) t f = learnt_within e t f
 learnt_within (Send k ∷ e) t f = learnt_within e t f
@@ -70,7 +71,7 @@ learnt_within (Deliver m k ∷ e) t f = learnt_within e t f
 pub plain_learnt : (turns : List Turn) (j : ℕ) → IsWithin (plain turns j) (learnt turns)
 plain_learnt turns =
     plain_has (λ s. IsWithin s (learnt turns)) (laws.IsWithin-empty (learnt turns)) (λ s t f g. laws.IsWithin-union texts_total s t _ f g) turns
-        (learnt_within turns _ (laws.IsWithin-refl _))
+    (learnt_within turns _ (laws.IsWithin-refl _))
 
 pub learnt_grows : (t : Turn) (e : List Turn) → IsWithin (learnt e) (learnt (t ∷ e))
 learnt_grows (Learn k d) e = laws.IsWithin-right texts_total (document_atoms d) _
@@ -197,10 +198,10 @@ module _ (digest : Texts → Text) where
         let h = cond_ok (nat_eq a k) (Ok (adds w k p)) (WrongAddressee n) v is in
         subst (Kept (Deliver m k ∷ e)) (Ok-same _ _ h.1) (kept_adds (Deliver m k) e w kept k p refl (taken_at e w kept k p (carried e m)
         (part_suffices (carried e m) (plain e k) p means.0
-            (λ q c. elim (means.1 q c) [ inl x ↦ inl (subst (λ i. Has (plain e i) q) (eqb-true a k h.0) x) | inr x ↦ inr x ]))))
+        (λ q c. elim (means.1 q c) [ inl x ↦ inl (subst (λ i. Has (plain e i) q) (eqb-true a k h.0) x) | inr x ↦ inr x ]))))
     kept_delivered n e w v m k (Whole s) kept means is =
         subst (Kept (Deliver m k ∷ e)) (Ok-same _ _ is)
-            (kept_adds (Deliver m k) e w kept k s refl (taken_at e w kept k s (carried e m) (ap (set.union (plain e k)) means)))
+        (kept_adds (Deliver m k) e w kept k s refl (taken_at e w kept k s (carried e m) (ap (set.union (plain e k)) means)))
 
     kept_answered : (n : ℕ) (e : List Turn) (w v : World) (j m : ℕ) (x : Message) → LearnsGrounded e → NoCollision digest (learnt e) → Kept e w
         → Means e m x → answered digest log sites n w j x ≡ Ok v → Kept (Answer j m ∷ e) v
@@ -229,7 +230,7 @@ module _ (digest : Texts → Text) where
     kept_turn n (Learn j d) e w v g apart kept is =
         let h = cond_ok (is_of_log log d.log) _ _ v (cond_ok (nat_lt j sites) _ _ v is).1 in
         subst (Kept (Learn j d ∷ e)) (Ok-same _ _ h.1)
-            (kept_adds (Learn j d) e w kept j (document_atoms d) refl (taken_at e w kept j (document_atoms d) (document_atoms d) refl))
+        (kept_adds (Learn j d) e w kept j (document_atoms d) refl (taken_at e w kept j (document_atoms d) (document_atoms d) refl))
     kept_turn n (Ask j) e w v g apart kept is =
         subst (Kept (Ask j ∷ e)) (Ok-same _ _ (cond_ok (nat_lt j sites) _ _ v is).1) (kept_makes (Ask j) e w kept _ refl (λ i. refl)
         (this (made_by e) _ _, (plain e j, ap (digests_of digest) (kept.sites_are j), laws.IsWithin-refl _)))
@@ -239,7 +240,7 @@ module _ (digest : Texts → Text) where
         kept_answered n e w v j m (w.messages m) g apart kept (kept.mean m r.0 r.1) h.1
     kept_turn n (Send j) e w v g apart kept is =
         subst (Kept (Send j ∷ e)) (Ok-same _ _ (cond_ok (nat_lt j sites) _ _ v is).1)
-            (kept_makes (Send j) e w kept _ refl (λ i. refl) (kept.sites_are j ∙ sym (this (made_by e) _ _)))
+        (kept_makes (Send j) e w kept _ refl (λ i. refl) (kept.sites_are j ∙ sym (this (made_by e) _ _)))
     kept_turn n (Deliver m j) e w v g apart kept is =
         let h = cond_ok (is_message w m) _ _ v (cond_ok (nat_lt j sites) _ _ v is).1 in
         let r = is_message_at w m h.0 in
@@ -298,7 +299,7 @@ module _ (digest : Texts → Text) where
         by : (j : ℕ) (b : Bool) → nat_eq k j ≡ b → IsWithin (cond b (set.union (w.sites k) s) (w.sites j)) (plain (t ∷ e) j)
         by j true same =
             subst (λ i. IsWithin (set.union (w.sites k) s) (plain (t ∷ e) i)) (eqb-true k j same)
-                (laws.IsWithin-union texts_total (w.sites k) s _ (within_plain k) f)
+            (laws.IsWithin-union texts_total (w.sites k) s _ (within_plain k) f)
         by j false differs = within_plain j
 
     at_most_at : (x : Message) (m : ℕ) (b : Bool) → nat_eq (suc w.made) m ≡ b → MeansAtMost (t ∷ e) (suc (made_by e)) x → 0 < m → m ≤ suc w.made
@@ -317,7 +318,7 @@ module _ (digest : Texts → Text) where
     delivered_adds : (e : List Turn) (m k : ℕ) (s : Contents) → IsWithin s (carried e m) → IsWithin s (plain (Deliver m k ∷ e) k)
     delivered_adds e m k s f =
         subst (λ b. IsWithin s (cond b (set.union (plain e k) (carried e m)) (plain e k))) (sym (eq-eqb k k refl))
-            (λ q h. members.in_union_right texts_total texts_same (plain e k) (carried e m) q (f q h))
+        (λ q h. members.in_union_right texts_total texts_same (plain e k) (carried e m) q (f q h))
 
     within_delivered : (n : ℕ) (e : List Turn) (w v : World) (m k : ℕ) (x : Message) → KeptWithin e w → MeansAtMost e m x → delivered n w k x ≡ Ok v
         → KeptWithin (Deliver m k ∷ e) v
@@ -334,7 +335,7 @@ module _ (digest : Texts → Text) where
         subst (KeptWithin (Answer j m ∷ e)) (Ok-same _ _ is) (within_makes (Answer j m) e w kept _ refl (
         subst (λ c. IsWithin (missing_by digest (w.sites j) d) c) (sym (this (made_by e) (plain e j) _))
         (with_carriers_least (unknown digest (w.sites j) d) (plain e j)
-            (plain_grounded e g j, λ q h. kept.sites_within j q (unknown_has digest (w.sites j) d q h)))))
+        (plain_grounded e g j, λ q h. kept.sites_within j q (unknown_has digest (w.sites j) d q h)))))
     within_answered n e w v j m (PartFor a p) g kept is = cc
     within_answered n e w v j m (Whole s) g kept is = cc
 
@@ -344,7 +345,7 @@ module _ (digest : Texts → Text) where
         let h = cond_ok (is_of_log log d.log) _ _ v (cond_ok (nat_lt j sites) _ _ v is).1 in
         subst (KeptWithin (Learn j d ∷ e)) (Ok-same _ _ h.1) (within_adds (Learn j d) e w kept j (document_atoms d) refl
         (subst (λ b. IsWithin (document_atoms d) (cond b (set.union (plain e j) (document_atoms d)) (plain e j))) (sym (eq-eqb j j refl))
-            (laws.IsWithin-right texts_total (plain e j) (document_atoms d))))
+        (laws.IsWithin-right texts_total (plain e j) (document_atoms d))))
     within_turn n (Ask j) e w v g kept is =
         subst (KeptWithin (Ask j ∷ e)) (Ok-same _ _ (cond_ok (nat_lt j sites) _ _ v is).1) (within_makes (Ask j) e w kept _ refl tt)
     within_turn n (Answer j m) e w v g kept is =

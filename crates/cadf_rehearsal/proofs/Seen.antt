@@ -4,8 +4,7 @@ use Rattle.std.proofs.Common.{arith, lt-ltb, le-leb, eq-eqb, eqb-true, ne_eqb, s
 use Rattle.std.specs.Cmp.{both_ways}
 use Rattle.std.specs.Prelude.{Result, Ok, Err, nat_eq}
 use Rattle.cadf_join.specs.Sets as sets
-use Rattle.cadf_join.specs.Contents.{Text, Texts, Contents}
-use Rattle.cadf_rehearsal.specs.declared.fault.RehearseFault.{RehearseFault}
+use Rattle.cadf_join.specs.Contents.{Text, Contents}
 use Rattle.cadf_rehearsal.specs.Schedule.{World, Message, with_at, adds, makes, is_message}
 use Rattle.cadf_replica.specs.Replica.{Held}
 use Rattle.std.proofs.lemmas.List.{same_lists}
@@ -66,9 +65,9 @@ module _ {S M : Type 0} (contents : S → Contents) (message : M → Message) (d
       → contents new ≡ sets.union (contents old) s → adds (seen xs ms) k s ≡ seen (set xs k new) ms
   seen_adds xs ms k old new s h at is =
       let taken : sets.union (at_or sets.empty (map contents xs) k) s ≡ contents new =
-          ap (λ c. sets.union c s) (at_or_read contents sets.empty xs k old h at) ∙ sym is in
+      ap (λ c. sets.union c s) (at_or_read contents sets.empty xs k old h at) ∙ sym is in
       let each : (j : ℕ) → with_at (at_or sets.empty (map contents xs)) k (sets.union (at_or sets.empty (map contents xs) k) s) j
-          ≡ at_or sets.empty (map contents (set xs k new)) j =
+      ≡ at_or sets.empty (map contents (set xs k new)) j =
       λ j. ap (λ c. with_at (at_or sets.empty (map contents xs)) k c j) taken ∙ at_or_set contents sets.empty xs k new h j in
       λ i. record { sites = λ j. each j i; made = length ms; messages = at_number d (map message ms) }
 
@@ -122,6 +121,7 @@ left_is log xs w count len logs sites = same_lists xs (left_by log count w) (len
   where
     site : ℕ → Held
     site j = record { log = log; atoms = w.sites j }
+
     each : (k : ℕ) (d : Held) → k < length xs → get_or xs k d ≡ get_or (left_by log count w) k d
     each k d h =
         let in_range : k < count = omega arith in

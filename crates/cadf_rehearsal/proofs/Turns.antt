@@ -1,7 +1,7 @@
 -- What one turn leaves of a federation: a site that takes something, a message that is kept.
-use Rattle.std.proofs.Common.{◌≡◌, ◌≢◌, ℕ, zero, suc, replicate, ◌-◌, ◌<◌, ◌≤◌, Bool, true, false, cond, length, map, get_or, set, ◌++◌, ◌∷◌, [], List}
-use Rattle.std.proofs.Common.{refl, sym, ap, subst, ◌∙◌, lt-ltb, le-leb}
-use Rattle.std.specs.Prelude.{Result, Ok, Err, Option, Some, None, nat_eq, nat_lt}
+use Rattle.std.proofs.Common.{◌≡◌, ℕ, zero, suc, replicate, ◌-◌, ◌<◌, ◌≤◌, Bool, true, false, cond, length, map, get_or, ◌++◌, ◌∷◌, [], List}
+use Rattle.std.proofs.Common.{refl, sym, ap, ◌∙◌, lt-ltb}
+use Rattle.std.specs.Prelude.{Result, Err, Option, Some, None, nat_lt}
 use Rattle.std.specs.Vec.{with_item}
 use Rattle.std.proofs.lemmas.List.{length-set}
 use Rattle.cadf_join.specs.Sets as sets
@@ -109,7 +109,7 @@ fresh log n = replicate n (record { log = log; atoms = sets.empty })
 
 pub starts : (log : Text) (n : ℕ) (xs : List Held) (ms : List Message) → xs ≡ fresh log n → ms ≡ []
     → ◌≡◌ {A = schedule.World}
-        (record { sites = at_or sets.empty (map held_at xs); made = length ms; messages = at_number none (map message_of ms) }) schedule.start
+    (record { sites = at_or sets.empty (map held_at xs); made = length ms; messages = at_number none (map message_of ms) }) schedule.start
 starts log n xs ms sites messages =
     (λ i. record { sites = at_or sets.empty (map held_at (sites i)); made = length (messages i); messages = at_number none (map message_of (messages i)) })
     ∙ (λ i. record { sites = λ j. all_empty log n j i; made = 0; messages = λ m. no_message m i })

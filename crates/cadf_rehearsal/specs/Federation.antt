@@ -9,7 +9,6 @@ use Rattle.std.specs.List.{range_with_len}
 use Rattle.cadf_join.specs.Sets as set
 use Rattle.cadf_join.specs.Contents.{Text, Contents}
 use Rattle.cadf_replica.specs.Replica.{Held}
-use Rattle.cadf_replica.specs.Inventory.{Noted}
 use Rattle.cadf_replica.specs.Digest.{atom_digest}
 use Rattle.cadf_rehearsal.specs.Schedule as schedule
 use Rattle.cadf_rehearsal.specs.declared.turn.Turn.{Turn}

@@ -66,7 +66,12 @@ impl Federation {
     }
 
     /// The site learns a document.
-    fn learn(&mut self, number: usize, site: usize, document: &Document) -> Result<(), RehearseFault>
+    fn learn(
+        &mut self,
+        number: usize,
+        site: usize,
+        document: &Document,
+    ) -> Result<(), RehearseFault>
         requires { IsOneLog self.old }
         ensures ok { OnOk result (turned_from self.old number (turn.Learn site document.now) ≡ Ok (world_of self.new)) }
         ensures later { OnOk result (IsLater self.old self.new) }

@@ -17,7 +17,12 @@ use std::alloc::Global;
 ///
 /// A part is made when its turn comes, against the inventory that it answers. A delivery whose join is
 /// refused for memory is tried once more.
-pub fn rehearse(alloc: Global, log: &Name, sites: usize, turns: &[Turn]) -> Result<Vec<Replica>, RehearseFault>
+pub fn rehearse(
+    alloc: Global,
+    log: &Name,
+    sites: usize,
+    turns: &[Turn],
+) -> Result<Vec<Replica>, RehearseFault>
     ensures ok { IfOk result (λ left. (world : World)
         × (after atom_digest log.now sites (reverse turns.now) ≡ Ok world) × (left.items ≡ left_by log.now sites world)) }
     ensures err { IfErr result (λ fault. IsDue fault (after atom_digest log.now sites (reverse turns.now))) }

@@ -1,5 +1,4 @@
-use Rattle.std.proofs.Common.{◌≡◌, ℕ, ◌+◌, ◌<◌, ◌≤◌, length, Ok, Err, ap, sym, ◌∙◌, reverse, map, refl, subst, inl, inr, arith}
-use Rattle.std.specs.Prelude.{IfErr}
+use Rattle.std.proofs.Common.{◌≡◌, ℕ, ◌+◌, ◌<◌, ◌≤◌, length, ap, sym, ◌∙◌, reverse, map, refl, inl, inr, arith}
 use Rattle.std.proofs.lemmas.Result.{err_from_is_err_and}
 use Rattle.std.proofs.lemmas.List.{take_all}
 use Rattle.cadf_replica.specs.Digest.{atom_digest}
@@ -45,10 +44,11 @@ pub returns-clause-ok : goal.returns-clause-ok
 returns-clause-ok c =
     let f = c.loop-i.federation in
     let kept = c.loop-i.invariant in
-    let all : length c.args.turns.now ≤ c.loop-i.i = omega arith in
-    (world_of f,
+    let all : length c.args.turns.now ≤ c.loop-i.i = omega arith in (
+      world_of f,
       ap (λ ts. after atom_digest c.args.log.now c.args.sites (reverse ts)) (sym (take_all c.loop-i.i c.args.turns.now all)) ∙ kept.so_far,
-      left_is c.args.log.now f.sites.items (world_of f) c.args.sites kept.count named (λ j. refl))
+      left_is c.args.log.now f.sites.items (world_of f) c.args.sites kept.count named (λ j. refl),
+    )
   where
     named : (j : ℕ) → at_or c.args.log.now (map log_at c.loop-i.federation.sites.items) j ≡ c.args.log.now
     named j =

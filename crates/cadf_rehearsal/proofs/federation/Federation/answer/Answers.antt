@@ -1,14 +1,12 @@
-use Rattle.std.proofs.Common.{◌≡◌, ◌<◌, ◌≤◌, length, Ok, Err, ap, sym, subst, ◌∙◌, refl, cond, eq-eqb, ne_eqb, inl, inr, arith}
+use Rattle.std.proofs.Common.{◌<◌, ◌≤◌, length, Ok, ap, sym, ◌∙◌, inr, arith}
 use Rattle.cadf_join.specs.Sets as set
-use Rattle.cadf_replica.specs.Missing.{digests_of, missing_by}
+use Rattle.cadf_replica.specs.Missing.{missing_by}
 use Rattle.cadf_replica.specs.Digest.{atom_digest}
 use Rattle.cadf_rehearsal.specs.Schedule as schedule
 use Rattle.cadf_rehearsal.specs.Federation.{world_of}
-use Rattle.cadf_rehearsal.specs.declared.fault.RehearseFault.TheVariants as fault
-use Rattle.cadf_rehearsal.proofs.Turns.{at_site, at_message, site_log, message_log, site_takes, site_later, kept_later, of_log, of_other_log}
+use Rattle.cadf_rehearsal.proofs.Turns.{at_site, at_message, site_log, kept_later}
 use Rattle.cadf_rehearsal.proofs.Seen.{at_or_read, seen_posted}
-use Rattle.cadf_rehearsal.specs.declared.federation.Message.{Message}
-use Rattle.cadf_rehearsal.specs.Federation.{message_of, log_of}
+use Rattle.cadf_rehearsal.specs.Federation.{message_of}
 use Rattle.cadf_rehearsal.proofs.Turns.{not_answered}
 use Rattle.cadf_rehearsal.proofs.federation.Federation.answer.Goals as goal
 
@@ -49,4 +47,4 @@ returns-clause-later c =
     let there : c.args.site < length f.sites.items = omega arith in
     let same = site_log f c.args.site c.index-in-Asked.result.now c.requires there c.index-in-Asked.ensures in
     kept_later f c.post.new.self _ c.requires c.post.ensures.rest.1 c.post.ensures.rest.0 c.in_ok-post.ensures.ok
-        (ap (λ h. h.log) c.in-Ok.ensures.ok.1 ∙ same)
+    (ap (λ h. h.log) c.in-Ok.ensures.ok.1 ∙ same)

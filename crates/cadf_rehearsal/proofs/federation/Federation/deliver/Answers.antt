@@ -1,12 +1,8 @@
-use Rattle.std.proofs.Common.{◌≡◌, ◌<◌, ◌≤◌, length, Ok, Err, ap, sym, subst, ◌∙◌, refl, cond, eq-eqb, ne_eqb, inl, inr, arith}
-use Rattle.cadf_join.specs.Sets as set
-use Rattle.cadf_replica.specs.Missing.{digests_of, missing_by}
-use Rattle.cadf_replica.specs.Digest.{atom_digest}
+use Rattle.std.proofs.Common.{◌≡◌, ◌<◌, ◌≤◌, length, Ok, Err, ap, sym, ◌∙◌, cond, eq-eqb, ne_eqb, inr, arith}
 use Rattle.cadf_rehearsal.specs.Schedule as schedule
 use Rattle.cadf_rehearsal.specs.Federation.{world_of}
 use Rattle.cadf_rehearsal.specs.declared.fault.RehearseFault.TheVariants as fault
-use Rattle.cadf_rehearsal.proofs.Turns.{at_site, at_message, site_log, message_log, site_takes, site_later, kept_later, of_log, of_other_log}
-use Rattle.cadf_rehearsal.proofs.Seen.{at_or_read, seen_posted}
+use Rattle.cadf_rehearsal.proofs.Turns.{at_site, at_message, site_log, message_log, site_takes, site_later}
 use Rattle.cadf_rehearsal.specs.Federation.{message_of, log_of}
 use Rattle.cadf_rehearsal.proofs.federation.Federation.deliver.Goals as goal
 
@@ -21,7 +17,7 @@ returns-then-asker-site-clause-err c =
     inr (at_site f c.args.site c.args.number _ _ there (at_message f c.args.message c.args.number x deliver _ pos le c.index.ensures
     (ap (λ m. deliver (message_of m)) c.in-PartFor.is
     ∙ ap (λ b. cond b (Ok (schedule.adds (world_of f) c.args.site c.in-PartFor.part.atoms)) (Err (fault.WrongAddressee c.args.number)))
-        (ne_eqb c.in-PartFor.asker c.args.site c.if-asker-site.true))))
+    (ne_eqb c.in-PartFor.asker c.args.site c.if-asker-site.true))))
 
 pub joined-requires : goal.joined-requires
 joined-requires c =
@@ -89,7 +85,7 @@ returns-in_ok-joined-in-Whole-clause-ok c =
     at_site f c.args.site c.args.number _ _ there (at_message f c.args.message c.args.number x deliver _ pos le c.index.ensures
     (ap (λ m. deliver (message_of m)) c.in-Whole.is
     ∙ ap Ok (site_takes f c.args.site c.index_mut-in-Whole.result.now c.joined-in-Whole.new.site _ there c.index_mut-in-Whole.ensures.value
-        c.in_ok-joined-in-Whole.ensures.ok)))
+    c.in_ok-joined-in-Whole.ensures.ok)))
 
 pub returns-in_ok-joined-in-Whole-clause-later : goal.returns-in_ok-joined-in-Whole-clause-later
 returns-in_ok-joined-in-Whole-clause-later c =

@@ -1,8 +1,4 @@
-use Rattle.std.proofs.Common.{◌≡◌, ap, sym, ◌∙◌, map}
-use Rattle.cadf_join.specs.Sets as set
-use Rattle.cadf_rehearsal.specs.Schedule as schedule
-use Rattle.cadf_rehearsal.specs.Federation.{at_or, at_number, held_at, log_at}
-use Rattle.cadf_rehearsal.proofs.Turns.{all_empty, all_named, starts, begins}
+use Rattle.cadf_rehearsal.proofs.Turns.{starts, begins}
 use Rattle.cadf_rehearsal.proofs.federation.Federation.new.Goals as goal
 
 pub returns-clause-start : goal.returns-clause-start
