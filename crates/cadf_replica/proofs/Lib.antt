@@ -20,7 +20,6 @@ pub mod PathKinds
 pub mod Puts
 pub mod Retry
 pub mod RuleLaws
-pub mod Schedule
 pub mod Shown
 pub mod Slices
 pub mod Tails

@@ -16,7 +16,6 @@ pub mod PathKind
 pub mod Refusals
 pub mod Replica
 pub mod Retry
-pub mod Schedule
 pub mod Seek
 pub mod Shown
 pub mod Tails

@@ -19,5 +19,5 @@ mod unnoted;
 
 pub use atom::{Atom, AtomFault};
 pub use inventory::Inventory;
-pub use name::log_name;
+pub use name::{copied, log_name};
 pub use replica::{Replica, ReplicaFault};

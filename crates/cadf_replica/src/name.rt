@@ -29,7 +29,7 @@ pub fn log_name(alloc: Global, text: &str) -> Result<Option<Name>, Memory>
 }
 
 /// The same name again.
-pub(crate) fn copied(alloc: Global, name: &Name) -> Result<Name, Memory>
+pub fn copied(alloc: Global, name: &Name) -> Result<Name, Memory>
     ensures { IfOk result (λ n. n ≡ name.now) }
 {
     match Name::read(alloc, name.as_str()) {

@@ -1,0 +1,4 @@
+pub mod Schedule
+pub mod Seen
+pub mod Played
+pub mod Turns

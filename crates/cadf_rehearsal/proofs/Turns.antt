@@ -1,0 +1,137 @@
+-- What one turn leaves of a federation: a site that takes something, a message that is kept.
+use Rattle.std.proofs.Common.{◌≡◌, ℕ, zero, suc, replicate, ◌-◌, ◌<◌, ◌≤◌, Bool, true, false, cond, length, map, get_or, ◌++◌, ◌∷◌, [], List}
+use Rattle.std.proofs.Common.{refl, sym, ap, ◌∙◌, lt-ltb}
+use Rattle.std.specs.Prelude.{Result, Err, Option, Some, None, nat_lt}
+use Rattle.std.specs.Vec.{with_item}
+use Rattle.std.proofs.lemmas.List.{length-set}
+use Rattle.cadf_join.specs.Sets as sets
+use Rattle.cadf_join.specs.Contents.{Text, Contents}
+use Rattle.cadf_replica.specs.Replica.{Held}
+use Rattle.cadf_replica.specs.Refusals.{IsOfLog}
+use Rattle.std.specs.Cmp.Lexicographic.{bytes_decides}
+use Rattle.cadf_rehearsal.specs.Schedule as schedule
+use Rattle.cadf_rehearsal.specs.Federation.{at_or, at_number, held_at, log_at, message_of, log_of, world_of, IsOneLog, IsLater}
+use Rattle.cadf_rehearsal.specs.declared.federation.Federation.{Federation}
+use Rattle.cadf_rehearsal.specs.declared.federation.Message.{Message}
+use Rattle.cadf_rehearsal.specs.declared.fault.RehearseFault.{RehearseFault}
+use Rattle.cadf_rehearsal.specs.declared.federation.Message.TheVariants.{Asked, PartFor, Whole}
+use Rattle.cadf_replica.specs.Digest.{atom_digest}
+use Rattle.cadf_replica.specs.Inventory.{Noted}
+use Rattle.cadf_rehearsal.specs.declared.fault.RehearseFault.TheVariants.{NoSite, NoMessage, NotInventory}
+use Rattle.cadf_rehearsal.proofs.Seen.{seen_adds, at_or_read, at_number_read, all_set, all_push, made_is}
+
+abbrev pub none : schedule.Message
+none = schedule.Whole sets.empty
+
+-- the federation with what one of its sites has now
+abbrev pub with_site : Federation → ℕ → Held → Federation
+with_site f k h = record { log = f.log; sites = with_item f.sites k h; messages = f.messages }
+
+-- ---- the site and the message of a turn
+
+pub at_site : (f : Federation) (j turn : ℕ) (r v : Result schedule.World RehearseFault) → j < length f.sites.items → r ≡ v
+    → cond (nat_lt j (length f.sites.items)) r (Err (NoSite turn)) ≡ v
+at_site f j turn r v there is = ap (λ t. cond t r (Err (NoSite turn))) (lt-ltb j (length f.sites.items) there) ∙ is
+
+pub at_message : (f : Federation) (m turn : ℕ) (x : Message) (F : schedule.Message → Result schedule.World RehearseFault)
+    (v : Result schedule.World RehearseFault) → 0 < m → m ≤ length f.messages.items
+    → x ≡ get_or f.messages.items (m - 1) x → F (message_of x) ≡ v
+    → cond (schedule.is_message (world_of f) m) (F ((world_of f).messages m)) (Err (NoMessage turn)) ≡ v
+at_message f m turn x F v pos le at is =
+    ap (λ t. cond t (F ((world_of f).messages m)) (Err (NoMessage turn))) (made_is held_at message_of none f.messages.items m pos le f.sites.items)
+    ∙ ap F (at_number_read message_of none f.messages.items m x pos le at)
+    ∙ is
+
+-- ---- one log
+
+pub site_log : (f : Federation) (k : ℕ) (x : Held) → IsOneLog f → k < length f.sites.items → x ≡ get_or f.sites.items k x → x.log ≡ f.log
+site_log f k x one h at = sym (at_or_read log_at f.log f.sites.items k x h at) ∙ one.sites k
+
+pub message_log : (f : Federation) (m : ℕ) (x : Message) → IsOneLog f → 0 < m → m ≤ length f.messages.items
+    → x ≡ get_or f.messages.items (m - 1) x → log_of x ≡ f.log
+message_log f m x one pos le at = sym (at_number_read log_of f.log f.messages.items m x pos le at) ∙ one.messages m
+
+-- ---- a site takes what s is
+
+pub site_takes : (f : Federation) (k : ℕ) (old new : Held) (s : Contents) → k < length f.sites.items → old ≡ get_or f.sites.items k old
+    → new.atoms ≡ sets.union old.atoms s → schedule.adds (world_of f) k s ≡ world_of (with_site f k new)
+site_takes f k old new s h at is = seen_adds held_at message_of none f.sites.items f.messages.items k old new s h at is
+
+pub site_later : (f : Federation) (k : ℕ) (new : Held) → IsOneLog f → k < length f.sites.items → new.log ≡ f.log → IsLater f (with_site f k new)
+site_later f k new one h same = record {
+  log = refl;
+  count = length-set f.sites.items k new;
+  one_log = record { sites = all_set log_at f.log f.sites.items k new h one.sites same; messages = one.messages };
+}
+
+-- ---- a message is kept
+
+pub kept_later : (f g : Federation) (m : Message) → IsOneLog f → g.log ≡ f.log → g.sites ≡ f.sites
+    → g.messages.items ≡ f.messages.items ++ m ∷ [] → log_of m ≡ f.log → IsLater f g
+kept_later f g m one log sites messages same = record {
+  log = log;
+  count = ap (λ v. length v.items) sites;
+  one_log = record {
+    sites = λ j. (λ i. at_or (log i) (map log_at (sites i).items) j) ∙ one.sites j ∙ sym log;
+    messages = λ k. (λ i. at_number (log i) (map log_of (messages i)) k) ∙ all_push log_of f.log f.messages.items m one.messages same k ∙ sym log;
+  };
+}
+
+-- ---- the log that a document names
+
+pub of_log : (log : Text) (named : Option Text) → IsOfLog log named → schedule.is_of_log log named ≡ true
+of_log log None is = refl
+of_log log (Some n) is = (bytes_decides n log).1 (sym is)
+
+pub of_other_log : (log : Text) (named : Option Text) → ¬ IsOfLog log named → schedule.is_of_log log named ≡ false
+of_other_log log None other = absurd (other tt)
+of_other_log log (Some n) other = by (schedule.is_of_log log (Some n)) refl
+  where
+    by : (b : Bool) → schedule.is_of_log log (Some n) ≡ b → b ≡ false
+    by true same = absurd (other (sym ((bytes_decides n log).0 same)))
+    by false same = refl
+
+-- ---- sites that hold nothing yet
+
+pub all_empty : (log : Text) (n j : ℕ) → at_or sets.empty (map held_at (replicate n (record { log = log; atoms = sets.empty }))) j ≡ sets.empty
+all_empty log zero j = refl
+all_empty log (suc n) zero = refl
+all_empty log (suc n) (suc j) = all_empty log n j
+
+pub all_named : (log : Text) (n j : ℕ) → at_or log (map log_at (replicate n (record { log = log; atoms = sets.empty }))) j ≡ log
+all_named log zero j = refl
+all_named log (suc n) zero = refl
+all_named log (suc n) (suc j) = all_named log n j
+
+-- a federation whose sites are such, and which has no message
+abbrev pub fresh : Text → ℕ → List Held
+fresh log n = replicate n (record { log = log; atoms = sets.empty })
+
+pub starts : (log : Text) (n : ℕ) (xs : List Held) (ms : List Message) → xs ≡ fresh log n → ms ≡ []
+    → ◌≡◌ {A = schedule.World}
+    (record { sites = at_or sets.empty (map held_at xs); made = length ms; messages = at_number none (map message_of ms) }) schedule.start
+starts log n xs ms sites messages =
+    (λ i. record { sites = at_or sets.empty (map held_at (sites i)); made = length (messages i); messages = at_number none (map message_of (messages i)) })
+    ∙ (λ i. record { sites = λ j. all_empty log n j i; made = 0; messages = λ m. no_message m i })
+  where
+    no_message : (m : ℕ) → at_number none [] m ≡ none
+    no_message zero = refl
+    no_message (suc m) = refl
+
+pub begins : (log : Text) (n : ℕ) (f : Federation) → f.sites.items ≡ fresh log n → f.log ≡ log → f.messages.items ≡ [] → IsOneLog f
+begins log n f sites named messages = record {
+  sites = λ j. (λ i. at_or (named i) (map log_at (sites i)) j) ∙ all_named log n j ∙ sym named;
+  messages = λ m. (λ i. at_number f.log (map log_of (messages i)) m) ∙ no_message m;
+}
+  where
+    no_message : (m : ℕ) → at_number f.log [] m ≡ f.log
+    no_message zero = refl
+    no_message (suc m) = refl
+
+-- ---- an answer to what is no inventory
+
+pub not_answered : (f : Federation) (turn j : ℕ) (x : Message) → ((a : ℕ) (i : Noted) → x ≡ Asked a i → ⊥)
+    → schedule.answered atom_digest f.log (length f.sites.items) turn (world_of f) j (message_of x) ≡ Err (NotInventory turn)
+not_answered f turn j (Asked a i) other = absurd (other a i refl)
+not_answered f turn j (PartFor a h) other = refl
+not_answered f turn j (Whole h) other = refl

@@ -1,0 +1,50 @@
+use Rattle.std.proofs.Common.{◌<◌, ◌≤◌, length, Ok, ap, sym, ◌∙◌, inr, arith}
+use Rattle.cadf_join.specs.Sets as set
+use Rattle.cadf_replica.specs.Missing.{missing_by}
+use Rattle.cadf_replica.specs.Digest.{atom_digest}
+use Rattle.cadf_rehearsal.specs.Schedule as schedule
+use Rattle.cadf_rehearsal.specs.Federation.{world_of}
+use Rattle.cadf_rehearsal.proofs.Turns.{at_site, at_message, site_log, kept_later}
+use Rattle.cadf_rehearsal.proofs.Seen.{at_or_read, seen_posted}
+use Rattle.cadf_rehearsal.specs.Federation.{message_of}
+use Rattle.cadf_rehearsal.proofs.Turns.{not_answered}
+use Rattle.cadf_rehearsal.proofs.federation.Federation.answer.Goals as goal
+
+pub returns-in_default : goal.returns-in_default
+returns-in_default c =
+    let f = c.args.self.now in
+    let there : c.args.site < length f.sites.items = omega arith in
+    let pos : 0 < c.args.message = omega arith in
+    let le : c.args.message ≤ length f.messages.items = omega arith in
+    let x = c.index.result.now in
+    let answer = schedule.answered atom_digest f.log (length f.sites.items) c.args.number (world_of f) c.args.site in
+    record {
+      ok = tt;
+      later = tt;
+      err = inr (at_site f c.args.site c.args.number _ _ there (at_message f c.args.message c.args.number x answer _ pos le c.index.ensures
+          (not_answered f c.args.number c.args.site x c.in_default.not-Asked)));
+    }
+
+pub returns-clause-ok : goal.returns-clause-ok
+returns-clause-ok c =
+    let f = c.args.self.now in
+    let there : c.args.site < length f.sites.items = omega arith in
+    let pos : 0 < c.args.message = omega arith in
+    let le : c.args.message ≤ length f.messages.items = omega arith in
+    let x = c.index.result.now in
+    let answer = schedule.answered atom_digest f.log (length f.sites.items) c.args.number (world_of f) c.args.site in
+    let own = at_or_read _ set.empty f.sites.items c.args.site c.index-in-Asked.result.now there c.index-in-Asked.ensures in
+    at_site f c.args.site c.args.number _ _ there (at_message f c.args.message c.args.number x answer _ pos le c.index.ensures
+    (ap (λ m. answer (message_of m)) c.in-Asked.is
+    ∙ ap Ok (
+    ap (λ s. schedule.makes (world_of f) (schedule.PartFor c.in-Asked.asker (missing_by atom_digest s c.in-Asked.held.digests))) own
+    ∙ ap (λ s. schedule.makes (world_of f) (schedule.PartFor c.in-Asked.asker s)) (sym (ap (λ h. h.atoms) c.in-Ok.ensures.ok.1))
+    ∙ seen_posted _ _ _ f.sites.items _ f.messages.items _ _ (ap (λ v. v.items) c.post.ensures.rest.0) c.in_ok-post.ensures.ok)))
+
+pub returns-clause-later : goal.returns-clause-later
+returns-clause-later c =
+    let f = c.args.self.now in
+    let there : c.args.site < length f.sites.items = omega arith in
+    let same = site_log f c.args.site c.index-in-Asked.result.now c.requires there c.index-in-Asked.ensures in
+    kept_later f c.post.new.self _ c.requires c.post.ensures.rest.1 c.post.ensures.rest.0 c.in_ok-post.ensures.ok
+    (ap (λ h. h.log) c.in-Ok.ensures.ok.1 ∙ same)

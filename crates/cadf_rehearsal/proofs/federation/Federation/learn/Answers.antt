@@ -1,0 +1,38 @@
+use Rattle.std.proofs.Common.{◌<◌, length, Ok, Err, ap, subst, ◌∙◌, cond, inr, arith}
+use Rattle.cadf_rehearsal.specs.Schedule as schedule
+use Rattle.cadf_rehearsal.specs.Federation.{world_of}
+use Rattle.cadf_rehearsal.specs.declared.fault.RehearseFault.TheVariants as fault
+use Rattle.cadf_rehearsal.proofs.Turns.{at_site, site_log, site_takes, site_later, of_log, of_other_log}
+use Rattle.cadf_replica.specs.Refusals.{IsOfLog, IsDocumentFault}
+use Rattle.cadf_replica.specs.Contributions.{document_atoms}
+use Rattle.cadf_rehearsal.proofs.federation.Federation.learn.Goals as goal
+
+pub returns-in-Ok-clause-ok : goal.returns-in-Ok-clause-ok
+returns-in-Ok-clause-ok c =
+    let f = c.args.self.now in
+    let there : c.args.site < length f.sites.items = omega arith in
+    let site = c.index_mut.result.now in
+    let same = site_log f c.args.site site c.requires there c.index_mut.ensures.value in
+    let named = subst (λ log. IsOfLog log c.args.document.now.log) same c.in-Ok.ensures.ok.0 in
+    at_site f c.args.site c.args.number _ _ there
+    (ap (λ t. cond t (Ok (schedule.adds (world_of f) c.args.site (document_atoms c.args.document.now))) (Err (fault.OtherLog c.args.number)))
+    (of_log f.log c.args.document.now.log named)
+    ∙ ap Ok (site_takes f c.args.site site c.take_document.new.self _ there c.index_mut.ensures.value c.in-Ok.ensures.ok.1))
+
+pub returns-in-Ok-clause-later : goal.returns-in-Ok-clause-later
+returns-in-Ok-clause-later c =
+    let f = c.args.self.now in
+    let there : c.args.site < length f.sites.items = omega arith in
+    let same = site_log f c.args.site c.index_mut.result.now c.requires there c.index_mut.ensures.value in
+    site_later f c.args.site c.take_document.new.self c.requires there (c.take_document.ensures.log ∙ same)
+
+pub returns-in-Err-OtherLog-clause-err : goal.returns-in-Err-OtherLog-clause-err
+returns-in-Err-OtherLog-clause-err c =
+    let f = c.args.self.now in
+    let there : c.args.site < length f.sites.items = omega arith in
+    let same = site_log f c.args.site c.index_mut.result.now c.requires there c.index_mut.ensures.value in
+    let other = subst (λ log. ¬ IsOfLog log c.args.document.now.log) same
+    (subst (IsDocumentFault c.index_mut.result.now.log c.args.document.now.log) c.in-Err-OtherLog.field-0-is c.in-Err-OtherLog.ensures.err) in
+    inr (at_site f c.args.site c.args.number _ _ there
+    (ap (λ t. cond t (Ok (schedule.adds (world_of f) c.args.site (document_atoms c.args.document.now))) (Err (fault.OtherLog c.args.number)))
+    (of_other_log f.log c.args.document.now.log other)))

@@ -1,0 +1,13 @@
+use Rattle.std.proofs.Common.{◌≡◌, length, reverse, take, Ok}
+use Rattle.cadf_replica.specs.Digest.{atom_digest}
+use Rattle.cadf_rehearsal.specs.Schedule.{after}
+use Rattle.cadf_rehearsal.specs.Federation.{world_of, IsOneLog}
+use Rattle.cadf_rehearsal.proofs.play.rehearse.Given as goal
+
+abbrev pub invariant-loop-i : goal.invariant-loop-i
+invariant-loop-i l = record {
+  log : l.federation.log ≡ l.log;
+  count : length l.federation.sites.items ≡ l.sites;
+  one_log : IsOneLog l.federation;
+  so_far : after atom_digest l.log l.sites (reverse (take l.i l.turns)) ≡ Ok (world_of l.federation);
+}

@@ -1,0 +1,72 @@
+-- A federation as it is kept, seen as the world of its schedule.
+--     world_of f             where its sites stand, and its messages
+--     IsOneLog f             each site and each message is of the federation's log
+--     turned_from f n t      what the turn t of number n leaves of it, or why it can't be taken
+--     IsDue fault r          the fault is r's, or memory was refused
+--     left_by log count w    the replicas that the world leaves at the sites 0 to count - 1
+use Rattle.std.specs.Prelude.{◌≡◌, ℕ, zero, suc, ◌∷◌, List, [], map, length, Result, Err, ◌⊎◌}
+use Rattle.std.specs.List.{range_with_len}
+use Rattle.cadf_join.specs.Sets as set
+use Rattle.cadf_join.specs.Contents.{Text, Contents}
+use Rattle.cadf_replica.specs.Replica.{Held}
+use Rattle.cadf_replica.specs.Digest.{atom_digest}
+use Rattle.cadf_rehearsal.specs.Schedule as schedule
+use Rattle.cadf_rehearsal.specs.declared.turn.Turn.{Turn}
+use Rattle.cadf_rehearsal.specs.declared.fault.RehearseFault.{RehearseFault}
+use Rattle.cadf_rehearsal.specs.declared.fault.RehearseFault.TheVariants.{Memory}
+use Rattle.cadf_rehearsal.specs.declared.federation.Message.{Message}
+use Rattle.cadf_rehearsal.specs.declared.federation.Message.TheVariants.{Asked, PartFor, Whole}
+use Rattle.cadf_rehearsal.specs.declared.federation.Federation.{Federation}
+
+-- the element at the place, or d past the end
+abbrev pub at_or : {A : Type 0} → A → List A → ℕ → A
+at_or d [] k = d
+at_or d (x ∷ xs) zero = x
+at_or d (x ∷ xs) (suc k) = at_or d xs k
+
+-- the same, by a number from 1
+abbrev pub at_number : {A : Type 0} → A → List A → ℕ → A
+at_number d xs zero = d
+at_number d xs (suc k) = at_or d xs k
+
+abbrev pub held_at : Held → Contents
+held_at h = h.atoms
+
+abbrev pub log_at : Held → Text
+log_at h = h.log
+
+abbrev pub message_of : Message → schedule.Message
+message_of (Asked site i) = schedule.Inventory site i.digests
+message_of (PartFor site h) = schedule.PartFor site h.atoms
+message_of (Whole h) = schedule.Whole h.atoms
+
+abbrev pub log_of : Message → Text
+log_of (Asked site i) = i.log
+log_of (PartFor site h) = h.log
+log_of (Whole h) = h.log
+
+abbrev pub world_of : Federation → schedule.World
+world_of f = record {
+  sites = at_or set.empty (map held_at f.sites.items);
+  made = length f.messages.items;
+  messages = at_number (schedule.Whole set.empty) (map message_of f.messages.items);
+}
+
+pub record IsOneLog (f : Federation) : Type 0 where
+  pub sites : (j : ℕ) → at_or f.log (map log_at f.sites.items) j ≡ f.log
+  pub messages : (m : ℕ) → at_number f.log (map log_of f.messages.items) m ≡ f.log
+
+-- the federation after a turn that was taken: one log, the same, and as many sites
+pub record IsLater (old new : Federation) : Type 0 where
+  pub log : new.log ≡ old.log
+  pub count : length new.sites.items ≡ length old.sites.items
+  pub one_log : IsOneLog new
+
+abbrev pub turned_from : Federation → ℕ → Turn → Result schedule.World RehearseFault
+turned_from f turn t = schedule.turned atom_digest f.log (length f.sites.items) turn (world_of f) t
+
+abbrev pub IsDue : {A : Type 0} → RehearseFault → Result A RehearseFault → Type 0
+IsDue fault r = (fault ≡ Memory) ⊎ (r ≡ Err fault)
+
+abbrev pub left_by : Text → ℕ → schedule.World → List Held
+left_by log count w = map (λ j. record { log = log; atoms = w.sites j }) (range_with_len 0 count)

@@ -1,0 +1,134 @@
+-- Sites that learn documents and exchange messages, as a machine over any schedule. A list of turns has the newest first.
+--     Message, World         what was sent, and where all stands
+--     after turns            the world after the turns, or the first fault
+--     plain turns j          what site j holds if each answer and each send carried the sender's whole set
+--     learnt turns           the atoms of all documents
+use Rattle.std.specs.Prelude.{ℕ, suc, ◌+◌, Bool, true, cond, ◌&&◌, List, [], ◌∷◌, length, Option, Some, None, Result, Ok, Err, nat_eq, nat_lt, nat_le}
+use Rattle.cadf_join.specs.Sets as set
+use Rattle.cadf_join.specs.Contents.{Text, Texts, Contents}
+use Rattle.cadf_event.specs.Document.{DocumentParts}
+use Rattle.cadf_replica.specs.Atoms.{IsGrounded, is_text}
+use Rattle.cadf_replica.specs.Contributions.{document_atoms}
+use Rattle.cadf_replica.specs.Missing.{Digests, digests_of, missing_by}
+use Rattle.cadf_rehearsal.specs.declared.turn.Turn.{Turn}
+use Rattle.cadf_rehearsal.specs.declared.turn.Turn.TheVariants.{Learn, Ask, Answer, Send, Deliver}
+use Rattle.cadf_rehearsal.specs.declared.fault.RehearseFault.{RehearseFault}
+use Rattle.cadf_rehearsal.specs.declared.fault.RehearseFault.TheVariants.{NoSite, NoMessage, NotInventory, WrongAddressee, OtherLog}
+
+pub data Message : Type 0 where
+  Inventory : (asker : ℕ) → Digests → Message
+  PartFor : (asker : ℕ) → Contents → Message
+  Whole : Contents → Message
+
+-- each site's set, how many messages were made, and the messages, numbered from 1
+pub record World : Type 0 where
+  pub sites : ℕ → Contents
+  pub made : ℕ
+  pub messages : ℕ → Message
+
+abbrev pub start : World
+start = record { sites = λ j. set.empty; made = 0; messages = λ m. Whole set.empty }
+
+-- f with the value v at k
+abbrev pub with_at : {A : Type 0} → (ℕ → A) → ℕ → A → ℕ → A
+with_at f k v j = cond (nat_eq k j) v (f j)
+
+abbrev pub adds : World → ℕ → Contents → World
+adds w j s = record { sites = with_at w.sites j (set.union (w.sites j) s); made = w.made; messages = w.messages }
+
+abbrev pub makes : World → Message → World
+makes w m = record { sites = w.sites; made = suc w.made; messages = with_at w.messages (suc w.made) m }
+
+abbrev pub is_message : World → ℕ → Bool
+is_message w m = nat_lt 0 m && nat_le m w.made
+
+-- the document names this log or none
+abbrev pub is_of_log : Text → Option Text → Bool
+is_of_log log None = true
+is_of_log log (Some named) = is_text named log
+
+-- A turn that can't be taken is answered with its number: no site has the number that it names, no message
+-- has it yet, what is to be answered is no inventory, an answer goes to another site than the one that asked,
+-- or the document names another log.
+abbrev pub delivered : ℕ → World → ℕ → Message → Result World RehearseFault
+delivered turn w j (Inventory a d) = Ok w
+delivered turn w j (PartFor a p) = cond (nat_eq a j) (Ok (adds w j p)) (Err (WrongAddressee turn))
+delivered turn w j (Whole s) = Ok (adds w j s)
+
+module _ (digest : Texts → Text) (log : Text) (sites : ℕ) where
+  abbrev pub answered : ℕ → World → ℕ → Message → Result World RehearseFault
+  answered turn w j (Inventory a d) = Ok (makes w (PartFor a (missing_by digest (w.sites j) d)))
+  answered turn w j (PartFor a p) = Err (NotInventory turn)
+  answered turn w j (Whole s) = Err (NotInventory turn)
+
+  -- r, where the site is one of them
+  abbrev pub at_site : ℕ → ℕ → Result World RehearseFault → Result World RehearseFault
+  at_site turn j r = cond (nat_lt j sites) r (Err (NoSite turn))
+
+  -- r, where the message was made
+  abbrev pub at_message : ℕ → World → ℕ → Result World RehearseFault → Result World RehearseFault
+  at_message turn w m r = cond (is_message w m) r (Err (NoMessage turn))
+
+  -- the turn of that number
+  abbrev pub turned : ℕ → World → Turn → Result World RehearseFault
+  turned turn w (Learn j d) = at_site turn j (cond (is_of_log log d.log) (Ok (adds w j (document_atoms d))) (Err (OtherLog turn)))
+  turned turn w (Ask j) = at_site turn j (Ok (makes w (Inventory j (digests_of digest (w.sites j)))))
+  turned turn w (Answer j m) = at_site turn j (at_message turn w m (answered turn w j (w.messages m)))
+  turned turn w (Send j) = at_site turn j (Ok (makes w (Whole (w.sites j))))
+  turned turn w (Deliver m j) = at_site turn j (at_message turn w m (delivered turn w j (w.messages m)))
+
+  abbrev pub next : ℕ → Turn → Result World RehearseFault → Result World RehearseFault
+  next turn t (Ok w) = turned turn w t
+  next turn t (Err f) = Err f
+
+  abbrev pub after : List Turn → Result World RehearseFault
+  after [] = Ok start
+  after (t ∷ earlier) = next (length earlier + 1) t (after earlier)
+
+-- how many messages the turns make
+abbrev pub made_by : List Turn → ℕ
+made_by [] = 0
+made_by (Learn j d ∷ earlier) = made_by earlier
+made_by (Ask j ∷ earlier) = suc (made_by earlier)
+made_by (Answer j m ∷ earlier) = suc (made_by earlier)
+made_by (Send j ∷ earlier) = suc (made_by earlier)
+made_by (Deliver m j ∷ earlier) = made_by earlier
+
+abbrev mutual
+  pub plain : List Turn → ℕ → Contents
+  plain [] j = set.empty
+  plain (Learn k d ∷ earlier) j = cond (nat_eq k j) (set.union (plain earlier j) (document_atoms d)) (plain earlier j)
+  plain (Ask k ∷ earlier) j = plain earlier j
+  plain (Answer k m ∷ earlier) j = plain earlier j
+  plain (Send k ∷ earlier) j = plain earlier j
+  plain (Deliver m k ∷ earlier) j = cond (nat_eq k j) (set.union (plain earlier j) (carried earlier m)) (plain earlier j)
+
+  -- what the maker of message m held when it made it, for an answer or a send; nothing for an inventory
+  pub carried : List Turn → ℕ → Contents
+  carried [] m = set.empty
+  carried (Learn k d ∷ earlier) m = carried earlier m
+  carried (Ask k ∷ earlier) m = cond (nat_eq m (suc (made_by earlier))) set.empty (carried earlier m)
+  carried (Answer k i ∷ earlier) m = cond (nat_eq m (suc (made_by earlier))) (plain earlier k) (carried earlier m)
+  carried (Send k ∷ earlier) m = cond (nat_eq m (suc (made_by earlier))) (plain earlier k) (carried earlier m)
+  carried (Deliver i k ∷ earlier) m = carried earlier m
+
+abbrev pub learnt : List Turn → Contents
+learnt [] = set.empty
+learnt (Learn k d ∷ earlier) = set.union (document_atoms d) (learnt earlier)
+learnt (Ask k ∷ earlier) = learnt earlier
+learnt (Answer k m ∷ earlier) = learnt earlier
+learnt (Send k ∷ earlier) = learnt earlier
+learnt (Deliver m k ∷ earlier) = learnt earlier
+
+-- P holds of each document
+abbrev pub AllLearnt : (DocumentParts → Type 0) → List Turn → Type 0
+AllLearnt P [] = Unit {0}
+AllLearnt P (Learn k d ∷ earlier) = P d × AllLearnt P earlier
+AllLearnt P (Ask k ∷ earlier) = AllLearnt P earlier
+AllLearnt P (Answer k m ∷ earlier) = AllLearnt P earlier
+AllLearnt P (Send k ∷ earlier) = AllLearnt P earlier
+AllLearnt P (Deliver m k ∷ earlier) = AllLearnt P earlier
+
+-- each document brings its carriers with it, as every document does that was read
+abbrev pub LearnsGrounded : List Turn → Type 0
+LearnsGrounded turns = AllLearnt (λ d. IsGrounded (document_atoms d)) turns

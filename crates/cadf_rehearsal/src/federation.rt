@@ -1,0 +1,201 @@
+//! The sites of one log and all messages so far, which take one turn after another.
+ghost use Rattle.std.specs.Prelude.{◌≡◌, ◌∷◌, [], ◌++◌, length, OnOk, IfOk, IfErr, Ok};
+ghost use Rattle.cadf_join.specs.Sets as set;
+ghost use Rattle.cadf_rehearsal.specs.Schedule.{start};
+ghost use Rattle.cadf_rehearsal.specs.Federation.{IsOneLog, IsLater, IsDue, world_of, turned_from, log_of};
+ghost use Rattle.cadf_rehearsal.specs.declared.turn.Turn.TheVariants as turn;
+
+use crate::fault::RehearseFault;
+use crate::turn::Turn;
+use cadf_event::{Document, Name};
+use cadf_json::Memory;
+use cadf_replica::{Inventory, Replica, ReplicaFault, copied};
+use std::alloc::Global;
+
+/// What a site sent.
+#[derive(Drop)]
+pub(crate) enum Message {
+    /// The inventory of the site of that number, which asks.
+    Asked(usize, Inventory),
+    /// What the site of that number lacked by its inventory.
+    PartFor(usize, Replica),
+    /// All that a site held.
+    Whole(Replica),
+}
+
+/// The sites, and all messages so far.
+#[derive(Drop)]
+pub(crate) struct Federation {
+    pub(crate) log: Name,
+    pub(crate) sites: Vec<Replica>,
+    messages: Vec<Message>,
+}
+
+impl Federation {
+    /// Keeps a new message.
+    fn post(&mut self, message: Message) -> Result<(), RehearseFault>
+        ensures ok { OnOk result (self.new.messages.items ≡ self.old.messages.items ++ message ∷ []) }
+        ensures rest { (self.new.sites ≡ self.old.sites) × (self.new.log ≡ self.old.log) }
+        ensures only { IfErr result (λ fault. fault ≡ RehearseFault.Memory) }
+    {
+        match self.messages.push(message) {
+            Ok(()) => Ok(()),
+            Err(_) => Err(RehearseFault::Memory),
+        }
+    }
+
+    /// No messages yet, and so many sites of the log without atoms.
+    pub(crate) fn new(alloc: Global, log: &Name, count: usize) -> Result<Federation, RehearseFault>
+        ensures ok { IfOk result (λ f. (f.log ≡ log.now) × (length f.sites.items ≡ count)) }
+        ensures start { IfOk result (λ f. world_of f ≡ start) }
+        ensures one_log { IfOk result IsOneLog }
+        ensures only { IfErr result (λ fault. fault ≡ RehearseFault.Memory) }
+    {
+        let mut sites = Vec::new(alloc);
+        for _ in 0..count {
+            let site = Replica::new(alloc, copied(alloc, log)?);
+            if sites.push(site).is_err() {
+                return Err(RehearseFault::Memory);
+            }
+        }
+        Ok(Federation {
+            log: copied(alloc, log)?,
+            sites,
+            messages: Vec::new(alloc),
+        })
+    }
+
+    /// The site learns a document.
+    fn learn(
+        &mut self,
+        number: usize,
+        site: usize,
+        document: &Document,
+    ) -> Result<(), RehearseFault>
+        requires { IsOneLog self.old }
+        ensures ok { OnOk result (turned_from self.old number (turn.Learn site document.now) ≡ Ok (world_of self.new)) }
+        ensures later { OnOk result (IsLater self.old self.new) }
+        ensures err { IfErr result (λ fault. IsDue fault (turned_from self.old number (turn.Learn site document.now))) }
+    {
+        if site >= self.sites.len() {
+            return Err(RehearseFault::NoSite(number));
+        }
+        match self.sites[site].take_document(document) {
+            Ok(()) => Ok(()),
+            Err(ReplicaFault::OtherLog) => Err(RehearseFault::OtherLog(number)),
+            Err(_) => Err(RehearseFault::Memory),
+        }
+    }
+
+    /// The site sends the digests of what it holds.
+    fn ask(&mut self, number: usize, site: usize) -> Result<(), RehearseFault>
+        requires { IsOneLog self.old }
+        ensures ok { OnOk result (turned_from self.old number (turn.Ask site) ≡ Ok (world_of self.new)) }
+        ensures later { OnOk result (IsLater self.old self.new) }
+        ensures err { IfErr result (λ fault. IsDue fault (turned_from self.old number (turn.Ask site))) }
+    {
+        if site >= self.sites.len() {
+            return Err(RehearseFault::NoSite(number));
+        }
+        let held = self.sites[site].inventory()?;
+        self.post(Message::Asked(site, held))?;
+        Ok(())
+    }
+
+    /// The site sends all that it holds.
+    fn send(&mut self, number: usize, site: usize) -> Result<(), RehearseFault>
+        requires { IsOneLog self.old }
+        ensures ok { OnOk result (turned_from self.old number (turn.Send site) ≡ Ok (world_of self.new)) }
+        ensures later { OnOk result (IsLater self.old self.new) }
+        ensures err { IfErr result (λ fault. IsDue fault (turned_from self.old number (turn.Send site))) }
+    {
+        if site >= self.sites.len() {
+            return Err(RehearseFault::NoSite(number));
+        }
+        let copy = self.sites[site].copy()?;
+        self.post(Message::Whole(copy))?;
+        Ok(())
+    }
+
+    /// The site sends what the asker of an inventory lacks.
+    fn answer(&mut self, number: usize, site: usize, message: usize) -> Result<(), RehearseFault>
+        requires { IsOneLog self.old }
+        ensures ok { OnOk result (turned_from self.old number (turn.Answer site message) ≡ Ok (world_of self.new)) }
+        ensures later { OnOk result (IsLater self.old self.new) }
+        ensures err { IfErr result (λ fault. IsDue fault (turned_from self.old number (turn.Answer site message))) }
+    {
+        if site >= self.sites.len() {
+            return Err(RehearseFault::NoSite(number));
+        }
+        if message == 0 || message > self.messages.len() {
+            return Err(RehearseFault::NoMessage(number));
+        }
+        let answer = match &self.messages[message - 1] {
+            Message::Asked(asker, held) => match self.sites[site].missing_by(held) {
+                Ok(part) => Message::PartFor(*asker, part),
+                Err(_) => return Err(RehearseFault::Memory),
+            },
+            _ => return Err(RehearseFault::NotInventory(number)),
+        };
+        self.post(answer)?;
+        Ok(())
+    }
+
+    /// The site takes what a message carries.
+    fn deliver(&mut self, number: usize, message: usize, site: usize) -> Result<(), RehearseFault>
+        requires { IsOneLog self.old }
+        ensures ok { OnOk result (turned_from self.old number (turn.Deliver message site) ≡ Ok (world_of self.new)) }
+        ensures later { OnOk result (IsLater self.old self.new) }
+        ensures err { IfErr result (λ fault. IsDue fault (turned_from self.old number (turn.Deliver message site))) }
+    {
+        if site >= self.sites.len() {
+            return Err(RehearseFault::NoSite(number));
+        }
+        if message == 0 || message > self.messages.len() {
+            return Err(RehearseFault::NoMessage(number));
+        }
+        match &self.messages[message - 1] {
+            Message::Asked(_, _) => Ok(()),
+            Message::PartFor(asker, part) => {
+                if *asker != site {
+                    return Err(RehearseFault::WrongAddressee(number));
+                }
+                joined(&mut self.sites[site], part)?;
+                Ok(())
+            }
+            Message::Whole(whole) => {
+                joined(&mut self.sites[site], whole)?;
+                Ok(())
+            }
+        }
+    }
+
+    /// Takes the turn of that number.
+    pub(crate) fn take(&mut self, number: usize, turn: &Turn) -> Result<(), RehearseFault>
+        requires { IsOneLog self.old }
+        ensures ok { OnOk result (turned_from self.old number turn.now ≡ Ok (world_of self.new)) }
+        ensures later { OnOk result (IsLater self.old self.new) }
+        ensures err { IfErr result (λ fault. IsDue fault (turned_from self.old number turn.now)) }
+    {
+        match turn {
+            Turn::Learn(site, document) => self.learn(number, *site, document),
+            Turn::Ask(site) => self.ask(number, *site),
+            Turn::Answer(site, message) => self.answer(number, *site, *message),
+            Turn::Send(site) => self.send(number, *site),
+            Turn::Deliver(message, site) => self.deliver(number, *message, *site),
+        }
+    }
+}
+
+/// The site joins a replica of its log; where that is refused for memory it is tried once more.
+fn joined(site: &mut Replica, part: &Replica) -> Result<(), RehearseFault>
+    requires { part.now.log ≡ site.old.log }
+    ensures log { site.new.log ≡ site.old.log }
+    ensures ok { OnOk result (site.new.atoms ≡ set.union site.old.atoms part.now.atoms) }
+    ensures only { IfErr result (λ fault. fault ≡ RehearseFault.Memory) }
+{
+    match site.join_twice(part) {
+        Ok(()) => Ok(()),
+        Err(_) => Err(RehearseFault::Memory),
+    }
+}

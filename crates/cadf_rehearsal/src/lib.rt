@@ -1,0 +1,12 @@
+//! Sites that learn documents and exchange messages: a schedule is played, and laws over all schedules.
+#![tactic(auto)]
+
+mod fault;
+mod federation;
+pub mod laws;
+mod play;
+mod turn;
+
+pub use fault::RehearseFault;
+pub use play::rehearse;
+pub use turn::Turn;

@@ -1,0 +1,35 @@
+//! A schedule is played from its first turn to its last.
+ghost use Rattle.std.specs.Prelude.{◌≡◌, reverse, IfOk, IfErr, Ok};
+ghost use Rattle.cadf_join.specs.Contents.{IsWithin};
+ghost use Rattle.cadf_replica.specs.Digest.{atom_digest};
+ghost use Rattle.cadf_rehearsal.specs.Schedule.{World, after};
+ghost use Rattle.cadf_rehearsal.specs.Federation.{IsDue, left_by};
+
+use crate::fault::RehearseFault;
+use crate::federation::Federation;
+use crate::turn::Turn;
+use cadf_event::Name;
+use cadf_replica::Replica;
+use std::alloc::Global;
+
+/// Plays the turns in order over so many sites of the log, which begin without atoms: the replicas that
+/// they leave, or the fault of the first turn that can't be taken.
+///
+/// A part is made when its turn comes, against the inventory that it answers. A delivery whose join is
+/// refused for memory is tried once more.
+pub fn rehearse(
+    alloc: Global,
+    log: &Name,
+    sites: usize,
+    turns: &[Turn],
+) -> Result<Vec<Replica>, RehearseFault>
+    ensures ok { IfOk result (λ left. (world : World)
+        × (after atom_digest log.now sites (reverse turns.now) ≡ Ok world) × (left.items ≡ left_by log.now sites world)) }
+    ensures err { IfErr result (λ fault. IsDue fault (after atom_digest log.now sites (reverse turns.now))) }
+{
+    let mut federation = Federation::new(alloc, log, sites)?;
+    for (i, turn) in turns.iter().enumerate() {
+        federation.take(i + 1, turn)?;
+    }
+    Ok(federation.sites)
+}
