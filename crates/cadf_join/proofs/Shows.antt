@@ -55,7 +55,7 @@ pub behind_path : (path longer : Texts) (text : Text) (cs rest : List Texts) →
     → continued path (map (λ c. text ∷ c) cs ++ rest) ≡ continued longer cs ++ continued path rest
 behind_path path longer text cs rest e =
     map-append (λ c. path ++ c) (map (λ c. text ∷ c) cs) rest
-        ∙ ap (λ us. us ++ continued path rest) (sym (ap (λ p. continued p cs) e ∙ continued_below path text cs))
+    ∙ ap (λ us. us ++ continued path rest) (sym (ap (λ p. continued p cs) e ∙ continued_below path text cs))
 
 -- what stands behind a key, in turn before the rest
 pub behind_key : (old here : List (Bor Text)) (k text : Text) (s : Contents) (rest : List Texts) → here ≡ old → k ≡ text
