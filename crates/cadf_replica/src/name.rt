@@ -1,6 +1,6 @@
 //! The name of a log: in a file, and copied.
 
-ghost use Rattle.std.specs.Prelude.{◌≡◌, IfOk, option_map};
+ghost use Rattle.std.specs.Prelude.{◌≡◌, IfOk};
 ghost use Rattle.cadf_replica.specs.Line.{name_of};
 
 use crate::shape::{canonical, is_name};
