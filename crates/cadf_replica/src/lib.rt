@@ -4,6 +4,7 @@
 mod atom;
 mod atom_set;
 mod body_parts;
+mod carrier;
 mod inventory;
 pub mod laws;
 mod line_digest;
