@@ -16,6 +16,9 @@ class Answer(NamedTuple):
     output: bytes
     error: bytes
 
+    def __str__(self):
+        return "status %s, %d bytes from %r, error %r" % (self.status, len(self.output), self.output[:40], self.error[:80])
+
 
 class Fault(NamedTuple):
     call: str  # grow, read, write (to standard output), tell (to standard error)
