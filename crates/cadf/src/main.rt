@@ -1,13 +1,16 @@
 //! The command line: its words, files and streams, and the exit status.
 #![tactic(auto)]
 
+mod metered;
 mod words;
 
+use crate::metered::Metered;
 use crate::words::command;
 use cadf_event::{Name, NameFault};
 use cadf_json::{FromStd, Sink};
 use cadf_tool::{
-    ToolFault, run_check, run_inventory, run_join, run_missing, run_missing_by, run_show, status,
+    FILE_LIMIT, ToolFault, run_check, run_inventory, run_join, run_missing, run_missing_by,
+    run_show, status,
 };
 use clap::error::ErrorKind;
 use clap::{ArgMatches, Error};
@@ -70,10 +73,11 @@ fn open_all<R: Files>(
     Ok(files)
 }
 
-/// Hands out what is still in the buffer.
-fn flushed<W: Write + Drop>(output: FromStd<BufWriter<W>>) -> Result<(), ToolFault> {
-    match output.into_inner().flush() {
-        Ok(()) => Ok(()),
+/// Hands out what is still in the buffer, and answers how many bytes were written.
+fn flushed<W: Write + Drop>(output: FromStd<Metered<W>>) -> Result<u64, ToolFault> {
+    let mut writer = output.into_inner();
+    match writer.flush() {
+        Ok(()) => Ok(writer.taken()),
         Err(_) => Err(ToolFault::WriteFault),
     }
 }
@@ -149,14 +153,23 @@ fn run_engine<W: Sink>(
     }
 }
 
-/// Runs the engine of that name on standard output.
-fn run_out(rt: &HostRuntime, name: &str, matches: &ArgMatches) -> Result<(), Stop> {
+/// Runs the engine of that name on standard output, and answers how many bytes it wrote.
+fn run_out(rt: &HostRuntime, name: &str, matches: &ArgMatches) -> Result<u64, Stop> {
     let Ok(buffer) = BufWriter::new(rt.alloc(), io::writer(rt)) else {
         return Err(Stop::Tool(ToolFault::Memory));
     };
-    let mut output = FromStd::new(buffer);
+    let mut output = FromStd::new(Metered::new(buffer));
     run_engine(rt, name, matches, &mut output)?;
     Ok(flushed(output)?)
+}
+
+/// Says that what was written is larger than any input may be.
+fn warn(rt: &HostRuntime, written: u64) {
+    if written > FILE_LIMIT as u64 {
+        let _ = eprintln!(rt;
+            "cadf: {written} bytes were written, and no input above {FILE_LIMIT} is read"
+        );
+    }
 }
 
 /// Says why the command gave up.
@@ -196,7 +209,10 @@ fn run(rt: &HostRuntime, words: &[String]) -> Result<ExitCode, Error> {
         return Ok(ExitCode::from(REFUSED));
     };
     match run_out(rt, name, matches) {
-        Ok(()) => Ok(ExitCode::SUCCESS),
+        Ok(written) => {
+            warn(rt, written);
+            Ok(ExitCode::SUCCESS)
+        }
         Err(stop) => Ok(report(rt, &stop)),
     }
 }
