@@ -2,6 +2,7 @@ pub mod Entries
 pub mod Longest
 pub mod MapWalks
 pub mod Members
+pub mod Membership
 pub mod Nodes
 pub mod Outcome
 pub mod Risings
