@@ -62,7 +62,8 @@ pub trait Join: Drop {
 
     /// Adds to `lists` each list, behind the prefix, in order.
     fn append_lists(&self, prefix: &[String], lists: &mut Vec<Vec<String>>) -> Result<(), Memory>
-        ensures { OnOk result (all_texts lists.new.items ≡ all_texts lists.old.items ++ continued (chain_texts prefix.now) (set.rising (contents self.now))) };
+        ensures { OnOk result (all_texts lists.new.items
+            ≡ all_texts lists.old.items ++ continued (chain_texts prefix.now) (set.rising (contents self.now))) };
 
     /// The contents of each value are among those that are named.
     ghost contents_are: { (x : Self) → is_contents (contents x) };
