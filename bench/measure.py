@@ -12,18 +12,32 @@ BINARY = os.path.join(TOP, "crates", "cadf", "out", "cadf")
 
 def measured(command, runs):
     """The least wall time in seconds, and the greatest resident memory in MB, of that many runs."""
-    best, peak = None, 0
+    time_, _, peak = measured_in_turn([command], runs)[0]
+    return time_, peak
+
+
+def measured_in_turn(commands, runs):
+    """Of each command the least wall time and processor time in seconds and the greatest resident memory in MB.
+
+    The commands take turns, so that what else the machine does meets all of them.
+    """
+    runs_of = [[] for _ in commands]
     for _ in range(runs):
-        start = time.monotonic()
-        with open(os.devnull, "w") as null:
-            child = subprocess.Popen(command, stdout=null, stdin=subprocess.DEVNULL)
-            _, status, usage = os.wait4(child.pid, 0)
-        spent = time.monotonic() - start
-        if status != 0:
-            sys.exit("%s ended with status %d" % (command[0], status))
-        best = spent if best is None else min(best, spent)
-        peak = max(peak, usage.ru_maxrss / 1024)
-    return best, peak
+        for each, command in zip(runs_of, commands):
+            each.append(measured_once(command))
+    return [(min(r[0] for r in each), min(r[1] for r in each), max(r[2] for r in each)) for each in runs_of]
+
+
+def measured_once(command):
+    """A run's wall time and processor time in seconds, and its greatest resident memory in MB."""
+    start = time.monotonic()
+    with open(os.devnull, "w") as null:
+        child = subprocess.Popen(command, stdout=null, stdin=subprocess.DEVNULL)
+        _, status, usage = os.wait4(child.pid, 0)
+    spent = time.monotonic() - start
+    if status != 0:
+        sys.exit("%s ended with status %d" % (command[0], status))
+    return spent, usage.ru_utime + usage.ru_stime, usage.ru_maxrss / 1024
 
 
 def key_of(number):
