@@ -1,7 +1,7 @@
 pub mod Above
-pub mod Agrees
 pub mod CarrierLists
+pub mod Halving
 pub mod Merges
 pub mod Outcome
-pub mod Rounds
-pub mod SameOps
+pub mod Runs
+pub mod Spans

@@ -12,7 +12,7 @@ use Rattle.cadf_join.specs.Sets as set
 use Rattle.cadf_join.specs.Sets.{IsAntisymmetric, Listed, AllByRecursion-listed, listed-AllByRecursion}
 use Rattle.cadf_join.specs.Sets.{any_listed, listed_any, contains-from_list, contains-union, contains-difference}
 use Rattle.cadf_join.specs.SetLaws as sets
-use Rattle.cadf_paths.proofs.Rounds.{all_more}
+use Rattle.cadf_paths.proofs.Spans.{all_more}
 use Rattle.cadf_paths.specs.Merge.{sorted_merge, merge_step, sorted_without, without_step}
 
 module _ {K : Type 0} (R : K → K → Ordering) where

@@ -1,49 +1,39 @@
-//! Lists of texts in one block of bytes, each behind what it shares with the list before it.
-ghost use Rattle.std.specs.Prelude.{◌≡◌, ◌++◌, [], ◌∷◌, ◌↔◌, OnOk, OnErr, IfOk, IsTrue, length, min, take, string_bytes};
-ghost use Rattle.std.specs.List.{concat, list_any, slice_get};
-ghost use Rattle.std.specs.Ordering.{eq_by_cmp};
+//! Lists of texts, each reached by its number.
+ghost use Rattle.std.specs.Prelude.{◌≡◌, ◌≤◌, ◌+◌, ◌<◌, ◌++◌, [], ◌∷◌, ◌↔◌, OnOk, OnErr, IfOk, IfSome, IsTrue, None, true, false, length, take, drop, get_or, map};
+ghost use Rattle.std.specs.Cmp.Lexicographic.{pointwise};
+ghost use Rattle.std.specs.List.{AllByRecursion, list_any};
+ghost use Rattle.std.specs.declared.cmp.Ordering.TheVariants.{Less};
+ghost use Rattle.std.specs.List.Sorted.{IsStrictlySortedBy};
+ghost use Rattle.std.specs.Ordering.{eq_by_cmp, is_lt};
 ghost use Rattle.cadf_join.specs.Contents.{texts_cmp};
-ghost use Rattle.cadf_join.specs.Prefixes.{chain_texts, texts_at};
-ghost use Rattle.cadf_paths.specs.Flat.{text_ops, Moves, ahead, ends_below, is_text};
-ghost use Rattle.cadf_paths.specs.declared.rows.Op.TheVariants.{Cut, End};
+ghost use Rattle.cadf_join.specs.Prefixes.{texts_at};
+ghost use Rattle.cadf_paths.specs.Flat.{IsRun, run_of, Moves, ahead, ends_below, is_before};
 
 use crate::Memory;
-use crate::order::{common, kept, kept_cmp};
+use crate::pool::{Pool, Span, narrow};
 use std::alloc::Global;
 use std::cmp::Ordering;
 use std::marker::Model;
 
-/// What comes next on the way through the lists.
-#[derive(Drop, Clone, Copy, PartialEq, Eq)]
-pub enum Op {
-    /// The path keeps this many texts.
-    Cut(usize),
-    /// The path goes on with a text of this many bytes, the next of the block.
-    Text(usize),
-    /// The path is a list.
-    End,
-}
-
-/// Lists of texts in the order in which they were pushed.
+/// Lists of texts. A list shares the bytes of its texts with the list that it was put behind.
 #[derive(Drop)]
 pub struct Rows {
-    block: String,
-    ops: Vec<Op>,
-    last: Vec<String>,
+    texts: Pool,
+    lists: Vec<Span>,
     alloc: Global,
 }
 
 impl Model for Rows {
-    ghost use Rattle.std.specs.Prelude.{List, [], string_bytes};
+    ghost use Rattle.std.specs.Prelude.{List, map};
+    ghost use Rattle.std.specs.List.{AllByRecursion};
     ghost use Rattle.cadf_join.specs.Contents.{Texts};
-    ghost use Rattle.cadf_join.specs.Prefixes.{chain_texts, texts_at};
-    ghost use Rattle.cadf_paths.specs.Flat.{lists_of, IsFlat};
+    ghost use Rattle.cadf_paths.specs.Flat.{IsRun, run_of};
 
     ghost Value = { List Texts };
 
-    ghost view = { λ r. lists_of [] (string_bytes r.block) r.ops.items };
+    ghost view = { λ r. map (run_of r.texts) r.lists.items };
 
-    ghost invariant = { λ r. IsFlat (string_bytes r.block) r.ops.items (chain_texts r.last.items) };
+    ghost invariant = { λ r. AllByRecursion (IsRun r.texts) r.lists.items };
 }
 
 impl Rows {
@@ -52,9 +42,8 @@ impl Rows {
         ensures { result ≡ [] }
     {
         Rows {
-            block: String::new(alloc),
-            ops: Vec::new(alloc),
-            last: Vec::new(alloc),
+            texts: Pool::new(alloc),
+            lists: Vec::new(alloc),
             alloc,
         }
     }
@@ -64,22 +53,23 @@ impl Rows {
         ensures ok { OnOk result (self.new ≡ self.old ++ texts_at path.now ∷ []) }
         ensures err { OnErr result (self.new ≡ self.old) }
     {
-        let last = kept(self.alloc, path)?;
-        let shared = common(self.last.as_slice(), last.as_slice());
-        let ops = self.ops.len();
-        let bytes = self.block.as_str().len();
-        let (_, own) = last.as_slice().split_at(shared);
-        match append(&mut self.ops, &mut self.block, shared, own) {
-            Ok(()) => {
-                self.last = last;
-                Ok(())
-            }
-            Err(refused) => {
-                self.ops.truncate(ops);
-                self.block.truncate(bytes);
-                Err(refused)
-            }
-        }
+        let near = first_near(self.lists.as_slice());
+        let list = stored(&mut self.texts, near, path)?;
+        self.lists.push(list)?;
+        Ok(())
+    }
+
+    /// Puts the list before the one of that number. After a refused growth the lists are as before.
+    pub fn insert(&mut self, at: usize, path: &[&str]) -> Result<(), Memory>
+        requires { at ≤ length self.old }
+        ensures ok { OnOk result (self.new ≡ take at self.old ++ texts_at path.now ∷ drop at self.old) }
+        ensures err { OnErr result (self.new ≡ self.old) }
+    {
+        let (before, _) = self.lists.as_slice().split_at(at);
+        let near = first_near(before);
+        let list = stored(&mut self.texts, near, path)?;
+        self.lists.insert(at, list)?;
+        Ok(())
     }
 
     /// Whether the list is above the last one, as each is where there is none.
@@ -89,7 +79,15 @@ impl Rows {
         if self.is_empty() {
             return true;
         }
-        match kept_cmp(self.last.as_slice(), path) {
+        self.is_less(self.count() - 1, path)
+    }
+
+    /// Whether the list of that number is below the other.
+    fn is_less(&self, number: usize, list: &[&str]) -> bool
+        requires { number < length self.now }
+        ensures { result ≡ is_lt (texts_cmp (get_or self.now number []) (texts_at list.now)) }
+    {
+        match self.texts.list_cmp(self.lists[number], list) {
             Ordering::Less => true,
             Ordering::Equal => false,
             Ordering::Greater => false,
@@ -113,131 +111,178 @@ impl Rows {
         ensures { result.1 ≡ self.now }
     {
         Cursor {
-            ops: self.ops.as_slice(),
-            rest: self.block.as_str(),
+            texts: &self.texts,
+            lists: self.lists.as_slice(),
             path: Vec::new(self.alloc),
         }
     }
 
-    /// Whether the list is there. No list is made.
-    pub fn contains(&self, list: &[&str]) -> bool
-        ensures { result ≡ list_any (eq_by_cmp texts_cmp (texts_at list.now)) self.now }
+    /// Before the list of that number.
+    pub fn cursor_from(&self, at: usize) -> Cursor<'_>
+        requires { at ≤ length self.now }
+        ensures { result.1 ≡ drop at self.now }
     {
-        let mut rest = self.block.as_str();
-        let mut depth = 0;
-        let mut agreed = 0;
-        for op in self.ops.as_slice() {
-            match *op {
-                Op::Cut(keep) => {
-                    depth = lesser(depth, keep);
-                    agreed = lesser(agreed, keep);
-                }
-                Op::Text(len) => {
-                    let (text, behind) = rest.split_at(len);
-                    rest = behind;
-                    let deeper = depth + 1;
-                    if agreed == depth && is_text_at(list, depth, text) {
-                        agreed = deeper;
-                    }
-                    depth = deeper;
-                }
-                Op::End => {
-                    if agreed == depth && depth == list.len() {
-                        return true;
-                    }
-                }
+        let (_, lists) = self.lists.as_slice().split_at(at);
+        Cursor {
+            texts: &self.texts,
+            lists,
+            path: Vec::new(self.alloc),
+        }
+    }
+
+    /// Where the lists begin that begin with the prefix, or, with those passed, the lists above them. Found by halving.
+    pub fn bound(&self, prefix: &[&str], passed: bool) -> usize
+        requires { IsStrictlySortedBy texts_cmp self.now }
+        ensures within { result ≤ length self.now }
+        ensures below { AllByRecursion (λ l. is_before (texts_at prefix.now) passed l ≡ true) (take result self.now) }
+        ensures above { AllByRecursion (λ l. is_before (texts_at prefix.now) passed l ≡ false) (drop result self.now) }
+    {
+        let mut low = 0;
+        let mut high = self.lists.len();
+        while low < high {
+            let middle = low + (high - low) / 2;
+            if self.is_before(middle, prefix, passed) {
+                low = middle + 1;
+            } else {
+                high = middle;
             }
         }
-        false
+        low
+    }
+
+    /// Whether the list of that number is below those that begin with the prefix, or one of them where they are passed.
+    fn is_before(&self, number: usize, prefix: &[&str], passed: bool) -> bool
+        requires { number < length self.now }
+        ensures { result ≡ is_before (texts_at prefix.now) passed (get_or self.now number []) }
+    {
+        match self.texts.prefix_cmp(self.lists[number], prefix) {
+            Ordering::Less => true,
+            Ordering::Equal => passed,
+            Ordering::Greater => false,
+        }
+    }
+
+    /// Whether the list of that number is this one.
+    pub fn is_at(&self, number: usize, list: &[&str]) -> bool
+        requires { number < length self.now }
+        ensures { result ≡ eq_by_cmp texts_cmp (get_or self.now number []) (texts_at list.now) }
+    {
+        match self.texts.list_cmp(self.lists[number], list) {
+            Ordering::Less => false,
+            Ordering::Equal => true,
+            Ordering::Greater => false,
+        }
+    }
+
+    /// Where the list is to be put, where it isn't there.
+    pub fn place(&self, list: &[&str]) -> Option<usize>
+        requires { IsStrictlySortedBy texts_cmp self.now }
+        ensures held { result ≡ None → list_any (eq_by_cmp texts_cmp (texts_at list.now)) self.now ≡ true }
+        ensures within { IfSome result (λ at. at ≤ length self.now) }
+        ensures below { IfSome result (λ at. AllByRecursion (λ l. texts_cmp l (texts_at list.now) ≡ Less) (take at self.now)) }
+        ensures above { IfSome result (λ at. AllByRecursion (λ l. texts_cmp (texts_at list.now) l ≡ Less) (drop at self.now)) }
+    {
+        let at = self.bound(list, false);
+        if at < self.count() && self.is_at(at, list) {
+            return None;
+        }
+        Some(at)
     }
 
     /// Whether there are no lists.
     pub fn is_empty(&self) -> bool
         ensures { IsTrue result ↔ (self.now ≡ []) }
     {
-        self.ops.is_empty()
+        self.lists.is_empty()
     }
 
     /// Whether both have the same lists.
     pub fn same(&self, other: &Rows) -> bool
         ensures { IsTrue result ↔ (self.now ≡ other.now) }
     {
-        self.ops.as_slice() == other.ops.as_slice() && self.block.as_str() == other.block.as_str()
+        same_lists(
+            &self.texts,
+            self.lists.as_slice(),
+            &other.texts,
+            other.lists.as_slice(),
+        )
     }
 
     /// The number of lists.
     pub fn count(&self) -> usize
         ensures { result ≡ length self.now }
     {
-        let mut count = 0;
-        for op in self.ops.as_slice() {
-            if let Op::End = *op {
-                count += 1;
-            }
+        self.lists.len()
+    }
+}
+
+/// Whether the runs have the same lists, one by one.
+fn same_lists(texts: &Pool, lists: &[Span], others: &Pool, its: &[Span]) -> bool
+    requires ours { AllByRecursion (IsRun texts.now) lists.now }
+    requires theirs { AllByRecursion (IsRun others.now) its.now }
+    ensures { result ≡ pointwise (eq_by_cmp texts_cmp) (map (run_of texts.now) lists.now) (map (run_of others.now) its.now) }
+{
+    let mut left = lists;
+    let mut rest = its;
+    while let [list, lists @ ..] = left {
+        match rest {
+            [it, its @ ..] => match texts.run_cmp(*list, others, *it) {
+                Ordering::Less => return false,
+                Ordering::Equal => {
+                    left = lists;
+                    rest = its;
+                }
+                Ordering::Greater => return false,
+            },
+            [] => return false,
         }
-        count
+    }
+    rest.is_empty()
+}
+
+/// Where the texts of the last list begin.
+fn first_near(lists: &[Span]) -> usize {
+    match lists {
+        [] => 0,
+        [.., last] => last.start as usize,
     }
 }
 
-/// Appends the operations and the bytes of one list.
-fn append(
-    ops: &mut Vec<Op>,
-    block: &mut String,
-    shared: usize,
-    own: &[String],
-) -> Result<(), Memory>
-    ensures ops { OnOk result (ops.new.items ≡ ops.old.items ++ Cut shared ∷ (text_ops (chain_texts own.now) ++ End ∷ [])) }
-    ensures block { OnOk result (string_bytes block.new ≡ string_bytes block.old ++ concat (chain_texts own.now)) }
-    ensures ops_kept { take (length ops.old.items) ops.new.items ≡ ops.old.items }
-    ensures block_kept { take (length (string_bytes block.old)) (string_bytes block.new) ≡ string_bytes block.old }
+/// Appends the texts of a list.
+fn stored(texts: &mut Pool, near: usize, path: &[&str]) -> Result<Span, Memory>
+    ensures kept { take (length texts.old) texts.new ≡ texts.old }
+    ensures run { IfOk result (λ r. IsRun texts.new r) }
+    ensures texts { IfOk result (λ r. run_of texts.new r ≡ texts_at path.now) }
 {
-    ops.push(Op::Cut(shared))?;
-    for text in own {
-        block.push_str(text.as_str())?;
-        ops.push(Op::Text(text.len()))?;
+    let start = narrow(texts.len())?;
+    let len = narrow(path.len())?;
+    let mut near = near;
+    for text in path {
+        texts.push(*text, near)?;
+        near = near.wrapping_add(1);
     }
-    ops.push(Op::End)?;
-    Ok(())
-}
-
-/// The lesser of both.
-fn lesser(a: usize, b: usize) -> usize
-    ensures { result ≡ min a b }
-{
-    if a < b { a } else { b }
-}
-
-/// Whether the list has the text at the index.
-fn is_text_at(list: &[&str], index: usize, text: &str) -> bool
-    ensures { result ≡ is_text text.now (slice_get (texts_at list.now) index) }
-{
-    match list.get(index) {
-        Some(other) => match text.cmp(*other) {
-            Ordering::Less => false,
-            Ordering::Equal => true,
-            Ordering::Greater => false,
-        },
-        None => false,
-    }
+    Ok(Span { start, len })
 }
 
 /// A place among the lists.
 #[derive(Drop)]
 pub struct Cursor<'a> {
-    ops: &'a [Op],
-    rest: &'a str,
+    texts: &'a Pool,
+    lists: &'a [Span],
     path: Vec<&'a str>,
 }
 
 impl<'a> Model for Cursor<'a> {
+    ghost use Rattle.std.specs.Prelude.{map};
+    ghost use Rattle.std.specs.List.{AllByRecursion};
     ghost use Rattle.cadf_join.specs.Prefixes.{texts_at};
-    ghost use Rattle.cadf_paths.specs.Flat.{Place, lists_of, IsRun};
+    ghost use Rattle.cadf_paths.specs.Flat.{Place, IsRun, run_of};
 
     ghost Value = { Place };
 
-    ghost view = { λ c. (texts_at c.path.items, lists_of (texts_at c.path.items) c.rest.now c.ops.now) };
+    ghost view = { λ c. (texts_at c.path.items, map (run_of c.texts.now) c.lists.now) };
 
-    ghost invariant = { λ c. IsRun c.rest.now c.ops.now };
+    ghost invariant = { λ c. AllByRecursion (IsRun c.texts.now) c.lists.now };
 }
 
 impl<'a> Cursor<'a> {
@@ -252,18 +297,13 @@ impl<'a> Cursor<'a> {
     pub fn next(&mut self) -> Result<bool, Memory>
         ensures { IfOk result (λ more. Moves more self.old self.new) }
     {
-        while let [op, ops @ ..] = self.ops {
-            self.ops = ops;
-            match *op {
-                Op::Cut(keep) => self.path.truncate(keep),
-                Op::Text(len) => {
-                    let (text, rest) = self.rest.split_at(len);
-                    self.rest = rest;
-                    self.path.push(text)?;
-                }
-                Op::End => return Ok(true),
+        match self.lists {
+            [list, lists @ ..] => {
+                self.texts.fill(*list, &mut self.path)?;
+                self.lists = lists;
+                Ok(true)
             }
+            [] => Ok(false),
         }
-        Ok(false)
     }
 }
