@@ -22,8 +22,3 @@ pub use crate::value::{Json, JsonFault, quoted};
 pub use crate::view::View;
 pub use crate::whole::{OutFault, WholeFault, read_rest, read_whole, write_whole};
 pub use std::alloc::AllocError as Memory;
-
-#[cfg(test)]
-mod stream_tests;
-#[cfg(test)]
-mod tests;

@@ -5,6 +5,3 @@ pub mod laws;
 mod time;
 
 pub use time::{Stamp, StampFault};
-
-#[cfg(test)]
-mod tests;

@@ -2,9 +2,10 @@
 //! size, and what a failure at each call in turn leaves.
 ghost use Rattle.std.specs.Prelude.{◌<◌};
 
-use crate::memory::{FailingWrite, MemorySink, MemorySource};
-use crate::stream::{FromStd, Sink, Source};
-use crate::whole::{OutFault, WholeFault, read_rest, read_whole, write_whole};
+use cadf_json::{
+    FailingWrite, FromStd, MemorySink, MemorySource, OutFault, Sink, Source, WholeFault, read_rest,
+    read_whole, write_whole,
+};
 use std::alloc::Global;
 use std::io;
 use std::test::Fail;

@@ -2,8 +2,7 @@
 ghost use Rattle.std.specs.Prelude.{◌≤◌};
 ghost use Rattle.serde_json.specs.Data.{depth as nesting};
 
-use crate::build::{ListBuilder, ObjectBuilder};
-use crate::value::{Json, JsonFault, quoted};
+use cadf_json::{Json, JsonFault, ListBuilder, ObjectBuilder, quoted};
 use std::alloc::Global;
 use std::process::Abort;
 use std::test::Fail;

@@ -1,6 +1,6 @@
 //! Times from outside: their instants, offsets and canonical spellings, and why others are refused.
 
-use crate::{Stamp, StampFault, laws};
+use cadf_time::{Stamp, StampFault, laws};
 use std::alloc::{AllocError as Memory, Global};
 use std::test::Fail;
 
