@@ -147,7 +147,7 @@ above_bound q (x ∷ xs) s h other = by (texts_cmp x q) refl
     by Equal e = absurd (other e (omega arith))
     by Greater e = first (turned x q e)
 
-drop_sorted : (xs : List Texts) (n : ℕ) → IsStrictlySortedBy texts_cmp xs → IsStrictlySortedBy texts_cmp (drop n xs)
+pub drop_sorted : (xs : List Texts) (n : ℕ) → IsStrictlySortedBy texts_cmp xs → IsStrictlySortedBy texts_cmp (drop n xs)
 unfolding IsStrictlySortedBy
 drop_sorted xs zero s = s
 drop_sorted [] (suc n) s = tt

@@ -5,10 +5,11 @@
 --     IsRun ts r           the run is of texts that are there
 --     prefix_cmp l p       whether a list is below those that begin with p, one of them, or above
 --     is_before p more l   whether it is below them, or one of them where they count too
+--     strip p l            what follows the prefix, where the list begins with it
 --     last_of p ls         the last of the lists, or p
 --     Moves more a b       a cursor moved to the next list, or there is none
 --     ahead more a         the list that a cursor is at, where it is at one, and those behind it
-use Rattle.std.specs.Prelude.{◌≡◌, ℕ, ◌+◌, ◌≤◌, Bool, true, false, List, [], ◌∷◌, length, take, drop}
+use Rattle.std.specs.Prelude.{◌≡◌, ℕ, ◌+◌, ◌≤◌, Bool, true, false, List, [], ◌∷◌, length, take, drop, Option, Some, None}
 use Rattle.std.specs.Str.{IsCharBoundary}
 use Rattle.std.specs.declared.cmp.Ordering.{Ordering}
 use Rattle.std.specs.declared.cmp.Ordering.TheVariants.{Less, Equal, Greater}
@@ -36,6 +37,11 @@ prefix_cmp (u ∷ l) (t ∷ p) = match_ordering (text_cmp u t) Less (prefix_cmp 
 
 abbrev pub is_before : Texts → Bool → Texts → Bool
 is_before p more l = match_ordering (prefix_cmp l p) true more false
+
+abbrev pub strip : Texts → Texts → Option Texts
+strip [] l = Some l
+strip (t ∷ p) [] = None
+strip (t ∷ p) (u ∷ l) = match_ordering (text_cmp u t) None (strip p l) None
 
 abbrev pub last_of : Texts → List Texts → Texts
 last_of p [] = p

@@ -1,7 +1,9 @@
-//! The order of lists of texts.
+//! The order of lists of texts, and their prefixes.
 ghost use Rattle.std.specs.Prelude.{◌≡◌};
+ghost use Rattle.std.specs.Option.{option_copied, option_map};
 ghost use Rattle.cadf_join.specs.Contents.{texts_cmp};
 ghost use Rattle.cadf_join.specs.Prefixes.{texts_at};
+ghost use Rattle.cadf_paths.specs.Flat.{strip};
 
 use std::cmp::Ordering;
 
@@ -23,6 +25,23 @@ pub(crate) fn texts_cmp(a: &[&str], b: &[&str]) -> Ordering
                 Ordering::Less => Ordering::Less,
                 Ordering::Equal => texts_cmp(rest, others),
                 Ordering::Greater => Ordering::Greater,
+            },
+        },
+    }
+}
+
+/// What follows the prefix, where the list begins with it.
+pub(crate) fn strip<'l, 'a>(list: &'l [&'a str], prefix: &[&str]) -> Option<&'l [&'a str]>
+    ensures { option_map texts_at (option_copied result) ≡ strip (texts_at prefix.now) (texts_at list.now) }
+{
+    match prefix {
+        [] => Some(list),
+        [text, prefix @ ..] => match list {
+            [] => None,
+            [first, list @ ..] => match (*first).cmp(*text) {
+                Ordering::Less => None,
+                Ordering::Equal => strip(list, prefix),
+                Ordering::Greater => None,
             },
         },
     }
