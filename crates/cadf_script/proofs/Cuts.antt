@@ -56,6 +56,7 @@ module _ where
     where
       no_blank_digit : (x : ℕ) → IsInRange 48 57 x → (x == 32) ≡ false
       no_blank_digit x r = grind arith
+
       both : (p q : Bool) → p ≡ false → q ≡ false → (p || q) ≡ false
       both p q e f = (λ i. e i || q) ∙ f
 
@@ -73,6 +74,7 @@ unblank_front (x ∷ xs) = by (x == 32) refl (unblank_front xs)
   where
     next : (n : ℕ) → 1 + n ≡ suc n
     next n = omega arith
+
     by : (b : Bool) → (x == 32) ≡ b → has_blank (take (position_or_len (λ x. x == 32) xs) xs) ≡ false
         → has_blank (take (cond (not b) (1 + position_or_len (λ x. x == 32) xs) 0) (x ∷ xs)) ≡ false
     by true e ih = refl

@@ -19,7 +19,7 @@ put_line x (y ∷ ys) ih = ap (put_first x) (ih (omega arith))
 
 one_line : (x : ℕ) (xs : List ℕ) (b : Bool) → (0 < length xs → IsFirstLine xs)
     → (if b then [] ∷ lines_of xs else put_first x (lines_of xs)) ≡ take (cond (not b) (1 + position_or_len (λ x. x == 10) xs) 0) (x ∷ xs)
-      ∷ lines_of (drop (cond (not b) (1 + position_or_len (λ x. x == 10) xs) 0 + 1) (x ∷ xs))
+    ∷ lines_of (drop (cond (not b) (1 + position_or_len (λ x. x == 10) xs) 0 + 1) (x ∷ xs))
 one_line x xs true ih = refl
 one_line x xs false ih =
     put_line x xs ih
@@ -27,6 +27,7 @@ one_line x xs false ih =
   where
     count : (n : ℕ) → suc n ≡ 1 + n
     count n = omega arith
+
     behind : (n : ℕ) → suc (n + 1) ≡ 1 + n + 1
     behind n = omega arith
 
@@ -60,6 +61,7 @@ at_end bytes start turns past read =
 module _ (bytes : List ℕ) (start : ℕ) (turns : List Turn) (read : HasRead bytes start turns) (within : start < length bytes) where
   abbrev rest : List ℕ
   rest = drop start bytes
+
   abbrev count : ℕ
   count = position_or_len (λ x. x == 10) rest
 

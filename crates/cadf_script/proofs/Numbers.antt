@@ -45,6 +45,7 @@ decimal_plain n small =
   where
     above : (x : ℕ) → IsInRange 48 57 x → x ≢ 43
     above x r = grind arith
+
     alone : (n : ℕ) → n < 10 ^ 9 → get_or (decimal n) 0 0 ≡ 48 → length (decimal n) ≡ 1
     alone zero small e = ap length (decimal_digit 0 (omega arith))
     alone (suc n) small e = absurd (apart (get_or (decimal (suc n)) 0 0) (first_decimal (suc n) (omega arith) (omega (arith, small))) e)
@@ -62,8 +63,7 @@ pub is_number : {E : Type 0} (w : List ℕ) (r : Result ℕ E) (n : ℕ) → r �
 is_number {E} w r n e plain parsed =
     let p = plain_facts w plain in
     let ok = parse_plain own {E = E} 32 w (Ok n) (subst (ParsesUnsigned {E = E} 32 10 w) e parsed) p.unsigned in
-    let value = digits_value_short own w 9 ok.0.0 p.short in
-    (
+    let value = digits_value_short own w 9 ok.0.0 p.short in (
       subst (λ v. v < 10 ^ 9) (sym ok.1) value,
       sym (decimal-digits_value own w ok.0.0 p.some p.zero (omega (arith, value))) ∙ ap decimal (sym ok.1),
     )
