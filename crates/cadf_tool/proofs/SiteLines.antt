@@ -1,7 +1,7 @@
 -- The lines that tell what each site holds.
-use Rattle.std.proofs.Common.{◌≡◌, ℕ, ◌+◌, ◌<◌, ◌≤◌, List, [], ◌∷◌, ◌++◌, Bool, true, false, length, take, drop, get_or, refl, sym, ap, ◌∙◌, subst, arith, true≢false, append_assoc, append-nil, drop-cons, add-one}
+use Rattle.std.proofs.Common.{◌≡◌, ℕ, ◌+◌, ◌<◌, ◌≤◌, List, ◌∷◌, ◌++◌, Bool, true, false, length, drop, get_or, refl, sym, ap, ◌∙◌, subst, true≢false, append_assoc, append-nil, drop-cons, add-one}
 use Rattle.std.specs.Prelude.{◌&&◌, ◌↔◌, IsTrue}
-use Rattle.cadf_join.specs.Contents.{Text, Contents, Texts}
+use Rattle.cadf_join.specs.Contents.{Text, Contents}
 use Rattle.cadf_join.specs.Sets as set
 use Rattle.cadf_join.specs.SetLaws.{subset-from_IsWithin, IsWithin-from_subset}
 use Rattle.cadf_join.specs.ContentsLaws.{texts_total, contents_same}

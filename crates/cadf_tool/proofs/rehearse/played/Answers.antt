@@ -1,4 +1,3 @@
-use Rattle.std.proofs.Common.{Ok, Err}
 use Rattle.cadf_tool.specs.Run.{turn}
 use Rattle.cadf_tool.proofs.Rehearsals.{script_refused}
 use Rattle.cadf_tool.proofs.rehearse.played.Goals as goal
