@@ -5,7 +5,7 @@
 
 The second implementation, in this folder, is of what docs/FORMATS.md describes. It was written apart from crates/ and
 shares nothing with it, so that a misreading in the definitions there would show as a difference. Compared are the exit
-status, standard output and standard error of `join`, `missing`, `missing-by`, `inventory`, `show` and `check`. Not
+status, standard output and standard error of `join`, `missing`, `missing-by`, `inventory`, `rehearse`, `show` and `check`. Not
 compared: the texts for words that are no call, which are clap's own, beyond that the status is 2 and that they go to
 standard error alone; words that aren't UTF-8 count as no call. Nor is anything reached that takes a large input, a
 failed write or want of memory.

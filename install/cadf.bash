@@ -2,7 +2,7 @@
 _cadf() {
     local word=${COMP_WORDS[COMP_CWORD]}
     if [ "$COMP_CWORD" -eq 1 ]; then
-        mapfile -t COMPREPLY < <(compgen -W 'join missing missing-by inventory show check help --help --version' -- "$word")
+        mapfile -t COMPREPLY < <(compgen -W 'join missing missing-by inventory rehearse show check help --help --version' -- "$word")
         return
     fi
     case ${COMP_WORDS[1]} in

@@ -10,7 +10,7 @@ use cadf_event::{Name, NameFault};
 use cadf_json::{FromStd, Sink};
 use cadf_tool::{
     FILE_LIMIT, ToolFault, run_check, run_inventory, run_join, run_missing, run_missing_by,
-    run_show, status,
+    run_rehearse, run_show, status,
 };
 use clap::error::ErrorKind;
 use clap::{ArgMatches, Error};
@@ -23,12 +23,17 @@ use std::{env, fs, io};
 /// The exit status where the command line is refused.
 const REFUSED: u8 = 2;
 
+/// The most sites of a rehearsal.
+const MOST_SITES: usize = 64;
+
 /// Why a command didn't do its work.
 #[derive(Drop)]
 enum Stop {
     Tool(ToolFault),
-    /// The word behind `--log` is no name.
+    /// The word behind `--log`, or the log of a rehearsal, is no name.
     LogName,
+    /// The number of sites isn't 1 to 64 in decimal without a leading zero.
+    Sites,
     /// The first word names no command.
     Command,
 }
@@ -82,16 +87,33 @@ fn flushed<W: Write + Drop>(output: FromStd<Metered<W>>) -> Result<u64, ToolFaul
     }
 }
 
-/// The log that `--log` names.
-fn log_given(alloc: Global, matches: &ArgMatches) -> Result<Option<Name>, Stop> {
-    let Some(text) = matches.get_str("log") else {
-        return Ok(None);
-    };
+/// The log of that identifier.
+fn log_named(alloc: Global, text: &str) -> Result<Name, Stop> {
     match Name::read(alloc, text) {
-        Ok(name) => Ok(Some(name)),
+        Ok(name) => Ok(name),
         Err(NameFault::Memory) => Err(Stop::Tool(ToolFault::Memory)),
         Err(_) => Err(Stop::LogName),
     }
+}
+
+/// The log that `--log` names.
+fn log_given(alloc: Global, matches: &ArgMatches) -> Result<Option<Name>, Stop> {
+    match matches.get_str("log") {
+        Some(text) => Ok(Some(log_named(alloc, text)?)),
+        None => Ok(None),
+    }
+}
+
+/// The number of sites that the word spells: 1 to 64, in decimal without a leading zero.
+fn sites_given(word: &str) -> Result<usize, Stop> {
+    if !word.starts_with('+') && !word.starts_with('0') {
+        if let Ok(sites) = word.parse::<usize>() {
+            if sites <= MOST_SITES {
+                return Ok(sites);
+            }
+        }
+    }
+    Err(Stop::Sites)
 }
 
 /// Runs `join` on files.
@@ -128,6 +150,14 @@ fn check<W: Sink>(rt: &HostRuntime, matches: &ArgMatches, output: &mut W) -> Res
     Ok(run_check(rt.alloc(), &mut input, output)?)
 }
 
+/// Runs `rehearse` on a script.
+fn rehearse<W: Sink>(rt: &HostRuntime, matches: &ArgMatches, output: &mut W) -> Result<(), Stop> {
+    let log = log_named(rt.alloc(), matches.get_str("LOG").unwrap_or_default())?;
+    let sites = sites_given(matches.get_str("SITES").unwrap_or_default())?;
+    let mut script = open(rt, matches, "SCRIPT", 1)?;
+    Ok(run_rehearse(rt.alloc(), &log, sites, &mut script, output)?)
+}
+
 /// Runs `show` on a file.
 fn show<W: Sink>(rt: &HostRuntime, matches: &ArgMatches, output: &mut W) -> Result<(), Stop> {
     let mut input = open(rt, matches, "FILE", 1)?;
@@ -147,6 +177,7 @@ fn run_engine<W: Sink>(
         "missing" => missing(rt, matches, output),
         "missing-by" => missing_by(rt, matches, output),
         "inventory" => inventory(rt, matches, output),
+        "rehearse" => rehearse(rt, matches, output),
         "show" => show(rt, matches, output),
         "check" => check(rt, matches, output),
         _ => Err(Stop::Command),
@@ -181,6 +212,10 @@ fn report(rt: &HostRuntime, stop: &Stop) -> ExitCode {
         }
         Stop::LogName => {
             let _ = eprintln!(rt; "cadf: log name");
+            ExitCode::from(REFUSED)
+        }
+        Stop::Sites => {
+            let _ = eprintln!(rt; "cadf: sites");
             ExitCode::from(REFUSED)
         }
         Stop::Command => {

@@ -66,6 +66,28 @@ fn inventory<'a>(alloc: Global) -> Result<Command<'a>, Error> {
     )
 }
 
+/// `rehearse`, with its words.
+fn rehearse<'a>(alloc: Global) -> Result<Command<'a>, Error> {
+    let log = Arg::new(alloc, "LOG")
+        .required(true)
+        .value_parser(ValueParser::string())
+        .help("The identifier of the log that the sites keep");
+    let sites = Arg::new(alloc, "SITES")
+        .required(true)
+        .value_parser(ValueParser::string())
+        .help("How many sites there are, 1 to 64");
+    let script = Arg::new(alloc, "SCRIPT")
+        .required(true)
+        .help("What the sites learn and send each other, a turn a line");
+    Ok(
+        Command::new(alloc, "rehearse")
+            .about("Plays a schedule, and tells what it leaves at each site")
+            .arg(log)?
+            .arg(sites)?
+            .arg(script)?,
+    )
+}
+
 /// `show`, with its words.
 fn show<'a>(alloc: Global) -> Result<Command<'a>, Error> {
     let conflicts = Arg::new(alloc, "conflicts")
@@ -106,6 +128,7 @@ pub(crate) fn command<'a>(alloc: Global) -> Result<Command<'a>, Error> {
             .subcommand(missing(alloc)?)?
             .subcommand(missing_by(alloc)?)?
             .subcommand(inventory(alloc)?)?
+            .subcommand(rehearse(alloc)?)?
             .subcommand(show(alloc)?)?
             .subcommand(check(alloc)?)?,
     )

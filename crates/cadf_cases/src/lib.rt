@@ -22,6 +22,8 @@ mod missing;
 #[cfg(test)]
 mod refusals;
 #[cfg(test)]
+mod rehearsals;
+#[cfg(test)]
 mod streams;
 #[cfg(test)]
 mod support;

@@ -5,6 +5,8 @@ pub mod DocumentReading
 pub mod LoadedLists
 pub mod Convergence
 pub mod Runs
+pub mod Rehearsals
+pub mod SiteLines
 pub mod InventoryReading
 pub mod LoadLemmas
 pub mod OneText

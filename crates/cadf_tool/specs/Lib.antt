@@ -11,5 +11,7 @@ pub mod Uniting
 pub mod JoinWrites
 pub mod Missing
 pub mod MissingBy
+pub mod Rehearse
+pub mod Sites
 pub mod Exchange
 pub mod TwoTexts

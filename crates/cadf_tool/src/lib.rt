@@ -11,6 +11,7 @@ mod join;
 pub mod laws;
 mod missing;
 mod missing_by;
+mod rehearse;
 mod show;
 mod told;
 mod uniting;
@@ -22,6 +23,7 @@ pub use crate::inventory::run_inventory;
 pub use crate::join::run_join;
 pub use crate::missing::run_missing;
 pub use crate::missing_by::run_missing_by;
+pub use crate::rehearse::run_rehearse;
 pub use crate::show::run_show;
 
 /// The most bytes that an input may have.

@@ -1,0 +1,4 @@
+pub mod Cuts
+pub mod Numbers
+pub mod Turns
+pub mod Lines

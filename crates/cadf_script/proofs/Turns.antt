@@ -1,0 +1,116 @@
+-- A line and its turn.
+use Rattle.std.proofs.Common.{◌≡◌, ◌≢◌, ℕ, List, ◌∷◌, ◌++◌, false, cond, length, Option, Some, None, Result, Ok, Err, refl, sym, ap, ◌∙◌, subst, true≢false, eqb}
+use Rattle.std.specs.Prelude.{MatchOption, IfOk, decimal}
+use Rattle.std.specs.declared.alloc.AllocError.{AllocError}
+use Rattle.serde_json.specs.Data.{Data}
+use Rattle.serde_json.specs.Read.{read}
+use Rattle.serde_json.specs.Written.{has_float}
+use Rattle.cadf_json.specs.Value.{Spells, IsNoJson, IsNotWhole}
+use Rattle.cadf_event.specs.Document.{DocumentParts, IsDocument}
+use Rattle.cadf_rehearsal.specs.declared.turn.Turn.{Turn}
+use Rattle.cadf_rehearsal.specs.declared.turn.Turn.TheVariants.{Learn as Learns, Ask as Asks, Answer as Answers, Send as Sends, Deliver as Delivers}
+use Rattle.cadf_script.specs.declared.line.Command.TheVariants.{Learn, Ask, Answer, Send, Deliver}
+use Rattle.cadf_script.specs.Script.{Command, word_of, command_of, AreWords, IsSiteAndText, IsDocumentOf, IsTurn, IsNoTurn}
+use Rattle.cadf_script.specs.Words.{IsCut, has_blank, IsNoDocument, HasArguments}
+use Rattle.cadf_script.proofs.Cuts.{cut_unique, blank_in, decimal_unblank}
+
+word_unblank : (c : Command) → has_blank (word_of c) ≡ false
+word_unblank Learn = refl
+word_unblank Ask = refl
+word_unblank Answer = refl
+word_unblank Send = refl
+word_unblank Deliver = refl
+
+-- no two words are of one length
+abbrev by_length : ℕ → Command
+by_length n = cond (eqb n 3) Ask (cond (eqb n 4) Send (cond (eqb n 5) Learn (cond (eqb n 6) Answer Deliver)))
+
+back : (c : Command) → by_length (length (word_of c)) ≡ c
+back Learn = refl
+back Ask = refl
+back Answer = refl
+back Send = refl
+back Deliver = refl
+
+one_command : (c d : Command) → word_of c ≡ word_of d → c ≡ d
+one_command c d e = sym (back c) ∙ ap (λ w. by_length (length w)) e ∙ back d
+
+pub no_turn_uncut : (line : List ℕ) → has_blank line ≡ false → IsNoTurn line
+no_turn_uncut line none t h = true≢false (sym (blank_in (word_of (command_of t)) h.0) ∙ ap has_blank (sym h.1) ∙ none)
+
+parts : (line word rest : List ℕ) (t : Turn) → IsCut line word rest → (h : IsTurn line t) → (word ≡ word_of (command_of t)) × (rest ≡ h.0)
+parts line word rest t cut h =
+    cut_unique word rest (word_of (command_of t)) h.0 cut.first (word_unblank (command_of t)) (sym cut.is ∙ h.1)
+
+pub no_turn_word : (line word rest : List ℕ) → IsCut line word rest → ((c : Command) → word ≢ word_of c) → IsNoTurn line
+no_turn_word line word rest cut none t h = none (command_of t) (parts line word rest t cut h).0
+
+turn_some : (line word rest : List ℕ) (c : Command) (t : Turn) → IsCut line word rest → word ≡ word_of c
+    → (command_of t ≡ c) × AreWords rest t → IsTurn line t
+turn_some line word rest c t cut e h = (rest, cut.is ∙ ap (λ w. w ++ 32 ∷ rest) (e ∙ ap word_of (sym h.0)), h.1)
+
+turn_none : (line word rest : List ℕ) (c : Command) → IsCut line word rest → word ≡ word_of c
+    → ((t : Turn) → command_of t ≡ c → ¬ AreWords rest t) → IsNoTurn line
+turn_none line word rest c cut e h t k =
+    let p = parts line word rest t cut k in
+    h t (one_command (command_of t) c (sym p.0 ∙ e)) (subst (λ w. AreWords w t) (sym p.1) k.2)
+
+turn_found : (line word rest : List ℕ) (c : Command) (found : Option Turn) → IsCut line word rest → word ≡ word_of c
+    → HasArguments c rest found → MatchOption found (IsNoTurn line) (IsTurn line)
+turn_found line word rest c (Some t) cut e h = turn_some line word rest c t cut e h
+turn_found line word rest c None cut e h = turn_none line word rest c cut e h
+
+-- what was found of the words behind the command is what is found of the line
+pub turn_here : (line word rest : List ℕ) (c : Command) (r : Result (Option Turn) AllocError) → IsCut line word rest → word ≡ word_of c
+    → IfOk r (HasArguments c rest) → IfOk r (λ found. MatchOption found (IsNoTurn line) (IsTurn line))
+turn_here line word rest c (Ok found) cut e h = turn_found line word rest c found cut e h
+turn_here line word rest c (Err f) cut e h = tt
+
+-- ---- what a site learns
+
+pub no_learn_text : (words text : List ℕ) (site : ℕ) → IsSiteAndText words site text → IsNoDocument text
+    → (t : Turn) → command_of t ≡ Learn → ¬ AreWords words t
+no_learn_text words text site at none (Learns s doc) e (other, place, document) =
+    none doc (subst (λ x. IsDocumentOf x doc) (same_text other s place) document)
+  where
+    same_text : (other : List ℕ) (s : ℕ) → IsSiteAndText words s other → other ≡ text
+    same_text other s place =
+        (cut_unique (decimal s) other (decimal site) text (decimal_unblank s place.0) (decimal_unblank site at.0) (sym place.1 ∙ at.1)).1
+no_learn_text words text site at none (Asks s) e h = other_command (Asks s) e
+  where
+    other_command : (t : Turn) → Ask ≡ Learn → ⊥
+    other_command t e = cc
+no_learn_text words text site at none (Answers s m) e h = other_command e
+  where
+    other_command : Answer ≡ Learn → ⊥
+    other_command e = cc
+no_learn_text words text site at none (Sends s) e h = other_command e
+  where
+    other_command : Send ≡ Learn → ⊥
+    other_command e = cc
+no_learn_text words text site at none (Delivers m s) e h = other_command e
+  where
+    other_command : Deliver ≡ Learn → ⊥
+    other_command e = cc
+
+-- ---- documents
+
+pub no_json : (text : List ℕ) → IsNoJson text → IsNoDocument text
+no_json text none doc (d, (spells, h)) = clash (read text) d (none spells.0) spells.1
+  where
+    clash : (r : Option Data) (d : Data) → r ≡ None → r ≡ Some d → ⊥
+    clash r d a b = cc
+
+one_value : (text : List ℕ) (d e : Data) → read text ≡ Some d → read text ≡ Some e → d ≡ e
+one_value text d e h k = cc
+
+pub not_whole : (text : List ℕ) → IsNotWhole text → IsNoDocument text
+not_whole text (e, utf8, found, floats) doc (d, (spells, h)) =
+    true≢false (sym floats ∙ ap has_float (one_value text e d found spells.1) ∙ spells.2)
+
+pub document_of_json : (text : List ℕ) (json : Data) → Spells text json → (r : Result (Option DocumentParts) AllocError)
+    → IfOk r (λ found. MatchOption found ((d : DocumentParts) → ¬ IsDocument json d) (IsDocument json))
+    → IfOk r (λ found. MatchOption found (IsNoDocument text) (IsDocumentOf text))
+document_of_json text json spells (Ok (Some doc)) h = (json, (spells, h))
+document_of_json text json spells (Ok None) h = λ doc k. h doc (subst (λ x. IsDocument x doc) (one_value text k.0 json k.1.0.1 spells.1) k.1.1)
+document_of_json text json spells (Err f) h = tt

@@ -1,0 +1,92 @@
+-- A script: lines that spell a turn each.
+--     IsTurn line t            the line spells the turn
+--     lines_of bytes           the lines of the bytes; the last one's line feed may be absent
+--     IsScript bytes turns     the bytes spell these turns
+--     IsFirstBad lines n       the line of that number, from 1, is the first that spells none
+use Rattle.std.specs.Prelude.{◌≡◌, ◌<◌, ◌^◌, ◌==◌, ◌⊎◌, ℕ, suc, List, [], ◌∷◌, ◌++◌, if◌then◌else◌, codes, decimal}
+use Rattle.serde_json.specs.Data.{Data}
+use Rattle.cadf_json.specs.Value.{Spells}
+use Rattle.cadf_event.specs.Document.{DocumentParts, IsDocument}
+use Rattle.cadf_event.specs.Parts.{EachPair}
+use Rattle.cadf_rehearsal.specs.declared.turn.Turn.{Turn}
+use Rattle.cadf_rehearsal.specs.declared.turn.Turn.TheVariants.{Learn, Ask, Answer, Send, Deliver}
+pub use Rattle.cadf_script.specs.declared.line.Command.{Command}
+use Rattle.cadf_script.specs.declared.line.Command.TheVariants as command
+use Rattle.cadf_script.specs.declared.script.ScriptFault.{ScriptFault}
+use Rattle.cadf_script.specs.declared.script.ScriptFault.TheVariants.{Line, Memory}
+
+-- ---- words
+
+-- the first word of a line
+abbrev pub word_of : Command → List ℕ
+word_of command.Learn = codes "learn"
+word_of command.Ask = codes "ask"
+word_of command.Answer = codes "answer"
+word_of command.Send = codes "send"
+word_of command.Deliver = codes "deliver"
+
+abbrev pub command_of : Turn → Command
+command_of (Learn site document) = command.Learn
+command_of (Ask site) = command.Ask
+command_of (Answer site message) = command.Answer
+command_of (Send site) = command.Send
+command_of (Deliver message site) = command.Deliver
+
+-- a number in decimal, of at most nine digits, with no zero in front
+abbrev pub IsNumber : List ℕ → ℕ → Type 0
+IsNumber word n = (n < 10 ^ 9) × (word ≡ decimal n)
+
+-- two numbers, parted by one blank
+abbrev pub AreTwo : List ℕ → ℕ → ℕ → Type 0
+AreTwo words m n = (m < 10 ^ 9) × (n < 10 ^ 9) × (words ≡ decimal m ++ 32 ∷ decimal n)
+
+-- a number, a blank, and any text
+abbrev pub IsSiteAndText : List ℕ → ℕ → List ℕ → Type 0
+IsSiteAndText words n text = (n < 10 ^ 9) × (words ≡ decimal n ++ 32 ∷ text)
+
+-- the text spells a value that is this document
+abbrev pub IsDocumentOf : List ℕ → DocumentParts → Type 0
+IsDocumentOf text document = (d : Data) × (Spells text d × IsDocument d document)
+
+-- what stands behind the first word and its blank
+abbrev pub AreWords : List ℕ → Turn → Type 0
+AreWords words (Learn site document) = (text : List ℕ) × IsSiteAndText words site text × IsDocumentOf text document
+AreWords words (Ask site) = IsNumber words site
+AreWords words (Answer site message) = AreTwo words site message
+AreWords words (Send site) = IsNumber words site
+AreWords words (Deliver message site) = AreTwo words message site
+
+-- ---- lines
+
+-- THE TURN that a line spells
+abbrev pub IsTurn : List ℕ → Turn → Type 0
+IsTurn line t = (words : List ℕ) × (line ≡ word_of (command_of t) ++ 32 ∷ words) × AreWords words t
+
+abbrev pub IsNoTurn : List ℕ → Type 0
+IsNoTurn line = (t : Turn) → ¬ IsTurn line t
+
+-- the byte stands before the first of the lines
+abbrev pub put_first : ℕ → List (List ℕ) → List (List ℕ)
+put_first x [] = (x ∷ []) ∷ []
+put_first x (l ∷ ls) = (x ∷ l) ∷ ls
+
+-- each line ends with a line feed, which the last one may lack
+unfoldable pub lines_of : List ℕ → List (List ℕ)
+lines_of [] = []
+lines_of (x ∷ xs) = if x == 10 then [] ∷ lines_of xs else put_first x (lines_of xs)
+
+-- ---- scripts
+
+-- THE TURNS that a script spells, a line each
+abbrev pub IsScript : List ℕ → List Turn → Type 0
+IsScript bytes turns = EachPair IsTurn (lines_of bytes) turns
+
+abbrev pub IsFirstBad : List (List ℕ) → ℕ → Type 0
+IsFirstBad [] n = ⊥
+IsFirstBad (l ∷ ls) n =
+    ((n ≡ 1) × IsNoTurn l) ⊎ ((m : ℕ) × (n ≡ suc m) × ((t : Turn) × IsTurn l t) × IsFirstBad ls m)
+
+-- why the bytes are no script; want of memory says nothing of them
+abbrev pub IsScriptFault : List ℕ → ScriptFault → Type 0
+IsScriptFault bytes (Line n) = IsFirstBad (lines_of bytes) n
+IsScriptFault bytes Memory = Unit {0}

@@ -1,0 +1,146 @@
+//! A line, and the turn that it spells.
+ghost use Rattle.std.specs.Prelude.{◌≡◌, ◌≢◌, MatchOption, IfOk};
+ghost use Rattle.cadf_event.specs.Document.{DocumentParts, IsDocument};
+ghost use Rattle.cadf_script.specs.Script.{Command as CommandOf, word_of, command_of, IsDocumentOf, AreWords, IsTurn, IsNoTurn};
+ghost use Rattle.cadf_script.specs.Words.{IsNoDocument, HasArguments};
+
+use crate::words::{cut_at_blank, number, site_and_text, two_numbers};
+use cadf_event::{Document, DocumentFault};
+use cadf_json::{Json, JsonFault, Memory};
+use cadf_rehearsal::Turn;
+use std::alloc::Global;
+
+/// The first word of a line.
+#[derive(Clone, Copy)]
+pub enum Command {
+    Learn,
+    Ask,
+    Answer,
+    Send,
+    Deliver,
+}
+
+/// The command that the word is.
+fn command_named(word: &[u8]) -> Option<Command>
+    ensures { MatchOption result ((c : CommandOf) → word.now ≢ word_of c) (λ c. word.now ≡ word_of c) }
+{
+    if word == b"learn".as_slice() {
+        return Some(Command::Learn);
+    }
+    if word == b"ask".as_slice() {
+        return Some(Command::Ask);
+    }
+    if word == b"answer".as_slice() {
+        return Some(Command::Answer);
+    }
+    if word == b"send".as_slice() {
+        return Some(Command::Send);
+    }
+    if word == b"deliver".as_slice() {
+        return Some(Command::Deliver);
+    }
+    None
+}
+
+/// The document that the value of a text is.
+fn document(alloc: Global, json: &Json) -> Result<Option<Document>, Memory>
+    ensures { IfOk result (λ found. MatchOption found ((d : DocumentParts) → ¬ IsDocument json.now d) (IsDocument json.now)) }
+{
+    match Document::read(alloc, &json.view()) {
+        Ok(document) => Ok(Some(document)),
+        Err(fault) => match fault {
+            DocumentFault::Memory => Err(Memory),
+            _ => Ok(None),
+        },
+    }
+}
+
+/// The document that the text spells.
+fn document_of(alloc: Global, text: &[u8]) -> Result<Option<Document>, Memory>
+    ensures { IfOk result (λ found. MatchOption found (IsNoDocument text.now) (IsDocumentOf text.now)) }
+{
+    match Json::read(alloc, text) {
+        Ok(json) => document(alloc, &json),
+        Err(JsonFault::Memory) => Err(Memory),
+        Err(_) => Ok(None),
+    }
+}
+
+/// What a site learns.
+fn learn(alloc: Global, words: &[u8]) -> Result<Option<Turn>, Memory>
+    ensures { IfOk result (HasArguments CommandOf.Learn words.now) }
+{
+    let Some((site, text)) = site_and_text(words) else {
+        return Ok(None);
+    };
+    match document_of(alloc, text)? {
+        Some(document) => Ok(Some(Turn::Learn(site, document))),
+        None => Ok(None),
+    }
+}
+
+/// A site asks.
+fn ask(words: &[u8]) -> Option<Turn>
+    ensures { HasArguments CommandOf.Ask words.now result }
+{
+    let Some(site) = number(words) else {
+        return None;
+    };
+    Some(Turn::Ask(site))
+}
+
+/// A site sends.
+fn send(words: &[u8]) -> Option<Turn>
+    ensures { HasArguments CommandOf.Send words.now result }
+{
+    let Some(site) = number(words) else {
+        return None;
+    };
+    Some(Turn::Send(site))
+}
+
+/// A site answers a message.
+fn answer(words: &[u8]) -> Option<Turn>
+    ensures { HasArguments CommandOf.Answer words.now result }
+{
+    let Some((site, message)) = two_numbers(words) else {
+        return None;
+    };
+    Some(Turn::Answer(site, message))
+}
+
+/// A message goes to a site.
+fn deliver(words: &[u8]) -> Option<Turn>
+    ensures { HasArguments CommandOf.Deliver words.now result }
+{
+    let Some((message, site)) = two_numbers(words) else {
+        return None;
+    };
+    Some(Turn::Deliver(message, site))
+}
+
+/// The turn of that command with these words.
+fn turn_of(alloc: Global, command: Command, words: &[u8]) -> Result<Option<Turn>, Memory>
+    ensures { IfOk result (HasArguments command words.now) }
+{
+    match command {
+        Command::Learn => learn(alloc, words),
+        Command::Ask => Ok(ask(words)),
+        Command::Answer => Ok(answer(words)),
+        Command::Send => Ok(send(words)),
+        Command::Deliver => Ok(deliver(words)),
+    }
+}
+
+/// The turn that the line spells.
+pub(crate) fn read_turn(alloc: Global, line: &[u8]) -> Result<Option<Turn>, Memory>
+    ensures { IfOk result (λ found. MatchOption found (IsNoTurn line.now) (IsTurn line.now)) }
+{
+    let Some(cut) = cut_at_blank(line) else {
+        return Ok(None);
+    };
+    match command_named(cut.word) {
+        Some(command) => turn_of(alloc, command, cut.rest),
+        None => Ok(None),
+    }
+}

@@ -1,0 +1,98 @@
+//! The words of a line: what stands before the first blank, and numbers.
+ghost use Rattle.std.specs.Prelude.{◌≡◌, ◌==◌, ◌≤◌, length, ℕ, List, MatchOption, false};
+ghost use Rattle.std.specs.List.{position_or_len};
+ghost use Rattle.cadf_script.specs.Script.{IsNumber, AreTwo, IsSiteAndText};
+ghost use Rattle.cadf_script.specs.Words.{IsCut, has_blank, is_plain as is_plain_word};
+
+/// How many bytes stand before the first of that value.
+#[tactic(auto, using(std::proofs::lemmas::List::Sums::position_or_len_is))]
+pub(crate) fn place_of(mark: u8, bytes: &[u8]) -> usize
+    ensures place { result ≡ position_or_len (λ x. x == mark) bytes.now }
+    ensures within { result ≤ length bytes.now }
+{
+    for (i, byte) in bytes.iter().enumerate() {
+        if *byte == mark {
+            return i;
+        }
+    }
+    bytes.len()
+}
+
+/// What stands before the first blank, and what stands behind it.
+#[derive(Clone, Copy)]
+pub(crate) struct Cut<'a> {
+    pub(crate) word: &'a [u8],
+    pub(crate) rest: &'a [u8],
+}
+
+/// The words at the first blank.
+pub(crate) fn cut_at_blank(bytes: &[u8]) -> Option<Cut<'_>>
+    ensures { MatchOption result (has_blank bytes.now ≡ false) (λ c. IsCut bytes.now c.word.now c.rest.now) }
+{
+    let at = place_of(b' ', bytes);
+    if at >= bytes.len() {
+        return None;
+    }
+    Some(Cut {
+        word: &bytes[..at],
+        rest: &bytes[at + 1..],
+    })
+}
+
+/// Whether the word has one to nine bytes and no sign in front, and a zero in front only by itself.
+fn is_plain(word: &[u8]) -> bool
+    ensures { result ≡ is_plain_word word.now }
+{
+    match word {
+        [] => false,
+        [first, rest @ ..] => {
+            *first != b'+' && (*first != b'0' || rest.is_empty()) && rest.len() < 9
+        }
+    }
+}
+
+/// The number that the word spells.
+pub(crate) fn number(word: &[u8]) -> Option<usize>
+    ensures { MatchOption result ((n : ℕ) → ¬ IsNumber word.now n) (IsNumber word.now) }
+{
+    if !is_plain(word) {
+        return None;
+    }
+    let Ok(text) = str::from_utf8(word) else {
+        return None;
+    };
+    match text.parse::<u32>() {
+        Ok(number) => Some(number as usize),
+        Err(_) => None,
+    }
+}
+
+/// The two numbers that the words spell.
+pub(crate) fn two_numbers(words: &[u8]) -> Option<(usize, usize)>
+    ensures { MatchOption result ((m n : ℕ) → ¬ AreTwo words.now m n) (λ p. AreTwo words.now p.0 p.1) }
+{
+    let Some(cut) = cut_at_blank(words) else {
+        return None;
+    };
+    let Some(first) = number(cut.word) else {
+        return None;
+    };
+    let Some(second) = number(cut.rest) else {
+        return None;
+    };
+    Some((first, second))
+}
+
+/// The number that the first word spells, and the text behind it.
+pub(crate) fn site_and_text(words: &[u8]) -> Option<(usize, &[u8])>
+    ensures { MatchOption result ((n : ℕ) (text : List ℕ) → ¬ IsSiteAndText words.now n text)
+        (λ p. IsSiteAndText words.now p.0 p.1.now) }
+{
+    let Some(cut) = cut_at_blank(words) else {
+        return None;
+    };
+    let Some(site) = number(cut.word) else {
+        return None;
+    };
+    Some((site, cut.rest))
+}

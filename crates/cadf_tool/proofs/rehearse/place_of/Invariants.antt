@@ -1,0 +1,7 @@
+use Rattle.std.proofs.Common.{◌≡◌, ◌<◌, ℕ, false, get_or}
+use Rattle.cadf_tool.specs.Sites.{is_same}
+use Rattle.cadf_tool.proofs.rehearse.place_of.Given as goal
+
+-- the sites so far hold something else
+abbrev pub invariant-loop-place : goal.invariant-loop-place
+invariant-loop-place l = (k : ℕ) → k < l.place → is_same l.site (get_or l.sites k l.site) ≡ false

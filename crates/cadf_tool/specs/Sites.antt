@@ -1,0 +1,33 @@
+-- What `rehearse` writes of the replicas of all sites.
+--     is_same h k        both are of one log and hold the same
+--     place_of h sites   how many sites stand before the first that is the same as h
+--     sites_text sites   a line for each site: its number, how many atoms it has, and the least site that is the same
+use Rattle.std.specs.Prelude.{ℕ, ◌+◌, Bool, ◌&&◌, List, [], ◌∷◌, ◌++◌, length, codes, decimal}
+use Rattle.std.specs.List.{position_or_len}
+use Rattle.cadf_join.specs.Contents.{Text}
+use Rattle.cadf_join.specs.Sets as set
+use Rattle.cadf_join.specs.Prefixes.{saturated}
+use Rattle.cadf_replica.specs.Atoms.{is_text}
+use Rattle.cadf_replica.specs.Replica.{Held}
+
+abbrev pub is_same : Held → Held → Bool
+is_same h k = is_text h.log k.log && (set.is_subset h.atoms k.atoms && set.is_subset k.atoms h.atoms)
+
+abbrev pub place_of : Held → List Held → ℕ
+place_of h sites = position_or_len (is_same h) sites
+
+abbrev pub site_line : ℕ → ℕ → ℕ → Text
+site_line site atoms same =
+    codes "site " ++ (decimal site ++ (codes " atoms " ++ (decimal atoms ++ (codes " as " ++ (decimal same ++ 10 ∷ [])))))
+
+-- the line of the site of that number; a count above those of 64 bits as the greatest
+abbrev pub line_at : List Held → ℕ → Held → Text
+line_at sites i h = site_line i (saturated (length (set.rising h.atoms))) (place_of h sites)
+
+-- the lines of these, of which the first has that number
+abbrev pub lines_from : List Held → ℕ → List Held → Text
+lines_from sites i [] = []
+lines_from sites i (h ∷ hs) = line_at sites i h ++ lines_from sites (i + 1) hs
+
+unfoldable pub sites_text : List Held → Text
+sites_text sites = lines_from sites 0 sites

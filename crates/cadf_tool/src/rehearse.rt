@@ -1,0 +1,152 @@
+//! A schedule that is read of a script, and what it leaves at each site.
+ghost use Rattle.std.specs.Prelude.{◌≡◌, IfOk, IfErr, Ok, string_bytes};
+ghost use Rattle.cadf_tool.specs.Rehearse.{as_bytes, as_script, turns_of, of_rehearsal, left_of, played as played_of};
+ghost use Rattle.cadf_tool.specs.Run.{one, turn, IsReadAs, IsReadWithin, IsUnread, IsDue, IsWorked, IsWritten, IsRun};
+ghost use Rattle.cadf_tool.specs.Sites.{is_same, place_of as place_in, site_line, sites_text as text_of_sites};
+
+use crate::FILE_LIMIT;
+use crate::fault::ToolFault;
+use crate::input::LoadFault;
+use cadf_event::Name;
+use cadf_json::{Memory, Sink, Source, WholeFault, read_whole, write_whole};
+use cadf_rehearsal::{RehearseFault, Turn, rehearse};
+use cadf_replica::Replica;
+use cadf_script::{ScriptFault, read_script};
+use std::alloc::Global;
+
+/// The bytes of a script.
+fn bytes_of<R: Source>(alloc: Global, script: &mut R) -> Result<Vec<u8>, ToolFault>
+    ensures ok { IfOk result (λ v. IsReadAs as_bytes (turn R.Source script.old script.new) v.items) }
+    ensures err { IfErr result (IsUnread (one as_script (turn R.Source script.old script.new))) }
+    ensures reads { IsReadWithin FILE_LIMIT (turn R.Source script.old script.new) }
+{
+    match read_whole(alloc, script, FILE_LIMIT) {
+        Ok(bytes) => Ok(bytes),
+        Err(WholeFault::TooLarge) => Err(ToolFault::Input(1, LoadFault::TooLarge)),
+        Err(WholeFault::ReadFault) => Err(ToolFault::ReadFault(1)),
+        Err(WholeFault::Memory) => Err(ToolFault::Memory),
+    }
+}
+
+/// The turns of a script, which is read whole before the first.
+fn turns<R: Source>(alloc: Global, script: &mut R) -> Result<Vec<Turn>, ToolFault>
+    ensures ok { IfOk result (λ v. IsDue (one as_script (turn R.Source script.old script.new)) turns_of (Ok v.items)) }
+    ensures err { IfErr result (λ f. IsDue (one as_script (turn R.Source script.old script.new)) turns_of (Err f)) }
+{
+    let bytes = bytes_of(alloc, script)?;
+    match read_script(alloc, &bytes) {
+        Ok(turns) => Ok(turns),
+        Err(ScriptFault::Line(line)) => Err(ToolFault::Script(line)),
+        Err(ScriptFault::Memory) => Err(ToolFault::Memory),
+    }
+}
+
+/// What an engine answers where a schedule can't be played.
+fn refused(fault: RehearseFault) -> ToolFault
+    ensures { result ≡ of_rehearsal fault }
+{
+    match fault {
+        RehearseFault::Memory => ToolFault::Memory,
+        fault => ToolFault::Rehearse(fault),
+    }
+}
+
+/// The replicas that the turns leave at the sites.
+fn left(alloc: Global, log: &Name, sites: usize, turns: &[Turn]) -> Result<Vec<Replica>, ToolFault>
+    ensures ok { IfOk result (λ v. IsWorked (left_of log.now sites turns.now) (Ok v.items)) }
+    ensures err { IfErr result (λ f. IsWorked (left_of log.now sites turns.now) (Err f)) }
+{
+    match rehearse(alloc, log, sites, turns) {
+        Ok(left) => Ok(left),
+        Err(fault) => Err(refused(fault)),
+    }
+}
+
+/// The replicas that a script leaves at the sites.
+fn played<R: Source>(
+    alloc: Global,
+    log: &Name,
+    sites: usize,
+    script: &mut R,
+) -> Result<Vec<Replica>, ToolFault>
+    ensures ok { IfOk result (λ v. IsDue (one as_script (turn R.Source script.old script.new)) (played_of log.now sites) (Ok v.items)) }
+    ensures err { IfErr result (λ f. IsDue (one as_script (turn R.Source script.old script.new)) (played_of log.now sites) (Err f)) }
+{
+    match turns(alloc, script) {
+        Ok(turns) => left(alloc, log, sites, turns.as_slice()),
+        Err(fault) => Err(fault),
+    }
+}
+
+/// Whether both are of one log and hold the same.
+fn are_same(site: &Replica, other: &Replica) -> bool
+    ensures { result ≡ is_same site.now other.now }
+{
+    site.same(other)
+}
+
+/// How many sites stand before the first that holds the same.
+fn place_of(site: &Replica, sites: &[Replica]) -> usize
+    ensures { result ≡ place_in site.now sites.now }
+{
+    for (place, other) in sites.iter().enumerate() {
+        if are_same(site, other) {
+            return place;
+        }
+    }
+    sites.len()
+}
+
+/// The line of a site.
+fn line(alloc: Global, site: usize, atoms: u64, same: usize) -> Result<String, Memory>
+    ensures { IfOk result (λ line. string_bytes line ≡ site_line site atoms same) }
+{
+    format!(in alloc; "site {site} atoms {atoms} as {same}\n")
+}
+
+/// The lines of all sites.
+#[tactic(auto, unfolding(crate::specs::Sites::sites_text))]
+fn lines(alloc: Global, sites: &[Replica]) -> Result<String, Memory>
+    ensures { IfOk result (λ text. string_bytes text ≡ text_of_sites sites.now) }
+{
+    let mut text = String::new(alloc);
+    for (i, site) in sites.iter().enumerate() {
+        let line = line(alloc, i, site.atom_count(), place_of(site, sites))?;
+        text.push_str(line.as_str())?;
+    }
+    Ok(text)
+}
+
+/// Writes the lines of all sites.
+fn write_lines<W: Sink>(alloc: Global, sites: &[Replica], output: &mut W) -> Result<(), ToolFault>
+    ensures written { IsWritten W.Sink output.old output.new (text_of_sites sites.now) result }
+    ensures memory { result ≡ Err ToolFault.Memory → output.new ≡ output.old }
+{
+    let Ok(text) = lines(alloc, sites) else {
+        return Err(ToolFault::Memory);
+    };
+    match write_whole(output, text.as_bytes()) {
+        Ok(()) => Ok(()),
+        Err(_) => Err(ToolFault::WriteFault),
+    }
+}
+
+/// Plays the schedule of a script over so many sites of the log, which are 1 to 64, and writes a line for
+/// each site from 0: `site I atoms N as J`, where J is the least site that holds the same.
+pub fn run_rehearse<R: Source, W: Sink>(
+    alloc: Global,
+    log: &Name,
+    sites: usize,
+    script: &mut R,
+    output: &mut W,
+) -> Result<(), ToolFault>
+    ensures played { IsRun (one as_script (turn R.Source script.old script.new)) (played_of log.now sites)
+        text_of_sites W.Sink output.old output.new result }
+    // The lines stand whole before they are written.
+    ensures memory { result ≡ Err ToolFault.Memory → output.new ≡ output.old }
+{
+    match played(alloc, log, sites, script) {
+        Ok(left) => write_lines(alloc, left.as_slice(), output),
+        Err(fault) => Err(fault),
+    }
+}
