@@ -4,6 +4,8 @@
 #[cfg(test)]
 mod oracle;
 #[cfg(test)]
+mod ranges;
+#[cfg(test)]
 mod shared;
 #[cfg(test)]
 mod support;

@@ -1,4 +1,4 @@
-//! Flat sets against plain ordered sets of lists over two texts: all pairs of sets up to length two, and sets up to length three.
+//! Flat sets against plain ordered sets of lists over two texts: pairs of sets up to length two, and sets up to length three.
 use crate::support::{add, are_same, list, lists, lists_in};
 use cadf_paths::{Join, Memory, Paths};
 use std::alloc::Global;
@@ -111,7 +111,7 @@ fn agree(
 }
 
 #[test]
-fn all_pairs_of_short_sets_act_as_their_sets(rt: HostRuntime) -> Result<(), Fail> {
+fn pairs_of_short_sets_act_as_their_sets(rt: HostRuntime) -> Result<(), Fail> {
     let all = lists(rt.alloc(), SHORT)?;
     assert_eq!(rt; all.len(), 7);
     for ours in 0..128 {
@@ -138,6 +138,34 @@ fn long_sets_look_as_their_sets(rt: HostRuntime) -> Result<(), Fail> {
         );
         assert!(rt; finds_each(&paths, all.as_slice(), mask), "{mask}");
         mask += 31;
+    }
+    Ok(())
+}
+
+/// The flat set of a plain set, its lists put from the last to the first, each twice.
+fn put_backwards(alloc: Global, all: &[Vec<&'static str>], mask: usize) -> Result<Paths, Memory> {
+    let mut paths = Paths::new(alloc);
+    let mut number = all.len();
+    while number > 0 {
+        number -= 1;
+        if (mask >> number) & 1 == 1 {
+            paths.insert(all[number].as_slice())?;
+            paths.insert(all[number].as_slice())?;
+        }
+    }
+    Ok(paths)
+}
+
+#[test]
+fn lists_are_put_in_any_order(rt: HostRuntime) -> Result<(), Fail> {
+    let all = lists(rt.alloc(), SHORT)?;
+    for mask in 0..128 {
+        let paths = put_backwards(rt.alloc(), all.as_slice(), mask)?;
+        assert!(rt;
+            looks_as(rt.alloc(), &paths, all.as_slice(), mask)?,
+            "{mask}"
+        );
+        assert!(rt; finds_each(&paths, all.as_slice(), mask), "{mask}");
     }
     Ok(())
 }
