@@ -1,6 +1,7 @@
 pub mod Access
 pub mod Atom
 pub mod AtomGives
+pub mod AtomPaths
 pub mod Atoms
 pub mod AtomSets
 pub mod Contributions

@@ -12,6 +12,8 @@ mod inventories;
 #[cfg(test)]
 mod parts;
 #[cfg(test)]
+mod paths;
+#[cfg(test)]
 mod support;
 #[cfg(test)]
 mod tails;
