@@ -7,13 +7,13 @@ use std::process::Abort;
 use std::test::Fail;
 
 /// Of nothing.
-const NONE: &str = r#"CADF-INVENTORY 1
+pub const NONE: &str = r#"CADF-INVENTORY 1
 L "g"
 Z ea29fcbebaa391558260d1200bd708d2cb8644ff710f6f8d74e1b43ae99b1d72
 "#;
 
 /// Of one event.
-pub const ONE_NOTED: &str = r#"CADF-INVENTORY 1
+const ONE_NOTED: &str = r#"CADF-INVENTORY 1
 L "g"
 e3c7c4b821fba7aefa60dc6e052a2a547b9a1778e825109f2261cd3246cb12f8
 Z 7afc6dd0e29577ee69251ab7e5e2b1764c19bf506d62218b9d7aca51f2b34a80

@@ -1,6 +1,6 @@
 //! Reads and writes that fail, each in turn, of every engine.
-use crate::files::{CHAINS, CONFLICT, ONE, written};
-use crate::inventories::ONE_NOTED;
+use crate::files::{CHAINS, EMPTY, ONE, written};
+use crate::inventories::NONE;
 use cadf_json::{FailingWrite, MemorySink, MemorySource};
 use cadf_tool::{
     ToolFault, run_check, run_inventory, run_join, run_missing, run_missing_by, run_show, status,
@@ -31,26 +31,35 @@ const CHAINED: &str =
     r#"{"events":[{HEAD,PARTIES,"outcome":"success","reporterchain":[S1,S2],"reporterchains":[[S1],[S1,S2]],"targetId":"t1","typeURI":"EVT"}LOGEND
 "#;
 
-const LISTED: &str =
-    r#"{"conflicts":[{"key":"e1","kind":"E","values":[{"action":"read","eventTime":"2024-03-01T12:00:00Z","eventType":"activity","id":"e1",PARTIES,"outcome":"failure","reporterchain":[S2],"targetId":"t1","typeURI":"EVT"},{"action":"read","eventTime":"2024-03-01T12:00:00Z","eventType":"activity","id":"e1",PARTIES,"outcome":"success","reporterchain":[S1],"targetId":"t1","typeURI":"EVT"}]}],"log":"g"}
-"#;
+const LOG: &str = r#"{"id":"g","events":[]}"#;
+
+/// Engines with two inputs, small ones, since each is read again for each of its reads.
+const READ: [(Engine, &str, &str); 9] = [
+    (Engine::Show, ONE, ""),
+    (Engine::Show, LOG, ""),
+    (Engine::Conflicts, EMPTY, ""),
+    (Engine::Check, EMPTY, ""),
+    (Engine::Inventory, EMPTY, ""),
+    (Engine::Join, EMPTY, LOG),
+    (Engine::Join, LOG, EMPTY),
+    (Engine::Missing, EMPTY, LOG),
+    (Engine::MissingBy, LOG, NONE),
+];
 
 /// Engines with two inputs, and the text that each writes.
-const RUNS: [(Engine, &str, &str, &str); 8] = [
+const WRITTEN: [(Engine, &str, &str, &str); 7] = [
     (Engine::Show, CHAINS, "", CHAINED),
     (
-        Engine::Show,
-        r#"{"id":"g","events":[V1]}"#,
+        Engine::Conflicts,
+        LOG,
         "",
-        r#"{"events":[V1LOGEND
-"#,
+        "{\"conflicts\":[],\"log\":\"g\"}\n",
     ),
-    (Engine::Conflicts, CONFLICT, "", LISTED),
-    (Engine::Check, CHAINS, "", "ok \"g\" atoms 3 conflicts 0\n"),
-    (Engine::Inventory, ONE, "", ONE_NOTED),
-    (Engine::Join, CHAINS, r#"{"id":"g","events":[V1]}"#, CHAINS),
-    (Engine::Missing, CHAINS, ONE, CHAINS),
-    (Engine::MissingBy, CHAINS, ONE_NOTED, CHAINS),
+    (Engine::Check, LOG, "", "ok \"g\" atoms 0 conflicts 0\n"),
+    (Engine::Inventory, LOG, "", NONE),
+    (Engine::Join, LOG, "V1", ONE),
+    (Engine::Missing, LOG, LOG, EMPTY),
+    (Engine::MissingBy, LOG, NONE, EMPTY),
 ];
 
 /// What the engine answers.
@@ -74,21 +83,21 @@ fn run(
     }
 }
 
-/// What the engine answers, and what it wrote, where the reads and the write of these numbers fail.
+/// What the engine answers, and what it wrote, where reads and writes move so many bytes, and those of these numbers fail.
 fn ended(
     alloc: Global,
     engine: Engine,
     inputs: (&str, &str),
-    piece: usize,
+    pieces: (usize, usize),
     reads: (u64, u64),
     write: FailingWrite,
 ) -> (Result<(), ToolFault>, MemorySink) {
-    let piece = piece.max(1);
+    let piece = pieces.0.max(1);
     let mut sources = [
         MemorySource::new(inputs.0.as_bytes(), piece, reads.0),
         MemorySource::new(inputs.1.as_bytes(), piece, reads.1),
     ];
-    let mut sink = MemorySink::new(alloc, piece, write);
+    let mut sink = MemorySink::new(alloc, pieces.1.max(1), write);
     let answer = run(alloc, engine, &mut sources, &mut sink);
     (answer, sink)
 }
@@ -108,7 +117,14 @@ fn fail_reads(
         } else {
             ((failing, 0), 1)
         };
-        let (answer, sink) = ended(alloc, engine, inputs, piece, reads, FailingWrite::Never);
+        let (answer, sink) = ended(
+            alloc,
+            engine,
+            inputs,
+            (piece, 4096),
+            reads,
+            FailingWrite::Never,
+        );
         if answer == Ok(()) {
             return failing - 1;
         }
@@ -132,7 +148,7 @@ fn check_reads(rt: &impl Abort, found: u64, input: &str, piece: usize) {
 #[test]
 fn each_read(rt: HostRuntime) -> Result<(), Fail> {
     let alloc = rt.alloc();
-    for (engine, first, second, _) in RUNS {
+    for (engine, first, second) in READ {
         let first = written(alloc, first)?;
         let second = written(alloc, second)?;
         for piece in PIECES {
@@ -178,14 +194,14 @@ fn fail_writes(
 ) -> u64 {
     for failing in 1..MOST {
         let nothing = FailingWrite::TakesNothing(failing);
-        let (taken, sink) = ended(alloc, engine, inputs, piece, (0, 0), nothing);
+        let (taken, sink) = ended(alloc, engine, inputs, (4096, piece), (0, 0), nothing);
         if taken == Ok(()) {
             assert!(rt; sink.bytes() == text.as_bytes(), "{engine:?}");
             return failing - 1;
         }
         check_front(rt, (taken, &sink), text, piece, failing);
         let refuses = FailingWrite::Refuses(failing);
-        let (refused, sink) = ended(alloc, engine, inputs, piece, (0, 0), refuses);
+        let (refused, sink) = ended(alloc, engine, inputs, (4096, piece), (0, 0), refuses);
         check_front(rt, (refused, &sink), text, piece, failing);
     }
     MOST
@@ -195,7 +211,7 @@ fn fail_writes(
 #[test]
 fn each_write(rt: HostRuntime) -> Result<(), Fail> {
     let alloc = rt.alloc();
-    for (engine, first, second, text) in RUNS {
+    for (engine, first, second, text) in WRITTEN {
         let first = written(alloc, first)?;
         let second = written(alloc, second)?;
         let text = written(alloc, text)?;

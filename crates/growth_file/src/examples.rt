@@ -1,8 +1,9 @@
 //! Small replicas as files, as documents and as the two texts.
 use cadf_event::{Document, Name};
-use cadf_file::write_replica;
+use cadf_file::{read_replica, write_replica};
 use cadf_json::{FailingWrite, MemorySink, MemorySource};
 use cadf_replica::Replica;
+use growths::{Report, told};
 use std::alloc::Global;
 
 /// A limit that no file here reaches.
@@ -51,7 +52,8 @@ pub const CONFLICTS: &str =
 
 /// A replica that took the document.
 pub fn replica_of(alloc: Global, document: &Document) -> Option<Replica> {
-    let mut replica = Replica::new(alloc, Name::read(alloc, "g").ok()?);
+    let log = Name::read(alloc, "g").ok()?;
+    let mut replica = Replica::new(alloc, log);
     replica.take_document(document).ok()?;
     Some(replica)
 }
@@ -73,7 +75,16 @@ pub fn sink(alloc: Global) -> MemorySink {
     MemorySink::new(alloc, 4096, FailingWrite::Never)
 }
 
-/// Whether a front of the text was written.
-pub fn is_front(sink: &MemorySink, text: &str) -> bool {
-    text.as_bytes().starts_with(sink.bytes())
+/// What is told of a writing: it wrote the text, or where it was refused a front of it.
+pub fn front(is_refused: bool, sink: &MemorySink, text: &str) -> Report {
+    if is_refused {
+        told(true, text.as_bytes().starts_with(sink.bytes()))
+    } else {
+        told(false, sink.bytes() == text.as_bytes())
+    }
+}
+
+/// The replica of the file.
+pub fn replica(alloc: Global, file: &str) -> Option<Replica> {
+    read_replica(alloc, &mut in_pieces(file, 4096), LIMIT).ok()
 }

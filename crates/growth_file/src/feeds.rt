@@ -1,40 +1,30 @@
 //! Replica files that are fed.
 use crate::examples::{LIMIT, is_file};
 use cadf_file::{FileFault, ReplicaFeed};
-use growths::{Report, told};
+use growths::{Report, seen, told};
 use std::alloc::Global;
 
-/// A feed that is refused answers so again and keeps nothing; another that is fed the same tells the file.
+/// A feed tells the file's replica; one that is refused answers so again and keeps nothing.
 pub fn feed(alloc: Global, file: &str) -> Option<Report> {
     let mut feed = ReplicaFeed::new(alloc, LIMIT);
-    let first = feed.feed(file.as_bytes());
-    let held = match first {
-        Ok(()) => is_told(alloc, feed, file)?,
-        Err(fault) => fault == FileFault::Memory && is_closed(feed),
-    };
-    let whole = is_fed(alloc, file)?;
-    Some(told(first.is_err(), held && whole))
+    match feed.feed(file.as_bytes()) {
+        Ok(()) => ended(alloc, feed, file),
+        Err(fault) => Some(told(true, fault == FileFault::Memory && is_closed(feed))),
+    }
 }
 
-/// Whether the feed tells the file's replica.
-fn is_told(alloc: Global, feed: ReplicaFeed, file: &str) -> Option<bool> {
-    let replica = feed.finish(false).ok()?;
-    is_file(alloc, &replica, file)
-}
-
-/// Whether a new feed does.
-fn is_fed(alloc: Global, file: &str) -> Option<bool> {
-    let mut feed = ReplicaFeed::new(alloc, LIMIT);
-    feed.feed(file.as_bytes()).ok()?;
-    is_told(alloc, feed, file)
+fn ended(alloc: Global, feed: ReplicaFeed, file: &str) -> Option<Report> {
+    match feed.finish(false) {
+        Ok(replica) => seen(is_file(alloc, &replica, file)),
+        Err(fault) => Some(told(true, fault == FileFault::Memory)),
+    }
 }
 
 /// Whether want of memory is answered to all that comes, and nothing is pending.
 fn is_closed(mut feed: ReplicaFeed) -> bool {
     let kept = feed.pending();
-    let again = feed.feed(b"Z");
+    let refused = feed.feed(b"Z") == Err(FileFault::Memory);
     let pending = feed.pending();
-    let ended = feed.finish(false).err();
-    let refused = Some(FileFault::Memory);
-    kept == 0 && pending == 0 && again.err() == refused && ended == refused
+    let ended = feed.finish(false).err() == Some(FileFault::Memory);
+    kept == 0 && pending == 0 && refused && ended
 }

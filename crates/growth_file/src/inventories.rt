@@ -1,7 +1,6 @@
 //! Inventory files that are read and written.
-use crate::examples::{FILE, LIMIT, in_pieces, is_front, sink};
-use cadf_file::{FileFault, read_inventory, read_replica, write_inventory};
-use cadf_json::MemorySink;
+use crate::examples::{FILE, LIMIT, front, in_pieces, replica, sink};
+use cadf_file::{FileFault, read_inventory, write_inventory};
 use cadf_replica::Inventory;
 use growths::{Report, told};
 use std::alloc::Global;
@@ -18,40 +17,23 @@ e3c7c4b821fba7aefa60dc6e052a2a547b9a1778e825109f2261cd3246cb12f8
 Z 57afd6e3afdb13c5b0678cbee9e830cea007ce35c6c1eeb0464b48bb4d17a8f4
 "#;
 
-/// A reading that is refused answers want of memory, and the same again reads the inventory.
+/// A reading reads the inventory, or answers want of memory.
 pub fn read(alloc: Global) -> Option<Report> {
-    let first = read_inventory(alloc, &mut in_pieces(INVENTORY, 7), LIMIT);
-    let refused = first.is_err();
-    let held = match first {
-        Ok(inventory) => is_written(alloc, &inventory)?,
-        Err(fault) => fault == FileFault::Memory,
-    };
-    let again = read_inventory(alloc, &mut in_pieces(INVENTORY, 7), LIMIT).ok()?;
-    Some(told(refused, held && is_written(alloc, &again)?))
+    match read_inventory(alloc, &mut in_pieces(INVENTORY, 7), LIMIT) {
+        Ok(inventory) => written(alloc, &inventory),
+        Err(fault) => Some(told(true, fault == FileFault::Memory)),
+    }
 }
 
-/// Whether that file is written of the inventory.
-fn is_written(alloc: Global, inventory: &Inventory) -> Option<bool> {
-    let mut written = sink(alloc);
-    write_inventory(alloc, inventory, &mut written).ok()?;
-    Some(written.bytes() == INVENTORY.as_bytes())
-}
-
-/// A writing that is refused has written a front of the file, and the same again writes the file.
+/// A writing writes the file, or a front of it.
 pub fn write(alloc: Global) -> Option<Report> {
-    let inventory = inventory(alloc)?;
-    let mut written = sink(alloc);
-    let first = write_inventory(alloc, &inventory, &mut written);
-    let held = is_front(&written, INVENTORY) && (first.is_err() || is_whole(&written));
-    Some(told(first.is_err(), held && is_written(alloc, &inventory)?))
+    let replica = replica(alloc, FILE)?;
+    let inventory = replica.inventory().ok()?;
+    written(alloc, &inventory)
 }
 
-fn is_whole(written: &MemorySink) -> bool {
-    written.bytes() == INVENTORY.as_bytes()
-}
-
-/// The inventory of the file with one event.
-fn inventory(alloc: Global) -> Option<Inventory> {
-    let replica = read_replica(alloc, &mut in_pieces(FILE, 4096), LIMIT).ok()?;
-    replica.inventory().ok()
+fn written(alloc: Global, inventory: &Inventory) -> Option<Report> {
+    let mut sink = sink(alloc);
+    let is_refused = write_inventory(alloc, inventory, &mut sink).is_err();
+    Some(front(is_refused, &sink, INVENTORY))
 }

@@ -3,31 +3,23 @@ use crate::examples::{DOCUMENT, FILE, LIMIT, in_pieces, is_file, replica_of};
 use cadf_event::{Document, DocumentFault};
 use cadf_file::{FileFault, read_replica};
 use cadf_json::{Json, JsonFault};
-use growths::{Report, told};
+use growths::{Report, seen, told};
 use std::alloc::Global;
 
-/// A reading that is refused answers want of memory, and the same again reads the file's replica.
+/// A reading reads the file's replica, or answers want of memory.
 pub fn file(alloc: Global, file: &str, piece: usize) -> Option<Report> {
-    let first = read_replica(alloc, &mut in_pieces(file, piece), LIMIT);
-    let refused = first.is_err();
-    let held = match first {
-        Ok(replica) => is_file(alloc, &replica, file)?,
-        Err(fault) => fault == FileFault::Memory,
-    };
-    let again = read_replica(alloc, &mut in_pieces(file, piece), LIMIT).ok()?;
-    Some(told(refused, held && is_file(alloc, &again, file)?))
+    match read_replica(alloc, &mut in_pieces(file, piece), LIMIT) {
+        Ok(replica) => seen(is_file(alloc, &replica, file)),
+        Err(fault) => Some(told(true, fault == FileFault::Memory)),
+    }
 }
 
-/// A reading that is refused answers want of memory, and the same again reads the value.
+/// A reading reads the value, or answers want of memory.
 pub fn json(alloc: Global) -> Option<Report> {
-    let first = Json::read(alloc, DOCUMENT.as_bytes());
-    let refused = first.is_err();
-    let held = match first {
-        Ok(json) => spells_document(alloc, &json)?,
-        Err(fault) => fault == JsonFault::Memory,
-    };
-    let again = Json::read(alloc, DOCUMENT.as_bytes()).ok()?;
-    Some(told(refused, held && spells_document(alloc, &again)?))
+    match Json::read(alloc, DOCUMENT.as_bytes()) {
+        Ok(json) => seen(spells_document(alloc, &json)),
+        Err(fault) => Some(told(true, fault == JsonFault::Memory)),
+    }
 }
 
 /// Whether the value is that of the document.
@@ -36,21 +28,17 @@ fn spells_document(alloc: Global, json: &Json) -> Option<bool> {
     Some(text.as_str() == DOCUMENT)
 }
 
-/// A reading that is refused answers want of memory, and the same again reads the document.
+/// A reading reads the document, or answers want of memory.
 pub fn document(alloc: Global) -> Option<Report> {
     let json = Json::read(alloc, DOCUMENT.as_bytes()).ok()?;
     document_of(alloc, &json)
 }
 
 fn document_of(alloc: Global, json: &Json) -> Option<Report> {
-    let first = Document::read(alloc, &json.view());
-    let refused = first.is_err();
-    let held = match first {
-        Ok(document) => contributes(alloc, &document)?,
-        Err(fault) => fault == DocumentFault::Memory,
-    };
-    let again = Document::read(alloc, &json.view()).ok()?;
-    Some(told(refused, held && contributes(alloc, &again)?))
+    match Document::read(alloc, &json.view()) {
+        Ok(document) => seen(contributes(alloc, &document)),
+        Err(fault) => Some(told(true, fault == DocumentFault::Memory)),
+    }
 }
 
 /// Whether the document contributes the atoms of the file.

@@ -1,7 +1,7 @@
 //! The steps: each makes its values, and then the one call that is watched.
 use crate::examples::{BOTH, FILE, NORTH};
 use crate::{feeds, inventories, reads, writes};
-use growths::Report;
+use growths::{Report, again};
 use std::alloc::Global;
 
 /// A call that is watched.
@@ -61,11 +61,11 @@ impl Step {
     }
 }
 
-/// Runs the step, once more where a growth outside its call was refused.
+/// Runs the step, once more where a growth was refused.
 pub fn run(alloc: Global, step: Step) -> Report {
     match tried(alloc, step) {
-        Some(report) => report,
-        None => tried(alloc, step).unwrap_or(Report::Fails),
+        Some(Report::Whole) => Report::Whole,
+        first => again(first, tried(alloc, step)),
     }
 }
 

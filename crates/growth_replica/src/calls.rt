@@ -1,9 +1,9 @@
 //! The calls: each is refused, and made again, between replicas that are made before.
 use crate::cases::Case;
 use crate::changes::{Change, changed, joined_twice};
-use crate::replicas::{completes, document, is_within, replica, union};
+use crate::replicas::{Held, document};
 use cadf_replica::{Inventory, Replica};
-use growths::{Report, told};
+use growths::{Report, again, seen};
 use std::alloc::Global;
 
 /// A call that is watched.
@@ -43,85 +43,71 @@ impl Call {
     }
 }
 
-/// Runs the call, once more where a growth outside it was refused.
+/// Runs the call, once more where a growth was refused.
 pub fn run(alloc: Global, call: Call, case: &Case) -> Report {
     match tried(alloc, call, case) {
-        Some(report) => report,
-        None => tried(alloc, call, case).unwrap_or(Report::Fails),
+        Some(Report::Whole) => Report::Whole,
+        first => again(first, tried(alloc, call, case)),
     }
 }
 
 /// What was seen, or `None` where a growth outside the call was refused.
 fn tried(alloc: Global, call: Call, case: &Case) -> Option<Report> {
-    let before = replica(alloc, case.before)?;
-    let coming = replica(alloc, case.coming)?;
-    let union = union(&before, &coming)?;
+    let held = Held::new(alloc, case)?;
     match call {
-        Call::TakeDocument => take(alloc, &before, case.coming, &union),
-        Call::Join => changed(&before, Change::Replica(&coming), &union),
-        Call::JoinTwice => joined_twice(&before, &coming, &union),
-        Call::Missing => missing(&coming, &before, &union),
-        Call::Copy => copy(&union),
-        Call::Inventory => inventory(&union),
-        Call::MissingBy => missing_by(&coming, &before, &union),
+        Call::TakeDocument => take(alloc, &held, case.coming),
+        Call::Join => changed(&held, Change::Replica(&held.coming)),
+        Call::JoinTwice => joined_twice(&held),
+        Call::Missing => missing(&held),
+        Call::Copy => copy(&held.union),
+        Call::Inventory => inventory(&held.union),
+        Call::MissingBy => missing_by(&held),
     }
 }
 
-fn take(alloc: Global, before: &Replica, text: &str, union: &Replica) -> Option<Report> {
+fn take(alloc: Global, held: &Held, text: &str) -> Option<Report> {
     let document = document(alloc, text)?;
-    changed(before, Change::Document(&document), union)
+    changed(held, Change::Document(&document))
 }
 
-/// The missing part, asked for once more where it was refused, makes the receiver the union.
-fn missing(sender: &Replica, receiver: &Replica, union: &Replica) -> Option<Report> {
-    let first = sender.missing(receiver);
-    let refused = first.is_err();
-    let part = match first {
-        Ok(part) => part,
-        Err(_) => sender.missing(receiver).ok()?,
-    };
-    Some(told(refused, completes(receiver, &part, union)?))
+/// The missing part makes the receiver the union.
+fn missing(held: &Held) -> Option<Report> {
+    match held.coming.missing(&held.before) {
+        Ok(part) => seen(held.is_completed_by(&part)),
+        Err(_) => Some(Report::Refused),
+    }
 }
 
-/// A copy, asked for once more where it was refused, holds the same.
-fn copy(held: &Replica) -> Option<Report> {
-    let first = held.copy();
-    let refused = first.is_err();
-    let copied = match first {
-        Ok(copied) => copied,
-        Err(_) => held.copy().ok()?,
-    };
-    Some(told(refused, copied.same(held)))
+/// A copy holds the same.
+fn copy(replica: &Replica) -> Option<Report> {
+    match replica.copy() {
+        Ok(copied) => seen(Some(copied.same(replica))),
+        Err(_) => Some(Report::Refused),
+    }
 }
 
-/// An inventory, asked for once more where it was refused, notes all that is held.
-fn inventory(held: &Replica) -> Option<Report> {
-    let first = held.inventory();
-    let refused = first.is_err();
-    let noted = match first {
-        Ok(noted) => noted,
-        Err(_) => held.inventory().ok()?,
-    };
-    Some(told(refused, held.missing_by(&noted).ok()?.atom_count() == 0))
+/// An inventory notes all that is held.
+fn inventory(replica: &Replica) -> Option<Report> {
+    match replica.inventory() {
+        Ok(noted) => seen(is_noted(replica, &noted)),
+        Err(_) => Some(Report::Refused),
+    }
 }
 
-fn missing_by(sender: &Replica, receiver: &Replica, union: &Replica) -> Option<Report> {
-    let noted = receiver.inventory().ok()?;
-    part_by(sender, &noted, receiver, union)
+fn is_noted(replica: &Replica, noted: &Inventory) -> Option<bool> {
+    let rest = replica.missing_by(noted).ok()?;
+    Some(rest.atom_count() == 0)
 }
 
-/// The part that isn't noted, asked for once more where it was refused, makes the receiver the union.
-fn part_by(
-    sender: &Replica,
-    noted: &Inventory,
-    receiver: &Replica,
-    union: &Replica,
-) -> Option<Report> {
-    let first = sender.missing_by(noted);
-    let refused = first.is_err();
-    let part = match first {
-        Ok(part) => part,
-        Err(_) => sender.missing_by(noted).ok()?,
-    };
-    Some(told(refused, completes(receiver, &part, union)?))
+fn missing_by(held: &Held) -> Option<Report> {
+    let noted = held.before.inventory().ok()?;
+    part_by(held, &noted)
+}
+
+/// The part that isn't noted makes the receiver the union.
+fn part_by(held: &Held, noted: &Inventory) -> Option<Report> {
+    match held.coming.missing_by(noted) {
+        Ok(part) => seen(held.is_completed_by(&part)),
+        Err(_) => Some(Report::Refused),
+    }
 }

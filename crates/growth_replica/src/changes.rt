@@ -1,8 +1,8 @@
 //! Calls that change a replica.
-use crate::replicas::is_within;
+use crate::replicas::Held;
 use cadf_event::Document;
 use cadf_replica::{Replica, ReplicaFault};
-use growths::{Report, told};
+use growths::{Report, seen, told};
 
 /// What a replica is changed by.
 #[derive(Clone, Copy, Drop)]
@@ -20,19 +20,23 @@ fn make(replica: &mut Replica, by: Change<'_>) -> Result<(), ReplicaFault> {
 }
 
 /// A refused change leaves something between the old and the union; the same again leaves the union.
-pub fn changed(before: &Replica, by: Change<'_>, union: &Replica) -> Option<Report> {
-    let mut now = before.copy().ok()?;
-    let refused = make(&mut now, by).is_err();
-    let between = is_within(before, &now)? && is_within(&now, union)?;
-    if refused {
-        make(&mut now, by).ok()?;
+pub fn changed(held: &Held, by: Change<'_>) -> Option<Report> {
+    let mut now = held.before.copy().ok()?;
+    watched(held, by, &mut now)
+}
+
+fn watched(held: &Held, by: Change<'_>, now: &mut Replica) -> Option<Report> {
+    if make(now, by).is_ok() {
+        return seen(Some(now.same(&held.union)));
     }
-    Some(told(refused, between && now.same(union)))
+    let between = held.is_between(now)?;
+    make(now, by).ok()?;
+    Some(told(true, between && now.same(&held.union)))
 }
 
 /// A join that is tried twice leaves the union where one growth is refused.
-pub fn joined_twice(before: &Replica, coming: &Replica, union: &Replica) -> Option<Report> {
-    let mut now = before.copy().ok()?;
-    let first = now.join_twice(coming);
-    Some(told(false, first.is_ok() && now.same(union)))
+pub fn joined_twice(held: &Held) -> Option<Report> {
+    let mut now = held.before.copy().ok()?;
+    let is_done = now.join_twice(&held.coming).is_ok();
+    seen(Some(is_done && now.same(&held.union)))
 }

@@ -31,6 +31,23 @@ pub fn told(refused: bool, holds: bool) -> Report
     }
 }
 
+/// What is told of a call that wasn't refused, where it could be looked at.
+pub fn seen(holds: Option<bool>) -> Option<Report> {
+    match holds {
+        Some(holds) => Some(told(false, holds)),
+        None => None,
+    }
+}
+
+/// What is told of a call that was refused, or of which a growth outside was, by what was seen when all was done again.
+pub fn again(first: Option<Report>, second: Option<Report>) -> Report {
+    match (first, second) {
+        (Some(first), Some(Report::Whole)) => first,
+        (None, Some(Report::Whole)) => Report::Whole,
+        _ => Report::Fails,
+    }
+}
+
 /// Whether the line asks for that call of that case. An empty line asks for all.
 pub fn is_asked(line: &str, call: &str, case: &str) -> bool {
     match line.trim().split_once(' ') {
