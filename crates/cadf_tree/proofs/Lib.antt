@@ -1,0 +1,5 @@
+pub mod Settled
+pub mod Placed
+pub mod Growing
+pub mod Turns
+pub mod Looks
