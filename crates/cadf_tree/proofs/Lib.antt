@@ -3,3 +3,4 @@ pub mod Placed
 pub mod Growing
 pub mod Turns
 pub mod Looks
+pub mod Rewrites

@@ -2,12 +2,15 @@
 #![tactic(auto)]
 
 mod look;
+mod members;
 mod number;
 mod part;
 mod place;
 mod read;
+mod rewrite;
 mod tree;
 
+pub use crate::members::{Member, Members};
 pub use crate::part::Part;
 pub use crate::read::Unread;
 pub use crate::tree::Tree;

@@ -1,16 +1,18 @@
 //! A borrowed part of a tree.
 ghost use Rattle.std.specs.Prelude.{◌≡◌, IfOk, IfSome, length, nat_le, option_map, is_some, slice_get, string_bytes};
 ghost use Rattle.json.specs.Value.{value_view};
-ghost use Rattle.serde_json.specs.Data.{depth as nesting};
+ghost use Rattle.serde_json.specs.Data.{depth as nesting, string as text_value, object as object_of};
 ghost use Rattle.serde_json.specs.Find.{as_null, as_str, as_array, get};
 ghost use Rattle.cadf_json.specs.Parts.{is_object, parts_in, names_in, members_in};
-ghost use Rattle.cadf_json.specs.Rewritten.{all_members, limit_for, limits_of};
+ghost use Rattle.cadf_json.specs.Rewritten.{texts_of, without, replaced, all_members, limit_for, limits_of};
 ghost use Rattle.cadf_json.specs.Value.{IsValue, text as text_of};
 ghost use Rattle.cadf_tree.specs.Tree.{data_in, IsSettledWithin};
 
 use crate::look::{are_within, depth, item_at, item_count, member_count, member_of, name_at, value_at};
+use crate::members::Members;
+use crate::rewrite::{finished, write_object};
 use cadf_json::Memory;
-use json::{Value, to_vec};
+use json::{Value, Writer, to_vec};
 use std::alloc::Global;
 use std::marker::Model;
 
@@ -36,9 +38,11 @@ impl<'v, 'a> Model for Part<'v, 'a> {
 }
 
 impl<'v, 'a> Part<'v, 'a> {
+    /// The whole of a settled tree.
     pub(crate) fn of(value: &'v Value<'a>) -> Part<'v, 'a>
         requires { IsSettledWithin 127 (value_view value.now) }
-        ensures { result ≡ data_in (value_view value.now) }
+        ensures whole { result ≡ data_in (value_view value.now) }
+        ensures value { IsValue result }
     {
         Part { value }
     }
@@ -124,6 +128,33 @@ impl<'v, 'a> Part<'v, 'a> {
             Value::Object(members) => are_within(members, limits, others),
             _ => true,
         }
+    }
+
+    /// The members of an object in the order of their names, none of anything else.
+    pub fn members(&self) -> Members<'v, 'a>
+        ensures { result ≡ members_in self.now }
+    {
+        match self.value {
+            Value::Object(members) => Members::of(Some(members.as_slice())),
+            _ => Members::of(None),
+        }
+    }
+
+    /// The canonical text of an object without the members of these names, and with this text at
+    /// that name where it has one.
+    pub fn rewritten(
+        &self,
+        alloc: Global,
+        left_out: &[&str],
+        name: &str,
+        text: &str,
+    ) -> Result<String, Memory>
+        ensures { IfOk result (λ s. string_bytes s
+            ≡ text_of (object_of (replaced name.now (text_value text.now) (without (texts_of left_out.now) (members_in self.now))))) }
+    {
+        let mut writer = Writer::new(Vec::new(alloc));
+        write_object(&mut writer, self.value, left_out, name, text)?;
+        finished(writer)
     }
 
     /// Every part is a value: an empty call that tells so.

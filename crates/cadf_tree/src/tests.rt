@@ -46,3 +46,49 @@ fn leaves_the_rest_to_others(rt: HostRuntime) -> Result<(), Fail> {
     }
     Ok(())
 }
+
+#[test]
+fn looks_into_parts(rt: HostRuntime) -> Result<(), Fail> {
+    let alloc = rt.alloc();
+    let text = "{\"b\":[1,[2],{\"z\":null}],\"a\":\"x\",\"d\":{},\"c\":true}";
+    let mut scratch = Scratch::new(alloc);
+    let tree = Tree::of_text(alloc, text, &mut scratch)?;
+    let whole = tree.part();
+    let mut names = String::new(alloc);
+    for member in whole.members() {
+        names.push_str(member.name)?;
+        names.push_str(member.value.text(alloc)?.as_str())?;
+    }
+    assert!(rt; names.as_str() == "a\"x\"b[1,[2],{\"z\":null}]ctrued{}");
+    assert!(rt; whole.len() == 4 && whole.depth() == 3 && whole.is_object() && !whole.is_list());
+    assert!(rt; whole.name_at(2) == Some("c") && whole.name_at(4).is_none());
+    for (name, found) in [("a", true), ("b", true), ("", false), ("e", false)] {
+        assert!(rt; whole.member(name).is_some() == found, "{name}");
+    }
+    for (limits, others, fits) in [([("b", 2)], 1, true), ([("b", 1)], 1, false), ([("d", 0)], 2, false)] {
+        assert!(rt; whole.members_within(limits.as_slice(), others) == fits);
+    }
+    if let Some(list) = whole.member("b") {
+        assert!(rt; list.is_list() && list.len() == 3 && list.item(3).is_none());
+        assert!(rt; list.members().next().is_none());
+    }
+    Ok(())
+}
+
+#[test]
+fn rewrites_members(rt: HostRuntime) -> Result<(), Fail> {
+    let alloc = rt.alloc();
+    for (text, want) in [
+        ("{\"time\":\"now\",\"id\":1,\"a\":[0]}", "{\"a\":[0],\"time\":\"t\\n\"}"),
+        ("{\"id\":1,\"b\":{\"id\":2}}", "{\"b\":{\"id\":2}}"),
+        ("{\"x\":1,\"id\":1,\"tags\":[]}", "{\"x\":1}"),
+        ("{}", "{}"),
+        ("[1]", "{}"),
+    ] {
+        let mut scratch = Scratch::new(alloc);
+        let tree = Tree::of_text(alloc, text, &mut scratch)?;
+        let made = tree.part().rewritten(alloc, ["id", "tags"].as_slice(), "time", "t\n")?;
+        assert!(rt; made.as_str() == want, "{text}");
+    }
+    Ok(())
+}
