@@ -60,9 +60,9 @@ module _ {A : Type 0} where
   place_found (x ∷ xs) (suc zero) k d r h behind front =
       (front 0 refl, place_found xs zero k d (later_rise (name x) _ r) (omega arith) (λ b. behind (omega arith)) (λ q e. absurd (omega arith)))
   place_found (x ∷ xs) (suc (suc p)) k d r h behind front = (
-      greater-from_less k (name x) (below_later (name x) xs p k d r (omega arith) (front (suc p) refl)),
-      place_found xs (suc p) k d (later_rise (name x) _ r) (omega arith) (λ b. behind (omega arith)) (λ q e. front (suc q) (ap (λ n. suc n) e)),
-    )
+    greater-from_less k (name x) (below_later (name x) xs p k d r (omega arith) (front (suc p) refl)),
+    place_found xs (suc p) k d (later_rise (name x) _ r) (omega arith) (λ b. behind (omega arith)) (λ q e. front (suc q) (ap (λ n. suc n) e)),
+  )
 
   pub place_first : (xs : List (Entry A)) (k : List ℕ) → ((d : Entry A) → 0 < length xs → slice_cmp nat_cmp k (name (get_or xs 0 d)) ≡ Less) → IsPlace 0 k xs
   place_first [] k behind = tt

@@ -8,7 +8,9 @@ ghost use Rattle.cadf_json.specs.Rewritten.{texts_of, without, replaced, all_mem
 ghost use Rattle.cadf_json.specs.Value.{IsValue, text as text_of};
 ghost use Rattle.cadf_tree.specs.Tree.{data_in, IsSettledWithin};
 
-use crate::look::{are_within, depth, item_at, item_count, member_count, member_of, name_at, value_at};
+use crate::look::{
+    are_within, depth, item_at, item_count, member_count, member_of, name_at, value_at,
+};
 use crate::members::Members;
 use crate::rewrite::{finished, write_object};
 use cadf_json::Memory;

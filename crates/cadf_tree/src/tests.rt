@@ -37,8 +37,25 @@ fn puts_members_in_order(rt: HostRuntime) -> Result<(), Fail> {
 fn leaves_the_rest_to_others(rt: HostRuntime) -> Result<(), Fail> {
     let alloc = rt.alloc();
     for text in [
-        "", "1.0", "1e2", "1E2", "-0", "[-0]", "0.5", "18446744073709551616", "-9223372036854775809", "{\"a\":1,\"a\":1}",
-        "{\"b\":0,\"a\":1,\"\\u0061\":2}", "[1", "[1]]", "{} {}", "{\"a\"}", "[1,]", "\"\\ud800\"", "nul", "[{\"x\":[{\"b\":1,\"b\":2}]}]",
+        "",
+        "1.0",
+        "1e2",
+        "1E2",
+        "-0",
+        "[-0]",
+        "0.5",
+        "18446744073709551616",
+        "-9223372036854775809",
+        "{\"a\":1,\"a\":1}",
+        "{\"b\":0,\"a\":1,\"\\u0061\":2}",
+        "[1",
+        "[1]]",
+        "{} {}",
+        "{\"a\"}",
+        "[1,]",
+        "\"\\ud800\"",
+        "nul",
+        "[{\"x\":[{\"b\":1,\"b\":2}]}]",
     ] {
         let mut scratch = Scratch::new(alloc);
         let found = Tree::of_text(alloc, text, &mut scratch).err();
@@ -65,7 +82,11 @@ fn looks_into_parts(rt: HostRuntime) -> Result<(), Fail> {
     for (name, found) in [("a", true), ("b", true), ("", false), ("e", false)] {
         assert!(rt; whole.member(name).is_some() == found, "{name}");
     }
-    for (limits, others, fits) in [([("b", 2)], 1, true), ([("b", 1)], 1, false), ([("d", 0)], 2, false)] {
+    for (limits, others, fits) in [
+        ([("b", 2)], 1, true),
+        ([("b", 1)], 1, false),
+        ([("d", 0)], 2, false),
+    ] {
         assert!(rt; whole.members_within(limits.as_slice(), others) == fits);
     }
     if let Some(list) = whole.member("b") {
@@ -79,7 +100,10 @@ fn looks_into_parts(rt: HostRuntime) -> Result<(), Fail> {
 fn rewrites_members(rt: HostRuntime) -> Result<(), Fail> {
     let alloc = rt.alloc();
     for (text, want) in [
-        ("{\"time\":\"now\",\"id\":1,\"a\":[0]}", "{\"a\":[0],\"time\":\"t\\n\"}"),
+        (
+            "{\"time\":\"now\",\"id\":1,\"a\":[0]}",
+            "{\"a\":[0],\"time\":\"t\\n\"}",
+        ),
         ("{\"id\":1,\"b\":{\"id\":2}}", "{\"b\":{\"id\":2}}"),
         ("{\"x\":1,\"id\":1,\"tags\":[]}", "{\"x\":1}"),
         ("{}", "{}"),
@@ -87,7 +111,9 @@ fn rewrites_members(rt: HostRuntime) -> Result<(), Fail> {
     ] {
         let mut scratch = Scratch::new(alloc);
         let tree = Tree::of_text(alloc, text, &mut scratch)?;
-        let made = tree.part().rewritten(alloc, ["id", "tags"].as_slice(), "time", "t\n")?;
+        let made = tree
+            .part()
+            .rewritten(alloc, ["id", "tags"].as_slice(), "time", "t\n")?;
         assert!(rt; made.as_str() == want, "{text}");
     }
     Ok(())

@@ -35,11 +35,7 @@ impl<'a> Model for Tree<'a> {
 
 impl<'a> Tree<'a> {
     /// The value that comes next. Lists and objects may nest `depth` deep.
-    pub fn read(
-        alloc: Global,
-        reader: &mut Reader<'a>,
-        depth: usize,
-    ) -> Result<Tree<'a>, Unread>
+    pub fn read(alloc: Global, reader: &mut Reader<'a>, depth: usize) -> Result<Tree<'a>, Unread>
         requires { depth ≤ 127 }
         ensures ok { IfOk result (λ t. converted of_json (value_at depth reader.old) ≡ Some (t, reader.new)) }
         ensures value { IfOk result IsValue }
