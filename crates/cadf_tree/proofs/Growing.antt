@@ -1,10 +1,10 @@
 -- A list of items that grows at its end.
-use Rattle.std.proofs.Common.{◌≡◌, ℕ, ◌≤◌, List, [], ◌∷◌, ◌++◌, Option, Some, None, refl, ap, arith}
+use Rattle.std.proofs.Common.{◌≡◌, ℕ, List, [], ◌∷◌, ◌++◌, Option, Some, None, refl, ap, arith}
 use Rattle.json.specs.Token.{Token}
 use Rattle.json.specs.Json.{parse_map}
 use Rattle.json.specs.Value.{value_view, items_view}
 use Rattle.json.specs.declared.value.Value.{Value}
-use Rattle.serde_json.specs.Data.{Items, no_items, item, items_depth, depth}
+use Rattle.serde_json.specs.Data.{Items, no_items, item}
 use Rattle.cadf_tree.specs.Tree.{data_in, listed_in, IsSettledWithin, AreItemsWithin}
 
 abbrev pub items_before : {A : Type 0} → List (Value A) → Items → Items

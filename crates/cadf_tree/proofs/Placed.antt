@@ -1,5 +1,5 @@
 -- A member that is put in its place.
-use Rattle.std.proofs.Common.{◌≡◌, ℕ, zero, suc, ◌+◌, ◌-◌, ◌<◌, ◌≤◌, List, [], ◌∷◌, length, get_or, Less, Greater, IsUtf8, refl, sym, ap, ◌∙◌, arith, nat_cmp}
+use Rattle.std.proofs.Common.{◌≡◌, ℕ, zero, suc, ◌<◌, ◌≤◌, List, [], ◌∷◌, length, get_or, Less, Greater, IsUtf8, refl, ap, arith, nat_cmp}
 use Rattle.std.proofs.lemmas.Cmp.{nat_list_cmp_total}
 use Rattle.std.specs.List.{insert}
 use Rattle.std.specs.Borrow.{Bor}

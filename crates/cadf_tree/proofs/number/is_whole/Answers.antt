@@ -1,4 +1,4 @@
-use Rattle.std.proofs.Common.{◌≡◌, ◌^◌, ◌<◌, SFits, w64, to_z-of_z, ap, ◌∙◌, arith}
+use Rattle.std.proofs.Common.{◌^◌, ◌<◌, SFits, w64, to_z-of_z, ap, ◌∙◌, arith}
 use Rattle.std.specs.Fmt.{signed_decimal}
 use Rattle.cadf_tree.proofs.Settled.{IsWholeText-unsigned, IsWholeText-signed}
 use Rattle.cadf_tree.proofs.number.is_whole.Goals as goal

@@ -1,4 +1,4 @@
-use Rattle.std.proofs.Common.{◌≡◌, ℕ, suc, ◌-◌, length, get_or, Greater, Less, nat_cmp, sym, ap, ◌∙◌, subst, arith}
+use Rattle.std.proofs.Common.{◌≡◌, ◌-◌, get_or, Greater, Less, nat_cmp, subst, arith}
 use Rattle.std.specs.Cmp.Lexicographic.{slice_cmp}
 use Rattle.cadf_tree.proofs.Placed.{place_found, place_first}
 use Rattle.cadf_tree.proofs.place.place_of.Goals as goal

@@ -1,4 +1,4 @@
-use Rattle.std.proofs.Common.{◌≡◌, [], ◌∷◌, ◌++◌, true, false, bytes_eq, arith, rules}
+use Rattle.std.proofs.Common.{◌≡◌, [], ◌∷◌, ◌++◌, false, bytes_eq, rules}
 use Rattle.json.specs.Token.{Token}
 use Rattle.json.specs.Value.{value_view}
 use Rattle.serde_json.specs.Data.{member}

@@ -3,7 +3,7 @@ use Rattle.std.proofs.lemmas.Result.{IfOk-weaker}
 use Rattle.json.specs.Token.{Token}
 use Rattle.json.specs.Print.{print}
 use Rattle.json.specs.Value.{value_view}
-use Rattle.serde_json.specs.Data.{Data, Members, string, object}
+use Rattle.serde_json.specs.Data.{Data, string, object}
 use Rattle.serde_json.proofs.Texts.{print-outline}
 use Rattle.cadf_json.specs.Value.{text}
 use Rattle.cadf_json.specs.Parts.{members_in}
