@@ -1,0 +1,4 @@
+pub mod Tree
+pub mod Place
+pub mod Rewriting
+pub mod Walk
