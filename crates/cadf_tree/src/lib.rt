@@ -15,6 +15,3 @@ pub use crate::part::Part;
 pub use crate::read::Unread;
 pub use crate::tree::Tree;
 pub use cadf_json::Memory;
-
-#[cfg(test)]
-mod tests;

@@ -1,6 +1,5 @@
 //! Examples of texts that have a tree, and of texts that have none.
-use crate::read::Unread;
-use crate::tree::Tree;
+use cadf_tree::{Tree, Unread};
 use json::Scratch;
 use std::alloc::Global;
 use std::process::Abort;
