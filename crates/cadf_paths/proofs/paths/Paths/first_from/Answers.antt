@@ -1,4 +1,4 @@
-use Rattle.std.proofs.Common.{Bool, true, false, subst, ap, sym, ◌∙◌, Some}
+use Rattle.std.proofs.Common.{Bool, subst, ap, sym, ◌∙◌, Some}
 use Rattle.std.specs.Prelude.{not}
 use Rattle.std.specs.List.{find}
 use Rattle.cadf_join.specs.Sets as set
