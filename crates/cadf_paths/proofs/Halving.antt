@@ -1,5 +1,6 @@
 -- What halving over rising lists finds.
-use Rattle.std.proofs.Common.{◌≡◌, ℕ, ◌+◌, ◌-◌, ◌≤◌, ◌<◌, Bool, true, false, List, [], ◌∷◌, ◌++◌, refl, sym, ap, ◌∙◌, subst, suc, zero, length, take, drop, get_or, ◌||◌, arith}
+use Rattle.std.proofs.Common.{◌≡◌, ℕ, ◌+◌, ◌-◌, ◌≤◌, ◌<◌, Bool, true, false, List, [], ◌∷◌, ◌++◌}
+use Rattle.std.proofs.Common.{refl, sym, ap, ◌∙◌, subst, suc, zero, length, take, drop, get_or, ◌||◌, arith}
 use mathlib.Core.Bool.{true≢false}
 use Rattle.std.specs.declared.cmp.Ordering.{Ordering}
 use Rattle.std.specs.declared.cmp.Ordering.TheVariants.{Less, Equal, Greater}
@@ -10,7 +11,7 @@ use Rattle.std.specs.Cmp.Lexicographic.{pointwise, pointwise_decides}
 use Rattle.std.specs.List.{AllByRecursion, list_any}
 use Rattle.std.specs.List.Sorted.{IsStrictlySortedBy}
 use Rattle.cadf_join.specs.SetLaws as sets
-use Rattle.cadf_join.specs.Contents.{Text, Texts, text_cmp, texts_cmp}
+use Rattle.cadf_join.specs.Contents.{Texts, text_cmp, texts_cmp}
 use Rattle.cadf_join.specs.ContentsLaws.{text_total, text_same, texts_total, texts_same, contents_same}
 use Rattle.cadf_join.specs.Sets as set
 use Rattle.cadf_join.specs.Sets.{contains-from_list, contains-insert}
@@ -173,14 +174,16 @@ above_place q xs n s h other =
     above_bound q (drop n xs) (drop_sorted xs n s) h
     (λ e some. other (some_dropped xs n some) (ap is_eq (sym (ap (λ z. texts_cmp z q) (first_dropped xs n)) ∙ e)))
 
-pub found_at : (q : Texts) (xs : List Texts) (n : ℕ) → n < length xs → eq_by_cmp texts_cmp (get_or xs n []) q ≡ true → list_any (eq_by_cmp texts_cmp q) xs ≡ true
+pub found_at : (q : Texts) (xs : List Texts) (n : ℕ) → n < length xs → eq_by_cmp texts_cmp (get_or xs n []) q ≡ true
+    → list_any (eq_by_cmp texts_cmp q) xs ≡ true
 found_at q [] n l e = absurd (omega (arith, l))
 found_at q (x ∷ xs) zero l e =
     let same : x ≡ q = texts_same x q ((Equal-is (texts_cmp x q)).0 e) in
     sets.or_left (eq_by_cmp texts_cmp q x) _ (ap (λ z. eq_by_cmp texts_cmp q z) same ∙ ap is_eq (tied_itself texts_total q))
 found_at q (x ∷ xs) (suc n) l e = sets.or_right (eq_by_cmp texts_cmp q x) _ (found_at q xs n (omega (arith, l)) e)
 
-pub not_there : (q : Texts) (xs : List Texts) (n : ℕ) → AllByRecursion (λ l. texts_cmp l q ≡ Less) (take n xs) → AllByRecursion (λ l. texts_cmp q l ≡ Less) (drop n xs)
+pub not_there : (q : Texts) (xs : List Texts) (n : ℕ) → AllByRecursion (λ l. texts_cmp l q ≡ Less) (take n xs)
+    → AllByRecursion (λ l. texts_cmp q l ≡ Less) (drop n xs)
     → list_any (eq_by_cmp texts_cmp q) xs ≡ false
 not_there q [] n below above = refl
 not_there q (x ∷ xs) zero below above =

@@ -1,5 +1,6 @@
 -- The lists behind a prefix, among rising ones.
-use Rattle.std.proofs.Common.{◌≡◌, ℕ, ◌≤◌, Bool, true, false, cond, List, [], ◌∷◌, ◌++◌, Option, Some, None, refl, sym, ap, ◌∙◌, subst, append_assoc, suc, zero, length, take, drop}
+use Rattle.std.proofs.Common.{◌≡◌, ℕ, Bool, true, false, cond, List, [], ◌∷◌, ◌++◌, Option}
+use Rattle.std.proofs.Common.{Some, None, refl, sym, ap, ◌∙◌, subst, append_assoc, suc, zero, take, drop}
 use mathlib.Core.Bool.{true≢false}
 use Rattle.std.proofs.lemmas.List.{append-nil}
 use Rattle.std.specs.Prelude.{not}
@@ -47,7 +48,8 @@ none_is_passed [] l h n = absurd (never n)
 none_is_passed (t ∷ p) [] h n = absurd (true≢false h)
 none_is_passed (t ∷ p) (u ∷ l) h n = by (text_cmp u t) h n (none_is_passed p l)
   where
-    by : (r : Ordering) → match_ordering (match_ordering r Less (prefix_cmp l p) Greater) true false false ≡ false → match_ordering r None (strip p l) None ≡ None
+    by : (r : Ordering) → match_ordering (match_ordering r Less (prefix_cmp l p) Greater) true false false ≡ false
+        → match_ordering r None (strip p l) None ≡ None
         → (is_before p false l ≡ false → strip p l ≡ None → is_before p true l ≡ false)
         → match_ordering (match_ordering r Less (prefix_cmp l p) Greater) true true false ≡ false
     by Less k m on = absurd (true≢false k)
@@ -119,7 +121,8 @@ module _ (p : Texts) (found all old new : List Texts) (head : Texts) (moved : ol
   pub no_more : IsStrictlySortedBy texts_cmp old → AllByRecursion (λ x. is_before p false x ≡ false) old → None ≡ strip p head → found ≡ all
   no_more s from n =
       sym (append-nil found) ∙ ap (λ z. found ++ z) (sym (ap (filter_map (strip p)) moved
-      ∙ nothing_more p head new (subst (IsStrictlySortedBy texts_cmp) moved s) (subst (AllByRecursion (λ x. is_before p false x ≡ false)) moved from).0 (sym n))) ∙ h
+      ∙ nothing_more p head new (subst (IsStrictlySortedBy texts_cmp) moved s)
+      (subst (AllByRecursion (λ x. is_before p false x ≡ false)) moved from).0 (sym n))) ∙ h
 
 pub tail_rises : (x : Texts) (xs : List Texts) → IsStrictlySortedBy texts_cmp (x ∷ xs) → IsStrictlySortedBy texts_cmp xs
 unfolding IsStrictlySortedBy

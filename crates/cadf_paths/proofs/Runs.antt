@@ -1,8 +1,8 @@
 -- Runs of texts to which more were put, and of texts that are spans.
-use Rattle.std.proofs.Common.{◌≡◌, ℕ, ◌+◌, ◌-◌, ◌≤◌, List, [], ◌∷◌, ◌++◌, refl, sym, ap, ◌∙◌, subst, suc, zero, length, take, drop, map, arith}
+use Rattle.std.proofs.Common.{◌≡◌, ℕ, ◌≤◌, List, [], ◌∷◌, ◌++◌, refl, sym, ap, ◌∙◌, suc, zero, length, take, drop, map, arith}
 use Rattle.std.proofs.lemmas.List.{length-append, length-drop, take-append-le, drop-append-le}
 use Rattle.std.specs.List.{AllByRecursion, take-map, drop-map}
-use Rattle.cadf_join.specs.Contents.{Text, Texts}
+use Rattle.cadf_join.specs.Contents.{Texts}
 use Rattle.cadf_paths.specs.Flat.{text_of, run_of, IsRun}
 use Rattle.cadf_paths.specs.declared.pool.Span.{Span}
 use Rattle.cadf_paths.proofs.Spans.{all_turned, map_same, grown_by}

@@ -1,12 +1,11 @@
 -- Spans of a block that has grown, and runs of texts to which more were put.
-use Rattle.std.proofs.Common.{◌≡◌, ℕ, ◌+◌, ◌≤◌, Bool, true, false, List, [], ◌∷◌, ◌++◌, refl, sym, ap, ◌∙◌, subst, length, take, drop, map, arith}
+use Rattle.std.proofs.Common.{◌≡◌, ℕ, Bool, true, false, List, [], ◌∷◌, ◌++◌, refl, sym, ap, ◌∙◌, subst, length, take, drop, map, arith}
 use Rattle.std.proofs.lemmas.List.{length-append, take-append-drop, take-append-le, drop-append-le}
 use Rattle.std.proofs.Math.Seq.{drop-append_seam}
 use Rattle.std.proofs.lemmas.Str.{IsUtf8-drop, IsUtf8-take, IsCharBoundary-at_seam, IsCharBoundary-end, IsCharBoundary-from_take}
 use Rattle.std.specs.List.{AllByRecursion}
 use Rattle.std.specs.Str.{IsUtf8, IsCharBoundary}
-use Rattle.cadf_join.specs.Contents.{Text, Texts}
-use Rattle.cadf_paths.specs.Flat.{Place, Moves, ahead, text_of, IsSpan, run_of, IsRun}
+use Rattle.cadf_paths.specs.Flat.{Place, Moves, ahead, text_of, IsSpan}
 use Rattle.cadf_paths.specs.declared.pool.Span.{Span}
 
 pub all_more : {A : Type 0} (P : A → Type 0) (xs : List A) (x : A) → AllByRecursion P xs → P x → AllByRecursion P (xs ++ x ∷ [])

@@ -1,4 +1,4 @@
-use Rattle.std.proofs.Common.{Bool, true, false, subst, ap, sym, ◌∙◌, Some}
+use Rattle.std.proofs.Common.{Bool, subst, ap, sym, ◌∙◌, Some}
 use Rattle.std.specs.Prelude.{not}
 use Rattle.std.specs.List.{find}
 use Rattle.cadf_join.specs.Sets as set
@@ -16,7 +16,8 @@ returns-then-branch c =
     let p = texts_at c.args.prefix.now in
     let is : Texts → Bool = λ l. not (is_before p c.args.passed l) in
     ap Some (c.in_ok-continued.ensures ∙ c.path.ensures)
-    ∙ sym (next_found p c.args.passed rows c.bound-at.result c.bound-at.ensures.below c.bound-at.ensures.above _ _ (sym c.cursor_from-cursor.ensures ∙ subst (λ m. Moves m c.cursor_from-cursor.result c.next.new.self) c.if-branch.true c.in_ok-next.ensures))
+    ∙ sym (next_found p c.args.passed rows c.bound-at.result c.bound-at.ensures.below c.bound-at.ensures.above _ _
+    (sym c.cursor_from-cursor.ensures ∙ subst (λ m. Moves m c.cursor_from-cursor.result c.next.new.self) c.if-branch.true c.in_ok-next.ensures))
     ∙ ap (find is) (sym (rising-from_list texts_total texts_same rows c.self.invariant) ∙ ap set.rising c.self.view_is)
 
 pub returns : goal.returns
@@ -24,5 +25,6 @@ returns c =
     let rows = c.self.inside.rows in
     let p = texts_at c.args.prefix.now in
     let is : Texts → Bool = λ l. not (is_before p c.args.passed l) in
-    sym (no_next p c.args.passed rows c.bound-at.result c.bound-at.ensures.below c.bound-at.ensures.above (sym c.cursor_from-cursor.ensures ∙ subst (λ m. Moves m c.cursor_from-cursor.result c.next.new.self) c.if-branch.false c.in_ok-next.ensures))
+    sym (no_next p c.args.passed rows c.bound-at.result c.bound-at.ensures.below c.bound-at.ensures.above
+    (sym c.cursor_from-cursor.ensures ∙ subst (λ m. Moves m c.cursor_from-cursor.result c.next.new.self) c.if-branch.false c.in_ok-next.ensures))
     ∙ ap (find is) (sym (rising-from_list texts_total texts_same rows c.self.invariant) ∙ ap set.rising c.self.view_is)

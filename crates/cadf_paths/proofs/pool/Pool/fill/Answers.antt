@@ -7,5 +7,6 @@ pub returns : goal.returns
 returns c =
     let s = c.self.inside in
     on_ok_then c.fill.result (λ e. e ∙
-    run_held (string_bytes s.block) _ s.spans.items _ _ c.args.self.now c.args.run c.as_str.ensures.value c.as_slice.ensures.value c.spans_of.ensures c.self.view_is)
+    run_held (string_bytes s.block) _ s.spans.items _ _ c.args.self.now c.args.run
+    c.as_str.ensures.value c.as_slice.ensures.value c.spans_of.ensures c.self.view_is)
     c.fill.ensures

@@ -8,4 +8,5 @@ pub returns : goal.returns
 returns c =
     let s = c.self.inside in
     c.list_cmp.ensures ∙ ap (λ z. texts_cmp z (texts_at c.args.list.now))
-    (run_held (string_bytes s.block) _ s.spans.items _ _ c.args.self.now c.args.run c.as_str.ensures.value c.as_slice.ensures.value c.spans_of.ensures c.self.view_is)
+    (run_held (string_bytes s.block) _ s.spans.items _ _ c.args.self.now c.args.run
+    c.as_str.ensures.value c.as_slice.ensures.value c.spans_of.ensures c.self.view_is)

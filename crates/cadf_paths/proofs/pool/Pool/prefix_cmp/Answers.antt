@@ -8,4 +8,5 @@ pub returns : goal.returns
 returns c =
     let s = c.self.inside in
     c.prefix_cmp.ensures ∙ ap (λ z. prefix_cmp z (texts_at c.args.prefix.now))
-    (run_held (string_bytes s.block) _ s.spans.items _ _ c.args.self.now c.args.run c.as_str.ensures.value c.as_slice.ensures.value c.spans_of.ensures c.self.view_is)
+    (run_held (string_bytes s.block) _ s.spans.items _ _ c.args.self.now c.args.run
+    c.as_str.ensures.value c.as_slice.ensures.value c.spans_of.ensures c.self.view_is)

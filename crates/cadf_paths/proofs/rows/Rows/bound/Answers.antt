@@ -12,7 +12,8 @@ loop-low-preserved-then-is_before c =
     record {
       within = omega (arith, w, e, t);
       ends = e;
-      below = all_before c.args.self.now c.requires (texts_at c.args.prefix.now) c.args.passed _ (omega (arith, w, e, t)) (sym c.is_before.ensures ∙ c.if-is_before.true);
+      below = all_before c.args.self.now c.requires (texts_at c.args.prefix.now) c.args.passed _ (omega (arith, w, e, t))
+          (sym c.is_before.ensures ∙ c.if-is_before.true);
       above = c.loop-low.invariant.above;
     }
 
@@ -25,7 +26,8 @@ loop-low-preserved c =
       within = omega (arith, w, e, t);
       ends = omega (arith, w, e, t);
       below = c.loop-low.invariant.below;
-      above = none_before c.args.self.now c.requires (texts_at c.args.prefix.now) c.args.passed _ (omega (arith, w, e, t)) (sym c.is_before.ensures ∙ c.if-is_before.false);
+      above = none_before c.args.self.now c.requires (texts_at c.args.prefix.now) c.args.passed _ (omega (arith, w, e, t))
+          (sym c.is_before.ensures ∙ c.if-is_before.false);
     }
 
 pub returns-clause-below : goal.returns-clause-below
