@@ -1,5 +1,5 @@
 -- Each schedule of parts leaves what one of whole copies leaves.
-use Rattle.std.proofs.Common.{◌≡◌, ℕ, suc, ◌<◌, ◌≤◌, ◌≢◌, Bool, true, false, cond, ◌⊎◌, List, [], ◌∷◌, refl, sym, ap, ◌∙◌, subst, inl, inr, arith, eq-eqb}
+use Rattle.std.proofs.Common.{◌≡◌, ℕ, suc, ◌<◌, ◌≤◌, ◌≢◌, Bool, true, false, cond, List, [], ◌∷◌, refl, sym, ap, ◌∙◌, subst, inl, inr, arith, eq-eqb}
 use Rattle.std.proofs.Common.{ne_eqb, eqb-true, ltb-true, leb-true}
 use Rattle.std.proofs.lemmas.Bool.{eqb-false}
 use Rattle.std.specs.Prelude.{Result, Ok, Err, nat_eq, nat_lt}
@@ -15,7 +15,7 @@ use Rattle.cadf_rehearsal.specs.declared.turn.Turn.{Turn}
 use Rattle.cadf_rehearsal.specs.declared.turn.Turn.TheVariants.{Learn, Ask, Answer, Send, Deliver}
 use Rattle.cadf_rehearsal.specs.declared.fault.RehearseFault.{RehearseFault}
 use Rattle.cadf_rehearsal.specs.declared.fault.RehearseFault.TheVariants.{WrongAddressee}
-use Rattle.cadf_rehearsal.specs.Schedule.{Message, Inventory, PartFor, Whole, World, start, with_at, adds, makes, is_message, is_of_log}
+use Rattle.cadf_rehearsal.specs.Schedule.{Message, Inventory, PartFor, Whole, World, start, with_at, adds, makes, is_message, is_of_log, Means}
 use Rattle.cadf_rehearsal.specs.Schedule.{delivered, answered, turned, next, after, made_by, plain, carried, learnt, AllLearnt, LearnsGrounded}
 use Rattle.cadf_replica.proofs.Missing.{missing_within, missing_by_is, part_suffices, missing_or_held, with_carriers_least, unknown_has}
 use Rattle.cadf_replica.proofs.History.{grounded_union}
@@ -118,17 +118,12 @@ is_message_at w m h = (ltb-true 0 m (members.and_first _ _ h), leb-true m w.made
 
 module _ (digest : Texts → Text) where
   -- ---- what a message means, where no two atoms share a digest
-  abbrev pub Means : List Turn → ℕ → Message → Type 0
-  Means turns m (Inventory a d) = (carried turns m ≡ set.empty) × ((b : Contents) × (d ≡ digests_of digest b) × IsWithin b (plain turns a))
-  Means turns m (PartFor a p) = IsWithin p (carried turns m) × ((q : Texts) → Has (carried turns m) q → Has (plain turns a) q ⊎ Has p q)
-  Means turns m (Whole s) = s ≡ carried turns m
-
   pub record Kept (turns : List Turn) (w : World) : Type 0 where
     pub made_is : w.made ≡ made_by turns
     pub sites_are : (j : ℕ) → w.sites j ≡ plain turns j
-    pub mean : (m : ℕ) → 0 < m → m ≤ w.made → Means turns m (w.messages m)
+    pub mean : (m : ℕ) → 0 < m → m ≤ w.made → Means digest turns m (w.messages m)
 
-  means_later : (t : Turn) (e : List Turn) (m : ℕ) (x : Message) → m ≤ made_by e → Means e m x → Means (t ∷ e) m x
+  means_later : (t : Turn) (e : List Turn) (m : ℕ) (x : Message) → m ≤ made_by e → Means digest e m x → Means digest (t ∷ e) m x
   means_later t e m (Inventory a d) le h = (carried_stays t e m le ∙ h.0, (h.1.0, h.1.1, λ q k. plain_grows t e a q (h.1.2 q k)))
   means_later t e m (PartFor a p) le h = (
     subst (λ c. IsWithin p c) (sym (carried_stays t e m le)) h.0,
@@ -155,15 +150,15 @@ module _ (digest : Texts → Text) where
       mean = λ i pos le. means_later t e i (w.messages i) (subst (λ n. i ≤ n) kept.made_is le) (kept.mean i pos le);
     }
 
-    message_at : (x : Message) (m : ℕ) (b : Bool) → nat_eq (suc w.made) m ≡ b → Means (t ∷ e) (suc (made_by e)) x → 0 < m → m ≤ suc w.made
-        → Means (t ∷ e) m (cond b x (w.messages m))
-    message_at x m true same new pos le = subst (λ n. Means (t ∷ e) n x) (ap suc (sym kept.made_is) ∙ eqb-true (suc w.made) m same) new
+    message_at : (x : Message) (m : ℕ) (b : Bool) → nat_eq (suc w.made) m ≡ b → Means digest (t ∷ e) (suc (made_by e)) x → 0 < m → m ≤ suc w.made
+        → Means digest (t ∷ e) m (cond b x (w.messages m))
+    message_at x m true same new pos le = subst (λ n. Means digest (t ∷ e) n x) (ap suc (sym kept.made_is) ∙ eqb-true (suc w.made) m same) new
     message_at x m false differs new pos le =
         let ne : suc w.made ≢ m = eqb-false (suc w.made) m differs in
         let old : m ≤ w.made = omega arith in
         means_later t e m (w.messages m) (subst (λ n. m ≤ n) kept.made_is old) (kept.mean m pos old)
 
-    kept_makes : (x : Message) → made_by (t ∷ e) ≡ suc (made_by e) → ((j : ℕ) → plain e j ≡ plain (t ∷ e) j) → Means (t ∷ e) (suc (made_by e)) x
+    kept_makes : (x : Message) → made_by (t ∷ e) ≡ suc (made_by e) → ((j : ℕ) → plain e j ≡ plain (t ∷ e) j) → Means digest (t ∷ e) (suc (made_by e)) x
         → Kept (t ∷ e) (makes w x)
     kept_makes x m p new = record {
       made_is = ap suc kept.made_is ∙ sym m;
@@ -186,7 +181,7 @@ module _ (digest : Texts → Text) where
       by false differs = kept.sites_are j
 
   module _ (log : Text) (sites : ℕ) where
-    kept_delivered : (n : ℕ) (e : List Turn) (w v : World) (m k : ℕ) (x : Message) → Kept e w → Means e m x → delivered n w k x ≡ Ok v
+    kept_delivered : (n : ℕ) (e : List Turn) (w v : World) (m k : ℕ) (x : Message) → Kept e w → Means digest e m x → delivered n w k x ≡ Ok v
         → Kept (Deliver m k ∷ e) v
     kept_delivered n e w v m k (Inventory a d) kept means is =
         subst (Kept (Deliver m k ∷ e)) (Ok-same _ _ is) (kept_same (Deliver m k) e w kept refl (λ j. sym (nothing (nat_eq k j) (plain e j))))
@@ -204,7 +199,7 @@ module _ (digest : Texts → Text) where
         (kept_adds (Deliver m k) e w kept k s refl (taken_at e w kept k s (carried e m) (ap (set.union (plain e k)) means)))
 
     kept_answered : (n : ℕ) (e : List Turn) (w v : World) (j m : ℕ) (x : Message) → LearnsGrounded e → NoCollision digest (learnt e) → Kept e w
-        → Means e m x → answered digest log sites n w j x ≡ Ok v → Kept (Answer j m ∷ e) v
+        → Means digest e m x → answered digest log sites n w j x ≡ Ok v → Kept (Answer j m ∷ e) v
     kept_answered n e w v j m (Inventory a d) g apart kept means is =
         let b = means.1.0 in
         let own = plain e j in
@@ -263,6 +258,10 @@ module _ (digest : Texts → Text) where
     pub sites_are_plain : (turns : List Turn) (w : World) → LearnsGrounded turns → NoCollision digest (learnt turns) → after digest log sites turns ≡ Ok w
         → (j : ℕ) → w.sites j ≡ plain turns j
     sites_are_plain turns w g apart is = (kept_after turns w g apart is).sites_are
+
+    pub messages_mean : (turns : List Turn) (w : World) → LearnsGrounded turns → NoCollision digest (learnt turns) → after digest log sites turns ≡ Ok w
+        → (m : ℕ) → 0 < m → m ≤ w.made → Means digest turns m (w.messages m)
+    messages_mean turns w g apart is = (kept_after turns w g apart is).mean
 
   -- ---- without that premise: each set is within its plain one
   abbrev pub MeansAtMost : List Turn → ℕ → Message → Type 0

@@ -3,9 +3,10 @@
 --     after turns            the world after the turns, or the first fault
 --     plain turns j          what site j holds if each answer and each send carried the sender's whole set
 --     learnt turns           the atoms of all documents
-use Rattle.std.specs.Prelude.{ℕ, suc, ◌+◌, Bool, true, cond, ◌&&◌, List, [], ◌∷◌, length, Option, Some, None, Result, Ok, Err, nat_eq, nat_lt, nat_le}
+--     Means turns m x        what the message of that number is worth, where no two atoms share a digest
+use Rattle.std.specs.Prelude.{◌≡◌, ◌⊎◌, ℕ, suc, ◌+◌, Bool, true, cond, ◌&&◌, List, [], ◌∷◌, length, Option, Some, None, Result, Ok, Err, nat_eq, nat_lt, nat_le}
 use Rattle.cadf_join.specs.Sets as set
-use Rattle.cadf_join.specs.Contents.{Text, Texts, Contents}
+use Rattle.cadf_join.specs.Contents.{Text, Texts, Contents, Has, IsWithin}
 use Rattle.cadf_event.specs.Document.{DocumentParts}
 use Rattle.cadf_replica.specs.Atoms.{IsGrounded, is_text}
 use Rattle.cadf_replica.specs.Contributions.{document_atoms}
@@ -132,3 +133,10 @@ AllLearnt P (Deliver m k ∷ earlier) = AllLearnt P earlier
 -- each document brings its carriers with it, as every document does that was read
 abbrev pub LearnsGrounded : List Turn → Type 0
 LearnsGrounded turns = AllLearnt (λ d. IsGrounded (document_atoms d)) turns
+
+-- An inventory notes a set that its asker holds from then on. A part has nothing that its sender didn't hold, and
+-- all of it that its asker doesn't hold from then on. A whole copy is what its sender held.
+abbrev pub Means : (Texts → Text) → List Turn → ℕ → Message → Type 0
+Means digest turns m (Inventory a d) = (carried turns m ≡ set.empty) × ((b : Contents) × (d ≡ digests_of digest b) × IsWithin b (plain turns a))
+Means digest turns m (PartFor a p) = IsWithin p (carried turns m) × ((q : Texts) → Has (carried turns m) q → Has (plain turns a) q ⊎ Has p q)
+Means digest turns m (Whole s) = s ≡ carried turns m

@@ -129,29 +129,29 @@ fn pairs_of_short_sets_act_as_their_sets(rt: HostRuntime) -> Result<(), Fail> {
 fn long_sets_look_as_their_sets(rt: HostRuntime) -> Result<(), Fail> {
     let all = lists(rt.alloc(), LONG)?;
     assert_eq!(rt; all.len(), 15);
-    let mut mask = 0;
-    while mask < 32768 {
+    for part in 0..1057 {
+        let mask = part * 31;
         let paths = paths_with(rt.alloc(), all.as_slice(), mask)?;
         assert!(rt;
             looks_as(rt.alloc(), &paths, all.as_slice(), mask)?,
             "{mask}"
         );
         assert!(rt; finds_each(&paths, all.as_slice(), mask), "{mask}");
-        mask += 31;
     }
     Ok(())
 }
 
-/// The flat set of a plain set, its lists put from the last to the first, each twice.
+/// The flat set of a plain set of seven lists, put from the last to the first, each twice.
 fn put_backwards(alloc: Global, all: &[Vec<&'static str>], mask: usize) -> Result<Paths, Memory> {
     let mut paths = Paths::new(alloc);
-    let mut number = all.len();
-    while number > 0 {
-        number -= 1;
-        if (mask >> number) & 1 == 1 {
+    let mut bit: usize = 64;
+    for passed in 0..all.len() {
+        let number = all.len() - 1 - passed;
+        if mask & bit != 0 {
             paths.insert(all[number].as_slice())?;
             paths.insert(all[number].as_slice())?;
         }
+        bit /= 2;
     }
     Ok(paths)
 }
