@@ -111,7 +111,8 @@ fn are_refused(rt: HostRuntime) -> Result<(), Fail> {
         let (answer, sink) = rehearsed(alloc, script.as_bytes(), 3, 4096, 0)?;
         assert!(rt; answer == Err(fault), "{text}");
         assert!(rt; sink.bytes().is_empty(), "{text}");
-        assert!(rt; format!(in alloc; "{fault}")?.as_str() == text);
+        let shown = format!(in alloc; "{fault}")?;
+        assert!(rt; shown.as_str() == text);
         assert!(rt; status(&fault) == 1);
     }
     Ok(())

@@ -1,9 +1,11 @@
 //! Reads and writes that fail, each in turn, of every engine.
 use crate::files::{CHAINS, EMPTY, ONE, written};
 use crate::inventories::NONE;
+use cadf_event::Name;
 use cadf_json::{FailingWrite, MemorySink, MemorySource};
 use cadf_tool::{
-    ToolFault, run_check, run_inventory, run_join, run_missing, run_missing_by, run_show, status,
+    ToolFault, run_check, run_inventory, run_join, run_missing, run_missing_by, run_rehearse,
+    run_show, status,
 };
 use std::alloc::Global;
 use std::process::Abort;
@@ -25,6 +27,7 @@ enum Engine {
     Join,
     Missing,
     MissingBy,
+    Rehearse,
 }
 
 const CHAINED: &str =
@@ -34,7 +37,7 @@ const CHAINED: &str =
 const LOG: &str = r#"{"id":"g","events":[]}"#;
 
 /// Engines with two inputs, small ones, since each is read again for each of its reads.
-const READ: [(Engine, &str, &str); 9] = [
+const READ: [(Engine, &str, &str); 10] = [
     (Engine::Show, ONE, ""),
     (Engine::Show, LOG, ""),
     (Engine::Conflicts, EMPTY, ""),
@@ -44,10 +47,11 @@ const READ: [(Engine, &str, &str); 9] = [
     (Engine::Join, LOG, EMPTY),
     (Engine::Missing, EMPTY, LOG),
     (Engine::MissingBy, LOG, NONE),
+    (Engine::Rehearse, "ask 1\nsend 0\n", ""),
 ];
 
 /// Engines with two inputs, and the text that each writes.
-const WRITTEN: [(Engine, &str, &str, &str); 7] = [
+const WRITTEN: [(Engine, &str, &str, &str); 8] = [
     (Engine::Show, CHAINS, "", CHAINED),
     (
         Engine::Conflicts,
@@ -60,26 +64,42 @@ const WRITTEN: [(Engine, &str, &str, &str); 7] = [
     (Engine::Join, LOG, "V1", ONE),
     (Engine::Missing, LOG, LOG, EMPTY),
     (Engine::MissingBy, LOG, NONE, EMPTY),
+    (
+        Engine::Rehearse,
+        "",
+        "",
+        "site 0 atoms 0 as 0\nsite 1 atoms 0 as 0\n",
+    ),
 ];
 
-/// What the engine answers.
-fn run(
+/// What an engine other than `join` answers.
+fn run<'a>(
     alloc: Global,
     engine: Engine,
-    sources: &mut [MemorySource<'_>; 2],
+    first: &mut MemorySource<'a>,
+    second: &mut MemorySource<'a>,
     sink: &mut MemorySink,
 ) -> Result<(), ToolFault> {
-    if engine == Engine::Join {
-        return run_join(alloc, None, sources, sink);
-    }
-    let [first, second] = sources;
     match engine {
         Engine::Conflicts => run_show(alloc, true, first, sink),
         Engine::Check => run_check(alloc, first, sink),
         Engine::Inventory => run_inventory(alloc, first, sink),
         Engine::Missing => run_missing(alloc, first, second, sink),
         Engine::MissingBy => run_missing_by(alloc, first, second, sink),
+        Engine::Rehearse => rehearsed(alloc, first, sink),
         _ => run_show(alloc, false, first, sink),
+    }
+}
+
+/// What is answered of a script of two sites.
+fn rehearsed(
+    alloc: Global,
+    script: &mut MemorySource<'_>,
+    sink: &mut MemorySink,
+) -> Result<(), ToolFault> {
+    match Name::read(alloc, "g") {
+        Ok(log) => run_rehearse(alloc, &log, 2, script, sink),
+        Err(_) => Err(ToolFault::Memory),
     }
 }
 
@@ -93,12 +113,15 @@ fn ended(
     write: FailingWrite,
 ) -> (Result<(), ToolFault>, MemorySink) {
     let piece = pieces.0.max(1);
-    let mut sources = [
-        MemorySource::new(inputs.0.as_bytes(), piece, reads.0),
-        MemorySource::new(inputs.1.as_bytes(), piece, reads.1),
-    ];
+    let mut first = MemorySource::new(inputs.0.as_bytes(), piece, reads.0);
+    let mut second = MemorySource::new(inputs.1.as_bytes(), piece, reads.1);
     let mut sink = MemorySink::new(alloc, pieces.1.max(1), write);
-    let answer = run(alloc, engine, &mut sources, &mut sink);
+    if engine == Engine::Join {
+        let mut both = [first, second];
+        let answer = run_join(alloc, None, both.as_mut_slice(), &mut sink);
+        return (answer, sink);
+    }
+    let answer = run(alloc, engine, &mut first, &mut second, &mut sink);
     (answer, sink)
 }
 
@@ -178,7 +201,7 @@ fn check_front(
         "write {failing}"
     );
     assert!(rt;
-        piece > 1 || sink.bytes().len() as u64 == failing - 1,
+        piece > 1 || (sink.bytes().len() as u64).wrapping_add(1) == failing,
         "write {failing}"
     );
 }
