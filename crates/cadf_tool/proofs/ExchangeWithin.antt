@@ -3,7 +3,9 @@ use Rattle.std.proofs.Common.{◌≡◌, ℕ, List, [], ◌∷◌, ◌++◌, Opt
 use Rattle.std.specs.Option.{option_or}
 use Rattle.cadf_join.specs.Contents.{Text, Has, IsWithin}
 use Rattle.cadf_join.specs.SetLaws as laws
+use Rattle.cadf_replica.specs.AtomSets.{AreKept}
 use Rattle.cadf_replica.specs.Replica.{Held}
+use Rattle.cadf_replica.proofs.ContributionLaws.{kept_empty, kept_union}
 use Rattle.cadf_file.specs.File.{file}
 use Rattle.cadf_tool.specs.declared.input.Loaded.{Loaded}
 use Rattle.cadf_tool.specs.declared.input.Loaded.TheVariants.{Replica}
@@ -13,8 +15,9 @@ use Rattle.cadf_tool.specs.Join.{first_named, union_of, join_of}
 use Rattle.cadf_tool.specs.Exchange.{Making, Outside, Joined, Operands, End, Whole, Part, PartBy, IsReadOf, IsPartOf, IsPartByOf, IsMade, AreRead}
 use Rattle.cadf_tool.specs.Exchange.{outside, outside_all, log_of, log_in, IsToldWithin}
 use Rattle.cadf_tool.proofs.OneText.{one_loaded}
-use Rattle.cadf_tool.proofs.InputUnions.{in_all, left_within, right_within, more_within, loaded_file, IsJoin, join_is, part_is, part_within}
-use Rattle.cadf_tool.proofs.InventoryParts.{part_by_is, part_by_within}
+use Rattle.cadf_tool.proofs.KeptInputs.{input_kept}
+use Rattle.cadf_tool.proofs.InputUnions.{in_all, left_within, right_within, more_within, loaded_file, IsJoin, join_is, part_is, part_within, part_kept}
+use Rattle.cadf_tool.proofs.InventoryParts.{part_by_is, part_by_within, part_by_kept}
 
 pub record IsReadWithin (m : Making) (l : Loaded) : Type 0 where
   pub log : log_named l ≡ log_of m
@@ -36,25 +39,40 @@ joined_within log operands inputs h joined names low =
     let j : IsJoin log inputs h = join_is log inputs h joined in
     record { log = sym (ap (option_or log) names) ∙ j.log; atoms = λ q k. low q (subst (λ s. Has s q) j.atoms k) }
 
+-- ---- what was read is kept
+
+inputs_kept : (operands : Operands) (inputs : List Loaded) → AreRead operands inputs → AreKept (union_of inputs)
+inputs_kept End [] read = kept_empty
+inputs_kept End (l ∷ ls) read = absurd read
+inputs_kept (Whole m operands) [] read = absurd read
+inputs_kept (Whole m operands) (l ∷ ls) ((bytes, made, input), read) = kept_union (atoms_of l) (union_of ls) (input_kept bytes l input) (inputs_kept operands ls read)
+inputs_kept (Part from to operands) [] read = absurd read
+inputs_kept (Part from to operands) (l ∷ ls) ((bytes, made, input), read) = kept_union (atoms_of l) (union_of ls) (input_kept bytes l input) (inputs_kept operands ls read)
+inputs_kept (PartBy from to operands) [] read = absurd read
+inputs_kept (PartBy from to operands) (l ∷ ls) ((bytes, made, input), read) = kept_union (atoms_of l) (union_of ls) (input_kept bytes l input) (inputs_kept operands ls read)
+
+pub join_kept : (log : Option Text) (operands : Operands) (inputs : List Loaded) (h : Held) → AreRead operands inputs → join_of log inputs ≡ Ok h → AreKept h.atoms
+join_kept log operands inputs h read joined = subst AreKept (sym (join_is log inputs h joined).atoms) (inputs_kept operands inputs read)
+
 -- ---- parts
 
 part_of_read : (from : Making) (one l : Loaded) (h : Held) (bytes : List ℕ) → IsReadWithin from one → log_named one ≡ Some h.log
-    → IsWithin h.atoms (atoms_of one)
+    → IsWithin h.atoms (atoms_of one) → AreKept h.atoms
     → bytes ≡ file h → IsInput bytes l → IsReadWithin from l
-part_of_read from one l h bytes r name low is input =
-    loaded_within from l h (loaded_file bytes h l is input) (record { log = sym r.log ∙ name; atoms = λ q k. r.atoms q (low q k) })
+part_of_read from one l h bytes r name low kept is input =
+    loaded_within from l h (loaded_file bytes h l kept is input) (record { log = sym r.log ∙ name; atoms = λ q k. r.atoms q (low q k) })
 
 part_read : (from : Making) (to : List ℕ → Type 0) (l : Loaded) → ((one : Loaded) → IsReadOf (λ b. IsMade from b) one → IsReadWithin from one)
     → IsReadOf (IsPartOf (λ b. IsMade from b) to) l → IsReadWithin from l
 part_read from to l f (bytes, (one, other, r, s, (h, e, is)), input) =
     let p = part_is one other h e in
-    part_of_read from one l h bytes (f one r) p.log (part_within r.0 one other h r.2 p) is input
+    part_of_read from one l h bytes (f one r) p.log (part_within r.0 one other h r.2 p) (part_kept r.0 one other h r.2 p) is input
 
 part_by_read : (from : Making) (to : List ℕ → Type 0) (l : Loaded) → ((one : Loaded) → IsReadOf (λ b. IsMade from b) one → IsReadWithin from one)
     → IsReadOf (IsPartByOf (λ b. IsMade from b) to) l → IsReadWithin from l
 part_by_read from to l f (bytes, (one, noted, r, s, (h, e, is)), input) =
     let p = part_by_is one noted h e in
-    part_of_read from one l h bytes (f one r) p.log (part_by_within r.0 one noted h r.2 p) is input
+    part_of_read from one l h bytes (f one r) p.log (part_by_within r.0 one noted h r.2 p) (part_by_kept r.0 one noted h r.2 p) is input
 
 -- ---- what is read of a file
 
@@ -67,7 +85,7 @@ mutual
   read_within (Outside given loaded) l (bytes, made, input) =
       outside_read (Outside given loaded) l loaded (one_loaded bytes l loaded input (subst (λ b. IsInput b loaded) (sym made.0) made.1)) refl refl
   read_within (Joined log operands) l (bytes, (inputs, read, (h, joined, is)), input) =
-      loaded_within (Joined log operands) l h (loaded_file bytes h l is input)
+      loaded_within (Joined log operands) l h (loaded_file bytes h l (join_kept log operands inputs h read joined) is input)
       (joined_within log operands inputs h joined (names operands inputs read) (inputs_within operands inputs read))
 
   pub names : (operands : Operands) (inputs : List Loaded) → AreRead operands inputs → first_named inputs ≡ log_in operands

@@ -2,9 +2,11 @@
 use Rattle.std.proofs.Common.{◌≡◌, ℕ, Bool, true, false, cond, List, Option, None, Some, Result, Ok, Err, refl, sym, ap, ◌∙◌, subst}
 use Rattle.cadf_join.specs.Sets as set
 use Rattle.cadf_join.specs.Contents.{Text, Contents, IsWithin}
-use Rattle.cadf_replica.specs.Missing.{Digests, digests_of, missing_by, NoCollision}
+use Rattle.cadf_replica.specs.Atoms.{IsGrounded}
+use Rattle.cadf_replica.specs.AtomSets.{AreKept}
+use Rattle.cadf_replica.specs.Missing.{Digests, digests_of, unknown, missing_by, NoCollision}
 use Rattle.cadf_replica.specs.Replica.{Held}
-use Rattle.cadf_replica.proofs.Missing.{with_carriers_least, unknown_has, missing_by_is}
+use Rattle.cadf_replica.proofs.Missing.{with_carriers_grounded, with_carriers_least, unknown_has, missing_by_is}
 use Rattle.cadf_file.specs.InventoryFile.{IsInventory}
 use Rattle.cadf_file.proofs.InventoryVerdictLemmas.{inventory-file-tells}
 use Rattle.cadf_tool.specs.declared.input.Loaded.{Loaded}
@@ -19,7 +21,7 @@ use Rattle.cadf_replica.specs.Inventory.{Noted, AreDigests}
 use Rattle.cadf_tool.specs.MissingBy.{noted_under, noted_of, missing_by_of}
 use Rattle.cadf_tool.specs.Exchange.{IsReadOf, IsNotedOf}
 use Rattle.cadf_tool.proofs.DigestBytes.{are_digests}
-use Rattle.cadf_tool.proofs.GroundedInputs.{input_grounded}
+use Rattle.cadf_tool.proofs.KeptInputs.{input_kept, input_grounded}
 use Rattle.cadf_tool.proofs.HeldReplicas.{held_replica}
 use Rattle.cadf_tool.proofs.InputUnions.{IsPart}
 
@@ -97,6 +99,12 @@ pub part_by_within : (bytes : List ℕ) (from : Loaded) (noted : Noted) (part : 
 part_by_within bytes from noted part is p =
     subst (λ s. IsWithin s (atoms_of from)) (sym p.atoms)
     (with_carriers_least _ (atoms_of from) (input_grounded bytes from is, unknown_has atom_digest (atoms_of from) noted.digests))
+
+pub part_by_kept : (bytes : List ℕ) (from : Loaded) (noted : Noted) (part : Held) → IsInput bytes from → IsPartBy from noted part → AreKept part.atoms
+part_by_kept bytes from noted part is p = record {
+  grounded = subst IsGrounded (sym p.atoms) (with_carriers_grounded (unknown atom_digest (atoms_of from) noted.digests));
+  are_atoms = λ q h. (input_kept bytes from is).are_atoms q (part_by_within bytes from noted part is p q h);
+}
 
 -- where no two different atoms share a digest, it is the missing part
 pub part_by_part : (from to : Loaded) (noted : Noted) (part : Held) → NoCollision atom_digest (set.union (atoms_of from) (atoms_of to)) → Notes to noted

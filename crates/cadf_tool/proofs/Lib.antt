@@ -13,7 +13,7 @@ pub mod OneText
 pub mod Exclusion
 pub mod OfTheBytes
 pub mod TakenAlone
-pub mod GroundedInputs
+pub mod KeptInputs
 pub mod InputUnions
 pub mod UnitingLemmas
 pub mod HeldReplicas
