@@ -1,0 +1,59 @@
+//! What is asked of a set of lists of texts.
+ghost use Rattle.std.specs.Prelude.{◌≡◌, IfOk, length, map, string_bytes};
+ghost use Rattle.std.specs.List.{filter_map};
+ghost use Rattle.std.specs.Option.{option_copied, option_map};
+ghost use Rattle.cadf_join.specs.Sets as set;
+ghost use Rattle.cadf_join.specs.Contents.{next_after};
+ghost use Rattle.cadf_join.specs.Longest.{longest_of};
+ghost use Rattle.cadf_join.specs.Maps.{heads};
+ghost use Rattle.cadf_join.specs.Prefixes.{chain_texts, saturated, texts_at, texts_found};
+ghost use Rattle.cadf_join.specs.Several.{several};
+ghost use Rattle.cadf_paths.specs.Flat.{strip};
+ghost use Rattle.cadf_paths.specs.Sections.{sections};
+
+use crate::Memory;
+use crate::paths::Paths;
+
+impl Paths {
+    /// Whether the list is a member.
+    pub fn holds(&self, list: &[String]) -> bool
+        ensures { result ≡ set.contains self.now (chain_texts list.now) }
+    {
+        false
+    }
+
+    /// The least list above the given one, or the least of all for `None`.
+    pub fn list_after(&self, given: Option<&[String]>) -> Result<Option<Vec<String>>, Memory>
+        ensures { IfOk result (λ found. texts_found found ≡ next_after self.now (option_map chain_texts (option_copied given.entry))) }
+    {
+        Ok(None)
+    }
+
+    /// The least text next behind the prefix that is above the given one, or the least of all for `None`. Found by halving.
+    pub fn next_text(&self, prefix: &[&str], text: Option<&str>) -> Option<&str>
+        ensures { option_copied result ≡ next_after (heads (sections self.now (texts_at prefix.now))) (option_copied text.entry) }
+    {
+        None
+    }
+
+    /// The texts next behind the prefix, in order.
+    pub fn texts_behind(&self, prefix: &[&str]) -> Result<Vec<String>, Memory>
+        ensures { IfOk result (λ found. map string_bytes found.items ≡ set.rising (heads (sections self.now (texts_at prefix.now)))) }
+    {
+        Ok(Vec::new(self.alloc))
+    }
+
+    /// The number of texts next behind the prefix that have two or more texts next behind them, or `u64::MAX` where there are more.
+    pub fn several_behind(&self, prefix: &[&str]) -> u64
+        ensures { result ≡ saturated (length (several (sections self.now (texts_at prefix.now)))) }
+    {
+        0
+    }
+
+    /// The longest of the lists that go on behind the prefix, without it; the least of the longest.
+    pub fn longest_behind(&self, prefix: &[&str]) -> Result<Option<Vec<String>>, Memory>
+        ensures { IfOk result (λ found. texts_found found ≡ longest_of (filter_map (strip (texts_at prefix.now)) (set.rising self.now))) }
+    {
+        Ok(None)
+    }
+}
