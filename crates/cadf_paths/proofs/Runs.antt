@@ -3,7 +3,7 @@ use Rattle.std.proofs.Common.{◌≡◌, ℕ, ◌≤◌, List, [], ◌∷◌, �
 use Rattle.std.proofs.lemmas.List.{length-append, length-drop, take-append-le, drop-append-le}
 use Rattle.std.specs.List.{AllByRecursion, take-map, drop-map}
 use Rattle.cadf_join.specs.Contents.{Texts}
-use Rattle.cadf_paths.specs.Flat.{text_of, run_of, IsRun}
+use Rattle.cadf_paths.specs.Flat.{text_of, run_of, rest_of, IsRun}
 use Rattle.cadf_paths.specs.declared.pool.Span.{Span}
 use Rattle.cadf_paths.proofs.Spans.{all_turned, map_same, grown_by}
 
@@ -13,6 +13,13 @@ pub run_held : (bs b : List ℕ) (ss us slice : List Span) (ts : Texts) (r : Spa
 run_held bs b ss us slice ts r block items run view =
     (λ i. map (text_of (block i)) (run i)) ∙ ap (λ z. map (text_of bs) (take r.len (drop r.start z))) items
     ∙ sym (take-map (text_of bs) r.len (drop r.start ss)) ∙ ap (take r.len) (sym (drop-map (text_of bs) r.start ss)) ∙ ap (λ z. run_of z r) view
+
+-- and that run without its first texts
+pub rest_held : (n : ℕ) (bs b : List ℕ) (ss us slice : List Span) (ts : Texts) (r : Span) → b ≡ bs → us ≡ ss → slice ≡ drop n (take r.len (drop r.start us))
+    → map (text_of bs) ss ≡ ts → map (text_of b) slice ≡ rest_of ts n r
+rest_held n bs b ss us slice ts r block items run view =
+    ap (map (text_of b)) run ∙ sym (drop-map (text_of b) n (take r.len (drop r.start us)))
+    ∙ ap (drop n) (run_held bs b ss us (take r.len (drop r.start us)) ts r block items refl view)
 
 module _ (ts us : Texts) (kept : take (length ts) us ≡ ts) where
   grown_fits : length ts ≤ length us
