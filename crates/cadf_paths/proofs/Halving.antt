@@ -156,7 +156,7 @@ drop_sorted xs zero s = s
 drop_sorted [] (suc n) s = tt
 drop_sorted (x ∷ xs) (suc n) s = drop_sorted xs n s.1
 
-first_dropped : (xs : List Texts) (n : ℕ) → get_or (drop n xs) 0 [] ≡ get_or xs n []
+pub first_dropped : (xs : List Texts) (n : ℕ) → get_or (drop n xs) 0 [] ≡ get_or xs n []
 first_dropped [] zero = refl
 first_dropped (x ∷ xs) zero = refl
 first_dropped [] (suc n) = refl

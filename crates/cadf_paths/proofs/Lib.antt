@@ -1,5 +1,7 @@
 pub mod Above
+pub mod Behind
 pub mod CarrierLists
+pub mod Firsts
 pub mod Halving
 pub mod Merges
 pub mod Outcome

@@ -1,12 +1,12 @@
 //! Lists of texts that stand one behind another, each without its first texts.
-ghost use Rattle.std.specs.Prelude.{◌≡◌, ◌≤◌, ◌<◌, [], ◌++◌, IfOk, IfSome, true, false, length, take, drop, get_or, map, nat_le};
-ghost use Rattle.std.specs.List.{AllByRecursion};
+ghost use Rattle.std.specs.Prelude.{◌≡◌, ◌≤◌, ◌<◌, [], IfOk, IfSome, None, true, false, length, take, drop, get_or, map, nat_le};
+ghost use Rattle.std.specs.List.{AllByRecursion, find};
 ghost use Rattle.std.specs.List.Sorted.{IsStrictlySortedBy};
 ghost use Rattle.std.specs.Option.{option_copied, option_map};
 ghost use Rattle.std.specs.Ordering.{eq_by_cmp};
-ghost use Rattle.cadf_join.specs.Contents.{next_after, rests, texts_cmp};
+ghost use Rattle.cadf_join.specs.Contents.{is_after, next_after, rests, text_cmp, texts_cmp};
 ghost use Rattle.cadf_join.specs.Longest.{longer_than, longest_of};
-ghost use Rattle.cadf_join.specs.Maps.{heads};
+ghost use Rattle.cadf_join.specs.Maps.{firsts, heads};
 ghost use Rattle.cadf_join.specs.Prefixes.{chain_texts};
 ghost use Rattle.cadf_join.specs.Sets as set;
 ghost use Rattle.cadf_paths.specs.Flat.{IsRun, first_of, is_before, rest_of};
@@ -30,7 +30,7 @@ pub struct Part<'a> {
 
 impl<'a> Model for Part<'a> {
     ghost use Rattle.std.specs.Prelude.{List, map};
-    ghost use Rattle.std.specs.List.{AllByRecursion};
+    ghost use Rattle.std.specs.List.{AllByRecursion, find};
     ghost use Rattle.cadf_join.specs.Contents.{Texts};
     ghost use Rattle.cadf_paths.specs.Flat.{IsRun, rest_of};
 
@@ -111,14 +111,11 @@ impl<'a> Part<'a> {
         requires { IsStrictlySortedBy texts_cmp self.now }
         ensures { result ≡ rests text.now self.now }
     {
-        let low = self.bound(from_ref(&text), false);
         let high = self.bound(from_ref(&text), true);
-        if low < high {
-            let (front, _) = self.lists.split_at(high);
-            let (_, lists) = front.split_at(low);
-            return Part::new(self.texts, lists, self.depth + 1);
-        }
-        Part::new(self.texts, &[], self.depth)
+        let (front, _) = self.lists.split_at(high);
+        let low = Part::new(self.texts, front, self.depth).bound(from_ref(&text), false);
+        let (_, lists) = front.split_at(low);
+        Part::new(self.texts, lists, self.texts.deeper(self.depth))
     }
 
     /// The least first text above the given one, or the least of all for `None`. Found by halving.
@@ -126,13 +123,20 @@ impl<'a> Part<'a> {
         requires { IsStrictlySortedBy texts_cmp self.now }
         ensures { option_copied result ≡ next_after (heads (set.from_list self.now)) (option_copied text.entry) }
     {
-        let at = match text {
-            Some(text) => self.bound(from_ref(&text), true),
-            None => 0,
-        };
-        match self.text(at) {
-            Some(next) => Some(next),
-            None => self.text(at + 1),
+        match text {
+            Some(text) => self.text(self.bound(from_ref(&text), true)),
+            None => self.least_text(),
+        }
+    }
+
+    /// The least first text.
+    fn least_text(&self) -> Option<&'a str>
+        requires { IsStrictlySortedBy texts_cmp self.now }
+        ensures { option_copied result ≡ find (is_after text_cmp None) (firsts self.now) }
+    {
+        match self.text(0) {
+            Some(text) => Some(text),
+            None => self.text(1),
         }
     }
 

@@ -5,6 +5,7 @@ ghost use Rattle.std.specs.Option.{option_copied};
 ghost use Rattle.cadf_join.specs.Contents.{texts_cmp};
 ghost use Rattle.cadf_join.specs.Prefixes.{texts_at};
 ghost use Rattle.cadf_paths.specs.Flat.{IsRun, IsSpan, first_of, prefix_cmp, rest_of, run_of, text_of};
+ghost use Rattle.cadf_paths.specs.declared.pool.Span.{Span};
 
 use crate::Memory;
 use crate::word::Word;
@@ -83,6 +84,16 @@ impl Pool {
             spans_behind(self.spans.as_slice(), run, depth),
             path,
         )
+    }
+
+    /// So many texts and one more, as far as there are texts.
+    pub fn deeper(&self, depth: usize) -> usize
+        ensures { (r : Span) → IsRun self.now r → rest_of self.now result r ≡ drop 1 (rest_of self.now depth r) }
+    {
+        if depth < self.spans.len() {
+            return depth + 1;
+        }
+        depth
     }
 
     /// The first text of the run behind the first so many.
