@@ -2,6 +2,8 @@
 use Rattle.std.proofs.Common.{◌≡◌, ℕ, suc, zero, Bool, true, false, cond, List, [], ◌∷◌, Option, Some, None, refl, sym, ap, ◌∙◌, subst, length, ◌||◌, le-leb, arith, inl, inr}
 use mathlib.Core.Bool.{true≢false}
 use Rattle.std.specs.Prelude.{nat_le, is_some}
+use Rattle.std.specs.Borrow.{Bor}
+use Rattle.std.specs.Option.{option_copied}
 use Rattle.std.specs.declared.cmp.Ordering.{Ordering}
 use Rattle.std.specs.declared.cmp.Ordering.TheVariants.{Less, Equal, Greater}
 use Rattle.std.specs.Ordering.{is_lt, is_eq, eq_by_cmp, ordering_reverse}
@@ -12,6 +14,10 @@ use Rattle.cadf_join.specs.Contents.{is_after}
 use Rattle.cadf_join.specs.Sets as set
 use Rattle.cadf_join.specs.Sets.{IsAntisymmetric, any_listed, listed_any, contains-from_list, contains-rising, rising-from_list, rising_is_sorted, listed-rising, Listed, listed-AllByRecursion, AllByRecursion-listed}
 use Rattle.cadf_paths.proofs.Spans.{all_turned}
+
+pub copied_some : {A : Type 0} (x : Option (Bor A)) → is_some x ≡ is_some (option_copied x)
+copied_some None = refl
+copied_some (Some x) = refl
 
 module _ {K : Type 0} {R : K → K → Ordering} (o : IsTotalOrder R) (same : IsAntisymmetric R) where
   abbrev pub DoesNotFall : List K → Type 0

@@ -4,6 +4,7 @@ pub mod CarrierLists
 pub mod Firsts
 pub mod Halving
 pub mod Merges
+pub mod Narrowed
 pub mod Outcome
 pub mod Ranges
 pub mod Runs

@@ -1,4 +1,4 @@
-use Rattle.std.proofs.Common.{◌≡◌, true, false, ap, sym, subst, ◌∙◌, map, take, drop, Some}
+use Rattle.std.proofs.Common.{◌≡◌, true, false, ap, sym, subst, ◌∙◌, map, take, drop, Some, None}
 use Rattle.std.specs.List.{AllByRecursion}
 use Rattle.std.specs.Option.{option_copied}
 use Rattle.cadf_join.specs.Contents.{Texts, next_after}
@@ -23,4 +23,4 @@ returns-in-Some c =
 pub returns-in-None : goal.returns-in-None
 returns-in-None c =
     let ls = c.args.self.now in
-    c.least_text.ensures ∙ sym (next_is ls c.requires _) ∙ ap (λ g. next_after (heads (set.from_list ls)) (option_copied g)) (sym c.in-None.is)
+    c.least_text.ensures ∙ sym (next_is ls c.requires None) ∙ ap (λ g. next_after (heads (set.from_list ls)) (option_copied g)) (sym c.in-None.is)
