@@ -1,5 +1,7 @@
 -- What stands behind a text in rising lists, and their first texts.
-use Rattle.std.proofs.Common.{◌≡◌, ℕ, suc, zero, Bool, true, false, cond, List, [], ◌∷◌, Option, Some, None, refl, sym, ap, ◌∙◌, subst, length, take, drop, get_or, map, arith}
+use Rattle.std.proofs.Common.{◌≡◌, ℕ, suc, zero, Bool, true, false, cond, List, [], ◌∷◌, Option, Some, None, refl, sym, ap, ◌∙◌, subst, length, take, drop, get_or, map, arith, ◌<◌, ◌+◌}
+use Rattle.std.specs.Borrow.{Bor}
+use Rattle.std.proofs.lemmas.List.{at_drop_more}
 use mathlib.Core.Bool.{true≢false}
 use Rattle.std.specs.declared.cmp.Ordering.{Ordering}
 use Rattle.std.specs.declared.cmp.Ordering.TheVariants.{Less, Equal, Greater}
@@ -9,6 +11,7 @@ use Rattle.std.specs.List.Sorted.{IsStrictlySortedBy}
 use Rattle.cadf_join.specs.Contents.{Text, Texts, Contents, text_cmp, texts_cmp, is_after, next_after, rests, section}
 use Rattle.cadf_join.specs.ContentsLaws.{text_total, text_same, texts_total, texts_same}
 use Rattle.cadf_join.specs.Maps.{firsts, heads}
+use Rattle.cadf_join.specs.Prefixes.{texts_at}
 use Rattle.cadf_join.specs.Sets as set
 use Rattle.cadf_join.specs.Sets.{rising-from_list, rising_is_sorted}
 use Rattle.cadf_join.proofs.Risings.{rising-section}
@@ -194,3 +197,12 @@ filter_all (l ∷ ls) = ap (λ z. l ∷ z) (filter_all ls)
 pub behind_strip : (p : Texts) (ls : List Texts) → behind p ls ≡ filter_map (strip p) ls
 behind_strip [] ls = sym (filter_all ls)
 behind_strip (t ∷ p) ls = behind_strip p (rests t ls) ∙ strip_rests t p ls
+
+pub part_is : (p : Texts) (ls : List Texts) → IsStrictlySortedBy texts_cmp ls → (part : List Texts) (s : Contents) → part ≡ behind p ls → set.from_list ls ≡ s
+    → set.from_list part ≡ sections s p
+part_is p ls sorted part s is view = ap set.from_list is ∙ sym (sections_of p ls sorted) ∙ ap (λ z. sections z p) view
+
+pub behind_first : (prefix : List (Bor Text)) (i : ℕ) (part below : List Texts) (otherwise : Bor Text) → i < length prefix
+    → below ≡ rests (get_or prefix i otherwise).now part → behind (texts_at (drop (i + 1) prefix)) below ≡ behind (texts_at (drop i prefix)) part
+behind_first prefix i part below otherwise h is =
+    ap (behind (texts_at (drop (i + 1) prefix))) is ∙ sym (at_drop_more (λ ts. behind (texts_at ts) part) prefix i otherwise h)

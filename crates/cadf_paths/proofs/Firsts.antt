@@ -149,3 +149,7 @@ module _ {K : Type 0} {R : K → K → Ordering} (o : IsTotalOrder R) (same : Is
       by : (b : Bool) → cond b (Some x) (find f ks) ≡ None → (find f ks ≡ None → filter f ks ≡ []) → cond b (x ∷ filter f ks) (filter f ks) ≡ []
       by true h on = absurd (none_is_not_some x h)
       by false h on = on h
+
+  pub all_after : (ks : List K) → filter (is_after R None) ks ≡ ks
+  all_after [] = refl
+  all_after (x ∷ ks) = ap (λ z. x ∷ z) (all_after ks)

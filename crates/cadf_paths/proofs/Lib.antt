@@ -8,4 +8,5 @@ pub mod Narrowed
 pub mod Outcome
 pub mod Ranges
 pub mod Runs
+pub mod Several
 pub mod Spans

@@ -181,10 +181,12 @@ impl<'a> Part<'a> {
 
     /// How many texts the list of that number has.
     fn length(&self, number: usize) -> usize
-        requires { number < length self.now }
         ensures { result ≡ length (get_or self.now number []) }
     {
-        (self.lists[number].len as usize).saturating_sub(self.depth)
+        match self.lists.get(number) {
+            Some(list) => (list.len as usize).saturating_sub(self.depth),
+            None => 0,
+        }
     }
 
     /// A copy of the list of that number.
