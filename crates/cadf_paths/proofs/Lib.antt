@@ -9,4 +9,5 @@ pub mod Outcome
 pub mod Ranges
 pub mod Runs
 pub mod Several
+pub mod Sorts
 pub mod Spans

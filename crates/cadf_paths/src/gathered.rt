@@ -51,6 +51,11 @@ impl Gathered {
     pub fn into_paths(self) -> Result<Paths, Memory>
         ensures { IfOk result (λ paths. paths ≡ self) }
     {
-        Ok(Paths::new(self.alloc))
+        let mut rows = self.rows;
+        rows.sort()?;
+        Ok(Paths {
+            rows,
+            alloc: self.alloc,
+        })
     }
 }

@@ -10,11 +10,13 @@ ghost use Rattle.std.specs.Ordering.{eq_by_cmp, is_lt};
 ghost use Rattle.cadf_join.specs.Contents.{is_after, texts_cmp};
 ghost use Rattle.cadf_join.specs.Prefixes.{chain_texts, texts_at};
 ghost use Rattle.cadf_paths.specs.Flat.{IsRun, run_of, Moves, ahead, ends_below, is_before};
+ghost use Rattle.cadf_join.specs.Sets as set;
 ghost use Rattle.cadf_paths.specs.Sections.{behind};
 
 use crate::Memory;
 use crate::part::Part;
 use crate::pool::{Pool, Span, narrow};
+use crate::sort::sorted;
 use crate::word::Word;
 use std::alloc::Global;
 use std::cmp::Ordering;
@@ -109,6 +111,25 @@ impl Rows {
             more = cursor.next()?;
         }
         Ok(())
+    }
+
+    /// Puts the lists in order, each once. Their texts stay where they are.
+    pub fn sort(&mut self) -> Result<(), Memory>
+        ensures rises { OnOk result (IsStrictlySortedBy texts_cmp self.new) }
+        ensures same { OnOk result (set.from_list {R = texts_cmp} self.new ≡ set.from_list self.old) }
+    {
+        let lists = sorted(self.alloc, &self.texts, self.lists.as_slice())?;
+        self.lists = lists;
+        Ok(())
+    }
+
+    /// Adds the texts of the list of that number to the path.
+    pub fn append<'a>(&'a self, number: usize, path: &mut Vec<&'a str>) -> Result<(), Memory>
+        requires { number < length self.now }
+        ensures kept { OnOk result (take (length path.old.items) path.new.items ≡ path.old.items) }
+        ensures texts { OnOk result (texts_at path.new.items ≡ texts_at path.old.items ++ get_or self.now number []) }
+    {
+        self.texts.append(self.lists[number], 0, path)
     }
 
     /// Before the first list.
