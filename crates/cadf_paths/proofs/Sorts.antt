@@ -8,7 +8,7 @@ use Rattle.std.specs.Ordering.{eq_by_cmp}
 use Rattle.cadf_join.specs.Contents.{Texts, texts_cmp}
 use Rattle.cadf_join.specs.ContentsLaws.{texts_total, texts_same, contents_same}
 use Rattle.cadf_join.specs.Sets as set
-use Rattle.cadf_join.specs.Sets.{contains-from_list, contains-union}
+use Rattle.cadf_join.specs.Sets.{contains-from_list, contains-insert, contains-union}
 use Rattle.std.specs.Prelude.{◌||◌, Bool, false}
 use Rattle.cadf_paths.specs.Merge.{sorted_merge}
 use Rattle.cadf_paths.specs.declared.pool.Span.{Span}
@@ -68,3 +68,15 @@ module _ (f : Span → Texts) (front back a b : List Span) (a_is : a ≡ front) 
       ap set.from_list of_halves ∙ merged_is_union texts_total texts_same (map f front) (map f back) ∙ (λ i. set.union (same i) (also i))
       ∙ sym (of_both (map f before) (map f behind)) ∙ ap set.from_list (sym (map_append f before behind))
       ∙ ap (λ ls. set.from_list (map f ls)) ((λ i. before_is i ++ behind_is i) ∙ take-append-drop n lists)
+
+pub pushed_is_insert : (xs : List Texts) (q : Texts) → set.from_list {R = texts_cmp} (xs ++ q ∷ []) ≡ set.insert (set.from_list xs) q
+pushed_is_insert xs q = contents_same _ _ (λ x.
+    contains-from_list texts_total (xs ++ q ∷ []) x ∙ any_append (eq_by_cmp texts_cmp x) xs (q ∷ [])
+    ∙ turned (list_any (eq_by_cmp texts_cmp x) xs) (eq_by_cmp texts_cmp x q)
+    ∙ ap (λ b. eq_by_cmp texts_cmp x q || b) (sym (contains-from_list texts_total xs x)) ∙ sym (contains-insert texts_total (set.from_list xs) q x))
+  where
+    turned : (a b : Bool) → (a || (b || false)) ≡ (b || a)
+    turned true true = refl
+    turned true false = refl
+    turned false true = refl
+    turned false false = refl
