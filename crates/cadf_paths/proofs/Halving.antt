@@ -1,6 +1,8 @@
 -- What halving over rising lists finds.
 use Rattle.std.proofs.Common.{◌≡◌, ℕ, ◌+◌, ◌-◌, ◌≤◌, ◌<◌, Bool, true, false, List, [], ◌∷◌, ◌++◌}
-use Rattle.std.proofs.Common.{refl, sym, ap, ◌∙◌, subst, suc, zero, length, take, drop, get_or, ◌||◌, arith}
+use Rattle.std.proofs.Common.{refl, sym, ap, ◌∙◌, subst, suc, zero, length, take, drop, get_or, ◌||◌, arith, Some}
+use Rattle.std.proofs.Math.Numerals.{add-one}
+use Rattle.std.proofs.Math.Seq.{take-suc}
 use mathlib.Core.Bool.{true≢false}
 use Rattle.std.specs.declared.cmp.Ordering.{Ordering}
 use Rattle.std.specs.declared.cmp.Ordering.TheVariants.{Less, Equal, Greater}
@@ -11,11 +13,11 @@ use Rattle.std.specs.Cmp.Lexicographic.{pointwise, pointwise_decides}
 use Rattle.std.specs.List.{AllByRecursion, list_any}
 use Rattle.std.specs.List.Sorted.{IsStrictlySortedBy}
 use Rattle.cadf_join.specs.SetLaws as sets
-use Rattle.cadf_join.specs.Contents.{Texts, text_cmp, texts_cmp}
+use Rattle.cadf_join.specs.Contents.{Texts, is_after, text_cmp, texts_cmp}
 use Rattle.cadf_join.specs.ContentsLaws.{text_total, text_same, texts_total, texts_same, contents_same}
 use Rattle.cadf_join.specs.Sets as set
 use Rattle.cadf_join.specs.Sets.{contains-from_list, contains-insert}
-use Rattle.cadf_paths.proofs.Spans.{all_turned}
+use Rattle.cadf_paths.proofs.Spans.{all_more, all_turned}
 use Rattle.cadf_paths.proofs.Runs.{all_put}
 use Rattle.cadf_paths.specs.Flat.{prefix_cmp, is_before, last_of, ends_below}
 
@@ -154,7 +156,7 @@ drop_sorted xs zero s = s
 drop_sorted [] (suc n) s = tt
 drop_sorted (x ∷ xs) (suc n) s = drop_sorted xs n s.1
 
-first_dropped : (xs : List Texts) (n : ℕ) → get_or (drop n xs) 0 [] ≡ get_or xs n []
+pub first_dropped : (xs : List Texts) (n : ℕ) → get_or (drop n xs) 0 [] ≡ get_or xs n []
 first_dropped [] zero = refl
 first_dropped (x ∷ xs) zero = refl
 first_dropped [] (suc n) = refl
@@ -219,3 +221,32 @@ lists_decide = pointwise_decides (λ x y. (
   λ h. texts_same x y ((Equal-is (texts_cmp x y)).0 h),
   λ e. subst (λ z. eq_by_cmp texts_cmp x z ≡ true) e (ap is_eq (tied_itself texts_total x)),
 ))
+
+-- where the lists above one begin: at its place, or behind it where it is there
+pub not_after : (q : Texts) (xs : List Texts) → AllByRecursion (λ l. is_before q false l ≡ true) xs → AllByRecursion (λ l. is_after texts_cmp (Some q) l ≡ false) xs
+not_after q xs h = all_turned (λ l. is_before q false l ≡ true) (λ l. is_after texts_cmp (Some q) l ≡ false) xs
+    (λ x k. ap is_lt (texts_total.antisymm q x ∙ ap ordering_reverse (before_is_less x q k))) h
+
+module _ (q : Texts) (xs : List Texts) (n : ℕ) (s : IsStrictlySortedBy texts_cmp xs) where
+  pub after_place : AllByRecursion (λ l. is_before q false l ≡ false) (drop n xs) → (n < length xs → eq_by_cmp texts_cmp (get_or xs n []) q ≡ true → ⊥)
+      → AllByRecursion (λ l. is_after texts_cmp (Some q) l ≡ true) (drop n xs)
+  after_place h other = all_turned (λ l. texts_cmp q l ≡ Less) (λ l. is_after texts_cmp (Some q) l ≡ true) (drop n xs) (λ x k. ap is_lt k)
+      (above_place q xs n s h other)
+
+  module _ (l : n < length xs) (e : eq_by_cmp texts_cmp (get_or xs n []) q ≡ true) where
+    same : get_or xs n [] ≡ q
+    same = texts_same (get_or xs n []) q ((Equal-is (texts_cmp (get_or xs n []) q)).0 e)
+
+    pub not_after_it : AllByRecursion (λ x. is_before q false x ≡ true) (take n xs) → AllByRecursion (λ x. is_after texts_cmp (Some q) x ≡ false) (take (n + 1) xs)
+    not_after_it h =
+        subst (AllByRecursion (λ x. is_after texts_cmp (Some q) x ≡ false)) (sym (ap (λ k. take k xs) (add-one n) ∙ take-suc xs n [] l))
+        (all_more (λ x. is_after texts_cmp (Some q) x ≡ false) (take n xs) (get_or xs n []) (not_after q (take n xs) h)
+        (ap (λ z. is_lt (texts_cmp q z)) same ∙ ap is_lt (tied_itself texts_total q)))
+
+    pub after_it : AllByRecursion (λ x. is_after texts_cmp (Some q) x ≡ true) (drop (n + 1) xs)
+    after_it = all_dropped (λ x. is_after texts_cmp (Some q) x ≡ true) xs (n + 1)
+        (λ i b m. ap is_lt (sym (ap (λ z. texts_cmp z (get_or xs i [])) same) ∙ rising_at xs n i s (omega (arith, b)) m))
+
+pub each_passes : {A : Type 0} (P : A → Type 0) (xs : List A) → ((x : A) → P x) → AllByRecursion P xs
+each_passes P [] h = tt
+each_passes P (x ∷ xs) h = (h x, each_passes P xs h)

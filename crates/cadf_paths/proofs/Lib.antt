@@ -1,8 +1,13 @@
 pub mod Above
+pub mod Behind
 pub mod CarrierLists
+pub mod Firsts
 pub mod Halving
 pub mod Merges
+pub mod Narrowed
 pub mod Outcome
 pub mod Ranges
 pub mod Runs
+pub mod Several
+pub mod Sorts
 pub mod Spans

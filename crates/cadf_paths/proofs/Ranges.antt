@@ -108,6 +108,15 @@ module _ (p : Texts) (passed : Bool) (rows : List Texts) (n : ℕ) (below : AllB
       (all_turned (λ l. is_before p passed l ≡ true) (λ l. not (is_before p passed l) ≡ false) (take n rows) (λ l h. ap not h) below))
       ∙ ap (find (λ l. not (is_before p passed l))) e
 
+-- the same of any test that the lists from there on pass, and no list before
+module _ (f : Texts → Bool) (rows : List Texts) (n : ℕ) (below : AllByRecursion (λ l. f l ≡ false) (take n rows))
+    (above : AllByRecursion (λ l. f l ≡ true) (drop n rows)) where
+  pub passing_found : (x : Texts) (ys : List Texts) → drop n rows ≡ x ∷ ys → find f rows ≡ Some x
+  passing_found x ys e = sym (found_first f rows n below) ∙ find_head f (drop n rows) x ys e above
+
+  pub none_passing : drop n rows ≡ [] → find f rows ≡ None
+  none_passing e = sym (found_first f rows n below) ∙ ap (find f) e
+
 pub from_bound : (p : Texts) (rows : List Texts) (n : ℕ) → AllByRecursion (λ l. is_before p false l ≡ true) (take n rows)
     → filter_map (strip p) (drop n rows) ≡ filter_map (strip p) rows
 from_bound p rows n below = skipped (strip p) (λ l. is_before p false l ≡ true) rows n (before_has_none p) below

@@ -1,9 +1,9 @@
 -- Runs of texts to which more were put, and of texts that are spans.
-use Rattle.std.proofs.Common.{◌≡◌, ℕ, ◌≤◌, List, [], ◌∷◌, ◌++◌, refl, sym, ap, ◌∙◌, suc, zero, length, take, drop, map, arith}
+use Rattle.std.proofs.Common.{◌≡◌, ℕ, ◌≤◌, List, [], ◌∷◌, ◌++◌, refl, sym, ap, ◌∙◌, suc, zero, length, take, drop, map, get_or, Some, arith}
 use Rattle.std.proofs.lemmas.List.{length-append, length-drop, take-append-le, drop-append-le}
 use Rattle.std.specs.List.{AllByRecursion, take-map, drop-map}
 use Rattle.cadf_join.specs.Contents.{Texts}
-use Rattle.cadf_paths.specs.Flat.{text_of, run_of, IsRun}
+use Rattle.cadf_paths.specs.Flat.{text_of, run_of, rest_of, first_of, IsRun}
 use Rattle.cadf_paths.specs.declared.pool.Span.{Span}
 use Rattle.cadf_paths.proofs.Spans.{all_turned, map_same, grown_by}
 
@@ -13,6 +13,18 @@ pub run_held : (bs b : List ℕ) (ss us slice : List Span) (ts : Texts) (r : Spa
 run_held bs b ss us slice ts r block items run view =
     (λ i. map (text_of (block i)) (run i)) ∙ ap (λ z. map (text_of bs) (take r.len (drop r.start z))) items
     ∙ sym (take-map (text_of bs) r.len (drop r.start ss)) ∙ ap (take r.len) (sym (drop-map (text_of bs) r.start ss)) ∙ ap (λ z. run_of z r) view
+
+-- and that run without its first texts
+pub rest_held : (n : ℕ) (bs b : List ℕ) (ss us slice : List Span) (ts : Texts) (r : Span) → b ≡ bs → us ≡ ss → slice ≡ drop n (take r.len (drop r.start us))
+    → map (text_of bs) ss ≡ ts → map (text_of b) slice ≡ rest_of ts n r
+rest_held n bs b ss us slice ts r block items run view =
+    ap (map (text_of b)) run ∙ sym (drop-map (text_of b) n (take r.len (drop r.start us)))
+    ∙ ap (drop n) (run_held bs b ss us (take r.len (drop r.start us)) ts r block items refl view)
+
+pub first_is : (bs : List ℕ) (slice : List Span) (otherwise : Span) → 1 ≤ length slice
+    → Some (text_of bs (get_or slice 0 otherwise)) ≡ first_of (map (text_of bs) slice)
+first_is bs [] otherwise h = absurd (omega (arith, h))
+first_is bs (s ∷ slice) otherwise h = refl
 
 module _ (ts us : Texts) (kept : take (length ts) us ≡ ts) where
   grown_fits : length ts ≤ length us

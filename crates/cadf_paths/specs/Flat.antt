@@ -3,6 +3,8 @@
 --     IsSpan bs s          the span is cut between characters
 --     run_of ts r          the texts of a run
 --     IsRun ts r           the run is of texts that are there
+--     rest_of ts n r       that list without its first n texts
+--     first_of l           the first text of a list
 --     prefix_cmp l p       whether a list is below those that begin with p, one of them, or above
 --     is_before p more l   whether it is below them, or one of them where they count too
 --     strip p l            what follows the prefix, where the list begins with it
@@ -29,6 +31,13 @@ run_of ts r = take r.len (drop r.start ts)
 
 abbrev pub IsRun : Texts → Span → Type 0
 IsRun ts r = r.start + r.len ≤ length ts
+
+abbrev pub rest_of : Texts → ℕ → Span → Texts
+rest_of ts n r = drop n (run_of ts r)
+
+abbrev pub first_of : Texts → Option Text
+first_of [] = None
+first_of (t ∷ l) = Some t
 
 abbrev pub prefix_cmp : Texts → Texts → Ordering
 prefix_cmp l [] = Equal

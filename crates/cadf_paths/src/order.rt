@@ -1,10 +1,13 @@
 //! The order of lists of texts, and their prefixes.
-ghost use Rattle.std.specs.Prelude.{◌≡◌};
+ghost use Rattle.std.specs.Prelude.{◌≡◌, ◌++◌, IfOk};
 ghost use Rattle.std.specs.Option.{option_copied, option_map};
 ghost use Rattle.cadf_join.specs.Contents.{texts_cmp};
-ghost use Rattle.cadf_join.specs.Prefixes.{texts_at};
+ghost use Rattle.cadf_join.specs.Prefixes.{chain_texts, texts_at};
 ghost use Rattle.cadf_paths.specs.Flat.{strip};
 
+use crate::Memory;
+use cadf_join::prefix::copied;
+use std::alloc::Global;
 use std::cmp::Ordering;
 
 /// The order of two lists: text by text, by their bytes, a prefix first.
@@ -45,4 +48,15 @@ pub(crate) fn strip<'l, 'a>(list: &'l [&'a str], prefix: &[&str]) -> Option<&'l 
             },
         },
     }
+}
+
+/// The prefix with the texts behind it.
+pub(crate) fn continued(alloc: Global, prefix: &[String], path: &[&str]) -> Result<Vec<String>, Memory>
+    ensures { IfOk result (λ list. chain_texts list.items ≡ chain_texts prefix.now ++ texts_at path.now) }
+{
+    let mut list = copied(alloc, prefix)?;
+    for text in path {
+        list.push(String::from_str(alloc, *text)?)?;
+    }
+    Ok(list)
 }

@@ -1,11 +1,14 @@
 //! Texts in one block of bytes, in the order in which they were put.
 ghost use Rattle.std.specs.Prelude.{◌≡◌, ◌≤◌, ◌+◌, [], ◌∷◌, ◌++◌, OnOk, OnErr, IfOk, IfSome, length, take, drop, map, string_bytes};
 ghost use Rattle.std.specs.List.{AllByRecursion};
+ghost use Rattle.std.specs.Option.{option_copied};
 ghost use Rattle.cadf_join.specs.Contents.{texts_cmp};
 ghost use Rattle.cadf_join.specs.Prefixes.{texts_at};
-ghost use Rattle.cadf_paths.specs.Flat.{IsRun, IsSpan, prefix_cmp, run_of, text_of};
+ghost use Rattle.cadf_paths.specs.Flat.{IsRun, IsSpan, first_of, prefix_cmp, rest_of, run_of, text_of};
+ghost use Rattle.cadf_paths.specs.declared.pool.Span.{Span};
 
 use crate::Memory;
+use crate::word::Word;
 use std::alloc::{AllocError, Global};
 use std::cmp::Ordering;
 use std::marker::Model;
@@ -65,34 +68,61 @@ impl Pool {
         Ok(())
     }
 
-    /// Leaves the texts of the run in the path.
-    pub fn fill<'a>(&'a self, run: Span, path: &mut Vec<&'a str>) -> Result<(), Memory>
+    /// Adds the texts of the run, but for the first so many, to the path.
+    pub fn append<'a>(
+        &'a self,
+        run: Span,
+        depth: usize,
+        path: &mut Vec<&'a str>,
+    ) -> Result<(), Memory>
         requires { IsRun self.now run }
-        ensures { OnOk result (texts_at path.new.items ≡ run_of self.now run) }
+        ensures kept { OnOk result (take (length path.old.items) path.new.items ≡ path.old.items) }
+        ensures texts { OnOk result (texts_at path.new.items ≡ texts_at path.old.items ++ rest_of self.now depth run) }
     {
-        fill(
+        append(
             self.block.as_str(),
-            spans_of(self.spans.as_slice(), run),
+            spans_behind(self.spans.as_slice(), run, depth),
             path,
         )
     }
 
-    /// Whether the texts of the run are below the lists that begin with the prefix, such a list, or above.
-    pub fn prefix_cmp(&self, run: Span, prefix: &[&str]) -> Ordering
+    /// So many texts and one more, as far as there are texts.
+    pub fn deeper(&self, depth: usize) -> usize
+        ensures { (r : Span) → IsRun self.now r → rest_of self.now result r ≡ drop 1 (rest_of self.now depth r) }
+    {
+        if depth < self.spans.len() {
+            return depth + 1;
+        }
+        depth
+    }
+
+    /// The first text of the run behind the first so many.
+    pub fn first_text(&self, run: Span, depth: usize) -> Option<&str>
         requires { IsRun self.now run }
-        ensures { result ≡ prefix_cmp (run_of self.now run) (texts_at prefix.now) }
+        ensures { option_copied result ≡ first_of (rest_of self.now depth run) }
+    {
+        match spans_behind(self.spans.as_slice(), run, depth) {
+            [span, ..] => Some(text_at(self.block.as_str(), *span)),
+            [] => None,
+        }
+    }
+
+    /// Whether the texts of the run, but for the first so many, are below the lists that begin with the prefix, such a list, or above.
+    pub fn prefix_cmp<W: Word>(&self, run: Span, depth: usize, prefix: &[W]) -> Ordering
+        requires { IsRun self.now run }
+        ensures { result ≡ prefix_cmp (rest_of self.now depth run) (map W.bytes prefix.now) }
     {
         prefix_cmp(
             self.block.as_str(),
-            spans_of(self.spans.as_slice(), run),
+            spans_behind(self.spans.as_slice(), run, depth),
             prefix,
         )
     }
 
     /// The order of the run's list and another.
-    pub fn list_cmp(&self, run: Span, list: &[&str]) -> Ordering
+    pub fn list_cmp<W: Word>(&self, run: Span, list: &[W]) -> Ordering
         requires { IsRun self.now run }
-        ensures { result ≡ texts_cmp (run_of self.now run) (texts_at list.now) }
+        ensures { result ≡ texts_cmp (run_of self.now run) (map W.bytes list.now) }
     {
         list_cmp(
             self.block.as_str(),
@@ -179,12 +209,12 @@ fn text_at<'a>(block: &'a str, span: Span) -> &'a str
     text
 }
 
-/// Leaves the texts of the spans in the path.
-fn fill<'a>(block: &'a str, spans: &[Span], path: &mut Vec<&'a str>) -> Result<(), Memory>
+/// Adds the texts of the spans to the path.
+fn append<'a>(block: &'a str, spans: &[Span], path: &mut Vec<&'a str>) -> Result<(), Memory>
     requires { AllByRecursion (IsSpan block.now) spans.now }
-    ensures { OnOk result (texts_at path.new.items ≡ map (text_of block.now) spans.now) }
+    ensures kept { OnOk result (take (length path.old.items) path.new.items ≡ path.old.items) }
+    ensures texts { OnOk result (texts_at path.new.items ≡ texts_at path.old.items ++ map (text_of block.now) spans.now) }
 {
-    path.clear();
     let mut rest = spans;
     while let [span, more @ ..] = rest {
         path.push(text_at(block, *span))?;
@@ -203,15 +233,28 @@ fn spans_of<'a>(spans: &'a [Span], run: Span) -> &'a [Span]
     spans
 }
 
-fn prefix_cmp(block: &str, spans: &[Span], prefix: &[&str]) -> Ordering
+/// The spans of the run, but for the first so many.
+fn spans_behind<'a>(spans: &'a [Span], run: Span, depth: usize) -> &'a [Span]
+    requires { run.start + run.len ≤ length spans.now }
+    ensures { result.now ≡ drop depth (take run.len (drop run.start spans.now)) }
+{
+    let all = spans_of(spans, run);
+    if depth < all.len() {
+        let (_, rest) = all.split_at(depth);
+        return rest;
+    }
+    &[]
+}
+
+fn prefix_cmp<W: Word>(block: &str, spans: &[Span], prefix: &[W]) -> Ordering
     requires { AllByRecursion (IsSpan block.now) spans.now }
-    ensures { result ≡ prefix_cmp (map (text_of block.now) spans.now) (texts_at prefix.now) }
+    ensures { result ≡ prefix_cmp (map (text_of block.now) spans.now) (map W.bytes prefix.now) }
 {
     match prefix {
         [] => Ordering::Equal,
         [text, prefix @ ..] => match spans {
             [] => Ordering::Less,
-            [span, spans @ ..] => match text_at(block, *span).cmp(*text) {
+            [span, spans @ ..] => match text_at(block, *span).cmp(text.text()) {
                 Ordering::Less => Ordering::Less,
                 Ordering::Equal => prefix_cmp(block, spans, prefix),
                 Ordering::Greater => Ordering::Greater,
@@ -220,9 +263,9 @@ fn prefix_cmp(block: &str, spans: &[Span], prefix: &[&str]) -> Ordering
     }
 }
 
-fn list_cmp(block: &str, spans: &[Span], list: &[&str]) -> Ordering
+fn list_cmp<W: Word>(block: &str, spans: &[Span], list: &[W]) -> Ordering
     requires { AllByRecursion (IsSpan block.now) spans.now }
-    ensures { result ≡ texts_cmp (map (text_of block.now) spans.now) (texts_at list.now) }
+    ensures { result ≡ texts_cmp (map (text_of block.now) spans.now) (map W.bytes list.now) }
 {
     match spans {
         [] => {
@@ -234,7 +277,7 @@ fn list_cmp(block: &str, spans: &[Span], list: &[&str]) -> Ordering
         }
         [span, spans @ ..] => match list {
             [] => Ordering::Greater,
-            [text, list @ ..] => match text_at(block, *span).cmp(*text) {
+            [text, list @ ..] => match text_at(block, *span).cmp(text.text()) {
                 Ordering::Less => Ordering::Less,
                 Ordering::Equal => list_cmp(block, spans, list),
                 Ordering::Greater => Ordering::Greater,

@@ -1,17 +1,23 @@
 //! Lists of texts, each reached by its number.
-ghost use Rattle.std.specs.Prelude.{◌≡◌, ◌≤◌, ◌+◌, ◌<◌, ◌++◌, [], ◌∷◌, ◌↔◌, OnOk, OnErr, IfOk, IfSome, IsTrue, None, true, false};
+ghost use Rattle.std.specs.Prelude.{◌≡◌, ◌≤◌, ◌+◌, ◌<◌, ◌++◌, [], ◌∷◌, ◌↔◌, OnOk, OnErr, IfOk, IfSome, IsTrue, None, Some, true, false};
 ghost use Rattle.std.specs.Prelude.{length, take, drop, get_or, map};
 ghost use Rattle.std.specs.Cmp.Lexicographic.{pointwise};
 ghost use Rattle.std.specs.List.{AllByRecursion, list_any};
 ghost use Rattle.std.specs.declared.cmp.Ordering.TheVariants.{Less};
 ghost use Rattle.std.specs.List.Sorted.{IsStrictlySortedBy};
+ghost use Rattle.std.specs.Option.{option_copied, option_map};
 ghost use Rattle.std.specs.Ordering.{eq_by_cmp, is_lt};
-ghost use Rattle.cadf_join.specs.Contents.{texts_cmp};
-ghost use Rattle.cadf_join.specs.Prefixes.{texts_at};
+ghost use Rattle.cadf_join.specs.Contents.{is_after, texts_cmp};
+ghost use Rattle.cadf_join.specs.Prefixes.{chain_texts, texts_at};
 ghost use Rattle.cadf_paths.specs.Flat.{IsRun, run_of, Moves, ahead, ends_below, is_before};
+ghost use Rattle.cadf_join.specs.Sets as set;
+ghost use Rattle.cadf_paths.specs.Sections.{behind};
 
 use crate::Memory;
+use crate::part::Part;
 use crate::pool::{Pool, Span, narrow};
+use crate::sort::sorted;
+use crate::word::Word;
 use std::alloc::Global;
 use std::cmp::Ordering;
 use std::marker::Model;
@@ -107,6 +113,25 @@ impl Rows {
         Ok(())
     }
 
+    /// Puts the lists in order, each once. Their texts stay where they are.
+    pub fn sort(&mut self) -> Result<(), Memory>
+        ensures rises { OnOk result (IsStrictlySortedBy texts_cmp self.new) }
+        ensures same { OnOk result (set.from_list {R = texts_cmp} self.new ≡ set.from_list self.old) }
+    {
+        let lists = sorted(self.alloc, &self.texts, self.lists.as_slice())?;
+        self.lists = lists;
+        Ok(())
+    }
+
+    /// Adds the texts of the list of that number to the path.
+    pub fn append<'a>(&'a self, number: usize, path: &mut Vec<&'a str>) -> Result<(), Memory>
+        requires { number < length self.now }
+        ensures kept { OnOk result (take (length path.old.items) path.new.items ≡ path.old.items) }
+        ensures texts { OnOk result (texts_at path.new.items ≡ texts_at path.old.items ++ get_or self.now number []) }
+    {
+        self.texts.append(self.lists[number], 0, path)
+    }
+
     /// Before the first list.
     pub fn cursor(&self) -> Cursor<'_>
         ensures { result.1 ≡ self.now }
@@ -131,42 +156,40 @@ impl Rows {
         }
     }
 
-    /// Where the lists begin that begin with the prefix, or, with those passed, the lists above them. Found by halving.
-    pub fn bound(&self, prefix: &[&str], passed: bool) -> usize
-        requires { IsStrictlySortedBy texts_cmp self.now }
-        ensures within { result ≤ length self.now }
-        ensures below { AllByRecursion (λ l. is_before (texts_at prefix.now) passed l ≡ true) (take result self.now) }
-        ensures above { AllByRecursion (λ l. is_before (texts_at prefix.now) passed l ≡ false) (drop result self.now) }
+    /// All lists, whole.
+    pub fn whole(&self) -> Part<'_>
+        ensures { result ≡ self.now }
     {
-        let mut low = 0;
-        let mut high = self.lists.len();
-        while low < high {
-            let middle = low + (high - low) / 2;
-            if self.is_before(middle, prefix, passed) {
-                low = middle + 1;
-            } else {
-                high = middle;
-            }
-        }
-        low
+        Part::new(&self.texts, self.lists.as_slice(), 0)
     }
 
-    /// Whether the list of that number is below those that begin with the prefix, or one of them where they are passed.
-    fn is_before(&self, number: usize, prefix: &[&str], passed: bool) -> bool
-        requires { number < length self.now }
-        ensures { result ≡ is_before (texts_at prefix.now) passed (get_or self.now number []) }
+    /// What follows the prefix in the lists that begin with it.
+    pub fn part(&self, prefix: &[&str]) -> Part<'_>
+        requires { IsStrictlySortedBy texts_cmp self.now }
+        ensures behind { result ≡ behind (texts_at prefix.now) self.now }
+        ensures rising { IsStrictlySortedBy texts_cmp result }
     {
-        match self.texts.prefix_cmp(self.lists[number], prefix) {
-            Ordering::Less => true,
-            Ordering::Equal => passed,
-            Ordering::Greater => false,
+        let mut part = self.whole();
+        for text in prefix {
+            part = part.section(*text);
         }
+        part
+    }
+
+    /// Where the lists begin that begin with the prefix, or, with those passed, the lists above them. Found by halving.
+    pub fn bound<W: Word>(&self, prefix: &[W], passed: bool) -> usize
+        requires { IsStrictlySortedBy texts_cmp self.now }
+        ensures within { result ≤ length self.now }
+        ensures below { AllByRecursion (λ l. is_before (map W.bytes prefix.now) passed l ≡ true) (take result self.now) }
+        ensures above { AllByRecursion (λ l. is_before (map W.bytes prefix.now) passed l ≡ false) (drop result self.now) }
+    {
+        self.whole().bound(prefix, passed)
     }
 
     /// Whether the list of that number is this one.
-    pub fn is_at(&self, number: usize, list: &[&str]) -> bool
+    pub fn is_at<W: Word>(&self, number: usize, list: &[W]) -> bool
         requires { number < length self.now }
-        ensures { result ≡ eq_by_cmp texts_cmp (get_or self.now number []) (texts_at list.now) }
+        ensures { result ≡ eq_by_cmp texts_cmp (get_or self.now number []) (map W.bytes list.now) }
     {
         match self.texts.list_cmp(self.lists[number], list) {
             Ordering::Less => false,
@@ -176,18 +199,45 @@ impl Rows {
     }
 
     /// Where the list is to be put, where it isn't there.
-    pub fn place(&self, list: &[&str]) -> Option<usize>
+    pub fn place<W: Word>(&self, list: &[W]) -> Option<usize>
         requires { IsStrictlySortedBy texts_cmp self.now }
-        ensures held { result ≡ None → list_any (eq_by_cmp texts_cmp (texts_at list.now)) self.now ≡ true }
+        ensures held { result ≡ None → list_any (eq_by_cmp texts_cmp (map W.bytes list.now)) self.now ≡ true }
         ensures within { IfSome result (λ at. at ≤ length self.now) }
-        ensures below { IfSome result (λ at. AllByRecursion (λ l. texts_cmp l (texts_at list.now) ≡ Less) (take at self.now)) }
-        ensures above { IfSome result (λ at. AllByRecursion (λ l. texts_cmp (texts_at list.now) l ≡ Less) (drop at self.now)) }
+        ensures below { IfSome result (λ at. AllByRecursion (λ l. texts_cmp l (map W.bytes list.now) ≡ Less) (take at self.now)) }
+        ensures above { IfSome result (λ at. AllByRecursion (λ l. texts_cmp (map W.bytes list.now) l ≡ Less) (drop at self.now)) }
     {
         let at = self.bound(list, false);
         if at < self.count() && self.is_at(at, list) {
             return None;
         }
         Some(at)
+    }
+
+    /// Where the lists above this one begin.
+    pub fn above<W: Word>(&self, list: &[W]) -> usize
+        requires { IsStrictlySortedBy texts_cmp self.now }
+        ensures within { result ≤ length self.now }
+        ensures below { AllByRecursion (λ l. is_after texts_cmp (Some (map W.bytes list.now)) l ≡ false) (take result self.now) }
+        ensures above { AllByRecursion (λ l. is_after texts_cmp (Some (map W.bytes list.now)) l ≡ true) (drop result self.now) }
+    {
+        let at = self.bound(list, false);
+        if at < self.count() && self.is_at(at, list) {
+            return at + 1;
+        }
+        at
+    }
+
+    /// Where the lists above the given one begin, or all lists for `None`.
+    pub fn after(&self, given: Option<&[String]>) -> usize
+        requires { IsStrictlySortedBy texts_cmp self.now }
+        ensures within { result ≤ length self.now }
+        ensures below { AllByRecursion (λ l. is_after texts_cmp (option_map chain_texts (option_copied given.entry)) l ≡ false) (take result self.now) }
+        ensures above { AllByRecursion (λ l. is_after texts_cmp (option_map chain_texts (option_copied given.entry)) l ≡ true) (drop result self.now) }
+    {
+        match given {
+            Some(list) => self.above(list),
+            None => 0,
+        }
     }
 
     /// Whether there are no lists.
@@ -276,7 +326,7 @@ pub struct Cursor<'a> {
 impl<'a> Model for Cursor<'a> {
     ghost use Rattle.std.specs.Prelude.{map};
     ghost use Rattle.std.specs.List.{AllByRecursion};
-    ghost use Rattle.cadf_join.specs.Prefixes.{texts_at};
+    ghost use Rattle.cadf_join.specs.Prefixes.{chain_texts, texts_at};
     ghost use Rattle.cadf_paths.specs.Flat.{Place, IsRun, run_of};
 
     ghost Value = { Place };
@@ -300,7 +350,8 @@ impl<'a> Cursor<'a> {
     {
         match self.lists {
             [list, lists @ ..] => {
-                self.texts.fill(*list, &mut self.path)?;
+                self.path.clear();
+                self.texts.append(*list, 0, &mut self.path)?;
                 self.lists = lists;
                 Ok(true)
             }

@@ -3,8 +3,9 @@
 
 mod atom;
 mod atom_set;
-mod body_parts;
+mod by_body;
 mod carrier;
+mod gathering;
 mod inventory;
 pub mod laws;
 mod line_digest;
@@ -12,8 +13,6 @@ mod name;
 mod noting;
 pub mod path;
 pub mod replica;
-mod seek;
-mod seen;
 mod shape;
 mod tail;
 mod unnoted;

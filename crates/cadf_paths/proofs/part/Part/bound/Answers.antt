@@ -1,0 +1,38 @@
+use Rattle.std.proofs.Common.{◌≡◌, true, false, arith, sym, ◌∙◌, map}
+use Rattle.cadf_paths.specs.Flat.{is_before}
+use Rattle.cadf_paths.proofs.Halving.{all_before, none_before, all_taken, all_dropped}
+use Rattle.cadf_paths.proofs.part.Part.bound.Goals as goal
+
+pub loop-low-preserved-then-is_before : goal.loop-low-preserved-then-is_before
+loop-low-preserved-then-is_before g c =
+    let w = c.loop-low.invariant.within in
+    let e = c.loop-low.invariant.ends in
+    let t = c.loop-low-test.true in
+    record {
+      within = omega (arith, w, e, t);
+      ends = e;
+      below = all_before c.args.self.now c.requires (map g.W.Word.bytes c.args.prefix.now) c.args.passed _ (omega (arith, w, e, t))
+          (sym c.is_before.ensures ∙ c.if-is_before.true);
+      above = c.loop-low.invariant.above;
+    }
+
+pub loop-low-preserved : goal.loop-low-preserved
+loop-low-preserved g c =
+    let w = c.loop-low.invariant.within in
+    let e = c.loop-low.invariant.ends in
+    let t = c.loop-low-test.true in
+    record {
+      within = omega (arith, w, e, t);
+      ends = omega (arith, w, e, t);
+      below = c.loop-low.invariant.below;
+      above = none_before c.args.self.now c.requires (map g.W.Word.bytes c.args.prefix.now) c.args.passed _ (omega (arith, w, e, t))
+          (sym c.is_before.ensures ∙ c.if-is_before.false);
+    }
+
+pub returns-clause-below : goal.returns-clause-below
+returns-clause-below g c = all_taken (λ l. is_before (map g.W.Word.bytes c.args.prefix.now) c.args.passed l ≡ true) c.args.self.now c.loop-low.low
+    (let w = c.loop-low.invariant.within in let e = c.loop-low.invariant.ends in omega (arith, w, e)) c.loop-low.invariant.below
+
+pub returns-clause-above : goal.returns-clause-above
+returns-clause-above g c = all_dropped (λ l. is_before (map g.W.Word.bytes c.args.prefix.now) c.args.passed l ≡ false) c.args.self.now c.loop-low.low
+    (λ i b l. c.loop-low.invariant.above i (let t = c.loop-low-test.false in omega (arith, b, t)) l)

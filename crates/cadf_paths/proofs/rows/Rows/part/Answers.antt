@@ -1,0 +1,14 @@
+use Rattle.std.proofs.Common.{ap, sym, subst, ◌∙◌, arith}
+use Rattle.std.specs.List.Sorted.{IsStrictlySortedBy}
+use Rattle.cadf_join.specs.Contents.{texts_cmp}
+use Rattle.cadf_join.specs.Prefixes.{texts_at}
+use Rattle.cadf_paths.specs.Sections.{behind}
+use Rattle.cadf_paths.proofs.Behind.{rests_rise, behind_first}
+use Rattle.cadf_paths.proofs.rows.Rows.part.Goals as goal
+
+pub loop-text-preserved : goal.loop-text-preserved
+loop-text-preserved c = record {
+  behind = behind_first c.args.prefix.now c.loop-text.text-index c.loop-text.part c.section-part.result _
+      (let t = c.loop-text-test.true in omega (arith, t)) c.section-part.ensures ∙ c.loop-text.invariant.behind;
+  rising = subst (IsStrictlySortedBy texts_cmp) (sym c.section-part.ensures) (rests_rise _ c.loop-text.part c.loop-text.invariant.rising);
+}
