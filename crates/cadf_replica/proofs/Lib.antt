@@ -17,6 +17,7 @@ pub mod Ordered
 pub mod Outcome
 pub mod Parts
 pub mod PathKinds
+pub mod PathsBehind
 pub mod Places
 pub mod Puts
 pub mod Retry
