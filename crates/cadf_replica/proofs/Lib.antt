@@ -13,6 +13,7 @@ pub mod Missing
 pub mod OrderLemmas
 pub mod Outcome
 pub mod PathKinds
+pub mod PathsBehind
 pub mod Places
 pub mod Puts
 pub mod Retry

@@ -20,5 +20,5 @@ mod unnoted;
 pub use atom::{Atom, AtomFault};
 pub use inventory::Inventory;
 pub use name::{copied, log_name};
-pub use path::{PathKind, path_kind};
+pub use path::{PathKind, path_atom, path_kind, path_kind_behind};
 pub use replica::{Replica, ReplicaFault};
