@@ -4,9 +4,9 @@ use Rattle.std.specs.Prelude.{◌↔◌, ◌&&◌}
 use mathlib.Core.Bool.{true≢false}
 use Rattle.std.specs.FinMap as fin
 use Rattle.cadf_join.specs.Contents.{Text, Texts, TextSetValue, Contents, Has, under, section, singles}
-use Rattle.cadf_join.specs.ContentsLaws.{text_total, text_same, contains-under, empty_list-under, contains-section, contains-singles, empty_list-singles, longer-singles}
-use Rattle.cadf_join.specs.Maps.{MapValue, heads, held, joined}
-use Rattle.cadf_join.specs.MapLaws.{contains-joined, head_has, has_head}
+use Rattle.cadf_join.specs.laws.Contents.{text_total, text_same, contains-under, empty_list-under, contains-section, contains-singles, empty_list-singles, longer-singles}
+use Rattle.cadf_join.specs.Maps.{MapValue, heads, held, contents_at}
+use Rattle.cadf_join.specs.laws.Maps.{contains-joined, head_has, has_head}
 use Rattle.cadf_join.proofs.Members as members
 
 not_false : {A : Type 0} {b : Bool} → b ≡ false → b ≡ true → A
@@ -38,5 +38,5 @@ in_singles s q = (find q, λ found. subst (Has (singles s)) (sym found.1) (conta
 pub in_heads : (s : Contents) (k : Text) → Has (heads s) k ↔ ((r : Texts) × Has s (k ∷ r))
 in_heads s k = (head_has s k, λ found. has_head s k found.0 found.1)
 
-pub in_joined : (m : MapValue Contents) (k : Text) (r : Texts) → Has (joined (λ s. s) m) (k ∷ r) ↔ Has (held (λ s. s) (fin.get m k)) r
+pub in_joined : (m : MapValue Contents) (k : Text) (r : Texts) → Has (contents_at (λ s. s) m) (k ∷ r) ↔ Has (held (λ s. s) (fin.get m k)) r
 in_joined m k r = (λ h. sym (contains-joined (λ s. s) m k r) ∙ h, λ h. contains-joined (λ s. s) m k r ∙ h)

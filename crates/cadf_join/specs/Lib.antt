@@ -1,11 +1,7 @@
-pub mod ChainLaws
 pub mod Contents
-pub mod ContentsLaws
 pub mod Longest
-pub mod MapLaws
 pub mod Maps
 pub mod Prefixes
-pub mod PrefixLaws
-pub mod SetLaws
 pub mod Sets
 pub mod Several
+pub mod laws

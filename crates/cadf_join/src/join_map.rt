@@ -5,10 +5,10 @@ ghost use Rattle.std.specs.FinMap as fin;
 ghost use Rattle.std.specs.Prelude.{IfOk, IsTrue, ◌↔◌, Some};
 ghost use Rattle.cadf_join.specs.Sets as set;
 ghost use Rattle.cadf_join.specs.Contents.{Text, IsBetween, under, section, next_after};
-ghost use Rattle.cadf_join.specs.Maps.{joined, held, heads, HasKeyed, NoneIsEmpty};
+ghost use Rattle.cadf_join.specs.Maps.{contents_at, held, heads, HasKeyed, NoneIsEmpty};
 ghost use Rattle.cadf_join.specs.Prefixes.{saturated};
 ghost use Rattle.cadf_join.specs.Several.{several};
-ghost use Rattle.cadf_join.specs.MapLaws.{joined_keyed, Puts, PartMissing};
+ghost use Rattle.cadf_join.specs.laws.Maps.{joined_keyed, Puts, PartMissing};
 
 use crate::prefix::longer;
 use crate::text_set::is_after;
@@ -40,7 +40,7 @@ impl<V: Join> Model for JoinMap<V> {
 impl<V: Join> JoinMap<V> {
     /// An empty map, which grows in that allocator. Takes no memory.
     pub fn new(alloc: Global) -> JoinMap<V>
-        ensures empty { joined V.contents result ≡ set.empty }
+        ensures empty { contents_at V.contents result ≡ set.empty }
         ensures no_key { result ≡ fin.empty }
     {
         JoinMap {
@@ -51,7 +51,7 @@ impl<V: Join> JoinMap<V> {
 
     /// The value at the key, which is not empty.
     pub fn get(&self, key: &str) -> Option<&V>
-        ensures part { held V.contents (option_copied result) ≡ section (joined V.contents self.now) key.now }
+        ensures part { held V.contents (option_copied result) ≡ section (contents_at V.contents self.now) key.now }
         ensures some { IfSome result (λ v. V.contents v.now ≡ set.empty → ⊥) }
     {
         self.parts.get(key)
@@ -59,8 +59,8 @@ impl<V: Join> JoinMap<V> {
 
     /// Joins a value into that of the key. An empty value changes nothing. After a refused growth the other keys are as before and this one lies between.
     pub fn join_at(&mut self, key: &str, value: &V) -> Result<(), Memory>
-        ensures ok { OnOk result (joined V.contents self.new ≡ set.union (joined V.contents self.old) (under key.now (V.contents value.now))) }
-        ensures err { OnErr result (IsBetween (joined V.contents self.old) (joined V.contents self.new) (set.union (joined V.contents self.old) (under key.now (V.contents value.now)))) }
+        ensures ok { OnOk result (contents_at V.contents self.new ≡ set.union (contents_at V.contents self.old) (under key.now (V.contents value.now))) }
+        ensures err { OnErr result (IsBetween (contents_at V.contents self.old) (contents_at V.contents self.new) (set.union (contents_at V.contents self.old) (under key.now (V.contents value.now)))) }
     {
         if value.is_empty() {
             return Ok(());
@@ -74,8 +74,8 @@ impl<V: Join> JoinMap<V> {
 
     /// Joins a value into that of the key, and keeps it as it is where there was none, so that nothing is copied. An empty value changes nothing. After a refused growth the other keys are as before and this one lies between.
     pub fn take_at(&mut self, key: &str, value: V) -> Result<(), Memory>
-        ensures ok { OnOk result (joined V.contents self.new ≡ set.union (joined V.contents self.old) (under key.now (V.contents value))) }
-        ensures err { OnErr result (IsBetween (joined V.contents self.old) (joined V.contents self.new) (set.union (joined V.contents self.old) (under key.now (V.contents value)))) }
+        ensures ok { OnOk result (contents_at V.contents self.new ≡ set.union (contents_at V.contents self.old) (under key.now (V.contents value))) }
+        ensures err { OnErr result (IsBetween (contents_at V.contents self.old) (contents_at V.contents self.new) (set.union (contents_at V.contents self.old) (under key.now (V.contents value)))) }
     {
         if value.is_empty() {
             return Ok(());
@@ -88,14 +88,14 @@ impl<V: Join> JoinMap<V> {
 
     /// The number of keys.
     pub fn key_count(&self) -> usize
-        ensures { result ≡ length (set.rising (heads (joined V.contents self.now))) }
+        ensures { result ≡ length (set.rising (heads (contents_at V.contents self.now))) }
     {
         self.parts.len()
     }
 
     /// The least key above the given text, held or not, by their bytes, or the least of all for `None`. Walks all keys before it: `keys` lists them all.
     pub fn after(&self, text: Option<&str>) -> Option<&str>
-        ensures { option_copied result ≡ next_after (heads (joined V.contents self.now)) (option_copied text.entry) }
+        ensures { option_copied result ≡ next_after (heads (contents_at V.contents self.now)) (option_copied text.entry) }
     {
         for (key, _) in &self.parts {
             if is_after(text, key.as_str()) {
@@ -107,7 +107,7 @@ impl<V: Join> JoinMap<V> {
 
     /// Each key once, in order.
     pub fn keys(&self) -> Result<Vec<String>, Memory>
-        ensures { IfOk result (λ keys. map string_bytes keys.items ≡ set.rising (heads (joined V.contents self.now))) }
+        ensures { IfOk result (λ keys. map string_bytes keys.items ≡ set.rising (heads (contents_at V.contents self.now))) }
     {
         let mut keys = Vec::new(self.alloc);
         for (key, _) in &self.parts {
@@ -159,7 +159,7 @@ impl<V: Join> JoinMap<V> {
 impl<V: HasFirsts> JoinMap<V> {
     /// The number of keys with several first texts behind them, or `u64::MAX` where there are more.
     pub fn several_count(&self) -> u64
-        ensures { result ≡ saturated (length (several (joined V.contents self.now))) }
+        ensures { result ≡ saturated (length (several (contents_at V.contents self.now))) }
     {
         let mut count: u64 = 0;
         for (_, part) in &self.parts {
@@ -183,7 +183,7 @@ fn missing_part<V: Join>(part: &V, other: Option<&V>) -> Result<Option<V>, Memor
 }
 
 impl<V: Join> Join for JoinMap<V> {
-    ghost contents = { joined V.contents };
+    ghost contents = { contents_at V.contents };
 
     ghost is_contents = { HasKeyed V.is_contents };
 

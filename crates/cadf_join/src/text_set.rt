@@ -3,7 +3,7 @@ ghost use Rattle.std.specs.Prelude.{◌≡◌, OnOk, OnErr, IfOk, length, not, [
 ghost use Rattle.cadf_join.specs.Sets as set;
 ghost use Rattle.std.specs.Option.{option_copied};
 ghost use Rattle.cadf_join.specs.Contents.{text_cmp, singles, HasSingles, next_after, is_after};
-ghost use Rattle.cadf_join.specs.ContentsLaws.{singles_are_single};
+ghost use Rattle.cadf_join.specs.laws.Contents.{singles_are_single};
 
 use crate::prefix::longer;
 use crate::walk::{Visitor, Walk, lengthen};

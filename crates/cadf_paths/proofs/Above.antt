@@ -8,7 +8,7 @@ use Rattle.std.specs.List.Sorted.{IsStrictlySortedBy}
 use Rattle.cadf_join.specs.Sets as set
 use Rattle.cadf_join.specs.Sets.{Listed, AllByRecursion-listed, any_listed, listed_any, contains-from_list}
 use Rattle.cadf_join.specs.Contents.{Texts, texts_cmp}
-use Rattle.cadf_join.specs.ContentsLaws.{texts_total, texts_same}
+use Rattle.cadf_join.specs.laws.Contents.{texts_total, texts_same}
 use Rattle.cadf_paths.specs.Flat.{last_of, ends_below}
 
 is_less : (r : Ordering) → is_lt r ≡ true → r ≡ Less

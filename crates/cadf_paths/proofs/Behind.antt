@@ -9,7 +9,7 @@ use Rattle.std.specs.Ordering.{is_lt, is_eq, eq_by_cmp, match_ordering, ordering
 use Rattle.std.specs.List.{AllByRecursion, cons_option, filter_map, find}
 use Rattle.std.specs.List.Sorted.{IsStrictlySortedBy}
 use Rattle.cadf_join.specs.Contents.{Text, Texts, Contents, text_cmp, texts_cmp, is_after, next_after, rests, section}
-use Rattle.cadf_join.specs.ContentsLaws.{text_total, text_same, texts_total, texts_same}
+use Rattle.cadf_join.specs.laws.Contents.{text_total, text_same, texts_total, texts_same}
 use Rattle.cadf_join.specs.Maps.{firsts, heads}
 use Rattle.cadf_join.specs.Prefixes.{texts_at}
 use Rattle.cadf_join.specs.Sets as set

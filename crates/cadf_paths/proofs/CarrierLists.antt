@@ -9,9 +9,9 @@ use Rattle.std.specs.List.Sorted.{IsStrictlySortedBy}
 use Rattle.cadf_join.specs.Sets as set
 use Rattle.cadf_join.specs.Sets.{Listed, any_listed, listed_any, contains-from_list}
 use Rattle.cadf_join.specs.Contents.{Texts, texts_cmp}
-use Rattle.cadf_join.specs.ContentsLaws.{texts_total, texts_same}
+use Rattle.cadf_join.specs.laws.Contents.{texts_total, texts_same}
 use Rattle.cadf_join.proofs.Members as members
-use Rattle.cadf_join.specs.SetLaws as sets
+use Rattle.cadf_join.specs.laws.Sets as sets
 use Rattle.cadf_paths.specs.Carriers.{carriers_in, with_carriers}
 use Rattle.cadf_paths.specs.Flat.{last_of, ends_below}
 use Rattle.cadf_paths.specs.Merge.{sorted_merge}

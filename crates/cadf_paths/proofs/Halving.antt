@@ -12,9 +12,9 @@ use Rattle.std.specs.Cmp.{Equal-is, tied_itself}
 use Rattle.std.specs.Cmp.Lexicographic.{pointwise, pointwise_decides}
 use Rattle.std.specs.List.{AllByRecursion, list_any}
 use Rattle.std.specs.List.Sorted.{IsStrictlySortedBy}
-use Rattle.cadf_join.specs.SetLaws as sets
+use Rattle.cadf_join.specs.laws.Sets as sets
 use Rattle.cadf_join.specs.Contents.{Texts, is_after, text_cmp, texts_cmp}
-use Rattle.cadf_join.specs.ContentsLaws.{text_total, text_same, texts_total, texts_same, contents_same}
+use Rattle.cadf_join.specs.laws.Contents.{text_total, text_same, texts_total, texts_same, contents_same}
 use Rattle.cadf_join.specs.Sets as set
 use Rattle.cadf_join.specs.Sets.{contains-from_list, contains-insert}
 use Rattle.cadf_paths.proofs.Spans.{all_more, all_turned}

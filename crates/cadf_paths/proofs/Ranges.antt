@@ -9,7 +9,7 @@ use Rattle.std.specs.declared.cmp.Ordering.TheVariants.{Less, Equal, Greater}
 use Rattle.std.specs.Ordering.{match_ordering}
 use Rattle.std.specs.List.{AllByRecursion, cons_option, filter_map, find}
 use Rattle.std.specs.List.Sorted.{IsStrictlySortedBy}
-use Rattle.cadf_join.specs.SetLaws as sets
+use Rattle.cadf_join.specs.laws.Sets as sets
 use Rattle.cadf_join.specs.Contents.{Texts, text_cmp, texts_cmp}
 use Rattle.cadf_paths.specs.Flat.{prefix_cmp, is_before, strip}
 use Rattle.cadf_paths.proofs.Halving.{before_below}

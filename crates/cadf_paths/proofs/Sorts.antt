@@ -6,7 +6,7 @@ use Rattle.std.specs.List.{AllByRecursion, list_any}
 use Rattle.std.specs.List.Sorted.{IsStrictlySortedBy}
 use Rattle.std.specs.Ordering.{eq_by_cmp}
 use Rattle.cadf_join.specs.Contents.{Texts, texts_cmp}
-use Rattle.cadf_join.specs.ContentsLaws.{texts_total, texts_same, contents_same}
+use Rattle.cadf_join.specs.laws.Contents.{texts_total, texts_same, contents_same}
 use Rattle.cadf_join.specs.Sets as set
 use Rattle.cadf_join.specs.Sets.{contains-from_list, contains-insert, contains-union}
 use Rattle.std.specs.Prelude.{◌||◌, Bool, false}

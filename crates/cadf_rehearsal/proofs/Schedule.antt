@@ -5,9 +5,9 @@ use Rattle.std.proofs.lemmas.Bool.{eqb-false}
 use Rattle.std.specs.Prelude.{Result, Ok, Err, nat_eq, nat_lt}
 use Rattle.cadf_join.specs.Sets as set
 use Rattle.cadf_join.specs.Contents.{Text, Texts, Contents, Has, IsWithin}
-use Rattle.cadf_join.specs.ContentsLaws.{texts_total, texts_same}
+use Rattle.cadf_join.specs.laws.Contents.{texts_total, texts_same}
 use Rattle.cadf_join.proofs.Members as members
-use Rattle.cadf_join.specs.SetLaws as laws
+use Rattle.cadf_join.specs.laws.Sets as laws
 use Rattle.cadf_replica.specs.Atoms.{IsGrounded}
 use Rattle.cadf_replica.specs.Missing.{missing, missing_by, digests_of, unknown, NoCollision}
 use Rattle.cadf_replica.specs.Contributions.{document_atoms}

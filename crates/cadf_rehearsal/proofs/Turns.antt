@@ -10,7 +10,7 @@ use Rattle.cadf_replica.specs.Replica.{Held}
 use Rattle.cadf_replica.specs.Refusals.{IsOfLog}
 use Rattle.std.specs.Cmp.Lexicographic.{bytes_decides}
 use Rattle.cadf_rehearsal.specs.Schedule as schedule
-use Rattle.cadf_rehearsal.specs.Federation.{at_or, at_number, held_at, log_at, message_of, log_of, world_of, IsOneLog, IsLater}
+use Rattle.cadf_rehearsal.specs.Federation.{at_or, at_number, held_at, log_at, message_of, log_of_message, world_of, IsOneLog, IsLater}
 use Rattle.cadf_rehearsal.specs.declared.federation.Federation.{Federation}
 use Rattle.cadf_rehearsal.specs.declared.federation.Message.{Message}
 use Rattle.cadf_rehearsal.specs.declared.fault.RehearseFault.{RehearseFault}
@@ -48,8 +48,8 @@ pub site_log : (f : Federation) (k : ℕ) (x : Held) → IsOneLog f → k < leng
 site_log f k x one h at = sym (at_or_read log_at f.log f.sites.items k x h at) ∙ one.sites k
 
 pub message_log : (f : Federation) (m : ℕ) (x : Message) → IsOneLog f → 0 < m → m ≤ length f.messages.items
-    → x ≡ get_or f.messages.items (m - 1) x → log_of x ≡ f.log
-message_log f m x one pos le at = sym (at_number_read log_of f.log f.messages.items m x pos le at) ∙ one.messages m
+    → x ≡ get_or f.messages.items (m - 1) x → log_of_message x ≡ f.log
+message_log f m x one pos le at = sym (at_number_read log_of_message f.log f.messages.items m x pos le at) ∙ one.messages m
 
 -- ---- a site takes what s is
 
@@ -67,13 +67,13 @@ site_later f k new one h same = record {
 -- ---- a message is kept
 
 pub kept_later : (f g : Federation) (m : Message) → IsOneLog f → g.log ≡ f.log → g.sites ≡ f.sites
-    → g.messages.items ≡ f.messages.items ++ m ∷ [] → log_of m ≡ f.log → IsLater f g
+    → g.messages.items ≡ f.messages.items ++ m ∷ [] → log_of_message m ≡ f.log → IsLater f g
 kept_later f g m one log sites messages same = record {
   log = log;
   count = ap (λ v. length v.items) sites;
   one_log = record {
     sites = λ j. (λ i. at_or (log i) (map log_at (sites i).items) j) ∙ one.sites j ∙ sym log;
-    messages = λ k. (λ i. at_number (log i) (map log_of (messages i)) k) ∙ all_push log_of f.log f.messages.items m one.messages same k ∙ sym log;
+    messages = λ k. (λ i. at_number (log i) (map log_of_message (messages i)) k) ∙ all_push log_of_message f.log f.messages.items m one.messages same k ∙ sym log;
   };
 }
 
@@ -121,7 +121,7 @@ starts log n xs ms sites messages =
 pub begins : (log : Text) (n : ℕ) (f : Federation) → f.sites.items ≡ fresh log n → f.log ≡ log → f.messages.items ≡ [] → IsOneLog f
 begins log n f sites named messages = record {
   sites = λ j. (λ i. at_or (named i) (map log_at (sites i)) j) ∙ all_named log n j ∙ sym named;
-  messages = λ m. (λ i. at_number f.log (map log_of (messages i)) m) ∙ no_message m;
+  messages = λ m. (λ i. at_number f.log (map log_of_message (messages i)) m) ∙ no_message m;
 }
   where
     no_message : (m : ℕ) → at_number f.log [] m ≡ f.log

@@ -40,10 +40,10 @@ message_of (Asked site i) = schedule.Inventory site i.digests
 message_of (PartFor site h) = schedule.PartFor site h.atoms
 message_of (Whole h) = schedule.Whole h.atoms
 
-abbrev pub log_of : Message → Text
-log_of (Asked site i) = i.log
-log_of (PartFor site h) = h.log
-log_of (Whole h) = h.log
+abbrev pub log_of_message : Message → Text
+log_of_message (Asked site i) = i.log
+log_of_message (PartFor site h) = h.log
+log_of_message (Whole h) = h.log
 
 abbrev pub world_of : Federation → schedule.World
 world_of f = record {
@@ -54,7 +54,7 @@ world_of f = record {
 
 pub record IsOneLog (f : Federation) : Type 0 where
   pub sites : (j : ℕ) → at_or f.log (map log_at f.sites.items) j ≡ f.log
-  pub messages : (m : ℕ) → at_number f.log (map log_of f.messages.items) m ≡ f.log
+  pub messages : (m : ℕ) → at_number f.log (map log_of_message f.messages.items) m ≡ f.log
 
 -- the federation after a turn that was taken: one log, the same, and as many sites
 pub record IsLater (old new : Federation) : Type 0 where

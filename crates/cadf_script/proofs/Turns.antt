@@ -5,7 +5,7 @@ use Rattle.std.specs.declared.alloc.AllocError.{AllocError}
 use Rattle.serde_json.specs.Data.{Data}
 use Rattle.serde_json.specs.Read.{read}
 use Rattle.serde_json.specs.Written.{has_float}
-use Rattle.cadf_json.specs.Value.{Spells, IsNoJson, IsNotWhole}
+use Rattle.cadf_json.specs.Value.{SpellsValue, IsNoJson, IsNotWhole}
 use Rattle.cadf_event.specs.Document.{DocumentParts, IsDocument}
 use Rattle.cadf_rehearsal.specs.declared.turn.Turn.{Turn}
 use Rattle.cadf_rehearsal.specs.declared.turn.Turn.TheVariants.{Learn as Learns, Ask as Asks, Answer as Answers, Send as Sends, Deliver as Delivers}
@@ -108,7 +108,7 @@ pub not_whole : (text : List ℕ) → IsNotWhole text → IsNoDocument text
 not_whole text (e, utf8, found, floats) doc (d, (spells, h)) =
     true≢false (sym floats ∙ ap has_float (one_value text e d found spells.1) ∙ spells.2)
 
-pub document_of_json : (text : List ℕ) (json : Data) → Spells text json → (r : Result (Option DocumentParts) AllocError)
+pub document_of_json : (text : List ℕ) (json : Data) → SpellsValue text json → (r : Result (Option DocumentParts) AllocError)
     → IfOk r (λ found. MatchOption found ((d : DocumentParts) → ¬ IsDocument json d) (IsDocument json))
     → IfOk r (λ found. MatchOption found (IsNoDocument text) (IsDocumentOf text))
 document_of_json text json spells (Ok (Some doc)) h = (json, (spells, h))

@@ -5,7 +5,7 @@
 --     IsFirstBad lines n       the line of that number, from 1, is the first that spells none
 use Rattle.std.specs.Prelude.{◌≡◌, ◌<◌, ◌^◌, ◌==◌, ◌⊎◌, ℕ, suc, List, [], ◌∷◌, ◌++◌, if◌then◌else◌, codes, decimal}
 use Rattle.serde_json.specs.Data.{Data}
-use Rattle.cadf_json.specs.Value.{Spells}
+use Rattle.cadf_json.specs.Value.{SpellsValue}
 use Rattle.cadf_event.specs.Document.{DocumentParts, IsDocument}
 use Rattle.cadf_event.specs.Parts.{EachPair}
 use Rattle.cadf_rehearsal.specs.declared.turn.Turn.{Turn}
@@ -46,7 +46,7 @@ IsSiteAndText words n text = (n < 10 ^ 9) × (words ≡ decimal n ++ 32 ∷ text
 
 -- the text spells a value that is this document
 abbrev pub IsDocumentOf : List ℕ → DocumentParts → Type 0
-IsDocumentOf text document = (d : Data) × (Spells text d × IsDocument d document)
+IsDocumentOf text document = (d : Data) × (SpellsValue text d × IsDocument d document)
 
 -- what stands behind the first word and its blank
 abbrev pub AreWords : List ℕ → Turn → Type 0

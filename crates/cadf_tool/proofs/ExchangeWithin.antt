@@ -2,7 +2,7 @@
 use Rattle.std.proofs.Common.{◌≡◌, ℕ, List, [], ◌∷◌, ◌++◌, Option, Some, Ok, refl, sym, ap, ◌∙◌, subst, inl}
 use Rattle.std.specs.Option.{option_or}
 use Rattle.cadf_join.specs.Contents.{Text, Has, IsWithin}
-use Rattle.cadf_join.specs.SetLaws as laws
+use Rattle.cadf_join.specs.laws.Sets as laws
 use Rattle.cadf_replica.specs.AtomSets.{AreKept}
 use Rattle.cadf_replica.specs.Replica.{Held}
 use Rattle.cadf_replica.proofs.ContributionLaws.{kept_empty, kept_union}
@@ -10,7 +10,7 @@ use Rattle.cadf_file.specs.File.{file}
 use Rattle.cadf_tool.specs.declared.input.Loaded.{Loaded}
 use Rattle.cadf_tool.specs.declared.input.Loaded.TheVariants.{Replica}
 use Rattle.cadf_tool.specs.Input.{IsInput}
-use Rattle.cadf_tool.specs.Told.{log_named, atoms_of, IsHeld}
+use Rattle.cadf_tool.specs.Told.{log_named, atoms_loaded, IsHeld}
 use Rattle.cadf_tool.specs.Join.{first_named, union_of, join_of}
 use Rattle.cadf_tool.specs.Exchange.{Making, Outside, Joined, Operands, End, Whole, Part, PartBy, IsReadOf, IsPartOf, IsPartByOf, IsMade, AreRead}
 use Rattle.cadf_tool.specs.Exchange.{outside, outside_all, log_of, log_in, IsToldWithin}
@@ -21,15 +21,15 @@ use Rattle.cadf_tool.proofs.InventoryParts.{part_by_is, part_by_within, part_by_
 
 pub record IsReadWithin (m : Making) (l : Loaded) : Type 0 where
   pub log : log_named l ≡ log_of m
-  pub atoms : IsWithin (atoms_of l) (union_of (outside m))
+  pub atoms : IsWithin (atoms_loaded l) (union_of (outside m))
 
 loaded_within : (m : Making) (l : Loaded) (h : Held) → l ≡ Replica h → IsToldWithin m h → IsReadWithin m l
-loaded_within m l h same told = record { log = ap log_named same ∙ sym told.log; atoms = λ q k. told.atoms q (subst (λ t. Has (atoms_of t) q) same k) }
+loaded_within m l h same told = record { log = ap log_named same ∙ sym told.log; atoms = λ q k. told.atoms q (subst (λ t. Has (atoms_loaded t) q) same k) }
 
 outside_read : (m : Making) (l loaded : Loaded) → l ≡ loaded → log_of m ≡ log_named loaded → outside m ≡ loaded ∷ [] → IsReadWithin m l
 outside_read m l loaded same log is = record {
   log = ap log_named same ∙ sym log;
-  atoms = λ q k. subst (λ ls. Has (union_of ls) q) (sym is) (in_all (loaded ∷ []) loaded (inl refl) q (subst (λ t. Has (atoms_of t) q) same k));
+  atoms = λ q k. subst (λ ls. Has (union_of ls) q) (sym is) (in_all (loaded ∷ []) loaded (inl refl) q (subst (λ t. Has (atoms_loaded t) q) same k));
 }
 
 pub joined_within : (log : Option Text) (operands : Operands) (inputs : List Loaded) (h : Held) → join_of log inputs ≡ Ok h
@@ -45,11 +45,11 @@ inputs_kept : (operands : Operands) (inputs : List Loaded) → AreRead operands 
 inputs_kept End [] read = kept_empty
 inputs_kept End (l ∷ ls) read = absurd read
 inputs_kept (Whole m operands) [] read = absurd read
-inputs_kept (Whole m operands) (l ∷ ls) ((bytes, made, input), read) = kept_union (atoms_of l) (union_of ls) (input_kept bytes l input) (inputs_kept operands ls read)
+inputs_kept (Whole m operands) (l ∷ ls) ((bytes, made, input), read) = kept_union (atoms_loaded l) (union_of ls) (input_kept bytes l input) (inputs_kept operands ls read)
 inputs_kept (Part from to operands) [] read = absurd read
-inputs_kept (Part from to operands) (l ∷ ls) ((bytes, made, input), read) = kept_union (atoms_of l) (union_of ls) (input_kept bytes l input) (inputs_kept operands ls read)
+inputs_kept (Part from to operands) (l ∷ ls) ((bytes, made, input), read) = kept_union (atoms_loaded l) (union_of ls) (input_kept bytes l input) (inputs_kept operands ls read)
 inputs_kept (PartBy from to operands) [] read = absurd read
-inputs_kept (PartBy from to operands) (l ∷ ls) ((bytes, made, input), read) = kept_union (atoms_of l) (union_of ls) (input_kept bytes l input) (inputs_kept operands ls read)
+inputs_kept (PartBy from to operands) (l ∷ ls) ((bytes, made, input), read) = kept_union (atoms_loaded l) (union_of ls) (input_kept bytes l input) (inputs_kept operands ls read)
 
 pub join_kept : (log : Option Text) (operands : Operands) (inputs : List Loaded) (h : Held) → AreRead operands inputs → join_of log inputs ≡ Ok h → AreKept h.atoms
 join_kept log operands inputs h read joined = subst AreKept (sym (join_is log inputs h joined).atoms) (inputs_kept operands inputs read)
@@ -57,7 +57,7 @@ join_kept log operands inputs h read joined = subst AreKept (sym (join_is log in
 -- ---- parts
 
 part_of_read : (from : Making) (one l : Loaded) (h : Held) (bytes : List ℕ) → IsReadWithin from one → log_named one ≡ Some h.log
-    → IsWithin h.atoms (atoms_of one) → AreKept h.atoms
+    → IsWithin h.atoms (atoms_loaded one) → AreKept h.atoms
     → bytes ≡ file h → IsInput bytes l → IsReadWithin from l
 part_of_read from one l h bytes r name low kept is input =
     loaded_within from l h (loaded_file bytes h l kept is input) (record { log = sym r.log ∙ name; atoms = λ q k. r.atoms q (low q k) })

@@ -13,7 +13,7 @@ use Rattle.cadf_tool.specs.declared.input.Loaded.{Loaded}
 use Rattle.cadf_tool.specs.declared.fault.ToolFault.{ToolFault}
 use Rattle.cadf_tool.specs.declared.fault.ToolFault.TheVariants.{OtherLog}
 use Rattle.cadf_tool.specs.Input.{IsInput}
-use Rattle.cadf_tool.specs.Told.{log_named, atoms_of, IsHeld}
+use Rattle.cadf_tool.specs.Told.{log_named, atoms_loaded, IsHeld}
 use Rattle.cadf_tool.specs.Join.{is_other}
 use Rattle.cadf_tool.specs.Missing.{under_one_log}
 use Rattle.cadf_replica.specs.Digest.{atom_digest}
@@ -29,7 +29,7 @@ use Rattle.cadf_tool.proofs.InputUnions.{IsPart}
 
 pub record Notes (loaded : Loaded) (noted : Noted) : Type 0 where
   pub log : log_named loaded ≡ Some noted.log
-  pub digests : noted.digests ≡ digests_of atom_digest (atoms_of loaded)
+  pub digests : noted.digests ≡ digests_of atom_digest (atoms_loaded loaded)
 
 abbrev noted_as : Text → Digests → Noted
 noted_as log digests = record { log = log; digests = digests }
@@ -43,19 +43,19 @@ noted_same log digests n e =
 pub notes : (loaded : Loaded) (noted : Noted) → noted_of loaded ≡ Ok noted → Notes loaded noted
 notes loaded noted e = by (log_named loaded) refl e
   where
-    by : (o : Option Text) → log_named loaded ≡ o → noted_under o (digests_of atom_digest (atoms_of loaded)) ≡ Ok noted → Notes loaded noted
+    by : (o : Option Text) → log_named loaded ≡ o → noted_under o (digests_of atom_digest (atoms_loaded loaded)) ≡ Ok noted → Notes loaded noted
     by None is k = absurd (cc)
     by (Some name) is k =
-        let same = noted_same name (digests_of atom_digest (atoms_of loaded)) noted k in
+        let same = noted_same name (digests_of atom_digest (atoms_loaded loaded)) noted k in
         record { log = is ∙ ap Some same.0; digests = same.1 }
 
 -- what was noted of an input is an inventory
 notes_inventory : (bytes : List ℕ) (loaded : Loaded) (noted : Noted) → IsInput bytes loaded → Notes loaded noted → IsInventory noted
 notes_inventory bytes loaded noted input n =
-    let held : IsHeld bytes (record { log = noted.log; atoms = atoms_of loaded }) = record { loaded = loaded; input = input; named = n.log; atoms = refl } in
+    let held : IsHeld bytes (record { log = noted.log; atoms = atoms_loaded loaded }) = record { loaded = loaded; input = input; named = n.log; atoms = refl } in
     record {
-      log = (held_replica bytes (record { log = noted.log; atoms = atoms_of loaded }) held).log;
-      digests = subst AreDigests (sym n.digests) (are_digests (atoms_of loaded));
+      log = (held_replica bytes (record { log = noted.log; atoms = atoms_loaded loaded }) held).log;
+      digests = subst AreDigests (sym n.digests) (are_digests (atoms_loaded loaded));
     }
 
 -- what was read of an inventory's file is what was noted of the input
@@ -69,7 +69,7 @@ noted_by to noted (bytes, (other, written, read, made, is), input) =
 
 pub record IsPartBy (from : Loaded) (noted : Noted) (part : Held) : Type 0 where
   pub log : log_named from ≡ Some part.log
-  pub atoms : part.atoms ≡ missing_by atom_digest (atoms_of from) noted.digests
+  pub atoms : part.atoms ≡ missing_by atom_digest (atoms_loaded from) noted.digests
 
 abbrev held_under : Text → Contents → Held
 held_under log atoms = record { log = log; atoms = atoms }
@@ -83,7 +83,7 @@ pub part_by_is : (from : Loaded) (noted : Noted) (part : Held) → missing_by_of
 part_by_is from noted part e = by (log_named from) refl e
   where
     atoms : Contents
-    atoms = missing_by atom_digest (atoms_of from) noted.digests
+    atoms = missing_by atom_digest (atoms_loaded from) noted.digests
 
     one_log : (name : Text) (b : Bool) → log_named from ≡ Some name → cond b (Err (OtherLog 2)) (Ok (held_under name atoms)) ≡ Ok part
         → IsPartBy from noted part
@@ -95,21 +95,21 @@ part_by_is from noted part e = by (log_named from) refl e
     by (Some name) is k = one_log name (is_other name (Some noted.log)) is k
 
 pub part_by_within : (bytes : List ℕ) (from : Loaded) (noted : Noted) (part : Held) → IsInput bytes from → IsPartBy from noted part
-    → IsWithin part.atoms (atoms_of from)
+    → IsWithin part.atoms (atoms_loaded from)
 part_by_within bytes from noted part is p =
-    subst (λ s. IsWithin s (atoms_of from)) (sym p.atoms)
-    (with_carriers_least _ (atoms_of from) (input_grounded bytes from is, unknown_has atom_digest (atoms_of from) noted.digests))
+    subst (λ s. IsWithin s (atoms_loaded from)) (sym p.atoms)
+    (with_carriers_least _ (atoms_loaded from) (input_grounded bytes from is, unknown_has atom_digest (atoms_loaded from) noted.digests))
 
 pub part_by_kept : (bytes : List ℕ) (from : Loaded) (noted : Noted) (part : Held) → IsInput bytes from → IsPartBy from noted part → AreKept part.atoms
 part_by_kept bytes from noted part is p = record {
-  grounded = subst IsGrounded (sym p.atoms) (with_carriers_grounded (unknown atom_digest (atoms_of from) noted.digests));
+  grounded = subst IsGrounded (sym p.atoms) (with_carriers_grounded (unknown atom_digest (atoms_loaded from) noted.digests));
   are_atoms = λ q h. (input_kept bytes from is).are_atoms q (part_by_within bytes from noted part is p q h);
 }
 
 -- where no two different atoms share a digest, it is the missing part
-pub part_by_part : (from to : Loaded) (noted : Noted) (part : Held) → NoCollision atom_digest (set.union (atoms_of from) (atoms_of to)) → Notes to noted
+pub part_by_part : (from to : Loaded) (noted : Noted) (part : Held) → NoCollision atom_digest (set.union (atoms_loaded from) (atoms_loaded to)) → Notes to noted
     → IsPartBy from noted part → IsPart from to part
 part_by_part from to noted part apart i p = record {
   log = p.log;
-  atoms = p.atoms ∙ ap (missing_by atom_digest (atoms_of from)) i.digests ∙ missing_by_is atom_digest (atoms_of from) (atoms_of to) apart;
+  atoms = p.atoms ∙ ap (missing_by atom_digest (atoms_loaded from)) i.digests ∙ missing_by_is atom_digest (atoms_loaded from) (atoms_loaded to) apart;
 }

@@ -8,11 +8,11 @@ use Rattle.cadf_replica.proofs.ContributionLaws.{document_kept}
 use Rattle.cadf_tool.specs.declared.input.Loaded.{Loaded}
 use Rattle.cadf_tool.specs.declared.input.Loaded.TheVariants.{Replica, Document}
 use Rattle.cadf_tool.specs.Input.{IsInput}
-use Rattle.cadf_tool.specs.Told.{atoms_of}
+use Rattle.cadf_tool.specs.Told.{atoms_loaded}
 
-pub input_kept : (bytes : List ℕ) (l : Loaded) → IsInput bytes l → AreKept (atoms_of l)
+pub input_kept : (bytes : List ℕ) (l : Loaded) → IsInput bytes l → AreKept (atoms_loaded l)
 input_kept bytes (Replica h) is = is.0.replica.atoms
 input_kept bytes (Document doc) (accepted, (d, (spelled, document))) = document_kept doc (known_document d doc (spelled_is_value bytes d spelled) document)
 
-pub input_grounded : (bytes : List ℕ) (l : Loaded) → IsInput bytes l → IsGrounded (atoms_of l)
+pub input_grounded : (bytes : List ℕ) (l : Loaded) → IsInput bytes l → IsGrounded (atoms_loaded l)
 input_grounded bytes l is = (input_kept bytes l is).grounded

@@ -3,8 +3,8 @@ use Rattle.std.proofs.Common.{◌≡◌, ℕ, ◌+◌, ◌<◌, ◌≤◌, List,
 use Rattle.std.specs.Prelude.{◌&&◌, ◌↔◌, IsTrue}
 use Rattle.cadf_join.specs.Contents.{Text, Contents}
 use Rattle.cadf_join.specs.Sets as set
-use Rattle.cadf_join.specs.SetLaws.{subset-from_IsWithin, IsWithin-from_subset}
-use Rattle.cadf_join.specs.ContentsLaws.{texts_total, contents_same}
+use Rattle.cadf_join.specs.laws.Sets.{subset-from_IsWithin, IsWithin-from_subset}
+use Rattle.cadf_join.specs.laws.Contents.{texts_total, contents_same}
 use Rattle.cadf_replica.specs.Atoms.{is_text}
 use Rattle.cadf_replica.specs.Replica.{Held}
 use Rattle.std.specs.Cmp.Lexicographic.{bytes_decides}

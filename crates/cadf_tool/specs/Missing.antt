@@ -11,7 +11,7 @@ use Rattle.cadf_file.specs.File.{file}
 use Rattle.cadf_tool.specs.declared.input.Loaded.{Loaded}
 use Rattle.cadf_tool.specs.declared.fault.ToolFault.{ToolFault}
 use Rattle.cadf_tool.specs.declared.fault.ToolFault.TheVariants.{NoLog, OtherLog}
-use Rattle.cadf_tool.specs.Told.{log_named, atoms_of}
+use Rattle.cadf_tool.specs.Told.{log_named, atoms_loaded}
 use Rattle.cadf_tool.specs.Inputs.{Seen, IsLoadedAs}
 use Rattle.cadf_tool.specs.Join.{is_other}
 
@@ -23,7 +23,7 @@ under_one_log (Some log) (Some to) atoms = if is_other log (Some to) then Err (O
 
 -- THE MISSING PART: the least grounded set that contains the atoms of FROM that TO lacks
 abbrev pub missing_of : Loaded → Loaded → Result Held ToolFault
-missing_of from to = under_one_log (log_named from) (log_named to) (missing (atoms_of from) (atoms_of to))
+missing_of from to = under_one_log (log_named from) (log_named to) (missing (atoms_loaded from) (atoms_loaded to))
 
 abbrev pub part_of : Loaded × Loaded → Result Held ToolFault
 part_of both = missing_of both.0 both.1

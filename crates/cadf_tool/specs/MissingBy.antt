@@ -18,7 +18,7 @@ use Rattle.cadf_tool.specs.declared.input.Loaded.{Loaded}
 use Rattle.cadf_tool.specs.declared.fault.ToolFault.{ToolFault}
 use Rattle.cadf_tool.specs.declared.fault.ToolFault.TheVariants.{NoLog}
 use Rattle.cadf_tool.specs.Input.{GivesAll}
-use Rattle.cadf_tool.specs.Told.{log_named, atoms_of}
+use Rattle.cadf_tool.specs.Told.{log_named, atoms_loaded}
 use Rattle.cadf_tool.specs.Inputs.{Seen}
 use Rattle.cadf_tool.specs.Missing.{under_one_log}
 
@@ -29,11 +29,11 @@ noted_under (Some log) digests = Ok (record { log = log; digests = digests })
 
 -- THE INVENTORY of an input
 abbrev pub noted_of : Loaded → Result Noted ToolFault
-noted_of loaded = noted_under (log_named loaded) (digests_of atom_digest (atoms_of loaded))
+noted_of loaded = noted_under (log_named loaded) (digests_of atom_digest (atoms_loaded loaded))
 
 -- THE MISSING PART BY AN INVENTORY: the least grounded set that contains the atoms of FROM whose digest isn't noted
 abbrev pub missing_by_of : Loaded → Noted → Result Held ToolFault
-missing_by_of from noted = under_one_log (log_named from) (Some noted.log) (missing_by atom_digest (atoms_of from) noted.digests)
+missing_by_of from noted = under_one_log (log_named from) (Some noted.log) (missing_by atom_digest (atoms_loaded from) noted.digests)
 
 abbrev pub part_by : Loaded × Noted → Result Held ToolFault
 part_by both = missing_by_of both.0 both.1

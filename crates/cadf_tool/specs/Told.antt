@@ -1,5 +1,5 @@
 -- What an engine with one input writes, as one function of the bytes of its input.
---     log_named loaded, atoms_of loaded     the log that an input names, and the atoms that it contributes
+--     log_named loaded, atoms_loaded loaded     the log that an input names, and the atoms that it contributes
 --     IsHeld bytes h                        the bytes are an input that names a log, and h is this log and the input's atoms
 --     WritesTold tell before after bytes    what `tell` makes of them was written
 use Rattle.std.specs.Prelude.{◌≡◌, List, ℕ, Option, Some, None, Result, Ok, Err}
@@ -18,9 +18,9 @@ abbrev pub log_named : Loaded → Option Text
 log_named (Replica h) = Some h.log
 log_named (Document doc) = doc.log
 
-abbrev pub atoms_of : Loaded → Contents
-atoms_of (Replica h) = h.atoms
-atoms_of (Document doc) = document_atoms doc
+abbrev pub atoms_loaded : Loaded → Contents
+atoms_loaded (Replica h) = h.atoms
+atoms_loaded (Document doc) = document_atoms doc
 
 -- the log that an input names and its atoms, where it names one
 abbrev pub under_log : Option Text → Contents → Result Held ToolFault
@@ -29,13 +29,13 @@ under_log (Some log) atoms = Ok (record { log = log; atoms = atoms })
 
 -- THE REPLICA that an input is
 abbrev pub held_of : Loaded → Result Held ToolFault
-held_of loaded = under_log (log_named loaded) (atoms_of loaded)
+held_of loaded = under_log (log_named loaded) (atoms_loaded loaded)
 
 pub record IsHeld (bytes : List ℕ) (h : Held) : Type 0 where
   pub loaded : Loaded
   pub input : IsInput bytes loaded
   pub named : log_named loaded ≡ Some h.log
-  pub atoms : h.atoms ≡ atoms_of loaded
+  pub atoms : h.atoms ≡ atoms_loaded loaded
 
 -- the text of the bytes was written, and nothing else
 abbrev pub WritesTold : (Held → Text) → Option (List ℕ) → Option (List ℕ) → List ℕ → Type 0

@@ -2,7 +2,7 @@
 ghost use Rattle.std.specs.Prelude.{◌≡◌, ◌≤◌, Some, IfOk, OnOk, ◌<◌, length, string_bytes};
 ghost use Rattle.json.specs.Json.{value as value_at};
 ghost use Rattle.serde_json.specs.Read.{of_json, converted};
-ghost use Rattle.cadf_json.specs.Value.{IsValue, Spells, text as text_of};
+ghost use Rattle.cadf_json.specs.Value.{IsValue, SpellsValue, text as text_of};
 
 use crate::part::Part;
 use crate::read::{Unread, read};
@@ -52,7 +52,7 @@ impl<'a> Tree<'a> {
         text: &'a str,
         scratch: &'a mut Scratch,
     ) -> Result<Tree<'a>, Unread>
-        ensures ok { IfOk result (λ t. Spells text.now t) }
+        ensures ok { IfOk result (λ t. SpellsValue text.now t) }
         ensures value { IfOk result IsValue }
     {
         let mut reader = Reader::new(text, scratch)?;

@@ -1,8 +1,8 @@
 use Rattle.std.proofs.Common.{sym, subst, ap, ◌∙◌}
 use Rattle.cadf_join.specs.Sets as set
 use Rattle.cadf_join.specs.Contents.{Has}
-use Rattle.cadf_join.specs.ContentsLaws.{texts_total, texts_same}
-use Rattle.cadf_join.specs.SetLaws as laws
+use Rattle.cadf_join.specs.laws.Contents.{texts_total, texts_same}
+use Rattle.cadf_join.specs.laws.Sets as laws
 use Rattle.cadf_join.proofs.Members as members
 use Rattle.cadf_replica.proofs.Missing.{missing_suffices, missing_by_is}
 use Rattle.cadf_rehearsal.proofs.Schedule.{messages_mean}

@@ -1,7 +1,7 @@
 use Rattle.std.proofs.Common.{ap, sym, ◌∙◌}
 use Rattle.cadf_join.specs.Sets as set
 use Rattle.cadf_join.specs.Sets.{contains-from_list}
-use Rattle.cadf_join.specs.ContentsLaws.{texts_total}
+use Rattle.cadf_join.specs.laws.Contents.{texts_total}
 use Rattle.cadf_join.specs.Prefixes.{texts_at}
 use Rattle.cadf_paths.proofs.Halving.{not_there}
 use Rattle.cadf_paths.proofs.paths.Paths.contains.Goals as goal

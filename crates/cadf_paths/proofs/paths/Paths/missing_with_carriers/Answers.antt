@@ -2,7 +2,7 @@ use Rattle.std.proofs.Common.{◌≡◌, true, [], ap, sym, subst, ◌∙◌}
 use Rattle.std.specs.List.Sorted.{IsStrictlySortedBy}
 use Rattle.cadf_join.specs.Sets as set
 use Rattle.cadf_join.specs.Contents.{texts_cmp}
-use Rattle.cadf_join.specs.ContentsLaws.{texts_total, texts_same}
+use Rattle.cadf_join.specs.laws.Contents.{texts_total, texts_same}
 use Rattle.cadf_paths.specs.Carriers.{carriers_in, with_carriers}
 use Rattle.cadf_paths.specs.Merge.{sorted_merge, sorted_without}
 use Rattle.cadf_paths.proofs.CarrierLists.{rises, with_theirs}

@@ -4,7 +4,7 @@ use Rattle.std.specs.List.{filter, find}
 use Rattle.std.specs.List.Sorted.{IsStrictlySortedBy}
 use Rattle.std.specs.Option.{option_copied}
 use Rattle.cadf_join.specs.Contents.{is_after, text_cmp, texts_cmp}
-use Rattle.cadf_join.specs.ContentsLaws.{text_total, text_same}
+use Rattle.cadf_join.specs.laws.Contents.{text_total, text_same}
 use Rattle.cadf_join.specs.Maps.{heads}
 use Rattle.cadf_join.specs.Prefixes.{saturated, texts_at}
 use Rattle.cadf_join.specs.Several.{several}

@@ -3,7 +3,7 @@ use Rattle.std.proofs.lemmas.List.{append-nil}
 use Rattle.std.specs.List.{filter, find}
 use Rattle.std.specs.Option.{option_copied}
 use Rattle.cadf_join.specs.Contents.{is_after, text_cmp}
-use Rattle.cadf_join.specs.ContentsLaws.{text_total, text_same}
+use Rattle.cadf_join.specs.laws.Contents.{text_total, text_same}
 use Rattle.cadf_join.specs.Maps.{heads}
 use Rattle.cadf_join.specs.Prefixes.{texts_at}
 use Rattle.cadf_join.specs.Sets as set

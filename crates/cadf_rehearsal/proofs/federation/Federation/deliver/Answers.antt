@@ -3,7 +3,7 @@ use Rattle.cadf_rehearsal.specs.Schedule as schedule
 use Rattle.cadf_rehearsal.specs.Federation.{world_of}
 use Rattle.cadf_rehearsal.specs.declared.fault.RehearseFault.TheVariants as fault
 use Rattle.cadf_rehearsal.proofs.Turns.{at_site, at_message, site_log, message_log, site_takes, site_later}
-use Rattle.cadf_rehearsal.specs.Federation.{message_of, log_of}
+use Rattle.cadf_rehearsal.specs.Federation.{message_of, log_of_message}
 use Rattle.cadf_rehearsal.proofs.federation.Federation.deliver.Goals as goal
 
 pub returns-then-asker-site-clause-err : goal.returns-then-asker-site-clause-err
@@ -26,7 +26,7 @@ joined-requires c =
     let pos : 0 < c.args.message = omega arith in
     let le : c.args.message ≤ length f.messages.items = omega arith in
     let x = c.index.result.now in
-    sym (ap log_of c.in-PartFor.is)
+    sym (ap log_of_message c.in-PartFor.is)
     ∙ message_log f c.args.message x c.requires pos le c.index.ensures
     ∙ sym (site_log f c.args.site c.index_mut.result.now c.requires there c.index_mut.ensures.value)
 
@@ -37,7 +37,7 @@ joined-requires-in-Whole c =
     let pos : 0 < c.args.message = omega arith in
     let le : c.args.message ≤ length f.messages.items = omega arith in
     let x = c.index.result.now in
-    sym (ap log_of c.in-Whole.is)
+    sym (ap log_of_message c.in-Whole.is)
     ∙ message_log f c.args.message x c.requires pos le c.index.ensures
     ∙ sym (site_log f c.args.site c.index_mut-in-Whole.result.now c.requires there c.index_mut-in-Whole.ensures.value)
 

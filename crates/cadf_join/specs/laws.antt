@@ -1,0 +1,6 @@
+-- Laws that definitions and ghost members cite.
+pub mod Sets
+pub mod Contents
+pub mod Maps
+pub mod Prefixes
+pub mod Chains
