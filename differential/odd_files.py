@@ -90,7 +90,7 @@ def nodes_in_turn(lists):
     """The nodes of lists that need not rise nor be atoms; a list that the one before begins with ends in a node all the same."""
     last = []
     for one in lists:
-        for depth in range(min(shared(last, one), len(one) - 1) + 1, len(one) + 1):
+        for depth in range(max(0, min(shared(last, one), len(one) - 1)) + 1, len(one) + 1):
             yield [depth, int(depth == len(one)), one[depth - 1]]
         last = one
 
