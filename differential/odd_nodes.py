@@ -6,7 +6,7 @@ from replica_files import FIRST_LINES, nodes_of
 from sealed_files import head, sealed
 
 DEPTHS = [-1, 0, 1, 2, 3, 4, 5, 6, 2 ** 32, 2 ** 64 - 1, 2 ** 64, None, True, "1", [1], {}]
-MARKS = [0, 1, 2, -1, 2 ** 64 - 1, None, True, False, "0", "1", [], {}]
+MARKS = [0, 1, 2, 2, 2, -1, 2 ** 64 - 1, None, True, False, "0", "1", [], {}]
 ELEMENTS = ["", "A", "C", "E", "G", "M", "P", "R", "T", "U", "X", "Z", "e", "EE", "\u0415", "e1", "e2", "zz", "id", "typeURI", "{}",
             "[]", "1", "null", '"x"', '{"id":"e1"}', None, 0, True, [], ["E"], {}]
 LINES = [b'[1,0,"E"]', b'[1,0,"R"]', b'[1,1,"E"]', b'[1,0,"X"]', b'[1,0,"U"]', b"[1,0]", b"[1]", b'[1,0,"E",0]', b'[1,0,"E","E"]', b'{"1":0}',
@@ -110,7 +110,8 @@ def insert_leaf(chance, nodes):
     """A leaf without a mark, where its element may stand."""
     place = some_place(chance, nodes)
     depth, _, element = nodes[place]
-    leaf = {1: chance.choice("GMPR"), 2: element + "a", 4: chance.choice("CT")}.get(depth, chance.choice(PIECES).decode(errors="replace"))
+    likely = {1: chance.choice("GMPR"), 2: element + "a", 4: chance.choice("CT")}
+    leaf = likely.get(depth, chance.choice(PIECES).decode(errors="replace"))
     nodes.insert(subtree(nodes, place), [depth, 0, leaf])
 
 
@@ -125,7 +126,8 @@ def insert_below(chance, nodes):
     depth = nodes[place][0]
     nodes.insert(place + 1, chance.choice([
         chance.choice(LINES), chance.choice(ODD_LINES), [depth + 1, chance.choice(MARKS), chance.choice(ELEMENTS)],
-        [depth + 2, 0, "x"], [depth, 0, "x"], [depth + 1], [depth + 1], [depth + 1, 7, 7, 7], [0, 0, "X"], b'[%d,0,"x"' % (depth + 1), b"[%d,0,\"\xff\"]" % (depth + 1),
+        [depth + 2, 0, "x"], [depth, 0, "x"], [depth + 1], [depth + 1], [depth + 1, 7, 7, 7], [0, 0, "X"],
+        b'[%d,0,"x"' % (depth + 1), b'[%d,0,"\xff"]' % (depth + 1),
         b'[%d, 0,"x"]' % (depth + 1), [depth + 1, None, {}], [str(depth + 1), 0, "x"]]))
 
 

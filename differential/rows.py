@@ -124,6 +124,7 @@ NODES_REFUSED = [
     ("a letter with a mark", [(1, 1, "E")], "line 3: shape"),
     ("no letter", [(1, 0, "X")], "line 3: shape"),
     ("another mark", [(1, 2, "E")], "line 3: shape"),
+    ("another mark of a body", [*FRONT, (3, 2, BODY)], "line 5: shape"),
     ("a mark that is no number", ['[1,true,"E"]'], "line 3: shape"),
     ("an atom", [EVENT], "line 3: shape"),
     ("a body without a mark", [*FRONT, (3, 0, BODY)], "line 5: ungrounded"),
