@@ -234,7 +234,8 @@ def odd_atoms_file(chance):
 
 
 ODD_FIRST_LINES = [
-    b"CADF-REPLICA 1", b"CADF-REPLICA 2", b"CADF-REPLICA 3", b"CADF-REPLICA 2 ", b"CADF-REPLICA 02", b"CADF-REPLICA 1 ", b"CADF-REPLICA 1\r", b"CADF-INVENTORY 1", b"CADF-REPLICA  1", b"CADF-",
+    b"CADF-REPLICA 1", b"CADF-REPLICA 2", b"CADF-REPLICA 3", b"CADF-REPLICA 2 ", b"CADF-REPLICA 02", b"CADF-REPLICA 1 ",
+    b"CADF-REPLICA 1\r", b"CADF-REPLICA 2\r", b"CADF-INVENTORY 1", b"CADF-INVENTORY 2", b"CADF-REPLICA  1", b"CADF-",
     b"CADF-replica 1", b"CADF-REPLICA 01", b"CADF-REPLICA 1\x00"]
 ODD_LOG_LINES = [
     b"", b"L", b"L ", b"L g", b'L  "g"', b'L "g" ', b'L "g"\r', b'L ""', b'L "\\u0067"', b'L "\\/"', b'L "/"', b'l "g"',
