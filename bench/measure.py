@@ -6,8 +6,14 @@ import subprocess
 import sys
 import time
 
+sys.dont_write_bytecode = True
+
 TOP = os.path.dirname(os.path.dirname(os.path.abspath(__file__)))
 BINARY = os.path.join(TOP, "crates", "cadf", "out", "cadf")
+sys.path.append(os.path.join(TOP, "differential"))
+
+from replica_files import FIRST_LINES, lines_of
+from sealed_files import sealed
 
 
 def measured(command, runs):
@@ -71,11 +77,10 @@ def atoms_of(number):
     return [carrier, carrier + ("C", step), carrier + ("T", "correlation_id?value=" + key[20:52])]
 
 
-def replica_file(path, log, events):
-    """Writes the replica file of these events' atoms, and says how many atoms it has."""
-    atoms = sorted((tuple(part.encode() for part in atom) for event in events for atom in atoms_of(event)))
-    text = b"CADF-REPLICA 1\nL " + spelled(log).encode() + b"\n"
-    text += b"".join(spelled([part.decode() for part in atom]).encode() + b"\n" for atom in atoms)
+def replica_file(path, log, events, version=1):
+    """Writes the replica file of these events' atoms in that format, and says how many atoms it has."""
+    atoms = [atom for event in events for atom in atoms_of(event)]
+    head = [FIRST_LINES[version], b"L " + spelled(log).encode()]
     with open(path, "wb") as out:
-        out.write(text + b"Z " + hashlib.sha256(text).hexdigest().encode() + b"\n")
+        out.write(sealed(head + [spelled(value).encode() for value in lines_of(atoms, version)]))
     return len(atoms)

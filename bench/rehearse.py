@@ -15,15 +15,7 @@ import tempfile
 
 from measure import BINARY, TOP, measured
 
-# Runs the second implementation on the words of its command line, of which the last is a file.
-SECOND = """import sys
-sys.dont_write_bytecode = True
-sys.path.insert(0, sys.argv[1])
-from command import answer
-words = [word.encode() for word in sys.argv[2:]]
-with open(words[-1], "rb") as file:
-    sys.stdout.buffer.write(answer(words, {words[-1]: file.read()}).output)
-"""
+SECOND = os.path.join(TOP, "differential", "cadf")
 
 
 def event(number, random_turns):
@@ -73,7 +65,7 @@ def main():
         with open(path, "w") as file:
             file.write(script(options.turns, options.sites))
         words = ["rehearse", "g", str(options.sites), path]
-        ours, theirs = [options.binary, *words], [sys.executable, "-c", SECOND, os.path.join(TOP, "differential"), *words]
+        ours, theirs = [options.binary, *words], [sys.executable, SECOND, *words]
         if subprocess.check_output(ours) != subprocess.check_output(theirs):
             sys.exit("the two write other bytes")
         mine, its = measured(ours, options.runs), measured(theirs, options.runs)

@@ -1,9 +1,10 @@
 """The command: what a call's words mean, and its exit status and streams."""
 import json_text
+from atoms import with_carriers
 from events import Fault, document, is_name
 from inventory_files import inventory_of, missing_by, read_inventory
 from rehearsal import read_script, rehearsal_text, sites_of
-from replica_files import file_of, read_file, with_carriers
+from replica_files import file_of, read_file
 from shown_texts import check_line, conflict_text, log_text
 
 DIRECTORY = object()  # stands for the content of a folder

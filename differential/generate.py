@@ -6,14 +6,15 @@ import random
 import odd_events
 import odd_files
 import odd_inventories
+import odd_nodes
 import schedules
 from command import DIRECTORY
 from inventory_files import digest_of, inventory_of, inventory_with
 from json_text import quoted, read_canonical, spelled
 from odd_events import chain, event
-from odd_files import HEAD, atoms_of, damaged, documents_told, grounded_part, some_carrier, some_file
+from odd_files import (atoms_of, damaged, documents_told, file_with, grounded_part, resealed, some_carrier, some_file,
+                       some_file_of, some_head)
 from odd_values import any_value, good_name, good_time, nested, number, number_near_a_border, odd_name, odd_text, time
-from replica_files import file_of
 from sealed_files import sealed
 from shown_texts import log_text
 from spelling import spelled_oddly
@@ -29,7 +30,8 @@ ODD_JSON = [
 ODD_INPUTS = [
     b"", b" ", b"\n", b"CADF", b"CADF-", b"CADF-\n", b"cadf-\n", b" CADF-", b"CADF_REPLICA 1\n", b"CADF-REPLICA 1\n",
     b'CADF-REPLICA 1\nL "g"\n', b"\xef\xbb\xbfCADF-REPLICA 1\n", b"CADF-REPLICA 1\n\n", b"\x00",
-    b'CADF-REPLICA 2\nL "g"\n', b"null", b"0", b'""', b"[]", b"{}"]
+    b'CADF-REPLICA 2\nL "g"\n', b"CADF-REPLICA 2\n", b"CADF-REPLICA 2", b'CADF-REPLICA 2\nL "g"\n[1,0,"E"]\n',
+    b'CADF-REPLICA 3\nL "g"\n', b"null", b"0", b'""', b"[]", b"{}"]
 NO_DIGESTS = inventory_of("g", [])
 TOKENS = [b"{", b"}", b"[", b"]", b",", b":", b'"', b'"id"', b'"events"', b'"g"', b"1", b" ", b"null"]
 LIKELY_WORDS = ["a", "b", "c", "g", "e", "i", "nothere", "folder", "-", "--", "--log", "--log=g", "--log="]
@@ -61,10 +63,6 @@ def log_with(member):
     return b'{"id":"g","events":[],' + member + b"}"
 
 
-def file_with(*values):
-    return sealed(HEAD + [spelled(value).encode() for value in values])
-
-
 def numbers(chance):
     first = (number(chance) if chance.random() < 0.8 else number_near_a_border(chance)).encode()
     second = number(chance).encode()
@@ -72,7 +70,8 @@ def numbers(chance):
     return reading(chance, chance.choice([
         first, log_with(b'"x":' + first), log_with(b'"x":%s,"x":%s' % (first, second)),
         b'{"id":"g","events":[],"x":[' + first + b"," + second + end,
-        file_with(["P", "n", first.decode()]), sealed(HEAD + [b'["P","n",%s]' % first])]))
+        file_with(chance, ["P", "n", first.decode()]), sealed(some_head(chance) + [b'["P","n",%s]' % first]),
+        sealed(some_head(chance) + [b'[%s,0,"P"]' % first])]))
 
 
 def texts(chance):
@@ -83,7 +82,8 @@ def texts(chance):
         line = b'["P","x",%s]' % text
     return reading(chance, chance.choice([
         text, log_with(b'"x":' + text), log_with(text + b":1"), b'{"id":%s,"events":[]}' % text,
-        sealed([HEAD[0], b"L " + text]), sealed(HEAD + [b'["P",%s,"1"]' % text]), sealed(HEAD + [line])]))
+        sealed([some_head(chance)[0], b"L " + text]), sealed(some_head(chance) + [b'["P",%s,"1"]' % text]),
+        sealed(some_head(chance) + [line]), sealed(some_head(chance) + [b'[1,0,"P"]', b"[2,0,%s]" % text, b'[3,1,"1"]'])]))
 
 
 def deep_document(chance):
@@ -112,16 +112,16 @@ def deep_file(chance):
     carrier = some_carrier(chance, "e")
     kind = chance.randrange(4)
     if kind == 0:
-        return file_with(["P", "n", nested(chance, chance.choice([99, 100, 101, 126, 127, 128])).data.decode()])
+        return file_with(chance, ["P", "n", nested(chance, chance.choice([99, 100, 101, 126, 127, 128])).data.decode()])
     if kind == 1:
-        return file_with(["E", "e", spelled(dict(read_canonical(carrier[2]), zz="DEEP")).replace('"DEEP"', deep)])
+        return file_with(chance, ["E", "e", spelled(dict(read_canonical(carrier[2]), zz="DEEP")).replace('"DEEP"', deep)])
     if kind == 2:
         step = '{"d":%s,"reporterId":"s","role":"relay"}' % deep
         plain = '{"reporterId":"s","role":"relay"}'
-        return file_with(carrier, carrier + chance.choice(
+        return file_with(chance, carrier, carrier + chance.choice(
             [["C", step], ["C", plain, step], ["A", '{"d":%s}' % deep], ["A", deep]]))
     letter, key = chance.choice([("R", "id"), ("G", "id"), ("M", "metricId")])
-    return file_with([letter, "a", '{"d":%s,"%s":"a"}' % (deep, key)])
+    return file_with(chance, [letter, "a", '{"d":%s,"%s":"a"}' % (deep, key)])
 
 
 def depths(chance):
@@ -137,9 +137,9 @@ def times(chance):
     if chance.random() < 0.2:
         carrier = some_carrier(chance, "e")
         if chance.random() < 0.4:
-            return reading(chance, file_with(carrier, carrier + ["C", spelled(step)]))
+            return reading(chance, file_with(chance, carrier, carrier + ["C", spelled(step)]))
         body = dict(read_canonical(carrier[2]), eventTime=time(chance))
-        return reading(chance, file_with(["E", "e", spelled(body)]))
+        return reading(chance, file_with(chance, ["E", "e", spelled(body)]))
     if chance.random() < 0.7:
         made["eventTime"] = time(chance)
     else:
@@ -183,7 +183,9 @@ def names(chance):
         atom = chance.choice([["P", name, "1"], ["R", name, spelled({"id": name})], ["M", name, spelled({"metricId": name})],
                               ["E", name, some_carrier(chance)[2]]])
         log = quoted(chance.choice(["g", name])).encode()
-        return reading(chance, sealed([HEAD[0], b"L " + log, spelled(atom).encode()]))
+        made = file_with(chance, atom).split(b"\n")
+        made[1] = b"L " + log
+        return reading(chance, resealed(b"\n".join(made)))
     word = chance.choice([name.replace("\x00", ""), name.replace("\x00", ""), "g"])  # no word has a zero byte
     document = chance.choice([event(chance), {"id": name, "events": []}, {"id": word, "events": [event(chance)]}])
     return chance.choice([["join", "--log=" + word, "a"], ["join", "--log", word, "a"]]), \
@@ -220,7 +222,7 @@ def as_input(chance, document):
     log = document["id"]
     kind = chance.random()
     if kind < 0.4:
-        return file_of(log, atoms_of([document]))
+        return some_file_of(chance, log, atoms_of([document]))
     if kind < 0.5 and document["events"]:
         return spelled_oddly(chance, document["events"][0], chance.choice([0, 0.1]))
     if kind < 0.6:
@@ -256,7 +258,7 @@ def missings(chance):
         log = "g" if chance.random() < 0.96 else "h"
         kind = chance.random()
         if kind < 0.6:
-            files[name] = file_of(log, atoms)
+            files[name] = some_file_of(chance, log, atoms)
         else:
             document = dict(chance.choice(told), id=log)
             files[name] = log_text(log, atoms) if kind < 0.75 else spelled_oddly(chance, document)
@@ -299,7 +301,7 @@ def inventories(chance):
     atoms = atoms_of([document for document in told if chance.random() < 0.7])
     files = {"folder": DIRECTORY, "from": as_input(chance, chance.choice(told))}
     if chance.random() < 0.6:
-        files["from"] = file_of("g", atoms_of(told) if chance.random() < 0.7 else atoms)
+        files["from"] = some_file_of(chance, "g", atoms_of(told) if chance.random() < 0.7 else atoms)
     if chance.random() < 0.05:
         files["from"] = spelled_oddly(chance, event(chance))
     if chance.random() < 0.3:
@@ -325,7 +327,7 @@ def damaged_inventories(chance):
 
 def shows(chance):
     words = chance.choice([["show", "a"], ["show", "--conflicts", "a"], ["show", "a", "--conflicts"], ["check", "a"]])
-    return words, {"a": file_of("g", atoms_of(documents_told(chance, 1, 6)))}
+    return words, {"a": some_file_of(chance, "g", atoms_of(documents_told(chance, 1, 6)))}
 
 
 def damages(chance):
@@ -336,6 +338,33 @@ def damages(chance):
 
 def atoms(chance):
     return reading(chance, odd_files.odd_atoms_file(chance))
+
+
+def nodes(chance):
+    return reading(chance, odd_nodes.odd_nodes_file(chance))
+
+
+def bits(chance):
+    """A small file with one bit changed, its digest line made right again or not."""
+    documents = documents_told(chance, 1, 1)
+    whole = some_file_of(chance, "g", atoms_of(documents))
+    place = chance.randrange(len(whole))
+    changed = whole[:place] + bytes([whole[place] ^ 1 << chance.randrange(8)]) + whole[place + 1:]
+    return reading(chance, changed if chance.random() < 0.3 else resealed(changed))
+
+
+def formats(chance):
+    """The same few facts as files of both formats: the answer is that of one file of all of them."""
+    told = documents_told(chance, 2, 5)
+    parts = [atoms_of([document]) for document in told]
+    whole = set().union(*parts)
+    parts += [whole, grounded_part(chance, whole), set()]
+    files = {"f%d" % place: some_file_of(chance, "g", chance.choice(parts)) for place in range(chance.randint(2, 5))}
+    first, second = chance.sample(sorted(files), 2)
+    files["i"] = inventory_with("g", some_digests(chance, whole))
+    return chance.choice([
+        ["join", *files][:-1], ["join", *files][:-1], ["join", first], ["missing", first, second], ["missing", first, second],
+        ["missing-by", first, "i"], ["inventory", first], ["show", first], ["check", second]]), files
 
 
 def example_documents(chance):
@@ -376,11 +405,11 @@ def byte_texts(chance):
         return b"".join(chance.choice(pieces) for _ in range(chance.randint(least, most)))
 
     return reading(chance, chance.choice([
-        b"CADF-REPLICA 1\n"[:chance.randint(0, 15)],
+        chance.choice([b"CADF-REPLICA 1\n", b"CADF-REPLICA 2\n"])[:chance.randint(0, 15)],
         bytes(chance.randrange(256) for _ in range(chance.choice([0, 1, 2, 3, 5, 10, 50]))),
         chance.choice(ODD_INPUTS),
         b"CADF-" + some([bytes([byte]) for byte in b'REPLICA 12\n\rLgZ"[]'], 0, 40),
-        b'CADF-REPLICA 1\nL "g"\n' + some([bytes([byte]) for byte in b'Z \n\r[]"PEn1,\xff0'], 0, 40),
+        b"CADF-REPLICA %d\nL \"g\"\n" % chance.choice([1, 2]) + some([bytes([byte]) for byte in b'Z \n\r[]"PEn1,\xff0'], 0, 40),
         some(TOKENS, 1, 14)]))
 
 
@@ -406,8 +435,11 @@ def large(chance):
     mine, theirs = atoms_of([first]), atoms_of([second])
     return chance.choice([
         (["join", "a", "b"], {"a": spelled_oddly(chance, first), "b": spelled_oddly(chance, second)}),
-        (["missing", "a", "b"], {"a": file_of("g", mine | grounded_part(chance, theirs)), "b": file_of("g", theirs)}),
-        (chance.choice([["show", "a"], ["show", "--conflicts", "a"], ["check", "a"]]), {"a": file_of("g", mine | theirs)})])
+        (["missing", "a", "b"], {"a": some_file_of(chance, "g", mine | grounded_part(chance, theirs)),
+                                 "b": some_file_of(chance, "g", theirs)}),
+        (["join", "a", "b"], {"a": some_file_of(chance, "g", mine), "b": some_file_of(chance, "g", theirs)}),
+        (chance.choice([["show", "a"], ["show", "--conflicts", "a"], ["check", "a"]]),
+         {"a": some_file_of(chance, "g", mine | theirs)})])
 
 
 def rehearsals(chance):
@@ -418,7 +450,7 @@ def rehearsals(chance):
 # Each kind of case, and how many there are of it beside the others.
 KINDS = {
     numbers: 8, texts: 8, depths: 8, times: 10, orders: 4, names: 8, events: 12, documents: 10, joins: 12, missings: 10,
-    shows: 6, damages: 12, atoms: 12, example_documents: 8, example_joins: 2, chains: 3, json_texts: 8, byte_texts: 4,
+    shows: 6, damages: 12, atoms: 14, nodes: 20, bits: 8, formats: 8, example_documents: 8, example_joins: 2, chains: 3, json_texts: 8, byte_texts: 4,
     words: 5, large: 1, inventories: 10,
     damaged_inventories: 18}
 KINDS_WITH_REHEARSALS = {**KINDS, rehearsals: 12}

@@ -1,14 +1,14 @@
-"""Generated sets of atoms and replica files, and files with something odd in them."""
+"""Generated sets of atoms and replica files of both formats, and files with something odd in them."""
 import events
+from atoms import with_carriers
 from events import EVENT_URI
 from json_text import NotJson, NotWhole, read, spelled
 from odd_events import attachment, event, odd_step, step
 from odd_values import PIECES, good_name, number, odd_name, time
-from replica_files import FIRST_LINE, file_of, with_carriers
-from sealed_files import sealed
+from replica_files import FIRST_LINES, file_of, shared
+from sealed_files import head, sealed
 from spelling import spelled_oddly
 
-HEAD = [FIRST_LINE, b'L "g"']
 STEP = spelled({"reporterId": "s1", "role": "observer"})
 ODD_BYTES = b'"\\[]{},:0123456789-+.eEtfn \n\r\t/uZ\x00\x7f\xff\xc3'
 PROPERTY_VALUES = [
@@ -73,8 +73,38 @@ def atoms_of(documents):
     return set().union(*(events.document(document)[1] for document in documents))
 
 
+def some_head(chance):
+    """The two first lines of a file of either format."""
+    return head(FIRST_LINES[chance.choice([1, 2])], "g")
+
+
+def some_file_of(chance, log, atoms):
+    return file_of(log, atoms, chance.choice([1, 2]))
+
+
 def some_file(chance, log="g"):
-    return file_of(log, atoms_of(documents_told(chance)))
+    return some_file_of(chance, log, atoms_of(documents_told(chance)))
+
+
+def nodes_in_turn(lists):
+    """The nodes of lists that need not rise nor be atoms; a list that the one before begins with ends in a node all the same."""
+    last = []
+    for one in lists:
+        for depth in range(max(0, min(shared(last, one), len(one) - 1)) + 1, len(one) + 1):
+            yield [depth, int(depth == len(one)), one[depth - 1]]
+        last = one
+
+
+def file_with(chance, *values):
+    """A sealed file of either format, with lines for the values, which need not be atoms."""
+    version = chance.choice([1, 2]) if all(isinstance(value, list) for value in values) else 1
+    lines = nodes_in_turn(values) if version == 2 else values
+    return sealed(head(FIRST_LINES[version], "g") + [spelled(line).encode() for line in lines])
+
+
+def resealed(data):
+    """The file with the digest line that its lines ask for."""
+    return sealed(data.split(b"\n")[:-2])
 
 
 def grounded_part(chance, atoms):
@@ -192,16 +222,20 @@ ODD_LISTS = [
 
 
 def odd_atoms_file(chance):
-    lines = [spelled(value).encode() for value in chance.choice(ODD_LISTS)(chance, some_carrier(chance))]
+    lists = chance.choice(ODD_LISTS)(chance, some_carrier(chance))
     if chance.random() < 0.15:
-        chance.shuffle(lines)
+        chance.shuffle(lists)
+    made = file_with(chance, *lists)
     if chance.random() < 0.1:
-        lines[-1] = damaged(chance, lines[-1], 1)
-    return sealed(HEAD + lines)
+        lines = made.split(b"\n")
+        lines[-3] = damaged(chance, lines[-3], 1)
+        made = resealed(b"\n".join(lines))
+    return made
 
 
 ODD_FIRST_LINES = [
-    b"CADF-REPLICA 2", b"CADF-REPLICA 1 ", b"CADF-REPLICA 1\r", b"CADF-INVENTORY 1", b"CADF-REPLICA  1", b"CADF-",
+    b"CADF-REPLICA 1", b"CADF-REPLICA 2", b"CADF-REPLICA 3", b"CADF-REPLICA 2 ", b"CADF-REPLICA 02", b"CADF-REPLICA 1 ",
+    b"CADF-REPLICA 1\r", b"CADF-REPLICA 2\r", b"CADF-INVENTORY 1", b"CADF-INVENTORY 2", b"CADF-REPLICA  1", b"CADF-",
     b"CADF-replica 1", b"CADF-REPLICA 01", b"CADF-REPLICA 1\x00"]
 ODD_LOG_LINES = [
     b"", b"L", b"L ", b"L g", b'L  "g"', b'L "g" ', b'L "g"\r', b'L ""', b'L "\\u0067"', b'L "\\/"', b'L "/"', b'l "g"',

@@ -4,6 +4,7 @@ from odd_events import document, event
 from odd_files import (ODD_LINES, ODD_LOG_LINES, atoms_of, damaged, documents_told, drop_some, repeat_one, some_file, swap,
                        with_odd_end)
 from odd_values import digits
+from replica_files import FIRST_LINES
 from sealed_files import sealed
 from spelling import spelled_oddly
 
@@ -92,9 +93,9 @@ def no_inventory(chance):
     if kind == 2:
         return chance.choice(NO_INVENTORIES)
     if kind == 3:
-        return some_file(chance).replace(b"CADF-REPLICA 1", FIRST_LINE, 1)
+        return FIRST_LINE + some_file(chance)[len(FIRST_LINES[1]):]
     if kind == 4:
-        return some_inventory(chance).replace(FIRST_LINE, b"CADF-REPLICA 1", 1)
+        return FIRST_LINES[chance.choice([1, 2])] + some_inventory(chance)[len(FIRST_LINE):]
     return sealed([FIRST_LINE, chance.choice(ODD_LOG_LINES)])
 
 

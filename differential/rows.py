@@ -1,5 +1,6 @@
 #!/usr/bin/env python3
-"""Worked rows of the commands on inventories and of rehearsals: what they write is told here, by hashlib or in full.
+"""Worked rows of replica files in both formats, of inventories and of rehearsals: what is written is told here, by
+hashlib or in full.
 
     differential/rows.py [BINARY]
 
@@ -40,7 +41,14 @@ def lined(first, *lines, log="g"):
 
 
 def replica(*lines):
+    """The file of format 1 with these lines."""
     return lined("CADF-REPLICA 1", *lines)
+
+
+def tree(*nodes):
+    """The file of format 2 with these nodes, each a depth, a mark and an element, or a line."""
+    lines = [node if isinstance(node, str) else "[%d,%d,%s]" % (node[0], node[1], quoted(node[2])) for node in nodes]
+    return lined("CADF-REPLICA 2", *lines)
 
 
 def inventory(*lines, log="g"):
@@ -50,27 +58,84 @@ def inventory(*lines, log="g"):
 
 EVENT, CHAIN, LONG_CHAIN = line("E", "e1", BODY), line("E", "e1", BODY, "C", STEP_1), line("E", "e1", BODY, "C", STEP_1, STEP_2)
 OTHER, OTHER_CHAIN = line("E", "e1", FAILED), line("E", "e1", FAILED, "C", STEP_2)
+TAG, SECOND_EVENT = line("E", "e1", BODY, "T", "x"), line("E", "e2", BODY)
 CHAINS = replica(EVENT, CHAIN, LONG_CHAIN)
 CONFLICT = replica(OTHER, OTHER_CHAIN, EVENT, CHAIN)
+FRONT = ((1, 0, "E"), (2, 0, "e1"))
+BODY_NODE, OTHER_NODES = (3, 1, BODY), ((3, 1, FAILED), (4, 0, "C"), (5, 1, STEP_2))
+CHAIN_NODES = ((4, 0, "C"), (5, 1, STEP_1))
+NOTHING_TREE, EVENT_TREE = tree(), tree(*FRONT, BODY_NODE)
+CHAINS_TREE = tree(*FRONT, BODY_NODE, *CHAIN_NODES, (6, 1, STEP_2))
+CONFLICT_TREE = tree(*FRONT, *OTHER_NODES, BODY_NODE, *CHAIN_NODES)
 LETTERED = min(digits(one) for one in (EVENT, CHAIN, OTHER, OTHER_CHAIN) if any(digit in digits(one) for digit in "abcdef"))
 
 # How many bytes these texts have.
 SIZES = [
     (BODY, 148), (EVENT, 189), (replica(), 88), (replica(EVENT), 278), (CHAINS, 807), (inventory(), 90),
-    (inventory(digits(EVENT)), 155)]
+    (inventory(digits(EVENT)), 155),
+    (NOTHING_TREE, 88), (EVENT_TREE, 294), (CHAINS_TREE, 409)]
 
 # What is called, of files FROM and BY, and what is written.
 WRITTEN = [
     ("the inventory of no atoms", "inventory", replica(), None, inventory()),
     ("the inventory of one atom", "inventory", replica(EVENT), None, inventory(digits(EVENT))),
     ("the digests rise", "inventory", CHAINS, None, inventory(*sorted(digits(one) for one in (EVENT, CHAIN, LONG_CHAIN)))),
-    ("a carrier is written with what stands on it", "missing-by", CHAINS, inventory(digits(EVENT)), CHAINS),
-    ("nothing is missing", "missing-by", replica(EVENT), inventory(digits(EVENT)), replica()),
+    ("digests are of atoms, not of nodes", "inventory", CHAINS_TREE, None,
+     inventory(*sorted(digits(one) for one in (EVENT, CHAIN, LONG_CHAIN)))),
+    ("a carrier is written with what stands on it", "missing-by", CHAINS, inventory(digits(EVENT)), CHAINS_TREE),
+    ("nothing is missing", "missing-by", replica(EVENT), inventory(digits(EVENT)), NOTHING_TREE),
     ("all of one body is there", "missing-by", CONFLICT, inventory(*sorted([digits(EVENT), digits(CHAIN)])),
-     replica(OTHER, OTHER_CHAIN)),
+     tree(*FRONT, *OTHER_NODES)),
     ("a chain is there without its carrier", "missing-by", CONFLICT, inventory(digits(CHAIN)),
-     replica(OTHER, OTHER_CHAIN, EVENT)),
-    ("a carrier is there without its chain", "missing-by", CONFLICT, inventory(digits(EVENT)), CONFLICT),
+     tree(*FRONT, *OTHER_NODES, BODY_NODE)),
+    ("a carrier is there without its chain", "missing-by", CONFLICT_TREE, inventory(digits(EVENT)), CONFLICT_TREE),
+    ("no atoms", "join", replica(), None, NOTHING_TREE),
+    ("one atom", "join", replica(EVENT), None, EVENT_TREE),
+    ("a chain that goes on from another", "join", CHAINS, None, CHAINS_TREE),
+    ("a file of what is written", "join", CHAINS_TREE, None, CHAINS_TREE),
+    ("both formats of one set", "join", CHAINS_TREE, CHAINS, CHAINS_TREE),
+    ("both formats, turned", "join", CHAINS, CHAINS_TREE, CHAINS_TREE),
+    ("two bodies", "join", CONFLICT, None, CONFLICT_TREE),
+    ("two bodies of two files", "join", replica(OTHER, OTHER_CHAIN), tree(*FRONT, BODY_NODE, *CHAIN_NODES), CONFLICT_TREE),
+    ("a chain is lacked", "missing", CHAINS_TREE, replica(EVENT, LONG_CHAIN), tree(*FRONT, BODY_NODE, *CHAIN_NODES)),
+    ("a longer chain is lacked", "missing", CHAINS_TREE, replica(EVENT, CHAIN),
+     tree(*FRONT, BODY_NODE, (4, 0, "C"), (5, 0, STEP_1), (6, 1, STEP_2))),
+    ("an event is lacked", "missing", tree(*FRONT, BODY_NODE, (2, 0, "e2"), BODY_NODE), EVENT_TREE,
+     tree((1, 0, "E"), (2, 0, "e2"), BODY_NODE)),
+    ("a tag is lacked", "missing", replica(EVENT, CHAIN, TAG), tree(*FRONT, BODY_NODE, *CHAIN_NODES),
+     tree(*FRONT, BODY_NODE, (4, 0, "T"), (5, 1, "x"))),
+    ("nothing is lacked", "missing", CHAINS, CHAINS_TREE, NOTHING_TREE),
+]
+
+# The nodes of a file, and what is refused.
+NODES_REFUSED = [
+    ("a letter alone", [(1, 0, "E")], "line 3: unended"),
+    ("a letter twice", [(1, 0, "E"), (1, 0, "E")], "line 3: unended"),
+    ("a letter that is none behind one alone", [(1, 0, "E"), (1, 0, "X")], "line 3: unended"),
+    ("no depth behind a node without a mark", [(1, 0, "E"), "[2,0]"], "line 3: unended"),
+    ("no JSON behind a node without a mark", [(1, 0, "E"), '[2,0,"e1"'], "line 3: unended"),
+    ("no canonical text behind a node without a mark", [(1, 0, "E"), '[2, 0,"e1"]'], "line 3: unended"),
+    ("a deeper line that is no node", [(1, 0, "E"), "[2,7,7]"], "line 4: shape"),
+    ("a line that is deeper by two", [(1, 0, "E"), (3, 1, BODY)], "line 4: order"),
+    ("a line that is deeper by two and no node", [(1, 0, "E"), "[3,1,1]"], "line 4: shape"),
+    ("a name first", [(2, 0, "e1")], "line 3: order"),
+    ("no depth at all", [(0, 0, "X")], "line 3: order"),
+    ("a depth below 0", ['[-1,0,"E"]'], "line 3: shape"),
+    ("a letter with a mark", [(1, 1, "E")], "line 3: shape"),
+    ("no letter", [(1, 0, "X")], "line 3: shape"),
+    ("another mark", [(1, 2, "E")], "line 3: shape"),
+    ("another mark of a body", [*FRONT, (3, 2, BODY)], "line 5: shape"),
+    ("a mark that is no number", ['[1,true,"E"]'], "line 3: shape"),
+    ("an atom", [EVENT], "line 3: shape"),
+    ("a body without a mark", [*FRONT, (3, 0, BODY)], "line 5: ungrounded"),
+    ("a body without a mark, with a chain", [*FRONT, (3, 0, BODY), *CHAIN_NODES], "line 5: ungrounded"),
+    ("a name below the one before", [(1, 0, "E"), (2, 0, "e2"), BODY_NODE, (2, 0, "e1"), BODY_NODE], "line 6: order"),
+    ("a body twice", [*FRONT, BODY_NODE, BODY_NODE], "line 6: order"),
+    ("a letter again", [*FRONT, BODY_NODE, *FRONT, (3, 1, FAILED)], "line 6: order"),
+    ("a step without a mark at the end", [*FRONT, BODY_NODE, (4, 0, "C"), (5, 0, STEP_1)], "line 7: unended"),
+    ("a chain's letter with a mark", [*FRONT, BODY_NODE, (4, 1, "C")], "line 6: shape"),
+    ("something behind a tag", [*FRONT, BODY_NODE, (4, 0, "T"), (5, 1, "x"), (6, 1, "y")], "line 8: shape"),
+    ("a reserved name", [(1, 0, "P"), (2, 0, "events"), (3, 1, "1")], "line 4: shape"),
 ]
 
 # What is called, of files FROM and BY, and what is refused.
@@ -81,6 +146,20 @@ REFUSED = [
     ("a replica file as inventory", CONFLICT, replica(), "input 2: version"),
     ("an inventory as FROM", inventory(), inventory(), "input 1: version"),
     ("an inventory of another log", CONFLICT, inventory(log="h"), "input 2: other log"),
+    ("a replica file of format 2 as inventory", CONFLICT, NOTHING_TREE, "input 2: version"),
+]
+
+# Files, and what is refused.
+FILES_REFUSED = [
+    ("a format that is not known", lined("CADF-REPLICA 3"), "version"),
+    ("format 2 in an inventory's name", lined("CADF-INVENTORY 2"), "version"),
+    ("a letter as the last line", 'CADF-REPLICA 2\nL "g"\n[1,0,"E"]\n', "truncated"),
+    ("a letter, and a piece of a line", 'CADF-REPLICA 2\nL "g"\n[1,0,"E"]\n[1', "truncated"),
+    ("a letter before a wrong digest", 'CADF-REPLICA 2\nL "g"\n[1,0,"E"]\nZ\n', "line 3: unended"),
+    ("a wrong digest", EVENT_TREE.replace("Z ", "Z  "), "digest"),
+    ("a further byte", EVENT_TREE + "\n", "trailing bytes"),
+    ("nodes under the first line of format 1", EVENT_TREE.replace("REPLICA 2", "REPLICA 1"), "line 3: shape"),
+    ("atoms under the first line of format 2", replica(EVENT).replace("REPLICA 1", "REPLICA 2"), "line 3: shape"),
 ]
 
 
@@ -130,6 +209,8 @@ def calls():
     for name, source, by, said in REFUSED:
         fault = ("cadf: %s\n" % said).encode()
         yield name, [b"missing-by", b"from", b"by"], {b"from": source, b"by": by}, Answer(1, b"", fault)
+    for name, file, said in FILES_REFUSED + [(name, tree(*nodes), said) for name, nodes, said in NODES_REFUSED]:
+        yield name, [b"check", b"from"], {b"from": file}, Answer(1, b"", ("cadf: input 1: %s\n" % said).encode())
     for sites, lines, wanted in rehearsal_rows():
         words = [b"rehearse", b"g", str(sites).encode(), b"script"]
         yield "rehearsal of " + "; ".join(lines), words, {b"script": "\n".join(lines)}, wanted

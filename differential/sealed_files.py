@@ -5,6 +5,18 @@ from events import Fault, is_name
 from json_text import NotJson, NotWhole, quoted, read_canonical
 
 
+class Lines:
+    """What stands between the log line and the digest line, as far as it was read."""
+
+    def left(self, line):
+        """What is wrong with the line before, now that this one is seen, or None."""
+        return None
+
+    def take(self, line):
+        """Takes the line; where it is none, the fault is its first cause."""
+        raise NotImplementedError
+
+
 def log_of(line):
     """The log that the second line names."""
     try:
@@ -20,26 +32,36 @@ def digest_line(data):
     return b"Z " + hashlib.sha256(data).hexdigest().encode()
 
 
-def read_sealed(data, first_line, take):
-    """The log of a file with that first line; `take` gets each line between the second and the digest line."""
-    log, start = None, 0
+def taken(lines, number, line):
+    """Takes a line from the third on; False where it is the digest line, which is not judged here."""
+    cause = lines.left(line)
+    if cause:
+        raise Fault("line %d: %s" % (number - 1, cause))
+    if line.startswith(b"Z"):
+        return False
+    try:
+        lines.take(line)
+    except Fault as fault:
+        raise Fault("line %d: %s" % (number, fault.said))
+    return True
+
+
+def read_sealed(data, kinds):
+    """The log of a file, and its lines as the kind of lines takes them that its first line names."""
+    log, lines, start = None, None, 0
     for number, line in enumerate(data.split(b"\n")[:-1], 1):
         if number == 1:
-            if line != first_line:
+            if line not in kinds:
                 raise Fault("version")
+            lines = kinds[line]()
         elif number == 2:
             log = log_of(line)
-        elif line.startswith(b"Z"):
+        elif not taken(lines, number, line):
             if line != digest_line(data[:start]):
                 raise Fault("digest")
             if start + len(line) + 1 < len(data):
                 raise Fault("trailing bytes")
-            return log
-        else:
-            try:
-                take(line)
-            except Fault as fault:
-                raise Fault("line %d: %s" % (number, fault.said))
+            return log, lines
         start += len(line) + 1
     raise Fault("truncated")
 

@@ -4,7 +4,8 @@
     differential/vectors.py BINARY      checks that the command, and the second implementation here, write and refuse them so
     differential/vectors.py --make      writes what the calls of examples/vectors/calls.txt write, by the second implementation
 
-A line of calls.txt is a call's words, ` -> `, and the file that it writes, or its line on standard error.
+A line of calls.txt is a call's words, ` -> `, and the file that it writes, or its line on standard error. Files that no call
+writes are made too: those of format 1, and those of format 2 with wrong nodes.
 """
 import os
 import subprocess
@@ -13,8 +14,36 @@ import sys
 sys.dont_write_bytecode = True
 
 from command import answer
+from json_text import spelled
+from replica_files import FIRST_LINES, file_of, read_file
+from sealed_files import head, sealed
 
 FOLDER = os.path.join(os.path.dirname(os.path.dirname(os.path.abspath(__file__))), "examples", "vectors")
+
+# Files of format 1, and the file of format 2 with the same log and set.
+OLD = {"north.1.cadf": "north.cadf", "south.1.cadf": "south.cadf", "both.1.cadf": "both.cadf", "event.1.cadf": "event.cadf",
+       "southward.1.cadf": "southward.cadf", "nothing.1.cadf": "nothing.cadf"}
+
+BODY = ('{"action":"read","eventTime":"2024-03-01T12:00:00Z","eventType":"activity","initiatorId":"u1","observerId":"s1",'
+        '"outcome":"success","targetId":"t1"}')
+STEP = '{"reporterId":"s1","role":"observer"}'
+LETTER, E1, E2 = [1, 0, "E"], [2, 0, "e1"], [2, 0, "e2"]
+WHOLE = [3, 1, BODY]
+# Files of format 2 with wrong lines: their lines, which are nodes or texts.
+WRONG = {
+    "unended.cadf": [LETTER],
+    "unended-name.cadf": [LETTER, E1, E2, WHOLE],
+    "unended-chain.cadf": [LETTER, E1, WHOLE, [4, 0, "C"], [5, 0, STEP]],
+    "depth.cadf": [LETTER, WHOLE],
+    "siblings.cadf": [LETTER, E2, WHOLE, E1, WHOLE],
+    "twice.cadf": [LETTER, E1, WHOLE, WHOLE],
+    "mark.cadf": [[1, 1, "E"]],
+    "no-mark.cadf": [LETTER, E1, [3, 0, BODY], [4, 0, "T"], [5, 1, "x"]],
+    "letter.cadf": [[1, 0, "X"]],
+    "below-a-tag.cadf": [LETTER, E1, WHOLE, [4, 0, "T"], [5, 1, "x"], [6, 1, "y"]],
+    "blank.cadf": ['[1, 0,"E"]'],
+    "atom.cadf": [["E", "e1", BODY]],
+}
 
 
 def read(name):
@@ -51,13 +80,21 @@ def as_told(words, told, answered):
     return status == 0 and output == read(told)
 
 
+def put(name, content):
+    with open(os.path.join(FOLDER, name), "wb") as file:
+        file.write(content)
+
+
 def make():
-    """Writes the files that calls write, in the order of the calls."""
+    """Writes the files that calls write, in the order of the calls, and those that no call writes."""
+    for name, lines in WRONG.items():
+        texts = [line if isinstance(line, str) else spelled(line) for line in lines]
+        put(name, sealed(head(FIRST_LINES[2], "g") + [text.encode() for text in texts]))
     for words, told in calls():
         if not told.startswith("cadf: "):
-            text = by_hand(words)[1]
-            with open(os.path.join(FOLDER, told), "wb") as file:
-                file.write(text)
+            put(told, by_hand(words)[1])
+            for name in (name for name, other in OLD.items() if other == told):
+                put(name, file_of(*read_file(read(told)), version=1))
 
 
 def check(binary):

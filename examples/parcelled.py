@@ -1,5 +1,5 @@
 #!/usr/bin/env python3
-"""The same facts, however they are parcelled: as one document, as several, in other orders, as files, twice.
+"""The same facts, however they are parcelled: as one document, as several, in other orders, as files of either format, twice.
 
     examples/parcelled.py [CADF]
 
@@ -12,7 +12,12 @@ import subprocess
 import sys
 import tempfile
 
+sys.dont_write_bytecode = True
 TOP = os.path.dirname(os.path.dirname(os.path.abspath(__file__)))
+sys.path.append(os.path.join(TOP, "differential"))
+
+from replica_files import file_of, read_file
+
 WAYS = 24
 
 
@@ -58,15 +63,18 @@ def run(binary, words):
 
 
 def joined(binary, folder, documents, chance):
-    """The file of the documents, some of which become files first."""
+    """The file of the documents, some of which become files first, of format 2 or 1."""
     names = []
     for number, document in enumerate(documents):
         name = os.path.join(folder, "%d.json" % number)
         with open(name, "w", encoding="utf-8") as file:
             json.dump(document, file)
         if chance.random() < 0.5:
+            content = run(binary, ["join", name])
+            if chance.random() < 0.5:
+                content = file_of(*read_file(content), version=1)
             with open(name + ".cadf", "wb") as file:
-                file.write(run(binary, ["join", name]))
+                file.write(content)
             name += ".cadf"
         names.append(name)
     return run(binary, ["join"] + names)
