@@ -6,7 +6,7 @@ use Rattle.cadf_join.specs.laws.Sets as laws
 use Rattle.cadf_replica.specs.AtomSets.{AreKept}
 use Rattle.cadf_replica.specs.Replica.{Held}
 use Rattle.cadf_replica.proofs.ContributionLaws.{kept_empty, kept_union}
-use Rattle.cadf_file.specs.File.{file}
+use Rattle.cadf_tool.specs.WrittenFile.{file}
 use Rattle.cadf_tool.specs.declared.input.Loaded.{Loaded}
 use Rattle.cadf_tool.specs.declared.input.Loaded.TheVariants.{Replica}
 use Rattle.cadf_tool.specs.Input.{IsInput}

@@ -2,7 +2,7 @@
 use Rattle.std.proofs.Common.{◌≡◌, ℕ, List, ◌++◌, Option, Some, IfSome, refl, subst}
 use Rattle.std.proofs.KnownBytes.{Consumes-whole}
 use Rattle.cadf_replica.specs.Inventory.{Noted}
-use Rattle.cadf_file.specs.File.{file}
+use Rattle.cadf_tool.specs.WrittenFile.{file}
 use Rattle.cadf_file.specs.InventoryFile.{inventory_file}
 use Rattle.cadf_tool.specs.declared.TheConstants.{FILE_LIMIT}
 use Rattle.cadf_tool.specs.declared.input.Loaded.{Loaded}

@@ -8,6 +8,7 @@ pub mod Run
 pub mod InventoryInput
 pub mod Join
 pub mod Uniting
+pub mod WrittenFile
 pub mod JoinWrites
 pub mod Missing
 pub mod MissingBy

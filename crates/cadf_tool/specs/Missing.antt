@@ -7,7 +7,7 @@ use Rattle.std.specs.Io.KnownBytes.{Appends}
 use Rattle.cadf_join.specs.Contents.{Text, Contents}
 use Rattle.cadf_replica.specs.Missing.{missing}
 use Rattle.cadf_replica.specs.Replica.{Held}
-use Rattle.cadf_file.specs.File.{file}
+use Rattle.cadf_tool.specs.WrittenFile.{file}
 use Rattle.cadf_tool.specs.declared.input.Loaded.{Loaded}
 use Rattle.cadf_tool.specs.declared.fault.ToolFault.{ToolFault}
 use Rattle.cadf_tool.specs.declared.fault.ToolFault.TheVariants.{NoLog, OtherLog}

@@ -11,7 +11,7 @@ use Rattle.cadf_replica.specs.Digest.{atom_digest}
 use Rattle.cadf_replica.specs.Inventory.{Noted}
 use Rattle.cadf_replica.specs.Missing.{Digests, digests_of, missing_by}
 use Rattle.cadf_replica.specs.Replica.{Held}
-use Rattle.cadf_file.specs.File.{file}
+use Rattle.cadf_tool.specs.WrittenFile.{file}
 use Rattle.cadf_file.specs.InventoryFile.{inventory_file, IsInventory}
 use Rattle.cadf_tool.specs.declared.TheConstants.{FILE_LIMIT}
 use Rattle.cadf_tool.specs.declared.input.Loaded.{Loaded}

@@ -1,5 +1,5 @@
 //! What an input has beyond an inventory, as a replica file.
-ghost use Rattle.cadf_file.specs.File.{file};
+ghost use Rattle.cadf_tool.specs.WrittenFile.{file};
 ghost use Rattle.cadf_tool.specs.declared.input.Loaded.TheVariants as loaded;
 ghost use Rattle.cadf_tool.specs.InventoryInput.{as_inventory};
 ghost use Rattle.cadf_tool.specs.MissingBy.{missing_by_of, part_by};

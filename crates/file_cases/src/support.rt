@@ -46,6 +46,35 @@ pub const CHAINS: &str = r#"HEAD["E","e1",BODY]
 Z 4b22aa3399cc7a33917b79f2abb35e205c7fc9c91450f00db08d2001b55aa941
 "#;
 
+/// The file with no atom in format 2.
+pub const EMPTY_IN_TWO: &str = r#"CADF-REPLICA 2
+L "g"
+Z 00b3da81b15be78799372464cdda4522890d5b7fb3e1765ae401af3a8a7373f8
+"#;
+
+/// The two events in format 2.
+pub const TWO_IN_TWO: &str = r#"CADF-REPLICA 2
+L "g"
+[1,0,"E"]
+[2,0,"e1"]
+[3,1,BODY]
+[2,0,"e2"]
+[3,1,BODY]
+Z 7ebe087dd8200720751f6df9b58390fdb2f994337d3085371807bd6f21948a85
+"#;
+
+/// The event with two chains in format 2.
+pub const CHAINS_IN_TWO: &str = r#"CADF-REPLICA 2
+L "g"
+[1,0,"E"]
+[2,0,"e1"]
+[3,1,BODY]
+[4,0,"C"]
+[5,1,STEP1]
+[6,1,STEP2]
+Z 53f64e95637910be30fa08b0407f36ea1a890cc0ae7f438fb034f397a7eede02
+"#;
+
 /// The text with its parts written out.
 pub fn written(alloc: Global, text: &str) -> Result<String, Fail> {
     let mut whole = String::from_str(alloc, text)?;
