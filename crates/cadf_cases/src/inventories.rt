@@ -7,7 +7,7 @@ use std::process::Abort;
 use std::test::Fail;
 
 /// Of nothing.
-const NONE: &str = r#"CADF-INVENTORY 1
+pub const NONE: &str = r#"CADF-INVENTORY 1
 L "g"
 Z ea29fcbebaa391558260d1200bd708d2cb8644ff710f6f8d74e1b43ae99b1d72
 "#;

@@ -213,3 +213,21 @@ fn failed_reads(rt: HostRuntime) -> Result<(), Fail> {
     }
     Ok(())
 }
+
+/// A line that is the one before it again is refused once it is whole, a byte at a time; before that a failed read is.
+#[test]
+fn failed_reads_before_a_fault(rt: HostRuntime) -> Result<(), Fail> {
+    let text = "HEAD[\"E\",\"e1\",BODY]\n[\"E\",\"e1\",BODY]\nZ\n";
+    let file = written(rt.alloc(), text)?;
+    for failing in 1u64..404 {
+        let wanted = if failing <= 401 {
+            FileFault::ReadFault
+        } else {
+            FileFault::Line(4, Cause::Order)
+        };
+        let mut source = MemorySource::new(file.as_bytes(), 1, failing);
+        let found = read_replica(rt.alloc(), &mut source, LIMIT).err();
+        assert!(rt; found == Some(wanted), "{failing}");
+    }
+    Ok(())
+}
