@@ -22,6 +22,10 @@ mod missing;
 #[cfg(test)]
 mod refusals;
 #[cfg(test)]
+mod nodes;
+#[cfg(test)]
+mod refused_nodes;
+#[cfg(test)]
 mod rehearsals;
 #[cfg(test)]
 mod streams;

@@ -1,6 +1,7 @@
 //! Reads and writes that fail, each in turn, of every engine.
-use crate::files::{CHAINS, EMPTY, ONE, written};
+use crate::files::{EMPTY, written};
 use crate::inventories::NONE;
+use crate::nodes;
 use cadf_event::Name;
 use cadf_json::{FailingWrite, MemorySink, MemorySource};
 use cadf_tool::{
@@ -38,13 +39,13 @@ const LOG: &str = r#"{"id":"g","events":[]}"#;
 
 /// Engines with two inputs, small ones, since each is read again for each of its reads.
 const READ: [(Engine, &str, &str); 10] = [
-    (Engine::Show, ONE, ""),
+    (Engine::Show, nodes::ONE, ""),
     (Engine::Show, LOG, ""),
     (Engine::Conflicts, EMPTY, ""),
     (Engine::Check, EMPTY, ""),
-    (Engine::Inventory, EMPTY, ""),
+    (Engine::Inventory, nodes::EMPTY, ""),
     (Engine::Join, EMPTY, LOG),
-    (Engine::Join, LOG, EMPTY),
+    (Engine::Join, LOG, nodes::EMPTY),
     (Engine::Missing, EMPTY, LOG),
     (Engine::MissingBy, LOG, NONE),
     (Engine::Rehearse, "ask 1\nsend 0\n", ""),
@@ -52,7 +53,7 @@ const READ: [(Engine, &str, &str); 10] = [
 
 /// Engines with two inputs, and the text that each writes.
 const WRITTEN: [(Engine, &str, &str, &str); 8] = [
-    (Engine::Show, CHAINS, "", CHAINED),
+    (Engine::Show, nodes::CHAINS, "", CHAINED),
     (
         Engine::Conflicts,
         LOG,
@@ -61,9 +62,9 @@ const WRITTEN: [(Engine, &str, &str, &str); 8] = [
     ),
     (Engine::Check, LOG, "", "ok \"g\" atoms 0 conflicts 0\n"),
     (Engine::Inventory, LOG, "", NONE),
-    (Engine::Join, LOG, "V1", ONE),
-    (Engine::Missing, LOG, LOG, EMPTY),
-    (Engine::MissingBy, LOG, NONE, EMPTY),
+    (Engine::Join, LOG, "V1", nodes::ONE),
+    (Engine::Missing, LOG, EMPTY, nodes::EMPTY),
+    (Engine::MissingBy, nodes::EMPTY, NONE, nodes::EMPTY),
     (
         Engine::Rehearse,
         "",

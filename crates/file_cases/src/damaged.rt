@@ -1,18 +1,19 @@
-//! Damaged files are refused for their first fault.
-use crate::support::{CHAINS, EMPTY, LIMIT, TWO, refusal, written};
+//! Damaged files of format 1 are refused for their first fault.
+use crate::support::{CHAINS, EMPTY, LIMIT, TWO, change, refusal, written};
 use cadf_file::{Cause, FileFault, read_replica};
 use cadf_json::MemorySource;
 use std::alloc::Global;
 use std::test::Fail;
 
 /// Files, and why they are refused.
-const REFUSED: [(&str, FileFault); 30] = [
+const REFUSED: [(&str, FileFault); 31] = [
     ("", FileFault::Truncated),
     ("CADF-REPLICA 3\n", FileFault::Version),
     ("CADF-REPLICA 1\r\n", FileFault::Version),
     ("CADF-REPLICA 1\nL g\n", FileFault::LogLine),
     ("CADF-REPLICA 1\nL \"\"\n", FileFault::LogLine),
     ("CADF-REPLICA 1\n[\"E\",\"e1\",BODY]\n", FileFault::LogLine),
+    ("HEAD[1,0,\"E\"]\n", FileFault::Line(3, Cause::Shape)),
     ("HEAD{\n", FileFault::Line(3, Cause::Json)),
     ("HEAD[\"P\",\"n\",1.5]\n", FileFault::Line(3, Cause::Json)),
     (
@@ -177,12 +178,6 @@ fn fronts(rt: HostRuntime) -> Result<(), Fail> {
         assert!(rt; found == Some(FileFault::Truncated), "{end}");
     }
     Ok(())
-}
-
-fn change(bytes: &mut [u8], place: usize, bit: u8) {
-    if let Some(byte) = bytes.get_mut(place) {
-        *byte ^= bit;
-    }
 }
 
 /// No file with one bit changed is accepted.

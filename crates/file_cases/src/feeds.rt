@@ -1,5 +1,5 @@
 //! Feeds: what is pending, and that a refused one answers its fault again.
-use crate::support::{LIMIT, TWO, written};
+use crate::support::{LIMIT, TWO, TWO_IN_TWO, written};
 use cadf_file::{Cause, FileFault, ReplicaFeed};
 use std::test::Fail;
 
@@ -13,6 +13,30 @@ fn pending(rt: HostRuntime) -> Result<(), Fail> {
         assert!(rt; feed.pending() == pending, "{length}");
     }
     Ok(())
+}
+
+/// The same of a file of format 2.
+#[test]
+fn pending_in_two(rt: HostRuntime) -> Result<(), Fail> {
+    let file = written(rt.alloc(), TWO_IN_TWO)?;
+    for (length, pending) in [(25usize, 4usize), (31, 0), (40, 9), (489, 66), (490, 0)] {
+        let mut feed = ReplicaFeed::new(rt.alloc(), LIMIT);
+        feed.feed(file.as_bytes().get(..length).unwrap_or_default())?;
+        assert!(rt; feed.pending() == pending, "{length}");
+    }
+    Ok(())
+}
+
+/// A feed that is refused for the line before answers so again.
+#[test]
+fn unended_again(rt: HostRuntime) {
+    let fault = Some(FileFault::Line(3, Cause::Unended));
+    let mut feed = ReplicaFeed::new(rt.alloc(), LIMIT);
+    let text = b"CADF-REPLICA 2\nL \"g\"\n[1,0,\"E\"]\n[1,0,\"E\"]\n";
+    assert!(rt; feed.feed(text).err() == fault);
+    assert!(rt; feed.feed(b"x").err() == fault);
+    assert!(rt; feed.pending() == 0);
+    assert!(rt; feed.finish(false).err() == fault);
 }
 
 /// A refused feed answers its fault again.
