@@ -20,9 +20,9 @@ mod logs;
 #[cfg(test)]
 mod missing;
 #[cfg(test)]
-mod refusals;
-#[cfg(test)]
 mod nodes;
+#[cfg(test)]
+mod refusals;
 #[cfg(test)]
 mod refused_nodes;
 #[cfg(test)]

@@ -1,5 +1,5 @@
 //! The steps: each makes its values, and then the one call that is watched.
-use crate::examples::{BOTH, FILE, NORTH};
+use crate::examples::{BOTH, BOTH_NODES, FILE, NODES, NORTH, NORTH_NODES};
 use crate::{feeds, inventories, reads, writes};
 use growths::{Report, again};
 use std::alloc::Global;
@@ -8,13 +8,16 @@ use std::alloc::Global;
 #[derive(Clone, Copy, Debug, Drop, PartialEq, Eq)]
 pub enum Step {
     Feed,
+    FeedNodes,
     FeedConflict,
     /// A byte at each read.
     ReadBytes,
+    ReadNodeBytes,
     /// Seven bytes at each read.
     ReadPieces,
     ReadWhole,
     Write,
+    WriteNodes,
     WriteConflict,
     ReadInventory,
     WriteInventory,
@@ -24,13 +27,16 @@ pub enum Step {
     WriteConflicts,
 }
 
-pub const STEPS: [Step; 13] = [
+pub const STEPS: [Step; 16] = [
     Step::Feed,
+    Step::FeedNodes,
     Step::FeedConflict,
     Step::ReadBytes,
+    Step::ReadNodeBytes,
     Step::ReadPieces,
     Step::ReadWhole,
     Step::Write,
+    Step::WriteNodes,
     Step::WriteConflict,
     Step::ReadInventory,
     Step::WriteInventory,
@@ -45,11 +51,14 @@ impl Step {
     pub fn name(self) -> (&'static str, &'static str) {
         match self {
             Step::Feed => ("feed", "event"),
+            Step::FeedNodes => ("feed", "nodes"),
             Step::FeedConflict => ("feed", "conflict"),
             Step::ReadBytes => ("read", "bytes"),
+            Step::ReadNodeBytes => ("read", "node-bytes"),
             Step::ReadPieces => ("read", "pieces"),
             Step::ReadWhole => ("read", "whole"),
             Step::Write => ("write", "event"),
+            Step::WriteNodes => ("write", "nodes"),
             Step::WriteConflict => ("write", "conflict"),
             Step::ReadInventory => ("read-inventory", "pieces"),
             Step::WriteInventory => ("write-inventory", "event"),
@@ -73,11 +82,14 @@ pub fn run(alloc: Global, step: Step) -> Report {
 fn tried(alloc: Global, step: Step) -> Option<Report> {
     match step {
         Step::Feed => feeds::feed(alloc, FILE),
-        Step::FeedConflict => feeds::feed(alloc, BOTH),
+        Step::FeedNodes => feeds::feed(alloc, NODES),
+        Step::FeedConflict => feeds::feed(alloc, BOTH_NODES),
         Step::ReadBytes => reads::file(alloc, NORTH, 1),
-        Step::ReadPieces => reads::file(alloc, FILE, 7),
+        Step::ReadNodeBytes => reads::file(alloc, NORTH_NODES, 1),
+        Step::ReadPieces => reads::file(alloc, NODES, 7),
         Step::ReadWhole => reads::file(alloc, FILE, 4096),
         Step::Write => writes::file(alloc, FILE),
+        Step::WriteNodes => writes::file(alloc, NODES),
         Step::WriteConflict => writes::file(alloc, BOTH),
         Step::ReadInventory => inventories::read(alloc),
         Step::WriteInventory => inventories::write(alloc),

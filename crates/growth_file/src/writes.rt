@@ -1,5 +1,5 @@
 //! Files and texts that are written.
-use crate::examples::{BOTH, CONFLICTS, FILE, LOG, front, replica, sink};
+use crate::examples::{BOTH, CONFLICTS, FILE, LOG, format_of, front, replica, sink};
 use cadf_file::write_replica;
 use cadf_json::{MemorySink, OutFault};
 use cadf_log::{write_conflicts, write_log};
@@ -10,7 +10,7 @@ use std::alloc::Global;
 pub fn file(alloc: Global, file: &str) -> Option<Report> {
     let replica = replica(alloc, file)?;
     let mut sink = sink(alloc);
-    let is_refused = write_replica(alloc, &replica, &mut sink).is_err();
+    let is_refused = write_replica(alloc, &replica, format_of(file), &mut sink).is_err();
     Some(front(is_refused, &sink, file))
 }
 
