@@ -1,5 +1,5 @@
 -- What stands behind a text in rising lists, and their first texts.
-use Rattle.std.proofs.Common.{◌≡◌, ℕ, suc, zero, Bool, true, false, cond, List, [], ◌∷◌, Option, Some, None, refl, sym, ap, ◌∙◌, subst, length, take, drop, get_or, map, arith, ◌<◌, ◌+◌}
+use Rattle.std.proofs.Common.{◌≡◌, ℕ, suc, zero, true, false, cond, List, [], ◌∷◌, Option, Some, None, refl, sym, ap, ◌∙◌, subst, length, take, drop, get_or, map, ◌<◌, ◌+◌}
 use Rattle.std.specs.Borrow.{Bor}
 use Rattle.std.proofs.lemmas.List.{at_drop_more}
 use mathlib.Core.Bool.{true≢false}
@@ -15,7 +15,7 @@ use Rattle.cadf_join.specs.Prefixes.{texts_at}
 use Rattle.cadf_join.specs.Sets as set
 use Rattle.cadf_join.specs.Sets.{rising-from_list, rising_is_sorted}
 use Rattle.cadf_join.proofs.Risings.{rising-section}
-use Rattle.cadf_paths.specs.Flat.{first_of, is_before, prefix_cmp, strip}
+use Rattle.cadf_paths.specs.Flat.{first_of, is_before, strip}
 use Rattle.cadf_paths.specs.Sections.{behind, sections}
 use Rattle.cadf_paths.proofs.Firsts.{DoesNotFall, find_rising}
 use Rattle.cadf_paths.proofs.Halving.{first_dropped}

@@ -1,12 +1,12 @@
 -- The members of a set that come after one, told from a list of them that does not fall.
-use Rattle.std.proofs.Common.{◌≡◌, ℕ, suc, zero, Bool, true, false, cond, List, [], ◌∷◌, Option, Some, None, refl, sym, ap, ◌∙◌, subst, length, ◌||◌, le-leb, arith, inl, inr}
+use Rattle.std.proofs.Common.{◌≡◌, Bool, true, false, cond, List, [], ◌∷◌, Option, Some, None, refl, sym, ap, ◌∙◌, subst, length, ◌||◌, le-leb, arith, inl, inr}
 use mathlib.Core.Bool.{true≢false}
 use Rattle.std.specs.Prelude.{nat_le, is_some}
 use Rattle.std.specs.Borrow.{Bor}
 use Rattle.std.specs.Option.{option_copied}
 use Rattle.std.specs.declared.cmp.Ordering.{Ordering}
 use Rattle.std.specs.declared.cmp.Ordering.TheVariants.{Less, Equal, Greater}
-use Rattle.std.specs.Ordering.{is_lt, is_eq, eq_by_cmp, ordering_reverse}
+use Rattle.std.specs.Ordering.{is_lt, eq_by_cmp, ordering_reverse}
 use Rattle.std.specs.Cmp.{IsTotalOrder, tied_itself}
 use Rattle.std.specs.List.{AllByRecursion, filter, find, list_any}
 use Rattle.std.specs.List.Sorted.{IsStrictlySortedBy}
@@ -33,7 +33,7 @@ module _ {K : Type 0} {R : K → K → Ordering} (o : IsTotalOrder R) (same : Is
       ∙ sym (contains-from_list o (k ∷ set.rising s) q)))
       ∙ rising-from_list o same (k ∷ set.rising s) (
         listed-AllByRecursion (λ x. R k x ≡ Less) (set.rising s)
-        (λ x m. AllByRecursion-listed (λ y. R k y ≡ Less) ks h x (listed_any o same ks x (sym (contains-from_list o ks x) ∙ listed-rising o same s x m))),
+            (λ x m. AllByRecursion-listed (λ y. R k y ≡ Less) ks h x (listed_any o same ks x (sym (contains-from_list o ks x) ∙ listed-rising o same s x m))),
         rising_is_sorted o same s,
       )
 

@@ -6,6 +6,7 @@ pub mod Halving
 pub mod Merges
 pub mod Narrowed
 pub mod Outcome
+pub mod Placed
 pub mod Ranges
 pub mod Runs
 pub mod Several

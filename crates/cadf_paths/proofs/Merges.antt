@@ -1,5 +1,5 @@
 -- The sets of two rising lists merged, and of the first without the second.
-use Rattle.std.proofs.Common.{◌≡◌, true, List, [], ◌∷◌, ◌++◌, refl, sym, ap, ◌∙◌, subst, inl, inr, ◌⊎◌}
+use Rattle.std.proofs.Common.{◌≡◌, true, List, [], ◌∷◌, ◌++◌, refl, sym, ap, ◌∙◌, subst, inl, inr, ◌⊎◌, ℕ, suc, zero, take, drop}
 use mathlib.Core.Bool.{true≢false}
 use Rattle.std.specs.declared.cmp.Ordering.{Ordering}
 use Rattle.std.specs.declared.cmp.Ordering.TheVariants.{Less, Equal, Greater}
@@ -232,3 +232,30 @@ module _ {K : Type 0} {R : K → K → Ordering} (o : IsTotalOrder R) (same : Is
   pub pushed_rises : (xs : List K) (x : K) → IsStrictlySortedBy R xs → ((y : K) → set.contains (set.from_list {R = R} xs) y ≡ true → R y x ≡ Less)
       → IsStrictlySortedBy R (xs ++ x ∷ [])
   pushed_rises xs x s below = rises_before xs x s (λ y m. below y (has xs y m))
+
+  -- what is below the next of theirs comes first, and then that one or its equal
+  pub merge_skip : (xs : List K) (y : K) (ys : List K) (n : ℕ) → AllByRecursion (λ l. R l y ≡ Less) (take n xs)
+      → sorted_merge R true xs (y ∷ ys) ≡ take n xs ++ sorted_merge R true (drop n xs) (y ∷ ys)
+  merge_skip xs y ys zero h = refl
+  merge_skip [] y ys (suc n) h = refl
+  merge_skip (x ∷ xs) y ys (suc n) h =
+      ap (λ r. match_ordering r (x ∷ sorted_merge R true xs (y ∷ ys)) (x ∷ sorted_merge R true xs ys) (y ∷ merge_step R true x xs (sorted_merge R true xs) ys)) h.0
+      ∙ ap (λ z. x ∷ z) (merge_skip xs y ys n h.1)
+
+  pub merge_new : (xs : List K) (y : K) (ys : List K) → AllByRecursion (λ l. R y l ≡ Less) xs → sorted_merge R true xs (y ∷ ys) ≡ y ∷ sorted_merge R true xs ys
+  merge_new [] y ys h = refl
+  merge_new (x ∷ xs) y ys h =
+      ap (λ r. match_ordering r (x ∷ sorted_merge R true xs (y ∷ ys)) (x ∷ sorted_merge R true xs ys) (y ∷ merge_step R true x xs (sorted_merge R true xs) ys))
+      (o.antisymm x y ∙ ap ordering_reverse h.0)
+
+  pub merge_held : (x y : K) (xs ys : List K) → R x y ≡ Equal → AllByRecursion (λ l. R y l ≡ Less) ys
+      → sorted_merge R true (x ∷ xs) (y ∷ ys) ≡ sorted_merge R true (x ∷ xs) ys
+  merge_held x y xs ys e h =
+      ap (λ r. match_ordering r (x ∷ sorted_merge R true xs (y ∷ ys)) (x ∷ sorted_merge R true xs ys) (y ∷ merge_step R true x xs (sorted_merge R true xs) ys)) e
+      ∙ later ys h
+    where
+      later : (ys : List K) → AllByRecursion (λ l. R y l ≡ Less) ys → x ∷ sorted_merge R true xs ys ≡ sorted_merge R true (x ∷ xs) ys
+      later [] h = ap (λ z. x ∷ z) (alone R xs)
+      later (z ∷ ys) h =
+          sym (ap (λ r. match_ordering r (x ∷ sorted_merge R true xs (z ∷ ys)) (x ∷ sorted_merge R true xs ys) (z ∷ merge_step R true x xs (sorted_merge R true xs) ys))
+          (subst (λ w. R w z ≡ Less) (sym (same x y e)) h.0))

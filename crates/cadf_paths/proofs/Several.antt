@@ -1,5 +1,5 @@
 -- Texts with several texts behind them, counted one by one.
-use Rattle.std.proofs.Common.{◌≡◌, ℕ, suc, Bool, true, false, cond, List, ◌∷◌, refl, ap, ◌∙◌}
+use Rattle.std.proofs.Common.{◌≡◌, suc, Bool, true, false, cond, List, ◌∷◌, ap}
 use Rattle.std.specs.Prelude.{length, nat_le}
 use Rattle.std.specs.List.{filter}
 use Rattle.cadf_join.specs.Contents.{Text, Contents, section}

@@ -51,7 +51,11 @@ pub(crate) fn strip<'l, 'a>(list: &'l [&'a str], prefix: &[&str]) -> Option<&'l 
 }
 
 /// The prefix with the texts behind it.
-pub(crate) fn continued(alloc: Global, prefix: &[String], path: &[&str]) -> Result<Vec<String>, Memory>
+pub(crate) fn continued(
+    alloc: Global,
+    prefix: &[String],
+    path: &[&str],
+) -> Result<Vec<String>, Memory>
     ensures { IfOk result (λ list. chain_texts list.items ≡ chain_texts prefix.now ++ texts_at path.now) }
 {
     let mut list = copied(alloc, prefix)?;

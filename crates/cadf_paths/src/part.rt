@@ -1,9 +1,10 @@
 //! Lists of texts that stand one behind another, each without its first texts.
-ghost use Rattle.std.specs.Prelude.{◌≡◌, ◌≤◌, ◌<◌, [], IfOk, IfSome, None, true, false, length, take, drop, get_or, map, nat_le};
+ghost use Rattle.std.specs.Prelude.{◌≡◌, ◌≤◌, ◌<◌, ℕ, [], IfOk, IfSome, None, true, false, length, take, drop, get_or, map, nat_le};
 ghost use Rattle.std.specs.List.{AllByRecursion, find};
 ghost use Rattle.std.specs.List.Sorted.{IsStrictlySortedBy};
 ghost use Rattle.std.specs.Option.{option_copied, option_map};
 ghost use Rattle.std.specs.Ordering.{eq_by_cmp};
+ghost use Rattle.std.specs.declared.cmp.Ordering.TheVariants.{Less};
 ghost use Rattle.cadf_join.specs.Contents.{is_after, next_after, rests, text_cmp, texts_cmp};
 ghost use Rattle.cadf_join.specs.Longest.{longer_than, longest_of};
 ghost use Rattle.cadf_join.specs.Maps.{firsts, heads};
@@ -68,8 +69,22 @@ impl<'a> Part<'a> {
         ensures below { AllByRecursion (λ l. is_before (map W.bytes prefix.now) passed l ≡ true) (take result self.now) }
         ensures above { AllByRecursion (λ l. is_before (map W.bytes prefix.now) passed l ≡ false) (drop result self.now) }
     {
-        let mut low = 0;
-        let mut high = self.lists.len();
+        self.halved(prefix, passed, 0, self.lists.len())
+    }
+
+    /// That number, where it lies between two others.
+    fn halved<W: Word>(&self, prefix: &[W], passed: bool, low: usize, high: usize) -> usize
+        requires rising { IsStrictlySortedBy texts_cmp self.now }
+        requires order { low ≤ high }
+        requires ends { high ≤ length self.now }
+        requires below { (k : ℕ) → k < low → is_before (map W.bytes prefix.now) passed (get_or self.now k []) ≡ true }
+        requires above { (k : ℕ) → high ≤ k → k < length self.now → is_before (map W.bytes prefix.now) passed (get_or self.now k []) ≡ false }
+        ensures within { result ≤ length self.now }
+        ensures below { AllByRecursion (λ l. is_before (map W.bytes prefix.now) passed l ≡ true) (take result self.now) }
+        ensures above { AllByRecursion (λ l. is_before (map W.bytes prefix.now) passed l ≡ false) (drop result self.now) }
+    {
+        let mut low = low;
+        let mut high = high;
         while low < high {
             let middle = low + (high - low) / 2;
             if self.is_before(middle, prefix, passed) {
@@ -79,6 +94,53 @@ impl<'a> Part<'a> {
             }
         }
         low
+    }
+
+    /// Where the lists begin that are not below this one. Found by steps that double, and then by halving: soon where it is near the front.
+    fn reach<W: Word>(&self, list: &[W]) -> usize
+        requires { IsStrictlySortedBy texts_cmp self.now }
+        ensures within { result ≤ length self.now }
+        ensures below { AllByRecursion (λ l. is_before (map W.bytes list.now) false l ≡ true) (take result self.now) }
+        ensures above { AllByRecursion (λ l. is_before (map W.bytes list.now) false l ≡ false) (drop result self.now) }
+    {
+        let mut low: usize = 0;
+        let mut step: usize = 1;
+        while step <= self.count() - low {
+            let probe = low + (step - 1);
+            if !self.is_before(probe, list, false) {
+                return self.halved(list, false, low, probe);
+            }
+            low = probe + 1;
+            step = step.saturating_mul(2);
+        }
+        self.halved(list, false, low, self.count())
+    }
+
+    /// Where the list is or is to be put, and whether it is there.
+    pub fn seek<W: Word>(&self, list: &[W]) -> (usize, bool)
+        requires { IsStrictlySortedBy texts_cmp self.now }
+        ensures within { result.0 ≤ length self.now }
+        ensures below { AllByRecursion (λ l. texts_cmp l (map W.bytes list.now) ≡ Less) (take result.0 self.now) }
+        ensures held { result.1 ≡ true → (result.0 < length self.now) × (eq_by_cmp texts_cmp (get_or self.now result.0 []) (map W.bytes list.now) ≡ true) }
+        ensures above { result.1 ≡ false → AllByRecursion (λ l. texts_cmp (map W.bytes list.now) l ≡ Less) (drop result.0 self.now) }
+    {
+        let at = self.reach(list);
+        if at < self.count() {
+            return (at, self.is_at(at, list));
+        }
+        (at, false)
+    }
+
+    /// Whether the list of that number is this one.
+    fn is_at<W: Word>(&self, number: usize, list: &[W]) -> bool
+        requires { number < length self.now }
+        ensures { result ≡ eq_by_cmp texts_cmp (get_or self.now number []) (map W.bytes list.now) }
+    {
+        match self.texts.list_cmp(self.lists[number], self.depth, list) {
+            Ordering::Less => false,
+            Ordering::Equal => true,
+            Ordering::Greater => false,
+        }
     }
 
     /// Whether the list of that number is below those that begin with the prefix, or one of them where they are passed.

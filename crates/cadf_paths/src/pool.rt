@@ -119,14 +119,14 @@ impl Pool {
         )
     }
 
-    /// The order of the run's list and another.
-    pub fn list_cmp<W: Word>(&self, run: Span, list: &[W]) -> Ordering
+    /// The order of the run's list, without its first so many texts, and another.
+    pub fn list_cmp<W: Word>(&self, run: Span, depth: usize, list: &[W]) -> Ordering
         requires { IsRun self.now run }
-        ensures { result ≡ texts_cmp (run_of self.now run) (map W.bytes list.now) }
+        ensures { result ≡ texts_cmp (rest_of self.now depth run) (map W.bytes list.now) }
     {
         list_cmp(
             self.block.as_str(),
-            spans_of(self.spans.as_slice(), run),
+            spans_behind(self.spans.as_slice(), run, depth),
             list,
         )
     }
@@ -308,4 +308,20 @@ fn run_cmp(block: &str, spans: &[Span], other: &str, its: &[Span]) -> Ordering
             },
         },
     }
+}
+
+/// Appends the texts of a list.
+pub(crate) fn stored(texts: &mut Pool, near: usize, path: &[&str]) -> Result<Span, Memory>
+    ensures kept { take (length texts.old) texts.new ≡ texts.old }
+    ensures run { IfOk result (λ r. IsRun texts.new r) }
+    ensures texts { IfOk result (λ r. run_of texts.new r ≡ texts_at path.now) }
+{
+    let start = narrow(texts.len())?;
+    let len = narrow(path.len())?;
+    let mut near = near;
+    for text in path {
+        texts.push(*text, near)?;
+        near = near.wrapping_add(1);
+    }
+    Ok(Span { start, len })
 }

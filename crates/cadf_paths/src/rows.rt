@@ -11,11 +11,13 @@ ghost use Rattle.cadf_join.specs.Contents.{is_after, texts_cmp};
 ghost use Rattle.cadf_join.specs.Prefixes.{chain_texts, texts_at};
 ghost use Rattle.cadf_paths.specs.Flat.{IsRun, run_of, Moves, ahead, ends_below, is_before};
 ghost use Rattle.cadf_join.specs.Sets as set;
+ghost use Rattle.cadf_paths.specs.Merge.{sorted_merge};
 ghost use Rattle.cadf_paths.specs.Sections.{behind};
 
 use crate::Memory;
 use crate::part::Part;
-use crate::pool::{Pool, Span, narrow};
+use crate::place::joined_into;
+use crate::pool::{Pool, Span, stored};
 use crate::sort::sorted;
 use crate::word::Word;
 use std::alloc::Global;
@@ -94,7 +96,7 @@ impl Rows {
         requires { number < length self.now }
         ensures { result ≡ is_lt (texts_cmp (get_or self.now number []) (texts_at list.now)) }
     {
-        match self.texts.list_cmp(self.lists[number], list) {
+        match self.texts.list_cmp(self.lists[number], 0, list) {
             Ordering::Less => true,
             Ordering::Equal => false,
             Ordering::Greater => false,
@@ -110,6 +112,18 @@ impl Rows {
             self.push(cursor.path())?;
             more = cursor.next()?;
         }
+        Ok(())
+    }
+
+    /// Puts the lists of the other among these, each once. No text of these is copied. After a refused growth the lists are as before.
+    pub fn join(&mut self, other: &Rows) -> Result<(), Memory>
+        requires ours { IsStrictlySortedBy texts_cmp self.old }
+        requires theirs { IsStrictlySortedBy texts_cmp other.now }
+        ensures ok { OnOk result (self.new ≡ sorted_merge texts_cmp true self.old other.now) }
+        ensures err { OnErr result (self.new ≡ self.old) }
+    {
+        let lists = joined_into(self.alloc, &mut self.texts, self.lists.as_slice(), other)?;
+        self.lists = lists;
         Ok(())
     }
 
@@ -191,7 +205,7 @@ impl Rows {
         requires { number < length self.now }
         ensures { result ≡ eq_by_cmp texts_cmp (get_or self.now number []) (map W.bytes list.now) }
     {
-        match self.texts.list_cmp(self.lists[number], list) {
+        match self.texts.list_cmp(self.lists[number], 0, list) {
             Ordering::Less => false,
             Ordering::Equal => true,
             Ordering::Greater => false,
@@ -297,22 +311,6 @@ fn first_near(lists: &[Span]) -> usize {
         [] => 0,
         [.., last] => last.start as usize,
     }
-}
-
-/// Appends the texts of a list.
-fn stored(texts: &mut Pool, near: usize, path: &[&str]) -> Result<Span, Memory>
-    ensures kept { take (length texts.old) texts.new ≡ texts.old }
-    ensures run { IfOk result (λ r. IsRun texts.new r) }
-    ensures texts { IfOk result (λ r. run_of texts.new r ≡ texts_at path.now) }
-{
-    let start = narrow(texts.len())?;
-    let len = narrow(path.len())?;
-    let mut near = near;
-    for text in path {
-        texts.push(*text, near)?;
-        near = near.wrapping_add(1);
-    }
-    Ok(Span { start, len })
 }
 
 /// A place among the lists.

@@ -1,5 +1,5 @@
 //! Lists as they are written in the examples: a stroke stands between the texts of a list, a blank between lists, and a line is the empty list.
-use cadf_paths::{Join, Memory, Paths};
+use cadf_paths::{Gathered, Join, Memory, Paths};
 use std::alloc::Global;
 
 /// The list that is written so.
@@ -48,4 +48,13 @@ pub fn lists_in(alloc: Global, paths: &Paths) -> Result<Vec<Vec<String>>, Memory
     let mut lists = Vec::new(alloc);
     paths.append_lists(&[], &mut lists)?;
     Ok(lists)
+}
+
+/// The set of the lists that are written so, in any order.
+pub fn gathered(alloc: Global, written: &'static str) -> Result<Paths, Memory> {
+    let mut gathered = Gathered::new(alloc);
+    for list in lists(alloc, written)? {
+        gathered.push(list.as_slice())?;
+    }
+    gathered.into_paths()
 }

@@ -1,8 +1,6 @@
-use Rattle.std.proofs.Common.{◌≡◌, ap, sym, subst, ◌∙◌, arith, length, drop, map}
+use Rattle.std.proofs.Common.{ap, sym, subst, ◌∙◌, arith, length}
 use Rattle.std.proofs.lemmas.List.{length-drop}
 use Rattle.std.specs.List.{AllByRecursion}
-use Rattle.std.specs.List.Sorted.{IsStrictlySortedBy}
-use Rattle.cadf_join.specs.Contents.{texts_cmp}
 use Rattle.cadf_paths.specs.Flat.{IsRun, run_of}
 use Rattle.cadf_paths.proofs.Narrowed.{all_of_last}
 use Rattle.cadf_paths.proofs.Sorts.{first_rises, one_rises}

@@ -1,7 +1,6 @@
-use Rattle.std.proofs.Common.{◌≡◌, ap, sym, ◌∙◌, Some, None}
+use Rattle.std.proofs.Common.{ap, sym, ◌∙◌}
 use Rattle.std.specs.Prelude.{is_some}
 use Rattle.std.specs.Option.{option_copied}
-use Rattle.cadf_join.specs.Contents.{Texts, next_after, texts_cmp}
 use Rattle.cadf_join.specs.laws.Contents.{text_total, text_same}
 use Rattle.cadf_join.specs.Maps.{heads}
 use Rattle.cadf_join.specs.Sets as set

@@ -1,6 +1,6 @@
-use Rattle.std.proofs.Common.{◌≡◌, ◌++◌, ◌∷◌, [], ap, sym, ◌∙◌, arith, append_assoc, length, map, string_bytes, Some}
+use Rattle.std.proofs.Common.{◌++◌, ◌∷◌, [], ap, sym, ◌∙◌, arith, append_assoc, length, map, string_bytes, Some}
 use Rattle.std.proofs.lemmas.List.{append-nil}
-use Rattle.std.specs.List.{filter, find}
+use Rattle.std.specs.List.{filter}
 use Rattle.std.specs.Option.{option_copied}
 use Rattle.cadf_join.specs.Contents.{is_after, text_cmp}
 use Rattle.cadf_join.specs.laws.Contents.{text_total, text_same}

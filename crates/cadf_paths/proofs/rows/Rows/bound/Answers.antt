@@ -1,4 +1,4 @@
-use Rattle.std.proofs.Common.{◌≡◌, true, false, subst, take, drop, map, ap, ◌∙◌, sym}
+use Rattle.std.proofs.Common.{◌≡◌, true, false, subst, take, drop, map}
 use Rattle.std.specs.List.{AllByRecursion}
 use Rattle.cadf_paths.specs.Flat.{is_before}
 use Rattle.cadf_paths.proofs.rows.Rows.bound.Goals as goal

@@ -1,8 +1,6 @@
-use Rattle.std.proofs.Common.{ap, sym, subst, ◌∙◌, arith}
+use Rattle.std.proofs.Common.{sym, subst, ◌∙◌, arith}
 use Rattle.std.specs.List.Sorted.{IsStrictlySortedBy}
 use Rattle.cadf_join.specs.Contents.{texts_cmp}
-use Rattle.cadf_join.specs.Prefixes.{texts_at}
-use Rattle.cadf_paths.specs.Sections.{behind}
 use Rattle.cadf_paths.proofs.Behind.{rests_rise, behind_first}
 use Rattle.cadf_paths.proofs.rows.Rows.part.Goals as goal
 

@@ -1,6 +1,6 @@
 use Rattle.std.proofs.Common.{◌≡◌, ◌≤◌, ◌<◌, ◌-◌, ℕ, true, false, [], length, get_or, map}
 use Rattle.cadf_paths.specs.Flat.{is_before}
-use Rattle.cadf_paths.proofs.part.Part.bound.Given as goal
+use Rattle.cadf_paths.proofs.part.Part.halved.Given as goal
 
 abbrev pub invariant-loop-low : goal.invariant-loop-low
 invariant-loop-low g l = record {

@@ -1,7 +1,7 @@
 use Rattle.std.proofs.Common.{◌≡◌, true, false, arith, sym, ◌∙◌, map}
 use Rattle.cadf_paths.specs.Flat.{is_before}
 use Rattle.cadf_paths.proofs.Halving.{all_before, none_before, all_taken, all_dropped}
-use Rattle.cadf_paths.proofs.part.Part.bound.Goals as goal
+use Rattle.cadf_paths.proofs.part.Part.halved.Goals as goal
 
 pub loop-low-preserved-then-is_before : goal.loop-low-preserved-then-is_before
 loop-low-preserved-then-is_before g c =
@@ -11,7 +11,7 @@ loop-low-preserved-then-is_before g c =
     record {
       within = omega (arith, w, e, t);
       ends = e;
-      below = all_before c.args.self.now c.requires (map g.W.Word.bytes c.args.prefix.now) c.args.passed _ (omega (arith, w, e, t))
+      below = all_before c.args.self.now c.requires.rising (map g.W.Word.bytes c.args.prefix.now) c.args.passed _ (omega (arith, w, e, t))
           (sym c.is_before.ensures ∙ c.if-is_before.true);
       above = c.loop-low.invariant.above;
     }
@@ -25,7 +25,7 @@ loop-low-preserved g c =
       within = omega (arith, w, e, t);
       ends = omega (arith, w, e, t);
       below = c.loop-low.invariant.below;
-      above = none_before c.args.self.now c.requires (map g.W.Word.bytes c.args.prefix.now) c.args.passed _ (omega (arith, w, e, t))
+      above = none_before c.args.self.now c.requires.rising (map g.W.Word.bytes c.args.prefix.now) c.args.passed _ (omega (arith, w, e, t))
           (sym c.is_before.ensures ∙ c.if-is_before.false);
     }
 

@@ -1,6 +1,6 @@
 use Rattle.std.proofs.Common.{◌≡◌, ◌++◌, length, take, drop}
 use Rattle.cadf_join.specs.Prefixes.{texts_at}
-use Rattle.cadf_paths.proofs.rows.stored.Given as goal
+use Rattle.cadf_paths.proofs.pool.stored.Given as goal
 
 abbrev pub invariant-loop-text : goal.invariant-loop-text
 invariant-loop-text l = record {
