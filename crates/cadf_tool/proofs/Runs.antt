@@ -1,8 +1,8 @@
 -- The parts of a run, put together.
-use Rattle.std.proofs.Common.{◌≡◌, Result, Ok, Err}
+use Rattle.std.proofs.Common.{◌≡◌, Result, Ok, Err, inr}
 use Rattle.cadf_tool.specs.declared.fault.ToolFault.{ToolFault}
 use Rattle.cadf_tool.specs.Faults.{Stage, Reading, Working, Writing, Starving, stage_of}
-use Rattle.cadf_tool.specs.Run.{Turn, Reader, Sources, two, IsReadAs, IsReadWithin, IsFirstFault, IsUnread, IsDue, IsWorkFault, IsWorked}
+use Rattle.cadf_tool.specs.Run.{Turn, Reader, Sources, numbered, two, IsReadAs, IsReadWithin, IsFirstFault, IsUnread, IsDue, IsWorkFault, IsWorked}
 
 module _ {A M : Type 0} (sources : Sources A) (work : A → Result M ToolFault) where
   not_read_at : (fault : ToolFault) (s : Stage) → IsFirstFault sources Ok fault s → IsFirstFault sources work fault s
@@ -42,3 +42,18 @@ module _ {T U M : Type 0} (reader : Reader T) (t : Turn) (other : Reader U) (u :
       → IsWorked (work (value, value')) due → IsDue (two reader t other u) work due
   both_worked value value' due read read' within' w =
       worked (two reader t other u) work (value, value') due (within, within') (read, read') (read.1, read'.1) w
+
+  second_not_read_at : (value : T) (fault : ToolFault) (s : Stage) → IsReadAs reader t value
+      → IsFirstFault (numbered 2 other u) Ok fault s → IsFirstFault (two reader t other u) work fault s
+  second_not_read_at value fault (Reading n f) read (is, (number, refuses)) = (is, inr (number, (value, read), refuses))
+  second_not_read_at value fault Working read (a, are, e) = absurd (never a e)
+    where
+      never : (a : U) → ◌≡◌ {A = Result U ToolFault} (Ok a) (Err fault) → ⊥
+      never a e = cc
+  second_not_read_at value fault Writing read h = h
+  second_not_read_at value fault Starving read h = (read.1, h)
+
+  -- the first was read, and the second was not
+  pub second_not_read : (value : T) (fault : ToolFault) → IsReadAs reader t value → IsReadWithin other.limit u
+      → IsUnread (numbered 2 other u) fault → IsDue (two reader t other u) work (Err fault)
+  second_not_read value fault read within' h = record { is = second_not_read_at value fault (stage_of fault) read h; bounded = (within, within') }
