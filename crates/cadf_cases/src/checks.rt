@@ -1,5 +1,6 @@
 //! Inputs, and the line that `check` writes of each.
 use crate::files::{CHAINS, CONFLICT, EMPTY, NORTH_AND_SOUTH, written};
+use crate::nodes;
 use cadf_json::{FailingWrite, MemorySink, MemorySource};
 use cadf_tool::run_check;
 use std::alloc::Global;
@@ -31,6 +32,8 @@ fn lines(rt: HostRuntime) -> Result<(), Fail> {
     for (input, line) in [
         (EMPTY, "ok \"g\" atoms 0 conflicts 0\n"),
         (CHAINS, "ok \"g\" atoms 3 conflicts 0\n"),
+        (nodes::EMPTY, "ok \"g\" atoms 0 conflicts 0\n"),
+        (nodes::CHAINS, "ok \"g\" atoms 3 conflicts 0\n"),
         (CONFLICT, "ok \"g\" atoms 4 conflicts 1\n"),
         (NORTH_AND_SOUTH, "ok \"g\" atoms 3 conflicts 1\n"),
         (

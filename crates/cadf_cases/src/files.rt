@@ -1,4 +1,4 @@
-//! Replica files, with their parts abbreviated.
+//! Replica files of format 1, with their parts abbreviated.
 use crate::support::spelled;
 use std::alloc::Global;
 use std::test::Fail;

@@ -1,5 +1,6 @@
 //! Inventories of inputs, and what an input has beyond one.
 use crate::files::{CHAINS, CONFLICT, EMPTY, ONE, written};
+use crate::nodes;
 use cadf_json::{FailingWrite, MemorySink, MemorySource};
 use cadf_tool::{ToolFault, run_inventory, run_missing_by, status};
 use std::alloc::Global;
@@ -7,7 +8,7 @@ use std::process::Abort;
 use std::test::Fail;
 
 /// Of nothing.
-const NONE: &str = r#"CADF-INVENTORY 1
+pub const NONE: &str = r#"CADF-INVENTORY 1
 L "g"
 Z ea29fcbebaa391558260d1200bd708d2cb8644ff710f6f8d74e1b43ae99b1d72
 "#;
@@ -59,23 +60,6 @@ e3c7c4b821fba7aefa60dc6e052a2a547b9a1778e825109f2261cd3246cb12f8
 Z a0d840510afa68d4901dcc79955b406cd0bbbabbca0e68ea2c42aa56127c81af
 "#;
 
-/// The failed body of the event with two and its chain, and the other body without its chain.
-const BARE: &str = r#"CADF-REPLICA 1
-L "g"
-["E","e1",QFAIL]
-["E","e1",QFAIL,"C",QTWO]
-["E","e1",QBODY]
-Z 253bff4a5048efaf8ed87749e59d8e6ba749243d2d754fe057f88bcdd51e2b56
-"#;
-
-/// The failed body and its chain.
-const FAILED: &str = r#"CADF-REPLICA 1
-L "g"
-["E","e1",QFAIL]
-["E","e1",QFAIL,"C",QTWO]
-Z 0cb60cb7c3a264356dd08e8fab99681c7308427d927de44f1992183a2e5e26d3
-"#;
-
 /// What `inventory` answers, and what it wrote, where reads and writes move so many bytes.
 fn noted(alloc: Global, input: &[u8], piece: usize) -> (Result<(), ToolFault>, MemorySink) {
     let piece = piece.max(1);
@@ -120,6 +104,8 @@ fn inventories(rt: HostRuntime) -> Result<(), Fail> {
     for (input, wanted, size) in [
         (EMPTY, NONE, 90usize),
         (ONE, ONE_NOTED, 155),
+        (nodes::EMPTY, NONE, 90),
+        (nodes::ONE, ONE_NOTED, 155),
         (r#"{"id":"g","events":[V1]}"#, ONE_NOTED, 155),
     ] {
         assert!(rt; wanted.len() == size, "{wanted}");
@@ -150,13 +136,14 @@ fn check_missing_by(
 #[test]
 fn parts(rt: HostRuntime) -> Result<(), Fail> {
     for (from, inventory, file) in [
-        (CHAINS, ONE_NOTED, CHAINS),
-        (ONE, ONE_NOTED, EMPTY),
-        (ONE, NONE, ONE),
-        (EMPTY, ONE_NOTED, EMPTY),
-        (CONFLICT, BOTH_NOTED, FAILED),
-        (CONFLICT, CHAIN_NOTED, BARE),
-        (CONFLICT, ONE_NOTED, CONFLICT),
+        (CHAINS, ONE_NOTED, nodes::CHAINS),
+        (nodes::ONE, ONE_NOTED, nodes::EMPTY),
+        (ONE, NONE, nodes::ONE),
+        (EMPTY, ONE_NOTED, nodes::EMPTY),
+        (CONFLICT, BOTH_NOTED, nodes::FAILED),
+        (nodes::CONFLICT, BOTH_NOTED, nodes::FAILED),
+        (CONFLICT, CHAIN_NOTED, nodes::BARE),
+        (nodes::CONFLICT, ONE_NOTED, nodes::CONFLICT),
     ] {
         for piece in [1usize, 7, 4096] {
             check_missing_by(&rt, rt.alloc(), (from, inventory), file, piece)?;
@@ -192,6 +179,7 @@ fn refused(rt: HostRuntime) -> Result<(), Fail> {
         (ONE, SHORT, "input 2: line 3: shape"),
         (ONE, TWICE, "input 2: line 4: order"),
         (ONE, EMPTY, "input 2: version"),
+        (ONE, nodes::EMPTY, "input 2: version"),
         (ONE, r#"{"id":"g","events":[V1]}"#, "input 2: truncated"),
         (ONE, "", "input 2: truncated"),
         (NONE, ONE_NOTED, "input 1: version"),
@@ -208,7 +196,7 @@ fn refused(rt: HostRuntime) -> Result<(), Fail> {
 #[test]
 fn failed_reads(rt: HostRuntime) -> Result<(), Fail> {
     let alloc = rt.alloc();
-    let file = written(alloc, ONE)?;
+    let file = written(alloc, nodes::ONE)?;
     let reads = BOTH_NOTED.len().div_ceil(97) as u64;
     for failing in 1..=reads {
         let mut from = MemorySource::new(file.as_bytes(), 97, 0);

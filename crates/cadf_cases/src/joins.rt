@@ -1,5 +1,6 @@
 //! Inputs, and the replica file of their join.
 use crate::files::{CHAINS, CONFLICT, EMPTY, NORTH_AND_SOUTH, ONE, written};
+use crate::nodes;
 use cadf_event::Name;
 use cadf_json::{FailingWrite, MemorySink, MemorySource};
 use cadf_tool::{ToolFault, run_join, status};
@@ -12,32 +13,50 @@ const JOINS: [(&str, &str, &str); 4] = [
     (
         r#"{"id":"g","events":[{"action":"read","eventTime":"2024-03-01T12:00:00+0000","eventType":"activity","id":"e1",REST}]}"#,
         r#"{"id":"g","events":[{"action":"read","eventTime":"2024-03-01T12:00:00.000+00:00","eventType":"activity","id":"e1",REST}]}"#,
-        ONE,
+        nodes::ONE,
     ),
     (
         r#"{"id":"g","events":[{HEAD,REST,"reporterchain":[S1]}]}"#,
         r#"{"id":"g","events":[{HEAD,REST,"reporterchain":[S1,S2]}]}"#,
-        CHAINS,
+        nodes::CHAINS,
     ),
     (
         r#"{"id":"g","events":[{HEAD,REST,"reporterchain":[S1]}]}"#,
         r#"{"id":"g","events":[{HEAD,PARTIES,"outcome":"failure","targetId":"t1","typeURI":"EVT","reporterchain":[S2]}]}"#,
-        CONFLICT,
+        nodes::CONFLICT,
     ),
     (
         r#"{"events":[],"id":"g","name":"north","resources":[{"typeURI":"storage","id":"r1"}],"typeURI":7}"#,
         r#"{"events":[],"id":"g","name":"south"}"#,
-        NORTH_AND_SOUTH,
+        nodes::NORTH_AND_SOUTH,
     ),
 ];
 
 /// Files and events by themselves, and the file of their join in either order.
-const FILES: [(&str, &str, &str); 5] = [
-    (CHAINS, CHAINS, CHAINS),
-    (CHAINS, EMPTY, CHAINS),
-    ("V1", EMPTY, ONE),
-    ("V1", r#"{"id":"g","events":[]}"#, ONE),
-    (r#"{"id":"g","events":[]}"#, EMPTY, EMPTY),
+const FILES: [(&str, &str, &str); 11] = [
+    (CHAINS, CHAINS, nodes::CHAINS),
+    (CHAINS, nodes::CHAINS, nodes::CHAINS),
+    (nodes::CHAINS, nodes::CHAINS, nodes::CHAINS),
+    (nodes::CHAINS, EMPTY, nodes::CHAINS),
+    (nodes::CONFLICT, CONFLICT, nodes::CONFLICT),
+    (
+        NORTH_AND_SOUTH,
+        nodes::NORTH_AND_SOUTH,
+        nodes::NORTH_AND_SOUTH,
+    ),
+    (ONE, nodes::ONE, nodes::ONE),
+    ("V1", nodes::EMPTY, nodes::ONE),
+    ("V1", r#"{"id":"g","events":[]}"#, nodes::ONE),
+    (r#"{"id":"g","events":[]}"#, EMPTY, nodes::EMPTY),
+    (nodes::EMPTY, EMPTY, nodes::EMPTY),
+];
+
+/// Files, and how many bytes each has.
+const SIZES: [(&str, usize); 4] = [
+    (CHAINS, 807),
+    (nodes::CHAINS, 409),
+    (nodes::ONE, 294),
+    (nodes::EMPTY, 88),
 ];
 
 /// What `join` answers, and what it wrote, where reads and writes move so many bytes.
@@ -84,6 +103,15 @@ fn documents(rt: HostRuntime) -> Result<(), Fail> {
         for piece in [1usize, 7, 4096] {
             check_join(&rt, rt.alloc(), (first, second), file, piece)?;
         }
+    }
+    Ok(())
+}
+
+#[test]
+fn sizes(rt: HostRuntime) -> Result<(), Fail> {
+    for (file, size) in SIZES {
+        let found = written(rt.alloc(), file)?.len();
+        assert!(rt; found == size, "{found} for {size}");
     }
     Ok(())
 }
@@ -160,9 +188,9 @@ fn check_given(
 #[test]
 fn of_the_given_log(rt: HostRuntime) -> Result<(), Fail> {
     let alloc = rt.alloc();
-    check_given(&rt, alloc, ("V1", "V1"), ONE)?;
-    check_given(&rt, alloc, ("V1", CHAINS), CHAINS)?;
-    check_given(&rt, alloc, (CHAINS, "V1"), CHAINS)?;
+    check_given(&rt, alloc, ("V1", "V1"), nodes::ONE)?;
+    check_given(&rt, alloc, ("V1", CHAINS), nodes::CHAINS)?;
+    check_given(&rt, alloc, (nodes::CHAINS, "V1"), nodes::CHAINS)?;
     let other = Name::read(alloc, "h")?;
     check_refused(&rt, alloc, Some(other), (EMPTY, "V1"), "input 1: other log")
 }
@@ -171,7 +199,7 @@ fn of_the_given_log(rt: HostRuntime) -> Result<(), Fail> {
 #[test]
 fn a_failed_read(rt: HostRuntime) -> Result<(), Fail> {
     let alloc = rt.alloc();
-    let first = written(alloc, ONE)?;
+    let first = written(alloc, nodes::ONE)?;
     let mut sources = [
         MemorySource::new(first.as_bytes(), 7, 0),
         MemorySource::new(first.as_bytes(), 7, 3),

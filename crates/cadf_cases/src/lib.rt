@@ -20,7 +20,11 @@ mod logs;
 #[cfg(test)]
 mod missing;
 #[cfg(test)]
+mod nodes;
+#[cfg(test)]
 mod refusals;
+#[cfg(test)]
+mod refused_nodes;
 #[cfg(test)]
 mod rehearsals;
 #[cfg(test)]

@@ -1,5 +1,6 @@
 //! Two inputs, and the file of what the second lacks of the first.
 use crate::files::{CONFLICT, EMPTY, ONE, written};
+use crate::nodes;
 use cadf_json::{FailingWrite, MemorySink, MemorySource};
 use cadf_tool::{ToolFault, run_missing, status};
 use std::alloc::Global;
@@ -22,21 +23,6 @@ L "g"
 Z 9fbc75799a8150729b90de3d1a362ae769c16fd71c976f5dac5047a201b7fdfb
 "#;
 
-/// The second of them.
-const SECOND: &str = r#"CADF-REPLICA 1
-L "g"
-["E","e2",QBODY]
-Z c1be50ca4e0bc752b9d9c1538dcc02cda3c17f7993afa9b0d5525202abcc83e9
-"#;
-
-/// The second body of the event with two, and its chain.
-const FAILED: &str = r#"CADF-REPLICA 1
-L "g"
-["E","e1",QFAIL]
-["E","e1",QFAIL,"C",QTWO]
-Z 0cb60cb7c3a264356dd08e8fab99681c7308427d927de44f1992183a2e5e26d3
-"#;
-
 /// The first body and its chain.
 const DONE: &str = r#"CADF-REPLICA 1
 L "g"
@@ -54,27 +40,22 @@ L "g"
 Z e4ea0dcaaa96c8d1f1d17763395bebdb9d18800e968baa03b48f7d268708da23
 "#;
 
-/// The first body with its chain, and another event.
-const DONE_AND_SECOND: &str = r#"CADF-REPLICA 1
-L "g"
-["E","e1",QBODY]
-["E","e1",QBODY,"C",QONE]
-["E","e2",QBODY]
-Z 24c648242b6186746efefa2e2d855846041e1b1f16d32632b90b745a3618fc9f
-"#;
-
 /// Two inputs, and what the second lacks of the first.
-const MISSING: [(&str, &str, &str); 10] = [
-    (TAGGED, ONE, TAGGED),
-    (TWO, ONE, SECOND),
-    (TWO, TWO, EMPTY),
-    (EMPTY, TWO, EMPTY),
-    (EMPTY, r#"{"id":"g","events":[V1]}"#, EMPTY),
-    (CONFLICT, ONE, CONFLICT),
-    (CONFLICT, DONE, FAILED),
-    (CONFLICT, BARE, FAILED),
-    (CONFLICT, DONE_AND_SECOND, FAILED),
-    (r#"{"id":"g","events":[V2,V1]}"#, EMPTY, TWO),
+const MISSING: [(&str, &str, &str); 14] = [
+    (TAGGED, ONE, nodes::TAGGED),
+    (nodes::TAGGED, nodes::ONE, nodes::TAGGED),
+    (TWO, ONE, nodes::SECOND),
+    (TWO, nodes::ONE, nodes::SECOND),
+    (nodes::TWO, ONE, nodes::SECOND),
+    (TWO, nodes::TWO, nodes::EMPTY),
+    (EMPTY, TWO, nodes::EMPTY),
+    (nodes::EMPTY, r#"{"id":"g","events":[V1]}"#, nodes::EMPTY),
+    (CONFLICT, ONE, nodes::CONFLICT),
+    (CONFLICT, nodes::DONE, nodes::FAILED),
+    (CONFLICT, DONE, nodes::FAILED),
+    (nodes::CONFLICT, BARE, nodes::FAILED),
+    (CONFLICT, nodes::DONE_AND_SECOND, nodes::FAILED),
+    (r#"{"id":"g","events":[V2,V1]}"#, EMPTY, nodes::TWO),
 ];
 
 /// What `missing` answers, and what it wrote, where reads and writes move so many bytes.
@@ -155,7 +136,7 @@ fn refused(rt: HostRuntime) -> Result<(), Fail> {
 #[test]
 fn failed_reads(rt: HostRuntime) -> Result<(), Fail> {
     let alloc = rt.alloc();
-    let file = written(alloc, TWO)?;
+    let file = written(alloc, nodes::TWO)?;
     let reads = file.len().div_ceil(97) as u64;
     for failing in 1..=reads {
         let mut from = MemorySource::new(file.as_bytes(), 97, 0);
@@ -172,8 +153,8 @@ fn failed_reads(rt: HostRuntime) -> Result<(), Fail> {
 fn failed_writes(rt: HostRuntime) -> Result<(), Fail> {
     let alloc = rt.alloc();
     let from = written(alloc, TWO)?;
-    let to = written(alloc, ONE)?;
-    let wanted = written(alloc, SECOND)?;
+    let to = written(alloc, nodes::ONE)?;
+    let wanted = written(alloc, nodes::SECOND)?;
     for failing in 1..=3u64 {
         let mut from = MemorySource::new(from.as_bytes(), 4096, 0);
         let mut to = MemorySource::new(to.as_bytes(), 4096, 0);

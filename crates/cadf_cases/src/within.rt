@@ -1,5 +1,6 @@
 //! Inputs within a limit that is given.
 use crate::files::{EMPTY, written};
+use crate::nodes;
 use cadf_json::MemorySource;
 use cadf_tool::{LoadFault, load_within};
 use std::alloc::Global;
@@ -50,6 +51,8 @@ fn limits(rt: HostRuntime) -> Result<(), Fail> {
         (log, u64::MAX, ""),
         (EMPTY, 88, ""),
         (EMPTY, 87, "too large"),
+        (nodes::EMPTY, 88, ""),
+        (nodes::EMPTY, 87, "too large"),
         ("CADF", 1000, "not JSON"),
         ("CADF-", 1000, "truncated"),
         ("CADF-", 5, "truncated"),

@@ -1,18 +1,19 @@
-//! Damaged files are refused for their first fault.
-use crate::support::{CHAINS, EMPTY, LIMIT, TWO, refusal, written};
+//! Damaged files of format 1 are refused for their first fault.
+use crate::support::{CHAINS, EMPTY, LIMIT, TWO, change, refusal, written};
 use cadf_file::{Cause, FileFault, read_replica};
 use cadf_json::MemorySource;
 use std::alloc::Global;
 use std::test::Fail;
 
 /// Files, and why they are refused.
-const REFUSED: [(&str, FileFault); 30] = [
+const REFUSED: [(&str, FileFault); 31] = [
     ("", FileFault::Truncated),
     ("CADF-REPLICA 3\n", FileFault::Version),
     ("CADF-REPLICA 1\r\n", FileFault::Version),
     ("CADF-REPLICA 1\nL g\n", FileFault::LogLine),
     ("CADF-REPLICA 1\nL \"\"\n", FileFault::LogLine),
     ("CADF-REPLICA 1\n[\"E\",\"e1\",BODY]\n", FileFault::LogLine),
+    ("HEAD[1,0,\"E\"]\n", FileFault::Line(3, Cause::Shape)),
     ("HEAD{\n", FileFault::Line(3, Cause::Json)),
     ("HEAD[\"P\",\"n\",1.5]\n", FileFault::Line(3, Cause::Json)),
     (
@@ -179,12 +180,6 @@ fn fronts(rt: HostRuntime) -> Result<(), Fail> {
     Ok(())
 }
 
-fn change(bytes: &mut [u8], place: usize, bit: u8) {
-    if let Some(byte) = bytes.get_mut(place) {
-        *byte ^= bit;
-    }
-}
-
 /// No file with one bit changed is accepted.
 #[test]
 fn changed_bits(rt: HostRuntime) -> Result<(), Fail> {
@@ -210,6 +205,24 @@ fn failed_reads(rt: HostRuntime) -> Result<(), Fail> {
         let mut source = MemorySource::new(file.as_bytes(), 1, failing);
         let found = read_replica(rt.alloc(), &mut source, LIMIT).err();
         assert!(rt; found == Some(FileFault::ReadFault), "{failing}");
+    }
+    Ok(())
+}
+
+/// A line that is the one before it again is refused once it is whole, a byte at a time; before that a failed read is.
+#[test]
+fn failed_reads_before_a_fault(rt: HostRuntime) -> Result<(), Fail> {
+    let text = "HEAD[\"E\",\"e1\",BODY]\n[\"E\",\"e1\",BODY]\nZ\n";
+    let file = written(rt.alloc(), text)?;
+    for failing in 1u64..404 {
+        let wanted = if failing <= 401 {
+            FileFault::ReadFault
+        } else {
+            FileFault::Line(4, Cause::Order)
+        };
+        let mut source = MemorySource::new(file.as_bytes(), 1, failing);
+        let found = read_replica(rt.alloc(), &mut source, LIMIT).err();
+        assert!(rt; found == Some(wanted), "{failing}");
     }
     Ok(())
 }

@@ -16,6 +16,7 @@ fn texts(rt: HostRuntime) -> Result<(), Fail> {
         (FileFault::Line(6, Cause::Shape), "line 6: shape"),
         (FileFault::Line(7, Cause::Order), "line 7: order"),
         (FileFault::Line(8, Cause::Ungrounded), "line 8: ungrounded"),
+        (FileFault::Line(9, Cause::Unended), "line 9: unended"),
         (FileFault::Digest, "digest"),
         (FileFault::Truncated, "truncated"),
         (FileFault::Trailing, "trailing bytes"),

@@ -10,6 +10,8 @@ mod feeds;
 #[cfg(test)]
 mod inventories;
 #[cfg(test)]
+mod nodes;
+#[cfg(test)]
 mod support;
 #[cfg(test)]
 mod whole;

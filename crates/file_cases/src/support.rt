@@ -8,7 +8,7 @@ use std::test::Fail;
 pub const LIMIT: u64 = 4096;
 
 /// What stands for longer texts in the files.
-const PARTS: [(&str, &str); 6] = [
+const PARTS: [(&str, &str); 7] = [
     (
         "BODY",
         r#""{\"action\":\"read\",\"eventTime\":\"2024-03-01T12:00:00Z\",\"eventType\":\"activity\",\"initiatorId\":\"u1\",\"observerId\":\"s1\",\"outcome\":\"success\",\"targetId\":\"t1\"}""#,
@@ -28,6 +28,7 @@ const PARTS: [(&str, &str); 6] = [
     ),
     ("STEP2", r#""{\"reporterId\":\"s2\",\"role\":\"relay\"}""#),
     ("HEAD", "CADF-REPLICA 1\nL \"g\"\n"),
+    ("NODES", "CADF-REPLICA 2\nL \"g\"\n"),
 ];
 
 /// A file with no atom.
@@ -88,4 +89,11 @@ pub fn written(alloc: Global, text: &str) -> Result<String, Fail> {
 pub fn refusal(alloc: Global, bytes: &[u8], piece: usize, limit: u64) -> Option<FileFault> {
     let mut source = MemorySource::new(bytes, piece.max(1), 0);
     read_replica(alloc, &mut source, limit).err()
+}
+
+/// Changes those bits of the byte at that place.
+pub fn change(bytes: &mut [u8], place: usize, bits: u8) {
+    if let Some(byte) = bytes.get_mut(place) {
+        *byte ^= bits;
+    }
 }

@@ -1,4 +1,4 @@
-//! Whole files are read, and written as the same bytes.
+//! Whole files of both formats are read, and written as the same bytes.
 use crate::support::{CHAINS, CHAINS_IN_TWO, EMPTY, EMPTY_IN_TWO, TWO, TWO_IN_TWO, written};
 use cadf_file::{Format, read_replica, write_replica};
 use cadf_json::{FailingWrite, MemorySink, MemorySource};
@@ -6,53 +6,47 @@ use std::alloc::Global;
 use std::process::Abort;
 use std::test::Fail;
 
-/// Whether the file is read, and written as the same bytes.
-fn check_whole(rt: &impl Abort, alloc: Global, file: &str, piece: usize) -> Result<(), Fail> {
-    let file = written(alloc, file)?;
-    let piece = piece.max(1);
-    let mut source = MemorySource::new(file.as_bytes(), piece, 0);
-    let replica = read_replica(alloc, &mut source, file.len() as u64)?;
-    let mut sink = MemorySink::new(alloc, piece, FailingWrite::Never);
-    assert!(rt; write_replica(alloc, &replica, Format::One, &mut sink).is_ok());
-    assert!(rt; sink.bytes() == file.as_bytes());
-    Ok(())
-}
+/// Files of format 1, each with the file of format 2 of the same set.
+const WHOLE: [(&str, &str); 3] = [
+    (EMPTY, EMPTY_IN_TWO),
+    (TWO, TWO_IN_TWO),
+    (CHAINS, CHAINS_IN_TWO),
+];
 
-/// Whether the file is read, and written as that one in format 2.
-fn check_in_two(
+/// Whether the one file is read, and written as the other, which is of that format.
+fn check_whole(
     rt: &impl Abort,
     alloc: Global,
-    file: &str,
-    in_two: &str,
+    read: &str,
+    wanted: &str,
+    format: Format,
     piece: usize,
 ) -> Result<(), Fail> {
-    let file = written(alloc, file)?;
-    let in_two = written(alloc, in_two)?;
-    let piece = piece.max(1);
-    let mut source = MemorySource::new(file.as_bytes(), piece, 0);
-    let replica = read_replica(alloc, &mut source, file.len() as u64)?;
-    let mut sink = MemorySink::new(alloc, piece, FailingWrite::Never);
-    assert!(rt; write_replica(alloc, &replica, Format::Two, &mut sink).is_ok());
-    assert!(rt; sink.bytes() == in_two.as_bytes());
+    let mut source = MemorySource::new(read.as_bytes(), piece.max(1), 0);
+    let replica = read_replica(alloc, &mut source, read.len() as u64)?;
+    let mut sink = MemorySink::new(alloc, piece.max(1), FailingWrite::Never);
+    assert!(rt; write_replica(alloc, &replica, format, &mut sink).is_ok());
+    assert!(rt; sink.bytes() == wanted.as_bytes());
     Ok(())
 }
 
-#[test]
-fn whole_files_in_two(rt: HostRuntime) -> Result<(), Fail> {
+/// Whether each of the files tells the same.
+fn check_both(rt: &impl Abort, alloc: Global, one: &str, two: &str) -> Result<(), Fail> {
+    let one = written(alloc, one)?;
+    let two = written(alloc, two)?;
     for piece in [1usize, 7, 4096] {
-        check_in_two(&rt, rt.alloc(), EMPTY, EMPTY_IN_TWO, piece)?;
-        check_in_two(&rt, rt.alloc(), TWO, TWO_IN_TWO, piece)?;
-        check_in_two(&rt, rt.alloc(), CHAINS, CHAINS_IN_TWO, piece)?;
+        check_whole(rt, alloc, &one, &one, Format::One, piece)?;
+        check_whole(rt, alloc, &one, &two, Format::Two, piece)?;
+        check_whole(rt, alloc, &two, &one, Format::One, piece)?;
+        check_whole(rt, alloc, &two, &two, Format::Two, piece)?;
     }
     Ok(())
 }
 
 #[test]
 fn whole_files(rt: HostRuntime) -> Result<(), Fail> {
-    for piece in [1usize, 7, 4096] {
-        check_whole(&rt, rt.alloc(), EMPTY, piece)?;
-        check_whole(&rt, rt.alloc(), TWO, piece)?;
-        check_whole(&rt, rt.alloc(), CHAINS, piece)?;
+    for (one, two) in WHOLE {
+        check_both(&rt, rt.alloc(), one, two)?;
     }
     Ok(())
 }

@@ -1,15 +1,15 @@
-// The calls that one kind of value has, watched, and what must hold after a refusal.
+//! The calls that one kind of value has, watched, and what must hold after a refusal.
 use crate::values::{Map, long_chain, long_tree, put};
-use crate::watched::{Report, Watched, grow_idly, is_between, join_of, told};
+use crate::watched::{Watched, is_between, join_of};
 use cadf_join::{Join, JoinMap, Memory, TextSet};
+use growths::{Report, told};
 use std::alloc::Global;
 
 /// A refused insert changes nothing, and the same insert again adds the chain.
-pub fn insert_chain(alloc: Global, idle: u64) -> Result<Report, Memory> {
+pub fn insert_chain(alloc: Global) -> Result<Report, Memory> {
     let chain = long_chain(alloc, "t")?;
     let mut tree = long_tree(alloc, "s")?;
     let before = tree.copy()?;
-    let idle_refused = grow_idly(alloc, idle);
     let first = put(&mut tree, chain.as_slice());
     let refused = first.is_err();
     let unchanged = !refused || (tree.same(&before) && !tree.contains(chain.as_slice()));
@@ -19,13 +19,12 @@ pub fn insert_chain(alloc: Global, idle: u64) -> Result<Report, Memory> {
     };
     let added = new && tree.count() == 2 && tree.contains(chain.as_slice());
     let kept = before.missing_from(&tree)?.is_none();
-    Ok(told(idle_refused, refused, unchanged && added && kept))
+    Ok(told(refused, unchanged && added && kept))
 }
 
 /// A refused insert changes nothing, and the same insert again adds the text.
-pub fn insert_text(alloc: Global, idle: u64) -> Result<Report, Memory> {
+pub fn insert_text(alloc: Global) -> Result<Report, Memory> {
     let mut set = TextSet::small(alloc)?;
-    let idle_refused = grow_idly(alloc, idle);
     let first = set.insert("a");
     let refused = first.is_err();
     let unchanged = !refused || (set.contains("b") && set.text_count() == 1);
@@ -34,38 +33,36 @@ pub fn insert_text(alloc: Global, idle: u64) -> Result<Report, Memory> {
         Err(_) => set.insert("a")?,
     };
     let added = new && set.contains("a") && set.contains("b") && set.text_count() == 2;
-    Ok(told(idle_refused, refused, unchanged && added))
+    Ok(told(refused, unchanged && added))
 }
 
 /// A refused join at a key leaves something between, and the same join again the union.
-pub fn join_at(alloc: Global, idle: u64) -> Result<Report, Memory> {
+pub fn join_at(alloc: Global) -> Result<Report, Memory> {
     let old = Map::small(alloc)?;
     let union = Map::large(alloc)?;
     let mut map = old.copy()?;
-    let idle_refused = grow_idly(alloc, idle);
     let refused = joined_outer(&mut map, &union).is_err();
     let between = is_between(&old, &map, &union)?;
     if refused {
         joined_outer(&mut map, &union)?;
     }
     let whole = map.same(&union);
-    Ok(told(idle_refused, refused, between && whole))
+    Ok(told(refused, between && whole))
 }
 
 /// A refused taking at a key leaves something between, and the same again the union.
-pub fn take_at(alloc: Global, idle: u64) -> Result<Report, Memory> {
+pub fn take_at(alloc: Global) -> Result<Report, Memory> {
     let old = Map::new(alloc);
     let union = Map::large(alloc)?;
     let mut map = Map::new(alloc);
     let part = outer_of(alloc, &union)?;
-    let idle_refused = grow_idly(alloc, idle);
     let refused = map.take_at("outer", part).is_err();
     let between = is_between(&old, &map, &union)?;
     if refused {
         map.take_at("outer", outer_of(alloc, &union)?)?;
     }
     let whole = map.same(&union);
-    Ok(told(idle_refused, refused, between && whole))
+    Ok(told(refused, between && whole))
 }
 
 // A copy of what the map has at its one key.
@@ -85,8 +82,8 @@ fn joined_outer(map: &mut Map, other: &Map) -> Result<(), Memory> {
 }
 
 /// Two trees that share 255 steps.
-pub fn join_deep_trees(alloc: Global, idle: u64) -> Result<Report, Memory> {
+pub fn join_deep_trees(alloc: Global) -> Result<Report, Memory> {
     let ours = long_tree(alloc, "s")?;
     let theirs = long_tree(alloc, "t")?;
-    join_of(alloc, idle, &ours, &theirs)
+    join_of(alloc, &ours, &theirs)
 }

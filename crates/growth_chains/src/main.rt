@@ -1,7 +1,6 @@
-// Calls of which any one growth may be refused, and what must hold afterwards. Standard input names
-// a step and how many growths are to be made idly before its call, so that a runner that refuses one
-// growth of fixed number refuses each growth of that call in turn. What is written to standard
-// output is the same in every run; standard error tells which growth was refused.
+//! Calls of sets of texts, maps and trees of chains, whose growths `.ci/growths` refuses one by one, and
+//! what must hold afterwards. Standard input names a call and a kind of value; all are run where it is empty. What is written
+//! to standard output is the same in every run; standard error tells of a call that was refused.
 #![tactic(auto)]
 
 mod inserts;
@@ -10,7 +9,7 @@ mod values;
 mod watched;
 
 use crate::steps::{Step, run};
-use crate::watched::Report;
+use growths::{is_asked, tell};
 use std::io;
 
 const STEPS: [Step; 14] = [
@@ -30,31 +29,14 @@ const STEPS: [Step; 14] = [
     Step::LookIntoMap,
 ];
 
-// The number of idle growths that the line asks for before that step.
-fn idle_growths(line: &str, step: Step) -> u64 {
-    match line.trim().split_once(' ') {
-        Some((name, count)) if name == step.name() => count.parse::<u64>().unwrap_or(0),
-        _ => 0,
-    }
-}
-
 fn main(rt: HostRuntime) -> io::Result<()> {
-    let mut line = String::new(rt.alloc());
-    rt.read_line(&mut line)?;
+    let mut asked = String::new(rt.alloc());
+    let _ = rt.read_line(&mut asked);
     for step in STEPS {
-        let name = step.name();
-        let report = run(rt.alloc(), step, idle_growths(line.as_str(), step));
-        match report {
-            Report::IdleRefused(number) => eprintln!(rt; "idle growth {number} refused")?,
-            Report::Refused => eprintln!(rt; "{name} refused")?,
-            _ => {}
+        let (call, case) = step.name();
+        if is_asked(&asked, call, case) {
+            tell(&rt, call, case, run(rt.alloc(), step))?;
         }
-        let verdict = if report == Report::Fails {
-            "fails"
-        } else {
-            "holds"
-        };
-        println!(rt; "{name}: {verdict}")?;
     }
     Ok(())
 }

@@ -1,8 +1,9 @@
-// The steps: each makes its values, then idle growths, then the one call that is watched.
+//! The steps: each makes its values, and then the one call that is watched.
 use crate::inserts::{insert_chain, insert_text, join_at, join_deep_trees, take_at};
 use crate::values::Map;
-use crate::watched::{Report, join, look, missing};
+use crate::watched::{join, look, missing};
 use cadf_join::{ChainTree, Memory, TextSet};
+use growths::Report;
 use std::alloc::Global;
 
 /// A call that is watched.
@@ -27,50 +28,50 @@ pub enum Step {
 }
 
 impl Step {
-    /// The word that names it.
-    pub fn name(self) -> &'static str {
+    /// The call, and what it is made on.
+    pub fn name(self) -> (&'static str, &'static str) {
         match self {
-            Step::Insert => "insert",
-            Step::InsertText => "insert-text",
-            Step::JoinAt => "join-at",
-            Step::TakeAt => "take-at",
-            Step::JoinDeepTrees => "join-deep-trees",
-            Step::JoinTrees => "join-trees",
-            Step::MissingTrees => "missing-trees",
-            Step::LookIntoTree => "look-into-tree",
-            Step::JoinTexts => "join-texts",
-            Step::MissingTexts => "missing-texts",
-            Step::LookIntoTexts => "look-into-texts",
-            Step::JoinMaps => "join-maps",
-            Step::MissingMaps => "missing-maps",
-            Step::LookIntoMap => "look-into-map",
+            Step::Insert => ("insert", "trees"),
+            Step::InsertText => ("insert", "texts"),
+            Step::JoinAt => ("join-at", "maps"),
+            Step::TakeAt => ("take-at", "maps"),
+            Step::JoinDeepTrees => ("join", "deep-trees"),
+            Step::JoinTrees => ("join", "trees"),
+            Step::MissingTrees => ("missing", "trees"),
+            Step::LookIntoTree => ("look", "trees"),
+            Step::JoinTexts => ("join", "texts"),
+            Step::MissingTexts => ("missing", "texts"),
+            Step::LookIntoTexts => ("look", "texts"),
+            Step::JoinMaps => ("join", "maps"),
+            Step::MissingMaps => ("missing", "maps"),
+            Step::LookIntoMap => ("look", "maps"),
         }
     }
 }
 
 /// Runs the step, once more where a growth outside its call was refused.
-pub fn run(alloc: Global, step: Step, idle: u64) -> Report {
-    match tried(alloc, step, idle) {
+pub fn run(alloc: Global, step: Step) -> Report {
+    match tried(alloc, step) {
         Ok(report) => report,
-        Err(_) => tried(alloc, step, 0).unwrap_or(Report::Fails),
+        Err(_) => tried(alloc, step).unwrap_or(Report::Fails),
     }
 }
 
-fn tried(alloc: Global, step: Step, idle: u64) -> Result<Report, Memory> {
+fn tried(alloc: Global, step: Step) -> Result<Report, Memory> {
     match step {
-        Step::Insert => insert_chain(alloc, idle),
-        Step::InsertText => insert_text(alloc, idle),
-        Step::JoinAt => join_at(alloc, idle),
-        Step::TakeAt => take_at(alloc, idle),
-        Step::JoinDeepTrees => join_deep_trees(alloc, idle),
-        Step::JoinTrees => join::<ChainTree>(alloc, idle),
-        Step::MissingTrees => missing::<ChainTree>(alloc, idle),
-        Step::LookIntoTree => look::<ChainTree>(alloc, idle),
-        Step::JoinTexts => join::<TextSet>(alloc, idle),
-        Step::MissingTexts => missing::<TextSet>(alloc, idle),
-        Step::LookIntoTexts => look::<TextSet>(alloc, idle),
-        Step::JoinMaps => join::<Map>(alloc, idle),
-        Step::MissingMaps => missing::<Map>(alloc, idle),
-        Step::LookIntoMap => look::<Map>(alloc, idle),
+        Step::Insert => insert_chain(alloc),
+        Step::InsertText => insert_text(alloc),
+        Step::JoinAt => join_at(alloc),
+        Step::TakeAt => take_at(alloc),
+        Step::JoinDeepTrees => join_deep_trees(alloc),
+        Step::JoinTrees => join::<ChainTree>(alloc),
+        Step::MissingTrees => missing::<ChainTree>(alloc),
+        Step::LookIntoTree => look::<ChainTree>(alloc),
+        Step::JoinTexts => join::<TextSet>(alloc),
+        Step::MissingTexts => missing::<TextSet>(alloc),
+        Step::LookIntoTexts => look::<TextSet>(alloc),
+        Step::JoinMaps => join::<Map>(alloc),
+        Step::MissingMaps => missing::<Map>(alloc),
+        Step::LookIntoMap => look::<Map>(alloc),
     }
 }

@@ -1,4 +1,4 @@
-// The values of the steps.
+//! The values of the steps.
 use crate::watched::Watched;
 use cadf_join::{ChainTree, JoinMap, Memory, TextSet};
 use std::alloc::Global;

@@ -1,19 +1,7 @@
-// The calls that every kind of value has, watched, and what must hold after a refusal.
+//! The calls that every kind of value has, watched, and what must hold after a refusal.
 use cadf_join::{Join, Memory};
+use growths::{Report, told};
 use std::alloc::Global;
-
-/// What was seen of a step.
-#[derive(Clone, Copy, Debug, Drop, PartialEq, Eq)]
-pub enum Report {
-    /// No growth of the call was refused.
-    Whole,
-    /// The idle growth of this number, counted from 0, was refused.
-    IdleRefused(u64),
-    /// The call was refused, and all that must hold afterwards does.
-    Refused,
-    /// Something does not hold.
-    Fails,
-}
 
 /// Values whose calls are watched.
 pub trait Watched: Join {
@@ -27,46 +15,25 @@ pub trait Watched: Join {
     fn looks(&self) -> Result<bool, Memory>;
 }
 
-/// Makes growths that serve nothing. Answers the number of the one that was refused.
-pub fn grow_idly(alloc: Global, count: u64) -> Option<u64> {
-    for number in 0..count {
-        if Box::new(alloc, 0u8).is_err() {
-            return Some(number);
-        }
-    }
-    None
-}
-
-/// What is told of a call.
-pub fn told(idle: Option<u64>, refused: bool, holds: bool) -> Report {
-    match idle {
-        _ if !holds => Report::Fails,
-        Some(number) => Report::IdleRefused(number),
-        None if refused => Report::Refused,
-        None => Report::Whole,
-    }
-}
-
 /// A refused join leaves something between the old and the union, and the same join again the union.
-pub fn join<W: Watched>(alloc: Global, idle: u64) -> Result<Report, Memory> {
+pub fn join<W: Watched>(alloc: Global) -> Result<Report, Memory> {
     let ours = W::small(alloc)?;
     let theirs = W::large(alloc)?;
-    join_of(alloc, idle, &ours, &theirs)
+    join_of(alloc, &ours, &theirs)
 }
 
 /// The same, of these two.
-pub fn join_of<J: Join>(alloc: Global, idle: u64, ours: &J, theirs: &J) -> Result<Report, Memory> {
+pub fn join_of<J: Join>(alloc: Global, ours: &J, theirs: &J) -> Result<Report, Memory> {
     let mut joined = ours.copy()?;
     let mut union = theirs.copy()?;
     union.join(ours)?;
-    let idle_refused = grow_idly(alloc, idle);
     let refused = joined.join(theirs).is_err();
     let between = is_between(ours, &joined, &union)?;
     if refused {
         joined.join(theirs)?;
     }
     let whole = joined.same(&union);
-    Ok(told(idle_refused, refused, between && whole))
+    Ok(told(refused, between && whole))
 }
 
 /// Whether the value has all of the old one, and nothing that the union lacks.
@@ -76,10 +43,9 @@ pub fn is_between<J: Join>(old: &J, value: &J, union: &J) -> Result<bool, Memory
 }
 
 /// The missing part, asked for once more where it was refused, makes the receiver the union.
-pub fn missing<W: Watched>(alloc: Global, idle: u64) -> Result<Report, Memory> {
+pub fn missing<W: Watched>(alloc: Global) -> Result<Report, Memory> {
     let ours = W::large(alloc)?;
     let mut receiver = W::small(alloc)?;
-    let idle_refused = grow_idly(alloc, idle);
     let first = ours.missing_from(&receiver);
     let refused = first.is_err();
     let part = match first {
@@ -94,20 +60,19 @@ pub fn missing<W: Watched>(alloc: Global, idle: u64) -> Result<Report, Memory> {
         None => false,
     };
     let whole = receiver.same(&ours);
-    Ok(told(idle_refused, refused, lacked && whole))
+    Ok(told(refused, lacked && whole))
 }
 
 /// The looks, one after another, all once more where one of them was refused.
-pub fn look<W: Watched>(alloc: Global, idle: u64) -> Result<Report, Memory> {
+pub fn look<W: Watched>(alloc: Global) -> Result<Report, Memory> {
     let value = W::large(alloc)?;
-    let idle_refused = grow_idly(alloc, idle);
     let first = looked(alloc, &value);
     let refused = first.is_err();
     let right = match first {
         Ok(right) => right,
         Err(_) => looked(alloc, &value)?,
     };
-    Ok(told(idle_refused, refused, right))
+    Ok(told(refused, right))
 }
 
 // Whether a copy is the same, its three lists are told, and the looks see what they should.

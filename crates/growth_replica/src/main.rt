@@ -1,41 +1,41 @@
-//! Calls of a replica of which any one growth may be refused, and what must hold afterwards. Standard
-//! input names a step and how many growths are to be made idly before its call, so that a runner
-//! that refuses one growth of fixed number refuses each growth of that call in turn. What is written
-//! to standard output is the same in every run; standard error tells which growth was refused.
+//! Calls of a replica, whose growths `.ci/growths` refuses one by one, and what must hold afterwards.
+//! Standard input names a call and a case; all are run where it is empty. What is written to standard
+//! output is the same in every run; standard error tells of a call that was refused.
 #![tactic(auto)]
 
-mod steps;
+mod calls;
+mod cases;
+mod changes;
+mod deep;
+mod replicas;
 
-use crate::steps::{Report, Step, run};
+use crate::calls::{CALLS, run};
+use crate::cases::{CASES, Case};
+use growths::{is_asked, tell};
+use std::alloc::Global;
 use std::io;
 
-const STEPS: [Step; 4] = [Step::TakeDocument, Step::Join, Step::Missing, Step::Copy];
-
-/// The number of idle growths that the line asks for before that step.
-fn idle_growths(line: &str, step: Step) -> u64 {
-    match line.trim().split_once(' ') {
-        Some((name, count)) if name == step.name() => count.parse::<u64>().unwrap_or(0),
-        _ => 0,
+/// Runs the calls of the case that are asked for.
+fn run_case(rt: &(impl Print + Eprint), alloc: Global, asked: &str, case: &Case) -> io::Result<()> {
+    for call in CALLS {
+        if is_asked(asked, call.name(), case.name) {
+            tell(rt, call.name(), case.name, run(alloc, call, case))?;
+        }
     }
+    Ok(())
 }
 
 fn main(rt: HostRuntime) -> io::Result<()> {
-    let mut line = String::new(rt.alloc());
-    rt.read_line(&mut line)?;
-    for step in STEPS {
-        let name = step.name();
-        let report = run(rt.alloc(), step, idle_growths(line.as_str(), step));
-        match report {
-            Report::IdleRefused(number) => eprintln!(rt; "idle growth {number} refused")?,
-            Report::Refused => eprintln!(rt; "{name} refused")?,
-            _ => {}
+    let alloc = rt.alloc();
+    let mut asked = String::new(alloc);
+    let _ = rt.read_line(&mut asked);
+    for case in CASES {
+        run_case(&rt, alloc, &asked, &case)?;
+    }
+    for step in [deep::Step::Make, deep::Step::Join] {
+        if is_asked(&asked, step.name(), "deep") {
+            tell(&rt, step.name(), "deep", deep::run(alloc, step))?;
         }
-        let verdict = if report == Report::Fails {
-            "fails"
-        } else {
-            "holds"
-        };
-        println!(rt; "{name}: {verdict}")?;
     }
     Ok(())
 }

@@ -170,13 +170,16 @@ fn reads_and_writes_by_std(rt: HostRuntime) -> Result<(), Fail> {
 }
 
 #[test]
-fn a_failing_reader_or_writer_of_std_fails(rt: HostRuntime) {
-    let mut source = FromStd::new(Failing { before: 3 });
-    let found = read_whole(rt.alloc(), &mut source, 22).err();
-    assert!(rt; found == Some(WholeFault::ReadFault));
-    let mut source = FromStd::new(Failing { before: 3 });
-    let found = read_whole(rt.alloc(), &mut source, 2).err();
-    assert!(rt; found == Some(WholeFault::TooLarge));
+fn a_failing_reader_of_std_fails(rt: HostRuntime) {
+    for (limit, fault) in [(22usize, WholeFault::ReadFault), (2, WholeFault::TooLarge)] {
+        let mut source = FromStd::new(Failing { before: 3 });
+        let found = read_whole(rt.alloc(), &mut source, limit).err();
+        assert!(rt; found == Some(fault));
+    }
+}
+
+#[test]
+fn a_failing_writer_of_std_fails(rt: HostRuntime) {
     let mut sink = FromStd::new(Failing { before: 3 });
     assert!(rt; write_whole(&mut sink, TEXT).is_err());
     assert!(rt; sink.into_inner().before == 0);

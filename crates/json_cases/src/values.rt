@@ -1,10 +1,9 @@
 //! What no clause fixes of values: examples of texts and refusals, and that calls succeed.
-ghost use Rattle.std.specs.Prelude.{◌≤◌};
+ghost use Rattle.std.specs.Prelude.{◌≤◌, IfSome};
 ghost use Rattle.serde_json.specs.Data.{depth as nesting};
 
-use cadf_json::{Json, JsonFault, ListBuilder, ObjectBuilder, quoted};
+use cadf_json::{Json, JsonFault, ListBuilder, Memory, ObjectBuilder, quoted};
 use std::alloc::Global;
-use std::process::Abort;
 use std::test::Fail;
 
 fn canonical(alloc: Global, text: &str) -> Result<String, Fail> {
@@ -161,63 +160,128 @@ fn tells_kinds(rt: HostRuntime) -> Result<(), Fail> {
     Ok(())
 }
 
+const PARTS: &[u8] = b"{\"b\":[1,\"x\",null],\"a\":{}}";
+
 #[test]
-fn looks_into_parts(rt: HostRuntime) -> Result<(), Fail> {
-    let json = Json::read(rt.alloc(), b"{\"b\":[1,\"x\",null],\"a\":{}}")?;
-    let view = json.view();
-    assert!(rt; view.is_object() && view.len() == 2 && view.depth() == 2);
-    assert!(rt; view.name_at(0) == Some("a") && view.name_at(1) == Some("b"));
-    assert!(rt; view.name_at(2).is_none() && view.item(2).is_none() && view.member("c").is_none());
-    assert!(rt; view.item(0).is_some_and(|a| a.is_object()));
-    let list = view.item(1).ok_or("no b")?;
-    assert!(rt; list.is_list() && list.len() == 3 && list.name_at(0).is_none());
-    assert!(rt; list.item(1).is_some_and(|x| x.as_text() == Some("x")));
-    assert!(rt; list.item(2).is_some_and(|x| x.is_null()));
-    assert!(rt; list.item(3).is_none() && list.member("b").is_none());
-    assert!(rt; view.member("b").is_some_and(|b| b.again().len() == 3));
+fn counts_parts(rt: HostRuntime) -> Result<(), Fail> {
+    let json = Json::read(rt.alloc(), PARTS)?;
+    assert!(rt; json.view().is_object());
+    assert!(rt; json.view().len() == 2);
+    assert!(rt; json.view().depth() == 2);
     Ok(())
 }
 
 #[test]
-fn walks_and_rewrites_members(rt: HostRuntime) -> Result<(), Fail> {
-    let alloc = rt.alloc();
-    let json = Json::read(alloc, b"{\"t\":\"x\",\"id\":1,\"deep\":[[]]}")?;
-    let view = json.view();
-    let mut names = String::new(alloc);
-    for member in view.members() {
-        names.push_str(member.name)?;
-        names.push_str(member.value.text(alloc)?.as_str())?;
+fn names_members(rt: HostRuntime) -> Result<(), Fail> {
+    let json = Json::read(rt.alloc(), PARTS)?;
+    for (place, name) in [(0usize, Some("a")), (1, Some("b")), (2, None)] {
+        assert!(rt; json.view().name_at(place) == name);
     }
-    assert!(rt; names.as_str() == "deep[[]]id1t\"x\"");
-    assert!(rt; view.members_within(&[("deep", 2)], 0) && !view.members_within(&[("deep", 1)], 9));
-    let text = view.rewritten(alloc, &["id", "other"], "t", "y\"")?;
+    Ok(())
+}
+
+#[test]
+fn looks_into_members(rt: HostRuntime) -> Result<(), Fail> {
+    let json = Json::read(rt.alloc(), PARTS)?;
+    let view = json.view();
+    assert!(rt; view.item(0).is_some_and(|a| a.is_object()));
+    assert!(rt; view.item(1).is_some_and(|b| b.len() == 3));
+    assert!(rt; view.item(2).is_none());
+    assert!(rt; view.member("b").is_some_and(|b| b.again().len() == 3));
+    assert!(rt; view.member("c").is_none());
+    Ok(())
+}
+
+#[test]
+fn looks_into_items(rt: HostRuntime) -> Result<(), Fail> {
+    let json = Json::read(rt.alloc(), b"[1,\"x\",null]")?;
+    let view = json.view();
+    assert!(rt; view.item(1).is_some_and(|x| x.as_text() == Some("x")));
+    assert!(rt; view.item(2).is_some_and(|x| x.is_null()));
+    assert!(rt; view.item(3).is_none());
+    assert!(rt; view.name_at(0).is_none());
+    assert!(rt; view.member("b").is_none());
+    Ok(())
+}
+
+/// The names and texts of the members, each behind the one before.
+fn members_shown(alloc: Global, json: &Json) -> Result<String, Memory> {
+    let mut shown = String::new(alloc);
+    for member in json.view().members() {
+        shown.push_str(member.name)?;
+        shown.push_str(member.value.text(alloc)?.as_str())?;
+    }
+    Ok(shown)
+}
+
+const MEMBERS: &[u8] = b"{\"t\":\"x\",\"id\":1,\"deep\":[[]]}";
+
+#[test]
+fn walks_members(rt: HostRuntime) -> Result<(), Fail> {
+    let json = Json::read(rt.alloc(), MEMBERS)?;
+    assert!(rt; members_shown(rt.alloc(), &json)?.as_str() == "deep[[]]id1t\"x\"");
+    let list = Json::read(rt.alloc(), b"[1]")?;
+    assert!(rt; list.view().members().next().is_none());
+    Ok(())
+}
+
+#[test]
+fn measures_members(rt: HostRuntime) -> Result<(), Fail> {
+    let json = Json::read(rt.alloc(), MEMBERS)?;
+    assert!(rt; json.view().members_within(&[("deep", 2)], 0));
+    assert!(rt; !json.view().members_within(&[("deep", 1)], 9));
+    Ok(())
+}
+
+#[test]
+fn rewrites_members(rt: HostRuntime) -> Result<(), Fail> {
+    let alloc = rt.alloc();
+    let json = Json::read(alloc, MEMBERS)?;
+    let text = json.view().rewritten(alloc, &["id", "other"], "t", "y\"")?;
     assert!(rt; text.as_str() == "{\"deep\":[[]],\"t\":\"y\\\"\"}");
     let list = Json::read(alloc, b"[1]")?;
-    assert!(rt; list.view().members().next().is_none());
-    assert!(rt; list.view().rewritten(alloc, &[], "t", "y")?.as_str() == "{}");
+    let text = list.view().rewritten(alloc, &[], "t", "y")?;
+    assert!(rt; text.as_str() == "{}");
     Ok(())
 }
 
-// The value, which nests at most 126 deep.
-fn shallow(rt: &impl Abort, json: Json) -> Json
-    ensures { nesting result ≤ 126 }
+// The value, where it nests at most 126 deep.
+fn shallow(json: Json) -> Option<Json>
+    ensures { IfSome result (λ json. nesting json ≤ 126) }
 {
-    assert!(rt; json.view().depth() <= 126);
-    json
+    let is_shallow = json.view().depth() <= 126;
+    is_shallow.then_some(json)
 }
 
 #[test]
-fn builds_values(rt: HostRuntime) -> Result<(), Fail> {
+fn builds_lists(rt: HostRuntime) -> Result<(), Fail> {
     let alloc = rt.alloc();
     let mut list = ListBuilder::new(alloc);
     list.push(Json::from_text(alloc, "x")?)?;
     let copied = Json::read(alloc, b"{\"k\":7}")?.view().to_json()?;
-    list.push(shallow(&rt, copied))?;
+    list.push(shallow(copied).ok_or("deep")?)?;
+    let text = list.finish().view().text(alloc)?;
+    assert!(rt; text.as_str() == "[\"x\",{\"k\":7}]");
+    Ok(())
+}
+
+#[test]
+fn builds_objects(rt: HostRuntime) -> Result<(), Fail> {
+    let alloc = rt.alloc();
     let mut object = ObjectBuilder::new(alloc);
-    object.insert("b", shallow(&rt, list.finish()))?;
+    object.insert("b", Json::from_text(alloc, "x")?)?;
     object.insert("a", Json::from_text(alloc, "null")?)?;
-    let mut object = ObjectBuilder::from_json(alloc, object.finish());
-    object.insert("a", shallow(&rt, Json::read(alloc, b"[]")?))?;
+    let text = object.finish().view().text(alloc)?;
+    assert!(rt; text.as_str() == "{\"a\":\"null\",\"b\":\"x\"}");
+    Ok(())
+}
+
+#[test]
+fn builds_on_values(rt: HostRuntime) -> Result<(), Fail> {
+    let alloc = rt.alloc();
+    let json = Json::read(alloc, b"{\"b\":[\"x\",{\"k\":7}],\"a\":\"null\"}")?;
+    let mut object = ObjectBuilder::from_json(alloc, json);
+    object.insert("a", shallow(Json::read(alloc, b"[]")?).ok_or("deep")?)?;
     let text = object.finish().view().text(alloc)?;
     assert!(rt; text.as_str() == "{\"a\":[],\"b\":[\"x\",{\"k\":7}]}");
     let none = ObjectBuilder::from_json(alloc, Json::from_text(alloc, "x")?);
