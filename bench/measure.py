@@ -1,6 +1,7 @@
 """What the benchmarks share: a command's wall time and peak memory, and generated events and replica files."""
 import hashlib
 import json
+import multiprocessing
 import os
 import subprocess
 import sys
@@ -78,7 +79,15 @@ def atoms_of(number):
 
 
 def replica_file(path, log, events, version=1):
-    """Writes the replica file of these events' atoms in that format, and says how many atoms it has."""
+    """Writes the replica file of these events' atoms in that format, and says how many atoms it has.
+
+    In a process of its own: what this one has held, each command that it starts is told to have held, too.
+    """
+    with multiprocessing.get_context("fork").Pool(1) as apart:
+        return apart.apply(written_file, (path, log, events, version))
+
+
+def written_file(path, log, events, version):
     atoms = [atom for event in events for atom in atoms_of(event)]
     head = [FIRST_LINES[version], b"L " + spelled(log).encode()]
     with open(path, "wb") as out:

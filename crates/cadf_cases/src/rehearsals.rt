@@ -109,8 +109,8 @@ fn are_refused(rt: HostRuntime) -> Result<(), Fail> {
         let mut script = spelled(alloc, EXCHANGE)?;
         script.push_str(last)?;
         let (answer, sink) = rehearsed(alloc, script.as_bytes(), 3, 4096, 0)?;
-        assert!(rt; answer == Err(fault), "{text}");
-        assert!(rt; sink.bytes().is_empty(), "{text}");
+        assert!(rt; answer == Err(fault));
+        assert!(rt; sink.bytes().is_empty());
         let shown = format!(in alloc; "{fault}")?;
         assert!(rt; shown.as_str() == text);
         assert!(rt; status(&fault) == 1);
