@@ -6,6 +6,7 @@ import os
 import subprocess
 import sys
 import time
+import traceback
 
 sys.dont_write_bytecode = True
 
@@ -45,6 +46,45 @@ def measured_once(command):
     if status != 0:
         sys.exit("%s ended with status %d" % (command[0], status))
     return spent, usage.ru_utime + usage.ru_stime, usage.ru_maxrss / 1024
+
+
+# A process of few MB: runs the command behind its first word, the path of what it writes, and tells how it went.
+SMALL = """
+import os, resource, sys
+resource.setrlimit(resource.RLIMIT_CPU, (%d, %d))
+output = [(os.POSIX_SPAWN_OPEN, 1, sys.argv[1], os.O_WRONLY | os.O_CREAT | os.O_TRUNC, 0o644),
+          (os.POSIX_SPAWN_OPEN, 2, os.devnull, os.O_WRONLY, 0)]
+child = os.posix_spawnp(sys.argv[2], sys.argv[2:], os.environ, file_actions=output)
+_, status, usage = os.wait4(child, 0)
+print(os.waitstatus_to_exitcode(status), usage.ru_utime + usage.ru_stime, usage.ru_maxrss / 1024)
+"""
+MOST_SECONDS = 1000  # of processors
+
+
+def measured_apart(command, output=os.devnull):
+    """A run's exit status, its processor seconds and its greatest resident memory in MB, started by a small process.
+
+    So the memory isn't that of this process, which each command that it starts is told to have held, too; what the small
+    one holds, some 8 MB, is the least that is told. A status below 0 is a signal's.
+    """
+    small = SMALL % (MOST_SECONDS, MOST_SECONDS)
+    told = subprocess.check_output([sys.executable, "-I", "-S", "-c", small, output, *command], stdin=subprocess.DEVNULL)
+    status, seconds, memory = told.split()
+    return int(status), float(seconds), float(memory)
+
+
+def written_apart(write):
+    """Calls that in a process of its own, which ends with what it held."""
+    child = os.fork()
+    if child == 0:
+        try:
+            write()
+        except BaseException:
+            traceback.print_exc()
+            os._exit(1)
+        os._exit(0)
+    if os.waitpid(child, 0)[1] != 0:
+        sys.exit("a file could not be written")
 
 
 def key_of(number):

@@ -5,11 +5,13 @@ from events import Fault, document, is_name
 from inventory_files import inventory_of, missing_by, read_inventory
 from rehearsal import read_script, rehearsal_text, sites_of
 from replica_files import file_of, read_file
+from rulings import check_key, place_of, ruled
 from shown_texts import check_line, conflict_text, log_text
 
 DIRECTORY = object()  # stands for the content of a folder
 # How many words a command wants beside its options; `join` wants one or more.
-WORDS_WANTED = {b"missing": 2, b"missing-by": 2, b"inventory": 1, b"show": 1, b"check": 1, b"rehearse": 3}
+WORDS_WANTED = {b"missing": 2, b"missing-by": 2, b"inventory": 1, b"show": 1, b"check": 1, b"rehearse": 3,
+                b"rule": 4}
 
 
 class Usage(Exception):
@@ -41,6 +43,9 @@ class Call:
             raise Usage
         if self.command == b"rehearse":
             self.log, self.sites, *self.files = self.files
+        if self.command == b"rule":
+            self.ruling = [word.decode() for word in self.files[:3]]
+            del self.files[:3]
 
     def take(self, word):
         """One word, and the one behind it where it is an option's value."""
@@ -125,6 +130,9 @@ def written(call, files):
         raise Fault("log name", 2)
     if call.command == b"rehearse":
         return rehearsed(call, files)
+    if call.command == b"rule":
+        check_key(*call.ruling[:2])
+        call.ruling[2] = place_of(call.ruling[2])
     inputs = inputs_of(call, files)
     log = log_written(call, [log for log, _ in inputs])
     sets = [contents for _, contents in inputs]
@@ -134,6 +142,8 @@ def written(call, files):
         return file_of(log, with_carriers(sets[0] - sets[1]))
     if call.command == b"missing-by":
         return file_of(log, missing_by(*sets))
+    if call.command == b"rule":
+        return file_of(log, ruled(*sets, *call.ruling))
     if call.command == b"inventory":
         return inventory_of(log, *sets)
     if call.command == b"check":

@@ -1,12 +1,12 @@
 #!/usr/bin/env python3
 """Compares the built command with a second implementation of it, on generated inputs.
 
-    differential/compare.py [--count 3000] [--seed 1] [BINARY]
+    differential/compare.py [--count 4000] [--seed 1] [BINARY]
 
 The second implementation, in this folder, is of what docs/FORMATS.md describes. It was written apart from crates/ and
 shares nothing with it, so that a misreading in the definitions there would show as a difference. Compared are the exit
-status, standard output and standard error of `join`, `missing`, `missing-by`, `inventory`, `rehearse`, `show` and `check`. Not
-compared: the texts for words that are no call, which are clap's own, beyond that the status is 2 and that they go to
+status, standard output and standard error of `join`, `missing`, `missing-by`, `inventory`, `rule`, `rehearse`, `show` and
+`check`. Not compared: the texts for words that are no call, which are clap's own, beyond that the status is 2 and that they go to
 standard error alone; words that aren't UTF-8 count as no call. Nor is anything reached that takes a large input, a
 failed write or want of memory.
 
@@ -130,7 +130,7 @@ class Difference:
 
 def main():
     parser = argparse.ArgumentParser(description=__doc__, formatter_class=argparse.RawDescriptionHelpFormatter)
-    parser.add_argument("--count", type=int, default=3000)
+    parser.add_argument("--count", type=int, default=4000)
     parser.add_argument("--seed", type=int, default=1)
     parser.add_argument("binary", nargs="?", default=BINARY)
     options = parser.parse_args()

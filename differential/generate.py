@@ -3,6 +3,7 @@ import glob
 import os
 import random
 
+import odd_documents
 import odd_events
 import odd_files
 import odd_inventories
@@ -13,7 +14,7 @@ from inventory_files import digest_of, inventory_of, inventory_with
 from json_text import quoted, read_canonical, spelled
 from odd_events import chain, event
 from odd_files import (atoms_of, damaged, documents_told, file_with, grounded_part, resealed, some_carrier, some_file,
-                       some_file_of, some_head)
+                       some_file_of, some_head, with_rulings)
 from odd_values import any_value, good_name, good_time, nested, number, number_near_a_border, odd_name, odd_text, time
 from sealed_files import sealed
 from shown_texts import log_text
@@ -57,6 +58,13 @@ def reading(chance, data):
         ["show", "a"], ["show", "a"], ["show", "a"], ["show", "--conflicts", "a"], ["check", "a"], ["join", "a"],
         ["join", "--log", "g", "a"], ["missing", "a", "a"], ["inventory", "a"], ["missing-by", "a", "i"]]), \
         {"a": data, "i": NO_DIGESTS}
+
+
+def telling(chance, data):
+    """A call that reads one document, or joins it with another."""
+    return chance.choice([
+        ["show", "a"], ["show", "--conflicts", "a"], ["check", "a"], ["join", "a"], ["join", "a", "b"], ["join", "b", "a"]]), \
+        {"a": data, "b": spelled_oddly(chance, odd_events.document(chance))}
 
 
 def log_with(member):
@@ -326,7 +334,8 @@ def damaged_inventories(chance):
 
 
 def shows(chance):
-    words = chance.choice([["show", "a"], ["show", "--conflicts", "a"], ["show", "a", "--conflicts"], ["check", "a"]])
+    words = chance.choice([["show", "a"], ["show", "--conflicts", "a"], ["show", "--conflicts", "a"], ["show", "a", "--conflicts"],
+                           ["check", "a"]])
     return words, {"a": some_file_of(chance, "g", atoms_of(documents_told(chance, 1, 6)))}
 
 
@@ -418,7 +427,7 @@ def words(chance):
              "-x": some_file(chance), "g": some_file(chance, "h"), "folder": DIRECTORY,
              "e": spelled_oddly(chance, event(chance)), "i": NO_DIGESTS}
     command = chance.choice([
-        "join", "join", "missing", "missing-by", "inventory", "show", "check", "Join", "", "joi", "missing-", "--log"])
+        "join", "join", "missing", "missing-by", "inventory", "show", "check", "rule", "Join", "", "joi", "missing-", "--log"])
     behind = [chance.choice(LIKELY_WORDS if chance.random() < 0.6 else WORDS) for _ in range(chance.randint(0, 4))]
     return [command] + behind, files
 
@@ -442,6 +451,66 @@ def large(chance):
          {"a": some_file_of(chance, "g", mine | theirs)})])
 
 
+def doubled_names(chance):
+    return telling(chance, odd_documents.doubled(chance))
+
+
+def numbers_anywhere(chance):
+    return telling(chance, odd_documents.numbered(chance))
+
+
+def escapes_anywhere(chance):
+    return telling(chance, odd_documents.escaped(chance))
+
+
+def depths_anywhere(chance):
+    return telling(chance, odd_documents.deep(chance))
+
+
+def near_names(chance):
+    return telling(chance, odd_documents.near(chance))
+
+
+def far_members(chance):
+    return telling(chance, odd_documents.far(chance))
+
+
+def bare_documents(chance):
+    return telling(chance, odd_documents.bare(chance))
+
+
+def faults_in_turn(chance):
+    return telling(chance, odd_documents.odd_in_turn(chance))
+
+
+def rules(chance):
+    """A call that rules, of which most name a value that is held."""
+    told = atoms_of(documents_told(chance, 2, 5))
+    atoms = with_rulings(chance, told)
+    keys = sorted({atom[:2] for atom in atoms if len(atom) == 3}) or [("E", "e1")]
+    letter, name = chance.choice(keys)
+    held = sum(atom[:2] == (letter, name) and len(atom) == 3 for atom in atoms)
+    place = str(chance.choice([*range(1, held + 1)] * 6 + [held + 1, 3]))
+    kind = chance.random()
+    if kind < 0.08:
+        letter = chance.choice(["", "e", "A", "C", "T", "U", "X", "EE", "EG", "\u0415", "G", "M", "P", "R", "-E"])
+    elif kind < 0.16:
+        name = chance.choice([odd_name(chance).replace("\x00", ""), "", "nothere", "\x7f", "events", "x" * 1024, "x" * 1025])
+    elif kind < 0.28:
+        place = chance.choice(["", "0", "00", "01", "9", "999999999", "1000000000", "+1", "-1", "1 ", " 1", "1.0", "1x", "x", "0x1",
+                               "\u0661", "18446744073709551617"])
+    elif kind < 0.31:
+        letter, name, place = chance.choice(["", "x", letter]), chance.choice(["", "\n", name]), chance.choice(["0", "x", place])
+    told_otherwise = as_input(chance, chance.choice(documents_told(chance)))
+    files = {"a": told_otherwise if chance.random() < 0.1 else some_file_of(chance, "g", atoms),
+             "d": damaged(chance, some_file(chance), 1), "folder": DIRECTORY}
+    file = chance.choice(["a"] * 20 + ["d", "folder", "nothere"])
+    words = ["rule", letter, name, place, file]
+    if chance.random() < 0.02:
+        words = chance.choice([words[:4], words + ["a"], ["rule", "--", *words[1:]], words[:1]])
+    return words, files
+
+
 def rehearsals(chance):
     words, script = schedules.call(chance)
     return words, {"script": script, "folder": DIRECTORY}
@@ -450,9 +519,11 @@ def rehearsals(chance):
 # Each kind of case, and how many there are of it beside the others.
 KINDS = {
     numbers: 8, texts: 8, depths: 8, times: 10, orders: 4, names: 8, events: 12, documents: 10, joins: 12, missings: 10,
-    shows: 6, damages: 12, atoms: 14, nodes: 20, bits: 8, formats: 8, example_documents: 8, example_joins: 2, chains: 3, json_texts: 8, byte_texts: 4,
+    shows: 10, damages: 12, atoms: 14, nodes: 20, bits: 8, formats: 8, example_documents: 8, example_joins: 2, chains: 3, json_texts: 8, byte_texts: 4,
     words: 5, large: 1, inventories: 10,
-    damaged_inventories: 18}
+    damaged_inventories: 18, rules: 12,
+    doubled_names: 12, numbers_anywhere: 8, escapes_anywhere: 10, depths_anywhere: 10, near_names: 10, far_members: 10,
+    bare_documents: 12, faults_in_turn: 12}
 KINDS_WITH_REHEARSALS = {**KINDS, rehearsals: 12}
 
 

@@ -6,6 +6,7 @@ from json_text import NotJson, NotWhole, read, spelled
 from odd_events import attachment, event, odd_step, step
 from odd_values import PIECES, good_name, number, odd_name, time
 from replica_files import FIRST_LINES, file_of, shared
+from rulings import digest_of_value
 from sealed_files import head, sealed
 from spelling import spelled_oddly
 
@@ -19,6 +20,11 @@ SPELLINGS = ["\x7f", "\x1f", "\\u007f", "\\b", "\\u0008", "\\u000b", "\\u000B", 
 ENTITY_TEXTS = [
     spelled({"id": "a"}), spelled({"metricId": "a"}), spelled({"id": "a", "metricId": "a"}), spelled({"id": "b"}), "{}",
     "[]", spelled({"id": 7}), '"a"', '{"id": "a"}']
+
+
+SOME_DIGITS = digest_of_value("1")
+DIGITS = [SOME_DIGITS, SOME_DIGITS.upper(), SOME_DIGITS[1:], SOME_DIGITS + "0", "", "x", SOME_DIGITS[:-1] + "g", SOME_DIGITS[:-1] + "\u0661",
+          " " + SOME_DIGITS, "0" * 64, "f" * 64]
 
 
 def some(chance, values, least, most):
@@ -78,8 +84,21 @@ def some_head(chance):
     return head(FIRST_LINES[chance.choice([1, 2])], "g")
 
 
+def with_rulings(chance, atoms):
+    """The atoms, sometimes with rulings of their values, or of others."""
+    if chance.random() < 0.6:
+        return atoms
+    values = sorted(atom for atom in atoms if len(atom) == 3) or [("P", "n", "1")]
+    share = chance.choice([0.1, 0.3, 0.3, 1])
+    rulings = {("U", *value[:2], digest_of_value(value[2])) for value in values if chance.random() < share}
+    letter, name, text = chance.choice([value for value in values if value[:2] in {ruling[1:3] for ruling in rulings}] or values)
+    other_letter, other_name = chance.choice([letter] * 9 + [*"EGMPR"]), chance.choice([name] * 4 + ["e1", "events"])
+    odd = ("U", other_letter, other_name, digest_of_value(text + chance.choice(["", " ", " "])))
+    return atoms | rulings | ({odd} if chance.random() < 0.5 else set())
+
+
 def some_file_of(chance, log, atoms):
-    return file_of(log, atoms, chance.choice([1, 2]))
+    return file_of(log, with_rulings(chance, atoms), chance.choice([1, 2]))
 
 
 def some_file(chance, log="g"):
@@ -218,6 +237,11 @@ ODD_LISTS = [
     lambda chance, carrier: [["P", "n", '"%s"' % chance.choice(SPELLINGS)]],
     lambda chance, carrier: entity_with_part(chance),
     lambda chance, carrier: [["E", odd_name(chance), carrier[2]]],
+    lambda chance, carrier: [["U", chance.choice(["E", "G", "M", "P", "R"]), odd_name(chance), SOME_DIGITS]],
+    lambda chance, carrier: [["U", chance.choice(["E", "P"]), "events", chance.choice(DIGITS)]],
+    lambda chance, carrier: [["U", chance.choice(["", "e", "A", "T", "U", "X", "EE", "\u0415"]), "e1", SOME_DIGITS]],
+    lambda chance, carrier: [["U", "E", "e1", SOME_DIGITS] + chance.choice([[], ["x"], [SOME_DIGITS], ["T", "x"], [""]])],
+    lambda chance, carrier: [["U", "E", "e1", SOME_DIGITS][:chance.randint(1, 3)]],
 ]
 
 

@@ -1,6 +1,6 @@
 """Generated replica files of format 2 with something odd in their nodes."""
 from json_text import spelled
-from odd_files import ODD_LINES, atoms_of, damaged, documents_told
+from odd_files import DIGITS, ODD_LINES, atoms_of, damaged, documents_told, with_rulings
 from odd_values import PIECES, odd_name
 from replica_files import FIRST_LINES, nodes_of
 from sealed_files import head, sealed
@@ -8,7 +8,7 @@ from sealed_files import head, sealed
 DEPTHS = [-1, 0, 1, 2, 3, 4, 5, 6, 2 ** 32, 2 ** 64 - 1, 2 ** 64, None, True, "1", [1], {}]
 MARKS = [0, 1, 2, 2, 2, -1, 2 ** 64 - 1, None, True, False, "0", "1", [], {}]
 ELEMENTS = ["", "A", "C", "E", "G", "M", "P", "R", "T", "U", "X", "Z", "e", "EE", "\u0415", "e1", "e2", "zz", "id", "typeURI", "{}",
-            "[]", "1", "null", '"x"', '{"id":"e1"}', None, 0, True, [], ["E"], {}]
+            "[]", "1", "null", '"x"', '{"id":"e1"}', *DIGITS[:3], None, 0, True, [], ["E"], {}]
 LINES = [b'[1,0,"E"]', b'[1,0,"R"]', b'[1,1,"E"]', b'[1,0,"X"]', b'[1,0,"U"]', b"[1,0]", b"[1]", b'[1,0,"E",0]', b'[1,0,"E","E"]', b'{"1":0}',
          b'[1,0,E]', b'[1.0,0,"E"]', b'[1,0.0,"E"]', b'[01,0,"E"]', b'[-0,0,"E"]', b'[1e0,0,"E"]', b'[1,0,"\\u0045"]', b'[1, 0,"E"]',
          b'[18446744073709551615,0,"E"]', b'[18446744073709551616,0,"E"]', b'["E","e1","{}"]', b'[99,1,"x"]', b"[99,7,7]",
@@ -146,7 +146,7 @@ def spelled_node(node):
 
 def odd_nodes_file(chance):
     """A file of a small set, of which something about the nodes was changed once, or a line damaged too."""
-    nodes = [list(node) for node in nodes_of(atoms_of(documents_told(chance, 1, 3)))]
+    nodes = [list(node) for node in nodes_of(with_rulings(chance, atoms_of(documents_told(chance, 1, 3))))]
     if nodes:
         chance.choice(DAMAGES)(chance, nodes)
     lines = [spelled_node(node) for node in nodes]

@@ -1,5 +1,5 @@
 #!/usr/bin/env python3
-"""Worked rows of replica files in both formats, of inventories and of rehearsals: what is written is told here, by
+"""Worked rows of replica files in both formats, of rulings, inventories and rehearsals: what is written is told here, by
 hashlib or in full.
 
     differential/rows.py [BINARY]
@@ -8,6 +8,7 @@ Each row is answered by the second implementation, and by BINARY where it is giv
 lists that command. The status is 1 where one differs.
 """
 import hashlib
+import json
 import os
 import sys
 
@@ -75,6 +76,79 @@ SIZES = [
     (inventory(digits(EVENT)), 155),
     (NOTHING_TREE, 88), (EVENT_TREE, 294), (CHAINS_TREE, 409)]
 
+RULING = line("U", "E", "e1", digits(FAILED))
+RULING_NODES = ((1, 0, "U"), (2, 0, "E"), (3, 0, "e1"))
+CONFLICT_NODES = (*FRONT, *OTHER_NODES, BODY_NODE, *CHAIN_NODES)
+RULED_TREE = tree(*CONFLICT_NODES, *RULING_NODES, (4, 1, digits(FAILED)))
+TWICE_RULED_TREE = tree(*CONFLICT_NODES, *RULING_NODES, *((4, 1, one) for one in sorted([digits(FAILED), digits(BODY)])))
+NORTH, SOUTH = line("P", "name", '"north"'), line("P", "name", '"south"')
+
+
+def event_shown(body, step):
+    """The event of that body with a chain of one step, as both texts have it."""
+    text = '{"id":"e1","reporterchain":[%s],"typeURI":"http://schemas.dmtf.org/cloud/audit/1.0/event",%s' % (step, body[1:])
+    return json.dumps(json.loads(text), separators=(",", ":"), sort_keys=True)
+
+
+def log(*events, more=""):
+    return ('{"events":[%s],"geolocations":[],"id":"g","metrics":[],%s"resources":[],'
+            '"typeURI":"http://schemas.dmtf.org/cloud/audit/1.0/log"}\n' % (",".join(events), more))
+
+
+def conflicts(*entries, rulings=""):
+    return '{"conflicts":[%s],"log":"g","rulings":[%s]}\n' % (",".join(entries), rulings)
+
+
+F, T = event_shown(FAILED, STEP_2), event_shown(BODY, STEP_1)
+RULED = '["E","e1","%s"]' % digits(FAILED)
+
+# What is called on a file, and what is written.
+RULED_ROWS = [
+    ("a ruling", "rule E e1 1", CONFLICT, RULED_TREE),
+    ("a ruling of a file of format 2", "rule E e1 1", CONFLICT_TREE, RULED_TREE),
+    ("a ruling again", "rule E e1 1", RULED_TREE, RULED_TREE),
+    ("a ruling in format 1", "join", replica(OTHER, OTHER_CHAIN, EVENT, CHAIN, RULING), RULED_TREE),
+    ("a settled event", "show", RULED_TREE, log(F)),
+    ("what is beside it", "show --conflicts", RULED_TREE,
+     conflicts('{"key":"e1","kind":"E","ruled":"%s","values":[%s]}' % (digits(FAILED), T), rulings=RULED)),
+    ("a settled key counts", "check", RULED_TREE, 'ok "g" atoms 5 conflicts 1\n'),
+    ("the other ruling", "rule E e1 2", RULED_TREE, TWICE_RULED_TREE),
+    ("two rulings settle nothing", "show", TWICE_RULED_TREE, log()),
+    ("two rulings are told", "show --conflicts", TWICE_RULED_TREE, conflicts(
+        '{"key":"e1","kind":"E","values":[%s,%s]}' % (F, T),
+        rulings=",".join('["E","e1","%s"]' % one for one in sorted([digits(FAILED), digits(BODY)])))),
+    ("a property", "rule P name 2", replica(NORTH, SOUTH), tree(
+        (1, 0, "P"), (2, 0, "name"), (3, 1, '"north"'), (3, 1, '"south"'), (1, 0, "U"), (2, 0, "P"), (3, 0, "name"),
+        (4, 1, digits('"south"')))),
+    ("a settled property", "show", replica(NORTH, SOUTH, line("U", "P", "name", digits('"south"'))), log(more='"name":"south",')),
+    ("a ruling of what isn't held", "show", replica(EVENT, CHAIN, RULING), log(T)),
+    ("it is told", "show --conflicts", replica(EVENT, CHAIN, RULING), conflicts(rulings=RULED)),
+    ("no ruling", "show --conflicts", replica(EVENT), conflicts()),
+    ("a ruling of what isn't held unsettles nothing", "show",
+     replica(OTHER, OTHER_CHAIN, EVENT, CHAIN, *sorted([RULING, line("U", "E", "e1", digits("x"))])), log(F)),
+    ("all of it is told", "show --conflicts",
+     replica(OTHER, OTHER_CHAIN, EVENT, CHAIN, *sorted([RULING, line("U", "E", "e1", digits("x"))])), conflicts(
+         '{"key":"e1","kind":"E","ruled":"%s","values":[%s]}' % (digits(FAILED), T),
+         rulings=",".join('["E","e1","%s"]' % one for one in sorted([digits(FAILED), digits("x")])))),
+]
+
+# What is called on a file, the status and what is refused.
+RULE_REFUSED = [
+    ("a place that isn't", "rule E e1 3", CONFLICT, 1, "no such value"),
+    ("a key that isn't", "rule E e2 1", CONFLICT, 1, "no such value"),
+    ("another kind", "rule P e1 1", CONFLICT, 1, "no such value"),
+    ("another letter", "rule U e1 0", CONFLICT, 2, "letter"),
+    ("place 0", "rule E e1 0", CONFLICT, 2, "place"),
+    ("a leading zero", "rule E e1 01", CONFLICT, 2, "place"),
+    ("a place of ten digits", "rule E e1 1000000000", CONFLICT, 2, "place"),
+    ("a ruling of no kind", "check", replica(EVENT, line("U", "X", "e1", digits(FAILED))), 1, "input 1: line 4: shape"),
+    ("digits in upper case", "check", replica(line("U", "E", "e1", digits(FAILED).upper())), 1, "input 1: line 3: shape"),
+    ("more behind a ruling", "check", replica(line("U", "E", "e1", digits(FAILED), "x")), 1, "input 1: line 3: shape"),
+    ("a ruling without a mark", "check", tree(*RULING_NODES, (4, 0, digits(FAILED))), 1, "input 1: line 6: unended"),
+    ("a key of a ruling with a mark", "check", tree(*RULING_NODES[:2], (3, 1, "e1")), 1, "input 1: line 5: shape"),
+    ("the letter alone", "check", tree(RULING_NODES[0]), 1, "input 1: line 3: unended"),
+]
+
 # What is called, of files FROM and BY, and what is written.
 WRITTEN = [
     ("the inventory of no atoms", "inventory", replica(), None, inventory()),
@@ -105,6 +179,9 @@ WRITTEN = [
     ("a tag is lacked", "missing", replica(EVENT, CHAIN, TAG), tree(*FRONT, BODY_NODE, *CHAIN_NODES),
      tree(*FRONT, BODY_NODE, (4, 0, "T"), (5, 1, "x"))),
     ("nothing is lacked", "missing", CHAINS, CHAINS_TREE, NOTHING_TREE),
+    ("a ruling is lacked", "missing", RULED_TREE, CONFLICT, tree(*RULING_NODES, (4, 1, digits(FAILED)))),
+    ("a ruling is lacked by its digest", "missing-by", RULED_TREE,
+     inventory(*sorted(digits(one) for one in (OTHER, OTHER_CHAIN, EVENT, CHAIN))), tree(*RULING_NODES, (4, 1, digits(FAILED)))),
 ]
 
 # The nodes of a file, and what is refused.
@@ -211,6 +288,10 @@ def calls():
         yield name, [b"missing-by", b"from", b"by"], {b"from": source, b"by": by}, Answer(1, b"", fault)
     for name, file, said in FILES_REFUSED + [(name, tree(*nodes), said) for name, nodes, said in NODES_REFUSED]:
         yield name, [b"check", b"from"], {b"from": file}, Answer(1, b"", ("cadf: input 1: %s\n" % said).encode())
+    for name, words, file, output in RULED_ROWS:
+        yield name, [*words.encode().split(), b"from"], {b"from": file}, Answer(0, output.encode(), b"")
+    for name, words, file, status, said in RULE_REFUSED:
+        yield name, [*words.encode().split(), b"from"], {b"from": file}, Answer(status, b"", ("cadf: %s\n" % said).encode())
     for sites, lines, wanted in rehearsal_rows():
         words = [b"rehearse", b"g", str(sites).encode(), b"script"]
         yield "rehearsal of " + "; ".join(lines), words, {b"script": "\n".join(lines)}, wanted

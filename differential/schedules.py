@@ -1,4 +1,5 @@
 """Generated rehearsal scripts: schedules of messages that are stale, lost or repeated, and scripts with a fault."""
+from odd_documents import any_odd_document
 from odd_files import documents_told
 from spelling import spelled_oddly
 
@@ -73,7 +74,7 @@ class Schedule:
 def odd_turn(schedule, count):
     """A line that is refused where it stands at the end, or is near that."""
     chance, site = schedule.chance, schedule.chance.choice(schedule.busy)
-    kind = chance.randrange(9)
+    kind = chance.randrange(10)
     if kind == 0:
         schedule.add(chance.choice(["ask", "send"]), count)
     elif kind == 1:
@@ -88,6 +89,8 @@ def odd_turn(schedule, count):
         schedule.add("deliver", chance.choice(answers), chance.choice(schedule.busy + list(range(count))))
     elif kind == 6:
         schedule.learn(chance.choice([site, site, count]), chance.choice(["h", "G", "g "]))
+    elif kind == 7:
+        schedule.add("learn", site, any_odd_document(chance).replace(b"\n", b" "))
     else:
         schedule.lines.append(chance.choice(chance.choice([ODD_LINES, GOOD_LINES, BEYOND_LINES])))
 

@@ -10,7 +10,7 @@ class Raw:
 
 
 class Members:
-    """An object's members in an order of their own; a name may come twice."""
+    """An object's members in an order of their own; a name may come twice, and be spelled already."""
 
     def __init__(self, members):
         self.members = list(members)
@@ -50,7 +50,8 @@ def spelled_oddly(chance, value, odd=0.0):
 
     def member(name, value):
         colon = blanks(chance, odd) + b":" + blanks(chance, odd)
-        return spelled_text(chance, name, odd) + colon + spelled_oddly(chance, value, odd)
+        spelling = name.data if isinstance(name, Raw) else spelled_text(chance, name, odd)
+        return spelling + colon + spelled_oddly(chance, value, odd)
 
     if isinstance(value, Raw):
         return value.data

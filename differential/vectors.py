@@ -22,7 +22,7 @@ FOLDER = os.path.join(os.path.dirname(os.path.dirname(os.path.abspath(__file__))
 
 # Files of format 1, and the file of format 2 with the same log and set.
 OLD = {"north.1.cadf": "north.cadf", "south.1.cadf": "south.cadf", "both.1.cadf": "both.cadf", "event.1.cadf": "event.cadf",
-       "southward.1.cadf": "southward.cadf", "nothing.1.cadf": "nothing.cadf"}
+       "southward.1.cadf": "southward.cadf", "nothing.1.cadf": "nothing.cadf", "ruled.1.cadf": "ruled.cadf"}
 
 BODY = ('{"action":"read","eventTime":"2024-03-01T12:00:00Z","eventType":"activity","initiatorId":"u1","observerId":"s1",'
         '"outcome":"success","targetId":"t1"}')
@@ -43,6 +43,8 @@ WRONG = {
     "below-a-tag.cadf": [LETTER, E1, WHOLE, [4, 0, "T"], [5, 1, "x"], [6, 1, "y"]],
     "blank.cadf": ['[1, 0,"E"]'],
     "atom.cadf": [["E", "e1", BODY]],
+    "ruling-letter.cadf": [[1, 0, "U"], [2, 0, "X"], [3, 0, "e1"], [4, 1, "0" * 64]],
+    "ruling-digits.cadf": [[1, 0, "U"], [2, 0, "E"], [3, 0, "e1"], [4, 1, "A" * 64]],
 }
 
 

@@ -10,7 +10,7 @@ use cadf_event::{Name, NameFault};
 use cadf_json::{FromStd, Sink};
 use cadf_tool::{
     FILE_LIMIT, ToolFault, run_check, run_inventory, run_join, run_missing, run_missing_by,
-    run_rehearse, run_show, status,
+    run_rehearse, run_rule, run_show, status,
 };
 use clap::error::ErrorKind;
 use clap::{ArgMatches, Error};
@@ -24,7 +24,10 @@ use std::{env, fs, io};
 const REFUSED: u8 = 2;
 
 /// The most sites of a rehearsal.
-const MOST_SITES: usize = 64;
+const MOST_SITES: u64 = 64;
+
+/// The greatest place of a value that can be ruled.
+const MOST_PLACE: u64 = 999_999_999;
 
 /// Why a command didn't do its work.
 #[derive(Drop)]
@@ -34,6 +37,12 @@ enum Stop {
     LogName,
     /// The number of sites isn't 1 to 64 in decimal without a leading zero.
     Sites,
+    /// No value has the letter.
+    Letter,
+    /// The key is no name.
+    Key,
+    /// The place isn't 1 to `MOST_PLACE` in decimal without a leading zero.
+    Place,
     /// The first word names no command.
     Command,
 }
@@ -87,13 +96,18 @@ fn flushed<W: Write + Drop>(output: FromStd<Metered<W>>) -> Result<u64, ToolFaul
     }
 }
 
-/// The log of that identifier.
-fn log_named(alloc: Global, text: &str) -> Result<Name, Stop> {
-    match Name::read(alloc, text) {
+/// The name that the word is, or why the command stops where it is none.
+fn name_given(alloc: Global, word: &str, otherwise: Stop) -> Result<Name, Stop> {
+    match Name::read(alloc, word) {
         Ok(name) => Ok(name),
         Err(NameFault::Memory) => Err(Stop::Tool(ToolFault::Memory)),
-        Err(_) => Err(Stop::LogName),
+        Err(_) => Err(otherwise),
     }
+}
+
+/// The log of that identifier.
+fn log_named(alloc: Global, text: &str) -> Result<Name, Stop> {
+    name_given(alloc, text, Stop::LogName)
 }
 
 /// The log that `--log` names.
@@ -104,16 +118,44 @@ fn log_given(alloc: Global, matches: &ArgMatches) -> Result<Option<Name>, Stop> 
     }
 }
 
-/// The number of sites that the word spells: 1 to 64, in decimal without a leading zero.
-fn sites_given(word: &str) -> Result<usize, Stop> {
+/// The number that the word spells: 1 to `most`, in decimal without a leading zero.
+fn number_given(word: &str, most: u64) -> Option<u64> {
     if !word.starts_with('+') && !word.starts_with('0') {
-        if let Ok(sites) = word.parse::<usize>() {
-            if sites <= MOST_SITES {
-                return Ok(sites);
+        if let Ok(number) = word.parse::<u64>() {
+            if number <= most {
+                return Some(number);
             }
         }
     }
-    Err(Stop::Sites)
+    None
+}
+
+/// The number of sites that the word spells.
+fn sites_given(word: &str) -> Result<usize, Stop> {
+    match number_given(word, MOST_SITES) {
+        Some(sites) => Ok(sites as usize),
+        None => Err(Stop::Sites),
+    }
+}
+
+/// The letter of values that the word is.
+fn letter_given(word: &str) -> Result<char, Stop> {
+    match word {
+        "E" => Ok('E'),
+        "G" => Ok('G'),
+        "M" => Ok('M'),
+        "P" => Ok('P'),
+        "R" => Ok('R'),
+        _ => Err(Stop::Letter),
+    }
+}
+
+/// The place of a value that the word spells.
+fn place_given(word: &str) -> Result<u64, Stop> {
+    match number_given(word, MOST_PLACE) {
+        Some(place) => Ok(place),
+        None => Err(Stop::Place),
+    }
 }
 
 /// Runs `join` on files.
@@ -150,6 +192,19 @@ fn check<W: Sink>(rt: &HostRuntime, matches: &ArgMatches, output: &mut W) -> Res
     Ok(run_check(rt.alloc(), &mut input, output)?)
 }
 
+/// Runs `rule` on a file.
+fn rule<W: Sink>(rt: &HostRuntime, matches: &ArgMatches, output: &mut W) -> Result<(), Stop> {
+    let letter = letter_given(matches.get_str("LETTER").unwrap_or_default())?;
+    let key = name_given(
+        rt.alloc(),
+        matches.get_str("KEY").unwrap_or_default(),
+        Stop::Key,
+    )?;
+    let place = place_given(matches.get_str("PLACE").unwrap_or_default())?;
+    let mut input = open(rt, matches, "FILE", 1)?;
+    Ok(run_rule(rt.alloc(), letter, &key, place, &mut input, output)?)
+}
+
 /// Runs `rehearse` on a script.
 fn rehearse<W: Sink>(rt: &HostRuntime, matches: &ArgMatches, output: &mut W) -> Result<(), Stop> {
     let log = log_named(rt.alloc(), matches.get_str("LOG").unwrap_or_default())?;
@@ -177,6 +232,7 @@ fn run_engine<W: Sink>(
         "missing" => missing(rt, matches, output),
         "missing-by" => missing_by(rt, matches, output),
         "inventory" => inventory(rt, matches, output),
+        "rule" => rule(rt, matches, output),
         "rehearse" => rehearse(rt, matches, output),
         "show" => show(rt, matches, output),
         "check" => check(rt, matches, output),
@@ -203,6 +259,12 @@ fn warn(rt: &HostRuntime, written: u64) {
     }
 }
 
+/// Says that the command line is refused, and for what.
+fn refuse(rt: &HostRuntime, what: &str) -> ExitCode {
+    let _ = eprintln!(rt; "cadf: {what}");
+    ExitCode::from(REFUSED)
+}
+
 /// Says why the command gave up.
 fn report(rt: &HostRuntime, stop: &Stop) -> ExitCode {
     match stop {
@@ -210,18 +272,12 @@ fn report(rt: &HostRuntime, stop: &Stop) -> ExitCode {
             let _ = eprintln!(rt; "cadf: {fault}");
             ExitCode::from(status(fault))
         }
-        Stop::LogName => {
-            let _ = eprintln!(rt; "cadf: log name");
-            ExitCode::from(REFUSED)
-        }
-        Stop::Sites => {
-            let _ = eprintln!(rt; "cadf: sites");
-            ExitCode::from(REFUSED)
-        }
-        Stop::Command => {
-            let _ = eprintln!(rt; "cadf: command");
-            ExitCode::from(REFUSED)
-        }
+        Stop::LogName => refuse(rt, "log name"),
+        Stop::Sites => refuse(rt, "sites"),
+        Stop::Letter => refuse(rt, "letter"),
+        Stop::Key => refuse(rt, "key"),
+        Stop::Place => refuse(rt, "place"),
+        Stop::Command => refuse(rt, "command"),
     }
 }
 

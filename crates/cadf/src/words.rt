@@ -66,6 +66,33 @@ fn inventory<'a>(alloc: Global) -> Result<Command<'a>, Error> {
     )
 }
 
+/// `rule`, with its words.
+fn rule<'a>(alloc: Global) -> Result<Command<'a>, Error> {
+    let letter = Arg::new(alloc, "LETTER")
+        .required(true)
+        .value_parser(ValueParser::string())
+        .help("The key's kind: E event, G geolocation, M metric, P property, R resource");
+    let key = Arg::new(alloc, "KEY")
+        .required(true)
+        .value_parser(ValueParser::string())
+        .help("The identifier or the name that has several values");
+    let place = Arg::new(alloc, "PLACE")
+        .required(true)
+        .value_parser(ValueParser::string())
+        .help("Which of them is to be shown, from 1 in their order");
+    let file = Arg::new(alloc, "FILE")
+        .required(true)
+        .help("A replica file or a log");
+    Ok(
+        Command::new(alloc, "rule")
+            .about("Writes the replica file with a ruling on a conflict")
+            .arg(letter)?
+            .arg(key)?
+            .arg(place)?
+            .arg(file)?,
+    )
+}
+
 /// `rehearse`, with its words.
 fn rehearse<'a>(alloc: Global) -> Result<Command<'a>, Error> {
     let log = Arg::new(alloc, "LOG")
@@ -128,6 +155,7 @@ pub(crate) fn command<'a>(alloc: Global) -> Result<Command<'a>, Error> {
             .subcommand(missing(alloc)?)?
             .subcommand(missing_by(alloc)?)?
             .subcommand(inventory(alloc)?)?
+            .subcommand(rule(alloc)?)?
             .subcommand(rehearse(alloc)?)?
             .subcommand(show(alloc)?)?
             .subcommand(check(alloc)?)?,

@@ -28,6 +28,10 @@ mod refused_nodes;
 #[cfg(test)]
 mod rehearsals;
 #[cfg(test)]
+mod ruled;
+#[cfg(test)]
+mod rulings;
+#[cfg(test)]
 mod streams;
 #[cfg(test)]
 mod support;

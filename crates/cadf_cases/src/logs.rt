@@ -168,22 +168,22 @@ const CONFLICTS: [(&str, &str, &str); 4] = [
     (
         "a log with no event",
         r#"{"id":"g","events":[]}"#,
-        r#"{"conflicts":[],"log":"g"}"#,
+        r#"{"conflicts":[],"log":"g","rulings":[]}"#,
     ),
     (
         "times that are one time",
         r#"{"id":"g","events":[{"action":"read","eventTime":"2024-03-01T12:00:00+0000","eventType":"activity","id":"e1",REST},{"action":"read","eventTime":"2024-03-01T12:00:00.000+00:00","eventType":"activity","id":"e1",REST}]}"#,
-        r#"{"conflicts":[],"log":"g"}"#,
+        r#"{"conflicts":[],"log":"g","rulings":[]}"#,
     ),
     (
         "two outcomes, each with its chain",
         r#"{"id":"g","events":[{HEAD,REST,"reporterchain":[S1]},{HEAD,PARTIES,"outcome":"failure","targetId":"t1","typeURI":"EVT","reporterchain":[S2]}]}"#,
-        r#"{"conflicts":[{"key":"e1","kind":"E","values":[{HEAD,PARTIES,"outcome":"failure","reporterchain":[S2],"targetId":"t1","typeURI":"EVT"},{HEAD,PARTIES,"outcome":"success","reporterchain":[S1],"targetId":"t1","typeURI":"EVT"}]}],"log":"g"}"#,
+        r#"{"conflicts":[{"key":"e1","kind":"E","values":[{HEAD,PARTIES,"outcome":"failure","reporterchain":[S2],"targetId":"t1","typeURI":"EVT"},{HEAD,PARTIES,"outcome":"success","reporterchain":[S1],"targetId":"t1","typeURI":"EVT"}]}],"log":"g","rulings":[]}"#,
     ),
     (
         "one instant at two offsets",
         r#"{"id":"g","events":[{"action":"read","eventTime":"2024-03-01T13:00:00+01:00","eventType":"activity","id":"e1",REST},V1]}"#,
-        r#"{"conflicts":[{"key":"e1","kind":"E","values":[V1,{"action":"read","eventTime":"2024-03-01T13:00:00+01:00","eventType":"activity","id":"e1",REST}]}],"log":"g"}"#,
+        r#"{"conflicts":[{"key":"e1","kind":"E","values":[V1,{"action":"read","eventTime":"2024-03-01T13:00:00+01:00","eventType":"activity","id":"e1",REST}]}],"log":"g","rulings":[]}"#,
     ),
 ];
 

@@ -1,12 +1,12 @@
 //! Reads and writes that fail, each in turn, of every engine.
 use crate::files::{EMPTY, written};
 use crate::inventories::NONE;
-use crate::nodes;
+use crate::{nodes, ruled};
 use cadf_event::Name;
 use cadf_json::{FailingWrite, MemorySink, MemorySource};
 use cadf_tool::{
     ToolFault, run_check, run_inventory, run_join, run_missing, run_missing_by, run_rehearse,
-    run_show, status,
+    run_rule, run_show, status,
 };
 use std::alloc::Global;
 use std::process::Abort;
@@ -28,6 +28,7 @@ enum Engine {
     Join,
     Missing,
     MissingBy,
+    Rule,
     Rehearse,
 }
 
@@ -38,7 +39,7 @@ const CHAINED: &str =
 const LOG: &str = r#"{"id":"g","events":[]}"#;
 
 /// Engines with two inputs, small ones, since each is read again for each of its reads.
-const READ: [(Engine, &str, &str); 10] = [
+const READ: [(Engine, &str, &str); 11] = [
     (Engine::Show, nodes::ONE, ""),
     (Engine::Show, LOG, ""),
     (Engine::Conflicts, EMPTY, ""),
@@ -48,23 +49,25 @@ const READ: [(Engine, &str, &str); 10] = [
     (Engine::Join, LOG, nodes::EMPTY),
     (Engine::Missing, EMPTY, LOG),
     (Engine::MissingBy, LOG, NONE),
+    (Engine::Rule, nodes::NORTH_AND_SOUTH, ""),
     (Engine::Rehearse, "ask 1\nsend 0\n", ""),
 ];
 
 /// Engines with two inputs, and the text that each writes.
-const WRITTEN: [(Engine, &str, &str, &str); 8] = [
+const WRITTEN: [(Engine, &str, &str, &str); 9] = [
     (Engine::Show, nodes::CHAINS, "", CHAINED),
     (
         Engine::Conflicts,
         LOG,
         "",
-        "{\"conflicts\":[],\"log\":\"g\"}\n",
+        "{\"conflicts\":[],\"log\":\"g\",\"rulings\":[]}\n",
     ),
     (Engine::Check, LOG, "", "ok \"g\" atoms 0 conflicts 0\n"),
     (Engine::Inventory, LOG, "", NONE),
     (Engine::Join, LOG, "V1", nodes::ONE),
     (Engine::Missing, LOG, EMPTY, nodes::EMPTY),
     (Engine::MissingBy, nodes::EMPTY, NONE, nodes::EMPTY),
+    (Engine::Rule, nodes::NORTH_AND_SOUTH, "", ruled::SOUTH),
     (
         Engine::Rehearse,
         "",
@@ -87,8 +90,21 @@ fn run<'a>(
         Engine::Inventory => run_inventory(alloc, first, sink),
         Engine::Missing => run_missing(alloc, first, second, sink),
         Engine::MissingBy => run_missing_by(alloc, first, second, sink),
+        Engine::Rule => south_ruled(alloc, first, sink),
         Engine::Rehearse => rehearsed(alloc, first, sink),
         _ => run_show(alloc, false, first, sink),
+    }
+}
+
+/// What is answered of a ruling for the second value of the property `name`.
+fn south_ruled(
+    alloc: Global,
+    input: &mut MemorySource<'_>,
+    sink: &mut MemorySink,
+) -> Result<(), ToolFault> {
+    match Name::read(alloc, "name") {
+        Ok(key) => run_rule(alloc, 'P', &key, 2, input, sink),
+        Err(_) => Err(ToolFault::Memory),
     }
 }
 

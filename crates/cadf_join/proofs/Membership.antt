@@ -4,7 +4,16 @@ use Rattle.std.specs.Prelude.{◌↔◌, ◌&&◌}
 use mathlib.Core.Bool.{true≢false}
 use Rattle.std.specs.FinMap as fin
 use Rattle.cadf_join.specs.Contents.{Text, Texts, TextSetValue, Contents, Has, under, section, singles}
-use Rattle.cadf_join.specs.laws.Contents.{text_total, text_same, contains-under, empty_list-under, contains-section, contains-singles, empty_list-singles, longer-singles}
+use Rattle.cadf_join.specs.laws.Contents.{
+  text_total,
+  text_same,
+  contains-under,
+  empty_list-under,
+  contains-section,
+  contains-singles,
+  empty_list-singles,
+  longer-singles,
+}
 use Rattle.cadf_join.specs.Maps.{MapValue, heads, held, contents_at}
 use Rattle.cadf_join.specs.laws.Maps.{contains-joined, head_has, has_head}
 use Rattle.cadf_join.proofs.Members as members

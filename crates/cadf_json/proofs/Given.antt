@@ -15,6 +15,7 @@ pub Given-map : {A B : Type 0} (P : A → Type 0) (Q : B → Type 0) (f : A → 
 Given-map P Q f step None h = tt
 Given-map P Q f step (Some a) h = step a h
 
-pub Given-and_then : {A B : Type 0} (P : A → Type 0) (Q : B → Type 0) (f : A → Option B) → ((a : A) → P a → Given Q (f a)) → (o : Option A) → Given P o → Given Q (option_and_then f o)
+pub Given-and_then : {A B : Type 0} (P : A → Type 0) (Q : B → Type 0) (f : A → Option B) → ((a : A) → P a → Given Q (f a)) → (o : Option A) → Given P o
+    → Given Q (option_and_then f o)
 Given-and_then P Q f step None h = tt
 Given-and_then P Q f step (Some a) h = step a h

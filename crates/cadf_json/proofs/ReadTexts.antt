@@ -3,7 +3,32 @@ use Rattle.std.proofs.Common.{ℕ, zero, suc, List, [], ◌∷◌, length, Optio
 use Rattle.std.specs.Prelude.{⊤}
 use Rattle.json.specs.Token.{Token}
 use Rattle.json.specs.Lex.{tokens}
-use Rattle.json.specs.Json.{Json, null, boolean, number, string, array, object, Items, no_items, item, Members, no_members, member, Parse, parse_map, after_end_array, read_key, items_step, members_step, items, members, value_with, value, if_last}
+use Rattle.json.specs.Json.{
+  Json,
+  null,
+  boolean,
+  number,
+  string,
+  array,
+  object,
+  Items,
+  no_items,
+  item,
+  Members,
+  no_members,
+  member,
+  Parse,
+  parse_map,
+  after_end_array,
+  read_key,
+  items_step,
+  members_step,
+  items,
+  members,
+  value_with,
+  value,
+  if_last,
+}
 use Rattle.cadf_json.proofs.Given.{Given}
 use Rattle.cadf_json.proofs.TokenTexts.{HaveUtf8, tokens_utf8}
 
@@ -31,7 +56,8 @@ ReadWell P o = Given (λ p. P p.0 × HaveUtf8 p.1) o
 abbrev Reads : {A : Type 0} → (A → Type 0) → Parse A → Type 0
 Reads P parse = (ts : List Token) → HaveUtf8 ts → ReadWell P (parse ts)
 
-mapped : {A B : Type 0} (P : A → Type 0) (Q : B → Type 0) (f : A → B) → ((a : A) → P a → Q (f a)) → (o : Option (A × List Token)) → ReadWell P o → ReadWell Q (parse_map f o)
+mapped : {A B : Type 0} (P : A → Type 0) (Q : B → Type 0) (f : A → B) → ((a : A) → P a → Q (f a)) → (o : Option (A × List Token)) → ReadWell P o
+    → ReadWell Q (parse_map f o)
 mapped P Q f step None h = tt
 mapped P Q f step (Some p) h = (step p.0 h.0, h.1)
 
@@ -67,7 +93,8 @@ keys (Token.null ∷ ts) h = tt
 keys (Token.bad ∷ ts) h = tt
 
 module _ (p : Parse Json) (reads : Reads JsonHasUtf8 p) where
-  item_turn : (more : Parse Items) → Reads ItemsHaveUtf8 more → (ts : List Token) → HaveUtf8 ts → (o : Option (List Token)) → Given HaveUtf8 o → ReadWell ItemsHaveUtf8 (items_step p more ts o)
+  item_turn : (more : Parse Items) → Reads ItemsHaveUtf8 more → (ts : List Token) → HaveUtf8 ts → (o : Option (List Token)) → Given HaveUtf8 o
+      → ReadWell ItemsHaveUtf8 (items_step p more ts o)
   item_turn more again ts h (Some r) k = (tt, k)
   item_turn more again ts h None k = and_more ItemsHaveUtf8 item (λ j js a b. (a, b)) more again (p ts) (reads ts h)
 

@@ -1,12 +1,59 @@
 -- The content of a string in a UTF-8 text is UTF-8.
-use Rattle.std.proofs.Common.{◌≡◌, ℕ, ◌+◌, ◌*◌, ◌<◌, ◌&&◌, ◌||◌, ◌==◌, true, false, cond, nat_lt, List, [], ◌∷◌, ◌++◌, length, get_or, drop, Option, Some, None, IsUtf8, refl, sym, ap, ◌∙◌, subst, arith, append_assoc, append-nil, eqb-true, ltb-true}
+use Rattle.std.proofs.Common.{
+  ◌≡◌,
+  ℕ,
+  ◌+◌,
+  ◌*◌,
+  ◌<◌,
+  ◌&&◌,
+  ◌||◌,
+  ◌==◌,
+  true,
+  false,
+  cond,
+  nat_lt,
+  List,
+  [],
+  ◌∷◌,
+  ◌++◌,
+  length,
+  get_or,
+  drop,
+  Option,
+  Some,
+  None,
+  IsUtf8,
+  refl,
+  sym,
+  ap,
+  ◌∙◌,
+  subst,
+  arith,
+  append_assoc,
+  append-nil,
+  eqb-true,
+  ltb-true,
+}
 use Rattle.std.proofs.lemmas.Bool.{and_parts, cond_both}
 use Rattle.std.proofs.lemmas.Bool.Decides.{nat_tests}
 use Rattle.std.proofs.lemmas.List.{get_or_at, take_at, drop_at, length-append}
 use Rattle.std.proofs.lemmas.Str.{IsUtf8-append, IsUtf8-encode, IsUtf8-take, IsUtf8-drop, encode_ascii, IsCharBoundary-before_ascii, IsCharBoundary-after_ascii}
 use Rattle.std.specs.Char.{IsScalar, is_digit, digit_value, encode_utf8}
 use lib.Utf8.{low_scalar}
-use Rattle.json.specs.Text.{code_unit, short_escape, is_high_surrogate, is_low_surrogate, surrogate_pair, Within, plain, after_backslash, after_u, after_high, prepend, content}
+use Rattle.json.specs.Text.{
+  code_unit,
+  short_escape,
+  is_high_surrogate,
+  is_low_surrogate,
+  surrogate_pair,
+  Within,
+  plain,
+  after_backslash,
+  after_u,
+  after_high,
+  prepend,
+  content,
+}
 use Rattle.cadf_json.proofs.Given.{Given, Given-same, Given-map, Given-and_then}
 
 -- ---- a UTF-8 text beside an ASCII byte
@@ -29,7 +76,8 @@ rest_of pre x xs =
 pub behind_ascii : (pre : List ℕ) (x : ℕ) (xs : List ℕ) → x < 128 → IsUtf8 (pre ++ x ∷ xs) → IsUtf8 xs
 behind_ascii pre x xs small u =
     subst IsUtf8 (rest_of pre x xs)
-    (IsUtf8-drop (pre ++ x ∷ xs) (length pre + 1) u (IsCharBoundary-after_ascii (pre ++ x ∷ xs) (length pre) u (there pre x xs) (omega (arith, at_byte pre x xs))))
+    (IsUtf8-drop (pre ++ x ∷ xs) (length pre + 1) u (IsCharBoundary-after_ascii (pre ++ x ∷ xs) (length pre) u (there pre x xs)
+    (omega (arith, at_byte pre x xs))))
 
 -- ---- escapes
 
@@ -64,7 +112,8 @@ spelled_unit a b c d h =
 hex : (a b c d : ℕ) → Given (λ u. IsHex a b c d u) (code_unit a b c d)
 unfolding code_unit
 hex a b c d =
-    cond_both (is_digit a 16 && is_digit b 16 && is_digit c 16 && is_digit d 16) (Some (digit_value a * 4096 + digit_value b * 256 + digit_value c * 16 + digit_value d)) None
+    cond_both (is_digit a 16 && is_digit b 16 && is_digit c 16 && is_digit d 16)
+    (Some (digit_value a * 4096 + digit_value b * 256 + digit_value c * 16 + digit_value d)) None
     (Given (λ u. IsHex a b c d u)) (λ e. spelled_unit a b c d e) (λ e. tt)
 
 -- what stands behind four hex digits
@@ -90,7 +139,8 @@ unfolding short_escape
 short x =
     cond_both ((x == 34) || (x == 92) || (x == 47)) (Some x) _ (Given (λ c. IsShort x c)) (λ e. record { before = itself x e; after = itself x e })
     (λ _. looked_for x 98 8 _ (omega arith) (omega arith) (looked_for x 102 12 _ (omega arith) (omega arith)
-    (looked_for x 110 10 _ (omega arith) (omega arith) (looked_for x 114 13 _ (omega arith) (omega arith) (looked_for x 116 9 None (omega arith) (omega arith) tt)))))
+    (looked_for x 110 10 _ (omega arith) (omega arith)
+    (looked_for x 114 13 _ (omega arith) (omega arith) (looked_for x 116 9 None (omega arith) (omega arith) tt)))))
 
 plain_unit : (u : ℕ) → u < 65536 → is_high_surrogate u ≡ false → is_low_surrogate u ≡ false → IsScalar u
 plain_unit u fits high low = grind (arith, nat_tests)
@@ -113,7 +163,8 @@ IsText after_backslash xs = IsUtf8 xs → Given IsUtf8 (content after_backslash 
 IsText after_u xs = IsUtf8 xs → Given IsUtf8 (content after_u xs)
 IsText (after_high h) xs = is_high_surrogate h ≡ true → IsUtf8 xs → Given IsUtf8 (content (after_high h) xs)
 
-plain_byte : (pre : List ℕ) (x : ℕ) (xs : List ℕ) → IsText after_backslash xs → IsText plain xs → IsUtf8 (pre ++ x ∷ xs) → Given (λ s. IsUtf8 (pre ++ s)) (content plain (x ∷ xs))
+plain_byte : (pre : List ℕ) (x : ℕ) (xs : List ℕ) → IsText after_backslash xs → IsText plain xs → IsUtf8 (pre ++ x ∷ xs)
+    → Given (λ s. IsUtf8 (pre ++ s)) (content plain (x ∷ xs))
 unfolding content
 plain_byte pre x xs escaped more u =
     cond_both (x == 34) (Some []) _ (Given (λ s. IsUtf8 (pre ++ s)))
@@ -121,7 +172,8 @@ plain_byte pre x xs escaped more u =
     (λ _. cond_both (x == 92) (content after_backslash xs) _ (Given (λ s. IsUtf8 (pre ++ s)))
     (λ e.
     let small : x < 128 = omega (arith, eqb-true x 92 e) in
-    Given-same IsUtf8 (λ s. IsUtf8 (pre ++ s)) (λ s k. IsUtf8-append pre s (before_ascii pre x xs small u) k) (content after_backslash xs) (escaped (behind_ascii pre x xs small u)))
+    Given-same IsUtf8 (λ s. IsUtf8 (pre ++ s)) (λ s k. IsUtf8-append pre s (before_ascii pre x xs small u) k) (content after_backslash xs)
+    (escaped (behind_ascii pre x xs small u)))
     (λ _. cond_both (nat_lt x 32) None _ (Given (λ s. IsUtf8 (pre ++ s))) (λ _. tt)
     (λ _. Given-map (λ s. IsUtf8 ((pre ++ x ∷ []) ++ s)) (λ s. IsUtf8 (pre ++ s)) (λ s. (x ∷ []) ++ s) (λ s k. subst IsUtf8 (append_assoc pre (x ∷ []) s) k)
     (content plain xs) (more (pre ++ x ∷ []) (subst IsUtf8 (sym (append_assoc pre (x ∷ []) xs)) u)))))
@@ -133,14 +185,17 @@ escape_byte x xs unit more u =
     (λ _. Given-and_then (λ c. IsShort x c) IsUtf8 (λ c. prepend (c ∷ []) (content plain xs))
     (λ c h. led (c ∷ []) (content plain xs) (ascii_utf8 c h.after) (more [] (behind_ascii [] x xs h.before u))) (short_escape x) (short x))
 
-unit_bytes : (a b c d : ℕ) (xs : List ℕ) → ((high : ℕ) → IsText (after_high high) xs) → IsText plain xs → IsUtf8 (a ∷ b ∷ c ∷ d ∷ xs) → Given IsUtf8 (content after_u (a ∷ b ∷ c ∷ d ∷ xs))
+unit_bytes : (a b c d : ℕ) (xs : List ℕ) → ((high : ℕ) → IsText (after_high high) xs) → IsText plain xs → IsUtf8 (a ∷ b ∷ c ∷ d ∷ xs)
+    → Given IsUtf8 (content after_u (a ∷ b ∷ c ∷ d ∷ xs))
 unfolding content
 unit_bytes a b c d xs second more u =
-    Given-and_then (λ v. IsHex a b c d v) IsUtf8 (λ v. cond (is_high_surrogate v) (content (after_high v) xs) (cond (is_low_surrogate v) None (prepend (encode_utf8 v) (content plain xs))))
+    Given-and_then (λ v. IsHex a b c d v) IsUtf8
+    (λ v. cond (is_high_surrogate v) (content (after_high v) xs) (cond (is_low_surrogate v) None (prepend (encode_utf8 v) (content plain xs))))
     (λ v h.
     let rest = behind_hex a b c d v xs h u in
     cond_both (is_high_surrogate v) (content (after_high v) xs) _ (Given IsUtf8) (λ e. second v e rest)
-    (λ e. cond_both (is_low_surrogate v) None _ (Given IsUtf8) (λ _. tt) (λ f. led (encode_utf8 v) (content plain xs) (IsUtf8-encode v (plain_unit v h.fits e f)) (more [] rest))))
+    (λ e. cond_both (is_low_surrogate v) None _ (Given IsUtf8) (λ _. tt)
+    (λ f. led (encode_utf8 v) (content plain xs) (IsUtf8-encode v (plain_unit v h.fits e f)) (more [] rest))))
     (code_unit a b c d) (hex a b c d)
 
 pair_bytes : (high s t a b c d : ℕ) (xs : List ℕ) → IsText plain xs → is_high_surrogate high ≡ true → IsUtf8 (s ∷ t ∷ a ∷ b ∷ c ∷ d ∷ xs)
@@ -150,10 +205,12 @@ pair_bytes high s t a b c d xs more is u =
     cond_both ((s == 92) && (t == 117)) _ None (Given IsUtf8)
     (λ e.
     let both = and_parts (s == 92) (t == 117) e in
-    let digits = behind_ascii [] t (a ∷ b ∷ c ∷ d ∷ xs) (omega (arith, eqb-true t 117 both.1)) (behind_ascii [] s (t ∷ a ∷ b ∷ c ∷ d ∷ xs) (omega (arith, eqb-true s 92 both.0)) u) in
+    let digits = behind_ascii [] t (a ∷ b ∷ c ∷ d ∷ xs) (omega (arith, eqb-true t 117 both.1))
+    (behind_ascii [] s (t ∷ a ∷ b ∷ c ∷ d ∷ xs) (omega (arith, eqb-true s 92 both.0)) u) in
     Given-and_then (λ v. IsHex a b c d v) IsUtf8 (λ l. cond (is_low_surrogate l) (prepend (encode_utf8 (surrogate_pair high l)) (content plain xs)) None)
     (λ v h. cond_both (is_low_surrogate v) _ None (Given IsUtf8)
-    (λ f. led (encode_utf8 (surrogate_pair high v)) (content plain xs) (IsUtf8-encode (surrogate_pair high v) (paired high v is f)) (more [] (behind_hex a b c d v xs h digits))) (λ _. tt))
+    (λ f. led (encode_utf8 (surrogate_pair high v)) (content plain xs) (IsUtf8-encode (surrogate_pair high v) (paired high v is f))
+    (more [] (behind_hex a b c d v xs h digits))) (λ _. tt))
     (code_unit a b c d) (hex a b c d))
     (λ _. tt)
 

@@ -7,7 +7,40 @@ use Rattle.json.specs.Ascii as ascii
 use Rattle.json.specs.Token.{Token, begin_object, end_object, begin_array, end_array, key, string, number, boolean, null, bad}
 use Rattle.json.specs.Text.{content, plain}
 use Rattle.json.specs.Word.{head, is_operator, is_space, word, number_before, after_number, literal, ends_word}
-use Rattle.json.specs.Lex.{Lexeme, token, comma, colon, Class, quote, backslash, operator, space, other, class, operator_lexeme, string_token, Mode, between, in_word, in_string, in_escape, lex_byte, lex, Place, fresh, after_value, after_comma, after_key, begins_colon, may_begin, may_close, if_allowed, place_token, punctuate, tokens}
+use Rattle.json.specs.Lex.{
+  Lexeme,
+  token,
+  comma,
+  colon,
+  Class,
+  quote,
+  backslash,
+  operator,
+  space,
+  other,
+  class,
+  operator_lexeme,
+  string_token,
+  Mode,
+  between,
+  in_word,
+  in_string,
+  in_escape,
+  lex_byte,
+  lex,
+  Place,
+  fresh,
+  after_value,
+  after_comma,
+  after_key,
+  begins_colon,
+  may_begin,
+  may_close,
+  if_allowed,
+  place_token,
+  punctuate,
+  tokens,
+}
 use Rattle.cadf_json.proofs.Given.{Given}
 use Rattle.cadf_json.proofs.StringContent.{behind_ascii, content_utf8}
 

@@ -1,5 +1,28 @@
 -- What reads and writes do to the bytes and the counts of a source or a sink.
-use Rattle.std.specs.Prelude.{◌≡◌, ℕ, ◌+◌, ◌-◌, ◌^◌, ◌≤◌, ◌==◌, ◌&&◌, nat_lt, min, List, ◌++◌, length, take, Bool, true, false, if◌then◌else◌, Option, Result, Ok, Err}
+use Rattle.std.specs.Prelude.{
+  ◌≡◌,
+  ℕ,
+  ◌+◌,
+  ◌-◌,
+  ◌^◌,
+  ◌≤◌,
+  ◌==◌,
+  ◌&&◌,
+  nat_lt,
+  min,
+  List,
+  ◌++◌,
+  length,
+  take,
+  Bool,
+  true,
+  false,
+  if◌then◌else◌,
+  Option,
+  Result,
+  Ok,
+  Err,
+}
 use Rattle.std.specs.Io.KnownBytes.{Appends, Consumes}
 use Rattle.cadf_json.specs.declared.whole.WholeFault.{WholeFault}
 use Rattle.cadf_json.specs.declared.whole.WholeFault.TheVariants.{TooLarge, ReadFault, Memory}

@@ -1,12 +1,21 @@
-//! Whole-number JSON values, their canonical text, and where bytes come from and go to.
+//! Whole-number JSON values, held or read into small trees that borrow their text; their canonical text; and where bytes come from and go to.
 #![tactic(auto)]
 
 mod build;
 mod laws;
+mod look;
 mod members;
 mod memory;
+mod number;
+mod owned;
+mod part;
+mod part_rewrite;
+mod place;
+mod read;
 mod rewrite;
+mod split;
 mod stream;
+mod tree;
 mod value;
 mod view;
 mod whole;
@@ -17,7 +26,10 @@ pub use crate::laws::{
 };
 pub use crate::members::{Member, Members};
 pub use crate::memory::{FailingWrite, MemorySink, MemorySource};
+pub use crate::read::Unread;
+pub use crate::split::{TakesItems, read_split};
 pub use crate::stream::{Failed, FromStd, Sink, Source};
+pub use crate::tree::Tree;
 pub use crate::value::{Json, JsonFault, quoted};
 pub use crate::view::View;
 pub use crate::whole::{OutFault, WholeFault, read_rest, read_whole, write_whole};

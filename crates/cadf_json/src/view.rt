@@ -1,118 +1,163 @@
 //! A borrowed part of a value.
-ghost use Rattle.std.specs.Prelude.{◌≡◌, ◌≤◌, IfOk, IfSome, length, nat_le, option_map, is_some, slice_get, string_bytes};
+ghost use Rattle.std.specs.Prelude.{◌≡◌, IfOk, IfSome, length, nat_le, option_map, is_some, slice_get, string_bytes};
 ghost use Rattle.serde_json.specs.Find.{as_null, as_str, as_array, get};
-ghost use Rattle.serde_json.specs.Data.{string as text_value, object as object_of, depth as nesting, items_depth, members_depth};
-ghost use Rattle.serde_json.specs.View.{view as data_of, items_view, members_view};
-ghost use Rattle.cadf_json.specs.Parts.{is_object, parts_in, names_in, members_in, to_list, values_of, names_of};
+ghost use Rattle.serde_json.specs.Data.{string as text_value, object as object_of, depth as nesting};
+ghost use Rattle.serde_json.specs.View.{view as data_of};
+ghost use Rattle.cadf_json.specs.Parts.{is_object, parts_in, names_in, members_in};
 ghost use Rattle.cadf_json.specs.Rewritten.{texts_of, without, replaced, all_members, limit_for, limits_of};
 ghost use Rattle.cadf_json.specs.Value.{IsValue, text as text_of};
 
 use crate::Memory;
 use crate::members::Members;
-use crate::rewrite::push_members;
+use crate::owned::{count_in, depth, members_within, name_in, part_in, text_in};
+use crate::part::Part;
+use crate::rewrite::rewritten;
 use crate::value::Json;
-use serde_json::{Map, Value};
+use serde_json::Value;
 use std::alloc::Global;
 use std::marker::Model;
 
-/// A part of a `Json`.
+/// Where a part stands.
 #[derive(Drop)]
-pub struct View<'v> {
-    pub(crate) value: &'v Value,
+pub(crate) enum Basis<'v, 'a> {
+    /// In a value that is held.
+    Owned(&'v Value),
+    /// In a tree that borrows its text.
+    Plain(Part<'v, 'a>),
 }
 
-impl<'v> Model for View<'v> {
+/// A part of a `Json` or of a `Tree`.
+#[derive(Drop)]
+pub struct View<'v, 'a> {
+    basis: Basis<'v, 'a>,
+}
+
+impl<'v, 'a> Model for View<'v, 'a> {
     ghost use Rattle.serde_json.specs.Data.{Data};
-    ghost use Rattle.serde_json.specs.View.{view as data_of};
     ghost use Rattle.cadf_json.specs.Coding.{data_code};
+    ghost use Rattle.cadf_json.specs.Basis.{seen};
     ghost use Rattle.cadf_json.specs.Value.{IsValue};
 
     ghost Value = { Data };
 
     ghost coded = { data_code };
 
-    ghost view = { λ w. data_of w.value.now };
+    ghost view = { λ w. seen w.basis };
 
-    ghost invariant = { λ w. IsValue (data_of w.value.now) };
+    ghost invariant = { λ w. IsValue (seen w.basis) };
 }
 
-impl<'v> View<'v> {
+impl<'v, 'a> View<'v, 'a> {
+    /// Of a value that is held.
+    pub(crate) fn of_value(value: &'v Value) -> View<'v, 'a>
+        requires { IsValue (data_of value.now) }
+        ensures { result ≡ data_of value.now }
+    {
+        View {
+            basis: Basis::Owned(value),
+        }
+    }
+
+    /// Of a part of a tree.
+    pub(crate) fn of_part(part: Part<'v, 'a>) -> View<'v, 'a>
+        ensures part { result ≡ part.entry }
+        ensures value { IsValue part.entry }
+    {
+        part.known();
+        View {
+            basis: Basis::Plain(part),
+        }
+    }
+
     /// The text, where the part is one.
     pub fn as_text(&self) -> Option<&'v str>
         ensures { option_map (λ s. s.now) result ≡ as_str self.now }
     {
-        self.value.as_str()
+        match &self.basis {
+            Basis::Owned(value) => value.as_str(),
+            Basis::Plain(part) => part.as_text(),
+        }
     }
 
     /// Whether it is `null`; a member that is not there is no part at all.
     pub fn is_null(&self) -> bool
         ensures { result ≡ is_some (as_null self.now) }
     {
-        self.value.is_null()
+        match &self.basis {
+            Basis::Owned(value) => value.is_null(),
+            Basis::Plain(part) => part.is_null(),
+        }
     }
 
     /// Whether it is an object, which may be empty.
     pub fn is_object(&self) -> bool
         ensures { result ≡ is_object self.now }
     {
-        self.value.is_object()
+        match &self.basis {
+            Basis::Owned(value) => value.is_object(),
+            Basis::Plain(part) => part.is_object(),
+        }
     }
 
     /// Whether it is a list, which may be empty.
     pub fn is_list(&self) -> bool
         ensures { result ≡ is_some (as_array self.now) }
     {
-        self.value.is_array()
+        match &self.basis {
+            Basis::Owned(value) => value.is_array(),
+            Basis::Plain(part) => part.is_list(),
+        }
     }
 
     /// How many items or members the part has.
     pub fn len(&self) -> usize
         ensures { result ≡ length (parts_in self.now) }
     {
-        match self.value {
-            Value::Array(items) => item_count(items),
-            Value::Object(members) => member_count(members),
-            _ => 0,
+        match &self.basis {
+            Basis::Owned(value) => count_in(value),
+            Basis::Plain(part) => part.len(),
         }
     }
 
     /// The item at this place, or the value of the member at this place in the order of names.
-    pub fn item(&self, index: usize) -> Option<View<'v>>
+    pub fn item(&self, index: usize) -> Option<View<'v, 'a>>
         ensures part { result ≡ slice_get (parts_in self.now) index }
         ensures value { IfSome result IsValue }
     {
-        Some(View {
-            value: part(self.value, index)?,
-        })
+        match &self.basis {
+            Basis::Owned(value) => Some(View::of_value(part_in(value, index)?)),
+            Basis::Plain(part) => Some(View::of_part(part.item(index)?)),
+        }
     }
 
     /// The value of the member of this name.
-    pub fn member(&self, name: &str) -> Option<View<'v>>
+    pub fn member(&self, name: &str) -> Option<View<'v, 'a>>
         ensures part { result ≡ get name.now self.now }
         ensures value { IfSome result IsValue }
     {
-        Some(View {
-            value: self.value.get(name)?,
-        })
+        match &self.basis {
+            Basis::Owned(value) => Some(View::of_value(value.get(name)?)),
+            Basis::Plain(part) => Some(View::of_part(part.member(name)?)),
+        }
     }
 
     /// The name of the member at this place in the order of names.
     pub fn name_at(&self, index: usize) -> Option<&'v str>
         ensures { option_map (λ s. s.now) result ≡ slice_get (names_in self.now) index }
     {
-        match self.value {
-            Value::Object(members) => member_name(members, index),
-            _ => None,
+        match &self.basis {
+            Basis::Owned(value) => name_in(value, index),
+            Basis::Plain(part) => part.name_at(index),
         }
     }
 
     /// The members of an object in the order of their names, none of anything else.
-    pub fn members(&self) -> Members<'v>
+    pub fn members(&self) -> Members<'v, 'a>
         ensures members { result ≡ members_in self.now }
     {
-        match self.value {
-            Value::Object(members) => Members::of(Some(members.iter())),
-            _ => Members::of(None),
+        match &self.basis {
+            Basis::Owned(value) => Members::of_value(value),
+            Basis::Plain(part) => Members::of_part(part),
         }
     }
 
@@ -121,9 +166,9 @@ impl<'v> View<'v> {
         ensures { result
             ≡ all_members (λ k d. nat_le (nesting d) (limit_for (limits_of limits.now) others k)) (members_in self.now) }
     {
-        match self.value {
-            Value::Object(members) => are_within(members, limits, others),
-            _ => true,
+        match &self.basis {
+            Basis::Owned(value) => members_within(value, limits, others),
+            Basis::Plain(part) => part.members_within(limits, others),
         }
     }
 
@@ -139,35 +184,37 @@ impl<'v> View<'v> {
         ensures { IfOk result (λ s. string_bytes s
             ≡ text_of (object_of (replaced name.now (text_value text.now) (without (texts_of left_out.now) (members_in self.now))))) }
     {
-        let mut out = String::new(alloc);
-        out.push('{')?;
-        if let Value::Object(members) = self.value {
-            push_members(alloc, &mut out, members, left_out, name, text)?;
-        } else {
-            out.push('}')?;
+        match &self.basis {
+            Basis::Owned(value) => rewritten(alloc, value, left_out, name, text),
+            Basis::Plain(part) => part.rewritten(alloc, left_out, name, text),
         }
-        Ok(out)
     }
 
     /// Every part is a value: an empty call that tells so.
     pub fn known(&self)
         ensures { IsValue self.now }
     {
-        let _value = &self.value;
+        let _basis = &self.basis;
     }
 
     /// The same part once more.
-    pub fn again(&self) -> View<'v>
+    pub fn again(&self) -> View<'v, 'a>
         ensures { result ≡ self.now }
     {
-        View { value: self.value }
+        match &self.basis {
+            Basis::Owned(value) => View::of_value(value),
+            Basis::Plain(part) => View::of_part(part.again()),
+        }
     }
 
     /// A copy of the part.
-    pub fn to_json(&self) -> Result<Json, Memory>
+    pub fn to_json(&self, alloc: Global) -> Result<Json, Memory>
         ensures { IfOk result (λ j. j ≡ self.now) }
     {
-        Json::copied(self.value)
+        match &self.basis {
+            Basis::Owned(value) => Json::copied(value),
+            Basis::Plain(part) => part.to_json(alloc),
+        }
     }
 
     /// How deep lists and objects nest: 0 for a scalar.
@@ -175,7 +222,10 @@ impl<'v> View<'v> {
         ensures depth { result ≡ nesting self.now }
         ensures value { IsValue self.now }
     {
-        depth(self.value)
+        match &self.basis {
+            Basis::Owned(value) => depth(value),
+            Basis::Plain(part) => part.depth(),
+        }
     }
 
     /// The canonical text.
@@ -183,132 +233,9 @@ impl<'v> View<'v> {
         ensures text { IfOk result (λ s. string_bytes s ≡ text_of self.now) }
         ensures value { IsValue self.now }
     {
-        self.value.to_string(alloc)
-    }
-}
-
-// How deep the member of that name may nest.
-fn limit_of(limits: &[(&str, u8)], others: u8, name: &str) -> u8
-    ensures { result ≡ limit_for (limits_of limits.now) others name.now }
-{
-    for (listed, limit) in limits {
-        if name == *listed {
-            return *limit;
+        match &self.basis {
+            Basis::Owned(value) => text_in(alloc, value),
+            Basis::Plain(part) => part.text(alloc),
         }
     }
-    others
-}
-
-fn are_within(members: &Map<String, Value>, limits: &[(&str, u8)], others: u8) -> bool
-    requires { members_depth (members_view members.now.entries) ≤ 127 }
-    ensures { result
-        ≡ all_members (λ k d. nat_le (nesting d) (limit_for (limits_of limits.now) others k)) (members_view members.now.entries) }
-{
-    for (key, member) in members.iter() {
-        if depth(member) > limit_of(limits, others, key.as_str()) {
-            return false;
-        }
-    }
-    true
-}
-
-// The item, or the value of the member, at this place.
-fn part(value: &Value, index: usize) -> Option<&Value>
-    ensures { option_map (λ v. data_of v.now) result
-        ≡ slice_get (parts_in (data_of value.now)) index }
-{
-    match value {
-        Value::Array(items) => item_at(items, index),
-        Value::Object(members) => member_value(members, index),
-        _ => None,
-    }
-}
-
-#[tactic(auto, using(crate::proofs::Items::length_to_list))]
-fn item_count(items: &Vec<Value>) -> usize
-    ensures { result ≡ length (to_list (items_view items.now.items)) }
-{
-    items.len()
-}
-
-#[tactic(auto, using(crate::proofs::Items::length_values_of))]
-fn member_count(members: &Map<String, Value>) -> usize
-    ensures { result ≡ length (values_of (members_view members.now.entries)) }
-{
-    members.len()
-}
-
-fn item_at(items: &Vec<Value>, index: usize) -> Option<&Value>
-    ensures { option_map (λ v. data_of v.now) result
-        ≡ slice_get (to_list (items_view items.now.items)) index }
-{
-    if index < items.len() {
-        Some(&items[index])
-    } else {
-        None
-    }
-}
-
-fn member_value<'v>(members: &'v Map<String, Value>, index: usize) -> Option<&'v Value>
-    ensures { option_map (λ v. data_of v.now) result
-        ≡ slice_get (values_of (members_view members.now.entries)) index }
-{
-    let mut left = index;
-    for (_, value) in members.iter() {
-        if left == 0 {
-            return Some(value);
-        }
-        left -= 1;
-    }
-    None
-}
-
-fn member_name<'v>(members: &'v Map<String, Value>, index: usize) -> Option<&'v str>
-    ensures { option_map (λ s. s.now) result
-        ≡ slice_get (names_of (members_view members.now.entries)) index }
-{
-    let mut left = index;
-    for (name, _) in members.iter() {
-        if left == 0 {
-            return Some(name.as_str());
-        }
-        left -= 1;
-    }
-    None
-}
-
-#[cycle(depth)]
-fn depth(value: &Value) -> u8
-    requires { nesting (data_of value.now) ≤ 127 }
-    ensures { result ≡ nesting (data_of value.now) }
-{
-    match value {
-        Value::Array(items) => depth_of_items(items) + 1,
-        Value::Object(members) => depth_of_members(members) + 1,
-        _ => 0,
-    }
-}
-
-#[cycle(depth)]
-fn depth_of_items(items: &Vec<Value>) -> u8
-    requires { items_depth (items_view items.now.items) ≤ 126 }
-    ensures { result ≡ items_depth (items_view items.now.items) }
-{
-    let mut deepest = 0;
-    for item in items {
-        deepest = deepest.max(depth(item));
-    }
-    deepest
-}
-
-#[cycle(depth)]
-fn depth_of_members(members: &Map<String, Value>) -> u8
-    requires { members_depth (members_view members.now.entries) ≤ 126 }
-    ensures { result ≡ members_depth (members_view members.now.entries) }
-{
-    let mut deepest = 0;
-    for (_, member) in members.iter() {
-        deepest = deepest.max(depth(member));
-    }
-    deepest
 }

@@ -1,5 +1,31 @@
 -- What stands behind a text in rising lists, and their first texts.
-use Rattle.std.proofs.Common.{◌≡◌, ℕ, suc, zero, true, false, cond, List, [], ◌∷◌, Option, Some, None, refl, sym, ap, ◌∙◌, subst, length, take, drop, get_or, map, ◌<◌, ◌+◌}
+use Rattle.std.proofs.Common.{
+  ◌≡◌,
+  ℕ,
+  suc,
+  zero,
+  true,
+  false,
+  cond,
+  List,
+  [],
+  ◌∷◌,
+  Option,
+  Some,
+  None,
+  refl,
+  sym,
+  ap,
+  ◌∙◌,
+  subst,
+  length,
+  take,
+  drop,
+  get_or,
+  map,
+  ◌<◌,
+  ◌+◌,
+}
 use Rattle.std.specs.Borrow.{Bor}
 use Rattle.std.proofs.lemmas.List.{at_drop_more}
 use mathlib.Core.Bool.{true≢false}
@@ -101,7 +127,8 @@ module _ (t : Text) where
   rests_up_to ((u ∷ c) ∷ ls) (suc n) h = ap (λ z. cond (eq_by_cmp text_cmp t u) (c ∷ z) z) (rests_up_to ls n h)
 
   -- each of those between begins with it
-  pub rests_between : (ls : List Texts) → AllByRecursion (λ l. is_before (t ∷ []) false l ≡ false) ls → AllByRecursion (λ l. is_before (t ∷ []) true l ≡ true) ls
+  pub rests_between : (ls : List Texts) → AllByRecursion (λ l. is_before (t ∷ []) false l ≡ false) ls
+      → AllByRecursion (λ l. is_before (t ∷ []) true l ≡ true) ls
       → rests t ls ≡ map (λ l. drop 1 l) ls
   rests_between [] g h = refl
   rests_between ([] ∷ ls) g h = absurd (true≢false g.0)

@@ -12,7 +12,19 @@ use Rattle.std.specs.List.{AllByRecursion, filter, find, list_any}
 use Rattle.std.specs.List.Sorted.{IsStrictlySortedBy}
 use Rattle.cadf_join.specs.Contents.{is_after}
 use Rattle.cadf_join.specs.Sets as set
-use Rattle.cadf_join.specs.Sets.{IsAntisymmetric, any_listed, listed_any, contains-from_list, contains-rising, rising-from_list, rising_is_sorted, listed-rising, Listed, listed-AllByRecursion, AllByRecursion-listed}
+use Rattle.cadf_join.specs.Sets.{
+  IsAntisymmetric,
+  any_listed,
+  listed_any,
+  contains-from_list,
+  contains-rising,
+  rising-from_list,
+  rising_is_sorted,
+  listed-rising,
+  Listed,
+  listed-AllByRecursion,
+  AllByRecursion-listed,
+}
 use Rattle.cadf_paths.proofs.Spans.{all_turned}
 
 pub copied_some : {A : Type 0} (x : Option (Bor A)) → is_some x ≡ is_some (option_copied x)
@@ -24,7 +36,8 @@ module _ {K : Type 0} {R : K → K → Ordering} (o : IsTotalOrder R) (same : Is
   DoesNotFall [] = Unit {0}
   DoesNotFall (k ∷ ks) = AllByRecursion (λ x. R k x ≡ Greater → ⊥) ks × DoesNotFall ks
 
-  below_all : (k : K) (ks : List K) → AllByRecursion (λ x. R k x ≡ Less) ks → set.rising (set.from_list {R = R} (k ∷ ks)) ≡ k ∷ set.rising (set.from_list {R = R} ks)
+  below_all : (k : K) (ks : List K) → AllByRecursion (λ x. R k x ≡ Less) ks → set.rising (set.from_list {R = R} (k ∷ ks)) ≡ k
+      ∷ set.rising (set.from_list {R = R} ks)
   unfolding IsStrictlySortedBy
   below_all k ks h =
       let s = set.from_list {R = R} ks in
@@ -125,7 +138,8 @@ module _ {K : Type 0} {R : K → K → Ordering} (o : IsTotalOrder R) (same : Is
   next_one g [] s k e = absurd (none_is_not_some k (sym e))
   next_one g (x ∷ ks) s k e = by (is_after R g x) refl e (next_one g ks s.1 k)
     where
-      here : is_after R g x ≡ true → x ∷ filter (is_after R g) ks ≡ x ∷ cond (is_lt (R x x)) (x ∷ filter (is_after R (Some x)) ks) (filter (is_after R (Some x)) ks)
+      here : is_after R g x ≡ true → x ∷ filter (is_after R g) ks ≡ x
+          ∷ cond (is_lt (R x x)) (x ∷ filter (is_after R (Some x)) ks) (filter (is_after R (Some x)) ks)
       here t =
           ap (λ z. x ∷ z) (
           filter_all (is_after R g) ks (all_turned (λ y. R x y ≡ Less) (λ y. is_after R g y ≡ true) ks (λ y less. still_after g x t y less) s.0)

@@ -223,7 +223,8 @@ lists_decide = pointwise_decides (λ x y. (
 ))
 
 -- where the lists above one begin: at its place, or behind it where it is there
-pub not_after : (q : Texts) (xs : List Texts) → AllByRecursion (λ l. is_before q false l ≡ true) xs → AllByRecursion (λ l. is_after texts_cmp (Some q) l ≡ false) xs
+pub not_after : (q : Texts) (xs : List Texts) → AllByRecursion (λ l. is_before q false l ≡ true) xs
+    → AllByRecursion (λ l. is_after texts_cmp (Some q) l ≡ false) xs
 not_after q xs h = all_turned (λ l. is_before q false l ≡ true) (λ l. is_after texts_cmp (Some q) l ≡ false) xs
     (λ x k. ap is_lt (texts_total.antisymm q x ∙ ap ordering_reverse (before_is_less x q k))) h
 
@@ -237,7 +238,8 @@ module _ (q : Texts) (xs : List Texts) (n : ℕ) (s : IsStrictlySortedBy texts_c
     same : get_or xs n [] ≡ q
     same = texts_same (get_or xs n []) q ((Equal-is (texts_cmp (get_or xs n []) q)).0 e)
 
-    pub not_after_it : AllByRecursion (λ x. is_before q false x ≡ true) (take n xs) → AllByRecursion (λ x. is_after texts_cmp (Some q) x ≡ false) (take (n + 1) xs)
+    pub not_after_it : AllByRecursion (λ x. is_before q false x ≡ true) (take n xs) → AllByRecursion (λ x. is_after texts_cmp (Some q) x ≡ false)
+        (take (n + 1) xs)
     not_after_it h =
         subst (AllByRecursion (λ x. is_after texts_cmp (Some q) x ≡ false)) (sym (ap (λ k. take k xs) (add-one n) ∙ take-suc xs n [] l))
         (all_more (λ x. is_after texts_cmp (Some q) x ≡ false) (take n xs) (get_or xs n []) (not_after q (take n xs) h)

@@ -239,7 +239,8 @@ module _ {K : Type 0} {R : K → K → Ordering} (o : IsTotalOrder R) (same : Is
   merge_skip xs y ys zero h = refl
   merge_skip [] y ys (suc n) h = refl
   merge_skip (x ∷ xs) y ys (suc n) h =
-      ap (λ r. match_ordering r (x ∷ sorted_merge R true xs (y ∷ ys)) (x ∷ sorted_merge R true xs ys) (y ∷ merge_step R true x xs (sorted_merge R true xs) ys)) h.0
+      ap (λ r. match_ordering r (x ∷ sorted_merge R true xs (y ∷ ys)) (x ∷ sorted_merge R true xs ys) (y ∷ merge_step R true x xs (sorted_merge R true xs) ys))
+      h.0
       ∙ ap (λ z. x ∷ z) (merge_skip xs y ys n h.1)
 
   pub merge_new : (xs : List K) (y : K) (ys : List K) → AllByRecursion (λ l. R y l ≡ Less) xs → sorted_merge R true xs (y ∷ ys) ≡ y ∷ sorted_merge R true xs ys
@@ -251,11 +252,13 @@ module _ {K : Type 0} {R : K → K → Ordering} (o : IsTotalOrder R) (same : Is
   pub merge_held : (x y : K) (xs ys : List K) → R x y ≡ Equal → AllByRecursion (λ l. R y l ≡ Less) ys
       → sorted_merge R true (x ∷ xs) (y ∷ ys) ≡ sorted_merge R true (x ∷ xs) ys
   merge_held x y xs ys e h =
-      ap (λ r. match_ordering r (x ∷ sorted_merge R true xs (y ∷ ys)) (x ∷ sorted_merge R true xs ys) (y ∷ merge_step R true x xs (sorted_merge R true xs) ys)) e
+      ap (λ r. match_ordering r (x ∷ sorted_merge R true xs (y ∷ ys)) (x ∷ sorted_merge R true xs ys) (y ∷ merge_step R true x xs (sorted_merge R true xs) ys))
+      e
       ∙ later ys h
     where
       later : (ys : List K) → AllByRecursion (λ l. R y l ≡ Less) ys → x ∷ sorted_merge R true xs ys ≡ sorted_merge R true (x ∷ xs) ys
       later [] h = ap (λ z. x ∷ z) (alone R xs)
       later (z ∷ ys) h =
-          sym (ap (λ r. match_ordering r (x ∷ sorted_merge R true xs (z ∷ ys)) (x ∷ sorted_merge R true xs ys) (z ∷ merge_step R true x xs (sorted_merge R true xs) ys))
+          sym (ap (λ r. match_ordering r (x ∷ sorted_merge R true xs (z ∷ ys)) (x ∷ sorted_merge R true xs ys)
+          (z ∷ merge_step R true x xs (sorted_merge R true xs) ys))
           (subst (λ w. R w z ≡ Less) (sym (same x y e)) h.0))

@@ -48,7 +48,8 @@ module _ (old now : Texts) (kept : take (length old) now ≡ old) (rest : List S
 
   pub front_runs : (all : List Span) → AllByRecursion (IsRun now) all → AllByRecursion (IsRun now) (all ++ front)
   front_runs all runs =
-      all_append (IsRun now) all front runs (subst (AllByRecursion (IsRun now)) (sym front_is) (all_of_first (IsRun now) rest n (runs_fit old now kept rest left)))
+      all_append (IsRun now) all front runs
+      (subst (AllByRecursion (IsRun now)) (sym front_is) (all_of_first (IsRun now) rest n (runs_fit old now kept rest left)))
 
   pub back_rises : IsStrictlySortedBy texts_cmp ours → IsStrictlySortedBy texts_cmp (map (run_of old) back)
   back_rises s = subst (IsStrictlySortedBy texts_cmp) (sym back_view) (drop_sorted ours n s)
@@ -73,7 +74,8 @@ module _ (old now : Texts) (kept : take (length old) now ≡ old) (rest : List S
         let first = drop_more ours n [] l in
         (λ i. (ap (map (run_of now)) next_is ∙ all_view) i ++ sorted_merge texts_cmp true (back_view i) ys)
         ∙ ap (λ z. done ++ z) (ap (λ xs. sorted_merge texts_cmp true xs ys) first
-        ∙ sym (merge_held texts_total texts_same (get_or ours n []) y (drop (n + 1) ours) ys ((Equal-is (texts_cmp (get_or ours n []) y)).0 e) (above_first y ys s))
+        ∙ sym (merge_held texts_total texts_same (get_or ours n []) y (drop (n + 1) ours) ys ((Equal-is (texts_cmp (get_or ours n []) y)).0 e)
+        (above_first y ys s))
         ∙ ap (λ xs. sorted_merge texts_cmp true xs (y ∷ ys)) (sym first))
         ∙ split
 

@@ -21,13 +21,20 @@ module _ {A : Type 0} (f : A → Texts) where
   unfolding IsStrictlySortedBy
   rises_on [] d e h less s = tt
   rises_on (x ∷ []) d e h less s = absurd (omega (arith, h))
-  rises_on (x ∷ y ∷ rest) d e h less s =
-      ((less, all_turned (λ z. texts_cmp (f y) z ≡ Less) (λ z. texts_cmp (f x) z ≡ Less) (map f rest) (λ z more. texts_total.trans (f x) (f y) z less more) s.0), s)
+  rises_on (x ∷ y ∷ rest) d e h less s = (
+    (
+      less,
+      all_turned (λ z. texts_cmp (f y) z ≡ Less) (λ z. texts_cmp (f x) z ≡ Less) (map f rest) (λ z more. texts_total.trans (f x) (f y) z less more)
+          s.0,
+    ),
+    s,
+  )
 
   pub first_rises : (rest more : List A) (d e : A) → more ≡ drop 1 rest → 2 ≤ length rest → texts_cmp (f (get_or rest 0 d)) (f (get_or more 0 e)) ≡ Less
       → IsStrictlySortedBy texts_cmp (map f more) → IsStrictlySortedBy texts_cmp (map f rest)
   first_rises rest more d e is h less s =
-      rises_on rest d e h (subst (λ m. texts_cmp (f (get_or rest 0 d)) (f (get_or m 0 e)) ≡ Less) is less) (subst (λ m. IsStrictlySortedBy texts_cmp (map f m)) is s)
+      rises_on rest d e h (subst (λ m. texts_cmp (f (get_or rest 0 d)) (f (get_or m 0 e)) ≡ Less) is less)
+      (subst (λ m. IsStrictlySortedBy texts_cmp (map f m)) is s)
 
   pub one_rises : (rest : List A) → length rest < 2 → IsStrictlySortedBy texts_cmp (map f rest)
   unfolding IsStrictlySortedBy

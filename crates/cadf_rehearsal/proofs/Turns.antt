@@ -73,7 +73,8 @@ kept_later f g m one log sites messages same = record {
   count = ap (λ v. length v.items) sites;
   one_log = record {
     sites = λ j. (λ i. at_or (log i) (map log_at (sites i).items) j) ∙ one.sites j ∙ sym log;
-    messages = λ k. (λ i. at_number (log i) (map log_of_message (messages i)) k) ∙ all_push log_of_message f.log f.messages.items m one.messages same k ∙ sym log;
+    messages = λ k. (λ i. at_number (log i) (map log_of_message (messages i)) k) ∙ all_push log_of_message f.log f.messages.items m one.messages same k
+        ∙ sym log;
   };
 }
 

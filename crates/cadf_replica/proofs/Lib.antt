@@ -17,7 +17,10 @@ pub mod PathsBehind
 pub mod Places
 pub mod Puts
 pub mod Retry
+pub mod Ruled
 pub mod RuleLaws
+pub mod Rulings
+pub mod RulingTexts
 pub mod Shown
 pub mod Tails
 pub mod Takes

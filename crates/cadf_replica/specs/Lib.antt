@@ -9,6 +9,7 @@ pub mod Contributions
 pub mod Digest
 pub mod History
 pub mod Inventory
+pub mod Letters
 pub mod Line
 pub mod Missing
 pub mod Order
@@ -16,6 +17,9 @@ pub mod PathKind
 pub mod Refusals
 pub mod Replica
 pub mod Retry
+pub mod Ruled
+pub mod Rulings
+pub mod RulingTexts
 pub mod Shown
 pub mod Tails
 pub mod ValueTests

@@ -8,17 +8,23 @@ mod carrier;
 mod gathering;
 mod inventory;
 pub mod laws;
+mod letter;
 mod line_digest;
 mod name;
 mod noting;
 pub mod path;
 pub mod replica;
+mod ruling;
 mod shape;
 mod tail;
 mod unnoted;
 
 pub use atom::{Atom, AtomFault};
 pub use inventory::Inventory;
+pub use letter::Letter;
 pub use name::{copied, log_name};
-pub use path::{PathKind, path_atom, path_kind, path_kind_behind};
+pub use path::{
+    PathKind, path_atom, path_kind, path_kind_behind, path_kind_behind_with, path_kind_with,
+};
 pub use replica::{Replica, ReplicaFault};
+pub use ruling::{Ruling, RulingFault};

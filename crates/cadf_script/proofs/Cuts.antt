@@ -1,5 +1,33 @@
 -- Words parted by a blank: there is one way to part them at the first.
-use Rattle.std.proofs.Common.{◌≡◌, ℕ, suc, ◌+◌, ◌<◌, ◌≤◌, List, [], ◌∷◌, ◌++◌, Bool, true, false, length, take, drop, get_or, cond, ◌-◌, length-drop, refl, sym, ap, ◌∙◌, subst, arith, true≢false}
+use Rattle.std.proofs.Common.{
+  ◌≡◌,
+  ℕ,
+  suc,
+  ◌+◌,
+  ◌<◌,
+  ◌≤◌,
+  List,
+  [],
+  ◌∷◌,
+  ◌++◌,
+  Bool,
+  true,
+  false,
+  length,
+  take,
+  drop,
+  get_or,
+  cond,
+  ◌-◌,
+  length-drop,
+  refl,
+  sym,
+  ap,
+  ◌∙◌,
+  subst,
+  arith,
+  true≢false,
+}
 use Rattle.std.specs.Prelude.{◌==◌, ◌||◌, ◌^◌, decimal, not}
 use Rattle.std.specs.List.{position_or_len}
 use Rattle.std.specs.Str.Parse.{AllDigits, digits_value}
@@ -78,12 +106,14 @@ unblank_front (x ∷ xs) = by (x == 32) refl (unblank_front xs)
     by : (b : Bool) → (x == 32) ≡ b → has_blank (take (position_or_len (λ x. x == 32) xs) xs) ≡ false
         → has_blank (take (cond (not b) (1 + position_or_len (λ x. x == 32) xs) 0) (x ∷ xs)) ≡ false
     by true e ih = refl
-    by false e ih = ap (λ k. has_blank (take k (x ∷ xs))) (next (position_or_len (λ x. x == 32) xs)) ∙ (λ i. e i || has_blank (take (position_or_len (λ x. x == 32) xs) xs)) ∙ ih
+    by false e ih = ap (λ k. has_blank (take k (x ∷ xs))) (next (position_or_len (λ x. x == 32) xs))
+        ∙ (λ i. e i || has_blank (take (position_or_len (λ x. x == 32) xs) xs)) ∙ ih
 
 pub uncut_at : (bytes : List ℕ) (i : ℕ) → i ≡ position_or_len (λ x. x == 32) bytes → length bytes ≤ i → has_blank bytes ≡ false
 uncut_at bytes i e past = ap has_blank (sym (take_all i bytes past)) ∙ ap (λ k. has_blank (take k bytes)) e ∙ unblank_front bytes
 
-at_first : (xs : List ℕ) → position_or_len (λ x. x == 32) xs < length xs → xs ≡ take (position_or_len (λ x. x == 32) xs) xs ++ 32 ∷ drop (position_or_len (λ x. x == 32) xs + 1) xs
+at_first : (xs : List ℕ) → position_or_len (λ x. x == 32) xs < length xs → xs ≡ take (position_or_len (λ x. x == 32) xs) xs ++ 32
+    ∷ drop (position_or_len (λ x. x == 32) xs + 1) xs
 at_first xs within =
     split_at_first (λ x. x == 32) xs 0 within
     ∙ ap (λ y. take (position_or_len (λ x. x == 32) xs) xs ++ y ∷ drop (position_or_len (λ x. x == 32) xs + 1) xs)

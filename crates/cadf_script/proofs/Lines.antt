@@ -1,5 +1,36 @@
 -- A script is read a line at a time.
-use Rattle.std.proofs.Common.{◌≡◌, ℕ, suc, ◌+◌, ◌-◌, ◌<◌, ◌≤◌, List, [], ◌∷◌, ◌++◌, Bool, true, false, cond, length, take, drop, refl, sym, ap, ◌∙◌, subst, arith, inl, inr, append_assoc, append-nil, length-append, length-drop}
+use Rattle.std.proofs.Common.{
+  ◌≡◌,
+  ℕ,
+  suc,
+  ◌+◌,
+  ◌-◌,
+  ◌<◌,
+  ◌≤◌,
+  List,
+  [],
+  ◌∷◌,
+  ◌++◌,
+  Bool,
+  true,
+  false,
+  cond,
+  length,
+  take,
+  drop,
+  refl,
+  sym,
+  ap,
+  ◌∙◌,
+  subst,
+  arith,
+  inl,
+  inr,
+  append_assoc,
+  append-nil,
+  length-append,
+  length-drop,
+}
 use Rattle.std.specs.Prelude.{◌==◌, not, if◌then◌else◌}
 use Rattle.std.specs.List.{position_or_len}
 use Rattle.std.proofs.lemmas.List.{drop_all, drop-drop, take_all}
@@ -56,7 +87,8 @@ at_start bytes = record { goes_on = λ more h. h; bad = λ m h. subst (IsFirstBa
 
 pub at_end : (bytes : List ℕ) (start : ℕ) (turns : List Turn) → length bytes ≤ start → HasRead bytes start turns → IsScript bytes turns
 at_end bytes start turns past read =
-    subst (IsScript bytes) (append-nil turns) (read.goes_on [] (subst (λ ls. EachPair IsTurn ls []) (sym (ap lines_of (drop_all start bytes past) ∙ no_lines)) tt))
+    subst (IsScript bytes) (append-nil turns)
+    (read.goes_on [] (subst (λ ls. EachPair IsTurn ls []) (sym (ap lines_of (drop_all start bytes past) ∙ no_lines)) tt))
 
 module _ (bytes : List ℕ) (start : ℕ) (turns : List Turn) (read : HasRead bytes start turns) (within : start < length bytes) where
   abbrev rest : List ℕ

@@ -34,7 +34,7 @@ unfolding digest_bytes
 digest_are h zero = none_is
 digest_are h (suc n) = bytes_then (digest_bytes h n) _ (digest_are h n) (high_first 4 (slice_index h n))
 
-is_digest : (message : List ℕ) → IsDigest (sha256 message)
+pub is_digest : (message : List ℕ) → IsDigest (sha256 message)
 unfolding sha256
 is_digest message = record { size = length-sha256 message; bytes = digest_are (final_hash initial_hash_256 message) 8 }
 

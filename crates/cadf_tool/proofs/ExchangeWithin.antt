@@ -45,13 +45,17 @@ inputs_kept : (operands : Operands) (inputs : List Loaded) → AreRead operands 
 inputs_kept End [] read = kept_empty
 inputs_kept End (l ∷ ls) read = absurd read
 inputs_kept (Whole m operands) [] read = absurd read
-inputs_kept (Whole m operands) (l ∷ ls) ((bytes, made, input), read) = kept_union (atoms_loaded l) (union_of ls) (input_kept bytes l input) (inputs_kept operands ls read)
+inputs_kept (Whole m operands) (l ∷ ls) ((bytes, made, input), read) = kept_union (atoms_loaded l) (union_of ls) (input_kept bytes l input)
+    (inputs_kept operands ls read)
 inputs_kept (Part from to operands) [] read = absurd read
-inputs_kept (Part from to operands) (l ∷ ls) ((bytes, made, input), read) = kept_union (atoms_loaded l) (union_of ls) (input_kept bytes l input) (inputs_kept operands ls read)
+inputs_kept (Part from to operands) (l ∷ ls) ((bytes, made, input), read) = kept_union (atoms_loaded l) (union_of ls) (input_kept bytes l input)
+    (inputs_kept operands ls read)
 inputs_kept (PartBy from to operands) [] read = absurd read
-inputs_kept (PartBy from to operands) (l ∷ ls) ((bytes, made, input), read) = kept_union (atoms_loaded l) (union_of ls) (input_kept bytes l input) (inputs_kept operands ls read)
+inputs_kept (PartBy from to operands) (l ∷ ls) ((bytes, made, input), read) = kept_union (atoms_loaded l) (union_of ls) (input_kept bytes l input)
+    (inputs_kept operands ls read)
 
-pub join_kept : (log : Option Text) (operands : Operands) (inputs : List Loaded) (h : Held) → AreRead operands inputs → join_of log inputs ≡ Ok h → AreKept h.atoms
+pub join_kept : (log : Option Text) (operands : Operands) (inputs : List Loaded) (h : Held) → AreRead operands inputs → join_of log inputs ≡ Ok h
+    → AreKept h.atoms
 join_kept log operands inputs h read joined = subst AreKept (sym (join_is log inputs h joined).atoms) (inputs_kept operands inputs read)
 
 -- ---- parts

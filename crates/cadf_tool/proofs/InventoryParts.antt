@@ -52,7 +52,12 @@ notes loaded noted e = by (log_named loaded) refl e
 -- what was noted of an input is an inventory
 notes_inventory : (bytes : List ℕ) (loaded : Loaded) (noted : Noted) → IsInput bytes loaded → Notes loaded noted → IsInventory noted
 notes_inventory bytes loaded noted input n =
-    let held : IsHeld bytes (record { log = noted.log; atoms = atoms_loaded loaded }) = record { loaded = loaded; input = input; named = n.log; atoms = refl } in
+    let held : IsHeld bytes (record { log = noted.log; atoms = atoms_loaded loaded }) = record {
+      loaded = loaded;
+      input = input;
+      named = n.log;
+      atoms = refl;
+    } in
     record {
       log = (held_replica bytes (record { log = noted.log; atoms = atoms_loaded loaded }) held).log;
       digests = subst AreDigests (sym n.digests) (are_digests (atoms_loaded loaded));

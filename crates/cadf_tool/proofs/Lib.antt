@@ -25,3 +25,4 @@ pub mod ExchangeLemmas
 pub mod ExchangeLaws
 pub mod InventoryRuns
 pub mod TwoTexts
+pub mod RulingAdded

@@ -1,5 +1,30 @@
 -- The lines that tell what each site holds.
-use Rattle.std.proofs.Common.{◌≡◌, ℕ, ◌+◌, ◌<◌, ◌≤◌, List, ◌∷◌, ◌++◌, Bool, true, false, length, drop, get_or, refl, sym, ap, ◌∙◌, subst, true≢false, append_assoc, append-nil, drop-cons, add-one}
+use Rattle.std.proofs.Common.{
+  ◌≡◌,
+  ℕ,
+  ◌+◌,
+  ◌<◌,
+  ◌≤◌,
+  List,
+  ◌∷◌,
+  ◌++◌,
+  Bool,
+  true,
+  false,
+  length,
+  drop,
+  get_or,
+  refl,
+  sym,
+  ap,
+  ◌∙◌,
+  subst,
+  true≢false,
+  append_assoc,
+  append-nil,
+  drop-cons,
+  add-one,
+}
 use Rattle.std.specs.Prelude.{◌&&◌, ◌↔◌, IsTrue}
 use Rattle.cadf_join.specs.Contents.{Text, Contents}
 use Rattle.cadf_join.specs.Sets as set
@@ -24,7 +49,8 @@ one_value false false f g = refl
 
 one_set : (s t : Contents) → set.is_subset s t ≡ true → set.is_subset t s ≡ true → s ≡ t
 one_set s t h k =
-    contents_same s t (λ q. one_value (set.contains s q) (set.contains t q) (IsWithin-from_subset texts_total s t h q) (IsWithin-from_subset texts_total t s k q))
+    contents_same s t (λ q. one_value (set.contains s q) (set.contains t q) (IsWithin-from_subset texts_total s t h q)
+    (IsWithin-from_subset texts_total t s k q))
 
 same_is : (h k : Held) → is_same h k ≡ true → h ≡ k
 same_is h k e =

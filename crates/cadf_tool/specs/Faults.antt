@@ -5,7 +5,17 @@ use Rattle.cadf_json.specs.declared.whole.OutFault.TheVariants.{WriteFault as Ou
 use Rattle.cadf_tool.specs.declared.input.LoadFault.{LoadFault}
 use Rattle.cadf_tool.specs.declared.input.LoadFault.TheVariants.{File, TooLarge, ReadFault, Json, Document, Memory}
 use Rattle.cadf_tool.specs.declared.fault.ToolFault.{ToolFault}
-use Rattle.cadf_tool.specs.declared.fault.ToolFault.TheVariants.{Input, NoLog, OtherLog, Script, Rehearse, ReadFault as ReadFailed, WriteFault, Memory as OutOfMemory}
+use Rattle.cadf_tool.specs.declared.fault.ToolFault.TheVariants.{
+  Input,
+  NoLog,
+  OtherLog,
+  Script,
+  Rehearse,
+  NoValue,
+  ReadFault as ReadFailed,
+  WriteFault,
+  Memory as OutOfMemory,
+}
 
 -- a failed read and want of memory are the engine's own
 abbrev pub of_load : ℕ → LoadFault → ToolFault
@@ -29,6 +39,7 @@ status_of NoLog = 1
 status_of (OtherLog n) = 1
 status_of (Script line) = 1
 status_of (Rehearse f) = 1
+status_of NoValue = 1
 status_of (ReadFailed n) = 3
 status_of WriteFault = 3
 status_of OutOfMemory = 4

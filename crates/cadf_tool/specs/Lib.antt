@@ -12,6 +12,7 @@ pub mod WrittenFile
 pub mod JoinWrites
 pub mod Missing
 pub mod MissingBy
+pub mod Rule
 pub mod Rehearse
 pub mod Sites
 pub mod Exchange

@@ -12,6 +12,7 @@ pub mod laws;
 mod missing;
 mod missing_by;
 mod rehearse;
+mod rule;
 mod show;
 mod told;
 mod uniting;
@@ -24,6 +25,7 @@ pub use crate::join::run_join;
 pub use crate::missing::run_missing;
 pub use crate::missing_by::run_missing_by;
 pub use crate::rehearse::run_rehearse;
+pub use crate::rule::run_rule;
 pub use crate::show::run_show;
 
 /// The most bytes that an input may have.

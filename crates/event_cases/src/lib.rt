@@ -1,4 +1,4 @@
-//! Examples of events, entities, properties and documents: what they are read as, and why others are refused.
+//! Examples of times, events, entities, properties and documents: what they are read as, and why others are refused.
 #![tactic(auto)]
 
 #[cfg(test)]
@@ -19,5 +19,7 @@ mod parts;
 mod refusals;
 #[cfg(test)]
 mod support;
+#[cfg(test)]
+mod times;
 #[cfg(test)]
 mod words;

@@ -6,7 +6,7 @@ use std::alloc::Global;
 use std::test::Fail;
 
 /// Files, and why they are refused.
-const REFUSED: [(&str, FileFault); 31] = [
+const REFUSED: [(&str, FileFault); 41] = [
     ("", FileFault::Truncated),
     ("CADF-REPLICA 3\n", FileFault::Version),
     ("CADF-REPLICA 1\r\n", FileFault::Version),
@@ -41,6 +41,46 @@ const REFUSED: [(&str, FileFault); 31] = [
     (
         "HEAD[\"U\",\"E\",\"e1\",\"x\"]\n",
         FileFault::Line(3, Cause::Shape),
+    ),
+    (
+        "HEAD[\"U\",\"X\",\"e1\",\"DIGEST\"]\n",
+        FileFault::Line(3, Cause::Shape),
+    ),
+    (
+        "HEAD[\"U\",\"U\",\"e1\",\"DIGEST\"]\n",
+        FileFault::Line(3, Cause::Shape),
+    ),
+    (
+        "HEAD[\"U\",\"E\",\"\",\"DIGEST\"]\n",
+        FileFault::Line(3, Cause::Shape),
+    ),
+    (
+        "HEAD[\"U\",\"E\",\"e1\"]\n",
+        FileFault::Line(3, Cause::Shape),
+    ),
+    (
+        "HEAD[\"U\",\"E\",\"e1\",\"E7B9EB7CEAE2909BEDF50C7149DAE4EA700ECCAD728B76B1F73B96A6D7986CFF\"]\n",
+        FileFault::Line(3, Cause::Shape),
+    ),
+    (
+        "HEAD[\"U\",\"E\",\"e1\",\"DIGEST\",\"x\"]\n",
+        FileFault::Line(3, Cause::Shape),
+    ),
+    (
+        "HEAD[\"U\",\"E\",\"e1\",\"DIGEST\"]\n[\"U\",\"E\",\"e1\",\"DIGEST\"]\n",
+        FileFault::Line(4, Cause::Order),
+    ),
+    (
+        "HEAD[\"U\",\"E\",\"e1\",\"DIGEST\"]\n[\"E\",\"e1\",BODY]\n",
+        FileFault::Line(4, Cause::Order),
+    ),
+    (
+        "HEAD[\"E\",\"e1\",BODY]\n[\"U\",\"E\",\"e1\",\"DIGEST\"]\n[\"E\",\"e1\",BODY,\"T\",\"x\"]\n",
+        FileFault::Line(5, Cause::Order),
+    ),
+    (
+        "HEAD[\"U\",\"E\",\"e1\",\"DIGEST\"]\n",
+        FileFault::Truncated,
     ),
     (
         "HEAD[\"E\",\"e1\",BODY,\"T\",\"x\"]\n",

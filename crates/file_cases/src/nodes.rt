@@ -7,7 +7,7 @@ use std::process::Abort;
 use std::test::Fail;
 
 /// Files with a node that has neither a mark nor a child, which the next line shows before its own faults.
-const UNENDED: [(&str, FileFault); 17] = [
+const UNENDED: [(&str, FileFault); 20] = [
     ("NODES[1,0,\"E\"]\nZ\n", FileFault::Line(3, Cause::Unended)),
     (
         "NODES[1,0,\"E\"]\nZ ebabeff8067c426b5d9e4330c4db3e74ceccc8a5a3abdd5c43936ac4d6700684\n",
@@ -67,10 +67,19 @@ const UNENDED: [(&str, FileFault); 17] = [
         "NODES[1,0,\"E\"]\n[2,0,\"e1\"]\n[3,1,BODY]\n[4,0,\"C\"]\n[3,1,BODY]\n",
         FileFault::Line(6, Cause::Unended),
     ),
+    ("NODES[1,0,\"U\"]\nZ\n", FileFault::Line(3, Cause::Unended)),
+    (
+        "NODES[1,0,\"U\"]\n[2,0,\"E\"]\n[3,0,\"e1\"]\nZ\n",
+        FileFault::Line(5, Cause::Unended),
+    ),
+    (
+        "NODES[1,0,\"U\"]\n[2,0,\"E\"]\n[3,0,\"e1\"]\n[4,0,\"DIGEST\"]\nZ\n",
+        FileFault::Line(6, Cause::Unended),
+    ),
 ];
 
 /// Other files, and why they are refused.
-const REFUSED: [(&str, FileFault); 47] = [
+const REFUSED: [(&str, FileFault); 57] = [
     ("NODES[0,0,\"E\"]\n", FileFault::Line(3, Cause::Order)),
     ("NODES[2,0,\"e1\"]\n", FileFault::Line(3, Cause::Order)),
     ("NODES[2,0,\"X\"]\n", FileFault::Line(3, Cause::Order)),
@@ -187,6 +196,43 @@ const REFUSED: [(&str, FileFault); 47] = [
     (
         "NODES[1,0,\"E\"]\n[2,0,\"e1\"]\n[3,0,BODY]\n[4,0,\"C\"]\n",
         FileFault::Line(5, Cause::Ungrounded),
+    ),
+    ("NODES[1,1,\"U\"]\n", FileFault::Line(3, Cause::Shape)),
+    (
+        "NODES[1,0,\"U\"]\n[2,0,\"X\"]\n",
+        FileFault::Line(4, Cause::Shape),
+    ),
+    (
+        "NODES[1,0,\"U\"]\n[2,0,\"E\"]\n[3,0,\"\"]\n",
+        FileFault::Line(5, Cause::Shape),
+    ),
+    (
+        "NODES[1,0,\"U\"]\n[2,0,\"E\"]\n[3,1,\"e1\"]\n",
+        FileFault::Line(5, Cause::Shape),
+    ),
+    (
+        "NODES[1,0,\"U\"]\n[2,0,\"E\"]\n[3,0,\"e1\"]\n[4,1,\"x\"]\n",
+        FileFault::Line(6, Cause::Shape),
+    ),
+    (
+        "NODES[1,0,\"U\"]\n[2,0,\"E\"]\n[3,0,\"e1\"]\n[4,0,\"T\"]\n",
+        FileFault::Line(6, Cause::Shape),
+    ),
+    (
+        "NODES[1,0,\"U\"]\n[2,0,\"E\"]\n[3,0,\"e1\"]\n[4,1,\"E7B9EB7CEAE2909BEDF50C7149DAE4EA700ECCAD728B76B1F73B96A6D7986CFF\"]\n",
+        FileFault::Line(6, Cause::Shape),
+    ),
+    (
+        "NODES[1,0,\"U\"]\n[2,0,\"E\"]\n[3,0,\"e1\"]\n[4,1,\"DIGEST\"]\n[5,1,\"x\"]\n",
+        FileFault::Line(7, Cause::Shape),
+    ),
+    (
+        "NODES[1,0,\"U\"]\n[2,0,\"E\"]\n[3,0,\"e1\"]\n[4,1,\"DIGEST\"]\n[4,1,\"DIGEST\"]\n",
+        FileFault::Line(7, Cause::Order),
+    ),
+    (
+        "NODES[1,0,\"U\"]\n[2,0,\"E\"]\n[3,0,\"e1\"]\n[4,1,\"DIGEST\"]\n[1,0,\"E\"]\n",
+        FileFault::Line(7, Cause::Order),
     ),
     ("NODES[1,0,\"E\"]\n", FileFault::Truncated),
     (

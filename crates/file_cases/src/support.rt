@@ -8,10 +8,19 @@ use std::test::Fail;
 pub const LIMIT: u64 = 4096;
 
 /// What stands for longer texts in the files.
-const PARTS: [(&str, &str); 7] = [
+const PARTS: [(&str, &str); 9] = [
     (
         "BODY",
         r#""{\"action\":\"read\",\"eventTime\":\"2024-03-01T12:00:00Z\",\"eventType\":\"activity\",\"initiatorId\":\"u1\",\"observerId\":\"s1\",\"outcome\":\"success\",\"targetId\":\"t1\"}""#,
+    ),
+    // the body with another outcome, and the digest of its text
+    (
+        "FAILED",
+        r#""{\"action\":\"read\",\"eventTime\":\"2024-03-01T12:00:00Z\",\"eventType\":\"activity\",\"initiatorId\":\"u1\",\"observerId\":\"s1\",\"outcome\":\"failure\",\"targetId\":\"t1\"}""#,
+    ),
+    (
+        "DIGEST",
+        "e7b9eb7ceae2909bedf50c7149dae4ea700eccad728b76b1f73b96a6d7986cff",
     ),
     // the body without its end
     (
@@ -74,6 +83,52 @@ L "g"
 [5,1,STEP1]
 [6,1,STEP2]
 Z 53f64e95637910be30fa08b0407f36ea1a890cc0ae7f438fb034f397a7eede02
+"#;
+
+/// Two bodies of one event with a chain each, and a ruling of the first.
+pub const RULED: &str = r#"CADF-REPLICA 1
+L "g"
+["E","e1",FAILED]
+["E","e1",FAILED,"C",STEP2]
+["E","e1",BODY]
+["E","e1",BODY,"C",STEP1]
+["U","E","e1","DIGEST"]
+Z b1eac21ec5ee56c9c793fdebbe3b60adc01d44965d37de87224a7d4a45066ef6
+"#;
+
+/// The same in format 2.
+pub const RULED_IN_TWO: &str = r#"CADF-REPLICA 2
+L "g"
+[1,0,"E"]
+[2,0,"e1"]
+[3,1,FAILED]
+[4,0,"C"]
+[5,1,STEP2]
+[3,1,BODY]
+[4,0,"C"]
+[5,1,STEP1]
+[1,0,"U"]
+[2,0,"E"]
+[3,0,"e1"]
+[4,1,"DIGEST"]
+Z 1f360967b6e667557fdbc22050cb43db4004e89f60662651de6353e172ac1eac
+"#;
+
+/// A ruling of a value that is not held.
+pub const RULING_ALONE: &str = r#"CADF-REPLICA 1
+L "g"
+["U","E","e1","DIGEST"]
+Z 99797a9e436befdbb45009a696900e092c666ea21366904fe4ad09a2e0afa4ed
+"#;
+
+/// The same in format 2.
+pub const RULING_ALONE_IN_TWO: &str = r#"CADF-REPLICA 2
+L "g"
+[1,0,"U"]
+[2,0,"E"]
+[3,0,"e1"]
+[4,1,"DIGEST"]
+Z 8cd770a331619812ee3e82876695c08984876685c70af7e3c2627783080ee0b0
 "#;
 
 /// The text with its parts written out.

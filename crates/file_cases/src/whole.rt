@@ -1,5 +1,8 @@
 //! Whole files of both formats are read, and written as the same bytes.
-use crate::support::{CHAINS, CHAINS_IN_TWO, EMPTY, EMPTY_IN_TWO, TWO, TWO_IN_TWO, written};
+use crate::support::{
+    CHAINS, CHAINS_IN_TWO, EMPTY, EMPTY_IN_TWO, RULED, RULED_IN_TWO, RULING_ALONE,
+    RULING_ALONE_IN_TWO, TWO, TWO_IN_TWO, written,
+};
 use cadf_file::{Format, read_replica, write_replica};
 use cadf_json::{FailingWrite, MemorySink, MemorySource};
 use std::alloc::Global;
@@ -7,10 +10,12 @@ use std::process::Abort;
 use std::test::Fail;
 
 /// Files of format 1, each with the file of format 2 of the same set.
-const WHOLE: [(&str, &str); 3] = [
+const WHOLE: [(&str, &str); 5] = [
     (EMPTY, EMPTY_IN_TWO),
     (TWO, TWO_IN_TWO),
     (CHAINS, CHAINS_IN_TWO),
+    (RULED, RULED_IN_TWO),
+    (RULING_ALONE, RULING_ALONE_IN_TWO),
 ];
 
 /// Whether the one file is read, and written as the other, which is of that format.

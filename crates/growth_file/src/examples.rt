@@ -87,7 +87,7 @@ Z 9a3760a5fd2e517b1f50266254c04cc08d7f948218491937f514a5785b28683b
 
 /// The conflict list of both.
 pub const CONFLICTS: &str =
-    r#"{"conflicts":[{"key":"name","kind":"P","values":["north","south"]}],"log":"g"}
+    r#"{"conflicts":[{"key":"name","kind":"P","values":["north","south"]}],"log":"g","rulings":[]}
 "#;
 
 /// A replica that took the document.

@@ -1,4 +1,4 @@
-//! Examples of `cadf_join`, and its chain trees against plain sets.
+//! Examples of `cadf_join` and `cadf_paths`, with chain trees and flat sets against plain sets.
 #![tactic(auto)]
 
 #[cfg(test)]
@@ -7,6 +7,8 @@ mod chains;
 mod maps;
 #[cfg(test)]
 mod oracle;
+#[cfg(test)]
+mod paths;
 #[cfg(test)]
 mod readme;
 #[cfg(test)]

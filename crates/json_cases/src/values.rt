@@ -165,9 +165,10 @@ const PARTS: &[u8] = b"{\"b\":[1,\"x\",null],\"a\":{}}";
 #[test]
 fn counts_parts(rt: HostRuntime) -> Result<(), Fail> {
     let json = Json::read(rt.alloc(), PARTS)?;
-    assert!(rt; json.view().is_object());
-    assert!(rt; json.view().len() == 2);
-    assert!(rt; json.view().depth() == 2);
+    let view = json.view();
+    assert!(rt; view.is_object());
+    assert!(rt; view.len() == 2);
+    assert!(rt; view.depth() == 2);
     Ok(())
 }
 
@@ -228,8 +229,9 @@ fn walks_members(rt: HostRuntime) -> Result<(), Fail> {
 #[test]
 fn measures_members(rt: HostRuntime) -> Result<(), Fail> {
     let json = Json::read(rt.alloc(), MEMBERS)?;
-    assert!(rt; json.view().members_within(&[("deep", 2)], 0));
-    assert!(rt; !json.view().members_within(&[("deep", 1)], 9));
+    let view = json.view();
+    assert!(rt; view.members_within(&[("deep", 2)], 0));
+    assert!(rt; !view.members_within(&[("deep", 1)], 9));
     Ok(())
 }
 
@@ -239,6 +241,12 @@ fn rewrites_members(rt: HostRuntime) -> Result<(), Fail> {
     let json = Json::read(alloc, MEMBERS)?;
     let text = json.view().rewritten(alloc, &["id", "other"], "t", "y\"")?;
     assert!(rt; text.as_str() == "{\"deep\":[[]],\"t\":\"y\\\"\"}");
+    Ok(())
+}
+
+#[test]
+fn rewrites_what_is_no_object(rt: HostRuntime) -> Result<(), Fail> {
+    let alloc = rt.alloc();
     let list = Json::read(alloc, b"[1]")?;
     let text = list.view().rewritten(alloc, &[], "t", "y")?;
     assert!(rt; text.as_str() == "{}");
@@ -258,7 +266,7 @@ fn builds_lists(rt: HostRuntime) -> Result<(), Fail> {
     let alloc = rt.alloc();
     let mut list = ListBuilder::new(alloc);
     list.push(Json::from_text(alloc, "x")?)?;
-    let copied = Json::read(alloc, b"{\"k\":7}")?.view().to_json()?;
+    let copied = Json::read(alloc, b"{\"k\":7}")?.view().to_json(alloc)?;
     list.push(shallow(copied).ok_or("deep")?)?;
     let text = list.finish().view().text(alloc)?;
     assert!(rt; text.as_str() == "[\"x\",{\"k\":7}]");

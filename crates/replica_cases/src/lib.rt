@@ -1,4 +1,4 @@
-//! Examples of atoms and replicas: what is read, taken, held, joined and missing.
+//! Examples of atoms and replicas: what is read, taken, held, joined and missing, and what a schedule of exchanges leaves.
 #![tactic(auto)]
 
 #[cfg(test)]
@@ -13,6 +13,10 @@ mod inventories;
 mod parts;
 #[cfg(test)]
 mod paths;
+#[cfg(test)]
+mod rehearsals;
+#[cfg(test)]
+mod rulings;
 #[cfg(test)]
 mod support;
 #[cfg(test)]

@@ -1,5 +1,5 @@
 //! Lists of texts that are atoms, that begin one, or that do neither.
-use crate::support::BODY;
+use crate::support::{BODY, DIGEST};
 use cadf_replica::{PathKind, path_kind};
 use std::alloc::Global;
 use std::test::Fail;
@@ -14,11 +14,17 @@ fn kind_of(alloc: Global, texts: &[&str]) -> Result<PathKind, Fail> {
 
 #[test]
 fn have_a_kind(rt: HostRuntime) -> Result<(), Fail> {
-    let lists: [(PathKind, &[&str]); 18] = [
+    let lists: [(PathKind, &[&str]); 24] = [
         (PathKind::Prefix, &[]),
         (PathKind::Prefix, &["E"]),
         (PathKind::Not, &["X"]),
-        (PathKind::Not, &["U"]),
+        (PathKind::Prefix, &["U"]),
+        (PathKind::Prefix, &["U", "E"]),
+        (PathKind::Not, &["U", "X"]),
+        (PathKind::Prefix, &["U", "P", "id"]),
+        (PathKind::Not, &["U", "P", ""]),
+        (PathKind::Whole, &["U", "P", "id", DIGEST]),
+        (PathKind::Not, &["U", "P", "id", DIGEST, "x"]),
         (PathKind::Prefix, &["P", "name"]),
         (PathKind::Not, &["P", "id"]),
         (PathKind::Prefix, &["M", "id"]),

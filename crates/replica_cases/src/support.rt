@@ -12,6 +12,9 @@ pub const BODY: &str =
 pub const FAILED_BODY: &str =
     r#"{"action":"read","eventTime":"2024-03-01T12:00:00Z","eventType":"activity","initiatorId":"u1","observerId":"s1","outcome":"failure","targetId":"t1"}"#;
 
+/// The digest of the text of `BODY`.
+pub const DIGEST: &str = "d581ec5f7f08d29f2a0967a79466927a2704d1a52bab805a6390a1f1190cd00c";
+
 /// Words, and the lines of the atoms that they stand for, in the order of atoms: bodies of the event `e1` with
 /// what came with them, `other` the body of `e2`, an entity of each kind, and two values of one property.
 pub const ATOMS: [(&str, &str); 13] = [

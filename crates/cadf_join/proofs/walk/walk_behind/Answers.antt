@@ -14,10 +14,13 @@ pub returns-in_err-walk-clause-stopped : goal.returns-in_err-walk-clause-stopped
 returns-in_err-walk-clause-stopped g c =
     let path = texts_at c.args.path.now.items in
     let text = c.args.text.now in
-    let longer : texts_at c.lengthen.new.path.items ≡ path ++ text ∷ [] = path_longer c.args.path.now.items c.lengthen.new.path.items c.args.text text c.in_ok-lengthen.ensures refl in
+    let longer : texts_at c.lengthen.new.path.items ≡ path ++ text ∷ [] = path_longer c.args.path.now.items c.lengthen.new.path.items c.args.text text
+    c.in_ok-lengthen.ensures refl in
     outcome.if_err_from c.from_residual-in_err-walk.result _
-    (λ f is. subst (λ xs. g.S.Visitor.stops c.args.visitor.now xs f c.walk.new.visitor) (behind_text path (texts_at c.lengthen.new.path.items) text (g.V.Join.contents c.args.value.now) longer)
-    (subst (λ e. g.S.Visitor.stops c.args.visitor.now (rising_behind (texts_at c.lengthen.new.path.items) (g.V.Join.contents c.args.value.now)) e c.walk.new.visitor) (sym is) c.in_err-walk.ensures.stopped))
+    (λ f is. subst (λ xs. g.S.Visitor.stops c.args.visitor.now xs f c.walk.new.visitor)
+    (behind_text path (texts_at c.lengthen.new.path.items) text (g.V.Join.contents c.args.value.now) longer)
+    (subst (λ e. g.S.Visitor.stops c.args.visitor.now (rising_behind (texts_at c.lengthen.new.path.items) (g.V.Join.contents c.args.value.now)) e
+    c.walk.new.visitor) (sym is) c.in_err-walk.ensures.stopped))
     c.from_residual-in_err-walk.ensures.1
 
 pub returns-clause-path : goal.returns-clause-path
@@ -29,5 +32,7 @@ pub returns-clause-shown : goal.returns-clause-shown
 returns-clause-shown g c =
     let path = texts_at c.args.path.now.items in
     let text = c.args.text.now in
-    let longer : texts_at c.lengthen.new.path.items ≡ path ++ text ∷ [] = path_longer c.args.path.now.items c.lengthen.new.path.items c.args.text text c.in_ok-lengthen.ensures refl in
-    subst (λ xs. g.S.Visitor.takes c.args.visitor.now xs c.walk.new.visitor) (behind_text path (texts_at c.lengthen.new.path.items) text (g.V.Join.contents c.args.value.now) longer) c.in_ok-walk.ensures.shown
+    let longer : texts_at c.lengthen.new.path.items ≡ path ++ text ∷ [] = path_longer c.args.path.now.items c.lengthen.new.path.items c.args.text text
+    c.in_ok-lengthen.ensures refl in
+    subst (λ xs. g.S.Visitor.takes c.args.visitor.now xs c.walk.new.visitor)
+    (behind_text path (texts_at c.lengthen.new.path.items) text (g.V.Join.contents c.args.value.now) longer) c.in_ok-walk.ensures.shown

@@ -42,7 +42,8 @@ loop-cursor-preserved-in-Continue-branch-4 c =
       left = back_left old now inv.kept rest inv.left n _ _ c.split_at.ensures.front c.split_at.ensures.back;
       ours = back_rises old now inv.kept rest inv.left n _ _ c.split_at.ensures.front c.split_at.ensures.back inv.ours;
       theirs = tail_rises y ys (subst (IsStrictlySortedBy texts_cmp) moved inv.theirs);
-      merged = new_on old now inv.kept rest inv.left n _ _ c.split_at.ensures.front c.split_at.ensures.back c.loop-cursor.all.items y ys c.loop-cursor.cursor.1 _ moved inv.merged
+      merged = new_on old now inv.kept rest inv.left n _ _ c.split_at.ensures.front c.split_at.ensures.back c.loop-cursor.all.items y ys c.loop-cursor.cursor.1
+          _ moved inv.merged
           (subst (λ ls. AllByRecursion (λ l. texts_cmp l y ≡ Less) (take n ls)) view c.seek-at.ensures.below)
           c.stored.new.texts c.in_ok-list.ensures.kept c.in_ok-list.list
           (c.in_ok-list.ensures.texts ∙ c.path-then-not-held.ensures ∙ sym c.path.ensures) before
@@ -70,7 +71,8 @@ loop-cursor-preserved c =
       left = back_left old now inv.kept rest inv.left n _ _ c.split_at.ensures.front c.split_at.ensures.back;
       ours = back_rises old now inv.kept rest inv.left n _ _ c.split_at.ensures.front c.split_at.ensures.back inv.ours;
       theirs = tail_rises y ys theirs;
-      merged = held_on old now inv.kept rest inv.left n _ _ c.split_at.ensures.front c.split_at.ensures.back c.loop-cursor.all.items y ys c.loop-cursor.cursor.1 _ moved inv.merged
+      merged = held_on old now inv.kept rest inv.left n _ _ c.split_at.ensures.front c.split_at.ensures.back c.loop-cursor.all.items y ys c.loop-cursor.cursor.1
+          _ moved inv.merged
           (subst (λ ls. AllByRecursion (λ l. texts_cmp l y ≡ Less) (take n ls)) view c.seek-at.ensures.below)
           c.extend_from_slice.new.self.items c.in_ok-extend_from_slice.ensures.items theirs held.0 held.1;
     }

@@ -14,9 +14,11 @@ loop-rest-preserved c =
     record {
       rises = λ s. c.loop-rest.invariant.rises (first_rises (run_of c.args.texts.now) rest c.split_at.result.1.now _ _ c.split_at.ensures.back
           c.loop-rest-test.true (sym c.run_cmp.ensures ∙ c.in-Less.is) s);
-      runs = subst (AllByRecursion (IsRun c.args.texts.now)) (sym c.split_at.ensures.back) (all_of_last (IsRun c.args.texts.now) rest 1 c.loop-rest.invariant.runs);
+      runs = subst (AllByRecursion (IsRun c.args.texts.now)) (sym c.split_at.ensures.back)
+          (all_of_last (IsRun c.args.texts.now) rest 1 c.loop-rest.invariant.runs);
       within = omega (arith, within, shorter);
     }
 
 pub returns-clause-rises : goal.returns-clause-rises
-returns-clause-rises c = λ _. c.loop-rest.invariant.rises (one_rises (run_of c.args.texts.now) c.loop-rest.rest.now (let t = c.loop-rest-test.false in omega (arith, t)))
+returns-clause-rises c = λ _. c.loop-rest.invariant.rises
+    (one_rises (run_of c.args.texts.now) c.loop-rest.rest.now (let t = c.loop-rest-test.false in omega (arith, t)))

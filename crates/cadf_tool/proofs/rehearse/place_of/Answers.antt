@@ -14,4 +14,5 @@ returns-then-are_same c =
 
 pub returns : goal.returns
 returns c =
-    sym (position_or_len_is (is_same c.args.site.now) c.args.sites.now (length c.args.sites.now) c.args.site.now (omega arith) (λ k h. c.loop-place.invariant k (omega arith)) (λ h. absurd (omega arith)))
+    sym (position_or_len_is (is_same c.args.site.now) c.args.sites.now (length c.args.sites.now) c.args.site.now (omega arith)
+    (λ k h. c.loop-place.invariant k (omega arith)) (λ h. absurd (omega arith)))

@@ -46,12 +46,15 @@ loop-text-preserved g t c =
     let text = string_bytes c.in-Some.text.now in
     let here = set.rising c.in-Some.child.now in
     let pushed = c.in_ok-lengthen.ensures ∙ ap (λ xs. xs ++ c.as_str.result ∷ []) c.loop-text.invariant.path in
-    let longer : texts_at c.lengthen.new.path.items ≡ path ++ text ∷ [] = path_longer c.args.path.now.items c.lengthen.new.path.items c.as_str.result text pushed c.as_str.ensures.value in
+    let longer : texts_at c.lengthen.new.path.items ≡ path ++ text ∷ [] = path_longer c.args.path.now.items c.lengthen.new.path.items c.as_str.result text
+    pushed c.as_str.ensures.value in
     record {
-      path = c.pop.ensures.rest ∙ ap (λ n. take (n - 1) c.show.new.path.items) c.show.new.path.ok.0 ∙ ap (λ xs. take (length xs - 1) xs) (c.in_ok-show.ensures.path ∙ pushed) ∙ popped c.args.path.now.items c.as_str.result;
+      path = c.pop.ensures.rest ∙ ap (λ n. take (n - 1) c.show.new.path.items) c.show.new.path.ok.0
+          ∙ ap (λ xs. take (length xs - 1) xs) (c.in_ok-show.ensures.path ∙ pushed) ∙ popped c.args.path.now.items c.as_str.result;
       shown = shown_more g.S.Visitor.takes g.met.S.Visitor.takes_more c.args.visitor.now c.loop-text.visitor c.show.new.visitor
           (continued path (behind c.loop-text.text-iterator)) (continued (texts_at c.lengthen.new.path.items) here) (continued path (behind c.next.new.self)) _
-          (ap (λ es. continued path (behind es)) c.in-Some.ensures.steps ∙ behind_path path (texts_at c.lengthen.new.path.items) text here (behind c.next.new.self) longer)
+          (ap (λ es. continued path (behind es)) c.in-Some.ensures.steps ∙ behind_path path (texts_at c.lengthen.new.path.items) text here
+          (behind c.next.new.self) longer)
           c.loop-text.invariant.shown c.in_ok-show.ensures.shown;
       below = (subst (AreBelow c.args.self.now) c.in-Some.ensures.steps c.loop-text.invariant.below).1;
     }
@@ -94,10 +97,13 @@ returns-in_err-show-clause-stopped g t c =
     let here = continued (texts_at c.lengthen.new.path.items) (set.rising c.in-Some.child.now) in
     let rest = behind c.next.new.self in
     let pushed = c.in_ok-lengthen.ensures ∙ ap (λ xs. xs ++ c.as_str.result ∷ []) c.loop-text.invariant.path in
-    let longer : texts_at c.lengthen.new.path.items ≡ path ++ text ∷ [] = path_longer c.args.path.now.items c.lengthen.new.path.items c.as_str.result text pushed c.as_str.ensures.value in
+    let longer : texts_at c.lengthen.new.path.items ≡ path ++ text ∷ [] = path_longer c.args.path.now.items c.lengthen.new.path.items c.as_str.result text
+    pushed c.as_str.ensures.value in
     outcome.if_err_from c.from_residual-in_err-show.result _
-    (λ f is. shown_stops_in g.S.Visitor.takes g.S.Visitor.stops g.met.S.Visitor.stops_later g.met.S.Visitor.stops_before c.args.visitor.now c.loop-text.visitor c.show.new.visitor
+    (λ f is. shown_stops_in g.S.Visitor.takes g.S.Visitor.stops g.met.S.Visitor.stops_later g.met.S.Visitor.stops_before c.args.visitor.now c.loop-text.visitor
+    c.show.new.visitor
     (continued path (behind c.loop-text.text-iterator)) here (continued path rest) _ f
-    (ap (λ es. continued path (behind es)) c.in-Some.ensures.steps ∙ behind_path path (texts_at c.lengthen.new.path.items) text (set.rising c.in-Some.child.now) rest longer)
+    (ap (λ es. continued path (behind es)) c.in-Some.ensures.steps ∙ behind_path path (texts_at c.lengthen.new.path.items) text (set.rising c.in-Some.child.now)
+    rest longer)
     c.loop-text.invariant.shown (subst (λ e. g.S.Visitor.stops c.loop-text.visitor here e c.show.new.visitor) (sym is) c.in_err-show.ensures.stopped))
     c.from_residual-in_err-show.ensures.1

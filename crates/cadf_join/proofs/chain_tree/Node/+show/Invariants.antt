@@ -12,6 +12,7 @@ decreases-show g l = height l.self.now
 abbrev pub invariant-loop-text : goal.invariant-loop-text
 invariant-loop-text g l = record {
   path : l.path.items ≡ l.fn.path.items;
-  shown : Shown g.S.Visitor.takes l.fn.visitor l.visitor (continued (texts_at l.fn.path.items) (behind l.text-iterator)) (continued (texts_at l.fn.path.items) (set.rising l.self));
+  shown : Shown g.S.Visitor.takes l.fn.visitor l.visitor (continued (texts_at l.fn.path.items) (behind l.text-iterator))
+      (continued (texts_at l.fn.path.items) (set.rising l.self));
   below : AreBelow l.self l.text-iterator;
 }

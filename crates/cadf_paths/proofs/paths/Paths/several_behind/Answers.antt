@@ -26,7 +26,8 @@ loop-text-init c =
     }
 
 pub has_several-requires : goal.has_several-requires
-has_several-requires c = subst (IsStrictlySortedBy texts_cmp) (sym c.section.ensures) (rests_rise c.in-Some.text.now c.part-part.result c.part-part.ensures.rising)
+has_several-requires c = subst (IsStrictlySortedBy texts_cmp) (sym c.section.ensures)
+    (rests_rise c.in-Some.text.now c.part-part.result c.part-part.ensures.rising)
 
 pub loop-text-smaller : goal.loop-text-smaller
 loop-text-smaller c =
@@ -67,7 +68,8 @@ loop-text-preserved c =
 pub returns : goal.returns
 returns c =
     let s = set.from_list c.part-part.result in
-    let none = ap (λ ks. length (filter (has_two s) ks)) (next_none text_total text_same (is_after text_cmp (option_copied c.loop-text.last)) (set.rising (heads s))
+    let none = ap (λ ks. length (filter (has_two s) ks)) (next_none text_total text_same (is_after text_cmp (option_copied c.loop-text.last))
+    (set.rising (heads s))
     (sym c.next_text.ensures ∙ ap option_copied c.in_default.is)) in
     let before = c.loop-text.invariant.to_come in
     let small = c.loop-text.invariant.small in

@@ -31,7 +31,8 @@ loop-text-preserved c =
     let t = c.in-Some.text.now in
     let left = filter (is_after text_cmp (Some t)) (set.rising h) in
     let done = map string_bytes c.loop-text.texts.items in
-    ap (λ ts. map string_bytes ts ++ left) c.in_ok-push.ensures.items ∙ ap (λ ts. ts ++ left) (map_more string_bytes c.loop-text.texts.items c.in_ok-from_str.field-0)
+    ap (λ ts. map string_bytes ts ++ left) c.in_ok-push.ensures.items
+    ∙ ap (λ ts. ts ++ left) (map_more string_bytes c.loop-text.texts.items c.in_ok-from_str.field-0)
     ∙ append_assoc done (string_bytes c.in_ok-from_str.field-0 ∷ []) left
     ∙ ap (λ x. done ++ x ∷ left) c.in_ok-from_str.ensures.ok
     ∙ ap (λ ts. done ++ ts) (sym (next_one text_total text_same (option_copied c.loop-text.last) (set.rising h) (rising_is_sorted text_total text_same h)

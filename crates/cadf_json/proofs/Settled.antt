@@ -1,0 +1,80 @@
+-- A settled tree is the outline of a value.
+use Rattle.std.proofs.Common.{◌≡◌, ℕ, ◌^◌, ◌<◌, ℤ, pos, negsuc, int_lt, SFits, w64, true, List, Some, decimal, refl, sym, ap, ap₂, ◌∙◌, subst, arith}
+use Rattle.std.specs.Fmt.{signed_decimal}
+use Rattle.json.specs.Json as json
+use Rattle.json.specs.Tree.{json_tokens, HasNumbers}
+use Rattle.json.specs.Print.{print}
+use Rattle.serde_json.specs.Data.{Num, unsigned, negative, float}
+use Rattle.serde_json.specs.Read.{number_of}
+use Rattle.serde_json.specs.Written.{number_text, outline, items_outline, members_outline, compact_text}
+use Rattle.serde_json.proofs.Numbers.{number_of-decimal, number_of-negative}
+use Rattle.serde_json.proofs.Texts.{print-outline}
+use Rattle.cadf_json.specs.Value.{IsWholeNumber, IsWhole, ItemsAreWhole, MembersAreWhole, IsValue}
+use Rattle.cadf_json.proofs.Texts.{HasNumbers-outline}
+use Rattle.cadf_json.specs.Tree.{IsWholeText, number_in, data_in, listed_in, named_in, IsSettled, ItemsAreSettled, MembersAreSettled, IsSettledWithin}
+
+number_read : (n : Num) → IsWholeNumber n → number_of (number_text n) ≡ Some n
+number_read (unsigned n) h = number_of-decimal n h
+number_read (negative (pos n)) h = absurd h
+number_read (negative (negsuc n)) h = number_of-negative n h
+number_read (float x) h = absurd h
+
+pub number_is : (s : List ℕ) (h : IsWholeText s) → number_of s ≡ Some h.0
+number_is s h = ap number_of h.2 ∙ number_read h.0 h.1
+
+pub number_in_is : (s : List ℕ) (h : IsWholeText s) → number_in s ≡ h.0
+number_in_is s h = rw (number_is s h)
+
+pub number_of-whole : (s : List ℕ) → IsWholeText s → number_of s ≡ Some (number_in s)
+number_of-whole s h = rw (number_is s h)
+
+pub IsWholeText-unsigned : (s : List ℕ) (n : ℕ) → n < 2 ^ 64 → s ≡ decimal n → IsWholeText s
+IsWholeText-unsigned s n h e = (unsigned n, h, e)
+
+pub IsWholeText-signed : (s : List ℕ) (z : ℤ) → int_lt z (pos 0) ≡ true → SFits w64 z → s ≡ signed_decimal z → IsWholeText s
+IsWholeText-signed s (pos n) below fits e = absurd (grind arith)
+IsWholeText-signed s (negsuc n) below fits e = (negative (negsuc n), grind arith, e)
+
+mutual
+  pub outline-data_in : (j : json.Json) → IsSettled j → outline (data_in j) ≡ j
+  outline-data_in json.null h = refl
+  outline-data_in (json.boolean b) h = refl
+  outline-data_in (json.number s) h = ap json.number (ap number_text (number_in_is s h) ∙ sym h.2)
+  outline-data_in (json.string s) h = refl
+  outline-data_in (json.array js) h = ap json.array (items_outline-listed_in js h)
+  outline-data_in (json.object ms) h = ap json.object (members_outline-named_in ms h.0)
+
+  items_outline-listed_in : (js : json.Items) → ItemsAreSettled js → items_outline (listed_in js) ≡ js
+  items_outline-listed_in json.no_items h = refl
+  items_outline-listed_in (json.item j js) h = ap₂ json.item (outline-data_in j h.0) (items_outline-listed_in js h.1)
+
+  members_outline-named_in : (ms : json.Members) → MembersAreSettled ms → members_outline (named_in ms) ≡ ms
+  members_outline-named_in json.no_members h = refl
+  members_outline-named_in (json.member k j ms) h = ap₂ (json.member k) (outline-data_in j h.1) (members_outline-named_in ms h.2)
+
+mutual
+  pub IsWhole-data_in : (j : json.Json) → IsSettled j → IsWhole (data_in j)
+  IsWhole-data_in json.null h = tt
+  IsWhole-data_in (json.boolean b) h = tt
+  IsWhole-data_in (json.number s) h = subst IsWholeNumber (sym (number_in_is s h)) h.1
+  IsWhole-data_in (json.string s) h = h
+  IsWhole-data_in (json.array js) h = ItemsAreWhole-listed_in js h
+  IsWhole-data_in (json.object ms) h = (MembersAreWhole-named_in ms h.0, h.1)
+
+  ItemsAreWhole-listed_in : (js : json.Items) → ItemsAreSettled js → ItemsAreWhole (listed_in js)
+  ItemsAreWhole-listed_in json.no_items h = tt
+  ItemsAreWhole-listed_in (json.item j js) h = (IsWhole-data_in j h.0, ItemsAreWhole-listed_in js h.1)
+
+  pub MembersAreWhole-named_in : (ms : json.Members) → MembersAreSettled ms → MembersAreWhole (named_in ms)
+  MembersAreWhole-named_in json.no_members h = tt
+  MembersAreWhole-named_in (json.member k j ms) h = (h.0, IsWhole-data_in j h.1, MembersAreWhole-named_in ms h.2)
+
+-- a settled tree can be written, and what is written is the canonical text
+pub HasNumbers-settled : (j : json.Json) → IsSettled j → HasNumbers j
+HasNumbers-settled j h = subst HasNumbers (outline-data_in j h) (HasNumbers-outline (data_in j) (IsWhole-data_in j h))
+
+pub print-settled : (j : json.Json) → IsSettled j → print (json_tokens j) ≡ compact_text (data_in j)
+print-settled j h = ap (λ i. print (json_tokens i)) (sym (outline-data_in j h)) ∙ print-outline (data_in j)
+
+pub IsValue-settled : (j : json.Json) → IsSettledWithin 127 j → IsValue (data_in j)
+IsValue-settled j h = (IsWhole-data_in j h.0, h.1)

@@ -1,0 +1,45 @@
+use Rattle.std.proofs.Common.{◌≡◌, [], ◌∷◌, Some, length, ap, ◌∙◌, arith, rules}
+use Rattle.json.specs.Token.{Token}
+use Rattle.json.specs.Lex.{tokens}
+use Rattle.json.specs.Json.{parse_map, members, value}
+use Rattle.json.specs.Value.{members_view}
+use Rattle.json.proofs.Grammar.{value-begin_object}
+use Rattle.serde_json.specs.Data.{array, object, put}
+use Rattle.serde_json.specs.Read.{of_json, converted}
+use Rattle.cadf_json.specs.Tree.{named_in}
+use Rattle.cadf_json.proofs.Settled.{MembersAreWhole-named_in}
+use Rattle.cadf_json.proofs.Splits.{float-put}
+use Rattle.cadf_json.proofs.Texts.{members_have_float-AreWhole}
+use Rattle.cadf_json.proofs.Turns.{converted-object, whole_read}
+use Rattle.cadf_json.proofs.split.read_split.Goals as goal
+
+pub returns : goal.returns
+returns g c =
+    let rest = c.next.new.self in
+    let name = c.args.name.now in
+    let found = c.in_ok-members.members.items in
+    let ms = named_in (members_view found) in
+    let split = c.in_ok-members.ensures.ok in
+    let within = c.in_ok-members.ensures.within in
+    let begins : tokens c.args.text.now ≡ Token.begin_object ∷ rest = search rules in
+    let none : c.read_around.new.reader ≡ [] = search rules in
+    let opened = ap (converted of_json) (ap (value 127) begins ∙ value-begin_object 127 rest (omega arith))
+    ∙ converted-object (members (value 126) (length rest) rest) in
+    let whole = opened ∙ ap (parse_map object) split.1.1 ∙ ap (λ r. Some (object (put name (array split.0) ms), r)) none in
+    record {
+      ok = (
+        ms,
+        (
+          split.0,
+          (
+            c.of_members.ensures,
+            split.1.0,
+            (
+              c.utf8.text,
+              whole_read (value 127 (tokens c.args.text.now)) _ whole,
+              float-put name (array split.0) ms split.1.0.1 (members_have_float-AreWhole ms (MembersAreWhole-named_in (members_view found) within.0.0)),
+            ),
+          ),
+        ),
+      );
+    }

@@ -1,0 +1,9 @@
+-- What a part stands in: a value that is held, or a tree that borrows its text.
+use Rattle.serde_json.specs.Data.{Data}
+use Rattle.serde_json.specs.View.{view}
+use Rattle.cadf_json.specs.declared.view.Basis.{Basis}
+use Rattle.cadf_json.specs.declared.view.Basis.TheVariants.{Owned, Plain}
+
+abbrev pub seen : Basis → Data
+seen (Owned v) = view v.now
+seen (Plain p) = p

@@ -1,0 +1,79 @@
+-- JSON that is in order, and the value that it stands for.
+use Rattle.std.specs.Prelude.{◌≡◌, ◌≤◌, ℕ, List, IsUtf8, unwrap_or, ⊤}
+use Rattle.json.specs.Json as json
+use Rattle.serde_json.specs.Data.{
+  Num,
+  unsigned,
+  Data,
+  null,
+  boolean,
+  number,
+  string,
+  array,
+  object,
+  Items,
+  no_items,
+  item,
+  Members,
+  no_members,
+  member,
+  depth,
+  items_depth,
+  members_depth,
+}
+use Rattle.serde_json.specs.Read.{number_of}
+use Rattle.serde_json.specs.Written.{number_text}
+use Rattle.cadf_json.specs.Value.{IsWholeNumber, Rises}
+
+-- the text is the one spelling of a whole number
+abbrev pub IsWholeText : List ℕ → Type 0
+IsWholeText s = (n : Num) × IsWholeNumber n × (s ≡ number_text n)
+
+abbrev pub number_in : List ℕ → Num
+number_in s = unwrap_or (number_of s) (unsigned 0)
+
+-- the value, with the items and members as they stand
+abbrev mutual
+  pub data_in : json.Json → Data
+  data_in json.null = null
+  data_in (json.boolean b) = boolean b
+  data_in (json.number s) = number (number_in s)
+  data_in (json.string s) = string s
+  data_in (json.array js) = array (listed_in js)
+  data_in (json.object ms) = object (named_in ms)
+
+  pub listed_in : json.Items → Items
+  listed_in json.no_items = no_items
+  listed_in (json.item j js) = item (data_in j) (listed_in js)
+
+  pub named_in : json.Members → Members
+  named_in json.no_members = no_members
+  named_in (json.member k j ms) = member k (data_in j) (named_in ms)
+
+-- texts are UTF-8, numbers are whole and in their one spelling, and the names of each object rise
+abbrev mutual
+  pub IsSettled : json.Json → Type 0
+  IsSettled json.null = ⊤
+  IsSettled (json.boolean b) = ⊤
+  IsSettled (json.number s) = IsWholeText s
+  IsSettled (json.string s) = IsUtf8 s
+  IsSettled (json.array js) = ItemsAreSettled js
+  IsSettled (json.object ms) = MembersAreSettled ms × Rises (named_in ms)
+
+  pub ItemsAreSettled : json.Items → Type 0
+  ItemsAreSettled json.no_items = ⊤
+  ItemsAreSettled (json.item j js) = IsSettled j × ItemsAreSettled js
+
+  pub MembersAreSettled : json.Members → Type 0
+  MembersAreSettled json.no_members = ⊤
+  MembersAreSettled (json.member k j ms) = IsUtf8 k × IsSettled j × MembersAreSettled ms
+
+-- it is settled, and nests no deeper than this
+abbrev pub IsSettledWithin : ℕ → json.Json → Type 0
+IsSettledWithin n j = IsSettled j × (depth (data_in j) ≤ n)
+
+abbrev pub AreItemsWithin : ℕ → json.Items → Type 0
+AreItemsWithin n js = ItemsAreSettled js × (items_depth (listed_in js) ≤ n)
+
+abbrev pub AreMembersWithin : ℕ → json.Members → Type 0
+AreMembersWithin n ms = (MembersAreSettled ms × Rises (named_in ms)) × (members_depth (named_in ms) ≤ n)

@@ -1,0 +1,155 @@
+//! From tokens to a value whose members are in order, in one pass.
+ghost use Rattle.std.specs.Prelude.{◌≡◌, ◌<◌, ◌≤◌, length, Some, IfOk, OnOk};
+ghost use Rattle.json.specs.Json.{value, items, members};
+ghost use Rattle.json.specs.Value.{value_view, items_view, members_view};
+ghost use Rattle.serde_json.specs.Data.{no_members, put};
+ghost use Rattle.serde_json.specs.Read.{of_json, of_items, of_members, converted};
+ghost use Rattle.cadf_json.specs.Tree.{data_in, listed_in, named_in, IsSettledWithin, AreItemsWithin, AreMembersWithin};
+
+use crate::Memory;
+use crate::number::is_whole;
+use crate::place::place_of;
+use json::{Reader, Token, Value};
+use std::alloc::{AllocFailed, Global};
+use thiserror::Error;
+
+/// Why there is no tree.
+#[derive(Clone, Copy, Debug, Drop, PartialEq, Eq, Error)]
+pub enum Unread {
+    /// The text is not plain: what it is has to be judged in another way.
+    #[error("not plain")]
+    NotPlain,
+    /// An allocation was refused.
+    #[error("out of memory")]
+    Memory,
+}
+
+impl From<Memory> for Unread {
+    ghost use Rattle.std.specs.Prelude.{◌≡◌};
+    ghost use Rattle.cadf_json.specs.declared.read.Unread.TheVariants.{Memory as OutOfMemory};
+
+    ghost from_gives = { λ _ e. e ≡ OutOfMemory };
+
+    fn from(_refused: Memory) -> Unread {
+        Unread::Memory
+    }
+}
+
+impl<T: Drop> From<AllocFailed<T>> for Unread {
+    ghost use Rattle.std.specs.Prelude.{◌≡◌};
+    ghost use Rattle.cadf_json.specs.declared.read.Unread.TheVariants.{Memory as OutOfMemory};
+
+    ghost from_gives = { λ _ e. e ≡ OutOfMemory };
+
+    fn from(_refused: AllocFailed<T>) -> Unread {
+        Unread::Memory
+    }
+}
+
+/// The next value of the reader, with its members in order. Arrays and objects may nest `depth` deep.
+#[cycle(read)]
+pub(crate) fn read<'a>(
+    alloc: Global,
+    reader: &mut Reader<'a>,
+    depth: usize,
+) -> Result<Value<'a>, Unread>
+    ensures ok { IfOk result
+        (λ v. converted of_json (value depth reader.old) ≡ Some (data_in (value_view v), reader.new)) }
+    ensures within { IfOk result (λ v. IsSettledWithin depth (value_view v)) }
+    ensures shorter { OnOk result (length reader.new < length reader.old) }
+{
+    let Some(token) = reader.next() else {
+        return Err(Unread::NotPlain);
+    };
+    match token {
+        Token::String(text) => Ok(Value::String(text)),
+        Token::Number(text) => if is_whole(text) {
+            Ok(Value::Number(text))
+        } else {
+            Err(Unread::NotPlain)
+        },
+        Token::Bool(b) => Ok(Value::Bool(b)),
+        Token::Null => Ok(Value::Null),
+        Token::EndObject | Token::EndArray | Token::Key(_) | Token::Bad => Err(Unread::NotPlain),
+        Token::BeginArray => {
+            if depth == 0 {
+                return Err(Unread::NotPlain);
+            }
+            Ok(Value::Array(read_items(alloc, reader, depth - 1)?))
+        }
+        Token::BeginObject => {
+            if depth == 0 {
+                return Err(Unread::NotPlain);
+            }
+            Ok(Value::Object(read_members(alloc, reader, depth - 1)?))
+        }
+    }
+}
+
+#[cycle(read)]
+#[inline(never)]
+fn read_items<'a>(
+    alloc: Global,
+    reader: &mut Reader<'a>,
+    depth: usize,
+) -> Result<Vec<Value<'a>>, Unread>
+    ensures ok { IfOk result
+        (λ v. converted of_items (items (value depth) (length reader.old) reader.old)
+        ≡ Some (listed_in (items_view v.items), reader.new)) }
+    ensures within { IfOk result (λ v. AreItemsWithin depth (items_view v.items)) }
+    ensures shorter { OnOk result (length reader.new < length reader.old) }
+{
+    let mut found = Vec::new(alloc);
+    'items: while !reader.take_end_array() {
+        let item = read(alloc, reader, depth)?;
+        found.push(item)?;
+    }
+    Ok(found)
+}
+
+#[cycle(read)]
+#[inline(never)]
+fn read_members<'a>(
+    alloc: Global,
+    reader: &mut Reader<'a>,
+    depth: usize,
+) -> Result<Vec<(&'a str, Value<'a>)>, Unread>
+    ensures ok { IfOk result
+        (λ v. converted (λ ms. of_members ms no_members)
+        (members (value depth) (length reader.old) reader.old)
+        ≡ Some (named_in (members_view v.items), reader.new)) }
+    ensures within { IfOk result (λ v. AreMembersWithin depth (members_view v.items)) }
+    ensures shorter { OnOk result (length reader.new < length reader.old) }
+{
+    let mut found = Vec::new(alloc);
+    'members: loop {
+        let Ok(key) = reader.next_key() else {
+            return Err(Unread::NotPlain);
+        };
+        let Some(name) = key else {
+            return Ok(found);
+        };
+        let member = read(alloc, reader, depth)?;
+        put_member(&mut found, name, member, depth)?;
+    }
+}
+
+/// Puts a further member in its place.
+pub(crate) fn put_member<'a>(
+    found: &mut Vec<(&'a str, Value<'a>)>,
+    name: &'a str,
+    member: Value<'a>,
+    depth: usize,
+) -> Result<(), Unread>
+    requires { AreMembersWithin depth (members_view found.old.items)
+        × IsSettledWithin depth (value_view member) }
+    ensures named { OnOk result (named_in (members_view found.new.items)
+        ≡ put name.now (data_in (value_view member.entry)) (named_in (members_view found.old.items))) }
+    ensures within { OnOk result (AreMembersWithin depth (members_view found.new.items)) }
+{
+    let Some(at) = place_of(found, name) else {
+        return Err(Unread::NotPlain);
+    };
+    found.insert(at, (name, member))?;
+    Ok(())
+}

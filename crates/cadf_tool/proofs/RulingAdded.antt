@@ -1,0 +1,266 @@
+-- One ruling more: what `rule` makes of a set of atoms.
+use Rattle.std.proofs.Common.{
+  ◌≡◌,
+  ◌≤◌,
+  ◌<◌,
+  ◌-◌,
+  ℕ,
+  zero,
+  suc,
+  Bool,
+  true,
+  false,
+  cond,
+  inl,
+  inr,
+  List,
+  [],
+  ◌∷◌,
+  map,
+  length,
+  get_or,
+  slice_get,
+  String,
+  Global,
+  string_bytes,
+  Option,
+  Some,
+  None,
+  Result,
+  Ok,
+  Err,
+  refl,
+  sym,
+  ap,
+  ◌∙◌,
+  subst,
+  arith,
+  true≢false,
+}
+use Rattle.std.specs.Prelude.{IsTrue, is_some}
+use Rattle.std.specs.List.{filter, filter_map, cons_option}
+use Rattle.cadf_join.specs.Sets as set
+use Rattle.cadf_join.specs.Sets.{Listed, rising, listed-rising}
+use Rattle.cadf_join.specs.Contents.{Text, Texts, Contents, Has, IsWithin}
+use Rattle.cadf_join.specs.laws.Sets as laws
+use Rattle.cadf_join.specs.laws.Contents.{texts_total, texts_same}
+use Rattle.cadf_join.proofs.Members as members
+use Rattle.cadf_replica.specs.Atom.{atom_rules, is_name_text, IsRuling}
+use Rattle.cadf_replica.specs.Atoms.{IsAtom, property, resource, geolocation, metric, event, is_text, ruling_letter}
+use Rattle.cadf_replica.specs.AtomSets.{AreKept}
+use Rattle.cadf_replica.specs.Contributions.{ARuling, one_atom, taken}
+use Rattle.cadf_replica.specs.Replica.{Held}
+use Rattle.cadf_replica.specs.Rulings.{ruling_of}
+use Rattle.cadf_replica.specs.RulingTexts.{RulingParts, ruling_atom, is_value_letter, is_digest_text, value_digest}
+use Rattle.cadf_replica.specs.Shown.{strip, only, values}
+use Rattle.cadf_replica.specs.declared.ruling.RulingFault.{RulingFault}
+use Rattle.cadf_replica.specs.declared.ruling.RulingFault.TheVariants.{Letter as BadLetter, Key as BadKey, Digest as BadDigest}
+use Rattle.cadf_replica.proofs.Again.{in_order_retain, value_is}
+use Rattle.cadf_replica.proofs.ContributionLaws.{kept_union, ruling_kept}
+use Rattle.cadf_replica.proofs.Lists.{Some-same, filter_map_listed}
+use Rattle.cadf_replica.proofs.RulingTexts.{hex_is_digest}
+use Rattle.sha2.specs.Sha256.{sha256}
+use Rattle.cadf_tool.specs.declared.fault.ToolFault.{ToolFault}
+use Rattle.cadf_tool.specs.declared.input.Loaded.{Loaded}
+use Rattle.cadf_tool.specs.Run.{IsWorked}
+use Rattle.cadf_tool.specs.Told.{log_named, atoms_loaded, under_log}
+use Rattle.cadf_tool.specs.Rule.{value_at, ruling_on, ruling_for, ruling_at, with_ruling, ruled_in, ruled_of}
+use Rattle.cadf_tool.proofs.DigestBytes.{is_digest}
+
+-- ---- the value at a place
+
+got_listed : (vs : List Text) (n : ℕ) (v : Text) → slice_get vs n ≡ Some v → Listed v vs
+got_listed [] n v e = cc
+got_listed (x ∷ vs) zero v e = inl (sym (Some-same x v e))
+got_listed (x ∷ vs) (suc n) v e = inr (got_listed vs n v e)
+
+at_listed : (vs : List Text) (place : ℕ) (v : Text) → value_at vs place ≡ Some v → Listed v vs
+at_listed vs zero v e = cc
+at_listed vs (suc n) v e = got_listed vs n v e
+
+listed_held : (s : Contents) (letter key v : Text) → Listed v (values s letter key) → Has s (letter ∷ key ∷ v ∷ [])
+listed_held s letter key v l =
+    let t = filter_map_listed (λ q. only (strip (letter ∷ key ∷ []) q)) (rising s) v l in
+    subst (Has s) (value_is letter key t.0 v t.2) (listed-rising texts_total texts_same s t.0 t.1)
+
+-- ---- the ruling for a value that is held
+
+-- what holds of every atom of three texts
+pub held_passes : (letter key v : Text) → IsAtom atom_rules (letter ∷ key ∷ v ∷ []) → IsTrue (is_value_letter letter) × IsTrue (is_name_text key)
+held_passes _ key _ (property p) = (refl, members.and_first _ _ p)
+held_passes _ key _ (resource p) = (refl, members.and_first _ _ p)
+held_passes _ key _ (geolocation p) = (refl, members.and_first _ _ p)
+held_passes _ key _ (metric p) = (refl, members.and_first _ _ p)
+held_passes _ key _ (event p) = (refl, members.and_first _ _ p)
+
+digest_is : (value : Text) → is_digest_text (value_digest value) ≡ true
+digest_is value = let d = is_digest value in hex_is_digest (sha256 value) d.size d.bytes
+
+pub ruling_is : (letter key value : Text) → IsAtom atom_rules (letter ∷ key ∷ value ∷ []) → IsRuling (ruling_on letter key value)
+ruling_is letter key value atom =
+    let h = held_passes letter key value atom in
+    members.and_both _ _ h.0 (members.and_both _ _ h.1 (digest_is value))
+
+-- ---- what `rule` makes
+
+-- the value that is ruled, and the set with its ruling
+pub record IsRuled (letter key : Text) (place : ℕ) (named : Option Text) (s : Contents) (h : Held) : Type 0 where
+  pub value : Text
+  pub at_place : value_at (values s letter key) place ≡ Some value
+  pub held : Has s (letter ∷ key ∷ value ∷ [])
+  pub log : named ≡ Some h.log
+  pub atoms : h.atoms ≡ taken s (ARuling (ruling_on letter key value))
+
+same_held : (h k : Held) → ◌≡◌ {A = Result Held ToolFault} (Ok h) (Ok k) → h ≡ k
+same_held h k e = cc
+
+pub ruled_is : (letter key : Text) (place : ℕ) (named : Option Text) (s : Contents) (h : Held)
+    → ruled_in letter key place (under_log named s) ≡ Ok h → IsRuled letter key place named s h
+ruled_is letter key place None s h e = cc
+ruled_is letter key place (Some log) s h e = by (value_at (values s letter key) place) refl e
+  where
+    by : (found : Option Text) → value_at (values s letter key) place ≡ found
+        → with_ruling (record { log = log; atoms = s }) (ruling_for letter key found) ≡ Ok h → IsRuled letter key place (Some log) s h
+    by None is e = cc
+    by (Some value) is e =
+        let same = same_held (record { log = log; atoms = taken s (ARuling (ruling_on letter key value)) }) h e in
+        record {
+          value = value;
+          at_place = is;
+          held = listed_held s letter key value (at_listed (values s letter key) place value is);
+          log = ap (λ (k : Held). Some k.log) same;
+          atoms = sym (ap (λ (k : Held). k.atoms) same);
+        }
+
+pub ruled_kept : (letter key : Text) (place : ℕ) (named : Option Text) (s : Contents) (h : Held) → AreKept s
+    → IsRuled letter key place named s h → AreKept h.atoms
+ruled_kept letter key place named s h kept r =
+    let rule = ruling_on letter key r.value in
+    subst AreKept (sym r.atoms)
+    (kept_union s (one_atom (ruling_atom rule)) kept (ruling_kept rule (ruling_is letter key r.value (kept.are_atoms (letter ∷ key ∷ r.value ∷ []) r.held))))
+
+-- ---- no key has other values for it
+
+-- four texts are no value of a key
+no_value : (l k a b c d : Text) → is_some (only (strip (l ∷ k ∷ []) (a ∷ b ∷ c ∷ d ∷ []))) ≡ false
+no_value l k a b c d = by (is_text a l) (is_text b k)
+  where
+    by : (p q : Bool) → is_some (only (cond p (cond q (Some (c ∷ d ∷ [])) None) None)) ≡ false
+    by true true = refl
+    by true false = refl
+    by false q = refl
+
+kept_by : {A B : Type 0} (f : A → Option B) (xs : List A) → filter_map f (filter (λ x. is_some (f x)) xs) ≡ filter_map f xs
+kept_by f [] = refl
+kept_by {A} {B} f (x ∷ xs) = by (kept_by f xs) (f x) refl
+  where
+    rest : List A
+    rest = filter (λ y. is_some (f y)) xs
+
+    by : filter_map f rest ≡ filter_map f xs → (o : Option B) → f x ≡ o → filter_map f (cond (is_some o) (x ∷ rest) rest) ≡ cons_option o (filter_map f xs)
+    by same None is = same
+    by same (Some y) is = λ i. cons_option (is i) (same i)
+
+-- what has no value changes no values
+module _ (s t : Contents) (l k : Text) where
+  abbrev is_value : Texts → Bool
+  is_value q = is_some (only (strip (l ∷ k ∷ []) q))
+
+  same_values : ((q : Texts) → is_value q ≡ true → Has t q → Has s q) → set.retain (set.union s t) is_value ≡ set.retain s is_value
+  same_values none = laws.same_from_within texts_total texts_same _ _ there back
+    where
+      there : IsWithin (set.retain (set.union s t) is_value) (set.retain s is_value)
+      there q h =
+          let passes = members.retain_passes texts_total texts_same (set.union s t) is_value q h in
+          elim (members.of_union texts_total texts_same s t q (members.retain_has texts_total texts_same (set.union s t) is_value q h)) [
+            | inl a ↦ members.in_retain texts_total texts_same s is_value q a passes
+            | inr b ↦ members.in_retain texts_total texts_same s is_value q (none q passes b) passes
+          ]
+
+      back : IsWithin (set.retain s is_value) (set.retain (set.union s t) is_value)
+      back q h =
+          members.in_retain texts_total texts_same (set.union s t) is_value q
+          (members.in_union_left texts_total texts_same s t q (members.retain_has texts_total texts_same s is_value q h))
+          (members.retain_passes texts_total texts_same s is_value q h)
+
+  values_of : (u : Contents) → filter_map (λ q. only (strip (l ∷ k ∷ []) q)) (rising (set.retain u is_value)) ≡ values u l k
+  values_of u =
+      ap (filter_map (λ q. only (strip (l ∷ k ∷ []) q))) (in_order_retain u is_value)
+      ∙ kept_by (λ q. only (strip (l ∷ k ∷ []) q)) (rising u)
+
+  values_stay : ((q : Texts) → is_value q ≡ true → Has t q → Has s q) → values (set.union s t) l k ≡ values s l k
+  values_stay none =
+      sym (values_of (set.union s t))
+      ∙ ap (λ u. filter_map (λ q. only (strip (l ∷ k ∷ []) q)) (rising u)) (same_values none)
+      ∙ values_of s
+
+of_one : (q r : Texts) → Has (one_atom q) r → r ≡ q
+of_one q r h = elim (members.from_list_has texts_total texts_same (q ∷ []) r h) [ inl is ↦ is | inr none ↦ absurd none ]
+
+pub values_beside_rulings : (s : Contents) (r : RulingParts) (l k : Text) → values (taken s (ARuling r)) l k ≡ values s l k
+values_beside_rulings s r l k =
+    values_stay s (one_atom (ruling_atom r)) l k
+    (λ q passes h. absurd (true≢false (sym passes ∙ ap (is_value s s l k) (of_one (ruling_atom r) q h) ∙ no_value l k ruling_letter r.letter r.key r.digest)))
+
+-- ---- the same again
+
+taken_twice : (s : Contents) (r : RulingParts) → taken (taken s (ARuling r)) (ARuling r) ≡ taken s (ARuling r)
+taken_twice s r = laws.same_from_within texts_total texts_same _ _
+    (λ q h. elim (members.of_union texts_total texts_same (taken s (ARuling r)) (one_atom (ruling_atom r)) q h) [
+      | inl a ↦ a
+      | inr b ↦ members.in_union_right texts_total texts_same s (one_atom (ruling_atom r)) q b
+    ])
+    (λ q h. members.in_union_left texts_total texts_same (taken s (ARuling r)) (one_atom (ruling_atom r)) q h)
+
+pub ruled_again : (letter key : Text) (place : ℕ) (named : Option Text) (s : Contents) (h : Held)
+    → IsRuled letter key place named s h → ruled_in letter key place (Ok h) ≡ Ok h
+ruled_again letter key place named s h r =
+    let rule = ruling_on letter key r.value in
+    let stay : values h.atoms letter key ≡ values s letter key = ap (λ t. values t letter key) r.atoms ∙ values_beside_rulings s rule letter key in
+    let twice : taken h.atoms (ARuling rule) ≡ h.atoms = ap (λ t. taken t (ARuling rule)) r.atoms ∙ taken_twice s rule ∙ sym r.atoms in
+    ap (λ vs. with_ruling h (ruling_for letter key (value_at vs place))) stay
+    ∙ ap (λ found. with_ruling h (ruling_for letter key found)) r.at_place
+    ∙ ap (λ t. Ok (record { log = h.log; atoms = t })) twice
+
+-- ---- for the code
+
+-- reading the ruling of a value that is held gives it
+read_is : (letter key value : Text) (r : RulingParts) → ruling_of letter key (value_digest value) ≡ Ok r → ruling_on letter key value ≡ r
+read_is letter key value r e = by (is_value_letter letter) (is_name_text key) (is_digest_text (value_digest value)) e
+  where
+    same : (x y : RulingParts) → ◌≡◌ {A = Result RulingParts RulingFault} (Ok x) (Ok y) → x ≡ y
+    same x y e = cc
+
+    chosen : (a b c : Bool) → Result RulingParts RulingFault
+    chosen a b c = cond a (cond b (cond c (Ok (ruling_on letter key value)) (Err BadDigest)) (Err BadKey)) (Err BadLetter)
+
+    by : (a b c : Bool) → chosen a b c ≡ Ok r → ruling_on letter key value ≡ r
+    by true true true e = same (ruling_on letter key value) r e
+    by true true false e = cc
+    by true false c e = cc
+    by false b c e = cc
+
+some_at : (xs : List (String Global)) (place : ℕ) (x : String Global) → 1 ≤ place → place - 1 < length xs → x ≡ get_or xs (place - 1) x
+    → value_at (map string_bytes xs) place ≡ Some (string_bytes x)
+some_at xs zero x one lt at = absurd (omega (arith, one))
+some_at xs (suc n) x one lt at =
+    let e : suc n - 1 ≡ n = omega arith in
+    there xs n (subst (λ m. m < length xs) e lt) (subst (λ m. x ≡ get_or xs m x) e at)
+  where
+    there : (ys : List (String Global)) (m : ℕ) → m < length ys → x ≡ get_or ys m x → slice_get (map string_bytes ys) m ≡ Some (string_bytes x)
+    there [] m lt at = absurd (omega (arith, lt))
+    there (y ∷ ys) zero lt at = ap (λ z. Some (string_bytes z)) (sym at)
+    there (y ∷ ys) (suc m) lt at = there ys m (omega (arith, lt)) at
+
+pub ruling_there : (s : Contents) (letter key : Text) (place : ℕ) (xs : List (String Global)) (x : String Global) (r : RulingParts)
+    → map string_bytes xs ≡ values s letter key → 1 ≤ place → place - 1 < length xs → x ≡ get_or xs (place - 1) x
+    → ruling_of letter key (value_digest (string_bytes x)) ≡ Ok r → ruling_at s letter key place ≡ Ok r
+ruling_there s letter key place xs x r are one lt at read =
+    ap (λ vs. ruling_for letter key (value_at vs place)) (sym are)
+    ∙ ap (ruling_for letter key) (some_at xs place x one lt at)
+    ∙ ap Ok (read_is letter key (string_bytes x) r read)
+
+pub rule_held : (letter key : Text) (place : ℕ) (loaded : Loaded) (h : Held) (result : Result Held ToolFault) → log_named loaded ≡ Some h.log
+    → h.atoms ≡ atoms_loaded loaded → IsWorked (ruled_in letter key place (Ok h)) result → IsWorked (ruled_of letter key place loaded) result
+rule_held letter key place loaded h result named atoms worked =
+    subst (λ (held : Result Held ToolFault). IsWorked (ruled_in letter key place held) result) (λ i. under_log (sym named i) (atoms i)) worked

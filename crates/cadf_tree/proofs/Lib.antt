@@ -1,6 +1,0 @@
-pub mod Settled
-pub mod Placed
-pub mod Growing
-pub mod Turns
-pub mod Looks
-pub mod Rewrites

@@ -1,4 +1,0 @@
-pub mod Tree
-pub mod Place
-pub mod Rewriting
-pub mod Walk
