@@ -1,6 +1,7 @@
 //! Sets of lists of texts that join: a set of texts, a map of such sets, and a set of chains.
 #![tactic(auto)]
 
+mod chain_node;
 mod chain_tree;
 mod join_map;
 pub mod laws;

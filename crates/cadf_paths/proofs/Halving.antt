@@ -19,7 +19,7 @@ use Rattle.cadf_join.specs.Sets as set
 use Rattle.cadf_join.specs.Sets.{contains-from_list, contains-insert}
 use Rattle.cadf_paths.proofs.Spans.{all_more, all_turned}
 use Rattle.cadf_paths.proofs.Runs.{all_put}
-use Rattle.cadf_paths.specs.Flat.{prefix_cmp, is_before, last_of, ends_below}
+use Rattle.cadf_paths.specs.Flat.{prefix_cmp, is_before, last_of, ends_behind, ends_below}
 
 -- what is below a list that is before the bound is before it
 pub before_below : (p : Texts) (more : Bool) (a b : Texts) → texts_cmp a b ≡ Less → is_before p more b ≡ true → is_before p more a ≡ true
@@ -99,6 +99,12 @@ ends_below_at [] q some = absurd (some refl)
 ends_below_at (l ∷ ls) q some =
     let n : length (l ∷ ls) - 1 ≡ length ls = omega arith in
     ap (λ k. is_lt (texts_cmp (get_or (l ∷ ls) k []) q)) n ∙ ap (λ z. is_lt (texts_cmp z q)) (last_at l ls)
+
+pub ends_behind_at : (ls : List Texts) (p : Texts) → (ls ≡ [] → ⊥) → is_eq (prefix_cmp (get_or ls (length ls - 1) []) p) ≡ ends_behind ls p
+ends_behind_at [] p some = absurd (some refl)
+ends_behind_at (l ∷ ls) p some =
+    let n : length (l ∷ ls) - 1 ≡ length ls = omega arith in
+    ap (λ k. is_eq (prefix_cmp (get_or (l ∷ ls) k []) p)) n ∙ ap (λ z. is_eq (prefix_cmp z p)) (last_at l ls)
 
 pub less_is_before : (a q : Texts) → texts_cmp a q ≡ Less → is_before q false a ≡ true
 less_is_before [] [] h = absurd (never h)

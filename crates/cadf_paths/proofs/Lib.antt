@@ -1,6 +1,7 @@
 pub mod Above
 pub mod Behind
 pub mod CarrierLists
+pub mod Ends
 pub mod Firsts
 pub mod Halving
 pub mod Merges

@@ -15,7 +15,7 @@ use Rattle.std.specs.Prelude.{◌≡◌, ℕ, ◌+◌, ◌≤◌, Bool, true, fa
 use Rattle.std.specs.Str.{IsCharBoundary}
 use Rattle.std.specs.declared.cmp.Ordering.{Ordering}
 use Rattle.std.specs.declared.cmp.Ordering.TheVariants.{Less, Equal, Greater}
-use Rattle.std.specs.Ordering.{is_lt, match_ordering}
+use Rattle.std.specs.Ordering.{is_eq, is_lt, match_ordering}
 use Rattle.cadf_join.specs.Contents.{Text, Texts, text_cmp, texts_cmp}
 use Rattle.cadf_paths.specs.declared.pool.Span.{Span}
 
@@ -71,3 +71,8 @@ ahead false a = []
 abbrev pub ends_below : List Texts → Texts → Bool
 ends_below [] q = true
 ends_below (l ∷ ls) q = is_lt (texts_cmp (last_of l ls) q)
+
+-- whether the last of the lists begins with p
+abbrev pub ends_behind : List Texts → Texts → Bool
+ends_behind [] p = false
+ends_behind (l ∷ ls) p = is_eq (prefix_cmp (last_of l ls) p)

@@ -8,7 +8,7 @@ ghost use Rattle.cadf_join.specs.Longest.{longest_of};
 ghost use Rattle.cadf_join.specs.Maps.{heads};
 ghost use Rattle.cadf_join.specs.Prefixes.{chain_texts, saturated, texts_at, texts_found};
 ghost use Rattle.cadf_join.specs.Several.{several};
-ghost use Rattle.cadf_paths.specs.Flat.{strip};
+ghost use Rattle.cadf_paths.specs.Flat.{ends_behind, strip};
 ghost use Rattle.cadf_paths.specs.Sections.{sections};
 
 use crate::Memory;
@@ -24,6 +24,13 @@ impl Paths {
             Some(_) => false,
             None => true,
         }
+    }
+
+    /// Whether the last of the lists in order begins with the prefix. Nothing is searched.
+    pub fn ends_behind(&self, prefix: &[String]) -> bool
+        ensures { result ≡ ends_behind (set.rising self.now) (chain_texts prefix.now) }
+    {
+        self.rows.ends_behind(prefix)
     }
 
     /// The least list above the given one, or the least of all for `None`.

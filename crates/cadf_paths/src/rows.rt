@@ -6,10 +6,10 @@ ghost use Rattle.std.specs.List.{AllByRecursion, list_any};
 ghost use Rattle.std.specs.declared.cmp.Ordering.TheVariants.{Less};
 ghost use Rattle.std.specs.List.Sorted.{IsStrictlySortedBy};
 ghost use Rattle.std.specs.Option.{option_copied, option_map};
-ghost use Rattle.std.specs.Ordering.{eq_by_cmp, is_lt};
+ghost use Rattle.std.specs.Ordering.{eq_by_cmp, is_eq, is_lt};
 ghost use Rattle.cadf_join.specs.Contents.{is_after, texts_cmp};
 ghost use Rattle.cadf_join.specs.Prefixes.{chain_texts, texts_at};
-ghost use Rattle.cadf_paths.specs.Flat.{IsRun, run_of, Moves, ahead, ends_below, is_before};
+ghost use Rattle.cadf_paths.specs.Flat.{IsRun, run_of, Moves, ahead, ends_behind, ends_below, is_before, prefix_cmp};
 ghost use Rattle.cadf_join.specs.Sets as set;
 ghost use Rattle.cadf_paths.specs.Merge.{sorted_merge};
 ghost use Rattle.cadf_paths.specs.Sections.{behind};
@@ -89,6 +89,28 @@ impl Rows {
             return true;
         }
         self.is_less(self.count() - 1, path)
+    }
+
+    /// Whether the last list begins with the prefix.
+    pub fn ends_behind<W: Word>(&self, prefix: &[W]) -> bool
+        ensures { result ≡ ends_behind self.now (map W.bytes prefix.now) }
+    {
+        if self.is_empty() {
+            return false;
+        }
+        self.is_behind(self.count() - 1, prefix)
+    }
+
+    /// Whether the list of that number begins with the prefix.
+    fn is_behind<W: Word>(&self, number: usize, prefix: &[W]) -> bool
+        requires { number < length self.now }
+        ensures { result ≡ is_eq (prefix_cmp (get_or self.now number []) (map W.bytes prefix.now)) }
+    {
+        match self.texts.prefix_cmp(self.lists[number], 0, prefix) {
+            Ordering::Less => false,
+            Ordering::Equal => true,
+            Ordering::Greater => false,
+        }
     }
 
     /// Whether the list of that number is below the other.

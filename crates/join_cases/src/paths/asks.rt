@@ -49,6 +49,21 @@ fn the_list_above_one_is_found(rt: HostRuntime) -> Result<(), Fail> {
 }
 
 #[test]
+fn the_last_list_begins_with_its_front(rt: HostRuntime) -> Result<(), Fail> {
+    let paths = six(rt.alloc())?;
+    let mut front = Vec::new(rt.alloc());
+    assert!(rt; paths.ends_behind(front.as_slice()));
+    front.push(String::from_str(rt.alloc(), "c")?)?;
+    assert!(rt; paths.ends_behind(front.as_slice()));
+    front.push(String::from_str(rt.alloc(), "b")?)?;
+    assert!(rt; paths.ends_behind(front.as_slice()));
+    front.push(String::from_str(rt.alloc(), "a")?)?;
+    assert!(rt; !paths.ends_behind(front.as_slice()));
+    assert!(rt; !Paths::new(rt.alloc()).ends_behind(&[]));
+    Ok(())
+}
+
+#[test]
 fn the_next_text_behind_a_prefix_is_found(rt: HostRuntime) -> Result<(), Fail> {
     let paths = six(rt.alloc())?;
     assert!(rt; paths.next_text(&[], None) == Some("a"));

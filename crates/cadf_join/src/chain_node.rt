@@ -1,0 +1,349 @@
+//! A place in a tree of prefixes.
+ghost use Rattle.std.specs.Prelude.{◌≡◌, ◌++◌, [], ◌∷◌, ◌↔◌, OnOk, OnErr, IfOk, IfErr, IsTrue, length, not};
+ghost use Rattle.cadf_join.specs.Sets as set;
+ghost use Rattle.cadf_join.specs.Contents.{IsBetween, IsWithin, under, section};
+ghost use Rattle.std.specs.Option.{option_copied, option_map};
+ghost use Rattle.cadf_join.specs.Maps.{held};
+ghost use Rattle.std.specs.List.{find};
+ghost use Rattle.cadf_join.specs.Prefixes.{chain_texts, all_texts, texts_found, continued, saturated, chains};
+ghost use Rattle.cadf_join.specs.Prefixes.{Follows, is_from, rising_behind, texts_at};
+ghost use Rattle.cadf_join.specs.Longest.{longest, longest_with, longer_than};
+
+use crate::Memory;
+use crate::prefix::copied;
+use crate::walk::{Visitor, lengthen};
+use std::alloc::Global;
+use std::cmp::Ordering;
+use std::collections::BTreeMap;
+use std::marker::Model;
+
+/// A place in the tree: whether a chain ends there, and the nodes that its chains go on to. Each of these has a chain behind it.
+#[derive(Drop)]
+pub struct Node {
+    ends: bool,
+    next: BTreeMap<String, Node>,
+}
+
+impl Model for Node {
+    ghost use Rattle.cadf_join.specs.Contents.{Contents};
+    ghost use Rattle.cadf_join.specs.Maps.{map_of};
+    ghost use Rattle.cadf_join.specs.Prefixes.{chains_from, contents_code, height, IsTidy};
+
+    ghost Value = { Contents };
+
+    ghost coded = { contents_code };
+
+    ghost view = { λ n. chains_from n.ends (map_of n.next.entries) };
+
+    ghost invariant = { λ n. IsTidy n.next.entries };
+
+    ghost size = { height };
+
+    ghost use Rattle.cadf_join.specs.laws.Prefixes.{children_are_shorter};
+
+    ghost size_decreases = { λ a h. children_are_shorter a.ends a.next.entries h };
+}
+
+impl Node {
+    pub(crate) fn new(alloc: Global) -> Node
+        ensures { result ≡ set.empty }
+    {
+        Node {
+            ends: false,
+            next: BTreeMap::new(alloc),
+        }
+    }
+
+    /// Whether the chain follows the path to this node.
+    pub(crate) fn contains(&self, chain: &[String]) -> bool
+        ensures { result ≡ set.contains self.now (chain_texts chain.now) }
+    {
+        match chain {
+            [] => self.ends,
+            [first, rest @ ..] => match self.next.get(first.as_str()) {
+                Some(child) => child.contains(rest),
+                None => false,
+            },
+        }
+    }
+
+    /// Adds the chain behind this node, and tells whether it is new.
+    pub(crate) fn insert(&mut self, alloc: Global, chain: &[String]) -> Result<bool, Memory>
+        ensures added { IfOk result (λ new. new ≡ not (set.contains self.old (chain_texts chain.now))) }
+        ensures ok { OnOk result (self.new ≡ set.insert self.old (chain_texts chain.now)) }
+        ensures err { OnErr result (self.new ≡ self.old) }
+    {
+        match chain {
+            [] => {
+                let new = !self.ends;
+                self.ends = true;
+                Ok(new)
+            }
+            [first, rest @ ..] => {
+                if let Some(child) = self.next.get_mut(first.as_str()) {
+                    return child.insert(alloc, rest);
+                }
+                let mut child = Node::new(alloc);
+                child.insert(alloc, rest)?;
+                self.next
+                    .insert(String::from_str(alloc, first.as_str())?, child)?;
+                Ok(true)
+            }
+        }
+    }
+
+    /// Adds what `other` has.
+    #[cycle(join)]
+    pub(crate) fn join(&mut self, alloc: Global, other: &Node) -> Result<(), Memory>
+        ensures ok { OnOk result (self.new ≡ set.union self.old other.now) }
+        ensures err { OnErr result (IsBetween self.old self.new (set.union self.old other.now)) }
+    {
+        self.ends |= other.ends;
+        for (text, theirs) in &other.next {
+            self.join_below(alloc, text.as_str(), theirs)?;
+        }
+        Ok(())
+    }
+
+    /// Adds what `theirs`, which isn't empty, has behind the text.
+    #[cycle(join)]
+    fn join_below(&mut self, alloc: Global, text: &str, theirs: &Node) -> Result<(), Memory>
+        requires { theirs.now ≡ set.empty → ⊥ }
+        ensures ok { OnOk result (self.new ≡ set.union self.old (under text.now theirs.now)) }
+        ensures err { OnErr result (IsBetween self.old self.new (set.union self.old (under text.now theirs.now))) }
+    {
+        if let Some(ours) = self.next.get_mut(text) {
+            return ours.join(alloc, theirs);
+        }
+        let mut fresh = Node::new(alloc);
+        fresh.join(alloc, theirs)?;
+        self.next.insert(String::from_str(alloc, text)?, fresh)?;
+        Ok(())
+    }
+
+    pub(crate) fn copy(&self, alloc: Global) -> Result<Node, Memory>
+        ensures { IfOk result (λ n. n ≡ self.now) }
+    {
+        let mut copied = Node::new(alloc);
+        copied.join(alloc, self)?;
+        Ok(copied)
+    }
+
+    pub(crate) fn is_empty(&self) -> bool
+        ensures { IsTrue result ↔ (self.now ≡ set.empty) }
+    {
+        !self.ends && self.next.is_empty()
+    }
+
+    /// Puts a child that isn't empty at a text where there is none.
+    fn put_below(&mut self, alloc: Global, text: &str, child: Node) -> Result<(), Memory>
+        requires other { child ≡ set.empty → ⊥ }
+        requires none { section self.old text.now ≡ set.empty }
+        ensures { OnOk result (self.new ≡ set.union self.old (under text.now child)) }
+    {
+        self.next.insert(String::from_str(alloc, text)?, child)?;
+        Ok(())
+    }
+
+    /// What is here and not in `other`, where there is one.
+    #[cycle(without)]
+    fn without_found(&self, alloc: Global, other: Option<&Node>) -> Result<Node, Memory>
+        ensures { IfOk result (λ n. n ≡ set.difference self.now (held (λ s. s) (option_copied other.entry))) }
+    {
+        match other {
+            Some(other) => self.without(alloc, other),
+            None => self.copy(alloc),
+        }
+    }
+
+    /// What is here and not in `other`.
+    #[cycle(without)]
+    pub(crate) fn without(&self, alloc: Global, other: &Node) -> Result<Node, Memory>
+        ensures { IfOk result (λ n. n ≡ set.difference self.now other.now) }
+    {
+        let mut left = Node {
+            ends: self.ends & !other.ends,
+            next: BTreeMap::new(alloc),
+        };
+        for (text, child) in &self.next {
+            let rest = child.without_found(alloc, other.next.get(text.as_str()))?;
+            if !rest.is_empty() {
+                left.put_below(alloc, text.as_str(), rest)?;
+            }
+        }
+        Ok(left)
+    }
+
+    /// The number of chains behind this node, or `u64::MAX` where there are more.
+    pub(crate) fn count(&self) -> u64
+        ensures { result ≡ saturated (length (set.rising self.now)) }
+    {
+        let mut count: u64 = if self.ends { 1 } else { 0 };
+        for (_, child) in &self.next {
+            count = count.saturating_add(child.count());
+        }
+        count
+    }
+
+    /// Adds to `chains` each chain that begins with the path to this node, in order.
+    pub(crate) fn walk(
+        &self,
+        alloc: Global,
+        path: &mut Vec<String>,
+        chains: &mut Vec<Vec<String>>,
+    ) -> Result<(), Memory>
+        ensures path { OnOk result (path.new.items ≡ path.old.items) }
+        ensures chains { OnOk result (all_texts chains.new.items
+            ≡ all_texts chains.old.items ++ continued (chain_texts path.old.items) (set.rising self.now)) }
+    {
+        if self.ends {
+            chains.push(path.clone()?)?;
+        }
+        for (text, child) in &self.next {
+            path.push(String::from_str(alloc, text.as_str())?)?;
+            child.walk(alloc, path, chains)?;
+            path.pop();
+        }
+        Ok(())
+    }
+
+    /// Shows each chain that begins with the path to this node, in order.
+    pub(crate) fn show<'a, S: Visitor>(
+        &'a self,
+        path: &mut Vec<&'a str>,
+        visitor: &mut S,
+    ) -> Result<(), S::Fault>
+        ensures path { OnOk result (path.new.items ≡ path.old.items) }
+        ensures shown { OnOk result (S.takes visitor.old (rising_behind (texts_at path.old.items) self.now) visitor.new) }
+        ensures stopped { IfErr result (λ f. S.stops visitor.old (rising_behind (texts_at path.old.items) self.now) f visitor.new) }
+    {
+        if self.ends {
+            visitor.visit(path.as_slice())?;
+        }
+        for (text, child) in &self.next {
+            lengthen(path, text.as_str())?;
+            child.show(path, visitor)?;
+            path.pop();
+        }
+        Ok(())
+    }
+
+    /// Finds the longest chain that begins with the path to this node, the first of equally long ones, unless the one found so far is as long.
+    pub(crate) fn longest(
+        &self,
+        alloc: Global,
+        path: &mut Vec<String>,
+        found: &mut Option<Vec<String>>,
+    ) -> Result<(), Memory>
+        ensures path { OnOk result (path.new.items ≡ path.old.items) }
+        ensures found { OnOk result (texts_found found.new
+            ≡ longest_with (texts_found found.old) (continued (chain_texts path.old.items) (set.rising self.now))) }
+    {
+        if self.ends {
+            take_longer(alloc, path.as_slice(), found)?;
+        }
+        for (text, child) in &self.next {
+            path.push(String::from_str(alloc, text.as_str())?)?;
+            child.longest(alloc, path, found)?;
+            path.pop();
+        }
+        Ok(())
+    }
+
+    /// Goes on with the path along the least chain behind this node that is above the given list, or is that list where this counts too.
+    /// Tells whether there is one; where there is none the path is as before.
+    #[cycle(seek)]
+    pub(crate) fn seek(
+        &self,
+        alloc: Global,
+        given: &[String],
+        or_equal: bool,
+        path: &mut Vec<String>,
+    ) -> Result<bool, Memory>
+        ensures { IfOk result (λ found. Follows (find (is_from (chain_texts given.now) or_equal) (set.rising self.now)) found path.old.items path.new.items) }
+    {
+        if or_equal & self.ends & given.is_empty() {
+            return Ok(true);
+        }
+        for (text, child) in &self.next {
+            let found = match given {
+                [] => child.seek_behind(alloc, text.as_str(), given, true, path)?,
+                [first, rest @ ..] => match text.as_str().cmp(first.as_str()) {
+                    Ordering::Less => false,
+                    Ordering::Equal => {
+                        child.seek_behind(alloc, text.as_str(), rest, or_equal, path)?
+                    }
+                    Ordering::Greater => {
+                        child.seek_behind(alloc, text.as_str(), &[], true, path)?
+                    }
+                },
+            };
+            if found {
+                return Ok(true);
+            }
+        }
+        Ok(false)
+    }
+
+    /// The same, from the node above: the path goes on with the text that leads here first.
+    #[cycle(seek)]
+    fn seek_behind(
+        &self,
+        alloc: Global,
+        text: &str,
+        given: &[String],
+        or_equal: bool,
+        path: &mut Vec<String>,
+    ) -> Result<bool, Memory>
+        ensures { IfOk result (λ found. Follows (option_map (λ c. text.now ∷ c) (find (is_from (chain_texts given.now) or_equal) (set.rising self.now))) found path.old.items path.new.items) }
+    {
+        path.push(String::from_str(alloc, text)?)?;
+        if self.seek(alloc, given, or_equal, path)? {
+            return Ok(true);
+        }
+        path.pop();
+        Ok(false)
+    }
+
+    /// Whether `other` has all that is here.
+    pub(crate) fn is_within(&self, other: &Node) -> bool
+        ensures { IsTrue result ↔ IsWithin self.now other.now }
+    {
+        if self.ends & !other.ends {
+            return false;
+        }
+        for (text, child) in &self.next {
+            let Some(theirs) = other.next.get(text.as_str()) else {
+                return false;
+            };
+            if !child.is_within(theirs) {
+                return false;
+            }
+        }
+        true
+    }
+}
+
+/// Whether the chain is longer than the one found so far, where one was found.
+fn is_longer(chain: &[String], found: &Option<Vec<String>>) -> bool
+    ensures { result ≡ longer_than (texts_found found.now) (chain_texts chain.now) }
+{
+    match found {
+        Some(found) => chain.len() > found.len(),
+        None => true,
+    }
+}
+
+/// Takes the chain in place of the one found so far, where it is longer.
+fn take_longer(
+    alloc: Global,
+    chain: &[String],
+    found: &mut Option<Vec<String>>,
+) -> Result<(), Memory>
+    ensures { OnOk result (texts_found found.new ≡ longest_with (texts_found found.old) (chain_texts chain.now ∷ [])) }
+{
+    if is_longer(chain, found) {
+        *found = Some(copied(alloc, chain)?);
+    }
+    Ok(())
+}
