@@ -62,14 +62,18 @@ impl<'a> Part<'a> {
         self.lists.len()
     }
 
-    /// Where the lists begin that begin with the prefix, or, with those passed, the lists above them. Found by halving.
+    /// Where the lists begin that begin with the prefix, or, with those passed, the lists above them. The last list is asked first; else it is found by halving.
     pub fn bound<W: Word>(&self, prefix: &[W], passed: bool) -> usize
         requires { IsStrictlySortedBy texts_cmp self.now }
         ensures within { result ≤ length self.now }
         ensures below { AllByRecursion (λ l. is_before (map W.bytes prefix.now) passed l ≡ true) (take result self.now) }
         ensures above { AllByRecursion (λ l. is_before (map W.bytes prefix.now) passed l ≡ false) (drop result self.now) }
     {
-        self.halved(prefix, passed, 0, self.lists.len())
+        let count = self.count();
+        if count > 0 && self.is_before(count - 1, prefix, passed) {
+            return self.halved(prefix, passed, count, count);
+        }
+        self.halved(prefix, passed, 0, count)
     }
 
     /// That number, where it lies between two others.
@@ -114,6 +118,30 @@ impl<'a> Part<'a> {
             step = step.saturating_mul(2);
         }
         self.halved(list, false, low, self.count())
+    }
+
+    /// Where the lists begin that begin with the prefix. The first list is asked first; else it is found by steps back from the end
+    /// that double, and then by halving: soon where all begin with it, or few.
+    fn reach_back<W: Word>(&self, prefix: &[W]) -> usize
+        requires { IsStrictlySortedBy texts_cmp self.now }
+        ensures within { result ≤ length self.now }
+        ensures below { AllByRecursion (λ l. is_before (map W.bytes prefix.now) false l ≡ true) (take result self.now) }
+        ensures above { AllByRecursion (λ l. is_before (map W.bytes prefix.now) false l ≡ false) (drop result self.now) }
+    {
+        let mut high = self.count();
+        if high > 0 && !self.is_before(0, prefix, false) {
+            return self.halved(prefix, false, 0, 0);
+        }
+        let mut step: usize = 1;
+        while step <= high {
+            let probe = high - step;
+            if self.is_before(probe, prefix, false) {
+                return self.halved(prefix, false, probe + 1, high);
+            }
+            high = probe;
+            step = step.saturating_mul(2);
+        }
+        self.halved(prefix, false, 0, high)
     }
 
     /// Where the list is or is to be put, and whether it is there.
@@ -175,7 +203,7 @@ impl<'a> Part<'a> {
     {
         let high = self.bound(from_ref(&text), true);
         let (front, _) = self.lists.split_at(high);
-        let low = Part::new(self.texts, front, self.depth).bound(from_ref(&text), false);
+        let low = Part::new(self.texts, front, self.depth).reach_back(from_ref(&text));
         let (_, lists) = front.split_at(low);
         Part::new(self.texts, lists, self.texts.deeper(self.depth))
     }

@@ -9,7 +9,7 @@ use crate::fault::RehearseFault;
 use crate::turn::Turn;
 use cadf_event::{Document, Name};
 use cadf_json::Memory;
-use cadf_replica::{Inventory, Replica, ReplicaFault, copied};
+use cadf_replica::{Inventory, Replica, ReplicaFault};
 use std::alloc::Global;
 
 /// What a site sent.
@@ -53,13 +53,13 @@ impl Federation {
     {
         let mut sites = Vec::new(alloc);
         for _ in 0..count {
-            let site = Replica::new(alloc, copied(alloc, log)?);
+            let site = Replica::new(alloc, log.copied(alloc)?);
             if sites.push(site).is_err() {
                 return Err(RehearseFault::Memory);
             }
         }
         Ok(Federation {
-            log: copied(alloc, log)?,
+            log: log.copied(alloc)?,
             sites,
             messages: Vec::new(alloc),
         })

@@ -22,7 +22,7 @@ mod unnoted;
 pub use atom::{Atom, AtomFault};
 pub use inventory::Inventory;
 pub use letter::Letter;
-pub use name::{copied, log_name};
+pub use name::log_name;
 pub use path::{
     PathKind, path_atom, path_kind, path_kind_behind, path_kind_behind_with, path_kind_with,
 };

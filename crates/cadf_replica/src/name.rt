@@ -1,4 +1,4 @@
-//! The name of a log: in a file, and copied.
+//! The name of a log in a file.
 
 ghost use Rattle.std.specs.Prelude.{◌≡◌, IfOk};
 ghost use Rattle.cadf_replica.specs.Line.{name_of};
@@ -24,16 +24,6 @@ pub fn log_name(alloc: Global, text: &str) -> Result<Option<Name>, Memory>
     }
     match Name::read(alloc, name) {
         Ok(name) => Ok(Some(name)),
-        Err(_) => Err(Memory),
-    }
-}
-
-/// The same name again.
-pub fn copied(alloc: Global, name: &Name) -> Result<Name, Memory>
-    ensures { IfOk result (λ n. n ≡ name.now) }
-{
-    match Name::read(alloc, name.as_str()) {
-        Ok(name) => Ok(name),
         Err(_) => Err(Memory),
     }
 }

@@ -7,8 +7,8 @@ use Rattle.cadf_paths.specs.Flat.{is_before}
 use Rattle.cadf_paths.proofs.Narrowed.{front_view, section_view, take_sorted}
 use Rattle.cadf_paths.proofs.part.Part.section.Goals as goal
 
-pub bound-low-requires : goal.bound-low-requires
-bound-low-requires c =
+pub reach_back-low-requires : goal.reach_back-low-requires
+reach_back-low-requires c =
     let s = c.self.inside in
     subst (IsStrictlySortedBy texts_cmp)
     (sym (c.new.ensures ∙ front_view s.texts.now s.depth s.lists.now c.args.self.now c.self.view_is c.bound-high.result _ c.split_at.ensures.front))
@@ -19,7 +19,7 @@ returns c =
     let s = c.self.inside in
     let ls = c.args.self.now in
     let high = c.bound-high.result in
-    let low = c.bound-low.result in
+    let low = c.reach_back-low.result in
     let one = ap texts_at c.from_ref.ensures.value in
     let again = ap texts_at c.from_ref-2.ensures.value in
     let front = c.new.ensures ∙ front_view s.texts.now s.depth s.lists.now ls c.self.view_is high _ c.split_at.ensures.front in
@@ -29,6 +29,6 @@ returns c =
     (subst (λ p. AllByRecursion (λ l. is_before p true l ≡ true) (take high ls)) one c.bound-high.ensures.below)
     (subst (λ p. AllByRecursion (λ l. is_before p true l ≡ false) (drop high ls)) one c.bound-high.ensures.above)
     (subst (λ xs. AllByRecursion (λ l. is_before (c.args.text.now ∷ []) false l ≡ true) (take low xs)) front
-    (subst (λ p. AllByRecursion (λ l. is_before p false l ≡ true) (take low c.new.result)) again c.bound-low.ensures.below))
+    (subst (λ p. AllByRecursion (λ l. is_before p false l ≡ true) (take low c.new.result)) again c.reach_back-low.ensures.below))
     (subst (λ xs. AllByRecursion (λ l. is_before (c.args.text.now ∷ []) false l ≡ false) (drop low xs)) front
-    (subst (λ p. AllByRecursion (λ l. is_before p false l ≡ false) (drop low c.new.result)) again c.bound-low.ensures.above))
+    (subst (λ p. AllByRecursion (λ l. is_before p false l ≡ false) (drop low c.new.result)) again c.reach_back-low.ensures.above))
