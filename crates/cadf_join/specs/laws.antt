@@ -1,4 +1,5 @@
 -- Laws that definitions and ghost members cite.
+pub mod Rising
 pub mod Sets
 pub mod Contents
 pub mod Maps

@@ -45,6 +45,7 @@ impl Model for Node {
 }
 
 impl Node {
+    /// The empty tree.
     pub(crate) fn new(alloc: Global) -> Node
         ensures { result ≡ set.empty }
     {
@@ -121,6 +122,7 @@ impl Node {
         Ok(())
     }
 
+    /// A tree with the same chains.
     pub(crate) fn copy(&self, alloc: Global) -> Result<Node, Memory>
         ensures { IfOk result (λ n. n ≡ self.now) }
     {
@@ -129,6 +131,7 @@ impl Node {
         Ok(copied)
     }
 
+    /// Whether there are no chains.
     pub(crate) fn is_empty(&self) -> bool
         ensures { IsTrue result ↔ (self.now ≡ set.empty) }
     {

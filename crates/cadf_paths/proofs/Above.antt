@@ -6,7 +6,8 @@ use Rattle.std.specs.declared.cmp.Ordering.TheVariants.{Less, Equal, Greater}
 use Rattle.std.specs.Ordering.{is_lt}
 use Rattle.std.specs.List.Sorted.{IsStrictlySortedBy}
 use Rattle.cadf_join.specs.Sets as set
-use Rattle.cadf_join.specs.Sets.{Listed, AllByRecursion-listed, any_listed, listed_any, contains-from_list}
+use Rattle.cadf_join.specs.Sets.{Listed, contains-from_list}
+use Rattle.cadf_join.specs.laws.Rising.{AllByRecursion-listed, any_listed, listed_any}
 use Rattle.cadf_join.specs.Contents.{Texts, texts_cmp}
 use Rattle.cadf_join.specs.laws.Contents.{texts_total, texts_same}
 use Rattle.cadf_paths.specs.Flat.{last_of, ends_below}

@@ -39,9 +39,9 @@ use Rattle.cadf_join.specs.laws.Contents.{text_total, text_same, texts_total, te
 use Rattle.cadf_join.specs.Maps.{firsts, heads}
 use Rattle.cadf_join.specs.Prefixes.{texts_at}
 use Rattle.cadf_join.specs.Sets as set
-use Rattle.cadf_join.specs.Sets.{rising-from_list, rising_is_sorted}
+use Rattle.cadf_join.specs.laws.Rising.{rising-from_list, rising_is_sorted}
 use Rattle.cadf_join.proofs.Risings.{rising-section}
-use Rattle.cadf_paths.specs.Flat.{first_of, is_before, strip}
+use Rattle.cadf_paths.specs.Flat.{first_text, is_before, strip}
 use Rattle.cadf_paths.specs.Sections.{behind, sections}
 use Rattle.cadf_paths.proofs.Firsts.{DoesNotFall, find_rising}
 use Rattle.cadf_paths.proofs.Halving.{first_dropped}
@@ -76,15 +76,15 @@ module _ (t : Text) where
       ap (λ b. cond b (Some u) (find (is_after text_cmp (Some t)) (firsts ls))) (at_most u c h.0) ∙ firsts_skip ls n h.1
 
   firsts_found : (ls : List Texts) → AllByRecursion (λ l. is_before (t ∷ []) true l ≡ false) ls
-      → find (is_after text_cmp (Some t)) (firsts ls) ≡ first_of (get_or ls 0 [])
+      → find (is_after text_cmp (Some t)) (firsts ls) ≡ first_text (get_or ls 0 [])
   firsts_found [] h = refl
   firsts_found ([] ∷ ls) h = absurd (true≢false h.0)
   firsts_found ((u ∷ c) ∷ ls) h = ap (λ b. cond b (Some u) (find (is_after text_cmp (Some t)) (firsts ls))) (above u c h.0)
 
   -- the first text at the bound is the next
   pub text_at_bound : (ls : List Texts) (n : ℕ) → AllByRecursion (λ l. is_before (t ∷ []) true l ≡ true) (take n ls)
-      → AllByRecursion (λ l. is_before (t ∷ []) true l ≡ false) (drop n ls) → find (is_after text_cmp (Some t)) (firsts ls) ≡ first_of (get_or ls n [])
-  text_at_bound ls n below over = firsts_skip ls n below ∙ firsts_found (drop n ls) over ∙ ap first_of (first_dropped ls n)
+      → AllByRecursion (λ l. is_before (t ∷ []) true l ≡ false) (drop n ls) → find (is_after text_cmp (Some t)) (firsts ls) ≡ first_text (get_or ls n [])
+  text_at_bound ls n below over = firsts_skip ls n below ∙ firsts_found (drop n ls) over ∙ ap first_text (first_dropped ls n)
 
   same_text : (u : Text) → eq_by_cmp text_cmp t u ≡ is_eq (text_cmp u t)
   same_text u = ap is_eq (turned u) ∙ by (text_cmp u t)
@@ -142,7 +142,7 @@ module _ (t : Text) where
       by Greater k j = absurd (true≢false (sym j))
 
 -- the least first text is that of the first list, or of the second
-pub least_first : (ls : List Texts) (t : Text) → first_of (get_or ls 0 []) ≡ Some t → find (is_after text_cmp None) (firsts ls) ≡ Some t
+pub least_first : (ls : List Texts) (t : Text) → first_text (get_or ls 0 []) ≡ Some t → find (is_after text_cmp None) (firsts ls) ≡ Some t
 least_first [] t e = e
 least_first ([] ∷ ls) t e = absurd (never e)
   where
@@ -150,8 +150,8 @@ least_first ([] ∷ ls) t e = absurd (never e)
     never q = cc
 least_first ((u ∷ c) ∷ ls) t e = e
 
-pub least_second : (ls : List Texts) → IsStrictlySortedBy texts_cmp ls → first_of (get_or ls 0 []) ≡ None
-    → find (is_after text_cmp None) (firsts ls) ≡ first_of (get_or ls 1 [])
+pub least_second : (ls : List Texts) → IsStrictlySortedBy texts_cmp ls → first_text (get_or ls 0 []) ≡ None
+    → find (is_after text_cmp None) (firsts ls) ≡ first_text (get_or ls 1 [])
 unfolding IsStrictlySortedBy
 least_second [] s e = refl
 least_second ([] ∷ []) s e = refl

@@ -6,7 +6,6 @@ pub mod Firsts
 pub mod Halving
 pub mod Merges
 pub mod Narrowed
-pub mod Outcome
 pub mod Placed
 pub mod Ranges
 pub mod Runs

@@ -9,8 +9,10 @@ use Rattle.std.specs.Prelude.{not}
 use Rattle.std.specs.List.Sorted.{IsStrictlySortedBy}
 use Rattle.std.specs.Cmp.{IsTotalOrder, tied_itself}
 use Rattle.cadf_join.specs.Sets as set
-use Rattle.cadf_join.specs.Sets.{IsAntisymmetric, Listed, AllByRecursion-listed, listed-AllByRecursion}
-use Rattle.cadf_join.specs.Sets.{any_listed, listed_any, contains-from_list, contains-union, contains-difference}
+use Rattle.cadf_join.specs.Sets.{IsAntisymmetric, Listed}
+use Rattle.cadf_join.specs.laws.Rising.{AllByRecursion-listed, listed-AllByRecursion}
+use Rattle.cadf_join.specs.Sets.{contains-from_list, contains-union, contains-difference}
+use Rattle.cadf_join.specs.laws.Rising.{any_listed, listed_any}
 use Rattle.cadf_join.specs.laws.Sets as sets
 use Rattle.cadf_paths.proofs.Spans.{all_more}
 use Rattle.cadf_paths.specs.Merge.{sorted_merge, merge_step, sorted_without, without_step}

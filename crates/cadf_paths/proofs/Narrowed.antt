@@ -4,7 +4,7 @@ use Rattle.std.specs.List.{AllByRecursion, take-map, drop-map}
 use Rattle.std.specs.declared.cmp.Ordering.TheVariants.{Less}
 use Rattle.std.specs.List.Sorted.{IsStrictlySortedBy}
 use Rattle.cadf_join.specs.Contents.{Text, Texts, rests, texts_cmp}
-use Rattle.cadf_paths.specs.Flat.{is_before, rest_of, IsRun}
+use Rattle.cadf_paths.specs.Flat.{is_before, rest_of, IsRunOf}
 use Rattle.cadf_paths.specs.declared.pool.Span.{Span}
 use Rattle.cadf_paths.proofs.Behind.{rests_between, rests_from, rests_up_to}
 use Rattle.cadf_paths.proofs.Spans.{map_same}
@@ -34,11 +34,11 @@ module _ (ts : Texts) (d : ℕ) (spans : List Span) (ls : List Texts) (view : ma
   pub front_view : map (rest_of ts d) front ≡ take high ls
   front_view = ap (map (rest_of ts d)) front_is ∙ sym (take-map (rest_of ts d) high spans) ∙ ap (take high) view
 
-  module _ (runs : AllByRecursion (IsRun ts) spans) (further low : ℕ) (lists : List Span) (lists_are : lists ≡ drop low front)
-      (deeper : (r : Span) → IsRun ts r → rest_of ts further r ≡ drop 1 (rest_of ts d r)) where
-    runs_left : AllByRecursion (IsRun ts) lists
-    runs_left = subst (AllByRecursion (IsRun ts)) (sym (lists_are ∙ ap (drop low) front_is))
-        (all_of_last (IsRun ts) (take high spans) low (all_of_first (IsRun ts) spans high runs))
+  module _ (runs : AllByRecursion (IsRunOf ts) spans) (further low : ℕ) (lists : List Span) (lists_are : lists ≡ drop low front)
+      (deeper : (r : Span) → IsRunOf ts r → rest_of ts further r ≡ drop 1 (rest_of ts d r)) where
+    runs_left : AllByRecursion (IsRunOf ts) lists
+    runs_left = subst (AllByRecursion (IsRunOf ts)) (sym (lists_are ∙ ap (drop low) front_is))
+        (all_of_last (IsRunOf ts) (take high spans) low (all_of_first (IsRunOf ts) spans high runs))
 
     pub section_view : (t : Text) → AllByRecursion (λ l. is_before (t ∷ []) true l ≡ true) (take high ls)
         → AllByRecursion (λ l. is_before (t ∷ []) true l ≡ false) (drop high ls)
@@ -46,7 +46,7 @@ module _ (ts : Texts) (d : ℕ) (spans : List Span) (ls : List Texts) (view : ma
         → AllByRecursion (λ l. is_before (t ∷ []) false l ≡ false) (drop low (take high ls))
         → map (rest_of ts further) lists ≡ rests t ls
     section_view t upto over below from =
-        map_same (IsRun ts) (rest_of ts further) (λ r. drop 1 (rest_of ts d r)) lists deeper runs_left
+        map_same (IsRunOf ts) (rest_of ts further) (λ r. drop 1 (rest_of ts d r)) lists deeper runs_left
         ∙ map_twice (rest_of ts d) (λ l. drop 1 l) lists
         ∙ ap (map (λ l. drop 1 l)) (ap (map (rest_of ts d)) lists_are ∙ sym (drop-map (rest_of ts d) low front) ∙ ap (drop low) front_view)
         ∙ sym (rests_between t (drop low (take high ls)) from (all_of_last (λ l. is_before (t ∷ []) true l ≡ true) (take high ls) low upto))

@@ -8,7 +8,7 @@ use Rattle.std.specs.List.Sorted.{IsStrictlySortedBy}
 use Rattle.std.specs.Ordering.{eq_by_cmp}
 use Rattle.cadf_join.specs.Contents.{Texts, texts_cmp}
 use Rattle.cadf_join.specs.laws.Contents.{texts_total, texts_same}
-use Rattle.cadf_paths.specs.Flat.{IsRun, run_of}
+use Rattle.cadf_paths.specs.Flat.{IsRunOf, run_of}
 use Rattle.cadf_paths.specs.Merge.{sorted_merge}
 use Rattle.cadf_paths.specs.declared.pool.Span.{Span}
 use Rattle.cadf_paths.proofs.Halving.{drop_sorted}
@@ -32,7 +32,7 @@ pub above_first : (y : Texts) (ys : List Texts) → IsStrictlySortedBy texts_cmp
 unfolding IsStrictlySortedBy
 above_first y ys s = s.0
 
-module _ (old now : Texts) (kept : take (length old) now ≡ old) (rest : List Span) (left : AllByRecursion (IsRun old) rest) (n : ℕ) (front back : List Span)
+module _ (old now : Texts) (kept : take (length old) now ≡ old) (rest : List Span) (left : AllByRecursion (IsRunOf old) rest) (n : ℕ) (front back : List Span)
     (front_is : front ≡ take n rest) (back_is : back ≡ drop n rest) where
   abbrev ours : List Texts
   ours = map (run_of old) rest
@@ -43,13 +43,13 @@ module _ (old now : Texts) (kept : take (length old) now ≡ old) (rest : List S
   back_view : map (run_of old) back ≡ drop n ours
   back_view = ap (map (run_of old)) back_is ∙ sym (drop-map (run_of old) n rest)
 
-  pub back_left : AllByRecursion (IsRun old) back
-  back_left = subst (AllByRecursion (IsRun old)) (sym back_is) (all_of_last (IsRun old) rest n left)
+  pub back_left : AllByRecursion (IsRunOf old) back
+  back_left = subst (AllByRecursion (IsRunOf old)) (sym back_is) (all_of_last (IsRunOf old) rest n left)
 
-  pub front_runs : (all : List Span) → AllByRecursion (IsRun now) all → AllByRecursion (IsRun now) (all ++ front)
+  pub front_runs : (all : List Span) → AllByRecursion (IsRunOf now) all → AllByRecursion (IsRunOf now) (all ++ front)
   front_runs all runs =
-      all_append (IsRun now) all front runs
-      (subst (AllByRecursion (IsRun now)) (sym front_is) (all_of_first (IsRun now) rest n (runs_fit old now kept rest left)))
+      all_append (IsRunOf now) all front runs
+      (subst (AllByRecursion (IsRunOf now)) (sym front_is) (all_of_first (IsRunOf now) rest n (runs_fit old now kept rest left)))
 
   pub back_rises : IsStrictlySortedBy texts_cmp ours → IsStrictlySortedBy texts_cmp (map (run_of old) back)
   back_rises s = subst (IsStrictlySortedBy texts_cmp) (sym back_view) (drop_sorted ours n s)
@@ -79,7 +79,7 @@ module _ (old now : Texts) (kept : take (length old) now ≡ old) (rest : List S
         ∙ ap (λ xs. sorted_merge texts_cmp true xs (y ∷ ys)) (sym first))
         ∙ split
 
-    pub new_on : (further : Texts) → take (length now) further ≡ now → (r : Span) → run_of further r ≡ y → AllByRecursion (IsRun now) (all ++ front)
+    pub new_on : (further : Texts) → take (length now) further ≡ now → (r : Span) → run_of further r ≡ y → AllByRecursion (IsRunOf now) (all ++ front)
         → AllByRecursion (λ l. texts_cmp y l ≡ Less) (drop n ours) → (before next : List Span) → before ≡ all ++ front → next ≡ before ++ r ∷ []
         → map (run_of further) next ++ sorted_merge texts_cmp true (map (run_of old) back) ys ≡ total
     new_on further also r is runs above before next before_is next_is =

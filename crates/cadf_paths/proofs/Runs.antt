@@ -3,7 +3,7 @@ use Rattle.std.proofs.Common.{◌≡◌, ℕ, ◌≤◌, List, [], ◌∷◌, �
 use Rattle.std.proofs.lemmas.List.{length-append, length-drop, take-append-le, drop-append-le}
 use Rattle.std.specs.List.{AllByRecursion, take-map, drop-map}
 use Rattle.cadf_join.specs.Contents.{Texts}
-use Rattle.cadf_paths.specs.Flat.{text_of, run_of, rest_of, first_of, IsRun}
+use Rattle.cadf_paths.specs.Flat.{text_of, run_of, rest_of, first_text, IsRunOf}
 use Rattle.cadf_paths.specs.declared.pool.Span.{Span}
 use Rattle.cadf_paths.proofs.Spans.{all_turned, map_same, grown_by}
 
@@ -22,7 +22,7 @@ rest_held n bs b ss us slice ts r block items run view =
     ∙ ap (drop n) (run_held bs b ss us (take r.len (drop r.start us)) ts r block items refl view)
 
 pub first_is : (bs : List ℕ) (slice : List Span) (otherwise : Span) → 1 ≤ length slice
-    → Some (text_of bs (get_or slice 0 otherwise)) ≡ first_of (map (text_of bs) slice)
+    → Some (text_of bs (get_or slice 0 otherwise)) ≡ first_text (map (text_of bs) slice)
 first_is bs [] otherwise h = absurd (omega (arith, h))
 first_is bs (s ∷ slice) otherwise h = refl
 
@@ -30,21 +30,21 @@ module _ (ts us : Texts) (kept : take (length ts) us ≡ ts) where
   grown_fits : length ts ≤ length us
   grown_fits = let whole = ap length (grown_by ts us kept) in let parts = length-append ts (drop (length ts) us) in omega (arith, whole, parts)
 
-  run_fits : (r : Span) → IsRun ts r → IsRun us r
+  run_fits : (r : Span) → IsRunOf ts r → IsRunOf us r
   run_fits r h = let fits = grown_fits in omega (arith, h, fits)
 
-  run_kept : (r : Span) → IsRun ts r → run_of us r ≡ run_of ts r
+  run_kept : (r : Span) → IsRunOf ts r → run_of us r ≡ run_of ts r
   run_kept r h =
       let long = length-drop r.start ts in
       ap (λ z. run_of z r) (grown_by ts us kept)
       ∙ ap (take r.len) (drop-append-le r.start ts (drop (length ts) us) (omega (arith, h)))
       ∙ take-append-le r.len (drop r.start ts) (drop (length ts) us) (omega (arith, h, long))
 
-  pub runs_fit : (ls : List Span) → AllByRecursion (IsRun ts) ls → AllByRecursion (IsRun us) ls
-  runs_fit ls h = all_turned (IsRun ts) (IsRun us) ls run_fits h
+  pub runs_fit : (ls : List Span) → AllByRecursion (IsRunOf ts) ls → AllByRecursion (IsRunOf us) ls
+  runs_fit ls h = all_turned (IsRunOf ts) (IsRunOf us) ls run_fits h
 
-  pub lists_kept : (ls : List Span) → AllByRecursion (IsRun ts) ls → map (run_of us) ls ≡ map (run_of ts) ls
-  lists_kept ls h = map_same (IsRun ts) (run_of us) (run_of ts) ls run_kept h
+  pub lists_kept : (ls : List Span) → AllByRecursion (IsRunOf ts) ls → map (run_of us) ls ≡ map (run_of ts) ls
+  lists_kept ls h = map_same (IsRunOf ts) (run_of us) (run_of ts) ls run_kept h
 
 -- one more, put at its place
 pub map_put : {A B : Type 0} (f : A → B) (xs : List A) (n : ℕ) (x : A) → map f (take n xs ++ x ∷ drop n xs) ≡ take n (map f xs) ++ f x ∷ drop n (map f xs)

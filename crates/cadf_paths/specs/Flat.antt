@@ -2,9 +2,9 @@
 --     text_of bs s         the text of a span
 --     IsSpan bs s          the span is cut between characters
 --     run_of ts r          the texts of a run
---     IsRun ts r           the run is of texts that are there
+--     IsRunOf ts r           the run is of texts that are there
 --     rest_of ts n r       that list without its first n texts
---     first_of l           the first text of a list
+--     first_text l           the first text of a list
 --     prefix_cmp l p       whether a list is below those that begin with p, one of them, or above
 --     is_before p more l   whether it is below them, or one of them where they count too
 --     strip p l            what follows the prefix, where the list begins with it
@@ -29,15 +29,15 @@ pub record IsSpan (bs : List ℕ) (s : Span) : Type 0 where
 abbrev pub run_of : Texts → Span → Texts
 run_of ts r = take r.len (drop r.start ts)
 
-abbrev pub IsRun : Texts → Span → Type 0
-IsRun ts r = r.start + r.len ≤ length ts
+abbrev pub IsRunOf : Texts → Span → Type 0
+IsRunOf ts r = r.start + r.len ≤ length ts
 
 abbrev pub rest_of : Texts → ℕ → Span → Texts
 rest_of ts n r = drop n (run_of ts r)
 
-abbrev pub first_of : Texts → Option Text
-first_of [] = None
-first_of (t ∷ l) = Some t
+abbrev pub first_text : Texts → Option Text
+first_text [] = None
+first_text (t ∷ l) = Some t
 
 abbrev pub prefix_cmp : Texts → Texts → Ordering
 prefix_cmp l [] = Equal

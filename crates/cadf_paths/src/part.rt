@@ -10,7 +10,7 @@ ghost use Rattle.cadf_join.specs.Longest.{longer_than, longest_of};
 ghost use Rattle.cadf_join.specs.Maps.{firsts, heads};
 ghost use Rattle.cadf_join.specs.Prefixes.{chain_texts};
 ghost use Rattle.cadf_join.specs.Sets as set;
-ghost use Rattle.cadf_paths.specs.Flat.{IsRun, first_of, is_before, rest_of};
+ghost use Rattle.cadf_paths.specs.Flat.{IsRunOf, first_text, is_before, rest_of};
 
 use crate::Memory;
 use crate::order::continued;
@@ -33,19 +33,19 @@ impl<'a> Model for Part<'a> {
     ghost use Rattle.std.specs.Prelude.{List, map};
     ghost use Rattle.std.specs.List.{AllByRecursion, find};
     ghost use Rattle.cadf_join.specs.Contents.{Texts};
-    ghost use Rattle.cadf_paths.specs.Flat.{IsRun, rest_of};
+    ghost use Rattle.cadf_paths.specs.Flat.{IsRunOf, rest_of};
 
     ghost Value = { List Texts };
 
     ghost view = { λ p. map (rest_of p.texts.now p.depth) p.lists.now };
 
-    ghost invariant = { λ p. AllByRecursion (IsRun p.texts.now) p.lists.now };
+    ghost invariant = { λ p. AllByRecursion (IsRunOf p.texts.now) p.lists.now };
 }
 
 impl<'a> Part<'a> {
     /// The lists of the runs, each without so many texts.
     pub fn new(texts: &'a Pool, lists: &'a [Span], depth: usize) -> Part<'a>
-        requires { AllByRecursion (IsRun texts.now) lists.now }
+        requires { AllByRecursion (IsRunOf texts.now) lists.now }
         ensures { result ≡ map (rest_of texts.now depth) lists.now }
     {
         Part {
@@ -188,7 +188,7 @@ impl<'a> Part<'a> {
 
     /// The first text of the list of that number, where there is one.
     fn text(&self, number: usize) -> Option<&'a str>
-        ensures { option_copied result ≡ first_of (get_or self.now number []) }
+        ensures { option_copied result ≡ first_text (get_or self.now number []) }
     {
         match self.lists.get(number) {
             Some(list) => self.texts.first_text(*list, self.depth),

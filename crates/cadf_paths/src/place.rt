@@ -3,7 +3,7 @@ ghost use Rattle.std.specs.Prelude.{◌≡◌, IfOk, true, length, take, map};
 ghost use Rattle.std.specs.List.{AllByRecursion};
 ghost use Rattle.std.specs.List.Sorted.{IsStrictlySortedBy};
 ghost use Rattle.cadf_join.specs.Contents.{texts_cmp};
-ghost use Rattle.cadf_paths.specs.Flat.{IsRun, run_of};
+ghost use Rattle.cadf_paths.specs.Flat.{IsRunOf, run_of};
 ghost use Rattle.cadf_paths.specs.Merge.{sorted_merge};
 
 use crate::Memory;
@@ -19,11 +19,11 @@ pub(crate) fn joined_into(
     lists: &[Span],
     other: &Rows,
 ) -> Result<Vec<Span>, Memory>
-    requires runs { AllByRecursion (IsRun texts.old) lists.now }
+    requires runs { AllByRecursion (IsRunOf texts.old) lists.now }
     requires ours { IsStrictlySortedBy texts_cmp (map (run_of texts.old) lists.now) }
     requires theirs { IsStrictlySortedBy texts_cmp other.now }
     ensures kept { take (length texts.old) texts.new ≡ texts.old }
-    ensures runs { IfOk result (λ all. AllByRecursion (IsRun texts.new) all.items) }
+    ensures runs { IfOk result (λ all. AllByRecursion (IsRunOf texts.new) all.items) }
     ensures merged { IfOk result (λ all. map (run_of texts.new) all.items ≡ sorted_merge texts_cmp true (map (run_of texts.old) lists.now) other.now) }
 {
     let mut all = Vec::new(alloc);

@@ -4,7 +4,7 @@ ghost use Rattle.std.specs.List.{AllByRecursion};
 ghost use Rattle.std.specs.Option.{option_copied};
 ghost use Rattle.cadf_join.specs.Contents.{texts_cmp};
 ghost use Rattle.cadf_join.specs.Prefixes.{texts_at};
-ghost use Rattle.cadf_paths.specs.Flat.{IsRun, IsSpan, first_of, prefix_cmp, rest_of, run_of, text_of};
+ghost use Rattle.cadf_paths.specs.Flat.{IsRunOf, IsSpan, first_text, prefix_cmp, rest_of, run_of, text_of};
 ghost use Rattle.cadf_paths.specs.declared.pool.Span.{Span};
 
 use crate::Memory;
@@ -75,7 +75,7 @@ impl Pool {
         depth: usize,
         path: &mut Vec<&'a str>,
     ) -> Result<(), Memory>
-        requires { IsRun self.now run }
+        requires { IsRunOf self.now run }
         ensures kept { OnOk result (take (length path.old.items) path.new.items ≡ path.old.items) }
         ensures texts { OnOk result (texts_at path.new.items ≡ texts_at path.old.items ++ rest_of self.now depth run) }
     {
@@ -88,7 +88,7 @@ impl Pool {
 
     /// So many texts and one more, as far as there are texts.
     pub fn deeper(&self, depth: usize) -> usize
-        ensures { (r : Span) → IsRun self.now r → rest_of self.now result r ≡ drop 1 (rest_of self.now depth r) }
+        ensures { (r : Span) → IsRunOf self.now r → rest_of self.now result r ≡ drop 1 (rest_of self.now depth r) }
     {
         if depth < self.spans.len() {
             return depth + 1;
@@ -98,8 +98,8 @@ impl Pool {
 
     /// The first text of the run behind the first so many.
     pub fn first_text(&self, run: Span, depth: usize) -> Option<&str>
-        requires { IsRun self.now run }
-        ensures { option_copied result ≡ first_of (rest_of self.now depth run) }
+        requires { IsRunOf self.now run }
+        ensures { option_copied result ≡ first_text (rest_of self.now depth run) }
     {
         match spans_behind(self.spans.as_slice(), run, depth) {
             [span, ..] => Some(text_at(self.block.as_str(), *span)),
@@ -109,7 +109,7 @@ impl Pool {
 
     /// Whether the texts of the run, but for the first so many, are below the lists that begin with the prefix, such a list, or above.
     pub fn prefix_cmp<W: Word>(&self, run: Span, depth: usize, prefix: &[W]) -> Ordering
-        requires { IsRun self.now run }
+        requires { IsRunOf self.now run }
         ensures { result ≡ prefix_cmp (rest_of self.now depth run) (map W.bytes prefix.now) }
     {
         prefix_cmp(
@@ -121,7 +121,7 @@ impl Pool {
 
     /// The order of the run's list, without its first so many texts, and another.
     pub fn list_cmp<W: Word>(&self, run: Span, depth: usize, list: &[W]) -> Ordering
-        requires { IsRun self.now run }
+        requires { IsRunOf self.now run }
         ensures { result ≡ texts_cmp (rest_of self.now depth run) (map W.bytes list.now) }
     {
         list_cmp(
@@ -133,8 +133,8 @@ impl Pool {
 
     /// The order of the lists of two runs.
     pub fn run_cmp(&self, run: Span, other: &Pool, its: Span) -> Ordering
-        requires ours { IsRun self.now run }
-        requires theirs { IsRun other.now its }
+        requires ours { IsRunOf self.now run }
+        requires theirs { IsRunOf other.now its }
         ensures { result ≡ texts_cmp (run_of self.now run) (run_of other.now its) }
     {
         run_cmp(
@@ -313,7 +313,7 @@ fn run_cmp(block: &str, spans: &[Span], other: &str, its: &[Span]) -> Ordering
 /// Appends the texts of a list.
 pub(crate) fn stored(texts: &mut Pool, near: usize, path: &[&str]) -> Result<Span, Memory>
     ensures kept { take (length texts.old) texts.new ≡ texts.old }
-    ensures run { IfOk result (λ r. IsRun texts.new r) }
+    ensures run { IfOk result (λ r. IsRunOf texts.new r) }
     ensures texts { IfOk result (λ r. run_of texts.new r ≡ texts_at path.now) }
 {
     let start = narrow(texts.len())?;

@@ -9,7 +9,7 @@ ghost use Rattle.std.specs.Option.{option_copied, option_map};
 ghost use Rattle.std.specs.Ordering.{eq_by_cmp, is_eq, is_lt};
 ghost use Rattle.cadf_join.specs.Contents.{is_after, texts_cmp};
 ghost use Rattle.cadf_join.specs.Prefixes.{chain_texts, texts_at};
-ghost use Rattle.cadf_paths.specs.Flat.{IsRun, run_of, Moves, ahead, ends_behind, ends_below, is_before, prefix_cmp};
+ghost use Rattle.cadf_paths.specs.Flat.{IsRunOf, run_of, Moves, ahead, ends_behind, ends_below, is_before, prefix_cmp};
 ghost use Rattle.cadf_join.specs.Sets as set;
 ghost use Rattle.cadf_paths.specs.Merge.{sorted_merge};
 ghost use Rattle.cadf_paths.specs.Sections.{behind};
@@ -36,13 +36,13 @@ impl Model for Rows {
     ghost use Rattle.std.specs.Prelude.{List, map};
     ghost use Rattle.std.specs.List.{AllByRecursion};
     ghost use Rattle.cadf_join.specs.Contents.{Texts};
-    ghost use Rattle.cadf_paths.specs.Flat.{IsRun, run_of};
+    ghost use Rattle.cadf_paths.specs.Flat.{IsRunOf, run_of};
 
     ghost Value = { List Texts };
 
     ghost view = { λ r. map (run_of r.texts) r.lists.items };
 
-    ghost invariant = { λ r. AllByRecursion (IsRun r.texts) r.lists.items };
+    ghost invariant = { λ r. AllByRecursion (IsRunOf r.texts) r.lists.items };
 }
 
 impl Rows {
@@ -305,8 +305,8 @@ impl Rows {
 
 /// Whether the runs have the same lists, one by one.
 fn same_lists(texts: &Pool, lists: &[Span], others: &Pool, its: &[Span]) -> bool
-    requires ours { AllByRecursion (IsRun texts.now) lists.now }
-    requires theirs { AllByRecursion (IsRun others.now) its.now }
+    requires ours { AllByRecursion (IsRunOf texts.now) lists.now }
+    requires theirs { AllByRecursion (IsRunOf others.now) its.now }
     ensures { result ≡ pointwise (eq_by_cmp texts_cmp) (map (run_of texts.now) lists.now) (map (run_of others.now) its.now) }
 {
     let mut left = lists;
@@ -347,13 +347,13 @@ impl<'a> Model for Cursor<'a> {
     ghost use Rattle.std.specs.Prelude.{map};
     ghost use Rattle.std.specs.List.{AllByRecursion};
     ghost use Rattle.cadf_join.specs.Prefixes.{chain_texts, texts_at};
-    ghost use Rattle.cadf_paths.specs.Flat.{Place, IsRun, run_of};
+    ghost use Rattle.cadf_paths.specs.Flat.{Place, IsRunOf, run_of};
 
     ghost Value = { Place };
 
     ghost view = { λ c. (texts_at c.path.items, map (run_of c.texts.now) c.lists.now) };
 
-    ghost invariant = { λ c. AllByRecursion (IsRun c.texts.now) c.lists.now };
+    ghost invariant = { λ c. AllByRecursion (IsRunOf c.texts.now) c.lists.now };
 }
 
 impl<'a> Cursor<'a> {

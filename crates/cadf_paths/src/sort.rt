@@ -4,7 +4,7 @@ ghost use Rattle.std.specs.List.{AllByRecursion};
 ghost use Rattle.std.specs.List.Sorted.{IsStrictlySortedBy};
 ghost use Rattle.cadf_join.specs.Contents.{texts_cmp};
 ghost use Rattle.cadf_join.specs.Sets as set;
-ghost use Rattle.cadf_paths.specs.Flat.{IsRun, run_of};
+ghost use Rattle.cadf_paths.specs.Flat.{IsRunOf, run_of};
 ghost use Rattle.cadf_paths.specs.Merge.{sorted_merge};
 
 use crate::Memory;
@@ -14,7 +14,7 @@ use std::cmp::Ordering;
 
 /// Whether each list is below the next. Where it isn't so there are two or more.
 fn is_rising(texts: &Pool, lists: &[Span]) -> bool
-    requires { AllByRecursion (IsRun texts.now) lists.now }
+    requires { AllByRecursion (IsRunOf texts.now) lists.now }
     ensures rises { result ≡ true → IsStrictlySortedBy texts_cmp (map (run_of texts.now) lists.now) }
     ensures several { result ≡ false → 2 ≤ length lists.now }
 {
@@ -32,9 +32,9 @@ fn is_rising(texts: &Pool, lists: &[Span]) -> bool
 
 /// The lists of both, each once, in order.
 fn merged(alloc: Global, texts: &Pool, a: &[Span], b: &[Span]) -> Result<Vec<Span>, Memory>
-    requires ours { AllByRecursion (IsRun texts.now) a.now }
-    requires theirs { AllByRecursion (IsRun texts.now) b.now }
-    ensures runs { IfOk result (λ all. AllByRecursion (IsRun texts.now) all.items) }
+    requires ours { AllByRecursion (IsRunOf texts.now) a.now }
+    requires theirs { AllByRecursion (IsRunOf texts.now) b.now }
+    ensures runs { IfOk result (λ all. AllByRecursion (IsRunOf texts.now) all.items) }
     ensures merged { IfOk result (λ all. map (run_of texts.now) all.items ≡ sorted_merge texts_cmp true (map (run_of texts.now) a.now) (map (run_of texts.now) b.now)) }
 {
     let mut all = Vec::new(alloc);
@@ -69,8 +69,8 @@ fn merged(alloc: Global, texts: &Pool, a: &[Span], b: &[Span]) -> Result<Vec<Spa
 
 /// The lists, each once, in order.
 pub(crate) fn sorted(alloc: Global, texts: &Pool, lists: &[Span]) -> Result<Vec<Span>, Memory>
-    requires { AllByRecursion (IsRun texts.now) lists.now }
-    ensures runs { IfOk result (λ all. AllByRecursion (IsRun texts.now) all.items) }
+    requires { AllByRecursion (IsRunOf texts.now) lists.now }
+    ensures runs { IfOk result (λ all. AllByRecursion (IsRunOf texts.now) all.items) }
     ensures rises { IfOk result (λ all. IsStrictlySortedBy texts_cmp (map (run_of texts.now) all.items)) }
     ensures same { IfOk result (λ all. set.from_list {R = texts_cmp} (map (run_of texts.now) all.items) ≡ set.from_list (map (run_of texts.now) lists.now)) }
 {

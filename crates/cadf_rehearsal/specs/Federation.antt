@@ -2,7 +2,7 @@
 --     world_of f             where its sites stand, and its messages
 --     IsOneLog f             each site and each message is of the federation's log
 --     turned_from f n t      what the turn t of number n leaves of it, or why it can't be taken
---     IsDue fault r          the fault is r's, or memory was refused
+--     IsFaultDue fault r          the fault is r's, or memory was refused
 --     left_by log count w    the replicas that the world leaves at the sites 0 to count - 1
 use Rattle.std.specs.Prelude.{◌≡◌, ℕ, zero, suc, ◌∷◌, List, [], map, length, Result, Err, ◌⊎◌}
 use Rattle.std.specs.List.{range_with_len}
@@ -65,8 +65,8 @@ pub record IsLater (old new : Federation) : Type 0 where
 abbrev pub turned_from : Federation → ℕ → Turn → Result schedule.World RehearseFault
 turned_from f turn t = schedule.turned atom_digest f.log (length f.sites.items) turn (world_of f) t
 
-abbrev pub IsDue : {A : Type 0} → RehearseFault → Result A RehearseFault → Type 0
-IsDue fault r = (fault ≡ Memory) ⊎ (r ≡ Err fault)
+abbrev pub IsFaultDue : {A : Type 0} → RehearseFault → Result A RehearseFault → Type 0
+IsFaultDue fault r = (fault ≡ Memory) ⊎ (r ≡ Err fault)
 
 abbrev pub left_by : Text → ℕ → schedule.World → List Held
 left_by log count w = map (λ j. record { log = log; atoms = w.sites j }) (range_with_len 0 count)

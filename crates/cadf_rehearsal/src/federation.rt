@@ -2,7 +2,7 @@
 ghost use Rattle.std.specs.Prelude.{◌≡◌, ◌∷◌, [], ◌++◌, length, OnOk, IfOk, IfErr, Ok};
 ghost use Rattle.cadf_join.specs.Sets as set;
 ghost use Rattle.cadf_rehearsal.specs.Schedule.{start};
-ghost use Rattle.cadf_rehearsal.specs.Federation.{IsOneLog, IsLater, IsDue, world_of, turned_from, log_of_message};
+ghost use Rattle.cadf_rehearsal.specs.Federation.{IsOneLog, IsLater, IsFaultDue, world_of, turned_from, log_of_message};
 ghost use Rattle.cadf_rehearsal.specs.declared.turn.Turn.TheVariants as turn;
 
 use crate::fault::RehearseFault;
@@ -75,7 +75,7 @@ impl Federation {
         requires { IsOneLog self.old }
         ensures ok { OnOk result (turned_from self.old number (turn.Learn site document.now) ≡ Ok (world_of self.new)) }
         ensures later { OnOk result (IsLater self.old self.new) }
-        ensures err { IfErr result (λ fault. IsDue fault (turned_from self.old number (turn.Learn site document.now))) }
+        ensures err { IfErr result (λ fault. IsFaultDue fault (turned_from self.old number (turn.Learn site document.now))) }
     {
         if site >= self.sites.len() {
             return Err(RehearseFault::NoSite(number));
@@ -83,7 +83,8 @@ impl Federation {
         match self.sites[site].take_document(document) {
             Ok(()) => Ok(()),
             Err(ReplicaFault::OtherLog) => Err(RehearseFault::OtherLog(number)),
-            Err(_) => Err(RehearseFault::Memory),
+            Err(ReplicaFault::Ungrounded) => unreachable!(),
+            Err(ReplicaFault::Memory) => Err(RehearseFault::Memory),
         }
     }
 
@@ -92,7 +93,7 @@ impl Federation {
         requires { IsOneLog self.old }
         ensures ok { OnOk result (turned_from self.old number (turn.Ask site) ≡ Ok (world_of self.new)) }
         ensures later { OnOk result (IsLater self.old self.new) }
-        ensures err { IfErr result (λ fault. IsDue fault (turned_from self.old number (turn.Ask site))) }
+        ensures err { IfErr result (λ fault. IsFaultDue fault (turned_from self.old number (turn.Ask site))) }
     {
         if site >= self.sites.len() {
             return Err(RehearseFault::NoSite(number));
@@ -107,7 +108,7 @@ impl Federation {
         requires { IsOneLog self.old }
         ensures ok { OnOk result (turned_from self.old number (turn.Send site) ≡ Ok (world_of self.new)) }
         ensures later { OnOk result (IsLater self.old self.new) }
-        ensures err { IfErr result (λ fault. IsDue fault (turned_from self.old number (turn.Send site))) }
+        ensures err { IfErr result (λ fault. IsFaultDue fault (turned_from self.old number (turn.Send site))) }
     {
         if site >= self.sites.len() {
             return Err(RehearseFault::NoSite(number));
@@ -122,7 +123,7 @@ impl Federation {
         requires { IsOneLog self.old }
         ensures ok { OnOk result (turned_from self.old number (turn.Answer site message) ≡ Ok (world_of self.new)) }
         ensures later { OnOk result (IsLater self.old self.new) }
-        ensures err { IfErr result (λ fault. IsDue fault (turned_from self.old number (turn.Answer site message))) }
+        ensures err { IfErr result (λ fault. IsFaultDue fault (turned_from self.old number (turn.Answer site message))) }
     {
         if site >= self.sites.len() {
             return Err(RehearseFault::NoSite(number));
@@ -133,7 +134,9 @@ impl Federation {
         let answer = match &self.messages[message - 1] {
             Message::Asked(asker, held) => match self.sites[site].missing_by(held) {
                 Ok(part) => Message::PartFor(*asker, part),
-                Err(_) => return Err(RehearseFault::Memory),
+                Err(ReplicaFault::OtherLog) => unreachable!(),
+                Err(ReplicaFault::Ungrounded) => unreachable!(),
+                Err(ReplicaFault::Memory) => return Err(RehearseFault::Memory),
             },
             _ => return Err(RehearseFault::NotInventory(number)),
         };
@@ -146,7 +149,7 @@ impl Federation {
         requires { IsOneLog self.old }
         ensures ok { OnOk result (turned_from self.old number (turn.Deliver message site) ≡ Ok (world_of self.new)) }
         ensures later { OnOk result (IsLater self.old self.new) }
-        ensures err { IfErr result (λ fault. IsDue fault (turned_from self.old number (turn.Deliver message site))) }
+        ensures err { IfErr result (λ fault. IsFaultDue fault (turned_from self.old number (turn.Deliver message site))) }
     {
         if site >= self.sites.len() {
             return Err(RehearseFault::NoSite(number));
@@ -175,7 +178,7 @@ impl Federation {
         requires { IsOneLog self.old }
         ensures ok { OnOk result (turned_from self.old number turn.now ≡ Ok (world_of self.new)) }
         ensures later { OnOk result (IsLater self.old self.new) }
-        ensures err { IfErr result (λ fault. IsDue fault (turned_from self.old number turn.now)) }
+        ensures err { IfErr result (λ fault. IsFaultDue fault (turned_from self.old number turn.now)) }
     {
         match turn {
             Turn::Learn(site, document) => self.learn(number, *site, document),
@@ -196,6 +199,8 @@ fn joined(site: &mut Replica, part: &Replica) -> Result<(), RehearseFault>
 {
     match site.join_twice(part) {
         Ok(()) => Ok(()),
-        Err(_) => Err(RehearseFault::Memory),
+        Err(ReplicaFault::OtherLog) => unreachable!(),
+        Err(ReplicaFault::Ungrounded) => unreachable!(),
+        Err(ReplicaFault::Memory) => Err(RehearseFault::Memory),
     }
 }

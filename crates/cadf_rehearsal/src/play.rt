@@ -3,7 +3,7 @@ ghost use Rattle.std.specs.Prelude.{◌≡◌, reverse, IfOk, IfErr, Ok};
 ghost use Rattle.cadf_join.specs.Contents.{IsWithin};
 ghost use Rattle.cadf_replica.specs.Digest.{atom_digest};
 ghost use Rattle.cadf_rehearsal.specs.Schedule.{World, after};
-ghost use Rattle.cadf_rehearsal.specs.Federation.{IsDue, left_by};
+ghost use Rattle.cadf_rehearsal.specs.Federation.{IsFaultDue, left_by};
 
 use crate::fault::RehearseFault;
 use crate::federation::Federation;
@@ -25,7 +25,7 @@ pub fn rehearse(
 ) -> Result<Vec<Replica>, RehearseFault>
     ensures ok { IfOk result (λ left. (world : World)
         × (after atom_digest log.now sites (reverse turns.now) ≡ Ok world) × (left.items ≡ left_by log.now sites world)) }
-    ensures err { IfErr result (λ fault. IsDue fault (after atom_digest log.now sites (reverse turns.now))) }
+    ensures err { IfErr result (λ fault. IsFaultDue fault (after atom_digest log.now sites (reverse turns.now))) }
 {
     let mut federation = Federation::new(alloc, log, sites)?;
     for (i, turn) in turns.iter().enumerate() {

@@ -11,7 +11,6 @@ pub mod LineDigests
 pub mod Lists
 pub mod Missing
 pub mod OrderLemmas
-pub mod Outcome
 pub mod PathKinds
 pub mod PathsBehind
 pub mod Places

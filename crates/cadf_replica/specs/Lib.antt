@@ -4,7 +4,6 @@ pub mod AtomGives
 pub mod AtomPaths
 pub mod Atoms
 pub mod AtomSets
-pub mod CarrierOrder
 pub mod Contributions
 pub mod Digest
 pub mod History
@@ -23,3 +22,4 @@ pub mod RulingTexts
 pub mod Shown
 pub mod Tails
 pub mod ValueTests
+pub mod laws

@@ -36,20 +36,20 @@ use Rattle.std.specs.List.{position_or_len}
 use Rattle.std.proofs.lemmas.List.{drop_all, drop-drop, take_all}
 use Rattle.cadf_event.specs.Parts.{EachPair}
 use Rattle.cadf_rehearsal.specs.declared.turn.Turn.{Turn}
-use Rattle.cadf_script.specs.Script.{put_first, lines_of, IsTurn, IsNoTurn, IsScript, IsFirstBad}
+use Rattle.cadf_script.specs.Script.{put_into_first, lines_of, IsTurn, IsNoTurn, IsScript, IsFirstBad}
 
 abbrev IsFirstLine : List ℕ → Type 0
 IsFirstLine xs =
     lines_of xs ≡ take (position_or_len (λ x. x == 10) xs) xs ∷ lines_of (drop (position_or_len (λ x. x == 10) xs + 1) xs)
 
 put_line : (x : ℕ) (ys : List ℕ) → (0 < length ys → IsFirstLine ys)
-    → put_first x (lines_of ys) ≡ (x ∷ take (position_or_len (λ x. x == 10) ys) ys) ∷ lines_of (drop (position_or_len (λ x. x == 10) ys + 1) ys)
+    → put_into_first x (lines_of ys) ≡ (x ∷ take (position_or_len (λ x. x == 10) ys) ys) ∷ lines_of (drop (position_or_len (λ x. x == 10) ys + 1) ys)
 unfolding lines_of
 put_line x [] ih = refl
-put_line x (y ∷ ys) ih = ap (put_first x) (ih (omega arith))
+put_line x (y ∷ ys) ih = ap (put_into_first x) (ih (omega arith))
 
 one_line : (x : ℕ) (xs : List ℕ) (b : Bool) → (0 < length xs → IsFirstLine xs)
-    → (if b then [] ∷ lines_of xs else put_first x (lines_of xs)) ≡ take (cond (not b) (1 + position_or_len (λ x. x == 10) xs) 0) (x ∷ xs)
+    → (if b then [] ∷ lines_of xs else put_into_first x (lines_of xs)) ≡ take (cond (not b) (1 + position_or_len (λ x. x == 10) xs) 0) (x ∷ xs)
     ∷ lines_of (drop (cond (not b) (1 + position_or_len (λ x. x == 10) xs) 0 + 1) (x ∷ xs))
 one_line x xs true ih = refl
 one_line x xs false ih =

@@ -40,7 +40,7 @@ use Rattle.std.proofs.lemmas.Fmt.{
 }
 use Rattle.std.proofs.lemmas.Str.{IsUtf8-from_ascii}
 use Rattle.cadf_script.specs.Script.{IsNumber}
-use Rattle.cadf_script.specs.Words.{is_plain}
+use Rattle.cadf_script.specs.Words.{is_plain_number}
 use Rattle.cadf_script.proofs.Cuts.{own}
 
 pub record IsPlain (w : List ℕ) : Type 0 where
@@ -49,7 +49,7 @@ pub record IsPlain (w : List ℕ) : Type 0 where
   pub unsigned : get_or w 0 0 ≢ 43
   pub zero : get_or w 0 0 ≡ 48 → length w ≡ 1
 
-pub plain_facts : (w : List ℕ) → is_plain w ≡ true → IsPlain w
+pub plain_facts : (w : List ℕ) → is_plain_number w ≡ true → IsPlain w
 plain_facts [] h = absurd (true≢false (sym h))
 plain_facts (x ∷ xs) h = record {
   some = omega arith;
@@ -58,7 +58,7 @@ plain_facts (x ∷ xs) h = record {
   zero = grind (arith, h);
 }
 
-plain_from : (w : List ℕ) → IsPlain w → is_plain w ≡ true
+plain_from : (w : List ℕ) → IsPlain w → is_plain_number w ≡ true
 plain_from [] p = absurd (never p.some)
   where
     never : 0 < 0 → ⊥
@@ -86,13 +86,13 @@ decimal_plain n small =
         apart : (x : ℕ) → 48 < x → x ≡ 48 → ⊥
         apart x h e = omega (arith, h, e)
 
-pub not_plain : (w : List ℕ) → is_plain w ≡ false → (n : ℕ) → ¬ IsNumber w n
-not_plain w none n h = true≢false (sym (plain_from (decimal n) (decimal_plain n h.0)) ∙ ap is_plain (sym h.1) ∙ none)
+pub not_plain : (w : List ℕ) → is_plain_number w ≡ false → (n : ℕ) → ¬ IsNumber w n
+not_plain w none n h = true≢false (sym (plain_from (decimal n) (decimal_plain n h.0)) ∙ ap is_plain_number (sym h.1) ∙ none)
 
 pub not_text : (w : List ℕ) → ¬ IsUtf8 w → (n : ℕ) → ¬ IsNumber w n
 not_text w none n h = none (subst IsUtf8 (sym h.1) (IsUtf8-from_ascii (decimal n) (IsAscii-decimal n (omega (arith, h.0)))))
 
-pub is_number : {E : Type 0} (w : List ℕ) (r : Result ℕ E) (n : ℕ) → r ≡ Ok n → is_plain w ≡ true → ParsesUnsigned 32 10 w r → IsNumber w n
+pub is_number : {E : Type 0} (w : List ℕ) (r : Result ℕ E) (n : ℕ) → r ≡ Ok n → is_plain_number w ≡ true → ParsesUnsigned 32 10 w r → IsNumber w n
 is_number {E} w r n e plain parsed =
     let p = plain_facts w plain in
     let ok = parse_plain own {E = E} 32 w (Ok n) (subst (ParsesUnsigned {E = E} 32 10 w) e parsed) p.unsigned in

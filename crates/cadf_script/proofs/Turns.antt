@@ -34,7 +34,7 @@ use Rattle.cadf_rehearsal.specs.declared.turn.Turn.{Turn}
 use Rattle.cadf_rehearsal.specs.declared.turn.Turn.TheVariants.{Learn as Learns, Ask as Asks, Answer as Answers, Send as Sends, Deliver as Delivers}
 use Rattle.cadf_script.specs.declared.line.Command.TheVariants.{Learn, Ask, Answer, Send, Deliver}
 use Rattle.cadf_script.specs.Script.{Command, word_of, command_of, AreWords, IsSiteAndText, IsDocumentOf, IsTurn, IsNoTurn}
-use Rattle.cadf_script.specs.Words.{IsCut, has_blank, IsNoDocument, HasArguments}
+use Rattle.cadf_script.specs.Words.{IsCut, has_blank, SpellsNoDocument, HasArguments}
 use Rattle.cadf_script.proofs.Cuts.{cut_unique, blank_in, decimal_unblank}
 
 word_unblank : (c : Command) → has_blank (word_of c) ≡ false
@@ -91,7 +91,7 @@ turn_here line word rest c (Err f) cut e h = tt
 
 -- ---- what a site learns
 
-pub no_learn_text : (words text : List ℕ) (site : ℕ) → IsSiteAndText words site text → IsNoDocument text
+pub no_learn_text : (words text : List ℕ) (site : ℕ) → IsSiteAndText words site text → SpellsNoDocument text
     → (t : Turn) → command_of t ≡ Learn → ¬ AreWords words t
 no_learn_text words text site at none (Learns s doc) e (other, place, document) =
     none doc (subst (λ x. IsDocumentOf x doc) (same_text other s place) document)
@@ -118,7 +118,7 @@ no_learn_text words text site at none (Delivers m s) e h = other_command e
 
 -- ---- documents
 
-pub no_json : (text : List ℕ) → IsNoJson text → IsNoDocument text
+pub no_json : (text : List ℕ) → IsNoJson text → SpellsNoDocument text
 no_json text none doc (d, (spells, h)) = clash (read text) d (none spells.0) spells.1
   where
     clash : (r : Option Data) (d : Data) → r ≡ None → r ≡ Some d → ⊥
@@ -127,13 +127,13 @@ no_json text none doc (d, (spells, h)) = clash (read text) d (none spells.0) spe
 one_value : (text : List ℕ) (d e : Data) → read text ≡ Some d → read text ≡ Some e → d ≡ e
 one_value text d e h k = cc
 
-pub not_whole : (text : List ℕ) → IsNotWhole text → IsNoDocument text
+pub not_whole : (text : List ℕ) → IsNotWhole text → SpellsNoDocument text
 not_whole text (e, utf8, found, floats) doc (d, (spells, h)) =
     true≢false (sym floats ∙ ap has_float (one_value text e d found spells.1) ∙ spells.2)
 
 pub document_of_json : (text : List ℕ) (json : Data) → SpellsValue text json → (r : Result (Option DocumentParts) AllocError)
     → IfOk r (λ found. MatchOption found ((d : DocumentParts) → ¬ IsDocument json d) (IsDocument json))
-    → IfOk r (λ found. MatchOption found (IsNoDocument text) (IsDocumentOf text))
+    → IfOk r (λ found. MatchOption found (SpellsNoDocument text) (IsDocumentOf text))
 document_of_json text json spells (Ok (Some doc)) h = (json, (spells, h))
 document_of_json text json spells (Ok None) h = λ doc k. h doc (subst (λ x. IsDocument x doc) (one_value text k.0 json k.1.0.1 spells.1) k.1.1)
 document_of_json text json spells (Err f) h = tt

@@ -4,9 +4,7 @@
 --     IsScript bytes turns     the bytes spell these turns
 --     IsFirstBad lines n       the line of that number, from 1, is the first that spells none
 use Rattle.std.specs.Prelude.{◌≡◌, ◌<◌, ◌^◌, ◌==◌, ◌⊎◌, ℕ, suc, List, [], ◌∷◌, ◌++◌, if◌then◌else◌, codes, decimal}
-use Rattle.serde_json.specs.Data.{Data}
-use Rattle.cadf_json.specs.Value.{SpellsValue}
-use Rattle.cadf_event.specs.Document.{DocumentParts, IsDocument}
+pub use Rattle.cadf_event.specs.EventsRead.{IsDocumentOf}
 use Rattle.cadf_event.specs.Parts.{EachPair}
 use Rattle.cadf_rehearsal.specs.declared.turn.Turn.{Turn}
 use Rattle.cadf_rehearsal.specs.declared.turn.Turn.TheVariants.{Learn, Ask, Answer, Send, Deliver}
@@ -44,10 +42,6 @@ AreTwo words m n = (m < 10 ^ 9) × (n < 10 ^ 9) × (words ≡ decimal m ++ 32 �
 abbrev pub IsSiteAndText : List ℕ → ℕ → List ℕ → Type 0
 IsSiteAndText words n text = (n < 10 ^ 9) × (words ≡ decimal n ++ 32 ∷ text)
 
--- the text spells a value that is this document
-abbrev pub IsDocumentOf : List ℕ → DocumentParts → Type 0
-IsDocumentOf text document = (d : Data) × (SpellsValue text d × IsDocument d document)
-
 -- what stands behind the first word and its blank
 abbrev pub AreWords : List ℕ → Turn → Type 0
 AreWords words (Learn site document) = (text : List ℕ) × IsSiteAndText words site text × IsDocumentOf text document
@@ -66,14 +60,14 @@ abbrev pub IsNoTurn : List ℕ → Type 0
 IsNoTurn line = (t : Turn) → ¬ IsTurn line t
 
 -- the byte stands before the first of the lines
-abbrev pub put_first : ℕ → List (List ℕ) → List (List ℕ)
-put_first x [] = (x ∷ []) ∷ []
-put_first x (l ∷ ls) = (x ∷ l) ∷ ls
+abbrev pub put_into_first : ℕ → List (List ℕ) → List (List ℕ)
+put_into_first x [] = (x ∷ []) ∷ []
+put_into_first x (l ∷ ls) = (x ∷ l) ∷ ls
 
 -- each line ends with a line feed, which the last one may lack
 unfoldable pub lines_of : List ℕ → List (List ℕ)
 lines_of [] = []
-lines_of (x ∷ xs) = if x == 10 then [] ∷ lines_of xs else put_first x (lines_of xs)
+lines_of (x ∷ xs) = if x == 10 then [] ∷ lines_of xs else put_into_first x (lines_of xs)
 
 -- ---- scripts
 

@@ -14,12 +14,12 @@ pub record IsCut (bytes word rest : List ℕ) : Type 0 where
   pub first : has_blank word ≡ false
 
 -- one to nine bytes with no sign in front, and a zero in front only by itself
-abbrev pub is_plain : List ℕ → Bool
-is_plain [] = false
-is_plain (x ∷ xs) = (not (x == 43) && (not (x == 48) || length xs == 0)) && nat_lt (length xs) 9
+abbrev pub is_plain_number : List ℕ → Bool
+is_plain_number [] = false
+is_plain_number (x ∷ xs) = (not (x == 43) && (not (x == 48) || length xs == 0)) && nat_lt (length xs) 9
 
-abbrev pub IsNoDocument : List ℕ → Type 0
-IsNoDocument text = (document : DocumentParts) → ¬ IsDocumentOf text document
+abbrev pub SpellsNoDocument : List ℕ → Type 0
+SpellsNoDocument text = (document : DocumentParts) → ¬ IsDocumentOf text document
 
 -- the turn of that command with these words, or that there is none
 abbrev pub HasArguments : Command → List ℕ → Option Turn → Type 0

@@ -2,7 +2,7 @@
 ghost use Rattle.std.specs.Prelude.{◌≡◌, ◌≢◌, MatchOption, IfOk};
 ghost use Rattle.cadf_event.specs.Document.{DocumentParts, IsDocument};
 ghost use Rattle.cadf_script.specs.Script.{Command as CommandOf, word_of, command_of, IsDocumentOf, AreWords, IsTurn, IsNoTurn};
-ghost use Rattle.cadf_script.specs.Words.{IsNoDocument, HasArguments};
+ghost use Rattle.cadf_script.specs.Words.{SpellsNoDocument, HasArguments};
 
 use crate::words::{cut_at_blank, number, site_and_text, two_numbers};
 use cadf_event::{Document, DocumentFault};
@@ -57,7 +57,7 @@ fn document(alloc: Global, json: &Json) -> Result<Option<Document>, Memory>
 
 /// The document that the text spells.
 fn document_of(alloc: Global, text: &[u8]) -> Result<Option<Document>, Memory>
-    ensures { IfOk result (λ found. MatchOption found (IsNoDocument text.now) (IsDocumentOf text.now)) }
+    ensures { IfOk result (λ found. MatchOption found (SpellsNoDocument text.now) (IsDocumentOf text.now)) }
 {
     match Json::read(alloc, text) {
         Ok(json) => document(alloc, &json),

@@ -2,7 +2,7 @@
 ghost use Rattle.std.specs.Prelude.{◌≡◌, ◌==◌, ◌≤◌, length, ℕ, List, MatchOption, false};
 ghost use Rattle.std.specs.List.{position_or_len};
 ghost use Rattle.cadf_script.specs.Script.{IsNumber, AreTwo, IsSiteAndText};
-ghost use Rattle.cadf_script.specs.Words.{IsCut, has_blank, is_plain as is_plain_word};
+ghost use Rattle.cadf_script.specs.Words.{IsCut, has_blank, is_plain_number as is_plain_word};
 
 /// How many bytes stand before the first of that value.
 #[tactic(auto, using(std::proofs::lemmas::List::Sums::position_or_len_is))]

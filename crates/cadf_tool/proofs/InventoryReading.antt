@@ -8,7 +8,7 @@ use Rattle.cadf_frame.specs.declared.fault.FileFault.{FileFault}
 use Rattle.cadf_frame.specs.declared.fault.FileFault.TheVariants.{Version, LogLine, Line, Digest, Truncated, Trailing, TooLarge, ReadFault, Memory}
 use Rattle.cadf_frame.proofs.ReadingLemmas as reading
 use Rattle.cadf_file.specs.InventoryReads.{ReadsInventory}
-use Rattle.cadf_file.specs.InventoryVerdict.{inventory_form, noted_of, inventory_decided, inventory_verdict}
+use Rattle.cadf_file.specs.InventoryVerdict.{inventory_form, noted_or_fault, inventory_decided, inventory_verdict}
 use Rattle.cadf_file.proofs.InventoryVerdictLemmas.{accepts-inventories}
 use Rattle.cadf_tool.specs.declared.TheConstants.{FILE_LIMIT}
 use Rattle.cadf_tool.specs.InputFault.{of_file}
@@ -28,7 +28,7 @@ same_fault e f is = cc
 
 refused_verdict : (limit : ℕ) (failed : Bool) (bytes : List ℕ) (f : FileFault) → inventory_decided limit bytes ≡ Some f
     → inventory_verdict limit failed bytes ≡ Err f
-refused_verdict limit failed bytes f d = ap noted_of (reading.refused_verdict inventory_form limit failed bytes f d)
+refused_verdict limit failed bytes f d = ap noted_or_fault (reading.refused_verdict inventory_form limit failed bytes f d)
 
 module _ (t : Turn) where
   abbrev Reads : Result Noted FileFault → Type 0

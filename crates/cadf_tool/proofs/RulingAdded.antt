@@ -40,7 +40,8 @@ use Rattle.std.proofs.Common.{
 use Rattle.std.specs.Prelude.{IsTrue, is_some}
 use Rattle.std.specs.List.{filter, filter_map, cons_option}
 use Rattle.cadf_join.specs.Sets as set
-use Rattle.cadf_join.specs.Sets.{Listed, rising, listed-rising}
+use Rattle.cadf_join.specs.Sets.{Listed, rising}
+use Rattle.cadf_join.specs.laws.Rising.{listed-rising}
 use Rattle.cadf_join.specs.Contents.{Text, Texts, Contents, Has, IsWithin}
 use Rattle.cadf_join.specs.laws.Sets as laws
 use Rattle.cadf_join.specs.laws.Contents.{texts_total, texts_same}

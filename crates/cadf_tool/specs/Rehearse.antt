@@ -22,12 +22,12 @@ use Rattle.cadf_tool.specs.Inputs.{Seen}
 use Rattle.cadf_tool.specs.Run.{Reader}
 
 -- the bytes spell these turns, or the line of that number is the first that spells none
-abbrev pub IsJudged : List ℕ → Result (List Turn) ℕ → Type 0
-IsJudged bytes (Ok turns) = IsScript bytes turns
-IsJudged bytes (Err line) = IsFirstBad (lines_of bytes) line
+abbrev pub IsScriptJudged : List ℕ → Result (List Turn) ℕ → Type 0
+IsScriptJudged bytes (Ok turns) = IsScript bytes turns
+IsScriptJudged bytes (Err line) = IsFirstBad (lines_of bytes) line
 
 abbrev pub IsScriptInput : List ℕ → Result (List Turn) ℕ → Type 0
-IsScriptInput bytes judged = (length bytes ≤ FILE_LIMIT) × IsJudged bytes judged
+IsScriptInput bytes judged = (length bytes ≤ FILE_LIMIT) × IsScriptJudged bytes judged
 
 -- one byte more than may be was read, or a read failed
 abbrev pub RefusesScript : Seen → Seen → LoadFault → Type 0

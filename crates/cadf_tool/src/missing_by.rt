@@ -21,7 +21,8 @@ fn beyond(from: &Replica, inventory: &Inventory) -> Result<Replica, ToolFault>
     match from.missing_by(inventory) {
         Ok(part) => Ok(part),
         Err(ReplicaFault::OtherLog) => Err(ToolFault::OtherLog(2)),
-        Err(_) => Err(ToolFault::Memory),
+        Err(ReplicaFault::Ungrounded) => unreachable!(),
+        Err(ReplicaFault::Memory) => Err(ToolFault::Memory),
     }
 }
 

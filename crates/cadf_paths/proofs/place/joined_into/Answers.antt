@@ -5,7 +5,7 @@ use Rattle.std.specs.Ordering.{eq_by_cmp}
 use Rattle.std.specs.declared.cmp.Ordering.TheVariants.{Less}
 use Rattle.cadf_join.specs.Contents.{texts_cmp}
 use Rattle.cadf_join.specs.Prefixes.{texts_at}
-use Rattle.cadf_paths.specs.Flat.{IsRun, run_of, Moves}
+use Rattle.cadf_paths.specs.Flat.{IsRunOf, run_of, Moves}
 use Rattle.cadf_paths.specs.Merge.{sorted_merge}
 use Rattle.cadf_paths.proofs.Merges.{alone}
 use Rattle.cadf_paths.proofs.Placed.{all_append, back_left, back_rises, front_runs, held_on, kept_on, new_on}
@@ -34,10 +34,10 @@ loop-cursor-preserved-in-Continue-branch-4 c =
     let before = front_runs old now inv.kept rest inv.left n _ _ c.split_at.ensures.front c.split_at.ensures.back c.loop-cursor.all.items inv.runs in
     record {
       kept = kept_on old now c.stored.new.texts inv.kept c.in_ok-list.ensures.kept;
-      runs = subst (AllByRecursion (IsRun c.stored.new.texts)) (sym c.in_ok-push.ensures.items)
-          (all_more (IsRun c.stored.new.texts) c.extend_from_slice.new.self.items c.in_ok-list.list
+      runs = subst (AllByRecursion (IsRunOf c.stored.new.texts)) (sym c.in_ok-push.ensures.items)
+          (all_more (IsRunOf c.stored.new.texts) c.extend_from_slice.new.self.items c.in_ok-list.list
           (runs_fit now c.stored.new.texts c.in_ok-list.ensures.kept c.extend_from_slice.new.self.items
-          (subst (AllByRecursion (IsRun now)) (sym c.in_ok-extend_from_slice.ensures.items) before))
+          (subst (AllByRecursion (IsRunOf now)) (sym c.in_ok-extend_from_slice.ensures.items) before))
           c.in_ok-list.ensures.run);
       left = back_left old now inv.kept rest inv.left n _ _ c.split_at.ensures.front c.split_at.ensures.back;
       ours = back_rises old now inv.kept rest inv.left n _ _ c.split_at.ensures.front c.split_at.ensures.back inv.ours;
@@ -66,7 +66,7 @@ loop-cursor-preserved c =
     let held = subst (λ ls. (n < length ls) × (eq_by_cmp texts_cmp (get_or ls n []) y ≡ true)) view (c.seek-at.ensures.held c.if-not-held.false) in
     record {
       kept = inv.kept;
-      runs = subst (AllByRecursion (IsRun now)) (sym c.in_ok-extend_from_slice.ensures.items)
+      runs = subst (AllByRecursion (IsRunOf now)) (sym c.in_ok-extend_from_slice.ensures.items)
           (front_runs old now inv.kept rest inv.left n _ _ c.split_at.ensures.front c.split_at.ensures.back c.loop-cursor.all.items inv.runs);
       left = back_left old now inv.kept rest inv.left n _ _ c.split_at.ensures.front c.split_at.ensures.back;
       ours = back_rises old now inv.kept rest inv.left n _ _ c.split_at.ensures.front c.split_at.ensures.back inv.ours;
@@ -80,8 +80,8 @@ loop-cursor-preserved c =
 pub returns-clause-runs : goal.returns-clause-runs
 returns-clause-runs c =
     let inv = c.loop-cursor.invariant in
-    subst (AllByRecursion (IsRun c.loop-cursor.texts)) (sym c.in_ok-extend_from_slice-2.ensures.items)
-    (all_append (IsRun c.loop-cursor.texts) c.loop-cursor.all.items c.loop-cursor.rest.now inv.runs
+    subst (AllByRecursion (IsRunOf c.loop-cursor.texts)) (sym c.in_ok-extend_from_slice-2.ensures.items)
+    (all_append (IsRunOf c.loop-cursor.texts) c.loop-cursor.all.items c.loop-cursor.rest.now inv.runs
     (runs_fit c.args.texts.now c.loop-cursor.texts inv.kept c.loop-cursor.rest.now inv.left))
 
 pub returns-clause-merged : goal.returns-clause-merged

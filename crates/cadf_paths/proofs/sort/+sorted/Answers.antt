@@ -4,7 +4,7 @@ use Rattle.cadf_join.specs.Contents.{texts_cmp}
 use Rattle.cadf_join.specs.Sets as set
 use Rattle.cadf_paths.specs.Flat.{run_of}
 use Rattle.cadf_paths.specs.Merge.{sorted_merge}
-use Rattle.cadf_paths.proofs.Outcome.{if_ok_then}
+use Rattle.cadf_join.proofs.Outcome.{if_ok_then}
 use Rattle.cadf_paths.proofs.Sorts.{halves_rise, halves_are_all}
 use Rattle.cadf_paths.proofs.sort.+sorted.Goals as goal
 

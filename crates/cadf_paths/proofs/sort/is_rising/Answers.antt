@@ -1,7 +1,7 @@
 use Rattle.std.proofs.Common.{ap, sym, subst, ◌∙◌, arith, length}
 use Rattle.std.proofs.lemmas.List.{length-drop}
 use Rattle.std.specs.List.{AllByRecursion}
-use Rattle.cadf_paths.specs.Flat.{IsRun, run_of}
+use Rattle.cadf_paths.specs.Flat.{IsRunOf, run_of}
 use Rattle.cadf_paths.proofs.Narrowed.{all_of_last}
 use Rattle.cadf_paths.proofs.Sorts.{first_rises, one_rises}
 use Rattle.cadf_paths.proofs.sort.is_rising.Goals as goal
@@ -14,8 +14,8 @@ loop-rest-preserved c =
     record {
       rises = λ s. c.loop-rest.invariant.rises (first_rises (run_of c.args.texts.now) rest c.split_at.result.1.now _ _ c.split_at.ensures.back
           c.loop-rest-test.true (sym c.run_cmp.ensures ∙ c.in-Less.is) s);
-      runs = subst (AllByRecursion (IsRun c.args.texts.now)) (sym c.split_at.ensures.back)
-          (all_of_last (IsRun c.args.texts.now) rest 1 c.loop-rest.invariant.runs);
+      runs = subst (AllByRecursion (IsRunOf c.args.texts.now)) (sym c.split_at.ensures.back)
+          (all_of_last (IsRunOf c.args.texts.now) rest 1 c.loop-rest.invariant.runs);
       within = omega (arith, within, shorter);
     }
 

@@ -3,7 +3,7 @@ use Rattle.std.proofs.lemmas.Result.{err_from_is_err_and}
 use Rattle.std.proofs.lemmas.List.{take_all}
 use Rattle.cadf_replica.specs.Digest.{atom_digest}
 use Rattle.cadf_rehearsal.specs.Schedule.{after, turned}
-use Rattle.cadf_rehearsal.specs.Federation.{world_of, IsDue, at_or, log_at}
+use Rattle.cadf_rehearsal.specs.Federation.{world_of, IsFaultDue, at_or, log_at}
 use Rattle.cadf_rehearsal.proofs.Played.{after_more, after_refused}
 use Rattle.cadf_rehearsal.proofs.Seen.{left_is}
 use Rattle.cadf_rehearsal.proofs.play.rehearse.Goals as goal
@@ -31,7 +31,7 @@ returns-in_err-take-clause-err c =
     let i = c.loop-i.i in
     let t = c.index-turns-i.result in
     let lt : i < length c.args.turns.now = omega arith in
-    let due : IsDue c.in_err-take.field-0.0 (after atom_digest c.args.log.now c.args.sites (reverse c.args.turns.now)) =
+    let due : IsFaultDue c.in_err-take.field-0.0 (after atom_digest c.args.log.now c.args.sites (reverse c.args.turns.now)) =
     elim c.in_err-take.ensures.err [
       | inl memory ↦ inl memory
       | inr is ↦ inr (after_refused atom_digest c.args.log.now c.args.sites c.args.turns.now i t (world_of f) _ lt c.index-turns-i.is kept.so_far

@@ -1,4 +1,4 @@
-use Rattle.std.proofs.Common.{◌+◌, ◌<◌, arith, sym, ◌∙◌, map}
+use Rattle.std.proofs.Common.{arith, sym, ◌∙◌, map}
 use Rattle.cadf_paths.proofs.Halving.{all_before}
 use Rattle.cadf_paths.proofs.part.Part.bound.Goals as goal
 

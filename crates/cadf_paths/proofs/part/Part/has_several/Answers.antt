@@ -4,7 +4,7 @@ use Rattle.std.specs.Option.{option_copied}
 use Rattle.cadf_join.specs.laws.Contents.{text_total, text_same}
 use Rattle.cadf_join.specs.Maps.{heads}
 use Rattle.cadf_join.specs.Sets as set
-use Rattle.cadf_join.specs.Sets.{rising_is_sorted}
+use Rattle.cadf_join.specs.laws.Rising.{rising_is_sorted}
 use Rattle.cadf_paths.proofs.Firsts.{several_found, none_found, copied_some}
 use Rattle.cadf_paths.proofs.part.Part.has_several.Goals as goal
 

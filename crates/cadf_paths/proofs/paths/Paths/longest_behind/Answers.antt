@@ -4,7 +4,7 @@ use Rattle.cadf_join.specs.laws.Contents.{texts_total, texts_same}
 use Rattle.cadf_join.specs.Longest.{longest_of}
 use Rattle.cadf_join.specs.Prefixes.{texts_at}
 use Rattle.cadf_join.specs.Sets as set
-use Rattle.cadf_join.specs.Sets.{rising-from_list}
+use Rattle.cadf_join.specs.laws.Rising.{rising-from_list}
 use Rattle.cadf_paths.specs.Flat.{strip}
 use Rattle.cadf_paths.proofs.Behind.{behind_strip}
 use Rattle.cadf_paths.proofs.paths.Paths.longest_behind.Goals as goal

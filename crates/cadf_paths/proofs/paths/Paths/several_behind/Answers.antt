@@ -9,7 +9,7 @@ use Rattle.cadf_join.specs.Maps.{heads}
 use Rattle.cadf_join.specs.Prefixes.{saturated, texts_at}
 use Rattle.cadf_join.specs.Several.{several}
 use Rattle.cadf_join.specs.Sets as set
-use Rattle.cadf_join.specs.Sets.{rising_is_sorted}
+use Rattle.cadf_join.specs.laws.Rising.{rising_is_sorted}
 use Rattle.cadf_paths.proofs.Behind.{part_is, rests_rise, section_of}
 use Rattle.cadf_paths.proofs.Firsts.{all_after, next_one, next_none}
 use Rattle.cadf_paths.proofs.Several.{has_two, one_more, no_more}

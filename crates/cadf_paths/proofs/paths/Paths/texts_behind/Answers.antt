@@ -7,7 +7,7 @@ use Rattle.cadf_join.specs.laws.Contents.{text_total, text_same}
 use Rattle.cadf_join.specs.Maps.{heads}
 use Rattle.cadf_join.specs.Prefixes.{texts_at}
 use Rattle.cadf_join.specs.Sets as set
-use Rattle.cadf_join.specs.Sets.{rising_is_sorted}
+use Rattle.cadf_join.specs.laws.Rising.{rising_is_sorted}
 use Rattle.cadf_paths.proofs.Behind.{part_is}
 use Rattle.cadf_paths.proofs.Firsts.{all_after, next_one, next_none}
 use Rattle.cadf_paths.proofs.Spans.{map_more}

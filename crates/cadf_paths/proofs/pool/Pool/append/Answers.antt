@@ -1,6 +1,6 @@
 use Rattle.std.proofs.Common.{◌∙◌, ◌++◌, ap, string_bytes}
 use Rattle.cadf_join.specs.Prefixes.{texts_at}
-use Rattle.cadf_paths.proofs.Outcome.{on_ok_then}
+use Rattle.cadf_join.proofs.Outcome.{on_ok_then}
 use Rattle.cadf_paths.proofs.Runs.{rest_held}
 use Rattle.cadf_paths.proofs.pool.Pool.append.Goals as goal
 

@@ -1,10 +1,13 @@
-use Rattle.std.proofs.Common.{◌<◌, ◌≤◌, length, Ok, ap, sym, ◌∙◌, inr, arith}
+use Rattle.std.proofs.Common.{◌<◌, ◌≤◌, length, Ok, ap, sym, subst, ◌∙◌, inr, arith}
+use Rattle.std.specs.Prelude.{◌≢◌}
 use Rattle.cadf_join.specs.Sets as set
 use Rattle.cadf_replica.specs.Missing.{missing_by}
 use Rattle.cadf_replica.specs.Digest.{atom_digest}
+use Rattle.cadf_replica.specs.Refusals.{IsLogFault}
 use Rattle.cadf_rehearsal.specs.Schedule as schedule
 use Rattle.cadf_rehearsal.specs.Federation.{world_of}
-use Rattle.cadf_rehearsal.proofs.Turns.{at_site, at_message, site_log, kept_later}
+use Rattle.cadf_rehearsal.specs.Federation.{log_of_message}
+use Rattle.cadf_rehearsal.proofs.Turns.{at_site, at_message, site_log, message_log, kept_later}
 use Rattle.cadf_rehearsal.proofs.Seen.{at_or_read, seen_posted}
 use Rattle.cadf_rehearsal.specs.Federation.{message_of}
 use Rattle.cadf_rehearsal.proofs.Turns.{not_answered}
@@ -48,3 +51,15 @@ returns-clause-later c =
     let same = site_log f c.args.site c.index-in-Asked.result.now c.requires there c.index-in-Asked.ensures in
     kept_later f c.post.new.self _ c.requires c.post.ensures.rest.1 c.post.ensures.rest.0 c.in_ok-post.ensures.ok
     (ap (λ h. h.log) c.in-Ok.ensures.ok.1 ∙ same)
+
+-- the site and the asker are of one log
+pub unreachable-requires : goal.unreachable-requires
+unreachable-requires c =
+    let f = c.args.self.now in
+    let there : c.args.site < length f.sites.items = omega arith in
+    let pos : 0 < c.args.message = omega arith in
+    let le : c.args.message ≤ length f.messages.items = omega arith in
+    let own = site_log f c.args.site c.index-in-Asked.result.now c.requires there c.index-in-Asked.ensures in
+    let asked = message_log f c.args.message c.index.result.now c.requires pos le c.index.ensures in
+    let other : c.index-in-Asked.result.now.log ≢ c.in-Asked.held.log = subst (IsLogFault _ _) c.in-Err-OtherLog.field-0-is c.in-Err-OtherLog.ensures.err in
+    other (own ∙ sym asked ∙ ap log_of_message c.in-Asked.is)

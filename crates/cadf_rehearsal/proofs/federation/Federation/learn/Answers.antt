@@ -3,7 +3,7 @@ use Rattle.cadf_rehearsal.specs.Schedule as schedule
 use Rattle.cadf_rehearsal.specs.Federation.{world_of}
 use Rattle.cadf_rehearsal.specs.declared.fault.RehearseFault.TheVariants as fault
 use Rattle.cadf_rehearsal.proofs.Turns.{at_site, site_log, site_takes, site_later, of_log, of_other_log}
-use Rattle.cadf_replica.specs.Refusals.{IsOfLog, IsDocumentFault}
+use Rattle.cadf_replica.specs.Refusals.{IsOfLog, IsNamedLogFault}
 use Rattle.cadf_replica.specs.Contributions.{document_atoms}
 use Rattle.cadf_rehearsal.proofs.federation.Federation.learn.Goals as goal
 
@@ -32,7 +32,7 @@ returns-in-Err-OtherLog-clause-err c =
     let there : c.args.site < length f.sites.items = omega arith in
     let same = site_log f c.args.site c.index_mut.result.now c.requires there c.index_mut.ensures.value in
     let other = subst (λ log. ¬ IsOfLog log c.args.document.now.log) same
-    (subst (IsDocumentFault c.index_mut.result.now.log c.args.document.now.log) c.in-Err-OtherLog.field-0-is c.in-Err-OtherLog.ensures.err) in
+    (subst (IsNamedLogFault c.index_mut.result.now.log c.args.document.now.log) c.in-Err-OtherLog.field-0-is c.in-Err-OtherLog.ensures.err) in
     inr (at_site f c.args.site c.args.number _ _ there
     (ap (λ t. cond t (Ok (schedule.adds (world_of f) c.args.site (document_atoms c.args.document.now))) (Err (fault.OtherLog c.args.number)))
     (of_other_log f.log c.args.document.now.log other)))

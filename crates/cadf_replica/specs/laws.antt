@@ -1,0 +1,3 @@
+-- Laws that ghost members cite.
+pub mod CarrierOrder
+pub mod Inventory
