@@ -298,7 +298,9 @@ impl Node {
         or_equal: bool,
         path: &mut Vec<String>,
     ) -> Result<bool, Memory>
-        ensures { IfOk result (λ found. Follows (option_map (λ c. text.now ∷ c) (find (is_from (chain_texts given.now) or_equal) (set.rising self.now))) found path.old.items path.new.items) }
+        ensures { IfOk result (λ found. Follows
+            (option_map (λ c. text.now ∷ c) (find (is_from (chain_texts given.now) or_equal) (set.rising self.now)))
+            found path.old.items path.new.items) }
     {
         path.push(String::from_str(alloc, text)?)?;
         if self.seek(alloc, given, or_equal, path)? {

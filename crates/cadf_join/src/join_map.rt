@@ -2,7 +2,7 @@
 ghost use Rattle.std.specs.Prelude.{◌≡◌, OnOk, OnErr, IfSome, is_some, IsSome, length, not, map, string_bytes};
 ghost use Rattle.std.specs.Option.{option_copied};
 ghost use Rattle.std.specs.FinMap as fin;
-ghost use Rattle.std.specs.Prelude.{IfOk, IsTrue, ◌↔◌, Some};
+ghost use Rattle.std.specs.Prelude.{IfOk, IsTrue, ◌↔◌, Some, None, Ok, true, false};
 ghost use Rattle.cadf_join.specs.Sets as set;
 ghost use Rattle.cadf_join.specs.Contents.{Text, IsBetween, under, section, next_after};
 ghost use Rattle.cadf_join.specs.Maps.{contents_at, held, heads, HasKeyed, NoneIsEmpty};
@@ -57,31 +57,56 @@ impl<V: Join> JoinMap<V> {
         self.parts.get(key)
     }
 
-    /// Joins a value into that of the key. An empty value changes nothing. After a refused growth the other keys are as before and this one lies between.
+    /// Joins a value into that of the key. An empty value changes nothing.
+    /// After a refused growth the other keys are as before and this one lies between.
     pub fn join_at(&mut self, key: &str, value: &V) -> Result<(), Memory>
         ensures ok { OnOk result (contents_at V.contents self.new ≡ set.union (contents_at V.contents self.old) (under key.now (V.contents value.now))) }
-        ensures err { OnErr result (IsBetween (contents_at V.contents self.old) (contents_at V.contents self.new) (set.union (contents_at V.contents self.old) (under key.now (V.contents value.now)))) }
+        ensures err { OnErr result (IsBetween (contents_at V.contents self.old) (contents_at V.contents self.new)
+            (set.union (contents_at V.contents self.old) (under key.now (V.contents value.now)))) }
     {
-        if value.is_empty() {
+        if self.join_held(key, value)? {
             return Ok(());
-        }
-        if let Some(part) = self.parts.get_mut(key) {
-            return part.join(value);
         }
         let part = value.copy()?;
-        self.put(key, part)
+        self.put_new(key, part)
     }
 
-    /// Joins a value into that of the key, and keeps it as it is where there was none, so that nothing is copied. An empty value changes nothing. After a refused growth the other keys are as before and this one lies between.
+    /// Joins a value into that of the key, and keeps it as it is where there was none, so that nothing is copied. An empty value changes nothing.
+    /// After a refused growth the other keys are as before and this one lies between.
     pub fn take_at(&mut self, key: &str, value: V) -> Result<(), Memory>
         ensures ok { OnOk result (contents_at V.contents self.new ≡ set.union (contents_at V.contents self.old) (under key.now (V.contents value))) }
-        ensures err { OnErr result (IsBetween (contents_at V.contents self.old) (contents_at V.contents self.new) (set.union (contents_at V.contents self.old) (under key.now (V.contents value)))) }
+        ensures err { OnErr result (IsBetween (contents_at V.contents self.old) (contents_at V.contents self.new)
+            (set.union (contents_at V.contents self.old) (under key.now (V.contents value)))) }
+    {
+        if self.join_held(key, &value)? {
+            return Ok(());
+        }
+        self.put_new(key, value)
+    }
+
+    /// Joins a value into that of the key, where the key is held, and tells whether it is.
+    fn join_held(&mut self, key: &str, value: &V) -> Result<bool, Memory>
+        ensures joined { result ≡ Ok true
+            → contents_at V.contents self.new ≡ set.union (contents_at V.contents self.old) (under key.now (V.contents value.now)) }
+        ensures none { result ≡ Ok false → (self.new ≡ self.old) × (fin.get self.old key.now ≡ None) }
+        ensures err { OnErr result (IsBetween (contents_at V.contents self.old) (contents_at V.contents self.new)
+            (set.union (contents_at V.contents self.old) (under key.now (V.contents value.now)))) }
+    {
+        let Some(part) = self.parts.get_mut(key) else {
+            return Ok(false);
+        };
+        part.join(value)?;
+        Ok(true)
+    }
+
+    /// Puts a value at a key that is not held. An empty one changes nothing.
+    fn put_new(&mut self, key: &str, value: V) -> Result<(), Memory>
+        requires { fin.get self.old key.now ≡ None }
+        ensures ok { OnOk result (contents_at V.contents self.new ≡ set.union (contents_at V.contents self.old) (under key.now (V.contents value))) }
+        ensures err { OnErr result (self.new ≡ self.old) }
     {
         if value.is_empty() {
             return Ok(());
-        }
-        if let Some(part) = self.parts.get_mut(key) {
-            return part.join(&value);
         }
         self.put(key, value)
     }

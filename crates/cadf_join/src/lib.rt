@@ -27,7 +27,8 @@ pub type Memory = AllocError;
 
 /// A set of lists of texts that only grows. Values join in any order, grouping and repetition with the same outcome.
 ///
-/// A call that answers `Memory` was refused a growth: what it was to change lies between what it was and what it was to be, and the same call again may succeed.
+/// A call that answers `Memory` was refused a growth: what it was to change lies between what it was and what it was to be,
+/// and the same call again may succeed.
 pub trait Join: Drop {
     /// The lists that a value holds.
     ghost contents: { Self → Contents };
@@ -43,7 +44,8 @@ pub trait Join: Drop {
     /// The least value that holds what `other` lacks, or `None` where it lacks nothing.
     fn missing_from(&self, other: &Self) -> Result<Option<Self>, Memory>
         ensures some { IfOk result (λ part. is_some part ≡ not (set.is_subset (contents self.now) (contents other.now))) }
-        ensures least { IfOk result (λ part. IfSome part (λ v. IsLeastWith is_contents (set.difference (contents self.now) (contents other.now)) (contents v))) };
+        ensures least { IfOk result (λ part. IfSome part (λ v. IsLeastWith is_contents
+            (set.difference (contents self.now) (contents other.now)) (contents v))) };
 
     /// A value that holds the same.
     fn copy(&self) -> Result<Self, Memory>

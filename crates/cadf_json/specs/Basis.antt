@@ -4,6 +4,6 @@ use Rattle.serde_json.specs.View.{view}
 use Rattle.cadf_json.specs.declared.view.Basis.{Basis}
 use Rattle.cadf_json.specs.declared.view.Basis.TheVariants.{Owned, Plain}
 
-abbrev pub seen : Basis → Data
-seen (Owned v) = view v.now
-seen (Plain p) = p
+abbrev pub basis_data : Basis → Data
+basis_data (Owned v) = view v.now
+basis_data (Plain p) = p

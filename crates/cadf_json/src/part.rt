@@ -19,6 +19,9 @@ use json::{Value, Writer, to_vec};
 use std::alloc::Global;
 use std::marker::Model;
 
+/// Most bodies of events are shorter: their texts are spelled without growing, and then held at their length.
+const ORDINARY: usize = 1000;
+
 /// A part of a `Tree`.
 #[derive(Drop)]
 pub(crate) struct Part<'v, 'a> {
@@ -156,9 +159,9 @@ impl<'v, 'a> Part<'v, 'a> {
         ensures { IfOk result (λ s. string_bytes s
             ≡ text_of (object_of (replaced name.now (text_value text.now) (without (texts_of left_out.now) (members_in self.now))))) }
     {
-        let mut writer = Writer::new(Vec::new(alloc));
+        let mut writer = Writer::new(Vec::with_capacity(alloc, ORDINARY)?);
         write_object(&mut writer, self.value, left_out, name, text)?;
-        finished(writer)
+        String::from_str(alloc, finished(writer)?.as_str())
     }
 
     /// Every part is a value: an empty call that tells so.

@@ -35,16 +35,16 @@ pub struct View<'v, 'a> {
 impl<'v, 'a> Model for View<'v, 'a> {
     ghost use Rattle.serde_json.specs.Data.{Data};
     ghost use Rattle.cadf_json.specs.Coding.{data_code};
-    ghost use Rattle.cadf_json.specs.Basis.{seen};
+    ghost use Rattle.cadf_json.specs.Basis.{basis_data};
     ghost use Rattle.cadf_json.specs.Value.{IsValue};
 
     ghost Value = { Data };
 
     ghost coded = { data_code };
 
-    ghost view = { λ w. seen w.basis };
+    ghost view = { λ w. basis_data w.basis };
 
-    ghost invariant = { λ w. IsValue (seen w.basis) };
+    ghost invariant = { λ w. IsValue (basis_data w.basis) };
 }
 
 impl<'v, 'a> View<'v, 'a> {

@@ -62,7 +62,8 @@ impl<'a> Part<'a> {
         self.lists.len()
     }
 
-    /// Where the lists begin that begin with the prefix, or, with those passed, the lists above them. The last list is asked first; else it is found by halving.
+    /// Where the lists begin that begin with the prefix, or, with those passed, the lists above them.
+    /// The last list is asked first; else it is found by halving.
     pub fn bound<W: Word>(&self, prefix: &[W], passed: bool) -> usize
         requires { IsStrictlySortedBy texts_cmp self.now }
         ensures within { result ≤ length self.now }

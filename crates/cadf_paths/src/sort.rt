@@ -35,7 +35,8 @@ fn merged(alloc: Global, texts: &Pool, a: &[Span], b: &[Span]) -> Result<Vec<Spa
     requires ours { AllByRecursion (IsRunOf texts.now) a.now }
     requires theirs { AllByRecursion (IsRunOf texts.now) b.now }
     ensures runs { IfOk result (λ all. AllByRecursion (IsRunOf texts.now) all.items) }
-    ensures merged { IfOk result (λ all. map (run_of texts.now) all.items ≡ sorted_merge texts_cmp true (map (run_of texts.now) a.now) (map (run_of texts.now) b.now)) }
+    ensures merged { IfOk result (λ all. map (run_of texts.now) all.items
+        ≡ sorted_merge texts_cmp true (map (run_of texts.now) a.now) (map (run_of texts.now) b.now)) }
 {
     let mut all = Vec::new(alloc);
     let mut ours = a;

@@ -50,7 +50,8 @@ members-preserved g c =
     let empty = view-Array c.new.result ∙ ap (λ vs. json.array (items_view vs)) c.new.ensures.items in
     let put_there = c.in_ok-put_member-2.ensures.named ∙ ap (λ x. put x (data_in (value_view (Array c.new.result))) found) same
     ∙ ap (λ j. put name (data_in j) found) empty in
-    let so_far = subst (λ b. Around g.T.TakesItems.took c.args.taker.now l.taker name p c.args.reader.now l.reader found b) c.if-taken-2.false l.invariant.0 in (
+    let so_far = subst (λ b. Around g.T.TakesItems.took c.args.taker.now l.taker name p c.args.reader.now l.reader found b)
+    c.if-taken-2.false l.invariant.0 in (
       subst (λ ms. Around g.T.TakesItems.took c.args.taker.now c.pass_list.new.taker name p c.args.reader.now r ms true) (sym put_there)
           (around_list g.T.TakesItems.took name p c.args.reader.now c.args.taker.now l.taker c.pass_list.new.taker l.reader s r found so_far named done.ok
           less),
