@@ -1,5 +1,5 @@
 //! A place in a tree of prefixes.
-ghost use Rattle.std.specs.Prelude.{◌≡◌, ◌++◌, [], ◌∷◌, ◌↔◌, OnOk, OnErr, IfOk, IfErr, IsTrue, length, not};
+ghost use Rattle.std.specs.Prelude.{◌≡◌, ◌++◌, [], ◌∷◌, ◌↔◌, OnOk, OnErr, IfOk, IfErr, IsTrue, length, not, map};
 ghost use Rattle.cadf_join.specs.Sets as set;
 ghost use Rattle.cadf_join.specs.Contents.{IsBetween, IsWithin, under, section};
 ghost use Rattle.std.specs.Option.{option_copied, option_map};
@@ -69,6 +69,7 @@ impl Node {
     }
 
     /// Adds the chain behind this node, and tells whether it is new.
+    #[cycle(insert)]
     pub(crate) fn insert(&mut self, alloc: Global, chain: &[String]) -> Result<bool, Memory>
         ensures added { IfOk result (λ new. new ≡ not (set.contains self.old (chain_texts chain.now))) }
         ensures ok { OnOk result (self.new ≡ set.insert self.old (chain_texts chain.now)) }
@@ -80,17 +81,24 @@ impl Node {
                 self.ends = true;
                 Ok(new)
             }
-            [first, rest @ ..] => {
-                if let Some(child) = self.next.get_mut(first.as_str()) {
-                    return child.insert(alloc, rest);
-                }
-                let mut child = Node::new(alloc);
-                child.insert(alloc, rest)?;
-                self.next
-                    .insert(String::from_str(alloc, first.as_str())?, child)?;
-                Ok(true)
-            }
+            [first, rest @ ..] => self.insert_below(alloc, first.as_str(), rest),
         }
+    }
+
+    /// Adds the chain of the text and the rest, and tells whether it is new.
+    #[cycle(insert)]
+    fn insert_below(&mut self, alloc: Global, text: &str, rest: &[String]) -> Result<bool, Memory>
+        ensures added { IfOk result (λ new. new ≡ not (set.contains self.old (text.now ∷ chain_texts rest.now))) }
+        ensures ok { OnOk result (self.new ≡ set.insert self.old (text.now ∷ chain_texts rest.now)) }
+        ensures err { OnErr result (self.new ≡ self.old) }
+    {
+        if let Some(child) = self.next.get_mut(text) {
+            return child.insert(alloc, rest);
+        }
+        let mut child = Node::new(alloc);
+        child.insert(alloc, rest)?;
+        self.put_below(alloc, text, child)?;
+        Ok(true)
     }
 
     /// Adds what `other` has.
@@ -118,8 +126,7 @@ impl Node {
         }
         let mut fresh = Node::new(alloc);
         fresh.join(alloc, theirs)?;
-        self.next.insert(String::from_str(alloc, text)?, fresh)?;
-        Ok(())
+        self.put_below(alloc, text, fresh)
     }
 
     /// A tree with the same chains.
@@ -142,7 +149,8 @@ impl Node {
     fn put_below(&mut self, alloc: Global, text: &str, child: Node) -> Result<(), Memory>
         requires other { child ≡ set.empty → ⊥ }
         requires none { section self.old text.now ≡ set.empty }
-        ensures { OnOk result (self.new ≡ set.union self.old (under text.now child)) }
+        ensures ok { OnOk result (self.new ≡ set.union self.old (under text.now child)) }
+        ensures err { OnErr result (self.new ≡ self.old) }
     {
         self.next.insert(String::from_str(alloc, text)?, child)?;
         Ok(())
@@ -269,28 +277,40 @@ impl Node {
             return Ok(true);
         }
         for (text, child) in &self.next {
-            let found = match given {
-                [] => child.seek_behind(alloc, text.as_str(), given, true, path)?,
-                [first, rest @ ..] => match text.as_str().cmp(first.as_str()) {
-                    Ordering::Less => false,
-                    Ordering::Equal => {
-                        child.seek_behind(alloc, text.as_str(), rest, or_equal, path)?
-                    }
-                    Ordering::Greater => {
-                        child.seek_behind(alloc, text.as_str(), &[], true, path)?
-                    }
-                },
-            };
-            if found {
+            if child.seek_behind(alloc, text.as_str(), given, or_equal, path)? {
                 return Ok(true);
             }
         }
         Ok(false)
     }
 
-    /// The same, from the node above: the path goes on with the text that leads here first.
+    /// The same among the chains of the text that leads here and those behind this node.
     #[cycle(seek)]
     fn seek_behind(
+        &self,
+        alloc: Global,
+        text: &str,
+        given: &[String],
+        or_equal: bool,
+        path: &mut Vec<String>,
+    ) -> Result<bool, Memory>
+        ensures { IfOk result (λ found. Follows
+            (find (is_from (chain_texts given.now) or_equal) (map (λ c. text.now ∷ c) (set.rising self.now)))
+            found path.old.items path.new.items) }
+    {
+        match given {
+            [] => self.seek_on(alloc, text, given, true, path),
+            [first, rest @ ..] => match text.cmp(first.as_str()) {
+                Ordering::Less => Ok(false),
+                Ordering::Equal => self.seek_on(alloc, text, rest, or_equal, path),
+                Ordering::Greater => self.seek_on(alloc, text, &[], true, path),
+            },
+        }
+    }
+
+    /// The same as `seek`, from the node above: the path goes on with the text that leads here first.
+    #[cycle(seek)]
+    fn seek_on(
         &self,
         alloc: Global,
         text: &str,

@@ -8,10 +8,13 @@ use Rattle.cadf_join.proofs.Walks.{behind}
 use Rattle.cadf_join.proofs.chain_node.Node.+seek.Given as goal
 
 abbrev pub decreases-seek : goal.decreases-seek
-decreases-seek l = 2 * height l.self.now
+decreases-seek l = 3 * height l.self.now
 
 abbrev pub decreases-seek_behind : goal.decreases-seek_behind
-decreases-seek_behind l = 2 * height l.self.now + 1
+decreases-seek_behind l = 3 * height l.self.now + 2
+
+abbrev pub decreases-seek_on : goal.decreases-seek_on
+decreases-seek_on l = 3 * height l.self.now + 1
 
 abbrev pub invariant-seek-loop-text : goal.invariant-seek-loop-text
 invariant-seek-loop-text l = record {
