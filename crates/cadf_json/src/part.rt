@@ -161,7 +161,7 @@ impl<'v, 'a> Part<'v, 'a> {
     {
         let mut writer = Writer::new(Vec::with_capacity(alloc, ORDINARY)?);
         write_object(&mut writer, self.value, left_out, name, text)?;
-        String::from_str(alloc, finished(writer)?.as_str())
+        String::from_str(alloc, finished(writer).as_str())
     }
 
     /// Every part is a value: an empty call that tells so.
@@ -205,7 +205,7 @@ impl<'v, 'a> Part<'v, 'a> {
         let bytes = to_vec(alloc, self.value)?;
         match String::from_utf8(bytes) {
             Ok(text) => Ok(text),
-            Err(_) => Err(Memory),
+            Err(_) => unreachable!(),
         }
     }
 }

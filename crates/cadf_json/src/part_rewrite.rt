@@ -84,12 +84,12 @@ pub(crate) fn write_object(
 }
 
 /// What was written from the start.
-pub(crate) fn finished(writer: Writer) -> Result<String, Memory>
+pub(crate) fn finished(writer: Writer) -> String
     requires { writer.before ≡ [] }
-    ensures { IfOk result (λ s. string_bytes s ≡ print writer.tokens) }
+    ensures { string_bytes result ≡ print writer.tokens }
 {
     match String::from_utf8(writer.into_inner()) {
-        Ok(text) => Ok(text),
-        Err(_) => Err(Memory),
+        Ok(text) => text,
+        Err(_) => unreachable!(),
     }
 }

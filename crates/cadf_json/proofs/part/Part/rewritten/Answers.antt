@@ -20,6 +20,6 @@ returns c =
     let members = λ (e : Data). replaced name (string c.args.text.now) (without left_out (members_in e)) in
     let tokens = c.in_ok-write_object.ensures.tokens ∙ ap (λ ts. ts ++ Token.begin_object ∷ rewritten_tokens left_out name c.args.text.now (members_in d))
     c.new-writer.ensures.tokens in
-    let whole = c.as_str.ensures.value ∙ c.in_ok-finished.ensures ∙ ap print tokens in
+    let whole = c.as_str.ensures.value ∙ c.finished.ensures ∙ ap print tokens in
     IfOk-weaker c.from_str.result _ _ (λ s e. e ∙ whole ∙ print-outline (object (members d)) ∙ ap (λ e. text (object (members e))) c.self.view_is)
     c.from_str.ensures.ok
