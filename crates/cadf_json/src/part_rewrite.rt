@@ -1,5 +1,5 @@
 //! An object of a tree with some members left out and one replaced, written as tokens.
-ghost use Rattle.std.specs.Prelude.{◌≡◌, ◌++◌, ◌∷◌, [], IfOk, OnOk, string_bytes};
+ghost use Rattle.std.specs.Prelude.{◌≡◌, ◌++◌, ◌∷◌, [], OnOk, string_bytes};
 ghost use Rattle.json.specs.Token.{begin_object};
 ghost use Rattle.json.specs.Value.{value_view, members_view};
 ghost use Rattle.json.specs.Print.{print};
