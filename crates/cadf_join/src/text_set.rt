@@ -1,5 +1,5 @@
 //! A set of texts.
-ghost use Rattle.std.specs.Prelude.{◌≡◌, OnOk, OnErr, IfOk, length, not, [], map, string_bytes};
+ghost use Rattle.std.specs.Prelude.{◌≡◌, OnOk, OnErr, IfOk, length, not, map, string_bytes};
 ghost use Rattle.cadf_join.specs.Sets as set;
 ghost use Rattle.std.specs.Option.{option_copied};
 ghost use Rattle.cadf_join.specs.Contents.{text_cmp, singles, HasSingles, next_after, is_after};

@@ -202,7 +202,8 @@ impl<'v, 'a> Part<'v, 'a> {
     pub(crate) fn text(&self, alloc: Global) -> Result<String, Memory>
         ensures text { IfOk result (λ s. string_bytes s ≡ text_of self.now) }
     {
-        let bytes = to_vec(alloc, self.value)?;
+        let mut bytes = to_vec(alloc, self.value)?;
+        bytes.shrink_to_fit();
         match String::from_utf8(bytes) {
             Ok(text) => Ok(text),
             Err(_) => unreachable!(),

@@ -14,7 +14,7 @@ use Rattle.cadf_tool.specs.declared.TheConstants.{FILE_LIMIT}
 use Rattle.cadf_tool.specs.InputFault.{of_file}
 use Rattle.cadf_tool.specs.Faults.{of_load}
 use Rattle.cadf_tool.specs.InventoryInput.{RefusesInventory, as_inventory}
-use Rattle.cadf_tool.specs.Run.{Turn, numbered, IsReadAs, IsUnread}
+use Rattle.cadf_tool.specs.Run.{Use, numbered, IsReadAs, IsUnread}
 
 -- an answer
 abbrev answer_of : Result Noted FileFault → Result Inventory FileFault
@@ -30,7 +30,7 @@ refused_verdict : (limit : ℕ) (failed : Bool) (bytes : List ℕ) (f : FileFaul
     → inventory_verdict limit failed bytes ≡ Err f
 refused_verdict limit failed bytes f d = ap noted_or_fault (reading.refused_verdict inventory_form limit failed bytes f d)
 
-module _ (t : Turn) where
+module _ (t : Use) where
   abbrev Reads : Result Noted FileFault → Type 0
   Reads r = ReadsInventory FILE_LIMIT t.old.left t.new.left t.old.failures t.new.failures r
 

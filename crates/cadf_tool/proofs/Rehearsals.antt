@@ -6,23 +6,23 @@ use Rattle.cadf_rehearsal.specs.declared.turn.Turn.{Turn as Step}
 use Rattle.cadf_tool.specs.declared.fault.ToolFault.{ToolFault}
 use Rattle.cadf_tool.specs.Faults.{Stage, Reading, Working, Writing, Starving, stage_of}
 use Rattle.cadf_tool.specs.Rehearse.{IsScriptJudged, as_bytes, as_script, turns_of, left_of, played_in, played}
-use Rattle.cadf_tool.specs.Run.{Turn, one, IsReadAs, IsReadWithin, IsFirstFault, IsDue, IsWorked}
+use Rattle.cadf_tool.specs.Run.{Use, one, IsReadAs, IsReadWithin, IsFirstFault, IsDue, IsWorked}
 use Rattle.cadf_tool.specs.declared.TheConstants.{FILE_LIMIT}
 use Rattle.cadf_tool.proofs.Runs.{worked}
 
 -- what was read of a source is a script, if its bytes are
-pub judged : (t : Turn) (v : List ℕ) (script : Result (List Step) ℕ) → IsReadAs as_bytes t v → IsScriptJudged v script → IsReadAs as_script t script
+pub judged : (t : Use) (v : List ℕ) (script : Result (List Step) ℕ) → IsReadAs as_bytes t v → IsScriptJudged v script → IsReadAs as_script t script
 judged t v script ((bytes, (consumed, end, (same, short))), unfailed) h =
     ((bytes, (consumed, end, (short, subst (λ b. IsScriptJudged b script) (sym same) h))), unfailed)
 
-module _ (t : Turn) (bounded : IsReadWithin FILE_LIMIT t) (v : List ℕ) (read : IsReadAs as_bytes t v) where
+module _ (t : Use) (bounded : IsReadWithin FILE_LIMIT t) (v : List ℕ) (read : IsReadAs as_bytes t v) where
   pub turns_read : (turns : List Step) → IsScriptJudged v (Ok turns) → IsDue (one as_script t) turns_of (Ok turns)
   turns_read turns h = record { is = (Ok turns, judged t v (Ok turns) read h, refl); bounded = bounded }
 
   pub line_refused : (line : ℕ) → IsScriptJudged v (Err line) → IsDue (one as_script t) turns_of (turns_of (Err line))
   line_refused line h = record { is = (Err line, judged t v (Err line) read h, refl); bounded = bounded }
 
-module _ (t : Turn) (log : Text) (sites : ℕ) where
+module _ (t : Use) (log : Text) (sites : ℕ) where
   refused_at : (fault : ToolFault) (s : Stage) → IsFirstFault (one as_script t) turns_of fault s → IsFirstFault (one as_script t) (played log sites) fault s
   refused_at fault (Reading n f) h = h
   refused_at fault Working (a, read, e) = (a, read, stops (turns_of a) fault e)

@@ -2,7 +2,7 @@
 use Rattle.std.proofs.Common.{◌≡◌, Result, Ok, Err, inr}
 use Rattle.cadf_tool.specs.declared.fault.ToolFault.{ToolFault}
 use Rattle.cadf_tool.specs.Faults.{Stage, Reading, Working, Writing, Starving, stage_of}
-use Rattle.cadf_tool.specs.Run.{Turn, Reader, Sources, numbered, two, IsReadAs, IsReadWithin, IsFirstFault, IsUnread, IsDue, IsWorkFault, IsWorked}
+use Rattle.cadf_tool.specs.Run.{Use, Reader, Sources, numbered, two, IsReadAs, IsReadWithin, IsFirstFault, IsUnread, IsDue, IsWorkFault, IsWorked}
 
 module _ {A M : Type 0} (sources : Sources A) (work : A → Result M ToolFault) where
   not_read_at : (fault : ToolFault) (s : Stage) → IsFirstFault sources Ok fault s → IsFirstFault sources work fault s
@@ -34,7 +34,7 @@ module _ {A M : Type 0} (sources : Sources A) (work : A → Result M ToolFault) 
 
 -- ---- two sources
 
-module _ {T U M : Type 0} (reader : Reader T) (t : Turn) (other : Reader U) (u : Turn)
+module _ {T U M : Type 0} (reader : Reader T) (t : Use) (other : Reader U) (u : Use)
     (work : T × U → Result M ToolFault) (within : IsReadWithin reader.limit t) where
   -- the work on both
   pub both_worked : (value : T) (value' : U) (due : Result M ToolFault) → IsReadAs reader t value

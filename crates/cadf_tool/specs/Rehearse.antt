@@ -2,8 +2,8 @@
 --     as_script                     how a source is read as a script: its turns, or the first line that spells none
 --     left_of log sites turns       the replicas that the turns leave, or the first that can't be taken
 --     played log sites script       the same of a script, or its first line that spells no turn
-use Rattle.std.specs.Prelude.{◌≡◌, ◌≤◌, ◌+◌, ℕ, List, length, reverse, Result, Ok, Err}
-use Rattle.cadf_json.specs.Streams.{ConsumesAtMost, ConsumesExactly}
+use Rattle.std.specs.Prelude.{◌≡◌, ◌≤◌, ◌+◌, ℕ, List, length, reverse, true, false, Result, Ok, Err}
+use Rattle.cadf_json.specs.Streams.{counted, ConsumesAtMost, ConsumesExactly}
 use Rattle.cadf_join.specs.Contents.{Text}
 use Rattle.cadf_replica.specs.Digest.{atom_digest}
 use Rattle.cadf_replica.specs.Replica.{Held}
@@ -29,10 +29,10 @@ IsScriptJudged bytes (Err line) = IsFirstBad (lines_of bytes) line
 abbrev pub IsScriptInput : List ℕ → Result (List Turn) ℕ → Type 0
 IsScriptInput bytes judged = (length bytes ≤ FILE_LIMIT) × IsScriptJudged bytes judged
 
--- one byte more than may be was read, or a read failed
+-- one byte more than may be was read, and no read failed, or one did
 abbrev pub RefusesScript : Seen → Seen → LoadFault → Type 0
-RefusesScript old new TooLarge = ConsumesExactly old.left new.left (FILE_LIMIT + 1)
-RefusesScript old new ReadFault = ConsumesAtMost old.left new.left FILE_LIMIT
+RefusesScript old new TooLarge = ConsumesExactly old.left new.left (FILE_LIMIT + 1) × (new.failures ≡ counted false old.failures)
+RefusesScript old new ReadFault = ConsumesAtMost old.left new.left FILE_LIMIT × (new.failures ≡ counted true old.failures)
 RefusesScript old new _ = ⊥
 
 abbrev pub as_script : Reader (Result (List Turn) ℕ)

@@ -22,12 +22,12 @@ use Rattle.cadf_tool.specs.Inputs.{Seen, seen, AreLoaded, NoneFailed, IsRefusedW
 -- ---- sources
 
 -- a source before and after a run
-pub record Turn : Type 0 where
+pub record Use : Type 0 where
   pub old : Seen
   pub new : Seen
 
-abbrev pub turn : {S : Type 0} → Source S → S → S → Turn
-turn source old new = record { old = seen source old; new = seen source new }
+abbrev pub used : {S : Type 0} → Source S → S → S → Use
+used source old new = record { old = seen source old; new = seen source new }
 
 -- how a source is read as a T: the most bytes it may have, what its bytes are, and why it is refused
 pub record Reader (T : Type 0) : Type 1 where
@@ -43,14 +43,14 @@ abbrev pub as_input : Reader Loaded
 as_input = as_input_within FILE_LIMIT
 
 -- the source gave all its bytes, no read failed, and they are this
-abbrev pub IsReadAs : {T : Type 0} → Reader T → Turn → T → Type 0
+abbrev pub IsReadAs : {T : Type 0} → Reader T → Use → T → Type 0
 IsReadAs reader t value =
     GivesAll t.old.left t.new.left (λ bytes. reader.is bytes value) × (t.new.failures ≡ t.old.failures)
 
-abbrev pub IsUnfailed : Turn → Type 0
+abbrev pub IsUnfailed : Use → Type 0
 IsUnfailed t = t.new.failures ≡ t.old.failures
 
-abbrev pub IsReadWithin : ℕ → Turn → Type 0
+abbrev pub IsReadWithin : ℕ → Use → Type 0
 IsReadWithin limit t = t.new.reads ≤ t.old.reads + limit + 2
 
 -- what came of the sources of a run: they are an A, or one is refused. Numbers count from 1
@@ -65,7 +65,7 @@ pub record Sources (A : Type 0) : Type 1 where
   pub bounded : Type 0
 
 -- one source alone, which has that number
-abbrev pub numbered : {T : Type 0} → ℕ → Reader T → Turn → Sources T
+abbrev pub numbered : {T : Type 0} → ℕ → Reader T → Use → Sources T
 numbered number reader t = record {
   are = IsReadAs reader t;
   refused = λ n f. (n ≡ number) × reader.refuses t.old t.new f;
@@ -73,11 +73,11 @@ numbered number reader t = record {
   bounded = IsReadWithin reader.limit t;
 }
 
-abbrev pub one : {T : Type 0} → Reader T → Turn → Sources T
+abbrev pub one : {T : Type 0} → Reader T → Use → Sources T
 one reader t = numbered 1 reader t
 
 -- the second is read where the first was
-abbrev pub two : {T U : Type 0} → Reader T → Turn → Reader U → Turn → Sources (T × U)
+abbrev pub two : {T U : Type 0} → Reader T → Use → Reader U → Use → Sources (T × U)
 two {T} reader t other u = record {
   are = λ both. IsReadAs reader t both.0 × IsReadAs other u both.1;
   refused = λ n f.

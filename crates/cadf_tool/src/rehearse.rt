@@ -1,7 +1,7 @@
 //! A schedule that is read of a script, and what it leaves at each site.
 ghost use Rattle.std.specs.Prelude.{◌≡◌, IfOk, IfErr, Ok, string_bytes};
 ghost use Rattle.cadf_tool.specs.Rehearse.{as_bytes, as_script, turns_of, of_rehearsal, left_of, played as played_of};
-ghost use Rattle.cadf_tool.specs.Run.{one, turn, IsReadAs, IsReadWithin, IsUnread, IsDue, IsWorked, IsWritten, IsRun};
+ghost use Rattle.cadf_tool.specs.Run.{one, used, IsReadAs, IsReadWithin, IsUnread, IsDue, IsWorked, IsWritten, IsRun};
 ghost use Rattle.cadf_tool.specs.Sites.{is_same, place_of as place_in, site_line, sites_text as text_of_sites};
 
 use crate::FILE_LIMIT;
@@ -16,9 +16,9 @@ use std::alloc::Global;
 
 /// The bytes of a script.
 fn bytes_of<R: Source>(alloc: Global, script: &mut R) -> Result<Vec<u8>, ToolFault>
-    ensures ok { IfOk result (λ v. IsReadAs as_bytes (turn R.Source script.old script.new) v.items) }
-    ensures err { IfErr result (IsUnread (one as_script (turn R.Source script.old script.new))) }
-    ensures reads { IsReadWithin FILE_LIMIT (turn R.Source script.old script.new) }
+    ensures ok { IfOk result (λ v. IsReadAs as_bytes (used R.Source script.old script.new) v.items) }
+    ensures err { IfErr result (IsUnread (one as_script (used R.Source script.old script.new))) }
+    ensures reads { IsReadWithin FILE_LIMIT (used R.Source script.old script.new) }
 {
     match read_whole(alloc, script, FILE_LIMIT) {
         Ok(bytes) => Ok(bytes),
@@ -30,8 +30,8 @@ fn bytes_of<R: Source>(alloc: Global, script: &mut R) -> Result<Vec<u8>, ToolFau
 
 /// The turns of a script, which is read whole before the first.
 fn turns<R: Source>(alloc: Global, script: &mut R) -> Result<Vec<Turn>, ToolFault>
-    ensures ok { IfOk result (λ v. IsDue (one as_script (turn R.Source script.old script.new)) turns_of (Ok v.items)) }
-    ensures err { IfErr result (λ f. IsDue (one as_script (turn R.Source script.old script.new)) turns_of (Err f)) }
+    ensures ok { IfOk result (λ v. IsDue (one as_script (used R.Source script.old script.new)) turns_of (Ok v.items)) }
+    ensures err { IfErr result (λ f. IsDue (one as_script (used R.Source script.old script.new)) turns_of (Err f)) }
 {
     let bytes = bytes_of(alloc, script)?;
     match read_script(alloc, &bytes) {
@@ -69,8 +69,8 @@ fn played<R: Source>(
     sites: usize,
     script: &mut R,
 ) -> Result<Vec<Replica>, ToolFault>
-    ensures ok { IfOk result (λ v. IsDue (one as_script (turn R.Source script.old script.new)) (played_of log.now sites) (Ok v.items)) }
-    ensures err { IfErr result (λ f. IsDue (one as_script (turn R.Source script.old script.new)) (played_of log.now sites) (Err f)) }
+    ensures ok { IfOk result (λ v. IsDue (one as_script (used R.Source script.old script.new)) (played_of log.now sites) (Ok v.items)) }
+    ensures err { IfErr result (λ f. IsDue (one as_script (used R.Source script.old script.new)) (played_of log.now sites) (Err f)) }
 {
     match turns(alloc, script) {
         Ok(turns) => left(alloc, log, sites, turns.as_slice()),
@@ -131,8 +131,8 @@ fn write_lines<W: Sink>(alloc: Global, sites: &[Replica], output: &mut W) -> Res
     }
 }
 
-/// Plays the schedule of a script over so many sites of the log, which are 1 to 64, and writes a line for
-/// each site from 0: `site I atoms N as J`, where J is the least site that holds the same.
+/// Plays the schedule of a script over so many sites of the log, and writes a line for each site from 0:
+/// `site I atoms N as J`, where J is the least site that holds the same.
 pub fn run_rehearse<R: Source, W: Sink>(
     alloc: Global,
     log: &Name,
@@ -140,7 +140,7 @@ pub fn run_rehearse<R: Source, W: Sink>(
     script: &mut R,
     output: &mut W,
 ) -> Result<(), ToolFault>
-    ensures played { IsRun (one as_script (turn R.Source script.old script.new)) (played_of log.now sites)
+    ensures played { IsRun (one as_script (used R.Source script.old script.new)) (played_of log.now sites)
         text_of_sites W.Sink output.old output.new result }
     // The lines stand whole before they are written.
     ensures memory { result ≡ Err ToolFault.Memory → output.new ≡ output.old }

@@ -4,7 +4,7 @@ use Rattle.std.specs.FinMap as fin
 use Rattle.cadf_join.specs.Sets as set
 use Rattle.cadf_join.specs.Contents.{under}
 use Rattle.cadf_join.specs.laws.Contents as laws
-use Rattle.cadf_join.specs.laws.Contents.{text_total, text_same, texts_total, texts_same}
+use Rattle.cadf_join.specs.laws.Contents.{texts_total, texts_same}
 use Rattle.cadf_join.specs.laws.Sets as sets
 use Rattle.cadf_join.specs.Maps.{contents_at}
 use Rattle.cadf_join.specs.laws.Maps as maps
