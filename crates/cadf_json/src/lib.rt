@@ -29,7 +29,7 @@ pub use crate::members::{Member, Members};
 pub use crate::memory::{FailingWrite, MemorySink, MemorySource};
 pub use crate::pass::{check_list, may_be_json};
 pub use crate::read::Unread;
-pub use crate::split::{TakesItems, read_split};
+pub use crate::split::{Split, TakesItems, read_split};
 pub use crate::stream::{Failed, FromStd, Sink, Source};
 pub use crate::tree::Tree;
 pub use crate::value::{Json, JsonFault, quoted};
