@@ -10,6 +10,7 @@ mod number;
 mod owned;
 mod part;
 mod part_rewrite;
+mod pass;
 mod place;
 mod read;
 mod rewrite;
@@ -26,8 +27,9 @@ pub use crate::laws::{
 };
 pub use crate::members::{Member, Members};
 pub use crate::memory::{FailingWrite, MemorySink, MemorySource};
+pub use crate::pass::{check_list, may_be_json};
 pub use crate::read::Unread;
-pub use crate::split::{TakesItems, read_split};
+pub use crate::split::{Split, TakesItems, read_split};
 pub use crate::stream::{Failed, FromStd, Sink, Source};
 pub use crate::tree::Tree;
 pub use crate::value::{Json, JsonFault, quoted};

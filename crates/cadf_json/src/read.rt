@@ -13,6 +13,9 @@ use json::{Reader, Token, Value};
 use std::alloc::{AllocFailed, Global};
 use thiserror::Error;
 
+/// A vector that has grown keeps room for four at least.
+const FEW: usize = 2;
+
 /// Why there is no tree.
 #[derive(Clone, Copy, Debug, Drop, PartialEq, Eq, Error)]
 pub enum Unread {
@@ -104,7 +107,7 @@ fn read_items<'a>(
         let item = read(alloc, reader, depth)?;
         found.push(item)?;
     }
-    Ok(found)
+    Ok(trimmed(found))
 }
 
 #[cycle(read)]
@@ -127,11 +130,21 @@ fn read_members<'a>(
             return Err(Unread::NotPlain);
         };
         let Some(name) = key else {
-            return Ok(found);
+            return Ok(trimmed(found));
         };
         let member = read(alloc, reader, depth)?;
         put_member(&mut found, name, member, depth)?;
     }
+}
+
+/// A few items or members keep no room for more.
+fn trimmed<T>(mut found: Vec<T>) -> Vec<T>
+    ensures { result.items ≡ found.items }
+{
+    if found.len() <= FEW {
+        found.shrink_to_fit();
+    }
+    found
 }
 
 /// Puts a further member in its place.

@@ -5,7 +5,7 @@ ghost use Rattle.json.specs.Value.{members_view};
 ghost use Rattle.serde_json.specs.Data.{Data, Items, array, no_members, put};
 ghost use Rattle.serde_json.specs.Read.{of_members, converted};
 ghost use Rattle.cadf_json.specs.Tree.{named_in, AreMembersWithin};
-ghost use Rattle.cadf_json.specs.Split.{AreTaken, PassesItems, PassesList, IsSplit};
+ghost use Rattle.cadf_json.specs.Split.{PassesItems, PassesList, AreAround, IsSplit};
 
 use crate::read::{Unread, put_member, read};
 use crate::tree::Tree;
@@ -66,6 +66,13 @@ fn pass_list<'a, T: TakesItems>(
     Ok(())
 }
 
+/// Members of an object, and whether a list was taken that stands among them as an empty one.
+#[derive(Drop)]
+struct MembersAround<'a> {
+    members: Vec<(&'a str, Value<'a>)>,
+    taken: bool,
+}
+
 // The members up to the closing brace, with an empty list in the place of the one that is let go.
 fn read_around<'a, T: TakesItems>(
     alloc: Global,
@@ -73,56 +80,65 @@ fn read_around<'a, T: TakesItems>(
     depth: usize,
     name: &str,
     taker: &mut T,
-) -> Result<Vec<(&'a str, Value<'a>)>, Unread>
+) -> Result<MembersAround<'a>, Unread>
     requires { (1 ≤ depth) × (depth ≤ 127) }
-    ensures ok { IfOk result (λ v. (es : Items) × (AreTaken T.took taker.old taker.new es
-        × (converted (λ ms. of_members ms no_members) (members (value depth) (length reader.old) reader.old)
-        ≡ Some (put name.now (array es) (named_in (members_view v.items)), reader.new)))) }
-    ensures within { IfOk result (λ v. AreMembersWithin depth (members_view v.items)) }
+    ensures ok { IfOk result (λ a. AreAround T.took taker.old taker.new name.now a.taken
+        (named_in (members_view a.members.items)) depth reader.old reader.new) }
+    ensures within { IfOk result (λ a. AreMembersWithin depth (members_view a.members.items)) }
 {
-    let mut found = Vec::new(alloc);
+    let mut members = Vec::new(alloc);
     let mut taken = false;
     'members: loop {
         let Ok(key) = reader.next_key() else {
             return Err(Unread::NotPlain);
         };
         let Some(key) = key else {
-            if taken {
-                return Ok(found);
-            }
-            return Err(Unread::NotPlain);
+            return Ok(MembersAround { members, taken });
         };
         if key != name {
             let member = read(alloc, reader, depth)?;
-            put_member(&mut found, key, member, depth)?;
+            put_member(&mut members, key, member, depth)?;
         } else if taken {
             return Err(Unread::NotPlain);
         } else {
             pass_list(alloc, reader, depth, taker)?;
-            put_member(&mut found, key, Value::Array(Vec::new(alloc)), depth)?;
+            put_member(&mut members, key, Value::Array(Vec::new(alloc)), depth)?;
             taken = true;
         }
     }
 }
 
-/// The object that the text spells, with an empty list at that name, in the place of the list whose
-/// items are taken in turn.
+/// An object of which one list may have been taken.
+#[derive(Drop)]
+pub enum Split<'a> {
+    /// The object with an empty list in the place of the one whose items were taken in turn.
+    Around(Tree<'a>),
+    /// The whole object, which has no member of that name.
+    Whole(Tree<'a>),
+}
+
+/// The object that the text spells. Where it has a member of that name, this is a list, whose items are
+/// taken in turn.
 pub fn read_split<'a, T: TakesItems>(
     alloc: Global,
     text: &'a str,
     scratch: &'a mut Scratch,
     name: &str,
     taker: &mut T,
-) -> Result<Tree<'a>, Unread>
-    ensures ok { IfOk result (λ t. IsSplit T.took taker.old taker.new text.now name.now t) }
+) -> Result<Split<'a>, Unread>
+    ensures ok { IfOk result (λ s. IsSplit T.took taker.old taker.new text.now name.now s) }
 {
     let mut reader = Reader::new(text, scratch)?;
     let Some(Token::BeginObject) = reader.next() else {
         return Err(Unread::NotPlain);
     };
-    let members = read_around(alloc, &mut reader, MEMBER_DEPTH, name, taker)?;
+    let around = read_around(alloc, &mut reader, MEMBER_DEPTH, name, taker)?;
     if reader.next().is_some() {
         return Err(Unread::NotPlain);
     }
-    Ok(Tree::of_members(members))
+    let tree = Tree::of_members(around.members);
+    if around.taken {
+        return Ok(Split::Around(tree));
+    }
+    Ok(Split::Whole(tree))
 }

@@ -14,7 +14,7 @@ use json::{Reader, Scratch, Value};
 use std::alloc::Global;
 use std::marker::Model;
 
-const MAX_DEPTH: usize = 127;
+pub(crate) const MAX_DEPTH: usize = 127;
 
 /// A whole-number JSON value that borrows the text that it was read from.
 #[derive(Drop)]

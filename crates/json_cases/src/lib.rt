@@ -3,6 +3,8 @@
 #![tactic(auto)]
 
 #[cfg(test)]
+mod passed;
+#[cfg(test)]
 mod splits;
 #[cfg(test)]
 mod streams;

@@ -26,7 +26,7 @@ members-preserved-in-Continue-branch-2 g c =
     let less : length r < length l.reader = omega (arith, sooner, later) in (
       subst (λ ms. Around g.T.TakesItems.took c.args.taker.now l.taker c.args.name.now p c.args.reader.now r ms l.taken) (sym c.in_ok-put_member.ensures.named)
           (around_other g.T.TakesItems.took c.args.name.now p c.args.reader.now c.args.taker.now l.taker k l.reader s r _
-          (named_in (members_view l.found.items)) l.taken l.invariant.0 other named done.ok less),
+          (named_in (members_view l.members.items)) l.taken l.invariant.0 other named done.ok less),
       c.in_ok-put_member.ensures.within,
     )
 
@@ -46,25 +46,22 @@ members-preserved g c =
     let sooner = read_key-shorter l.reader (Some name) s named in
     let later = done.shorter in
     let less : length r < length l.reader = omega (arith, sooner, later) in
-    let found = named_in (members_view l.found.items) in
+    let found = named_in (members_view l.members.items) in
     let empty = view-Array c.new.result ∙ ap (λ vs. json.array (items_view vs)) c.new.ensures.items in
     let put_there = c.in_ok-put_member-2.ensures.named ∙ ap (λ x. put x (data_in (value_view (Array c.new.result))) found) same
     ∙ ap (λ j. put name (data_in j) found) empty in
     let so_far = subst (λ b. Around g.T.TakesItems.took c.args.taker.now l.taker name p c.args.reader.now l.reader found b)
-    c.if-taken-2.false l.invariant.0 in (
+    c.if-taken.false l.invariant.0 in (
       subst (λ ms. Around g.T.TakesItems.took c.args.taker.now c.pass_list.new.taker name p c.args.reader.now r ms true) (sym put_there)
           (around_list g.T.TakesItems.took name p c.args.reader.now c.args.taker.now l.taker c.pass_list.new.taker l.reader s r found so_far named done.ok
           less),
       c.in_ok-put_member-2.ensures.within,
     )
 
-pub returns-then-taken-clause-ok : goal.returns-then-taken-clause-ok
-returns-then-taken-clause-ok g c =
-    let p = value c.args.depth in
+pub returns-in_default-key-clause-ok : goal.returns-in_default-key-clause-ok
+returns-in_default-key-clause-ok g c =
     let l = c.members in
-    let name = c.args.name.now in
     let s = c.next_key.new.self in
-    let found = named_in (members_view l.found.items) in
     let over : read_key l.reader ≡ Some (None, s) = c.in-Ok.ensures.value ∙ ap (λ o. Some (option_map (λ x. x.now) o, s)) c.in_default-key.is in
-    let so_far = subst (λ b. Around g.T.TakesItems.took c.args.taker.now l.taker name p c.args.reader.now l.reader found b) c.if-taken.true l.invariant.0 in
-    around_over g.T.TakesItems.took name p c.args.reader.now c.args.taker.now l.taker l.reader s found so_far over
+    around_over g.T.TakesItems.took c.args.name.now c.args.depth c.args.reader.now c.args.taker.now l.taker l.reader s
+    (named_in (members_view l.members.items)) l.taken l.invariant.0 over

@@ -7,8 +7,8 @@ use Rattle.cadf_json.proofs.split.read_around.Given as goal
 
 abbrev pub invariant-members : goal.invariant-members
 invariant-members g l =
-    Around g.T.TakesItems.took l.initial.taker l.taker l.name (value l.depth) l.initial.reader l.reader (named_in (members_view l.found.items)) l.taken
-    × AreMembersWithin l.depth (members_view l.found.items)
+    Around g.T.TakesItems.took l.initial.taker l.taker l.name (value l.depth) l.initial.reader l.reader (named_in (members_view l.members.items)) l.taken
+    × AreMembersWithin l.depth (members_view l.members.items)
 
 abbrev pub decreases-members : goal.decreases-members
 decreases-members g l = length l.reader
