@@ -5,7 +5,7 @@ ghost use Rattle.json.specs.Value.{value_view, members_view};
 ghost use Rattle.json.specs.Print.{print};
 ghost use Rattle.serde_json.specs.Data.{Members, member as member_in};
 ghost use Rattle.cadf_json.specs.Parts.{members_in};
-ghost use Rattle.cadf_json.specs.Rewritten.{is_one_of, texts_of};
+ghost use Rattle.cadf_json.specs.Rewritten.{texts_of};
 ghost use Rattle.cadf_json.specs.Tree.{data_in, named_in, IsSettled, MembersAreSettled};
 ghost use Rattle.cadf_json.specs.Rewriting.{rewritten_tokens};
 

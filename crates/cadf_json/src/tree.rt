@@ -1,5 +1,5 @@
 //! A value that borrows its text.
-ghost use Rattle.std.specs.Prelude.{◌≡◌, ◌≤◌, Some, IfOk, OnOk, ◌<◌, length, string_bytes};
+ghost use Rattle.std.specs.Prelude.{◌≡◌, ◌≤◌, Some, IfOk, OnOk, ◌<◌, length};
 ghost use Rattle.json.specs.Json.{value as value_at};
 ghost use Rattle.json.specs.Value.{members_view};
 ghost use Rattle.serde_json.specs.Data.{object};

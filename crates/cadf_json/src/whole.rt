@@ -1,7 +1,7 @@
 //! Reads a source whole, and writes a text whole.
 ghost use Rattle.std.specs.Prelude.{◌≡◌, ◌≤◌, ◌+◌, ◌-◌, ◌<◌, ◌^◌, length, IfOk, OnOk, OnErr, is_err};
 ghost use Rattle.std.specs.Io.KnownBytes.{Consumes, Appends, IsAtEnd};
-ghost use Rattle.cadf_json.specs.Streams.{one_more, counted, ConsumesAtMost, ConsumesExactly, ConsumesAfter, ConsumesWithin, AppendsFront, is_read_fault};
+ghost use Rattle.cadf_json.specs.Streams.{counted, ConsumesAtMost, ConsumesExactly, ConsumesAfter, ConsumesWithin, AppendsFront, is_read_fault};
 
 use crate::Memory;
 use crate::stream::{Failed, Sink, Source};

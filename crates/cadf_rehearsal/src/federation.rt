@@ -2,7 +2,7 @@
 ghost use Rattle.std.specs.Prelude.{◌≡◌, ◌∷◌, [], ◌++◌, length, OnOk, IfOk, IfErr, Ok};
 ghost use Rattle.cadf_join.specs.Sets as set;
 ghost use Rattle.cadf_rehearsal.specs.Schedule.{start};
-ghost use Rattle.cadf_rehearsal.specs.Federation.{IsOneLog, IsLater, IsFaultDue, world_of, turned_from, log_of_message};
+ghost use Rattle.cadf_rehearsal.specs.Federation.{IsOneLog, IsLater, IsFaultDue, world_of, turned_from};
 ghost use Rattle.cadf_rehearsal.specs.declared.turn.Turn.TheVariants as turn;
 
 use crate::fault::RehearseFault;

@@ -1,6 +1,5 @@
 //! A schedule is played from its first turn to its last.
 ghost use Rattle.std.specs.Prelude.{◌≡◌, reverse, IfOk, IfErr, Ok};
-ghost use Rattle.cadf_join.specs.Contents.{IsWithin};
 ghost use Rattle.cadf_replica.specs.Digest.{atom_digest};
 ghost use Rattle.cadf_rehearsal.specs.Schedule.{World, after};
 ghost use Rattle.cadf_rehearsal.specs.Federation.{IsFaultDue, left_by};

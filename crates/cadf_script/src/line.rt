@@ -1,7 +1,7 @@
 //! A line, and the turn that it spells.
 ghost use Rattle.std.specs.Prelude.{◌≡◌, ◌≢◌, MatchOption, IfOk};
 ghost use Rattle.cadf_event.specs.Document.{DocumentParts, IsDocument};
-ghost use Rattle.cadf_script.specs.Script.{Command as CommandOf, word_of, command_of, IsDocumentOf, AreWords, IsTurn, IsNoTurn};
+ghost use Rattle.cadf_script.specs.Script.{Command as CommandOf, word_of, IsDocumentOf, IsTurn, IsNoTurn};
 ghost use Rattle.cadf_script.specs.Words.{SpellsNoDocument, HasArguments};
 
 use crate::words::{cut_at_blank, number, site_and_text, two_numbers};
