@@ -11,6 +11,7 @@ BINARY is crates/cadf/out/cadf unless given; --of 100 takes a hundredth of each 
     chains       one event with 10^5 chains of one step
     attachments  one event with 10^5 attachments
     properties   a log with 10^6 properties
+    tiny         200 MB of `{"a":1}`: as a list, as a list cut off, as events, as one property of a log
 
 A line has the case, the command, the number, the bytes of input, the least processor seconds and the greatest resident
 memory of the runs, and ratios with what each may be at most: `growth`, how often the seconds of the next smaller number,
@@ -28,7 +29,7 @@ from measure import BINARY, atoms_of, identifier_of, measured_apart, spelled, wr
 from show import event
 
 LOG = "openstack:audit"
-GROWTH, MEMBER_MB, BYTES = 1.15, 50, 6
+GROWTH, MEMBER_MB, TINY_MB, BYTES = 1.15, 50, 4096, 6
 NAMED, UNNAMED = LOG, 7  # the second is no name
 EVENT = {"id": "e1", "eventType": "activity", "eventTime": "2024-03-01T12:00:00Z", "action": "read", "outcome": "success",
          "initiatorId": "u1", "targetId": "t1", "observerId": "s1"}
@@ -179,9 +180,30 @@ def many_case(case, parts, most):
     return many
 
 
+def tiny(path, front, number, back):
+    """Writes so many tiny objects, parted by commas, between the two texts."""
+    with open(path, "w", encoding="ascii") as out:
+        out.write(front)
+        for start in range(0, number, 10000):
+            out.write(("," if start else "") + ",".join(['{"a":1}'] * min(10000, number - start)))
+        out.write(back)
+
+
+def tiny_case(folder, options):
+    """200 MB of tiny objects in each place where they may stand end in an answer."""
+    named = '{"id":%s,' % spelled(NAMED)
+    shapes = {"a list": ("[", "]", 1), "cut off": ("[", "", 1), "events": (named + '"events":[', "]}", 1),
+              "property": (named + '"events":[],"x":[', "]}", 0)}
+    path = os.path.join(folder, "tiny.json")
+    for shape, (front, back, status) in shapes.items():
+        tiny(path, front, 25 * 10 ** 6 // options.of, back)
+        line = Line("tiny", shape, "show", [path], options, status)
+        line.tell(MB=(line.memory, TINY_MB), whole=line.whole())
+
+
 CASES = {"atoms": atoms_case, "document": document_case, "member": member_case,
          "chains": many_case("chains", chains, 10 ** 5), "attachments": many_case("attachments", attachments, 10 ** 5),
-         "properties": many_case("properties", properties, 10 ** 6)}
+         "properties": many_case("properties", properties, 10 ** 6), "tiny": tiny_case}
 
 
 def main():
