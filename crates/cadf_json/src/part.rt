@@ -198,16 +198,15 @@ impl<'v, 'a> Part<'v, 'a> {
         }
     }
 
-    /// The canonical text.
+    /// The canonical text, held at its length.
     pub(crate) fn text(&self, alloc: Global) -> Result<String, Memory>
         ensures text { IfOk result (λ s. string_bytes s ≡ text_of self.now) }
     {
-        let mut bytes = to_vec(alloc, self.value)?;
-        bytes.shrink_to_fit();
-        match String::from_utf8(bytes) {
-            Ok(text) => Ok(text),
-            Err(_) => unreachable!(),
-        }
+        let bytes = to_vec(alloc, self.value)?;
+        let Ok(text) = String::from_utf8(bytes) else {
+            unreachable!();
+        };
+        String::from_str(alloc, text.as_str())
     }
 }
 
