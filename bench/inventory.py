@@ -3,7 +3,8 @@
 
     bench/inventory.py [--atoms 100000] [--runs 5] [BINARY]
 
-Beside `cadf inventory` runs bench/hash_lines.py on the same replica file, which must write the same bytes. Beside
+Beside `cadf inventory` runs bench/hash_lines.py on the same replica file of format 1, which must write the same bytes; so
+must `cadf inventory` of the same set in format 2, which the script can't read. Beside
 `cadf missing-by` runs `cadf missing` on the same two files, which share half of their atoms; both must write the same
 part. What counts are the ratios of the least wall times in one run. By the one way a site sends its whole file, by the
 other its inventory; the same part comes back.
@@ -46,20 +47,23 @@ def main():
     options = parser.parse_args()
     cadf, events = options.binary, options.atoms // 3
     with tempfile.TemporaryDirectory() as folder:
-        source, receiver, digests, hashed, part, other_part = (
-            os.path.join(folder, name) for name in ("source", "receiver", "digests", "hashed", "part", "other"))
+        source, receiver, receiver_two, digests, digests_two, hashed, part, other_part = (os.path.join(folder, name) for name in (
+            "source", "receiver", "receiver.2", "digests", "digests.2", "hashed", "part", "other"))
         atoms = replica_file(source, "openstack:audit", range(events))
-        replica_file(receiver, "openstack:audit", range(events // 2, events // 2 + events))
+        for version, path in ((1, receiver), (2, receiver_two)):
+            replica_file(path, "openstack:audit", range(events // 2, events // 2 + events), version)
         whole, inventory = os.path.getsize(receiver), written([cadf, "inventory", receiver], digests)
         written([sys.executable, HASH_LINES, receiver], hashed)
+        written([cadf, "inventory", receiver_two], digests_two)
         same(digests, hashed)
+        same(digests, digests_two)
         answer = written([cadf, "missing-by", source, digests], part)
         written([cadf, "missing", source, receiver], other_part)
         same(part, other_part)
         print("two files of %d atoms; sent by whole files %d + %d bytes, by inventories %d + %d, ratio %.3f" % (
             atoms, whole, answer, inventory, answer, (inventory + answer) / (whole + answer)))
-        timed("inventory", [cadf, "inventory", receiver], "hash_lines.py", [sys.executable, HASH_LINES, receiver],
-              options.runs)
+        for name, path in (("inventory, format 1", receiver), ("inventory, format 2", receiver_two)):
+            timed(name, [cadf, "inventory", path], "hash_lines.py", [sys.executable, HASH_LINES, receiver], options.runs)
         timed("missing-by", [cadf, "missing-by", source, digests], "missing", [cadf, "missing", source, receiver],
               options.runs)
 
