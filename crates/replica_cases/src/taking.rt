@@ -115,6 +115,24 @@ fn parts_come_after_their_body(rt: HostRuntime) -> Result<(), Fail> {
     check_shown(&rt, rt.alloc(), &replica, "body body+chain")
 }
 
+/// The texts of an atom go in behind all that are held, or not at all.
+#[test]
+fn what_is_not_above_is_not_put_last(rt: HostRuntime) -> Result<(), Fail> {
+    let alloc = rt.alloc();
+    let mut replica = empty(alloc)?;
+    for (word, above) in [
+        ("body", true),
+        ("body+chain", true),
+        ("body+chain", false),
+        ("failed", false),
+        ("other", true),
+    ] {
+        let texts = atom(alloc, word)?.into_parts();
+        assert!(rt; replica.put_last(&texts)? == above, "{word}");
+    }
+    check_shown(&rt, alloc, &replica, "body body+chain other")
+}
+
 /// Whether the replica holds the atom of the word.
 fn holds(alloc: Global, replica: &Replica, word: &str) -> Result<bool, Fail> {
     let atom = atom(alloc, word)?;
