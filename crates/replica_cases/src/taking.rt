@@ -115,22 +115,20 @@ fn parts_come_after_their_body(rt: HostRuntime) -> Result<(), Fail> {
     check_shown(&rt, rt.alloc(), &replica, "body body+chain")
 }
 
-/// The texts of an atom go in behind all that are held, or not at all.
+/// Whether the texts of that word's atom went in behind all that were held.
+fn went_in(alloc: Global, replica: &mut Replica, word: &str) -> Result<bool, Fail> {
+    let texts = atom(alloc, word)?.into_parts();
+    Ok(replica.put_last(&texts)?)
+}
+
 #[test]
 fn what_is_not_above_is_not_put_last(rt: HostRuntime) -> Result<(), Fail> {
-    let alloc = rt.alloc();
-    let mut replica = empty(alloc)?;
-    for (word, above) in [
-        ("body", true),
-        ("body+chain", true),
-        ("body+chain", false),
-        ("failed", false),
-        ("other", true),
-    ] {
-        let texts = atom(alloc, word)?.into_parts();
-        assert!(rt; replica.put_last(&texts)? == above, "{word}");
+    let mut replica = holding(rt.alloc(), &["body"])?;
+    for (word, above) in [("body+chain", true), ("failed", false), ("other", true)] {
+        let above_all = went_in(rt.alloc(), &mut replica, word)?;
+        assert!(rt; above_all == above, "{word}");
     }
-    check_shown(&rt, alloc, &replica, "body body+chain other")
+    check_shown(&rt, rt.alloc(), &replica, "body body+chain other")
 }
 
 /// Whether the replica holds the atom of the word.
