@@ -28,4 +28,4 @@ pub use path::{
 };
 pub use replica::{Replica, ReplicaFault};
 pub use ruling::{Ruling, RulingFault};
-pub use tail::may_follow;
+pub use shape::may_follow;
