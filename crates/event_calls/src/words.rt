@@ -26,7 +26,7 @@ pub(crate) fn reserved(alloc: Global, text: &str) -> Result<String, Memory> {
 }
 
 /// What the word is, if it is one.
-fn told(alloc: Global, found: Option<impl Debug>) -> Result<String, Memory> {
+fn told(alloc: Global, found: Option<impl Debug + Drop>) -> Result<String, Memory> {
     match found {
         Some(found) => format!(in alloc; "some\t{found:?}"),
         None => calls::answer(alloc, "none", &[]),
