@@ -230,6 +230,9 @@ REFUSED = [
 FILES_REFUSED = [
     ("a format that is not known", lined("CADF-REPLICA 3"), "version"),
     ("format 2 in an inventory's name", lined("CADF-INVENTORY 2"), "version"),
+    ("a log that is no text", 'CADF-REPLICA 2\nL g\n', "log line"),
+    ("a line that is no UTF-8", 'CADF-REPLICA 2\nL "g"\n\udcff\n', "line 3: not UTF-8"),
+    ("a line that is no JSON", 'CADF-REPLICA 2\nL "g"\n{\n', "line 3: not JSON"),
     ("a letter as the last line", 'CADF-REPLICA 2\nL "g"\n[1,0,"E"]\n', "truncated"),
     ("a letter, and a piece of a line", 'CADF-REPLICA 2\nL "g"\n[1,0,"E"]\n[1', "truncated"),
     ("a letter before a wrong digest", 'CADF-REPLICA 2\nL "g"\n[1,0,"E"]\nZ\n', "line 3: unended"),
@@ -303,7 +306,7 @@ def main():
     binaries = [os.path.abspath(binary) for binary in sys.argv[1:2]]
     rehearsing = [binary for binary in binaries if lists(binary, "rehearse")]
     for name, words, texts, wanted in calls():
-        files = {file: text.encode() for file, text in texts.items()}
+        files = {file: text.encode("utf-8", "surrogateescape") for file, text in texts.items()}
         asked = rehearsing if words[0] == b"rehearse" else binaries
         got = [answer(words, files)] + [answered(binary, words, files) for binary in asked]
         if not all(alike(wanted, one) for one in got):
