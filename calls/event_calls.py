@@ -22,13 +22,8 @@ CALLS = {
     "property": ["Property::read", "Property::name", "Property::text"],
     "document": ["Document::read", "Document::log", "Document::sightings", "Document::entities", "Document::properties"],
     "plain": ["Document::read_plain"],
-    # What a fault is shown as.
-    "fault document": ["DocumentFault::fmt", "EventFault::fmt", "EntityFault::fmt"],
-    "fault property": ["PropertyFault::fmt"],
-    "fault name": ["NameFault::fmt"],
-    "fault time": ["StampFault::fmt"],
-    "fault canonical": ["JsonFault::fmt"],
-    "fault body": ["TextFault::fmt"],
+    # What the fault of a reading is shown as.
+    "fault": [],
 }
 
 NAMES, EVENTS, DOCUMENTS, CANONICAL, PLAIN, FAULTS = (

@@ -41,7 +41,6 @@ fn seen(alloc: Global, call: &Call, view: &View<'_, '_>) -> Result<String, Memor
         "within" => within(alloc, view, call),
         "rewritten" => rewritten(alloc, view, call),
         "again" => shown(alloc, "ok", &view.again()),
-        "copy" => shown(alloc, "ok", &view.to_json(alloc)?.view()),
         _ => shown(alloc, "ok", view),
     }
 }
