@@ -38,10 +38,11 @@ fn push_properties(line: &mut String, document: &Document) -> Result<(), Memory>
 /// The document's log, events, entities and properties.
 fn told(alloc: Global, document: &Document) -> Result<String, Memory> {
     document.known();
-    let mut line = match document.log() {
-        Some(log) => calls::answer(alloc, "ok", &["log", log.as_str()])?,
-        None => calls::answer(alloc, "ok", &["no log"])?,
-    };
+    let mut line = calls::answer(alloc, "ok", &[])?;
+    match document.log() {
+        Some(log) => events::push_named(&mut line, "log", log.as_str())?,
+        None => calls::push(&mut line, "no log")?,
+    }
     push_events(alloc, &mut line, document)?;
     push_entities(&mut line, document)?;
     push_properties(&mut line, document)?;

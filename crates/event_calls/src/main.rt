@@ -4,6 +4,7 @@
 
 mod documents;
 mod events;
+mod faults;
 mod parts;
 mod words;
 
@@ -25,12 +26,15 @@ fn answer(alloc: Global, line: &str) -> Result<String, Memory> {
         "role" => words::role(alloc, text),
         "event" => events::event(alloc, text),
         "body" => parts::body(alloc, text),
+        "body_with" => parts::body_with(alloc, text),
         "step" => parts::step(alloc, text),
+        "step_with" => parts::step_with(alloc, text),
         "attachment" => parts::attachment(alloc, text),
         "entity" => parts::entity(alloc, text, call.text(2)),
         "property" => parts::property(alloc, text, call.text(2)),
         "document" => documents::document(alloc, text),
         "plain" => documents::plain(alloc, text),
+        "fault" => faults::shown(alloc, &call),
         _ => calls::answer(alloc, "no such call", &[]),
     }
 }

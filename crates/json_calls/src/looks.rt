@@ -5,18 +5,18 @@ use calls::Call;
 use json::Scratch;
 use std::alloc::{AllocError as Memory, Global};
 
-/// What is asked of the value that the first word spells.
+/// What the first word asks of the value that the second spells.
 pub(crate) fn value(alloc: Global, call: &Call) -> Result<String, Memory> {
-    match Json::read(alloc, call.bytes(1)) {
+    match Json::read(alloc, call.bytes(2)) {
         Ok(json) => seen(alloc, call, &json.view()),
         Err(fault) => calls::refused(alloc, &fault),
     }
 }
 
-/// What is asked of the tree that the first word spells.
+/// What the first word asks of the tree that the second spells.
 pub(crate) fn tree(alloc: Global, call: &Call) -> Result<String, Memory> {
     let mut scratch = Scratch::new(alloc);
-    match Tree::of_text(alloc, call.text(1), &mut scratch) {
+    match Tree::of_text(alloc, call.text(2), &mut scratch) {
         Ok(tree) => seen(alloc, call, &tree.view()),
         Err(fault) => calls::refused(alloc, &fault),
     }
@@ -30,9 +30,9 @@ pub(crate) fn canonical(alloc: Global, text: &str) -> Result<String, Memory> {
     }
 }
 
-/// What the second word asks.
+/// What the first word asks.
 fn seen(alloc: Global, call: &Call, view: &View<'_, '_>) -> Result<String, Memory> {
-    match call.text(2) {
+    match call.text(1) {
         "kind" => kind(alloc, view),
         "item" => found(alloc, view.item(call.number(3))),
         "member" => found(alloc, view.member(call.text(3))),
@@ -41,7 +41,6 @@ fn seen(alloc: Global, call: &Call, view: &View<'_, '_>) -> Result<String, Memor
         "within" => within(alloc, view, call),
         "rewritten" => rewritten(alloc, view, call),
         "again" => shown(alloc, "ok", &view.again()),
-        "copy" => shown(alloc, "ok", &view.to_json(alloc)?.view()),
         _ => shown(alloc, "ok", view),
     }
 }
