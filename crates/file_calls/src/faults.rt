@@ -5,7 +5,7 @@ use cadf_json::Memory;
 use calls::{Call, answer};
 use std::alloc::Global;
 
-/// The cause of that name.
+/// Finds the cause of that name.
 fn cause_of(name: &str) -> Cause {
     match name {
         "NotUtf8" => Cause::NotUtf8,
@@ -18,7 +18,7 @@ fn cause_of(name: &str) -> Cause {
     }
 }
 
-/// The fault of that name; of a line, with its number and cause.
+/// Finds the fault that the words name; a line's has a number and a cause.
 fn fault_of(call: &Call) -> FileFault {
     match call.text(1) {
         "Version" => FileFault::Version,
@@ -33,7 +33,7 @@ fn fault_of(call: &Call) -> FileFault {
     }
 }
 
-/// `fault_text`: a fault's name, and of a line its number and its cause's name.
+/// Answers `fault_text`: a fault's name, and of a line its number and its cause's name.
 pub(crate) fn fault_text(alloc: Global, call: &Call) -> Result<String, Memory> {
     let text = format!(in alloc; "{}", fault_of(call))?;
     answer(alloc, "ok", &[text.as_str()])

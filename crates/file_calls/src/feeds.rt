@@ -5,6 +5,7 @@ ghost use Rattle.std.specs.Prelude.{◌≡◌, OnOk, None};
 use crate::reads::{Reading, read_answer};
 use cadf_file::{FileFault, ReplicaFeed, read_rest};
 use cadf_json::Memory;
+use cadf_replica::Replica;
 use calls::{Call, answer, push_number, refused};
 use std::alloc::Global;
 
@@ -15,7 +16,7 @@ fn fed(feed: &mut ReplicaFeed, piece: &[u8]) -> Result<(), FileFault>
     feed.feed(piece)
 }
 
-/// Adds an answer behind others.
+/// Adds an answer after others.
 fn push_answer(line: &mut String, answer: &str) -> Result<(), Memory> {
     line.push('\t')?;
     line.push_str(answer)
@@ -34,7 +35,7 @@ fn push_fed(
     push_number(alloc, line, feed.pending() as i128)
 }
 
-/// `feed`: a limit, whether the reader failed in the end, and the pieces. A piece after a refused one is fed too.
+/// Answers `feed`: a limit, whether the reader failed in the end, and the pieces. A piece after a refused one is fed too.
 pub(crate) fn feed(alloc: Global, call: &Call) -> Result<String, Memory> {
     let mut feed = ReplicaFeed::new(alloc, call.number(1) as u64);
     let mut line = answer(alloc, "fed", &[])?;
@@ -51,13 +52,13 @@ pub(crate) fn feed(alloc: Global, call: &Call) -> Result<String, Memory> {
     Ok(line)
 }
 
-/// Reads what the feed got and then what the reader gives.
+/// Feeds the start, and reads the rest from a reader.
 fn read_after(
     alloc: Global,
     reading: Reading,
     start: &[u8],
     rest: &[u8],
-) -> Result<cadf_replica::Replica, FileFault> {
+) -> Result<Replica, FileFault> {
     let mut feed = ReplicaFeed::new(alloc, reading.limit);
     match fed(&mut feed, start) {
         Ok(()) => read_rest(feed, &mut reading.source(rest)),
@@ -65,7 +66,7 @@ fn read_after(
     }
 }
 
-/// `read_rest`: a reading, the bytes that are fed first, and those that are read.
+/// Answers `read_rest`: a reading, the bytes that are fed first, and those that are read.
 pub(crate) fn read_rest_of(alloc: Global, call: &Call) -> Result<String, Memory> {
     let read = read_after(alloc, Reading::of(call), call.bytes(4), call.bytes(5));
     read_answer(alloc, read)

@@ -9,7 +9,7 @@ use cadf_replica::Inventory;
 use calls::{Call, answer, push, refused};
 use std::alloc::Global;
 
-/// The answer `ok` with the inventory's log and its digests.
+/// Answers `ok` with the inventory's log and its digests.
 fn shown(alloc: Global, inventory: &Inventory) -> Result<String, Memory> {
     let mut line = answer(alloc, "ok", &[inventory.log().as_str()])?;
     for digest in inventory.digests() {
@@ -23,7 +23,7 @@ fn read_in(alloc: Global, reading: Reading, bytes: &[u8]) -> Result<Inventory, F
     read_inventory(alloc, &mut reading.source(bytes), reading.limit)
 }
 
-/// `read_inventory`: a reading and a file.
+/// Answers `read_inventory`: a reading and a file.
 pub(crate) fn read(alloc: Global, call: &Call) -> Result<String, Memory> {
     match read_in(alloc, Reading::of(call), call.bytes(4)) {
         Ok(inventory) => shown(alloc, &inventory),
@@ -48,7 +48,7 @@ fn inventory_of(alloc: Global, call: &Call) -> Option<Inventory> {
     if is_whole { Some(inventory) } else { None }
 }
 
-/// `write_inventory`: a writer, a log and digests.
+/// Answers `write_inventory`: a writer, a log and digests.
 pub(crate) fn write(alloc: Global, call: &Call) -> Result<String, Memory> {
     let Some(inventory) = inventory_of(alloc, call) else {
         return answer(alloc, "no inventory", &[]);

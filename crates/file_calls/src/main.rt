@@ -16,7 +16,7 @@ use calls::Call;
 use std::alloc::Global;
 use std::io;
 
-/// The answer of the call.
+/// Makes the call, and answers its line.
 fn answered(alloc: Global, call: &Call) -> Result<String, Memory> {
     match call.name() {
         "read" => reads::read(alloc, call),
@@ -33,7 +33,7 @@ fn answered(alloc: Global, call: &Call) -> Result<String, Memory> {
     }
 }
 
-/// The answer of the call that the line spells.
+/// Makes the call that the line spells, and answers its line.
 fn line_answered(alloc: Global, line: &str) -> Result<String, Memory> {
     let call = Call::read(alloc, line)?;
     answered(alloc, &call)

@@ -19,7 +19,7 @@ pub(crate) struct Reading {
 }
 
 impl Reading {
-    /// The reading that the first three words say: the limit, the bytes of a read, the read that fails.
+    /// Takes the first three words: the limit, the bytes of a read, the read that fails.
     pub(crate) fn of(call: &Call) -> Reading {
         Reading {
             limit: call.number(1) as u64,
@@ -39,7 +39,7 @@ pub(crate) fn read_in(alloc: Global, reading: Reading, bytes: &[u8]) -> Result<R
     read_replica(alloc, &mut reading.source(bytes), reading.limit)
 }
 
-/// The answer of a reading: the replica, or the fault.
+/// Answers a reading: the replica, or the fault.
 pub(crate) fn read_answer(
     alloc: Global,
     read: Result<Replica, FileFault>,
@@ -50,7 +50,7 @@ pub(crate) fn read_answer(
     }
 }
 
-/// `read`: a reading and a file.
+/// Answers `read`: a reading and a file.
 pub(crate) fn read(alloc: Global, call: &Call) -> Result<String, Memory> {
     read_answer(alloc, read_in(alloc, Reading::of(call), call.bytes(4)))
 }

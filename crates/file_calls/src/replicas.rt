@@ -42,7 +42,7 @@ fn push_after(
     }
 }
 
-/// The answer `ok` with the replica's log and the lines of its atoms.
+/// Answers `ok` with the replica's log and the lines of its atoms.
 pub(crate) fn shown(alloc: Global, replica: &Replica) -> Result<String, Memory> {
     let mut line = answer(alloc, "ok", &[replica.log().as_str()])?;
     let mut last = None;

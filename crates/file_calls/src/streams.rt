@@ -16,7 +16,7 @@ pub(crate) fn sink_of(alloc: Global, call: &Call, place: usize) -> MemorySink {
     MemorySink::new(alloc, call.number(place).max(1), failing)
 }
 
-/// The answer of a call that writes, and all that was written.
+/// Answers a call that writes: how it ended, and all that was written.
 pub(crate) fn written(
     alloc: Global,
     done: Result<(), OutFault>,

@@ -6,12 +6,12 @@ use cadf_json::Memory;
 use calls::{Call, answer, push_number, refused};
 use std::alloc::Global;
 
-/// The fault of reading the bytes.
+/// Reads the bytes, and answers the fault. `None` if they are accepted.
 fn fault_of(alloc: Global, reading: Reading, bytes: &[u8]) -> Option<FileFault> {
     read_in(alloc, reading, bytes).err()
 }
 
-/// The answer of many readings: the first one's, and how many of them answer so.
+/// Answers many readings: what the first one ended with, and how many of them ended so.
 fn tallied(alloc: Global, first: Option<FileFault>, count: u64) -> Result<String, Memory> {
     let mut line = match first {
         Some(fault) => refused(alloc, &fault)?,
@@ -21,8 +21,8 @@ fn tallied(alloc: Global, first: Option<FileFault>, count: u64) -> Result<String
     Ok(line)
 }
 
-/// `each_failing_read`: a reading, a file and the number of the last read. Reads once for each number from that of the
-/// reading to the last, with that read failing.
+/// Answers `each_failing_read`: a reading, a file and the number of the last read. Reads once for each number from that
+/// of the reading to the last, with that read failing.
 pub(crate) fn each_failing_read(alloc: Global, call: &Call) -> Result<String, Memory> {
     let (mut reading, file) = (Reading::of(call), call.bytes(4));
     let first = fault_of(alloc, reading, file);
@@ -34,7 +34,7 @@ pub(crate) fn each_failing_read(alloc: Global, call: &Call) -> Result<String, Me
     tallied(alloc, first, count)
 }
 
-/// `each_prefix`: a reading and a file. Reads each proper prefix, the empty one first.
+/// Answers `each_prefix`: a reading and a file. Reads each proper prefix, the empty one first.
 pub(crate) fn each_prefix(alloc: Global, call: &Call) -> Result<String, Memory> {
     let (reading, file) = (Reading::of(call), call.bytes(4));
     let first = fault_of(alloc, reading, b"");
@@ -53,7 +53,7 @@ fn change(bytes: &mut [u8], place: usize, bit: u8) {
     }
 }
 
-/// How many of the files with one bit of that byte changed are refused.
+/// Counts the files with one bit of that byte changed that are refused.
 fn refused_at(alloc: Global, reading: Reading, bytes: &mut [u8], place: usize) -> u64 {
     let mut count = 0u64;
     for bit in [1u8, 2, 4, 8, 16, 32, 64, 128] {
@@ -64,7 +64,7 @@ fn refused_at(alloc: Global, reading: Reading, bytes: &mut [u8], place: usize) -
     count
 }
 
-/// `each_bit`: a reading and a file. Reads the file with each of its bits changed, and answers how many are refused.
+/// Answers `each_bit`: a reading and a file. Reads the file with each of its bits changed, and counts those refused.
 pub(crate) fn each_bit(alloc: Global, call: &Call) -> Result<String, Memory> {
     let reading = Reading::of(call);
     let mut bytes = Vec::new(alloc);

@@ -7,7 +7,7 @@ use cadf_json::Memory;
 use calls::{Call, answer};
 use std::alloc::Global;
 
-/// The format of that number.
+/// Finds the format of that number.
 fn format_of(number: usize) -> Format {
     if number == 1 {
         Format::One
@@ -16,7 +16,7 @@ fn format_of(number: usize) -> Format {
     }
 }
 
-/// `write`: a format, a writer, a log and the lines of its atoms.
+/// Answers `write`: a format, a writer, a log and the lines of its atoms.
 pub(crate) fn write(alloc: Global, call: &Call) -> Result<String, Memory> {
     let Some(replica) = replica_of(alloc, call, 5) else {
         return answer(alloc, "no replica", &[]);

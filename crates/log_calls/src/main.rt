@@ -13,7 +13,7 @@ use calls::{Call, answer};
 use std::alloc::Global;
 use std::io;
 
-/// The answer of a call: a writer, a log and the lines of its atoms.
+/// Makes the call, and answers its line: a writer, a log and the lines of its atoms.
 fn answered(alloc: Global, call: &Call) -> Result<String, Memory> {
     let Some(replica) = replica_of(alloc, call, 4) else {
         return answer(alloc, "no replica", &[]);
@@ -27,7 +27,7 @@ fn answered(alloc: Global, call: &Call) -> Result<String, Memory> {
     written(alloc, done, &sink)
 }
 
-/// The answer of the call that the line spells.
+/// Makes the call that the line spells, and answers its line.
 fn line_answered(alloc: Global, line: &str) -> Result<String, Memory> {
     let call = Call::read(alloc, line)?;
     answered(alloc, &call)
