@@ -1,7 +1,7 @@
 """Which crates the command needs, and in which order they are proved.
 
-    plan = Plan(crates_of(TOP), "cadf")
-    for name, jobs in plan.next(waiting, done, idle): ...
+    plan = Plan(TOP, "cadf")
+    for name, jobs in plan.next(waiting, done, used, lanes): ...
 """
 import os
 
@@ -50,13 +50,17 @@ class Plan:
         above = [other for other in self.names if name in self.uses[other]]
         return self.costs[name] + max(map(self.chain, above), default=0)
 
-    def next(self, waiting, done, idle):
-        """Yields the crates to begin on so many idle lanes, the longest chain first, each with its number of jobs."""
+    def next(self, waiting, done, used, lanes):
+        """Yields the crates to begin where so many lanes are used, the longest chain first, each with its number of jobs.
+
+        A proof has steps that only one job can do, and its chain waits for it: so on four lanes it gets two at least.
+        """
         ready = sorted((name for name in waiting if done.issuperset(self.uses[name])), key=lambda name: (-self.chain(name), name))
+        idle, least = lanes - used, 2 if lanes >= 4 else 1
         for place, name in enumerate(ready):
             if idle < 1:
                 return
-            jobs = max(1, min(4, idle // (len(ready) - place)))
+            jobs = min(idle, 4, max(least, idle // (len(ready) - place)))
             idle -= jobs
             yield name, jobs
 
@@ -71,7 +75,7 @@ class Plan:
         done, now = set(done), 0
         waiting = self.names - done - set(running)
         while waiting or ends:
-            for name, jobs in self.next(waiting, done, lanes - sum(used.values())):
+            for name, jobs in self.next(waiting, done, sum(used.values()), lanes):
                 used[name], ends[name] = jobs, now + self.seconds(name, jobs)
             waiting -= set(used)
             name = min(ends, key=ends.get)
