@@ -35,11 +35,11 @@ def copy(folder, to, by):
 
 
 def copy_sources(top, names, to):
-    """Copies the sources of these crates, as they are now."""
+    """Copies crates.txt and the sources of these crates, as they are now."""
     for name in names:
-        folder = os.path.join(top, "crates", name)
         leave_out = shutil.ignore_patterns("out", "must-fail")
-        shutil.copytree(folder, os.path.join(to, name), ignore=leave_out)
+        shutil.copytree(os.path.join(top, "crates", name), os.path.join(to, "crates", name), ignore=leave_out)
+    shutil.copy2(os.path.join(top, "crates.txt"), to)
 
 
 def newest(folder):
@@ -67,17 +67,17 @@ class Room:
         self.crate = os.path.join(folder, "crates", name)
         self.out = os.path.join(self.crate, "out")
 
-    def fill(self, top, sources, below):
-        """Makes the room. `sources` has a folder for each crate; `below` are those below this one."""
+    def fill(self, top, tree, below):
+        """Makes the room of a copy of the tree's sources; `below` are the crates below this one."""
         shutil.rmtree(self.folder, ignore_errors=True)
         os.makedirs(os.path.join(self.folder, "crates"))
-        with open(os.path.join(top, "crates.txt"), encoding="utf-8") as file:
+        with open(os.path.join(tree, "crates.txt"), encoding="utf-8") as file:
             lines = [line for line in file if line.split(":")[0].split()[:1] in [[name] for name in (self.name, *below)]]
         with open(os.path.join(self.folder, "crates.txt"), "w", encoding="utf-8") as file:
             file.writelines(lines)
         for name in (self.name, *below):
             crate = os.path.join(self.folder, "crates", name)
-            copy(os.path.join(sources, name), crate, link)
+            copy(os.path.join(tree, "crates", name), crate, link)
             os.makedirs(os.path.join(crate, "out"))
             copy(os.path.join(top, "crates", name, "out", BUILT), os.path.join(crate, "out", BUILT), link)
         copy(os.path.join(self.home, KEPT), os.path.join(self.out, KEPT), link)
