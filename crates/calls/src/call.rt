@@ -1,0 +1,110 @@
+//! Calls: a name and its words, read from a line.
+
+use std::alloc::{AllocError as Memory, Global};
+
+/// A call's name and its words.
+#[derive(Drop)]
+pub struct Call {
+    fields: Vec<Vec<u8>>,
+}
+
+impl Call {
+    /// Reads a line.
+    pub fn read(alloc: Global, line: &str) -> Result<Call, Memory> {
+        let mut fields = Vec::new(alloc);
+        for field in line.split('\t') {
+            push_decoded(alloc, &mut fields, field)?;
+        }
+        Ok(Call { fields })
+    }
+
+    /// The call's name.
+    pub fn name(&self) -> &str {
+        text_of(&self.fields, 0)
+    }
+
+    /// The text of a word, of which 1 is the first; empty where the word is missing or no text.
+    pub fn text(&self, place: usize) -> &str {
+        text_of(&self.fields, place)
+    }
+
+    /// The bytes of a word, of which 1 is the first; empty where the word is missing.
+    pub fn bytes(&self, place: usize) -> &[u8] {
+        match self.fields.get(place) {
+            Some(field) => field.as_slice(),
+            None => b"".as_slice(),
+        }
+    }
+
+    /// The number that a word spells, of which 1 is the first; 0 where it spells none.
+    pub fn number(&self, place: usize) -> usize {
+        text_of(&self.fields, place).parse().unwrap_or(0)
+    }
+
+    /// Counts the words.
+    pub fn count(&self) -> usize {
+        self.fields.len().saturating_sub(1)
+    }
+}
+
+/// The text of a field; empty where the field is missing or no text.
+fn text_of(fields: &[Vec<u8>], place: usize) -> &str {
+    match fields.get(place) {
+        Some(field) => str::from_utf8(field.as_slice()).unwrap_or(""),
+        None => "",
+    }
+}
+
+/// Adds the bytes of the field.
+fn push_decoded(alloc: Global, fields: &mut Vec<Vec<u8>>, field: &str) -> Result<(), Memory> {
+    fields.push(decoded(alloc, field)?)?;
+    Ok(())
+}
+
+/// What the bytes so far leave open.
+#[derive(Clone, Copy, Drop)]
+enum Open {
+    /// Nothing.
+    Plain,
+    /// A backslash was read.
+    Escape,
+    /// `\x` was read.
+    Digits,
+    /// `\x` and a first digit were read.
+    Digit(u8),
+}
+
+/// The bytes that the field spells.
+fn decoded(alloc: Global, field: &str) -> Result<Vec<u8>, Memory> {
+    let mut bytes = Vec::new(alloc);
+    let mut open = Open::Plain;
+    for &byte in field.as_bytes() {
+        open = next(&mut bytes, open, byte)?;
+    }
+    Ok(bytes)
+}
+
+/// Adds what the byte ends, and answers what is then open.
+fn next(bytes: &mut Vec<u8>, open: Open, byte: u8) -> Result<Open, Memory> {
+    let ended = match (open, byte) {
+        (Open::Plain, b'\\') => return Ok(Open::Escape),
+        (Open::Escape, b'x') => return Ok(Open::Digits),
+        (Open::Digits, _) => return Ok(Open::Digit(digit(byte))),
+        (Open::Digit(high), _) => high << 4 | digit(byte),
+        (Open::Escape, b't') => b'\t',
+        (Open::Escape, b'n') => b'\n',
+        (Open::Escape, b'r') => b'\r',
+        _ => byte,
+    };
+    bytes.push(ended)?;
+    Ok(Open::Plain)
+}
+
+/// The value of a hexadecimal digit; 0 for another byte.
+fn digit(byte: u8) -> u8 {
+    match byte {
+        b'0'..=b'9' => byte - b'0',
+        b'a'..=b'f' => byte - b'a' + 10,
+        _ => 0,
+    }
+}

@@ -1,0 +1,11 @@
+//! Lines of calls and of their answers: fields between tabs, of which each is text.
+//!
+//! In a field `\\` is a backslash, `\t` a tab, `\n` a line feed, `\r` a carriage return, and `\xHH` the byte with
+//! these two hexadecimal digits: any other byte below 0x20, 0x7f, and each byte that is no part of UTF-8.
+#![tactic(auto)]
+
+mod call;
+mod fields;
+
+pub use crate::call::Call;
+pub use crate::fields::{answer, push, push_bytes, push_number, push_truth, refused};
