@@ -1,61 +1,25 @@
 #!/usr/bin/env python3
-"""Worked rows of replica files in both formats, of rulings, inventories and rehearsals: what is written is told here, by
-hashlib or in full.
+"""Worked rows of documents, of replica files in both formats, of rulings, inventories and rehearsals: what is written is
+told here, by hashlib or in full. Those of documents stand in document_rows.py, those of several inputs in exchange_rows.py.
 
     differential/rows.py [BINARY]
 
 Each row is answered by the second implementation, and by BINARY where it is given; those of `rehearse` where its help
 lists that command. The status is 1 where one differs.
 """
-import hashlib
-import json
+import itertools
 import os
 import sys
 
 sys.dont_write_bytecode = True
+sys.path.append(os.path.join(os.path.dirname(os.path.dirname(os.path.abspath(__file__))), "calls"))
 
+import document_rows
+import exchange_rows
 from command import Answer, answer
 from compare import alike, answered, lists
-
-BODY = ('{"action":"read","eventTime":"2024-03-01T12:00:00Z","eventType":"activity","initiatorId":"u1","observerId":"s1",'
-        '"outcome":"success","targetId":"t1"}')
-FAILED = BODY.replace("success", "failure")
-STEP_1, STEP_2 = '{"reporterId":"s1","role":"observer"}', '{"reporterId":"s2","role":"relay"}'
-
-
-def digits(text):
-    return hashlib.sha256(text.encode()).hexdigest()
-
-
-def quoted(text):
-    return '"' + text.replace('"', '\\"') + '"'
-
-
-def line(*texts):
-    return "[" + ",".join(quoted(text) for text in texts) + "]"
-
-
-def lined(first, *lines, log="g"):
-    """The file with that first line and these lines."""
-    text = "".join(one + "\n" for one in (first, 'L "%s"' % log) + lines)
-    return text + "Z " + digits(text) + "\n"
-
-
-def replica(*lines):
-    """The file of format 1 with these lines."""
-    return lined("CADF-REPLICA 1", *lines)
-
-
-def tree(*nodes):
-    """The file of format 2 with these nodes, each a depth, a mark and an element, or a line."""
-    lines = [node if isinstance(node, str) else "[%d,%d,%s]" % (node[0], node[1], quoted(node[2])) for node in nodes]
-    return lined("CADF-REPLICA 2", *lines)
-
-
-def inventory(*lines, log="g"):
-    """The inventory with these lines of digits, in their order."""
-    return lined("CADF-INVENTORY 1", *lines, log=log)
-
+from document_rows import conflicts, log
+from texts import B1 as BODY, BF as FAILED, S1 as STEP_1, S2 as STEP_2, digits, inventory, line, lined, replica, tree
 
 EVENT, CHAIN, LONG_CHAIN = line("E", "e1", BODY), line("E", "e1", BODY, "C", STEP_1), line("E", "e1", BODY, "C", STEP_1, STEP_2)
 OTHER, OTHER_CHAIN = line("E", "e1", FAILED), line("E", "e1", FAILED, "C", STEP_2)
@@ -84,22 +48,7 @@ TWICE_RULED_TREE = tree(*CONFLICT_NODES, *RULING_NODES, *((4, 1, one) for one in
 NORTH, SOUTH = line("P", "name", '"north"'), line("P", "name", '"south"')
 
 
-def event_shown(body, step):
-    """The event of that body with a chain of one step, as both texts have it."""
-    text = '{"id":"e1","reporterchain":[%s],"typeURI":"http://schemas.dmtf.org/cloud/audit/1.0/event",%s' % (step, body[1:])
-    return json.dumps(json.loads(text), separators=(",", ":"), sort_keys=True)
-
-
-def log(*events, more=""):
-    return ('{"events":[%s],"geolocations":[],"id":"g","metrics":[],%s"resources":[],'
-            '"typeURI":"http://schemas.dmtf.org/cloud/audit/1.0/log"}\n' % (",".join(events), more))
-
-
-def conflicts(*entries, rulings=""):
-    return '{"conflicts":[%s],"log":"g","rulings":[%s]}\n' % (",".join(entries), rulings)
-
-
-F, T = event_shown(FAILED, STEP_2), event_shown(BODY, STEP_1)
+F, T = document_rows.FAILED, document_rows.ONE
 RULED = '["E","e1","%s"]' % digits(FAILED)
 
 # What is called on a file, and what is written.
@@ -234,6 +183,7 @@ FILES_REFUSED = [
     ("a letter, and a piece of a line", 'CADF-REPLICA 2\nL "g"\n[1,0,"E"]\n[1', "truncated"),
     ("a letter before a wrong digest", 'CADF-REPLICA 2\nL "g"\n[1,0,"E"]\nZ\n', "line 3: unended"),
     ("a wrong digest", EVENT_TREE.replace("Z ", "Z  "), "digest"),
+    ("no digest behind a body", EVENT_TREE.split("Z ")[0] + "Z\n", "digest"),
     ("a further byte", EVENT_TREE + "\n", "trailing bytes"),
     ("nodes under the first line of format 1", EVENT_TREE.replace("REPLICA 2", "REPLICA 1"), "line 3: shape"),
     ("atoms under the first line of format 2", replica(EVENT).replace("REPLICA 1", "REPLICA 2"), "line 3: shape"),
@@ -267,7 +217,11 @@ STOPPED = [
     (2, ["learn 0 ["], "line 1: script"),
     (2, ["", ""], "line 1: script"),
     (2, ["answer 5 9"], "line 1: no such site"),
-]
+    (2, ["answer 5 9", "hello"], "line 2: script"),
+    (2, ["ask 0", "ask \udcff"], "line 2: script"),
+    (2, ["ask 0\r", ""], "line 1: script"),
+] + [(2, [line], "line 1: script") for line in (
+    "ask", "ask ", "ask +1", "ask 0 ", "ask 1234567890", "answer 0", "answer 0 1 2", "Ask 0", "learn 0 {}")]
 
 
 def rehearsal_rows():
@@ -275,26 +229,57 @@ def rehearsal_rows():
     for sites, lines, output in REHEARSED:
         yield sites, lines, Answer(0, output.encode(), b"")
     for sites, lines, said in STOPPED:
-        yield sites, lines, Answer(1, b"", ("cadf: %s\n" % said).encode())
+        yield sites, lines, refusal(said)
+
+
+def refusal(said, status=1):
+    return Answer(status, b"", ("cadf: %s\n" % said).encode())
+
+
+def called(name, command, files, wanted):
+    """A row of the command's words, and of files that stand behind them in turn."""
+    names = [b"file %d" % number for number in range(1, len(files) + 1)]
+    return name, [*command.encode().split(), *names], dict(zip(names, files)), wanted
+
+
+def document_calls():
+    """The rows of documents."""
+    for command, rows in (("show", document_rows.SHOWN + document_rows.AT_LIMITS), ("show --conflicts", document_rows.TOLD)):
+        for name, text, output in rows:
+            yield called(name, command, [text], Answer(0, output.encode(), b""))
+    for name, text, said in document_rows.REFUSED:
+        yield called(name, "show", [text], refusal("input 1: " + said))
+
+
+def exchange_calls():
+    """The rows of several inputs."""
+    for name, inputs, output in exchange_rows.JOINED:
+        for ordered in sorted(set(itertools.permutations(inputs))):
+            yield called(name, "join", ordered, Answer(0, output.encode(), b""))
+    for name, given, inputs, output in exchange_rows.JOINED_AS:
+        yield called(name, "join --log " + given, inputs, Answer(0, output.encode(), b""))
+    for name, command, inputs, output in exchange_rows.OF_FILES:
+        yield called(name, command, inputs, Answer(0, output.encode(), b""))
+    for name, command, inputs, said in exchange_rows.FILES_REFUSED:
+        yield called(name, command, inputs, refusal(said))
 
 
 def calls():
     """Each row's name, words, files and answer."""
     for name, command, source, by, output in WRITTEN:
-        words = [command.encode(), b"from"] + ([b"by"] if by else [])
-        yield name, words, {b"from": source, b"by": by or ""}, Answer(0, output.encode(), b"")
+        yield called(name, command, [source] + ([by] if by else []), Answer(0, output.encode(), b""))
     for name, source, by, said in REFUSED:
-        fault = ("cadf: %s\n" % said).encode()
-        yield name, [b"missing-by", b"from", b"by"], {b"from": source, b"by": by}, Answer(1, b"", fault)
+        yield called(name, "missing-by", [source, by], refusal(said))
     for name, file, said in FILES_REFUSED + [(name, tree(*nodes), said) for name, nodes, said in NODES_REFUSED]:
-        yield name, [b"check", b"from"], {b"from": file}, Answer(1, b"", ("cadf: input 1: %s\n" % said).encode())
+        yield called(name, "check", [file], refusal("input 1: " + said))
     for name, words, file, output in RULED_ROWS:
-        yield name, [*words.encode().split(), b"from"], {b"from": file}, Answer(0, output.encode(), b"")
+        yield called(name, words, [file], Answer(0, output.encode(), b""))
     for name, words, file, status, said in RULE_REFUSED:
-        yield name, [*words.encode().split(), b"from"], {b"from": file}, Answer(status, b"", ("cadf: %s\n" % said).encode())
+        yield called(name, words, [file], refusal(said, status))
+    yield from document_calls()
+    yield from exchange_calls()
     for sites, lines, wanted in rehearsal_rows():
-        words = [b"rehearse", b"g", str(sites).encode(), b"script"]
-        yield "rehearsal of " + "; ".join(lines), words, {b"script": "\n".join(lines)}, wanted
+        yield called("rehearsal of " + "; ".join(lines), "rehearse g %d" % sites, ["\n".join(lines)], wanted)
 
 
 def main():
@@ -303,7 +288,7 @@ def main():
     binaries = [os.path.abspath(binary) for binary in sys.argv[1:2]]
     rehearsing = [binary for binary in binaries if lists(binary, "rehearse")]
     for name, words, texts, wanted in calls():
-        files = {file: text.encode() for file, text in texts.items()}
+        files = {file: text.encode("utf-8", "surrogateescape") for file, text in texts.items()}
         asked = rehearsing if words[0] == b"rehearse" else binaries
         got = [answer(words, files)] + [answered(binary, words, files) for binary in asked]
         if not all(alike(wanted, one) for one in got):
