@@ -280,7 +280,7 @@ for command, readers, fields in IN_ORDER:
     row(*engine(command, readers, writer(ALL, "refuses", 1)), ["err", *fields], FAULTS)
 
 # Values that the command's own words can't name: place 0, the greatest place, letters of no value.
-NO_VALUES = [("E", "e1", 0), ("E", "e1", 2**64 - 1), ("E", "e2", 1), ("U", "e1", 1), ("U", "E", 1), ("C", "e1", 1),
+NO_VALUES = [("E", "e1", 0), ("E", "e1", 3), ("E", "e1", 2**64 - 1), ("E", "e2", 1), ("U", "e1", 1), ("U", "E", 1), ("C", "e1", 1),
              ("\u00e9", "e1", 1)]
 for letter, key, place in NO_VALUES:
     row(*engine("rule %s %s %d" % (letter, key, place), [reader(exchange.RULED)]), ["err", "NoValue"], FAULTS)
