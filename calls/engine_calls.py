@@ -10,10 +10,11 @@ import sys
 
 sys.path.append(os.path.join(os.path.dirname(os.path.dirname(os.path.abspath(__file__))), "differential"))
 
-import exchange_rows as exchange
 import rows as worked
+import worked_files as made
 from document_rows import BOTH, NORTH, conflicts, log
-from texts import B1, C1, K1, V1, V2, digits, document, inventory, replica
+from exchange_rows import OTHER_LOG
+from texts import C1, K1, V1, V2, digits, document, inventory, replica
 
 CALLS = {
     "each": [],
@@ -95,15 +96,16 @@ LOADED = [
     (document(V1, V2, more=',"name":"north"'), ["document", "some", "g", 2, 0, 1]),
     (V1, ["document", "none", 1, 0, 0]),
     (NORTH, ["document", "some", "g", 0, 1, 1]),
-    (exchange.CHAINS_1, ["replica", "some", "g", 3]),
-    (exchange.CONFLICT, ["replica", "some", "g", 4]),
+    (made.CHAINS, ["replica", "some", "g", 3]),
+    (made.CONFLICT_TREE, ["replica", "some", "g", 4]),
 ]
+TWICE = replica(C1, C1)
 # Why an input is refused, by name.
 LOADS_REFUSED = [
     ("CADF-REPLICA 3\n", ["File", "Version"]),
     ("CADF-REPLICA 1\n", ["File", "Truncated"]),
     (inventory(), ["File", "Version"]),
-    (replica(C1, C1), ["File", "Line", 4, "Order"]),
+    (TWICE, ["File", "Line", 4, "Order"]),
     ("CADF", ["Json", "NotJson"]),
     ("[1.5]", ["Json", "NotWhole"]),
     ('{"events":[]}', ["Document", "LogId"]),
@@ -117,13 +119,13 @@ for text, fields in LOADS_REFUSED:
     row("each", each(1, 7, "load", reader(text, "N")), ["err", *fields], FAULTS)
 
 # A limit, an input, and why it is refused within it; nothing where it is accepted.
-NONE, DOCUMENT_LOADED = replica(), ["ok", "document", "some", "g", 0, 0, 0]
+NONE, DOCUMENT_LOADED = made.NOTHING, ["ok", "document", "some", "g", 0, 0, 0]
 REPLICA_LOADED = ["ok", "replica", "some", "g", 0]
 LARGER, NOT_JSON, TRUNCATED = ["err", "TooLarge"], ["err", "Json", "NotJson"], ["err", "File", "Truncated"]
 WITHIN = [
     (22, EMPTY_LOG, DOCUMENT_LOADED), (21, EMPTY_LOG, LARGER), (5, EMPTY_LOG, LARGER), (0, EMPTY_LOG, LARGER),
     (2**64 - 1, EMPTY_LOG, DOCUMENT_LOADED), (88, NONE, REPLICA_LOADED), (87, NONE, LARGER),
-    (88, exchange.EMPTY, REPLICA_LOADED), (87, exchange.EMPTY, LARGER), (1000, "CADF", NOT_JSON),
+    (88, made.NOTHING_TREE, REPLICA_LOADED), (87, made.NOTHING_TREE, LARGER), (1000, "CADF", NOT_JSON),
     (1000, "CADF-", TRUNCATED), (5, "CADF-", TRUNCATED), (4, "CADF-", LARGER), (3, "CADF-", LARGER),
     (4, "CADF", NOT_JSON), (3, "CADF", LARGER), (1000, "", NOT_JSON), (0, "", NOT_JSON),
 ]
@@ -134,7 +136,6 @@ for text in (" " * 2000, "CADF-" + "x" * 2000):
     row("load_within", [1000, *reader(text, 7)], LARGER, STREAMS)
 
 # A failed read, where the bytes before it don't decide, and where they do.
-TWICE = replica(C1, C1)
 FAILED_READS = [
     (1, 3, "load", reader("CADF-REPLICA 1\n", 7, "N"), ["err", "ReadFault"]),
     (1, 401, "load", reader(TWICE, 1, "N"), ["err", "ReadFault"]),  # byte 401 ends the second line of the atom
@@ -148,18 +149,18 @@ for first, last, call, words, fields in FAILED_READS:
     row("each", each(first, last, call, words), fields, STREAMS)
 
 # A command, its inputs, which are small, and what is written: each read of each input fails in turn.
-NAMED, TWO_SITES = exchange.NAMED, "ask 1\nsend 0\n"
+NAMED, TWO_SITES = made.NAMED_TREE, "ask 1\nsend 0\n"
 READ = [
-    ("show", [exchange.ONE_2], log(V1)),
+    ("show", [made.EVENT_TREE], log(V1)),
     ("show", [EMPTY_LOG], log()),
     ("show --conflicts", [NONE], conflicts()),
     ("check", [NONE], 'ok "g" atoms 0 conflicts 0\n'),
-    ("inventory", [exchange.EMPTY], inventory()),
-    ("join", [NONE, EMPTY_LOG], exchange.EMPTY),
-    ("join", [EMPTY_LOG, exchange.EMPTY], exchange.EMPTY),
-    ("missing", [NONE, EMPTY_LOG], exchange.EMPTY),
-    ("missing-by", [EMPTY_LOG, inventory()], exchange.EMPTY),
-    ("rule P name 2", [NAMED], exchange.SOUTH),
+    ("inventory", [made.NOTHING_TREE], inventory()),
+    ("join", [NONE, EMPTY_LOG], made.NOTHING_TREE),
+    ("join", [EMPTY_LOG, made.NOTHING_TREE], made.NOTHING_TREE),
+    ("missing", [NONE, EMPTY_LOG], made.NOTHING_TREE),
+    ("missing-by", [EMPTY_LOG, inventory()], made.NOTHING_TREE),
+    ("rule P name 2", [NAMED], made.SOUTH_TREE),
     ("rehearse g 2", [TWO_SITES], "site 0 atoms 0 as 0\nsite 1 atoms 0 as 0\n"),
 ]
 
@@ -179,21 +180,21 @@ for command, inputs, output in READ:
     for place in range(len(inputs)):
         for piece in (1, 7):
             fail_reads(command, inputs, output, place, piece)
-fail_reads("missing", [exchange.TWO, exchange.TWO], exchange.EMPTY, 1, 97)
-fail_reads("missing-by", [exchange.ONE_2, inventory(*sorted([digits(C1), digits(K1)]))], exchange.EMPTY, 1, 97)
+fail_reads("missing", [made.TWO_TREE, made.TWO_TREE], made.NOTHING_TREE, 1, 97)
+fail_reads("missing-by", [made.EVENT_TREE, inventory(*sorted([digits(C1), digits(K1)]))], made.NOTHING_TREE, 1, 97)
 
 # A command, its inputs, what is written, and whether it goes out line by line or whole: each write fails in turn.
 LINES, WHOLE = True, False
 WRITTEN = [
-    ("show", [exchange.CHAINS], log(BOTH), WHOLE),
+    ("show", [made.CHAINS_TREE], log(BOTH), WHOLE),
     ("show --conflicts", [EMPTY_LOG], conflicts(), WHOLE),
     ("check", [EMPTY_LOG], 'ok "g" atoms 0 conflicts 0\n', WHOLE),
     ("inventory", [EMPTY_LOG], inventory(), LINES),
-    ("join", [EMPTY_LOG, V1], exchange.ONE_2, LINES),
-    ("missing", [EMPTY_LOG, NONE], exchange.EMPTY, LINES),
-    ("missing", [exchange.TWO_1, exchange.ONE_2], exchange.SECOND_ALONE, LINES),
-    ("missing-by", [exchange.EMPTY, inventory()], exchange.EMPTY, LINES),
-    ("rule P name 2", [NAMED], exchange.SOUTH, LINES),
+    ("join", [EMPTY_LOG, V1], made.EVENT_TREE, LINES),
+    ("missing", [EMPTY_LOG, NONE], made.NOTHING_TREE, LINES),
+    ("missing", [made.TWO, made.EVENT_TREE], made.SECOND_TREE, LINES),
+    ("missing-by", [made.NOTHING_TREE, inventory()], made.NOTHING_TREE, LINES),
+    ("rule P name 2", [NAMED], made.SOUTH_TREE, LINES),
     ("rehearse g 2", [""], "site 0 atoms 0 as 0\nsite 1 atoms 0 as 0\n", WHOLE),
 ]
 
@@ -219,7 +220,7 @@ for command, inputs, output, lines in WRITTEN:
 
 # A command, its readers, and its fault by name, where the first write would fail: nothing is written before all else.
 FAILING, GOOD, EVENT, BAD = reader(EMPTY_LOG, ALL, 1), reader(EMPTY_LOG), reader(V1), reader("{")
-OTHER, OTHER_NOTED = reader(exchange.OTHER_LOG), reader(inventory(log="h"))
+OTHER, OTHER_NOTED = reader(OTHER_LOG), reader(inventory(log="h"))
 NOT_JSON_1, NOT_JSON_2 = ["Input", 1, "Json", "NotJson"], ["Input", 2, "Json", "NotJson"]
 IN_ORDER = [
     ("join", [], ["NoLog"]),
@@ -273,7 +274,7 @@ IN_ORDER = [
     ("rehearse g 2", [reader("send 0\nanswer 1 2")], ["Rehearse", "NoMessage", 2]),
     ("rehearse g 2", [reader("send 0\nanswer 1 1")], ["Rehearse", "NotInventory", 2]),
     ("rehearse g 2", [reader("ask 0\nanswer 1 1\ndeliver 2 1")], ["Rehearse", "WrongAddressee", 3]),
-    ("rehearse g 2", [reader("learn 0 " + exchange.OTHER_LOG)], ["Rehearse", "OtherLog", 1]),
+    ("rehearse g 2", [reader("learn 0 " + OTHER_LOG)], ["Rehearse", "OtherLog", 1]),
     ("rehearse g 2", [reader("")], ["WriteFault"]),
 ]
 for command, readers, fields in IN_ORDER:
@@ -283,12 +284,12 @@ for command, readers, fields in IN_ORDER:
 NO_VALUES = [("E", "e1", 0), ("E", "e1", 3), ("E", "e1", 2**64 - 1), ("E", "e2", 1), ("U", "e1", 1), ("U", "E", 1), ("C", "e1", 1),
              ("\u00e9", "e1", 1)]
 for letter, key, place in NO_VALUES:
-    row(*engine("rule %s %s %d" % (letter, key, place), [reader(exchange.RULED)]), ["err", "NoValue"], FAULTS)
+    row(*engine("rule %s %s %d" % (letter, key, place), [reader(made.RULED_TREE)]), ["err", "NoValue"], FAULTS)
 
 # A call of each engine, whole.
 for command, inputs, output in READ:
     row(*engine(command, map(reader, inputs)), told(output), COMMANDS)
-row(*engine("join --log g", []), told(exchange.EMPTY), COMMANDS)
+row(*engine("join --log g", []), told(made.NOTHING_TREE), COMMANDS)
 
 # The status and the text of failed reads and writes.
 for command, readers, status, text in [

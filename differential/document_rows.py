@@ -3,6 +3,7 @@
     from document_rows import SHOWN, TOLD, REFUSED
 """
 from texts import EVT, MEMBERS, S1, S2, S3, V1, V2, VF, document, nested
+from worked_files import R1
 
 LOG_END = '"typeURI":"http://schemas.dmtf.org/cloud/audit/1.0/log"}\n'
 USUAL = (
@@ -58,7 +59,6 @@ FAILED = event(outcome='"failure"', reporterchain="[%s]" % S2)
 LATER, EARLIER = at("2024-03-01T13:00:00+01:00"), at("2024-03-01T12:30:00+01:00", "e3")
 SAME_TIME = document(at("2024-03-01T12:00:00+0000"), at("2024-03-01T12:00:00.000+00:00"))
 NORTH = '{"events":[],"id":"g","name":"north","resources":[{"typeURI":"storage","id":"r1"}],"typeURI":7}'
-R1 = '{"id":"r1","typeURI":"storage"}'
 
 # Documents, and the logs that they are shown as.
 SHOWN = [
