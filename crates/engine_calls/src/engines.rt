@@ -49,13 +49,7 @@ fn rule(alloc: Global, words: Words<'_>, sink: &mut MemorySink) -> Ran {
 fn rehearse(alloc: Global, words: Words<'_>, sink: &mut MemorySink) -> Ran {
     let log = Name::read(alloc, words.text(4)).ok()?;
     let mut script = words.source(6);
-    Some(run_rehearse(
-        alloc,
-        &log,
-        words.number(5),
-        &mut script,
-        sink,
-    ))
+    Some(run_rehearse(alloc, &log, words.number(5), &mut script, sink))
 }
 
 /// `run_show`: `log` or `conflicts`, and a reader.
@@ -99,7 +93,11 @@ pub(crate) fn answered(alloc: Global, words: Words<'_>) -> Result<Answer, Memory
 /// The status and the text of a fault.
 fn status_and_text(alloc: Global, fault: &ToolFault) -> Result<String, Memory> {
     let (status, text) = (status(fault), format!(in alloc; "{fault}")?);
-    calls::answer(alloc, format!(in alloc; "{status}")?.as_str(), &[text.as_str()])
+    calls::answer(
+        alloc,
+        format!(in alloc; "{status}")?.as_str(),
+        &[text.as_str()],
+    )
 }
 
 /// `fault`: an engine's call, of which the fault's status and text are told.
