@@ -249,8 +249,8 @@ def exchange_calls():
         yield called(name, command, inputs, refusal(said))
 
 
-def calls():
-    """Each row's name, words, files and answer."""
+def rows():
+    """Each row's name, words, files as text, and answer."""
     for name, command, source, by, output in WRITTEN:
         yield called(name, command, [source] + ([by] if by else []), Answer(0, output.encode(), b""))
     for name, source, by, said in REFUSED:
@@ -267,13 +267,27 @@ def calls():
         yield called("rehearsal of " + "; ".join(lines), "rehearse g %d" % sites, ["\n".join(lines)], wanted)
 
 
+def calls():
+    """Each row's name, words, files and answer."""
+    for name, words, texts, wanted in rows():
+        yield name, words, {file: text.encode() for file, text in texts.items()}, wanted
+
+
+def wrong_sizes():
+    """The texts that have another number of bytes."""
+    return ["the size of %.40s" % text for text, size in SIZES if len(text.encode()) != size]
+
+
 def main():
-    wrong = [("the size of %.40s" % text) for text, size in SIZES if len(text.encode()) != size]
-    count = len(SIZES)
+    wrong, count = wrong_sizes(), len(SIZES)
     binaries = [os.path.abspath(binary) for binary in sys.argv[1:2]]
     rehearsing = [binary for binary in binaries if lists(binary, "rehearse")]
+<<<<<<< HEAD
     for name, words, texts, wanted in calls():
         files = {file: text.encode("utf-8", "surrogateescape") for file, text in texts.items()}
+=======
+    for name, words, files, wanted in calls():
+>>>>>>> 5c96fbaf4db23bbffa05db10b649c6462f95adba
         asked = rehearsing if words[0] == b"rehearse" else binaries
         got = [answer(words, files)] + [answered(binary, words, files) for binary in asked]
         if not all(alike(wanted, one) for one in got):
