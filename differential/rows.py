@@ -223,14 +223,14 @@ def refusal(said, status=1):
 
 def called(name, command, files, wanted):
     """A row of the command's words, and of files that stand behind them in turn."""
-    names = [b"file %d" % number for number in range(1, len(files) + 1)]
+    names = [b"file-%d" % number for number in range(1, len(files) + 1)]
     return name, [*command.encode().split(), *names], dict(zip(names, files)), wanted
 
 
 def document_calls():
     """The rows of documents."""
-    for command, rows in (("show", document_rows.SHOWN + document_rows.AT_LIMITS), ("show --conflicts", document_rows.TOLD)):
-        for name, text, output in rows:
+    for command, told in (("show", document_rows.SHOWN + document_rows.AT_LIMITS), ("show --conflicts", document_rows.TOLD)):
+        for name, text, output in told:
             yield called(name, command, [text], Answer(0, output.encode(), b""))
     for name, text, said in document_rows.REFUSED:
         yield called(name, "show", [text], refusal("input 1: " + said))
@@ -270,7 +270,7 @@ def rows():
 def calls():
     """Each row's name, words, files and answer."""
     for name, words, texts, wanted in rows():
-        yield name, words, {file: text.encode() for file, text in texts.items()}, wanted
+        yield name, words, {file: text.encode("utf-8", "surrogateescape") for file, text in texts.items()}, wanted
 
 
 def wrong_sizes():
@@ -282,12 +282,7 @@ def main():
     wrong, count = wrong_sizes(), len(SIZES)
     binaries = [os.path.abspath(binary) for binary in sys.argv[1:2]]
     rehearsing = [binary for binary in binaries if lists(binary, "rehearse")]
-<<<<<<< HEAD
-    for name, words, texts, wanted in calls():
-        files = {file: text.encode("utf-8", "surrogateescape") for file, text in texts.items()}
-=======
     for name, words, files, wanted in calls():
->>>>>>> 5c96fbaf4db23bbffa05db10b649c6462f95adba
         asked = rehearsing if words[0] == b"rehearse" else binaries
         got = [answer(words, files)] + [answered(binary, words, files) for binary in asked]
         if not all(alike(wanted, one) for one in got):
