@@ -1,23 +1,314 @@
-"""Calls of JSON values and of times, with what they answer.
+"""Calls of JSON values, of sources and sinks, and of times, with what they answer.
 
     calls/make json_calls
 """
+from texts import nested
+
+# What is asked of a value that is held, or of a tree.
+ASKED = {
+    "kind": ["View::is_null", "View::is_object", "View::is_list", "View::as_text", "View::len", "View::depth"],
+    "item": ["View::item"],
+    "member": ["View::member"],
+    "name": ["View::name_at"],
+    "members": ["View::members", "Members::next"],
+    "within": ["View::members_within"],
+    "rewritten": ["View::rewritten"],
+    "again": ["View::again"],
+    "copy": ["View::to_json"],
+}
 
 CALLS = {
+    **{"%s %s" % (how, asked): calls for how in ("value", "tree") for asked, calls in ASKED.items()},
+    "value text": ["Json::read", "Json::view", "View::text"],
+    "tree text": ["Tree::of_text", "Tree::read", "Tree::view"],
+    "canonical": ["Json::read_canonical"],
+    "text": ["Json::from_text"],
+    "quoted": ["quoted"],
+    "list": ["ListBuilder::new", "ListBuilder::push", "ListBuilder::finish"],
+    "object": ["ObjectBuilder::new", "ObjectBuilder::from_json", "ObjectBuilder::insert", "ObjectBuilder::finish"],
+    "split": ["read_split", "TakesItems::take"],
+    "check_list": ["check_list"],
+    "may_be_json": ["may_be_json"],
+    "read_whole": ["read_whole", "MemorySource::new", "Source::read"],
+    "read_rest": ["read_rest"],
+    "read_by_std": ["FromStd::new", "FromStd::into_inner"],
+    "write_whole": ["write_whole", "MemorySink::new", "MemorySink::bytes", "Sink::write", "OutFault::from"],
+    "write_by_std": ["FromStd::new", "FromStd::into_inner"],
     "time": ["Stamp::read", "Stamp::instant", "Stamp::offset", "Stamp::text"],
 }
 
+CANONICAL, VALUES, STREAMS, TIMES = (
+    "Canonical JSON text", "ARCHITECTURE: Values and trees", "ARCHITECTURE: Sources and sinks", "Times")
+
+# Texts of JSON, and the canonical texts of what they spell.
+SPELLED = [
+    ("18446744073709551615", "18446744073709551615"),
+    ("-9223372036854775808", "-9223372036854775808"),
+    ("[ null , true , false , 0 , -1 ]", "[null,true,false,0,-1]"),
+    (' { "b" : [ ] , "a" : "\\u0041\\/\\u007f" } ', '{"a":"A/\x7f","b":[]}'),
+    ('{"B":{},"a":1,"é":2,"aa":3}', '{"B":{},"a":1,"aa":3,"é":2}'),
+    ('"\\u0001\\t\\""', '"\\u0001\\t\\""'),
+    ('"\\b\\f\\n\\r\\t\\u000B\\u001F\\u0020\\\\"', '"\\b\\f\\n\\r\\t\\u000b\\u001f \\\\"'),
+    ('"\\ud83d\\ude00\\u00e9"', '"😀é"'),
+    ('{"type\\"x":1,"typeURI":2,"type":3,"type\\u0000":4}', '{"type":3,"type\\u0000":4,"type\\"x":1,"typeURI":2}'),
+    ('{"é":2,"a":1,"B":{"d":[{"z":1,"y":{}}],"c":0},"aa":3,"":4}',
+     '{"":4,"B":{"c":0,"d":[{"y":{},"z":1}]},"a":1,"aa":3,"é":2}'),
+    (nested(127), nested(127)),
+]
+
+# Texts in which a name stands twice: the last one counts, and they have no tree.
+TWICE = [
+    ('{"a":1,"a":2}', '{"a":2}'),
+    ('{"a":1,"b":3,"\\u0061":2}', '{"a":2,"b":3}'),
+    ('{"a":1.5,"a":1}', '{"a":1}'),
+    ('[{"x":[{"b":1,"b":2}]}]', '[{"x":[{"b":2}]}]'),
+]
+
+# Numbers that refuse a value, and those that it keeps as they stand.
+NOT_WHOLE = ["1.5", "1e3", "1.0", "1E2", "0.5", "18446744073709551616", "-9223372036854775809", "-0", "-0.0"]
+WHOLE = ["18446744073709551615", "-9223372036854775808", '"1.5"']
+
+# Bytes that no JSON spells.
+NO_JSON = [b"[1.5", b'"\xff"', b'{"events":[', b"1e400", b"01", b"1 2", b"CADF", b"", b"[1]]", b"{} {}", b'{"a"}', b"[1,]",
+           b'"\\ud800"', b"nul", b'"\x01"', b'"\xc0\x80"', nested(128).encode()]
+
+# Texts that are no canonical text, and why.
+NO_CANONICAL = [
+    ("[1.50", "NotJson"), ("[ 1.50]", "NotWhole"), ('{"b":1,"a":2}', "NotCanonical"), ("[1, 2]", "NotCanonical"),
+    ("1\n", "NotCanonical"), ('"\\u0041"', "NotCanonical"), ('"\\/"', "NotCanonical"), ('{"a":1,"a":1}', "NotCanonical"),
+]
+
+# Values: whether each is null, an object, a list; how many parts it has, how deep it nests, its text.
+KINDS = [
+    ("null", True, False, False, 0, 0), ("true", False, False, False, 0, 0), ("7", False, False, False, 0, 0),
+    ('"x"', False, False, False, 0, 0, "x"), ('""', False, False, False, 0, 0, ""),
+    ("[]", False, False, True, 0, 1), ("{}", False, True, False, 0, 1), ("[1,[2]]", False, False, True, 2, 2),
+    ('{"b":[1,"x",null],"a":{}}', False, True, False, 2, 2), (nested(127), False, False, True, 1, 127),
+]
+
+PARTS = '{"b":[1,"x",null],"a":{}}'
+MEMBERS = '{"t":"x","id":1,"deep":[[]]}'
+
+# What is asked of a value, and what is found.
+FOUND = [
+    (PARTS, ["name", 0], ["some", "a"]),
+    (PARTS, ["name", 1], ["some", "b"]),
+    (PARTS, ["name", 2], ["none"]),
+    (PARTS, ["item", 0], ["some", "{}"]),
+    (PARTS, ["item", 1], ["some", '[1,"x",null]']),
+    (PARTS, ["item", 2], ["none"]),
+    (PARTS, ["member", "b"], ["some", '[1,"x",null]']),
+    (PARTS, ["member", "c"], ["none"]),
+    (PARTS, ["member", ""], ["none"]),
+    (PARTS, ["again"], ["ok", '{"a":{},"b":[1,"x",null]}']),
+    (PARTS, ["copy"], ["ok", '{"a":{},"b":[1,"x",null]}']),
+    ('[1,"x",null]', ["item", 1], ["some", '"x"']),
+    ('[1,"x",null]', ["item", 2], ["some", "null"]),
+    ('[1,"x",null]', ["item", 3], ["none"]),
+    ('[1,"x",null]', ["name", 0], ["none"]),
+    ('[1,"x",null]', ["member", "b"], ["none"]),
+    ('"x"', ["item", 0], ["none"]),
+    (MEMBERS, ["members"], ["ok", "deep", "[[]]", "id", "1", "t", '"x"']),
+    ("[1]", ["members"], ["ok"]),
+    ('{"b":[1,[2],{"z":null}],"a":"x","d":{},"c":true}', ["members"],
+     ["ok", "a", '"x"', "b", '[1,[2],{"z":null}]', "c", "true", "d", "{}"]),
+    # A member's limit, and that of the others.
+    (MEMBERS, ["within", "deep", 2, 0], [True]),
+    (MEMBERS, ["within", "deep", 1, 9], [False]),
+    ('{"b":[1,[2]],"d":{}}', ["within", "b", 2, 1], [True]),
+    ('{"b":[1,[2]],"d":{}}', ["within", "b", 1, 1], [False]),
+    ('{"b":[1,[2]],"d":{}}', ["within", "d", 0, 2], [False]),
+    # The name with its text, and the names that are left out.
+    (MEMBERS, ["rewritten", "t", 'y"', "id", "other"], ["ok", '{"deep":[[]],"t":"y\\""}']),
+    ("[1]", ["rewritten", "t", "y", "id", "tags"], ["ok", "{}"]),
+    ("{}", ["rewritten", "t", "y", "id", "tags"], ["ok", "{}"]),
+    ('{"time":"now","id":1,"a":[0]}', ["rewritten", "time", "t\n", "id", "tags"], ["ok", '{"a":[0],"time":"t\\n"}']),
+    ('{"id":1,"b":{"id":2}}', ["rewritten", "time", "t", "id", "tags"], ["ok", '{"b":{"id":2}}']),
+    ('{"x":1,"id":1,"tags":[]}', ["rewritten", "time", "t", "id", "tags"], ["ok", '{"x":1}']),
+]
+
+# Values that are built of texts: of a list's items, of an object and two members more.
+LISTS = [(["1", '{"k":7}', '"x"'], '[1,{"k":7},"x"]'), ([], "[]"), ([nested(126)], nested(127))]
+OBJECTS = [
+    (["", "b", '"x"', "a", '"null"'], '{"a":"null","b":"x"}'),
+    (['{"b":["x",{"k":7}],"a":"null"}', "a", "[]"], '{"a":[],"b":["x",{"k":7}]}'),
+    (['"x"'], "{}"),
+    (["", "a", "1", "a", "2"], '{"a":2}'),
+]
+
+# Objects of which `list` is taken: what is left, and the items.
+AROUND = [
+    (' { "z" : [1,2], "list" : [ {"b":1,"a":[]} , null , 7, "\\u0041" ] , "a":{"list":[3]} } ',
+     '{"a":{"list":[3]},"list":[],"z":[1,2]}', ['{"a":[],"b":1}', "null", "7", '"A"']),
+    ('{"list":[]}', '{"list":[]}', []),
+]
+WITHOUT_LIST = [("{}", "{}"), (' {"b":{"list":[1]},"a":[{}]} ', '{"a":[{}],"b":{"list":[1]}}')]
+NO_SPLIT = ["", "[]", '{"list":[]', '{"list":[]} {}', '{"list":[1.5]}', '{"list":{}}', '{"list":null}', '{"a":1} 2',
+            '{"b":1,"b":2}', '{"b":[0.5]}', '{"list":[],"list":[]}', '{"a":1,"list":[],"a":1}']
+
+# Lists that are passed over with nothing kept, and texts that aren't.
+PASSED = ["[]", ' [ { "a" : 1 } , { "a" : [ ] } ] ', "[-9223372036854775808,18446744073709551615,0,-1]",
+          '[null,true,false,"\\u0041"]', '[{"a":1,"a":{"b":2,"b":[]}}]', nested(127)]
+NOT_PASSED = ["", "{}", "7", "[", "[]]", "[] []", "[1,]", "[1.5]", '[{"a":[1e2]}]', "[-0]", "[18446744073709551616]",
+              "[-9223372036854775809]", '[{"a":1]', '[{"a":}]', nested(128)]
+
+# Texts that may be JSON, and texts that are none.
+MAY_BE = ["{}", "[1.5]", ' {"a":1,"a":2} ', '"\\u0041"', "7", nested(127)]
+MAY_NOT = ["", '{"a":[{"a":1},{"a"', "[1,]", "[] []", '{"a":01}', "nul", nested(128)]
+
+BYTES = b"twenty-two bytes long!"
+LONG = b"\x07" * 10000
+
+
+def reads():
+    """Readings of these bytes: the size of a piece, the read that fails (0 is none), the limit, and the answer."""
+    for piece in (1, 7, 22, 4096):
+        yield BYTES, piece, 0, 22, ["ok", BYTES]
+        yield BYTES, piece, 0, 21, ["err", "TooLarge"]
+    yield b"", 1, 0, 0, ["ok", b""]
+    for limit in (10000, 20000):
+        yield LONG, 10000, 0, limit, ["ok", LONG]
+    yield LONG, 10000, 0, 9999, ["err", "TooLarge"]
+    # The last read gives nothing: 23 reads of a byte, 5 of seven, 2 of all.
+    for piece, count in ((1, 23), (7, 5), (22, 2)):
+        for failing in range(1, count + 1):
+            yield BYTES, piece, failing, 22, ["err", "ReadFault"]
+        yield BYTES, piece, count + 1, 22, ["ok", BYTES]
+    # The third read decides that there are more than 20 bytes: a failure of the fourth changes nothing.
+    for failing in (1, 2, 3):
+        yield BYTES, 7, failing, 20, ["err", "ReadFault"]
+    yield BYTES, 7, 4, 20, ["err", "TooLarge"]
+    yield BYTES, 7, 0, 20, ["err", "TooLarge"]
+
+
+def writes():
+    """Writings of these bytes: the size of a piece, what fails and at which write, and the answer with what was written."""
+    for piece, count in ((1, 22), (7, 4), (22, 1)):
+        for failing in range(1, count + 1):
+            for how in ("refuses", "takes nothing"):
+                yield piece, how, failing, ["err", "WriteFault", BYTES[:(failing - 1) * piece]]
+        yield piece, "never", 0, ["ok", BYTES]
+        yield piece, "refuses", count + 1, ["ok", BYTES]
+
+
 # Times: their instants in nanoseconds since 1970, their offsets in minutes, and their canonical spellings.
-TIMES = [
+SPELLED_TIMES = [
     ("2024-03-01T12:00:00Z", 1709294400 * 10**9, 0, "2024-03-01T12:00:00Z"),
+    ("0001-01-01T00:00:00+14:00", -62135647200 * 10**9, 840, "0001-01-01T00:00:00+14:00"),
+    ("9998-12-31T23:59:59.999999999-14:00", 253370815200 * 10**9 - 1, -840, "9998-12-31T23:59:59.999999999-14:00"),
+    ("2024-03-01T12:00:00.500-00:00", 1709294400 * 10**9 + 5 * 10**8, 0, "2024-03-01T12:00:00.5Z"),
+    ("2024-02-29T00:00:00Z", 1709164800 * 10**9, 0, "2024-02-29T00:00:00Z"),
+    ("2000-02-29T00:00:00Z", 951782400 * 10**9, 0, "2000-02-29T00:00:00Z"),
+    ("2024-03-01T12:00:00.120000000+0530", 1709274600 * 10**9 + 12 * 10**7, 330, "2024-03-01T12:00:00.12+05:30"),
+    ("2014-02-14T01:20:47.932842+0000", 1392340847932842 * 1000, 0, "2014-02-14T01:20:47.932842Z"),
+    ("1970-01-01T00:00:00.000-0000", 0, 0, "1970-01-01T00:00:00Z"),
 ]
 
 # Texts that are no times, and why.
 NO_TIMES = [
-    ("2024-03-01T12:00:60Z", "Range"),
-    ("", "Shape"),
+    ("2024-03-01T12:00:60Z", "Range"), ("2023-02-29T00:00:00Z", "Range"), ("1900-02-29T00:00:00Z", "Range"),
+    ("0000-03-01T00:00:00Z", "Range"), ("9999-03-01T00:00:00Z", "Range"), ("2024-03-01T24:00:00Z", "Range"),
+    ("2024-03-01T12:60:00Z", "Range"), ("2024-04-31T12:00:00Z", "Range"), ("2024-13-01T00:00:00+15:00", "Range"),
+    ("2024-03-01T00:00:00+14:01", "Offset"), ("2024-03-01T00:00:00+15:00", "Offset"),
+    ("2024-03-01T00:00:00+13:60", "Offset"), ("2024-03-01T00:00:00.1234567890Z", "Shape"),
+    ("2024-03-01T00:00:00.Z", "Shape"), ("2024-03-01t00:00:00Z", "Shape"), ("2024-03-01T00:00:00z", "Shape"),
+    ("2024-03-01T00:00:00+01", "Shape"), ("2024-03-01T00:00:00", "Shape"), ("2024-03-01 00:00:00Z", "Shape"),
+    (" 2024-03-01T00:00:00Z", "Shape"), ("2024-03-01T00:00:00Z\n", "Shape"), ("٢024-03-01T00:00:00Z", "Shape"), ("", "Shape"),
 ]
 
-ROWS = []
-ROWS += [("time", [text], ["ok", instant, offset, spelled], "Times") for text, instant, offset, spelled in TIMES]
-ROWS += [("time", [text], ["err", fault], "Times") for text, fault in NO_TIMES]
+
+def values():
+    """Values, their texts, and why others are none."""
+    for text, spelled in SPELLED:
+        yield "value", ["text", text], ["ok", spelled], CANONICAL
+        yield "tree", ["text", text], ["ok", spelled], VALUES
+    for spelled in {spelled: None for _, spelled in SPELLED}:
+        yield "canonical", [spelled], ["ok", spelled], CANONICAL
+    for text, spelled in TWICE:
+        yield "value", ["text", text], ["ok", spelled], CANONICAL
+        yield "tree", ["text", text], ["err", "NotPlain"], VALUES
+    yield "value", ["text", '{"a":1,"a":1.5}'], ["err", "NotWhole"], CANONICAL
+    for number in NOT_WHOLE:
+        for text in (number, '{"measurements":[{"metricId":"m1","result":%s}]}' % number):
+            yield "value", ["text", text], ["err", "NotWhole"], CANONICAL
+            yield "tree", ["text", text], ["err", "NotPlain"], VALUES
+    for number in WHOLE:
+        text = '{"measurements":[{"metricId":"m1","result":%s}]}' % number
+        yield "value", ["text", text], ["ok", text], CANONICAL
+    for data in NO_JSON:
+        yield "value", ["text", data], ["err", "NotJson"], CANONICAL
+    for text in ("", "[1", "[1]]", "{} {}", '{"a"}', "[1,]", '"\\ud800"', "nul", nested(128)):
+        yield "tree", ["text", text], ["err", "NotPlain"], VALUES
+    for text, fault in NO_CANONICAL:
+        yield "canonical", [text], ["err", fault], CANONICAL
+
+
+def looks():
+    """What is seen of a value, whether it is held or in a tree."""
+    for text, *kind in KINDS:
+        for how in ("value", "tree"):
+            yield how, ["kind", text], kind, VALUES
+    for text, asked, found in FOUND:
+        for how in ("value", "tree"):
+            yield how, [asked[0], text, *asked[1:]], found, VALUES
+
+
+def built():
+    """Values that are built."""
+    yield "quoted", ['a"b\n'], ["ok", '"a\\"b\\n"'], CANONICAL
+    yield "text", ["x"], ["ok", '"x"'], VALUES
+    yield "text", ["null"], ["ok", '"null"'], VALUES
+    for words, text in LISTS:
+        yield "list", words, ["ok", text], VALUES
+    for words, text in OBJECTS:
+        yield "object", words, ["ok", text], VALUES
+
+
+def passed():
+    """Objects of which a list is taken, lists that are passed over, and texts that may be JSON."""
+    for text, rest, items in AROUND:
+        yield "split", [text, "list"], ["around", rest, *items], VALUES
+    for text, whole in WITHOUT_LIST:
+        yield "split", [text, "list"], ["whole", whole], VALUES
+    for text in NO_SPLIT:
+        yield "split", [text, "list"], ["err", "NotPlain"], VALUES
+    for text in PASSED:
+        yield "check_list", [text], ["ok"], VALUES
+    for text in NOT_PASSED:
+        yield "check_list", [text], ["err", "NotPlain"], VALUES
+    for text in MAY_BE:
+        yield "may_be_json", [text], [True], VALUES
+    for text in MAY_NOT:
+        yield "may_be_json", [text], [False], VALUES
+
+
+def streams():
+    """Readings and writings in pieces, with a failure at each call in turn."""
+    for data, piece, failing, limit, answer in reads():
+        yield "read_whole", [data, piece, failing, limit], answer, STREAMS
+    # The rest behind a start of five bytes: the limit is on both together.
+    yield "read_rest", [BYTES[5:], 7, 0, 22, BYTES[:5]], ["ok", BYTES], STREAMS
+    for limit in (21, 4, 0):
+        yield "read_rest", [BYTES[5:], 7, 0, limit, BYTES[:5]], ["err", "TooLarge"], STREAMS
+    yield "read_rest", [BYTES[5:], 7, 1, 22, BYTES[:5]], ["err", "ReadFault"], STREAMS
+    # A reader of std that gives a byte a call: five take six calls, and a failed call isn't made again.
+    for failing in range(1, 7):
+        yield "read_by_std", [b"xxxxx", failing, 22], ["err", "ReadFault", failing], STREAMS
+    yield "read_by_std", [b"xxxxx", 7, 22], ["ok", b"xxxxx", 6], STREAMS
+    yield "read_by_std", [b"xxxxx", 4, 2], ["err", "TooLarge", 3], STREAMS
+    yield "read_by_std", [BYTES, 0, 22], ["ok", BYTES, 23], STREAMS
+    for piece, how, failing, answer in writes():
+        yield "write_whole", [BYTES, piece, how, failing], answer, STREAMS
+    yield "write_by_std", [BYTES, 22], ["ok", BYTES], STREAMS
+    yield "write_by_std", [BYTES, 3], ["err", "WriteFault", BYTES[:3]], STREAMS
+
+
+def times():
+    """Times, and texts that are none."""
+    for text, instant, offset, spelled in SPELLED_TIMES:
+        yield "time", [text], ["ok", instant, offset, spelled], TIMES
+    for text, fault in NO_TIMES:
+        yield "time", [text], ["err", fault], TIMES
+
+
+ROWS = [row for rows in (values, looks, built, passed, streams, times) for row in rows()]

@@ -33,6 +33,12 @@ def event(name, value):
     return "{" + ",".join('"%s":%s' % (one, members[one]) for one in sorted(members) if members[one]) + "}"
 
 
+def body(name, value):
+    """The body of the usual event with that member, whose value is canonical JSON."""
+    members = {**MEMBERS, name: value}
+    return "{" + ",".join('"%s":%s' % (one, members[one]) for one in sorted(members) if one not in ("id", "typeURI")) + "}"
+
+
 def nested(depth, inner=""):
     """So many lists in one another, around `inner`."""
     return "[" * depth + inner + "]" * depth

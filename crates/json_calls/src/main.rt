@@ -1,8 +1,14 @@
-//! Calls of JSON values and of times: each line of standard input is a call's name and its words, and what the call
-//! answers is a line of standard output.
+//! Calls of JSON values, of sources and sinks, and of times: each line of standard input is a call's name and its words,
+//! and what the call answers is a line of standard output.
 #![tactic(auto)]
 
+mod builds;
+mod looks;
+mod passes;
+mod splits;
+mod streams;
 mod times;
+mod writers;
 
 use calls::Call;
 use std::alloc::{AllocError as Memory, Global};
@@ -12,12 +18,40 @@ use std::io;
 fn answer(alloc: Global, line: &str) -> Result<String, Memory> {
     let call = Call::read(alloc, line)?;
     match call.name() {
+        "value" => looks::value(alloc, &call),
+        "tree" => looks::tree(alloc, &call),
+        "canonical" => looks::canonical(alloc, call.text(1)),
+        "text" => builds::text(alloc, call.text(1)),
+        "quoted" => builds::quoted(alloc, call.text(1)),
+        "list" => builds::list(alloc, &call),
+        "object" => builds::object(alloc, &call),
+        "split" => splits::split(alloc, call.text(1), call.text(2)),
+        "check_list" => passes::list(alloc, call.text(1)),
+        "may_be_json" => passes::may_be_json(alloc, call.text(1)),
+        "read_whole" => streams::whole(alloc, &call),
+        "read_rest" => streams::rest(alloc, &call),
+        "read_by_std" => streams::by_std(alloc, &call),
+        "write_whole" => writers::whole(alloc, &call),
+        "write_by_std" => writers::by_std(alloc, &call),
         "time" => times::read(alloc, call.text(1)),
         _ => calls::answer(alloc, "no such call", &[]),
     }
 }
 
+/// The laws of values, of their canonical texts and of times.
+fn laws() {
+    cadf_json::bytes_spell_values();
+    cadf_json::text_tells_values_apart();
+    cadf_json::text_spells_its_value();
+    cadf_json::text_is_one_line();
+    cadf_time::laws::one_reading();
+    cadf_time::laws::one_time();
+    cadf_time::laws::canonical_spells();
+    cadf_time::laws::canonical_tells_apart();
+}
+
 fn main(rt: HostRuntime) -> io::Result<()> {
+    laws();
     for line in rt.lines(rt.alloc()) {
         let line = line?;
         match answer(rt.alloc(), line.as_str()) {

@@ -1,0 +1,340 @@
+"""Calls of names, words, events and their parts, entities, properties and documents, with what they answer.
+
+    calls/make event_calls
+"""
+from texts import B1, S1, S2, V1, V2, body, document, event, nested
+
+CALLS = {
+    "name": ["Name::read", "Name::copied", "Name::as_str"],
+    "is_named": ["is_named"],
+    "is_reserved": ["is_reserved"],
+    "event_type": ["EventType::read"],
+    "outcome": ["Outcome::read"],
+    "role": ["Role::read"],
+    "event": ["Sighting::read", "Sighting::id", "Sighting::body", "Sighting::chains", "Sighting::tags",
+              "Sighting::attachments", "Body::text", "Body::instant", "Step::text"],
+    "body": ["Body::read"],
+    "body_with": ["Body::read_with"],
+    "step": ["Step::read"],
+    "step_with": ["Step::read_with"],
+    "attachment": ["read_attachment"],
+    "entity": ["Entity::read", "Entity::kind", "Entity::key", "Entity::text"],
+    "property": ["Property::read", "Property::name", "Property::text"],
+    "document": ["Document::read", "Document::log", "Document::sightings", "Document::entities", "Document::properties"],
+    "plain": ["Document::read_plain"],
+    # What a fault is shown as.
+    "fault document": ["DocumentFault::fmt", "EventFault::fmt", "EntityFault::fmt"],
+    "fault property": ["PropertyFault::fmt"],
+    "fault name": ["NameFault::fmt"],
+    "fault time": ["StampFault::fmt"],
+    "fault canonical": ["JsonFault::fmt"],
+    "fault body": ["TextFault::fmt"],
+}
+
+NAMES, EVENTS, DOCUMENTS, CANONICAL, PLAIN, FAULTS = (
+    "Names", "Events", "Documents", "Canonical JSON text", "ARCHITECTURE: The way of a document",
+    "ARCHITECTURE: What faults are shown as")
+NOON = 1709294400 * 10**9
+
+# An event as OpenStack's audit middleware writes it, and its parts.
+USUAL = ('{"typeURI":"http://schemas.dmtf.org/cloud/audit/1.0/event","id":"openstack:7f3e","eventType":"activity",'
+         '"eventTime":"2014-02-14T01:20:47.932842+0000","action":"read/list","outcome":"success","observer":{"id":"target"},'
+         '"initiator":{"id":"u1","typeURI":"service/security/account/user"},"target":{"id":"t1"},'
+         '"reporterchain":[{"role":"modifier","reporterTime":"2014-02-14T01:20:47.932842+00:00","reporter":{"id":"target"}}],'
+         '"tags":["correlation_id?value=9"]}')
+USUAL_BODY = ('{"action":"read/list","eventTime":"2014-02-14T01:20:47.932842Z","eventType":"activity",'
+              '"initiator":{"id":"u1","typeURI":"service/security/account/user"},"observer":{"id":"target"},'
+              '"outcome":"success","target":{"id":"t1"}}')
+USUAL_STEP = '{"reporter":{"id":"target"},"reporterTime":"2014-02-14T01:20:47.932842Z","role":"modifier"}'
+
+
+def seen(text=B1, *came, name="e1", instant=NOON):
+    """The parts of an event: its identifier, instant and body, and what came with it."""
+    return [name, instant, text, *came]
+
+
+# Members of the usual event that are accepted: the body then, and what comes with it.
+ACCEPTED = [
+    ("outcome", '"success/partial"', seen(body("outcome", '"success/partial"'))),
+    ("outcome", '"success/"', seen(body("outcome", '"success/"'))),
+    ("outcome", '"pending/a/b"', seen(body("outcome", '"pending/a/b"'))),
+    ("eventType", '"monitor"', seen(body("eventType", '"monitor"'))),
+    ("eventType", '"control"', seen(body("eventType", '"control"'))),
+    ("observer", '{"id":"s2"}', seen(body("observer", '{"id":"s2"}'))),
+    ("target", '{"id":"t2","host":null}', seen(body("target", '{"host":null,"id":"t2"}'))),
+    ("typeURI", "", seen()),
+    ("reporterchain", "null", seen()),
+    ("reporterchain", "[]", seen()),
+    ("reporterchains", "null", seen()),
+    ("reporterchains", "[null,[]]", seen()),
+    ("tags", "null", seen()),
+    ("tags", "[]", seen()),
+    ("attachments", "null", seen()),
+    ("attachments", "[]", seen()),
+    ("reporterchain", "[%s]" % S1, seen(B1, "chain", S1)),
+    ("reporterchains", "[[%s],[],null,[%s,%s]]" % (S1, S1, S2), seen(B1, "chain", S1, "chain", S1, S2)),
+    ("reporterchain", '[{"role":"relay","reporter":{"id":"r"},"reporterTime":"2024-03-01T12:00:00.10+0100"}]',
+     seen(B1, "chain", '{"reporter":{"id":"r"},"reporterTime":"2024-03-01T12:00:00.1+01:00","role":"relay"}')),
+    ("tags", '["b","a","b"]', seen(B1, "tag", "b", "tag", "a", "tag", "b")),
+    ("attachments", '[{"b":1,"a":2}]', seen(B1, "attachment", '{"a":2,"b":1}')),
+    # The same instant at another offset is another time.
+    ("eventTime", '"2024-03-01T13:00:00+01:00"', seen(body("eventTime", '"2024-03-01T13:00:00+01:00"'))),
+    ("eventTime", '"2024-03-01T12:30:00+01:00"',
+     seen(body("eventTime", '"2024-03-01T12:30:00+01:00"'), instant=NOON - 1800 * 10**9)),
+    ("eventTime", '"2024-03-01T12:00:00.000+00:00"', seen()),
+    ("eventTime", '"2024-03-01T12:00:00+0000"', seen()),
+    # Nesting and the length of chains, at their limits.
+    ("x", nested(99), seen(body("x", nested(99)))),
+    ("attachments", '[{"a":%s}]' % nested(99), seen(B1, "attachment", '{"a":%s}' % nested(99))),
+    ("reporterchain", '[{"reporterId":"s1","role":"relay","a":%s}]' % nested(99),
+     seen(B1, "chain", '{"a":%s,"reporterId":"s1","role":"relay"}' % nested(99))),
+    ("reporterchains", '[[{"reporterId":"s1","role":"relay","a":%s}]]' % nested(99),
+     seen(B1, "chain", '{"a":%s,"reporterId":"s1","role":"relay"}' % nested(99))),
+    ("reporterchain", "[%s]" % ",".join([S1] * 256), seen(B1, "chain", *[S1] * 256)),
+]
+
+# Members of the usual event that are refused.
+REFUSED = [
+    ("x", nested(100), ["TooDeep"]),
+    ("attachments", '[{"a":%s}]' % nested(100), ["TooDeep"]),
+    ("reporterchain", '[{"reporterId":"s1","role":"relay","a":%s}]' % nested(100), ["TooDeep"]),
+    ("reporterchains", '[[{"reporterId":"s1","role":"relay","a":%s}]]' % nested(100), ["TooDeep"]),
+    ("typeURI", '"x"', ["TypeUri"]),
+    ("typeURI", "null", ["TypeUri"]),
+    ("id", "", ["Id"]),
+    ("id", '""', ["Id"]),
+    ("id", '"%s"' % ("a" * 1025), ["Id"]),
+    ("eventType", '"Activity"', ["EventType"]),
+    ("eventTime", '"now"', ["EventTime"]),
+    ("action", "", ["Action"]),
+    ("action", '"a\\u007f"', ["Action"]),
+    ("outcome", '"successes"', ["Outcome"]),
+    ("outcome", '"Success"', ["Outcome"]),
+    ("initiatorId", "", ["Initiator"]),
+    ("targetId", "7", ["Target"]),
+    ("initiator", "null", ["Initiator"]),
+    ("observer", "{}", ["Observer"]),
+    ("observer", '{"id":7}', ["Observer"]),
+    ("reporterchain", "7", ["Chain", 0, 0]),
+    ("reporterchain", '[{"reporterId":"s1","role":"sender"}]', ["Chain", 0, 1]),
+    ("reporterchain", '[{"role":"relay"}]', ["Chain", 0, 1]),
+    ("reporterchain", '[{"reporterId":"s1","reporterTime":null,"role":"relay"}]', ["Chain", 0, 1]),
+    ("reporterchains", "7", ["Chain", 1, 0]),
+    ("reporterchains", "[[],7]", ["Chain", 2, 0]),
+    ("reporterchains", '[[],[{"reporterId":"s1","role":"relay","reporterTime":"now"}]]', ["Chain", 2, 1]),
+    ("reporterchain", "[%s]" % ",".join([S1] * 257), ["Chain", 0, 257]),
+    ("reporterchain", "[7,%s]" % ",".join([S1] * 257), ["Chain", 0, 1]),
+    ("tags", "7", ["Tag", 0]),
+    ("tags", '["a",""]', ["Tag", 2]),
+    ("attachments", "{}", ["Attachment", 0]),
+    ("attachments", "[1]", ["Attachment", 1]),
+]
+
+WHOLE = ["18446744073709551615", "-9223372036854775808", '"1.5"']
+NOT_WHOLE = ["1.5", "1e3", "18446744073709551616", "-9223372036854775809"]
+MEASURED = '[{"metricId":"m1","result":%s}]'
+
+# Texts of bodies, steps and attachments, and why others are none.
+NO_BODIES = [
+    ("{", "NotCanonical"), ('{"action": "read"}', "NotCanonical"), ('{"action":"read"}', "NotThis"), ("[]", "NotThis"),
+    (body("eventTime", '"2024-03-01T12:00:00.0Z"'), "NotThis"), (B1.replace('"init', '"id":"e1","init'), "NotThis"),
+    (body("x", nested(100)), "NotThis"),
+]
+NO_STEPS = [("7 ", "NotCanonical"), ("7", "NotThis"),
+            ('{"reporterId":"s1","reporterTime":"2024-03-01T12:00:00+00:00","role":"relay"}', "NotThis")]
+
+# Entities, their keys and texts, and why others are none.
+ENTITIES = [
+    ("geolocation", '{ "city":"x","id":"p1"}', "p1", '{"city":"x","id":"p1"}'),
+    ("resource", '{"typeURI":"storage","id":"r1"}', "r1", '{"id":"r1","typeURI":"storage"}'),
+    ("metric", '{"unit":"ms","metricId":"m1"}', "m1", '{"metricId":"m1","unit":"ms"}'),
+    ("resource", '{"a":%s,"id":"r1"}' % nested(99), "r1", '{"a":%s,"id":"r1"}' % nested(99)),
+]
+NO_ENTITIES = [
+    ("resource", "[]", "NotObject"), ("resource", '{"metricId":"m"}', "Id"), ("metric", '{"id":"m"}', "Id"),
+    ("geolocation", '{"id":""}', "Id"), ("resource", '{"a":%s}' % nested(100), "TooDeep"),
+]
+PROPERTIES = [("name", "null", "null"), ("x", nested(100), nested(100)), ("x", '{"b": 1,"a":2}', '{"a":2,"b":1}')]
+NO_PROPERTIES = [("", "1", "Name"), ("events", "1", "Name"), ("typeURI", "1", "Name"), ("x", nested(101), "TooDeep"),
+                 ("a" * 1025, "1", "Name")]
+
+# Documents, and their parts: the log, the events, the entities, the properties.
+PARTS = [
+    ('{"events":[],"geolocations":null,"id":"g","metrics":[{"unit":"ms","metricId":"m1"}],"name":"north",'
+     '"resources":[{"typeURI":"storage","id":"r1"}],"typeURI":7}',
+     ["log", "g", "resource", "r1", '{"id":"r1","typeURI":"storage"}', "metric", "m1", '{"metricId":"m1","unit":"ms"}',
+      "property", "name", '"north"']),
+    (' {"name":"north" , "events" : [ %s, %s ], "resources":[{"typeURI":"storage","id":"r1"}],"id":"g"}\n' % (V1, V2),
+     ["log", "g", "event", *seen(), "event", *seen(name="e2"), "resource", "r1", '{"id":"r1","typeURI":"storage"}',
+      "property", "name", '"north"']),
+    ('{ "events" : [ {"targetId":"t1","outcome":"success","id":"e1","observerId":"s1","initiatorId":"u1",'
+     '"eventType":"activity","eventTime":"2024-03-01T12:00:00.000+00:00","action":"read"} ], "id":"g" }',
+     ["log", "g", "event", *seen()]),
+    (event("tags", "[]"), ["no log", "event", *seen()]),
+    (event("tags", '["x"]'), ["no log", "event", *seen(B1, "tag", "x")]),
+]
+
+# Texts that are refused, in whichever way they are read. What is judged first is told first.
+NO_DOCUMENTS = [
+    ('{"events":[{}]}', ["LogId"]),
+    ('{"id":"g","events":[{}],"metrics":1}', ["NotList", "Metrics"]),
+    ('{"id":"g","events":[{}],"resources":{},"geolocations":1}', ["NotList", "Resources"]),
+    ('{"id":"g","events":[],"geolocations":1}', ["NotList", "Geolocations"]),
+    ('{"id":"g","events":[{},7],"resources":[{}],"b\\u0001":2}', ["Event", 1, "Id"]),
+    ('{"b\\u0001":2,"events":[7,{}],"id":"g"}', ["Event", 1, "NotObject"]),
+    (document(V1, event("action", "")), ["Event", 2, "Action"]),
+    (document(event("reporterchains", "[[%s,7]]" % S1)), ["Event", 1, "Chain", 1, 2]),
+    ('{"id":"g","events":[],"resources":[{}]}', ["Entity", "Resource", 1, "Id"]),
+    ('{"id":"g","events":[],"geolocations":[{"id":"p","a":%s}]}' % nested(100), ["Entity", "Geolocation", 1, "TooDeep"]),
+    ('{"id":"g","events":[],"metrics":[{"metricId":"m"},7]}', ["Entity", "Metric", 2, "NotObject"]),
+    ('{"id":"g","events":[],"a":1,"b\\u0001":2}', ["Property", 2]),
+    ('{"b\\u0001":2,"metrics":[7],"events":[],"id":"g"}', ["Entity", "Metric", 1, "NotObject"]),
+    ("[]", ["Event", 0, "NotObject"]),
+    (' [ {"a":1} , {"a":1} ] ', ["Event", 0, "NotObject"]),
+    ('[{"id":"g","events":[]},{"a":1,"a":2}]', ["Event", 0, "NotObject"]),
+    ("{}", ["Event", 0, "Id"]),
+    ('{"typeURI":7,"id":"e1"}', ["Event", 0, "TypeUri"]),
+    ('{"id":"e1","eventType":"activity","eventTime":"2024"}', ["Event", 0, "EventTime"]),
+    (event("action", ""), ["Event", 0, "Action"]),
+]
+
+# Texts that are judged by the reading of the whole alone, and what that answers.
+NOT_PLAIN = [
+    ('{"id":"g","events":{}}', ["err", "NotList", "Events"]),
+    ('{"id":"g","events":null}', ["err", "NotList", "Events"]),
+    ("", ["err", "NotJson"]),
+    ("7", ["err", "Event", 0, "NotObject"]),
+    ("[1.5]", ["err", "NotWhole"]),
+    ('[{"a":1},{"a":1}', ["err", "NotJson"]),
+    ('{"id":"g","id":"g"}', ["err", "Event", 0, "EventType"]),
+    ('{"id":"g","a":[{"b":0.5}]}', ["err", "NotWhole"]),
+    ('{"id":"g","events":[]', ["err", "NotJson"]),
+    ('{"id":"g","events":[{}]} {}', ["err", "NotJson"]),
+    ('{"id":"g","events":[],"events":[]}', ["ok", "log", "g"]),
+    ('{"id":"g","events":[{}],"a":1.0}', ["err", "NotWhole"]),
+]
+
+# Documents, and what the fault of each is shown as.
+SHOWN = [
+    ("[]", "event 0: not an object"),
+    (event("x", nested(100)), "event 0: too deep"),
+    (event("typeURI", "7"), "event 0: typeURI"),
+    (event("id", ""), "event 0: id"),
+    (event("eventType", ""), "event 0: eventType"),
+    (event("eventTime", ""), "event 0: eventTime"),
+    (event("action", ""), "event 0: action"),
+    (event("outcome", ""), "event 0: outcome"),
+    (event("initiatorId", ""), "event 0: initiator"),
+    (event("targetId", ""), "event 0: target"),
+    (event("observerId", ""), "event 0: observer"),
+    (event("reporterchain", "[%s]" % ",".join([S1] * 257)), "event 0: chain 0 step 257"),
+    (document(V1, event("reporterchains", "[[%s,%s,7]]" % (S1, S2))), "event 2: chain 1 step 3"),
+    (event("tags", '["a",""]'), "event 0: tag 2"),
+    (event("attachments", "[1]"), "event 0: attachment 1"),
+    ('{"events":[]}', "log id"),
+    ('{"id":"g","events":7}', "events is not a list"),
+    ('{"id":"g","events":[],"resources":7}', "resources is not a list"),
+    ('{"id":"g","events":[],"geolocations":7}', "geolocations is not a list"),
+    ('{"id":"g","events":[],"metrics":7}', "metrics is not a list"),
+    ('{"id":"g","events":[],"resources":[{}]}', "resource 1: id"),
+    ('{"id":"g","events":[],"geolocations":[{"id":"p"},%s]}' % nested(101), "geolocation 2: not an object"),
+    ('{"id":"g","events":[],"geolocations":[{"id":"p"},{"a":%s}]}' % nested(100), "geolocation 2: too deep"),
+    ('{"id":"g","events":[],"metrics":[{"metricId":"m"},{"metricId":"n"},7]}', "metric 3: not an object"),
+    ('{"id":"g","events":[],"a":1,"b":2,"c":3,"d\\u0001":4}', "property 4"),
+    ("{", "not JSON"),
+    ("[1.5]", "a number is not whole"),
+]
+
+
+def words():
+    """Names, and the words that an event chooses from."""
+    for text in ("a" * 1024, "a", "openstack:audit", "é", "\x80 "):
+        yield "name", [text], ["ok", text], NAMES
+        yield "is_named", [text], [True], NAMES
+    for text, fault in (("a" * 1025, "TooLong"), ("é" * 513, "TooLong"), ("", "Empty"), ("a\x7f", "Control"), ("\n", "Control"),
+                        ("\x1fa", "Control")):
+        yield "name", [text], ["err", fault], NAMES
+        yield "is_named", [text], [False], NAMES
+    for text in ("id", "typeURI", "events", "resources", "geolocations", "metrics"):
+        yield "is_reserved", [text], [True], DOCUMENTS
+    for text in ("name", "ID", ""):
+        yield "is_reserved", [text], [False], DOCUMENTS
+    for call, text, found in (
+            ("event_type", "activity", "Activity"), ("event_type", "monitor", "Monitor"), ("event_type", "control", "Control"),
+            ("outcome", "success/partial", "Success"), ("outcome", "success", "Success"), ("outcome", "failure", "Failure"),
+            ("outcome", "unknown/", "Unknown"), ("outcome", "pending", "Pending"),
+            ("role", "observer", "Observer"), ("role", "modifier", "Modifier"), ("role", "relay", "Relay")):
+        yield call, [text], ["some", found], EVENTS
+    for call, text in (("event_type", "Activity"), ("event_type", ""), ("outcome", "successes"), ("outcome", "/success"),
+                       ("role", "sender"), ("role", "Relay")):
+        yield call, [text], ["none"], EVENTS
+
+
+def events():
+    """Events and their parts."""
+    yield "event", [V1], ["ok", *seen()], EVENTS
+    yield "event", [USUAL], ["ok", *seen(USUAL_BODY, "chain", USUAL_STEP, "tag", "correlation_id?value=9",
+                                         name="openstack:7f3e", instant=1392340847932842 * 1000)], EVENTS
+    for name, value, parts in ACCEPTED:
+        yield "event", [event(name, value)], ["ok", *parts], EVENTS
+    for name, value, fault in REFUSED:
+        yield "event", [event(name, value)], ["err", *fault], EVENTS
+    yield "event", ["[]"], ["err", "NotObject"], EVENTS
+    for number in WHOLE:
+        yield "event", [event("measurements", MEASURED % number)], ["ok", *seen(body("measurements", MEASURED % number))], EVENTS
+    for number in NOT_WHOLE:
+        yield "event", [event("measurements", MEASURED % number)], ["err", "NotWhole"], CANONICAL
+
+
+def parts():
+    """Bodies, steps and attachments by their texts; entities and properties."""
+    for call in ("body", "body_with"):
+        yield call, [B1], ["ok", NOON, B1], EVENTS
+        yield call, [body("x", nested(99))], ["ok", NOON, body("x", nested(99))], EVENTS
+        for text, fault in NO_BODIES:
+            yield call, [text], ["err", fault], EVENTS
+    for call in ("step", "step_with"):
+        yield call, [S1], ["ok", S1], EVENTS
+        for text, fault in NO_STEPS:
+            yield call, [text], ["err", fault], EVENTS
+    yield "attachment", ['{"a":1}'], ["ok", '{"a":1}'], EVENTS
+    for text, fault in (("[]", "NotThis"), ('{ "a":1}', "NotCanonical"), ('{"a":%s}' % nested(100), "NotThis")):
+        yield "attachment", [text], ["err", fault], EVENTS
+    for kind, text, key, spelled in ENTITIES:
+        yield "entity", [kind, text], ["ok", kind, key, spelled], DOCUMENTS
+    for kind, text, fault in NO_ENTITIES:
+        yield "entity", [kind, text], ["err", fault], DOCUMENTS
+    for name, text, spelled in PROPERTIES:
+        yield "property", [name, text], ["ok", name, spelled], DOCUMENTS
+    for name, text, fault in NO_PROPERTIES:
+        yield "property", [name, text], ["err", fault], DOCUMENTS
+
+
+def documents():
+    """Documents, by a value and an event at a time."""
+    for call, heading in (("document", DOCUMENTS), ("plain", PLAIN)):
+        for text, found in PARTS:
+            yield call, [text], ["ok", *found], heading
+        for text, fault in NO_DOCUMENTS:
+            yield call, [text], ["err", *fault], heading
+    for text, answer in NOT_PLAIN:
+        yield "document", [text], answer, DOCUMENTS
+        yield "plain", [text], ["err", "NotPlain"], PLAIN
+
+
+def faults():
+    """What faults are shown as."""
+    for text, shown in SHOWN:
+        yield "fault", ["document", text], ["some", shown], DOCUMENTS
+    for what, text, shown in (
+            ("name", "", "empty"), ("name", "a" * 1025, "too long"), ("name", "\n", "control character"),
+            ("time", "", "not a time"), ("time", "2024-03-01T12:00:60Z", "no such time"),
+            ("time", "2024-03-01T00:00:00+15:00", "offset"), ("canonical", " 7", "not canonical"),
+            ("body", " 7", "not canonical"), ("body", "7", "another value")):
+        yield "fault", [what, text], ["some", shown], FAULTS
+    for name, text, shown in (("id", "1", "name"), ("x", nested(101), "too deep")):
+        yield "fault", ["property", name, text], ["some", shown], FAULTS
+    yield "fault", ["document", V1], ["none"], DOCUMENTS
+
+
+ROWS = [row for rows in (words, events, parts, documents, faults) for row in rows()]

@@ -1,0 +1,113 @@
+//! Values that are held or read into a tree, and what is seen of either.
+
+use cadf_json::{Json, Member, Tree, View};
+use calls::Call;
+use json::Scratch;
+use std::alloc::{AllocError as Memory, Global};
+
+/// What the first word asks of the value that the second spells.
+pub(crate) fn value(alloc: Global, call: &Call) -> Result<String, Memory> {
+    match Json::read(alloc, call.bytes(2)) {
+        Ok(json) => seen(alloc, call, &json.view()),
+        Err(fault) => calls::refused(alloc, &fault),
+    }
+}
+
+/// What the first word asks of the tree that the second spells.
+pub(crate) fn tree(alloc: Global, call: &Call) -> Result<String, Memory> {
+    let mut scratch = Scratch::new(alloc);
+    match Tree::of_text(alloc, call.text(2), &mut scratch) {
+        Ok(tree) => seen(alloc, call, &tree.view()),
+        Err(fault) => calls::refused(alloc, &fault),
+    }
+}
+
+/// The value of a canonical text, spelled again.
+pub(crate) fn canonical(alloc: Global, text: &str) -> Result<String, Memory> {
+    match Json::read_canonical(alloc, text) {
+        Ok(json) => shown(alloc, "ok", &json.view()),
+        Err(fault) => calls::refused(alloc, &fault),
+    }
+}
+
+/// What the first word asks.
+fn seen(alloc: Global, call: &Call, view: &View<'_, '_>) -> Result<String, Memory> {
+    match call.text(1) {
+        "kind" => kind(alloc, view),
+        "item" => found(alloc, view.item(call.number(3))),
+        "member" => found(alloc, view.member(call.text(3))),
+        "name" => name(alloc, view.name_at(call.number(3))),
+        "members" => members(alloc, view),
+        "within" => within(alloc, view, call),
+        "rewritten" => rewritten(alloc, view, call),
+        "again" => shown(alloc, "ok", &view.again()),
+        "copy" => shown(alloc, "ok", &view.to_json(alloc)?.view()),
+        _ => shown(alloc, "ok", view),
+    }
+}
+
+/// The word and the canonical text of a part.
+pub(crate) fn shown(alloc: Global, word: &str, view: &View<'_, '_>) -> Result<String, Memory> {
+    let text = view.text(alloc)?;
+    calls::answer(alloc, word, &[text.as_str()])
+}
+
+/// Whether the part is null, an object, a list; how many parts it has, how deep it nests, and its text.
+fn kind(alloc: Global, view: &View<'_, '_>) -> Result<String, Memory> {
+    let (null, object, list) = (view.is_null(), view.is_object(), view.is_list());
+    let mut line = format!(in alloc;
+        "{null}\t{object}\t{list}\t{}\t{}",
+        view.len(),
+        view.depth()
+    )?;
+    if let Some(text) = view.as_text() {
+        calls::push(&mut line, text)?;
+    }
+    Ok(line)
+}
+
+/// A part that may be there.
+fn found(alloc: Global, part: Option<View<'_, '_>>) -> Result<String, Memory> {
+    match part {
+        Some(view) => shown(alloc, "some", &view),
+        None => calls::answer(alloc, "none", &[]),
+    }
+}
+
+/// A name that may be there.
+fn name(alloc: Global, name: Option<&str>) -> Result<String, Memory> {
+    match name {
+        Some(name) => calls::answer(alloc, "some", &[name]),
+        None => calls::answer(alloc, "none", &[]),
+    }
+}
+
+/// The names and the texts of the members.
+fn members(alloc: Global, view: &View<'_, '_>) -> Result<String, Memory> {
+    let mut line = calls::answer(alloc, "ok", &[])?;
+    for member in view.members() {
+        push_member(alloc, &mut line, &member)?;
+    }
+    Ok(line)
+}
+
+/// Adds the name and the text of a member.
+fn push_member(alloc: Global, line: &mut String, member: &Member<'_, '_>) -> Result<(), Memory> {
+    calls::push(line, member.name)?;
+    calls::push(line, member.value.text(alloc)?.as_str())
+}
+
+/// Whether each member nests within the limit of its name, or the one of others.
+fn within(alloc: Global, view: &View<'_, '_>, call: &Call) -> Result<String, Memory> {
+    let limit = u8::try_from(call.number(4)).unwrap_or(0);
+    let others = u8::try_from(call.number(5)).unwrap_or(0);
+    let fits = view.members_within(&[(call.text(3), limit)], others);
+    format!(in alloc; "{fits}")
+}
+
+/// The object with another text at a name, without two members.
+fn rewritten(alloc: Global, view: &View<'_, '_>, call: &Call) -> Result<String, Memory> {
+    let left_out = [call.text(5), call.text(6)];
+    let text = view.rewritten(alloc, &left_out, call.text(3), call.text(4))?;
+    calls::answer(alloc, "ok", &[text.as_str()])
+}

@@ -1,0 +1,17 @@
+//! Texts of which nothing is kept.
+
+use std::alloc::{AllocError as Memory, Global};
+
+/// Whether the text is a list that can be passed over.
+pub(crate) fn list(alloc: Global, text: &str) -> Result<String, Memory> {
+    match cadf_json::check_list(alloc, text) {
+        Ok(()) => calls::answer(alloc, "ok", &[]),
+        Err(fault) => calls::refused(alloc, &fault),
+    }
+}
+
+/// Whether the text may be JSON at all.
+pub(crate) fn may_be_json(alloc: Global, text: &str) -> Result<String, Memory> {
+    let may = cadf_json::may_be_json(alloc, text)?;
+    format!(in alloc; "{may}")
+}

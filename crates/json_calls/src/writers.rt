@@ -1,0 +1,67 @@
+//! Sinks that take bytes in pieces and fail where they are told to.
+
+use cadf_json::{Failed, FailingWrite, FromStd, MemorySink, OutFault, write_whole};
+use calls::Call;
+use std::alloc::{AllocError as Memory, Global};
+use std::io;
+
+/// Whether the bytes were written, and which.
+fn told(alloc: Global, done: Result<(), Failed>, written: &[u8]) -> Result<String, Memory> {
+    let mut line = match done {
+        Ok(()) => calls::answer(alloc, "ok", &[])?,
+        Err(failed) => calls::refused(alloc, &OutFault::from(failed))?,
+    };
+    calls::push_bytes(&mut line, written)?;
+    Ok(line)
+}
+
+/// What the third and the fourth word say of a failing write.
+fn failing(call: &Call) -> FailingWrite {
+    let number = u64::try_from(call.number(4)).unwrap_or(0);
+    match call.text(3) {
+        "refuses" => FailingWrite::Refuses(number),
+        "takes nothing" => FailingWrite::TakesNothing(number),
+        _ => FailingWrite::Never,
+    }
+}
+
+/// Writes the first word's bytes in pieces; a write may fail.
+pub(crate) fn whole(alloc: Global, call: &Call) -> Result<String, Memory> {
+    let mut sink = MemorySink::new(alloc, call.number(2).max(1), failing(call));
+    let done = write_whole(&mut sink, call.bytes(1));
+    told(alloc, done, sink.bytes())
+}
+
+/// A writer of std that takes a byte a call, up to a number of bytes, and nothing more.
+#[derive(Drop)]
+struct Full {
+    bytes: Vec<u8>,
+    room: usize,
+}
+
+impl io::Write for Full {
+    fn write(&mut self, buf: &[u8]) -> io::Result<usize> {
+        let Some(first) = buf.first() else {
+            return Ok(0);
+        };
+        if self.room == 0 || self.bytes.push(*first).is_err() {
+            return Ok(0);
+        }
+        self.room -= 1;
+        Ok(1)
+    }
+
+    fn flush(&mut self) -> io::Result<()> {
+        Ok(())
+    }
+}
+
+/// Writes the first word's bytes to a writer of std that has room for so many.
+pub(crate) fn by_std(alloc: Global, call: &Call) -> Result<String, Memory> {
+    let mut sink = FromStd::new(Full {
+        bytes: Vec::new(alloc),
+        room: call.number(2),
+    });
+    let done = write_whole(&mut sink, call.bytes(1));
+    told(alloc, done, &sink.into_inner().bytes)
+}
