@@ -58,6 +58,11 @@ CALLS = {
     "inventory.digest_after": ["Inventory::digest_after"],
     "schedule.read_script": ["read_script"],
     "schedule.rehearse": ["rehearse"],
+    "fault.atom": ["AtomFault::fmt"],
+    "fault.replica": ["ReplicaFault::fmt"],
+    "fault.ruling": ["RulingFault::fmt"],
+    "fault.schedule": ["RehearseFault::fmt"],
+    "fault.script": ["ScriptFault::fmt"],
 }
 
 ROWS = []
@@ -406,3 +411,16 @@ for last, fault in [
     row(SCRIPT, "schedule.rehearse", ["g", 3, script(*EXCHANGE, last, "ask 3")], "err", fault, 11)
 row(SCRIPT, "schedule.rehearse", ["g", 2, "answer 5 9"], "err", "NoSite", 1)
 row(SCRIPT, "schedule.rehearse", ["g", 2, script("ask 3", "hello")], "err", "Line", 2)
+
+# ---- What faults are shown as.
+for kind, name, shown in [
+        ("atom", "Json", "not JSON"), ("atom", "NotCanonical", "not canonical"), ("atom", "Shape", "shape"),
+        ("replica", "OtherLog", "other log"), ("replica", "Ungrounded", "ungrounded"),
+        ("ruling", "Letter", "letter"), ("ruling", "Key", "key"), ("ruling", "Digest", "digest"),
+        ("atom", "Memory", "out of memory"), ("replica", "Memory", "out of memory"), ("ruling", "Memory", "out of memory"),
+        ("schedule", "Memory", "out of memory"), ("script", "Memory", "out of memory")]:
+    row("ARCHITECTURE: What faults are shown as", "fault." + kind, [name], shown)
+for kind, name, shown in [
+        ("schedule", "NoSite", "no such site"), ("schedule", "NoMessage", "no such message"), ("schedule", "NotInventory", "not an inventory"),
+        ("schedule", "WrongAddressee", "wrong addressee"), ("schedule", "OtherLog", "other log"), ("script", "Line", "script")]:
+    row(SCRIPT, "fault." + kind, [name, 11], "line 11: " + shown)

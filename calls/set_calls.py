@@ -251,6 +251,10 @@ for ours, theirs, part in [("a b", "a", "- b"), ("a b", "b a", ""), ("a", "", "-
 for given, held in [("a", True), ("-", True), ("a/b", False), ("a/b/b", True), ("b", False), ("c/b/a", False), ("c", False)]:
     row("paths.holds", [lists(SIX), lst(given)], held)
     row("paths.contains", [lists(SIX), lst(given)], held)
+ALL = "- a a/a a/a/a a/a/b a/b a/b/a a/b/b b b/a b/a/a b/a/b b/b b/b/a b/b/b"
+for given in ["b/b/b/b", "a/c", "c", "a/b/a/b"]:
+    row("paths.holds", [lists(ALL), lst(given)], False)
+    row("paths.contains", [lists(ALL), lst(given)], False)
 for written, front, ends in [
         (SIX, "-", True), (SIX, "c", True), (SIX, "c/b", True), (SIX, "c/b/a", False), (SIX, "a", False), ("", "-", False)]:
     row("paths.ends_behind", [lists(written), lst(front)], ends)

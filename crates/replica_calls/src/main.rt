@@ -7,6 +7,7 @@
 
 mod atoms;
 mod documents;
+mod faults;
 mod inventories;
 mod kept;
 mod keys;
@@ -38,6 +39,7 @@ fn answered(alloc: Global, call: &Call) -> Result<String, Memory> {
         "ruling" => rulings::answered(alloc, name, call),
         "inventory" => inventories::answered(alloc, name, call),
         "schedule" => schedules::answered(alloc, name, call),
+        "fault" => faults::answered(alloc, name, call),
         _ => answer(alloc, "no such call", &[]),
     }
 }

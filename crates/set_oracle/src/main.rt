@@ -2,6 +2,7 @@
 #![tactic(auto)]
 
 mod chains;
+mod example;
 mod flat;
 mod plain;
 mod trees;
@@ -38,7 +39,8 @@ fn count(alloc: Global, name: &str) -> Result<usize, Memory> {
         "flat sets put backwards" => flat::backwards(alloc, &short, 128),
         "pairs of flat sets" => plain::pairs::<Paths>(alloc, &short, 128),
         "pairs of long flat sets" => plain::some_pairs::<Paths>(alloc, &long, PAIRS),
-        _ => chains::found(alloc),
+        "chains that share their beginnings" => chains::found(alloc),
+        _ => Ok(usize::from(example::two_sites_join(alloc)?)),
     }
 }
 
@@ -52,6 +54,7 @@ fn main(rt: HostRuntime) -> io::Result<()> {
         "pairs of flat sets",
         "pairs of long flat sets",
         "chains that share their beginnings",
+        "two sites",
     ] {
         let count = count(rt.alloc(), name)?;
         println!(rt; "{name}: {count}")?;
