@@ -65,6 +65,8 @@ CALLS = {
     "fault.script": ["ScriptFault::fmt"],
 }
 
+REPLICA = "PROMISES: A replica"
+
 ROWS = []
 
 
@@ -169,7 +171,6 @@ ENTITIES = document(log="g", more=',"geolocations":[{"id":"g1"}],"metrics":[{"me
 SEEN = event("eventTime", '"2024-03-01T12:00:00+0000"')[:-1] + ',"tags":["x"],"attachments":[{"b":2,"a":1}],"reporterchain":[]}'
 CHAINED = event("reporterchain", "[%s]" % S1)
 FAILED = VF[:-1] + ',"reporterchain":[%s]}' % S2
-TOOK = "Atoms"
 for before, text, after in [
         (held(), ENTITIES, held(G1, M1, NORTH, R1)),
         (held(), SEEN, held(C1, LA, LT)),
@@ -191,29 +192,28 @@ for before, text, after in [
         (held(NORTH), document(more=',"name":"south"'), held(NORTH, SOUTH)),
         # An event by itself names no log, and is taken by any.
         (held(log="h"), V1, held(C1, log="h"))]:
-    row(TOOK, "document.take", [before, text], "ok", after)
-row("PROMISES: A replica", "document.take", [held(C1, K1), document(log="h")], "err", "OtherLog", held(C1, K1))
-row("PROMISES: A replica", "document.take", [held(), document(V1, log="h")], "err", "OtherLog", held())
-row(TOOK, "document.take_sightings", [held(), SEEN], "ok", held(C1, LA, LT))
-row(TOOK, "document.take_sightings", [held(NORTH), document(V1, V2, more=',"name":"south"')], "ok", held(C1, C2, NORTH))
-row(TOOK, "document.take_entities", [held(), ENTITIES], "ok", held(G1, M1, R1))
-row(TOOK, "document.take_properties", [held(), ENTITIES], "ok", held(NORTH))
+    row("Atoms", "document.take", [before, text], "ok", after)
+row(REPLICA, "document.take", [held(C1, K1), document(log="h")], "err", "OtherLog", held(C1, K1))
+row(REPLICA, "document.take", [held(), document(V1, log="h")], "err", "OtherLog", held())
+row("Atoms", "document.take_sightings", [held(), SEEN], "ok", held(C1, LA, LT))
+row("Atoms", "document.take_sightings", [held(NORTH), document(V1, V2, more=',"name":"south"')], "ok", held(C1, C2, NORTH))
+row("Atoms", "document.take_entities", [held(), ENTITIES], "ok", held(G1, M1, R1))
+row("Atoms", "document.take_properties", [held(), ENTITIES], "ok", held(NORTH))
 
 # ---- Atoms that are put.
-GROUNDED = "PROMISES: A replica"
 for call in ["replica.put", "replica.put_texts"]:
-    row(GROUNDED, call, [held(), C1], "ok", held(C1))
-    row(GROUNDED, call, [held(C1), K1], "ok", held(C1, K1))
-    row(GROUNDED, call, [held(C1, K1), C1], "ok", held(C1, K1))
-    row(GROUNDED, call, [held(), K1], "err", "Ungrounded", held())
-    row(GROUNDED, call, [held(CF), K1], "err", "Ungrounded", held(CF))
-    row(GROUNDED, call, [held(C2), LT], "err", "Ungrounded", held(C2))
-    row(GROUNDED, call, [held(C1), UF], "ok", held(C1, UF))
+    row(REPLICA, call, [held(), C1], "ok", held(C1))
+    row(REPLICA, call, [held(C1), K1], "ok", held(C1, K1))
+    row(REPLICA, call, [held(C1, K1), C1], "ok", held(C1, K1))
+    row(REPLICA, call, [held(), K1], "err", "Ungrounded", held())
+    row(REPLICA, call, [held(CF), K1], "err", "Ungrounded", held(CF))
+    row(REPLICA, call, [held(C2), LT], "err", "Ungrounded", held(C2))
+    row(REPLICA, call, [held(C1), UF], "ok", held(C1, UF))
 for before, text, after in [(held(C1), K1, held(C1, K1)), (held(C1, K1), C2, held(C1, K1, C2)), (held(), R1, held(R1))]:
-    row(GROUNDED, "replica.put_last", [before, text], "ok", after)
+    row(REPLICA, "replica.put_last", [before, text], "ok", after)
 for before, text in [(held(C1, K1), CF), (held(C1), C1), (held(C1, LT), K1)]:
-    row(GROUNDED, "replica.put_last", [before, text], "not above")
-row(GROUNDED, "replica.put_last", [held(CF), K1], "err", "Ungrounded", held(CF))
+    row(REPLICA, "replica.put_last", [before, text], "not above")
+row(REPLICA, "replica.put_last", [held(CF), K1], "err", "Ungrounded", held(CF))
 
 # ---- What a replica says of itself.
 CONFLICT = held(CF, KF, C1, K1)
@@ -223,37 +223,37 @@ for replica, atoms, conflicts in [
     row("Check line", "replica.atom_count", [replica], atoms)
     row("Check line", "replica.conflict_count", [replica], conflicts)
 for lines in [(), (C1,), (CF, KF, C1, LA, K1, L12, LT, C2, G1, M1, NORTH, SOUTH, R1, UB)]:
-    row(GROUNDED, "replica.copy", [held(*lines)], "ok", held(*lines))
-    row(GROUNDED, "replica.atom_lists", [held(*lines)], "ok", *lines)
-    row(GROUNDED, "replica.walk", [held(*lines)], "ok", *lines)
-row(GROUNDED, "replica.copy", [held(C1, log="openstack:audit")], "ok", held(C1, log="openstack:audit"))
-row(GROUNDED, "replica.atom_lists", [held(R1, C1, LT, K1)], "ok", C1, K1, LT, R1)
+    row(REPLICA, "replica.copy", [held(*lines)], "ok", held(*lines))
+    row(REPLICA, "replica.atom_lists", [held(*lines)], "ok", *lines)
+    row(REPLICA, "replica.walk", [held(*lines)], "ok", *lines)
+row(REPLICA, "replica.copy", [held(C1, log="openstack:audit")], "ok", held(C1, log="openstack:audit"))
+row(REPLICA, "replica.atom_lists", [held(R1, C1, LT, K1)], "ok", C1, K1, LT, R1)
 for text, is_held in [(C1, True), (K1, True), (SOUTH, True), (CF, False), (L12, False), (LT, False), (NORTH, False), (G1, False)]:
-    row(GROUNDED, "replica.holds", [held(C1, K1, SOUTH), text], is_held)
-row(GROUNDED, "replica.holds", [held(C1, UB), UB], True)
-row(GROUNDED, "replica.least_atom", [held()], "ok", "none")
-row(GROUNDED, "replica.least_atom", [held(SOUTH, C1)], "ok", "some", C1)
+    row(REPLICA, "replica.holds", [held(C1, K1, SOUTH), text], is_held)
+row(REPLICA, "replica.holds", [held(C1, UB), UB], True)
+row(REPLICA, "replica.least_atom", [held()], "ok", "none")
+row(REPLICA, "replica.least_atom", [held(SOUTH, C1)], "ok", "some", C1)
 for text, found in [(CF, C1), (LA, L12), (K1, L12), (LT, C2), (C2, SOUTH), (G1, SOUTH), (SOUTH, None), (R1, None)]:
-    row(GROUNDED, "replica.atom_after", [held(C1, L12, C2, SOUTH), text], "ok", *option(found))
+    row(REPLICA, "replica.atom_after", [held(C1, L12, C2, SOUTH), text], "ok", *option(found))
 
 # ---- Keys, and their values.
 KEYED = held(CF, C1, C2, NORTH)
 for letter, keys in [("E", ["e1", "e2"]), ("P", ["name"]), ("R", []), ("U", []), ("X", []), ("", [])]:
-    row("Atoms", "key.keys", [KEYED, letter], "ok", *keys)
-row("Atoms", "key.keys", [held(C1, UB), "U"], "ok")
+    row(REPLICA, "key.keys", [KEYED, letter], "ok", *keys)
+row(REPLICA, "key.keys", [held(C1, UB), "U"], "ok")
 for letter, key in [("E", "e1"), ("P", "name"), ("G", None), ("X", None)]:
-    row("Atoms", "key.least_key", [KEYED, letter], "ok", *option(key))
-row("Atoms", "key.least_key", [held(C1, UB), "U"], "ok", "none")
+    row(REPLICA, "key.least_key", [KEYED, letter], "ok", *option(key))
+row(REPLICA, "key.least_key", [held(C1, UB), "U"], "ok", "none")
 for letter, text, key in [
         ("E", "", "e1"), ("E", "e", "e1"), ("E", "e1", "e2"), ("E", "e10", "e2"), ("E", "e2", None), ("P", "a", "name"), ("G", "a", None)]:
-    row("Atoms", "key.key_after", [KEYED, letter, text], "ok", *option(key))
+    row(REPLICA, "key.key_after", [KEYED, letter, text], "ok", *option(key))
 for replica, letter, key, values in [
         (CONFLICT, "E", "e1", [BF, B1]), (CONFLICT, "E", "e2", []), (held(SOUTH, NORTH, M1), "P", "name", ['"north"', '"south"']),
         (held(SOUTH, NORTH, M1), "P", "other", []), (held(SOUTH, NORTH, M1), "M", "m1", ['{"metricId":"m1"}']), (held(C1, UB), "U", "E", []),
         (held(CF, C1, UB, UF), "E", "e1", [BF, B1]), (CONFLICT, "X", "e1", []),
         # By the bytes of the text, not of its escaped line.
         (held(line("P", "n", '"\\\\"'), line("P", "n", '"]"')), "P", "n", ['"\\\\"', '"]"'])]:
-    row("Atoms", "key.values", [replica, letter, key], "ok", *values)
+    row(REPLICA, "key.values", [replica, letter, key], "ok", *values)
 
 # ---- What came with a body.
 CAME = held(CF, C1, LA, K1, L12, LT, line("E", "e1", B1, "T", "a"), line("E", "e1", B1, "A", "{}"))
@@ -262,10 +262,10 @@ for call, id, body, fields in [
         ("longest_chain", "e1", B1, [S1, S2]), ("longest_chain", "e1", BF, ["none"]),
         ("tags", "e1", B1, ["a", "x"]), ("tags", "e1", BF, []),
         ("attachments", "e1", B1, ['{"a":1,"b":2}', "{}"]), ("attachments", "e1", BF, [])]:
-    row("Log text", "body." + call, [CAME, id, body], "ok", *fields)
+    row(REPLICA, "body." + call, [CAME, id, body], "ok", *fields)
 for call, body, step in [("chains", B1, line(S1)), ("chains", BF, line(S2)), ("longest_chain", B1, S1), ("longest_chain", BF, S2)]:
-    row("Log text", "body." + call, [CONFLICT, "e1", body], "ok", step)
-row("Log text", "body.longest_chain", [held(C1, line("E", "e1", B1, "C", S1, S3), L12), "e1", B1], "ok", S1, S2)
+    row(REPLICA, "body." + call, [CONFLICT, "e1", body], "ok", step)
+row(REPLICA, "body.longest_chain", [held(C1, line("E", "e1", B1, "C", S1, S3), L12), "e1", B1], "ok", S1, S2)
 
 # ---- Replicas that are joined.
 FIVE = held(C1, K1, L12)
@@ -275,11 +275,11 @@ for call in ["pair.join", "pair.join_twice"]:
             (FIVE, held(), FIVE), (held(), FIVE, FIVE), (held(C1, K1), held(CF, KF), CONFLICT), (held(CF, KF), held(C1, K1), CONFLICT),
             (held(C1), held(C1, C2), held(C1, C2)), (held(C1, UB), held(CF), held(CF, C1, UB))]:
         row("What the commands write", call, [ours, theirs], "ok", union)
-    row(GROUNDED, call, [held(C1), held(C2, log="h")], "err", "OtherLog", held(C1))
+    row(REPLICA, call, [held(C1), held(C2, log="h")], "err", "OtherLog", held(C1))
 for ours, theirs, same in [
         (held(), held(), True), (CONFLICT, held(C1, K1, CF, KF), True), (held(C1), held(C1, K1), False), (held(C1, K1), held(C1), False),
         (held(C1), held(C2), False), (held(), held(log="h"), False), (held(C1), held(C1, log="h"), False)]:
-    row(GROUNDED, "pair.same", [ours, theirs], same)
+    row(REPLICA, "pair.same", [ours, theirs], same)
 
 # What the first has and the other lacks, with carriers.
 for ours, theirs, part in [
@@ -288,7 +288,7 @@ for ours, theirs, part in [
         (CONFLICT, held(CF, C1, K1), held(CF, KF)), (CONFLICT, held(C1, K1, C2), held(CF, KF)), (held(C1, C2), held(), held(C1, C2)),
         (held(CF, C1, UB), held(CF, C1), held(UB)), (held(NORTH, R1), held(SOUTH, R1), held(NORTH))]:
     row("What the commands write", "pair.missing", [ours, theirs], "ok", part)
-row(GROUNDED, "pair.missing", [held(C1), held(log="h")], "err", "OtherLog")
+row(REPLICA, "pair.missing", [held(C1), held(log="h")], "err", "OtherLog")
 
 # ---- Inventories.
 
@@ -307,18 +307,18 @@ for lines, part in [
     row("What the commands write", "pair.missing_by", [CONFLICT, noted(*lines)], "ok", part)
 row("What the commands write", "pair.missing_by", [held(C1), noted(C1)], "ok", held())
 row("What the commands write", "pair.missing_by", [FIVE, noted(C1)], "ok", FIVE)
-row(GROUNDED, "pair.missing_by", [CONFLICT, noted(C1, log="h")], "err", "OtherLog")
-row(GROUNDED, "pair.missing_by", [held(log="h"), noted(C1)], "err", "OtherLog")
+row(REPLICA, "pair.missing_by", [CONFLICT, noted(C1, log="h")], "err", "OtherLog")
+row(REPLICA, "pair.missing_by", [held(log="h"), noted(C1)], "err", "OtherLog")
 LOW, MIDDLE, HIGH = "00" * 32, digits(C1), "ff" * 32
 for digest, has in [(MIDDLE, True), (LOW, False), (MIDDLE[:-1] + "9", False)]:
     row("Inventory file", "inventory.has", [held(MIDDLE), digest], has)
 row("Inventory file", "inventory.has", [held(), MIDDLE], False)
 for before, digest, after in [((), MIDDLE, (MIDDLE,)), ((MIDDLE,), MIDDLE, (MIDDLE,)), ((MIDDLE,), LOW, (LOW, MIDDLE)), ((HIGH,), MIDDLE, (MIDDLE, HIGH))]:
     row("Inventory file", "inventory.put", [held(*before), digest], "ok", held(*after))
-row("Inventory file", "inventory.least_digest", [held()], "none")
-row("Inventory file", "inventory.least_digest", [held(HIGH, MIDDLE)], "some", MIDDLE)
+row(REPLICA, "inventory.least_digest", [held()], "none")
+row(REPLICA, "inventory.least_digest", [held(HIGH, MIDDLE)], "some", MIDDLE)
 for digest, found in [(LOW, MIDDLE), (MIDDLE, HIGH), (HIGH, None)]:
-    row("Inventory file", "inventory.digest_after", [held(HIGH, MIDDLE), digest], *option(found))
+    row(REPLICA, "inventory.digest_after", [held(HIGH, MIDDLE), digest], *option(found))
 
 # ---- Rulings.
 DIGEST = "d581ec5f7f08d29f2a0967a79466927a2704d1a52bab805a6390a1f1190cd00c"
