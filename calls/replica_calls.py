@@ -259,13 +259,14 @@ for replica, letter, key, values in [
 CAME = held(CF, C1, LA, K1, L12, LT, line("E", "e1", B1, "T", "a"), line("E", "e1", B1, "A", "{}"))
 for call, id, body, fields in [
         ("chains", "e1", B1, [line(S1), line(S1, S2)]), ("chains", "e1", BF, []), ("chains", "e2", B1, []),
-        ("longest_chain", "e1", B1, [S1, S2]), ("longest_chain", "e1", BF, ["none"]),
+        ("longest_chain", "e1", B1, ["some", line(S1, S2)]), ("longest_chain", "e1", BF, ["none"]),
         ("tags", "e1", B1, ["a", "x"]), ("tags", "e1", BF, []),
         ("attachments", "e1", B1, ['{"a":1,"b":2}', "{}"]), ("attachments", "e1", BF, [])]:
     row(REPLICA, "body." + call, [CAME, id, body], "ok", *fields)
-for call, body, step in [("chains", B1, line(S1)), ("chains", BF, line(S2)), ("longest_chain", B1, S1), ("longest_chain", BF, S2)]:
-    row(REPLICA, "body." + call, [CONFLICT, "e1", body], "ok", step)
-row(REPLICA, "body.longest_chain", [held(C1, line("E", "e1", B1, "C", S1, S3), L12), "e1", B1], "ok", S1, S2)
+for body, step in [(B1, S1), (BF, S2)]:
+    row(REPLICA, "body.chains", [CONFLICT, "e1", body], "ok", line(step))
+    row(REPLICA, "body.longest_chain", [CONFLICT, "e1", body], "ok", "some", line(step))
+row(REPLICA, "body.longest_chain", [held(C1, line("E", "e1", B1, "C", S1, S3), L12), "e1", B1], "ok", "some", line(S1, S2))
 
 # ---- Replicas that are joined.
 FIVE = held(C1, K1, L12)

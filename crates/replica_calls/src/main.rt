@@ -6,6 +6,7 @@
 #![tactic(auto)]
 
 mod atoms;
+mod bodies;
 mod documents;
 mod faults;
 mod inventories;
@@ -13,7 +14,7 @@ mod kept;
 mod keys;
 mod laws;
 mod pairs;
-mod parts;
+mod paths;
 mod replicas;
 mod rulings;
 mod schedules;
@@ -25,16 +26,17 @@ use calls::{Call, answer};
 use std::alloc::Global;
 use std::io;
 
-/// What the call answers.
-fn answered(alloc: Global, call: &Call) -> Result<String, Memory> {
+/// What the call on the line answers.
+fn answered(alloc: Global, line: &str) -> Result<String, Memory> {
+    let call = &Call::read(alloc, line)?;
     let (family, name) = call.name().split_once('.').unwrap_or_default();
     match family {
         "atom" => atoms::answered(alloc, name, call),
-        "path" => parts::of_path(alloc, name, call),
+        "path" => paths::answered(alloc, name, call),
         "replica" => replicas::answered(alloc, name, call),
         "pair" => pairs::answered(alloc, name, call),
         "key" => keys::answered(alloc, name, call),
-        "body" => parts::of_body(alloc, name, call),
+        "body" => bodies::answered(alloc, name, call),
         "document" => documents::answered(alloc, name, call),
         "ruling" => rulings::answered(alloc, name, call),
         "inventory" => inventories::answered(alloc, name, call),
@@ -48,8 +50,7 @@ fn main(rt: HostRuntime) -> io::Result<()> {
     laws::hold();
     for line in rt.lines(rt.alloc()) {
         let line = line?;
-        let call = Call::read(rt.alloc(), line.as_str())?;
-        match answered(rt.alloc(), &call) {
+        match answered(rt.alloc(), line.as_str()) {
             Ok(text) => println!(rt; "{text}")?,
             Err(_) => println!(rt; "err\tMemory")?,
         }

@@ -18,8 +18,9 @@ use calls::{Call, answer};
 use std::alloc::Global;
 use std::io;
 
-/// What the call answers.
-fn answered(alloc: Global, call: &Call) -> Result<String, Memory> {
+/// What the call on the line answers.
+fn answered(alloc: Global, line: &str) -> Result<String, Memory> {
+    let call = &Call::read(alloc, line)?;
     let (family, name) = call.name().split_once('.').unwrap_or_default();
     match family {
         "value" => values::answered(alloc, name, call),
@@ -38,8 +39,11 @@ fn main(rt: HostRuntime) -> io::Result<()> {
     longest_chain();
     membership();
     for line in rt.lines(rt.alloc()) {
-        let call = Call::read(rt.alloc(), line?.as_str())?;
-        println!(rt; "{}", answered(rt.alloc(), &call)?)?;
+        let line = line?;
+        match answered(rt.alloc(), line.as_str()) {
+            Ok(text) => println!(rt; "{text}")?,
+            Err(_) => println!(rt; "err\tMemory")?,
+        }
     }
     Ok(())
 }

@@ -12,9 +12,21 @@ use std::alloc::Global;
 /// What the call of that name answers.
 pub(crate) fn answered(alloc: Global, name: &str, call: &Call) -> Result<String, Memory> {
     match name {
-        "unite" => united(alloc, value_of(alloc, call.text(1))?, &value_of(alloc, call.text(2))?),
-        "take" => taken(alloc, value_of(alloc, call.text(1))?, value_of(alloc, call.text(2))?),
-        "missing_with_carriers" => missing(alloc, &value_of(alloc, call.text(1))?, &value_of(alloc, call.text(2))?),
+        "unite" => united(
+            alloc,
+            value_of(alloc, call.text(1))?,
+            &value_of(alloc, call.text(2))?,
+        ),
+        "take" => taken(
+            alloc,
+            value_of(alloc, call.text(1))?,
+            value_of(alloc, call.text(2))?,
+        ),
+        "missing_with_carriers" => missing(
+            alloc,
+            &value_of(alloc, call.text(1))?,
+            &value_of(alloc, call.text(2))?,
+        ),
         "gathered" => gathered(alloc, call.text(1)),
         _ => told_of_list(alloc, name, call),
     }
@@ -34,7 +46,13 @@ fn told_of_list(alloc: Global, name: &str, call: &Call) -> Result<String, Memory
 }
 
 /// What is told of a set, a list of borrowed texts, and a text.
-fn told_of_lent(alloc: Global, name: &str, ours: Paths, given: &[&str], text: &str) -> Result<String, Memory> {
+fn told_of_lent(
+    alloc: Global,
+    name: &str,
+    ours: Paths,
+    given: &[&str],
+    text: &str,
+) -> Result<String, Memory> {
     match name {
         "contains" => told::truth(alloc, ours.contains(given)),
         "is_above" => told::truth(alloc, ours.is_above(given)),

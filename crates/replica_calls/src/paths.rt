@@ -1,6 +1,5 @@
-//! Calls of lists of texts that may begin an atom, and of what came with a body.
+//! Calls of lists of texts: what they are among the atoms, what may stand behind an atom, and the name of a log.
 
-use crate::spelled::replica;
 use crate::told;
 use cadf_json::Memory;
 use cadf_replica::{PathKind, log_name, may_follow, path_kind};
@@ -18,7 +17,7 @@ fn texts_from(alloc: Global, call: &Call, first: usize) -> Result<Vec<String>, M
 }
 
 /// What the call of that name answers of the texts that its words are.
-pub(crate) fn of_path(alloc: Global, name: &str, call: &Call) -> Result<String, Memory> {
+pub(crate) fn answered(alloc: Global, name: &str, call: &Call) -> Result<String, Memory> {
     match name {
         "kind" => kind(alloc, path_kind(alloc, &texts_from(alloc, call, 1)?)?),
         "may_follow" => follows(alloc, call.text(1), &texts_from(alloc, call, 2)?),
@@ -46,27 +45,6 @@ fn follows(alloc: Global, letter: &str, more: &[String]) -> Result<String, Memor
 fn log(alloc: Global, text: &str) -> Result<String, Memory> {
     match log_name(alloc, text)? {
         Some(name) => answer(alloc, "ok", &["some", name.as_str()]),
-        None => answer(alloc, "ok", &["none"]),
-    }
-}
-
-/// What the call of that name answers of the body, whose replica, identifier and text are the words.
-pub(crate) fn of_body(alloc: Global, name: &str, call: &Call) -> Result<String, Memory> {
-    let ours = replica(alloc, call.text(1))?;
-    let (id, body) = (call.text(2), call.text(3));
-    match name {
-        "chains" => told::lists(alloc, &ours.chains(id, body)?),
-        "longest_chain" => longest(alloc, ours.longest_chain(id, body)?),
-        "tags" => told::texts(alloc, &ours.tags(id, body)?),
-        "attachments" => told::texts(alloc, &ours.attachments(id, body)?),
-        _ => answer(alloc, "no such call", &[]),
-    }
-}
-
-/// The steps of the chain, if there is one.
-fn longest(alloc: Global, chain: Option<Vec<String>>) -> Result<String, Memory> {
-    match chain {
-        Some(chain) => told::texts(alloc, &chain),
         None => answer(alloc, "ok", &["none"]),
     }
 }
