@@ -58,11 +58,11 @@ CALLS = {
     "inventory.digest_after": ["Inventory::digest_after"],
     "schedule.read_script": ["read_script"],
     "schedule.rehearse": ["rehearse"],
-    "fault.atom": ["AtomFault::fmt"],
-    "fault.replica": ["ReplicaFault::fmt"],
-    "fault.ruling": ["RulingFault::fmt"],
-    "fault.schedule": ["RehearseFault::fmt"],
-    "fault.script": ["ScriptFault::fmt"],
+    "fault.atom": [],
+    "fault.replica": [],
+    "fault.ruling": [],
+    "fault.schedule": [],
+    "fault.script": [],
 }
 
 REPLICA = "PROMISES: A replica"
