@@ -2,7 +2,7 @@
 
 use crate::told;
 use cadf_json::Memory;
-use cadf_replica::{PathKind, log_name, may_follow, path_kind};
+use cadf_replica::{PathKind, log_name, may_follow, path_kind, path_kind_with};
 use calls::{Call, answer};
 use json::Scratch;
 use std::alloc::Global;
@@ -20,10 +20,16 @@ fn texts_from(alloc: Global, call: &Call, first: usize) -> Result<Vec<String>, M
 pub(crate) fn answered(alloc: Global, name: &str, call: &Call) -> Result<String, Memory> {
     match name {
         "kind" => kind(alloc, path_kind(alloc, &texts_from(alloc, call, 1)?)?),
+        "kind_with" => kind_with(alloc, &texts_from(alloc, call, 1)?),
         "may_follow" => follows(alloc, call.text(1), &texts_from(alloc, call, 2)?),
         "log_name" => log(alloc, call.text(1)),
         _ => answer(alloc, "no such call", &[]),
     }
+}
+
+fn kind_with(alloc: Global, texts: &[String]) -> Result<String, Memory> {
+    let mut scratch = Scratch::new(alloc);
+    kind(alloc, path_kind_with(alloc, &mut scratch, texts)?)
 }
 
 fn kind(alloc: Global, kind: PathKind) -> Result<String, Memory> {
