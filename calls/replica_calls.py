@@ -13,6 +13,7 @@ CALLS = {
     "atom.path_atom": ["path_atom"],
     "atom.letter": ["Letter::text", "Letter::char"],
     "path.kind": ["path_kind"],
+    "path.kind_with": ["path_kind_with"],
     "path.may_follow": ["may_follow"],
     "path.log_name": ["log_name"],
     "replica.copy": ["Replica::new", "Replica::log", "Replica::copy", "Replica::atom_lists"],
@@ -153,6 +154,7 @@ for kind, texts in [
         ("Whole", ["E", "e1", B1, "C"] + [S1] * 256), ("Not", ["E", "e1", B1, "C"] + [S1] * 257),
         ("Whole", ["P", "name", "1"]), ("Not", ["P", "name", "1", "x"]), ("Not", ["P", "name", "1", "T"]), ("Not", ["R", "r1", "{}"])]:
     row("What is refused", "path.kind", texts, "ok", kind)
+    row("What is refused", "path.kind_with", texts, "ok", kind)
 
 # What may stand behind an atom of three.
 for letter, more, may in [

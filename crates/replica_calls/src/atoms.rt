@@ -8,7 +8,7 @@ use calls::{Call, answer, refused};
 use std::alloc::Global;
 use std::cmp::Ordering;
 
-/// What the call of that name answers.
+/// Answers the call of that name.
 pub(crate) fn answered(alloc: Global, name: &str, call: &Call) -> Result<String, Memory> {
     match name {
         "letter" => letter(alloc, call.text(1)),
@@ -20,7 +20,7 @@ pub(crate) fn answered(alloc: Global, name: &str, call: &Call) -> Result<String,
     }
 }
 
-/// The texts of the atom of the line, or why it is none.
+/// Answers the texts of the atom of the line, or why it is none.
 fn read(alloc: Global, line: &str) -> Result<String, Memory> {
     match Atom::read(alloc, line) {
         Ok(atom) => told::texts(alloc, atom.parts()),
@@ -39,13 +39,13 @@ fn told_of(alloc: Global, name: &str, atom: Atom, call: &Call) -> Result<String,
     }
 }
 
-/// The digits of the atom's digest.
+/// Answers the digits of the atom's digest.
 fn digest(alloc: Global, atom: &Atom) -> Result<String, Memory> {
     let digits = hex::encode(alloc, atom.digest(alloc)?)?;
     answer(alloc, "ok", &[digits.as_str()])
 }
 
-/// How the atom compares with that of the line.
+/// Compares the atom with that of the line.
 fn compared(alloc: Global, one: &Atom, line: &str) -> Result<String, Memory> {
     match atom(alloc, line)? {
         Some(other) => answer(alloc, order(one.compare(&other)), &[]),
@@ -61,7 +61,7 @@ fn order(order: Ordering) -> &'static str {
     }
 }
 
-/// The letter of that name, as a text and as a character.
+/// Answers the letter of that name, as a text and as a character.
 fn letter(alloc: Global, name: &str) -> Result<String, Memory> {
     let letter = match name {
         "Event" => Letter::Event,

@@ -6,7 +6,7 @@ use cadf_json::Memory;
 use calls::{Call, answer};
 use std::alloc::Global;
 
-/// What the call of that name answers.
+/// Answers the call of that name.
 pub(crate) fn answered(alloc: Global, name: &str, call: &Call) -> Result<String, Memory> {
     let ours = replica(alloc, call.text(1))?;
     let (id, body) = (call.text(2), call.text(3));
@@ -19,7 +19,7 @@ pub(crate) fn answered(alloc: Global, name: &str, call: &Call) -> Result<String,
     }
 }
 
-/// The JSON list of the chain's steps, if there is one.
+/// Answers the JSON list of the chain's steps, if there is one.
 fn longest(alloc: Global, chain: Option<Vec<String>>) -> Result<String, Memory> {
     match chain {
         Some(chain) => told::text(alloc, Some(of_list(alloc, &chain)?)),

@@ -7,7 +7,7 @@ use cadf_script::ScriptFault;
 use calls::{Call, answer};
 use std::alloc::Global;
 
-/// What the fault of that kind is shown as.
+/// Answers what the fault of that kind is shown as.
 pub(crate) fn answered(alloc: Global, kind: &str, call: &Call) -> Result<String, Memory> {
     match kind {
         "atom" => atom(alloc, call.text(1)),

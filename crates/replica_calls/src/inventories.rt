@@ -7,7 +7,7 @@ use cadf_replica::Inventory;
 use calls::{Call, answer};
 use std::alloc::Global;
 
-/// What the call of that name answers.
+/// Answers the call of that name.
 pub(crate) fn answered(alloc: Global, name: &str, call: &Call) -> Result<String, Memory> {
     let ours = inventory(alloc, call.text(1))?;
     let given = digest(call.text(2));

@@ -36,7 +36,7 @@ impl Visitor for Kept {
     ghost stops_before = { λ _ _ _ _ _ _. tt };
 }
 
-/// The texts, copied.
+/// Copies the texts.
 fn copied(alloc: Global, list: &[&str]) -> Result<Vec<String>, Memory> {
     let mut texts = Vec::new(alloc);
     for text in list {
@@ -45,7 +45,7 @@ fn copied(alloc: Global, list: &[&str]) -> Result<Vec<String>, Memory> {
     Ok(texts)
 }
 
-/// The atoms that a walk of the replica shows, each the JSON list of its texts.
+/// Answers the atoms that a walk of the replica shows, each the JSON list of its texts.
 pub(crate) fn walked(alloc: Global, replica: &Replica) -> Result<String, Memory> {
     let mut kept = Kept {
         lists: Vec::new(alloc),

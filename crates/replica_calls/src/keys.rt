@@ -7,7 +7,7 @@ use cadf_replica::Replica;
 use calls::{Call, answer};
 use std::alloc::Global;
 
-/// What the call of that name answers.
+/// Answers the call of that name.
 pub(crate) fn answered(alloc: Global, name: &str, call: &Call) -> Result<String, Memory> {
     let ours = replica(alloc, call.text(1))?;
     let letter = call.text(2).chars().next().unwrap_or(' ');

@@ -3,7 +3,7 @@
 use cadf_rehearsal::laws as schedules;
 use cadf_replica::laws as replicas;
 
-/// They are calls that do nothing.
+/// Calls each law; it does nothing.
 pub(crate) fn hold() {
     replicas::missing_is_least();
     replicas::missing_part_suffices();

@@ -8,7 +8,7 @@ use cadf_replica::{Atom, Replica};
 use calls::{Call, answer};
 use std::alloc::Global;
 
-/// What the call of that name answers.
+/// Answers the call of that name.
 pub(crate) fn answered(alloc: Global, name: &str, call: &Call) -> Result<String, Memory> {
     let ours = replica(alloc, call.text(1))?;
     match name {
@@ -26,7 +26,7 @@ pub(crate) fn answered(alloc: Global, name: &str, call: &Call) -> Result<String,
     }
 }
 
-/// What is told of a replica and an atom.
+/// Answers a call about a replica and an atom.
 fn told_of_atom(alloc: Global, name: &str, ours: Replica, atom: &Atom) -> Result<String, Memory> {
     match name {
         "holds" => told::truth(alloc, ours.holds(atom)),
@@ -38,7 +38,7 @@ fn told_of_atom(alloc: Global, name: &str, ours: Replica, atom: &Atom) -> Result
     }
 }
 
-/// The line of the atom, if there is one.
+/// Answers the line of the atom, if there is one.
 fn found(alloc: Global, atom: Option<Atom>) -> Result<String, Memory> {
     match atom {
         Some(atom) => told::text(alloc, Some(atom.line(alloc)?)),
@@ -46,7 +46,7 @@ fn found(alloc: Global, atom: Option<Atom>) -> Result<String, Memory> {
     }
 }
 
-/// The digests of the replica's atoms.
+/// Answers the digests of the replica's atoms.
 fn noted(alloc: Global, ours: &Replica) -> Result<String, Memory> {
     let inventory = ours.inventory()?;
     let lines = of_inventory(alloc, &inventory)?;
@@ -63,7 +63,7 @@ fn put_texts(alloc: Global, mut ours: Replica, atom: &Atom) -> Result<String, Me
     told::changed(alloc, outcome, &ours)
 }
 
-/// Whether the atom was put last, or why not, and what the replica then is.
+/// Tells whether the atom was put last, or why not, and what the replica then is.
 fn put_last(alloc: Global, mut ours: Replica, atom: &Atom) -> Result<String, Memory> {
     match ours.put_last(atom.parts()) {
         Ok(true) => told::replica(alloc, &ours),

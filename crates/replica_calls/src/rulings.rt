@@ -7,7 +7,7 @@ use cadf_replica::{Replica, Ruling, RulingFault};
 use calls::{Call, answer, push, refused};
 use std::alloc::Global;
 
-/// What the call of that name answers.
+/// Answers the call of that name.
 pub(crate) fn answered(alloc: Global, name: &str, call: &Call) -> Result<String, Memory> {
     match name {
         "read" => told_of(alloc, read(alloc, call, 1)),
@@ -21,12 +21,12 @@ pub(crate) fn answered(alloc: Global, name: &str, call: &Call) -> Result<String,
     }
 }
 
-/// The first character of the word.
+/// Answers the first character of the word.
 fn letter(call: &Call, place: usize) -> char {
     call.text(place).chars().next().unwrap_or(' ')
 }
 
-/// The ruling that the three words from this one on spell.
+/// Answers the ruling that the three words from this one on spell.
 fn read(alloc: Global, call: &Call, first: usize) -> Result<Ruling, RulingFault> {
     let (key, digest) = (first.saturating_add(1), first.saturating_add(2));
     Ruling::read(
@@ -51,7 +51,7 @@ fn spelled(alloc: Global, ruling: &Ruling) -> Result<String, Memory> {
     Ok(line)
 }
 
-/// What the replica is with the ruling.
+/// Answers what the replica is with the ruling.
 fn taken(
     alloc: Global,
     mut ours: Replica,
@@ -66,7 +66,7 @@ fn taken(
     }
 }
 
-/// The rulings of the replica, each its letter, key and digest, as fields.
+/// Answers the rulings of the replica, each its letter, key and digest, as fields.
 fn listed(alloc: Global, ours: &Replica) -> Result<String, Memory> {
     let mut line = answer(alloc, "ok", &[])?;
     for ruling in ours.rulings()? {

@@ -9,7 +9,7 @@ use cadf_script::read_script;
 use calls::{Call, answer, push, refused};
 use std::alloc::Global;
 
-/// What the call of that name answers.
+/// Answers the call of that name.
 pub(crate) fn answered(alloc: Global, name: &str, call: &Call) -> Result<String, Memory> {
     match name {
         "read_script" => read(alloc, call.bytes(1)),
@@ -23,7 +23,7 @@ pub(crate) fn answered(alloc: Global, name: &str, call: &Call) -> Result<String,
     }
 }
 
-/// The turns of the script, each a field, or the first line that spells none.
+/// Answers the turns of the script, each a field, or the first line that spells none.
 fn read(alloc: Global, script: &[u8]) -> Result<String, Memory> {
     match read_script(alloc, script) {
         Ok(turns) => listed(alloc, &turns),
@@ -39,7 +39,7 @@ fn listed(alloc: Global, turns: &[Turn]) -> Result<String, Memory> {
     Ok(line)
 }
 
-/// The turn, with the log and the number of events of what is learnt.
+/// Answers the turn, with the log and the number of events of what is learnt.
 fn spelled(alloc: Global, turn: &Turn) -> Result<String, Memory> {
     match turn {
         Turn::Learn(site, document) => match document.log() {
@@ -57,7 +57,7 @@ fn spelled(alloc: Global, turn: &Turn) -> Result<String, Memory> {
     }
 }
 
-/// What the script's turns leave at each site, a field each, or why they leave nothing.
+/// Answers what the script's turns leave at each site, a field each, or why they leave nothing.
 fn rehearsed(alloc: Global, log: &Name, sites: usize, script: &[u8]) -> Result<String, Memory> {
     match read_script(alloc, script) {
         Ok(turns) => left(alloc, rehearse(alloc, log, sites, &turns)),

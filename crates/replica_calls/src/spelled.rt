@@ -6,7 +6,7 @@ use cadf_replica::{Atom, AtomFault, Inventory, Replica, ReplicaFault};
 use hex::FromHex;
 use std::alloc::Global;
 
-/// The name that the word is. A word that is none is answered as want of memory.
+/// Answers the name that the word is. A word that is none is answered as want of memory.
 pub(crate) fn name(alloc: Global, word: &str) -> Result<Name, Memory> {
     match Name::read(alloc, word) {
         Ok(name) => Ok(name),
@@ -14,7 +14,7 @@ pub(crate) fn name(alloc: Global, word: &str) -> Result<Name, Memory> {
     }
 }
 
-/// The atom of the line, if it is one.
+/// Answers the atom of the line, if it is one.
 pub(crate) fn atom(alloc: Global, line: &str) -> Result<Option<Atom>, Memory> {
     match Atom::read(alloc, line) {
         Ok(atom) => Ok(Some(atom)),
@@ -39,7 +39,7 @@ fn put_line(alloc: Global, replica: &mut Replica, line: &str) -> Result<(), Memo
     }
 }
 
-/// The replica that the word spells.
+/// Answers the replica that the word spells.
 pub(crate) fn replica(alloc: Global, word: &str) -> Result<Replica, Memory> {
     let (log, lines) = word.split_once('\n').unwrap_or((word, ""));
     let mut replica = Replica::new(alloc, name(alloc, log)?);
@@ -64,14 +64,14 @@ pub(crate) fn push_list(
     spelled.push_str(if before == '[' { "[]" } else { "]" })
 }
 
-/// The JSON list of the texts.
+/// Answers the JSON list of the texts.
 pub(crate) fn of_list(alloc: Global, list: &[String]) -> Result<String, Memory> {
     let mut spelled = String::new(alloc);
     push_list(alloc, &mut spelled, list)?;
     Ok(spelled)
 }
 
-/// The lines of the replica.
+/// Answers the lines of the replica.
 pub(crate) fn of_replica(alloc: Global, replica: &Replica) -> Result<String, Memory> {
     let mut spelled = String::from_str(alloc, replica.log().as_str())?;
     for list in replica.atom_lists()? {
@@ -81,12 +81,12 @@ pub(crate) fn of_replica(alloc: Global, replica: &Replica) -> Result<String, Mem
     Ok(spelled)
 }
 
-/// The digest that the digits spell; nothing but zeros if they spell none.
+/// Answers the digest that the digits spell; nothing but zeros if they spell none.
 pub(crate) fn digest(digits: &str) -> [u8; 32] {
     <[u8; 32] as FromHex>::from_hex(digits).unwrap_or([0; 32])
 }
 
-/// The inventory that the word spells.
+/// Answers the inventory that the word spells.
 pub(crate) fn inventory(alloc: Global, word: &str) -> Result<Inventory, Memory> {
     let (log, lines) = word.split_once('\n').unwrap_or((word, ""));
     let mut inventory = Inventory::new(alloc, name(alloc, log)?);
@@ -96,7 +96,7 @@ pub(crate) fn inventory(alloc: Global, word: &str) -> Result<Inventory, Memory> 
     Ok(inventory)
 }
 
-/// The lines of the inventory.
+/// Answers the lines of the inventory.
 pub(crate) fn of_inventory(alloc: Global, inventory: &Inventory) -> Result<String, Memory> {
     let mut spelled = String::from_str(alloc, inventory.log().as_str())?;
     for digest in inventory.digests() {

@@ -6,22 +6,22 @@ use cadf_replica::{Replica, ReplicaFault};
 use calls::{answer, push, refused};
 use std::alloc::Global;
 
-/// `true` or `false`.
+/// Answers `true` or `false`.
 pub(crate) fn truth(alloc: Global, truth: bool) -> Result<String, Memory> {
     answer(alloc, if truth { "true" } else { "false" }, &[])
 }
 
-/// `ok`, and `true` or `false`.
+/// Answers `ok`, and `true` or `false`.
 pub(crate) fn found_true(alloc: Global, truth: bool) -> Result<String, Memory> {
     answer(alloc, "ok", &[if truth { "true" } else { "false" }])
 }
 
-/// A number.
+/// Answers a number.
 pub(crate) fn number(alloc: Global, number: u64) -> Result<String, Memory> {
     format!(in alloc; "{number}")
 }
 
-/// `ok` with a text, or with none.
+/// Answers `ok` with a text, or with none.
 pub(crate) fn text(alloc: Global, found: Option<String>) -> Result<String, Memory> {
     match found {
         Some(text) => answer(alloc, "ok", &["some", text.as_str()]),
@@ -29,7 +29,7 @@ pub(crate) fn text(alloc: Global, found: Option<String>) -> Result<String, Memor
     }
 }
 
-/// `ok` with these texts, each a field.
+/// Answers `ok` with these texts, each a field.
 pub(crate) fn texts(alloc: Global, texts: &[String]) -> Result<String, Memory> {
     let mut line = answer(alloc, "ok", &[])?;
     for text in texts {
@@ -38,7 +38,7 @@ pub(crate) fn texts(alloc: Global, texts: &[String]) -> Result<String, Memory> {
     Ok(line)
 }
 
-/// `ok` with these lists, each a field.
+/// Answers `ok` with these lists, each a field.
 pub(crate) fn lists(alloc: Global, lists: &[Vec<String>]) -> Result<String, Memory> {
     let mut line = answer(alloc, "ok", &[])?;
     for list in lists {
@@ -47,13 +47,13 @@ pub(crate) fn lists(alloc: Global, lists: &[Vec<String>]) -> Result<String, Memo
     Ok(line)
 }
 
-/// `ok` with the replica.
+/// Answers `ok` with the replica.
 pub(crate) fn replica(alloc: Global, replica: &Replica) -> Result<String, Memory> {
     let lines = of_replica(alloc, replica)?;
     answer(alloc, "ok", &[lines.as_str()])
 }
 
-/// How a change came out, and what the replica then is.
+/// Answers how a change came out, and what the replica then is.
 pub(crate) fn changed(
     alloc: Global,
     outcome: Result<(), ReplicaFault>,
@@ -65,14 +65,14 @@ pub(crate) fn changed(
     }
 }
 
-/// Why it was refused, and what the replica still is.
+/// Answers why it was refused, and what the replica still is.
 pub(crate) fn kept(alloc: Global, fault: ReplicaFault, after: &Replica) -> Result<String, Memory> {
     let mut line = refused(alloc, &fault)?;
     push(&mut line, of_replica(alloc, after)?.as_str())?;
     Ok(line)
 }
 
-/// The part that was found, or why none was.
+/// Answers the part that was found, or why none was.
 pub(crate) fn part(alloc: Global, found: Result<Replica, ReplicaFault>) -> Result<String, Memory> {
     match found {
         Ok(part) => replica(alloc, &part),

@@ -35,7 +35,7 @@ impl Visitor for Keeping {
     ghost stops_before = { λ _ _ _ _ _ _. tt };
 }
 
-/// The texts, copied.
+/// Copies the texts.
 fn kept(alloc: Global, list: &[&str]) -> Result<Vec<String>, Memory> {
     let mut texts = Vec::new(alloc);
     for text in list {
@@ -44,7 +44,7 @@ fn kept(alloc: Global, list: &[&str]) -> Result<Vec<String>, Memory> {
     Ok(texts)
 }
 
-/// The lists that a walk of the value shows.
+/// Answers the lists that a walk of the value shows.
 pub(crate) fn walked<W: Walk>(alloc: Global, value: &W) -> Result<String, Memory> {
     let mut keeping = Keeping {
         lists: Vec::new(alloc),
@@ -54,7 +54,7 @@ pub(crate) fn walked<W: Walk>(alloc: Global, value: &W) -> Result<String, Memory
     told::lists(alloc, &keeping.lists)
 }
 
-/// The lists that a walk of the value behind the text shows.
+/// Answers the lists that a walk of the value behind the text shows.
 pub(crate) fn walked_behind<W: Walk>(
     alloc: Global,
     text: &str,

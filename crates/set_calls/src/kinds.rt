@@ -7,7 +7,7 @@ use std::alloc::Global;
 
 /// A value that is made of lists.
 pub(crate) trait Made: Walk {
-    /// A value that holds nothing.
+    /// Makes a value that holds nothing.
     fn empty(alloc: Global) -> Self;
 
     /// Adds the list. One that no value of the kind holds is passed over.
@@ -65,7 +65,7 @@ impl Made for Paths {
     }
 }
 
-/// The value that holds the lists of the word.
+/// Answers the value that holds the lists of the word.
 pub(crate) fn value_of<J: Made>(alloc: Global, word: &str) -> Result<J, Memory> {
     let mut value = J::empty(alloc);
     for list in lists(alloc, word)? {

@@ -5,7 +5,7 @@ use cadf_json::{Json, JsonFault, Memory, View, quoted};
 use calls::{Call, answer};
 use std::alloc::Global;
 
-/// The JSON value that the word spells; an empty text where it spells none.
+/// Answers the JSON value that the word spells; an empty text where it spells none.
 fn json(alloc: Global, word: &str) -> Result<Json, Memory> {
     match Json::read(alloc, word.as_bytes()) {
         Ok(json) => Ok(json),
@@ -27,7 +27,7 @@ fn push_text(
     Ok(())
 }
 
-/// The texts of the list.
+/// Answers the texts of the list.
 fn texts_of(alloc: Global, list: &View) -> Result<Vec<String>, Memory> {
     let mut texts = Vec::new(alloc);
     for place in 0..list.len() {
@@ -49,13 +49,13 @@ fn push_list(
     Ok(())
 }
 
-/// The list that the word spells.
+/// Answers the list that the word spells.
 pub(crate) fn list(alloc: Global, word: &str) -> Result<Vec<String>, Memory> {
     let json = json(alloc, word)?;
     texts_of(alloc, &json.view())
 }
 
-/// The lists that the word spells.
+/// Answers the lists that the word spells.
 pub(crate) fn lists(alloc: Global, word: &str) -> Result<Vec<Vec<String>>, Memory> {
     let json = json(alloc, word)?;
     let all = json.view();
@@ -66,7 +66,7 @@ pub(crate) fn lists(alloc: Global, word: &str) -> Result<Vec<Vec<String>>, Memor
     Ok(lists)
 }
 
-/// The texts of the list, borrowed.
+/// Borrows the texts of the list.
 pub(crate) fn lent<'a>(alloc: Global, list: &'a [String]) -> Result<Vec<&'a str>, Memory> {
     let mut texts = Vec::new(alloc);
     for text in list {
@@ -86,14 +86,14 @@ fn push_spelled(alloc: Global, spelled: &mut String, list: &[String]) -> Result<
     spelled.push_str(if before == '[' { "[]" } else { "]" })
 }
 
-/// The JSON list of the texts.
+/// Answers the JSON list of the texts.
 pub(crate) fn spelled(alloc: Global, list: &[String]) -> Result<String, Memory> {
     let mut spelled = String::new(alloc);
     push_spelled(alloc, &mut spelled, list)?;
     Ok(spelled)
 }
 
-/// The JSON list of the lists.
+/// Answers the JSON list of the lists.
 pub(crate) fn all_spelled(alloc: Global, lists: &[Vec<String>]) -> Result<String, Memory> {
     let mut spelled = String::new(alloc);
     let mut before = '[';
@@ -106,7 +106,7 @@ pub(crate) fn all_spelled(alloc: Global, lists: &[Vec<String>]) -> Result<String
     Ok(spelled)
 }
 
-/// What a call of a prefix answers: the list that it makes.
+/// Answers a call of a prefix with the list that it makes.
 pub(crate) fn answered(alloc: Global, name: &str, call: &Call) -> Result<String, Memory> {
     let prefix = list(alloc, call.text(1))?;
     let made = match name {

@@ -18,7 +18,7 @@ use calls::{Call, answer};
 use std::alloc::Global;
 use std::io;
 
-/// What the call on the line answers.
+/// Answers the call on the line.
 fn answered(alloc: Global, line: &str) -> Result<String, Memory> {
     let call = &Call::read(alloc, line)?;
     let (family, name) = call.name().split_once('.').unwrap_or_default();

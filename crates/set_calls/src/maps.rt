@@ -6,7 +6,7 @@ use cadf_join::{ChainTree, HasFirsts, JoinMap, Memory, TextSet};
 use calls::{Call, answer};
 use std::alloc::Global;
 
-/// What the call of that name answers.
+/// Answers the call of that name.
 pub(crate) fn answered(alloc: Global, name: &str, call: &Call) -> Result<String, Memory> {
     match call.text(1) {
         "texts" => told_of::<TextSet>(alloc, name, call),
@@ -31,7 +31,7 @@ fn told_of<V: Made>(alloc: Global, name: &str, call: &Call) -> Result<String, Me
     }
 }
 
-/// What the value at a key holds.
+/// Answers what the value at a key holds.
 fn got<V: Made>(alloc: Global, value: Option<&V>) -> Result<String, Memory> {
     match value {
         Some(value) => answer(alloc, "some", &[told::contents(alloc, value)?.as_str()]),

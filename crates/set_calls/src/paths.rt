@@ -9,7 +9,7 @@ use cadf_paths::{Carrier, Gathered, Paths};
 use calls::{Call, answer};
 use std::alloc::Global;
 
-/// What the call of that name answers.
+/// Answers the call of that name.
 pub(crate) fn answered(alloc: Global, name: &str, call: &Call) -> Result<String, Memory> {
     match name {
         "unite" => united(
@@ -32,7 +32,7 @@ pub(crate) fn answered(alloc: Global, name: &str, call: &Call) -> Result<String,
     }
 }
 
-/// What is told of a set and a list.
+/// Answers a call about a set and a list.
 fn told_of_list(alloc: Global, name: &str, call: &Call) -> Result<String, Memory> {
     let ours: Paths = value_of(alloc, call.text(1))?;
     let given = list(alloc, call.text(2))?;
@@ -45,7 +45,7 @@ fn told_of_list(alloc: Global, name: &str, call: &Call) -> Result<String, Memory
     }
 }
 
-/// What is told of a set, a list of borrowed texts, and a text.
+/// Answers a call about a set, a list of borrowed texts, and a text.
 fn told_of_lent(
     alloc: Global,
     name: &str,
@@ -73,7 +73,7 @@ fn inserted(alloc: Global, mut ours: Paths, list: &[&str]) -> Result<String, Mem
     told::held(alloc, &ours)
 }
 
-/// A list that is not above all that are there is no word of this call.
+/// Pushes the list; one that is not above all that are there is no word of this call.
 fn pushed(alloc: Global, mut ours: Paths, list: &[&str]) -> Result<String, Memory> {
     if !ours.is_above(list) {
         return answer(alloc, "not above", &[]);
@@ -105,12 +105,12 @@ impl Carrier for ByNothing {
     ghost in_order = { λ _ _ _ g. Prim.cc };
 }
 
-/// What the first has and the second lacks, with its carriers.
+/// Answers what the first has and the second lacks, with its carriers.
 fn missing(alloc: Global, ours: &Paths, theirs: &Paths) -> Result<String, Memory> {
     told::held(alloc, &ours.missing_with_carriers::<ByNothing>(theirs)?)
 }
 
-/// The set of the lists, gathered in the order in which they stand.
+/// Answers the set of the lists, gathered in the order in which they stand.
 fn gathered(alloc: Global, word: &str) -> Result<String, Memory> {
     let mut gathered = Gathered::new(alloc);
     for list in lists(alloc, word)? {

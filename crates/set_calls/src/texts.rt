@@ -6,7 +6,7 @@ use cadf_join::{HasFirsts, Memory, TextSet};
 use calls::{Call, answer};
 use std::alloc::Global;
 
-/// What the call of that name answers.
+/// Answers the call of that name.
 pub(crate) fn answered(alloc: Global, name: &str, call: &Call) -> Result<String, Memory> {
     let ours: TextSet = value_of(alloc, call.text(1))?;
     match name {

@@ -5,17 +5,17 @@ use cadf_join::{Join, Memory};
 use calls::{answer, push, push_truth};
 use std::alloc::Global;
 
-/// `true` or `false`.
+/// Answers `true` or `false`.
 pub(crate) fn truth(alloc: Global, truth: bool) -> Result<String, Memory> {
     answer(alloc, if truth { "true" } else { "false" }, &[])
 }
 
-/// A number.
+/// Answers a number.
 pub(crate) fn number(alloc: Global, number: u64) -> Result<String, Memory> {
     format!(in alloc; "{number}")
 }
 
-/// A text, or none.
+/// Answers a text, or none.
 pub(crate) fn text(alloc: Global, found: Option<&str>) -> Result<String, Memory> {
     match found {
         Some(text) => answer(alloc, "some", &[text]),
@@ -23,7 +23,7 @@ pub(crate) fn text(alloc: Global, found: Option<&str>) -> Result<String, Memory>
     }
 }
 
-/// `ok` with a list, or with none.
+/// Answers `ok` with a list, or with none.
 pub(crate) fn found(alloc: Global, found: Option<Vec<String>>) -> Result<String, Memory> {
     match found {
         Some(list) => {
@@ -34,7 +34,7 @@ pub(crate) fn found(alloc: Global, found: Option<Vec<String>>) -> Result<String,
     }
 }
 
-/// `ok` with these texts, each a field.
+/// Answers `ok` with these texts, each a field.
 pub(crate) fn texts(alloc: Global, texts: &[String]) -> Result<String, Memory> {
     let mut line = answer(alloc, "ok", &[])?;
     for text in texts {
@@ -43,24 +43,24 @@ pub(crate) fn texts(alloc: Global, texts: &[String]) -> Result<String, Memory> {
     Ok(line)
 }
 
-/// `ok` with the lists.
+/// Answers `ok` with the lists.
 pub(crate) fn lists(alloc: Global, lists: &[Vec<String>]) -> Result<String, Memory> {
     answer(alloc, "ok", &[all_spelled(alloc, lists)?.as_str()])
 }
 
-/// The lists that the value holds.
+/// Answers the lists that the value holds.
 pub(crate) fn contents<J: Join>(alloc: Global, value: &J) -> Result<String, Memory> {
     let mut lists = Vec::new(alloc);
     value.append_lists(&[], &mut lists)?;
     all_spelled(alloc, &lists)
 }
 
-/// `ok` with what the value holds.
+/// Answers `ok` with what the value holds.
 pub(crate) fn held<J: Join>(alloc: Global, value: &J) -> Result<String, Memory> {
     answer(alloc, "ok", &[contents(alloc, value)?.as_str()])
 }
 
-/// `ok`, whether what was added is new, and what the value then holds.
+/// Answers `ok`, whether what was added is new, and what the value then holds.
 pub(crate) fn added<J: Join>(alloc: Global, new: bool, value: &J) -> Result<String, Memory> {
     let mut line = answer(alloc, "ok", &[])?;
     push_truth(&mut line, new)?;

@@ -7,7 +7,7 @@ use cadf_join::{ChainTree, Memory};
 use calls::{Call, answer};
 use std::alloc::Global;
 
-/// What the call of that name answers.
+/// Answers the call of that name.
 pub(crate) fn answered(alloc: Global, name: &str, call: &Call) -> Result<String, Memory> {
     let ours: ChainTree = value_of(alloc, call.text(1))?;
     let given = list(alloc, call.text(2))?;

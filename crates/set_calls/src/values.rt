@@ -9,7 +9,7 @@ use cadf_paths::Paths;
 use calls::{Call, answer};
 use std::alloc::Global;
 
-/// What the call of that name answers.
+/// Answers the call of that name.
 pub(crate) fn answered(alloc: Global, name: &str, call: &Call) -> Result<String, Memory> {
     match call.text(1) {
         "texts" => told_of::<TextSet>(alloc, name, call),
@@ -49,7 +49,7 @@ fn joined<J: Made>(alloc: Global, mut ours: J, theirs: &J) -> Result<String, Mem
     told::held(alloc, &ours)
 }
 
-/// What the first has and the second lacks.
+/// Answers what the first has and the second lacks.
 fn missing<J: Made>(alloc: Global, ours: &J, theirs: &J) -> Result<String, Memory> {
     match ours.missing_from(theirs)? {
         Some(part) => {
@@ -60,7 +60,7 @@ fn missing<J: Made>(alloc: Global, ours: &J, theirs: &J) -> Result<String, Memor
     }
 }
 
-/// The lists behind the prefix.
+/// Answers the lists behind the prefix.
 fn appended<J: Made>(alloc: Global, value: &J, prefix: &str) -> Result<String, Memory> {
     let mut lists = Vec::new(alloc);
     value.append_lists(&list(alloc, prefix)?, &mut lists)?;

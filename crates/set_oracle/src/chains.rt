@@ -15,7 +15,7 @@ fn add(paths: &mut Paths, chain: &[&str]) -> Result<(), Memory> {
     Ok(())
 }
 
-/// The chains of even or of odd lengths, or all of them.
+/// Answers the chains of even or of odd lengths, or all of them.
 fn chains(alloc: Global, even: bool, odd: bool) -> Result<Paths, Memory> {
     let mut paths = Paths::new(alloc);
     let mut chain = Vec::new(alloc);
@@ -28,7 +28,7 @@ fn chains(alloc: Global, even: bool, odd: bool) -> Result<Paths, Memory> {
     Ok(paths)
 }
 
-/// Whether the even chains lack the odd ones, and with them are all.
+/// Tells whether the even chains lack the odd ones, and with them are all.
 fn make_all(alloc: Global, odd: &Paths) -> Result<bool, Memory> {
     let mut even = chains(alloc, true, false)?;
     let all = chains(alloc, true, true)?;
@@ -38,7 +38,7 @@ fn make_all(alloc: Global, odd: &Paths) -> Result<bool, Memory> {
     Ok(halves && even.same(&all) && all.list_count() == 300)
 }
 
-/// How many lengths up to 301 are found if they are odd and below 300; none if the halves don't make all.
+/// Counts the lengths up to 301 that are found if and only if they are odd and below 300; 0 if the halves don't make all.
 pub(crate) fn found(alloc: Global) -> Result<usize, Memory> {
     let odd = chains(alloc, false, true)?;
     if !make_all(alloc, &odd)? {

@@ -3,7 +3,7 @@
 use cadf_join::{Join, Memory, TextSet};
 use std::alloc::Global;
 
-/// Whether two sites hold the same once one has taken what it lacks of the other.
+/// Tells whether two sites hold the same once one has taken what it lacks of the other.
 pub(crate) fn two_sites_join(alloc: Global) -> Result<bool, Memory> {
     let (mut north, mut south) = (TextSet::new(alloc), TextSet::new(alloc));
     north.insert("seen")?;

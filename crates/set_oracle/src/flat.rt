@@ -5,7 +5,7 @@ use cadf_join::Memory;
 use cadf_paths::Paths;
 use std::alloc::Global;
 
-/// Whether each of the lists is held if the plain set has it, and is above all if that has none from it on.
+/// Tells whether each of the lists is held if the plain set has it, and is above all if that has none from it on.
 fn finds_each(
     alloc: Global,
     paths: &Paths,
@@ -23,12 +23,12 @@ fn finds_each(
     Ok(true)
 }
 
-/// Whether the set holds and finds as the plain set does.
+/// Tells whether the set holds and finds as the plain set does.
 fn looks_as(alloc: Global, paths: &Paths, all: &[Vec<String>], set: usize) -> Result<bool, Memory> {
     Ok(holds(alloc, paths, all, set)? && finds_each(alloc, paths, all, set)?)
 }
 
-/// How many sets look as their plain sets, of which each 31st is tried.
+/// Counts the sets that look as their plain sets, of which each 31st is tried.
 pub(crate) fn look(alloc: Global, all: &[Vec<String>], sets: usize) -> Result<usize, Memory> {
     let mut count: usize = 0;
     for number in 0..sets {
@@ -39,7 +39,7 @@ pub(crate) fn look(alloc: Global, all: &[Vec<String>], sets: usize) -> Result<us
     Ok(count)
 }
 
-/// The set of a plain set of seven lists, put from the last to the first, each twice.
+/// Answers the set of a plain set of seven lists, put from the last to the first, each twice.
 fn put_backwards(alloc: Global, all: &[Vec<String>], set: usize) -> Result<Paths, Memory> {
     let mut paths = Paths::new(alloc);
     let mut bit: usize = 64;
@@ -54,7 +54,7 @@ fn put_backwards(alloc: Global, all: &[Vec<String>], set: usize) -> Result<Paths
     Ok(paths)
 }
 
-/// How many sets that were put backwards look as their plain sets.
+/// Counts the sets that were put backwards and look as their plain sets.
 pub(crate) fn backwards(alloc: Global, all: &[Vec<String>], sets: usize) -> Result<usize, Memory> {
     let mut count: usize = 0;
     for set in 0..sets {

@@ -26,7 +26,7 @@ const LOOKS: usize = 1057;
 
 const PAIRS: usize = 500;
 
-/// How many of the kind of that name were as their plain sets.
+/// Counts those of the kind of that name that were as their plain sets.
 fn count(alloc: Global, name: &str) -> Result<usize, Memory> {
     let chains = plain::lists(alloc, CHAINS)?;
     let short = plain::lists(alloc, SHORT)?;

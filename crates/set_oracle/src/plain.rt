@@ -6,7 +6,7 @@ use cadf_join::{ChainTree, Join, Memory};
 use cadf_paths::Paths;
 use std::alloc::Global;
 
-/// The list that is written with a stroke between its texts, or a dash where it is empty.
+/// Answers the list that is written with a stroke between its texts, or a dash where it is empty.
 fn list(alloc: Global, written: &str) -> Result<Vec<String>, Memory> {
     let mut list = Vec::new(alloc);
     if written == "-" {
@@ -18,7 +18,7 @@ fn list(alloc: Global, written: &str) -> Result<Vec<String>, Memory> {
     Ok(list)
 }
 
-/// The lists that are written with a blank between them.
+/// Answers the lists that are written with a blank between them.
 pub(crate) fn lists(alloc: Global, written: &str) -> Result<Vec<Vec<String>>, Memory> {
     let mut lists = Vec::new(alloc);
     for word in written.split(' ') {
@@ -27,7 +27,7 @@ pub(crate) fn lists(alloc: Global, written: &str) -> Result<Vec<Vec<String>>, Me
     Ok(lists)
 }
 
-/// The texts of the list, borrowed.
+/// Borrows the texts of the list.
 pub(crate) fn lent<'a>(alloc: Global, list: &'a [String]) -> Result<Vec<&'a str>, Memory> {
     let mut texts = Vec::new(alloc);
     for text in list {
@@ -38,7 +38,7 @@ pub(crate) fn lent<'a>(alloc: Global, list: &'a [String]) -> Result<Vec<&'a str>
 
 /// A value that is made of lists.
 pub(crate) trait Made: Join {
-    /// A value that holds nothing.
+    /// Makes a value that holds nothing.
     fn empty(alloc: Global) -> Self;
 
     /// Adds a list, which is above all that are there.
@@ -72,7 +72,7 @@ impl Made for Paths {
     }
 }
 
-/// The value of a plain set.
+/// Answers the value of a plain set.
 pub(crate) fn value_of<J: Made>(
     alloc: Global,
     all: &[Vec<String>],
@@ -89,7 +89,7 @@ pub(crate) fn value_of<J: Made>(
     Ok(value)
 }
 
-/// Whether these are the lists of the plain set, in order.
+/// Tells whether these are the lists of the plain set, in order.
 pub(crate) fn are_of(given: &[Vec<String>], all: &[Vec<String>], set: usize) -> bool {
     let mut given = given.iter();
     let mut rest = set;
@@ -102,7 +102,7 @@ pub(crate) fn are_of(given: &[Vec<String>], all: &[Vec<String>], set: usize) -> 
     given.next().is_none()
 }
 
-/// Whether the value lists and counts what the plain set has.
+/// Tells whether the value lists and counts what the plain set has.
 pub(crate) fn holds<J: Join>(
     alloc: Global,
     value: &J,
@@ -116,7 +116,7 @@ pub(crate) fn holds<J: Join>(
     Ok(counts && are_of(&lists, all, set))
 }
 
-/// Whether the one lacks these lists of the other, or nothing.
+/// Tells whether the one lacks these lists of the other, or nothing.
 fn lacks<J: Join>(
     alloc: Global,
     one: &J,
@@ -130,7 +130,7 @@ fn lacks<J: Join>(
     }
 }
 
-/// Whether a copy of the one joins the other to these lists.
+/// Tells whether a copy of the one joins the other to these lists.
 fn joins<J: Made>(
     alloc: Global,
     one: &J,
@@ -144,7 +144,7 @@ fn joins<J: Made>(
     Ok(joined.same(&union) && holds(alloc, &joined, all, set)?)
 }
 
-/// Whether the values of two plain sets join, compare and lack as these do.
+/// Tells whether the values of two plain sets join, compare and lack as these do.
 fn agree<J: Made>(
     alloc: Global,
     all: &[Vec<String>],
@@ -158,7 +158,7 @@ fn agree<J: Made>(
     Ok(same && lacking && joins(alloc, &one, &other, all, ours | theirs)?)
 }
 
-/// How many of the first plain sets agree with this one.
+/// Counts the first plain sets that agree with this one.
 fn pairs_with<J: Made>(
     alloc: Global,
     all: &[Vec<String>],
@@ -172,7 +172,7 @@ fn pairs_with<J: Made>(
     Ok(count)
 }
 
-/// How many pairs of the first plain sets agree.
+/// Counts the pairs of the first plain sets that agree.
 pub(crate) fn pairs<J: Made>(
     alloc: Global,
     all: &[Vec<String>],
@@ -185,7 +185,7 @@ pub(crate) fn pairs<J: Made>(
     Ok(count)
 }
 
-/// How many of so many pairs of plain sets of fifteen lists agree: numbers in large steps, so that they fall anywhere.
+/// Counts those that agree of so many pairs of plain sets of fifteen lists: numbers in large steps, so that they fall anywhere.
 pub(crate) fn some_pairs<J: Made>(
     alloc: Global,
     all: &[Vec<String>],

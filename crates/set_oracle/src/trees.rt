@@ -4,7 +4,7 @@ use crate::plain::{are_of, holds, value_of};
 use cadf_join::{ChainTree, Join, Memory};
 use std::alloc::Global;
 
-/// The first of the longest chains of the plain set.
+/// Answers the first of the longest chains of the plain set.
 fn longest_of(all: &[Vec<String>], set: usize) -> Option<&Vec<String>> {
     let mut longest: Option<&Vec<String>> = None;
     let mut rest = set;
@@ -17,7 +17,7 @@ fn longest_of(all: &[Vec<String>], set: usize) -> Option<&Vec<String>> {
     longest
 }
 
-/// The first chain of the plain set.
+/// Answers the first chain of the plain set.
 fn first_of(all: &[Vec<String>], set: usize) -> Option<&Vec<String>> {
     let mut rest = set;
     for list in all {
@@ -29,7 +29,7 @@ fn first_of(all: &[Vec<String>], set: usize) -> Option<&Vec<String>> {
     None
 }
 
-/// Whether the tree walks, counts and finds as the plain set does.
+/// Tells whether the tree walks, counts and finds as the plain set does.
 fn looks_as(
     alloc: Global,
     tree: &ChainTree,
@@ -42,7 +42,7 @@ fn looks_as(
     Ok(walks && longest && least && holds(alloc, tree, all, set)?)
 }
 
-/// How many trees of the first plain sets look as these.
+/// Counts the trees of the first plain sets that look as these.
 pub(crate) fn look(alloc: Global, all: &[Vec<String>], sets: usize) -> Result<usize, Memory> {
     let mut count: usize = 0;
     for set in 0..sets {
@@ -52,7 +52,7 @@ pub(crate) fn look(alloc: Global, all: &[Vec<String>], sets: usize) -> Result<us
     Ok(count)
 }
 
-/// Whether the tree holds the chain if the plain set does, and finds the same one after it.
+/// Tells whether the tree holds the chain if the plain set does, and finds the same one after it.
 fn finds(
     tree: &ChainTree,
     chain: &[String],
@@ -62,7 +62,7 @@ fn finds(
     Ok(tree.contains(chain) == held && tree.after(Some(chain))?.as_ref() == next)
 }
 
-/// Whether a copy of the tree takes the chain as the plain set does.
+/// Tells whether a copy of the tree takes the chain as the plain set does.
 fn takes(
     alloc: Global,
     tree: &ChainTree,
@@ -78,7 +78,7 @@ fn takes(
     Ok(larger.insert(chain)? != held && holds(alloc, &larger, all, set)?)
 }
 
-/// How many chains the tree of the plain set finds and takes as this does.
+/// Counts the chains that the tree of the plain set finds and takes as this does.
 fn treats_each(alloc: Global, all: &[Vec<String>], set: usize) -> Result<usize, Memory> {
     let tree: ChainTree = value_of(alloc, all, set)?;
     let (mut count, mut bit, mut behind): (usize, usize, &[Vec<String>]) = (0, 1, all);
@@ -95,7 +95,7 @@ fn treats_each(alloc: Global, all: &[Vec<String>], set: usize) -> Result<usize, 
     Ok(count)
 }
 
-/// How many chains the trees of the first plain sets find and take as these do.
+/// Counts the chains that the trees of the first plain sets find and take as these do.
 pub(crate) fn treat(alloc: Global, all: &[Vec<String>], sets: usize) -> Result<usize, Memory> {
     let mut count: usize = 0;
     for set in 0..sets {
