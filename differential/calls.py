@@ -3,12 +3,13 @@
 
     differential/calls.py [NUMBER [SEED]]
 
-Generates NUMBER calls (2,000) of values, times, names and documents by SEED (1), hands them to the built drivers
-crates/json_calls and crates/event_calls, and compares what they answer: values by their canonical texts, times by their
-instants and spellings, documents by their log, their atoms and the instants of their events, or by what their fault is
-shown as. A reading of plain texts alone may leave a document to the other. The status is 1 where an answer differs; the
-call is then shown.
+Generates NUMBER calls (2,000) of values, times, names, documents, files, inventories and the two texts by SEED (1), hands
+them to the built drivers crates/json_calls, event_calls, file_calls and log_calls, and compares what they answer: values by
+their canonical texts, times by their instants and spellings, documents by their log, their atoms and the instants of their
+events, or by what their fault is shown as; files and texts by all fields. A reading of plain texts alone may leave a
+document to the other. The status is 1 where an answer differs; the call is then shown.
 """
+import collections
 import os
 import random
 import subprocess
@@ -23,6 +24,7 @@ import odd_documents
 import odd_events
 from events import Fault, document, is_name
 from fields import line, read as fields_of
+from file_answers import KINDS as FILE_KINDS
 from generate import ODD_JSON, damaged
 from json_text import NotJson, NotWhole, quoted, read, read_canonical, spelled
 from odd_values import any_value, odd_name, time
@@ -139,7 +141,7 @@ def alike(call, wanted, answer):
     if call.startswith("plain\t") and fields == [b"err", b"NotPlain"]:
         return True
     if isinstance(wanted, list):
-        return len(fields) >= len(wanted) and all(
+        return len(fields) == len(wanted) and all(
             one is None or line([one]) == line([other]) for one, other in zip(wanted, fields))
     if fields[0] != b"ok":
         return False
@@ -156,9 +158,9 @@ def answers(driver, calls):
 
 def main():
     number, seed = (int(word) for word in (sys.argv[1:] + ["2000", "1"][len(sys.argv) - 1:]))
-    chance, asked = random.Random(seed), {"json_calls": [], "event_calls": []}
+    chance, asked = random.Random(seed), collections.defaultdict(list)
     for _ in range(number):
-        kind = chance.choice([values, canonical, texts, times, names, documents, documents])
+        kind = chance.choice([values, canonical, texts, times, names, documents, documents, *FILE_KINDS])
         driver, words, wanted = kind(chance)
         asked[driver].append((line(words), wanted))
     wrong = 0

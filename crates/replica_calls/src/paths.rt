@@ -1,8 +1,8 @@
 //! Calls of lists of texts: what they are among the atoms, what may stand behind an atom, and the name of a log.
 
 use crate::told;
-use cadf_json::Memory;
 use cadf_event::log_name;
+use cadf_json::Memory;
 use cadf_replica::{PathKind, may_follow, path_kind, path_kind_with};
 use calls::{Call, answer};
 use json::Scratch;
