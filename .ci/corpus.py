@@ -28,6 +28,7 @@ IMPL = re.compile(r"^impl(?:<.*?>)? (?:(.*?) for )?(.*?) \{$")
 TRAIT = re.compile(r"^(?:pub(?:\([a-z]+\))? )?trait (\w+)")
 FUNCTION = re.compile(r"^( *)(?:pub(?:\([a-z]+\))? )?(?:const )?fn (\w+)")
 CONSTANT = re.compile(r"^(?:pub(?:\([a-z]+\))? )?const (\w+):.*;$")
+CYCLE = re.compile(r"^\s*#\[cycle\((\w+)\)\]$")
 CLAUSE = re.compile(r"^\s*(?:requires|ensures|ghost)\b")
 
 
@@ -152,6 +153,18 @@ def places(row):
             body = "\n".join(lines[first:last + 1])
             found += [(start + m.start(), start + m.end(), at + 1, last + 1) for m in pattern.finditer(body)]
     return found
+
+
+def proof_of(row):
+    """The name of the function whose proof is the row's: the function itself, or the one that names its cycle of calls."""
+    lines = source(row).split("\n")
+    at = places(row)[0][2] - 2
+    while at >= 0 and lines[at].lstrip().startswith("#["):
+        cycle = CYCLE.match(lines[at])
+        if cycle:
+            return "::".join(row.name().split("::")[:-1] + [cycle.group(1)])
+        at -= 1
+    return row.name()
 
 
 def clauses_of(text):
