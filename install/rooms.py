@@ -54,7 +54,7 @@ def replace(folder, to):
     shutil.rmtree(old, ignore_errors=True)
     if os.path.isdir(to):
         os.rename(to, old)
-    os.rename(folder, to)
+    shutil.move(folder, to)
     shutil.rmtree(old, ignore_errors=True)
 
 
@@ -91,7 +91,7 @@ class Room:
         for item in sorted(os.listdir(self.out)) if os.path.isdir(self.out) else []:
             path, to = os.path.join(self.out, item), os.path.join(self.home, item)
             if not os.path.isdir(path):
-                os.replace(path, to)
+                shutil.move(path, to)
             elif newest(path) > newest(to):
                 replace(path, to)
         shutil.rmtree(self.folder, ignore_errors=True)
