@@ -39,6 +39,7 @@ STAGES = [
         "growths": ".ci/growths",
         "limits": ".ci/limits",
         "compare": "differential/compare.py",
+        "drivers": "differential/calls.py",
         "documented": ".ci/documented README.md docs/GUIDE.md",
         "many-sites": "examples/many-sites.py",
         "parcelled": "examples/parcelled.py",
