@@ -23,7 +23,12 @@ CALLS = {
     "document": ["Document::read", "Document::log", "Document::sightings", "Document::entities", "Document::properties"],
     "plain": ["Document::read_plain"],
     # What the fault of a reading is shown as.
-    "fault": [],
+    "fault document": ["DocumentFault::fmt", "EventFault::fmt", "EntityFault::fmt", "JsonFault::fmt"],
+    "fault property": ["PropertyFault::fmt"],
+    "fault name": ["NameFault::fmt"],
+    "fault time": ["StampFault::fmt"],
+    "fault canonical": ["JsonFault::fmt"],
+    "fault body": ["TextFault::fmt"],
 }
 
 NAMES, EVENTS, DOCUMENTS, CANONICAL, PLAIN, FAULTS = (

@@ -10,14 +10,15 @@ from texts import (
     B1, B3, BF, C1, C2, CF, E3, K1, KF, S0, S1, S2, T3, digits, inventory, line, nested, quoted, replica, tree)
 
 CALLS = {
-    "read": ["read_replica", "read_file", "Body::start", "Body::new", "Body::accept", "Either::into_side", "hash_line"],
+    "read": ["read_replica", "read_file", "Body::start", "Body::new", "Body::accept", "Body::left_open", "Either::into_side",
+             "path_kind_behind_with"],
     "each_failing_read": ["read_replica"],
     "each_prefix": ["read_replica"],
     "each_bit": ["read_replica"],
     "write": ["write_replica"],
-    "feed": ["ReplicaFeed::new", "ReplicaFeed::feed", "ReplicaFeed::pending", "ReplicaFeed::finish", "Feed::new", "Feed::feed",
-             "Feed::pending", "Feed::finish", "Body::left_open"],
-    "read_rest": ["cadf_file::read_rest", "cadf_frame::read_rest"],
+    "feed": ["ReplicaFeed::new", "ReplicaFeed::feed", "ReplicaFeed::pending", "ReplicaFeed::finish",
+             "Feed::new", "Feed::feed", "Feed::pending", "Feed::finish"],
+    "read_rest": ["ReplicaFeed::new", "cadf_file::read_rest", "cadf_frame::read_rest"],
     "read_inventory": ["read_inventory"],
     "write_inventory": ["write_inventory"],
     "fault_text": [],

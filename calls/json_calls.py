@@ -68,7 +68,7 @@ NOT_WHOLE = ["1.5", "1e3", "1.0", "1E2", "0.5", "18446744073709551616", "-922337
 WHOLE = ["18446744073709551615", "-9223372036854775808", '"1.5"']
 
 # Bytes that no JSON spells.
-NO_JSON = [b"[1.5", b'"\xff"', b'{"events":[', b"1e400", b"01", b"1 2", b"CADF", b"", b"[1]]", b"{} {}", b'{"a"}', b"[1,]",
+NO_JSON = [b"[1.5", b'"\xff"', b'{"events":[', b"01", b"1 2", b"CADF", b"", b"[1]]", b"{} {}", b'{"a"}', b"[1,]",
            b'"\\ud800"', b"nul", b'"\x01"', b'"\xc0\x80"', nested(128).encode()]
 
 # Texts that are no canonical text, and why.
@@ -76,6 +76,9 @@ NO_CANONICAL = [
     ("[1.50", "NotJson"), ("[ 1.50]", "NotWhole"), ('{"b":1,"a":2}', "NotCanonical"), ("[1, 2]", "NotCanonical"),
     ("1\n", "NotCanonical"), ('"\\u0041"', "NotCanonical"), ('"\\/"', "NotCanonical"), ('{"a":1,"a":1}', "NotCanonical"),
 ]
+
+# Objects of which the last member has the least name, behind so many others.
+LATE = {count: "{" + ",".join('"b%02d":0' % place for place in range(count)) + ',"a":1}' for count in (64, 65)}
 
 # Values: whether each is null, an object, a list; how many parts it has, how deep it nests, its text.
 KINDS = [
@@ -237,6 +240,10 @@ def values():
         yield "value", ["text", data], ["err", "NotJson"], CANONICAL
     for text in ("", "[1", "[1]]", "{} {}", '{"a"}', "[1,]", '"\\ud800"', "nul", nested(128)):
         yield "tree", ["text", text], ["err", "NotPlain"], VALUES
+    yield "tree", ["text", LATE[64]], ["ok", '{"a":1,' + LATE[64][1:].replace(',"a":1', "")], VALUES
+    yield "tree", ["text", LATE[65]], ["err", "NotPlain"], VALUES
+    yield "value", ["text", LATE[65]], ["ok", '{"a":1,' + LATE[65][1:].replace(',"a":1', "")], CANONICAL
+    yield "value", ["text", "1e400"], ["err", "NotJson"], "DECISIONS: Reading JSON"
     for text, fault in NO_CANONICAL:
         yield "canonical", [text], ["err", fault], CANONICAL
 

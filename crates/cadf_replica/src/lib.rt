@@ -10,7 +10,6 @@ mod inventory;
 pub mod laws;
 mod letter;
 mod line_digest;
-mod name;
 mod noting;
 pub mod path;
 pub mod replica;
@@ -22,7 +21,6 @@ mod unnoted;
 pub use atom::{Atom, AtomFault};
 pub use inventory::Inventory;
 pub use letter::Letter;
-pub use name::log_name;
 pub use path::{
     PathKind, path_atom, path_kind, path_kind_behind, path_kind_behind_with, path_kind_with,
 };

@@ -46,7 +46,8 @@ use Rattle.cadf_join.specs.Contents.{Text, Texts, Contents, Has, IsWithin}
 use Rattle.cadf_join.specs.laws.Sets as laws
 use Rattle.cadf_join.specs.laws.Contents.{texts_total, texts_same}
 use Rattle.cadf_join.proofs.Members as members
-use Rattle.cadf_replica.specs.Atom.{atom_rules, is_name_text, IsRuling}
+use Rattle.cadf_replica.specs.Atom.{atom_rules, IsRuling}
+use Rattle.cadf_event.specs.LogName.{is_name_text}
 use Rattle.cadf_replica.specs.Atoms.{IsAtom, property, resource, geolocation, metric, event, is_text, ruling_letter}
 use Rattle.cadf_replica.specs.AtomSets.{AreKept}
 use Rattle.cadf_replica.specs.Contributions.{ARuling, one_atom, taken}

@@ -35,7 +35,7 @@ fn push_properties(line: &mut String, document: &Document) -> Result<(), Memory>
     Ok(())
 }
 
-/// The document's log, events, entities and properties.
+/// Answers the document's log, events, entities and properties.
 fn told(alloc: Global, document: &Document) -> Result<String, Memory> {
     document.known();
     let mut line = calls::answer(alloc, "ok", &[])?;
@@ -49,7 +49,7 @@ fn told(alloc: Global, document: &Document) -> Result<String, Memory> {
     Ok(line)
 }
 
-/// What the text is read as, or why it is no document.
+/// Answers what the text is read as, or why it is no document.
 pub(crate) fn document(alloc: Global, text: &str) -> Result<String, Memory> {
     match Json::read(alloc, text.as_bytes()) {
         Ok(json) => match Document::read(alloc, &json.view()) {
@@ -60,7 +60,7 @@ pub(crate) fn document(alloc: Global, text: &str) -> Result<String, Memory> {
     }
 }
 
-/// What the text is read as an event at a time, or why it is no document.
+/// Answers what the text is read as an event at a time, or why it is no document.
 pub(crate) fn plain(alloc: Global, text: &str) -> Result<String, Memory> {
     match Document::read_plain(alloc, text) {
         Ok(Ok(document)) => told(alloc, &document),

@@ -6,7 +6,7 @@ use calls::Call;
 use std::alloc::Global;
 use std::fmt::Display;
 
-/// The fault's text, if there is a fault.
+/// Answers the fault's text, if there is a fault.
 fn told(alloc: Global, fault: Option<impl Display + Drop>) -> Result<String, Memory> {
     match fault {
         Some(fault) => format!(in alloc; "some\t{fault}"),
@@ -14,7 +14,7 @@ fn told(alloc: Global, fault: Option<impl Display + Drop>) -> Result<String, Mem
     }
 }
 
-/// The fault of the document that the text is.
+/// Answers the fault of the document that the text is.
 fn document(alloc: Global, text: &str) -> Result<String, Memory> {
     match Json::read(alloc, text.as_bytes()) {
         Ok(json) => told(alloc, Document::read(alloc, &json.view()).err()),
@@ -22,7 +22,7 @@ fn document(alloc: Global, text: &str) -> Result<String, Memory> {
     }
 }
 
-/// The fault of the property of that name.
+/// Answers the fault of the property of that name.
 fn property(alloc: Global, name: &str, text: &str) -> Result<String, Memory> {
     match Json::read(alloc, text.as_bytes()) {
         Ok(json) => told(alloc, Property::read(alloc, name, &json.view()).err()),
@@ -30,7 +30,7 @@ fn property(alloc: Global, name: &str, text: &str) -> Result<String, Memory> {
     }
 }
 
-/// What the fault of a reading is shown as: the first word tells what is read, the second its text.
+/// Answers what the fault of a reading is shown as: the first word tells what is read, the second its text.
 pub(crate) fn shown(alloc: Global, call: &Call) -> Result<String, Memory> {
     let text = call.text(2);
     match call.text(1) {

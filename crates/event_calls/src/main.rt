@@ -13,7 +13,7 @@ use calls::Call;
 use std::alloc::{AllocError as Memory, Global};
 use std::io;
 
-/// What the call on the line answers.
+/// Answers what the call on the line answers.
 fn answer(alloc: Global, line: &str) -> Result<String, Memory> {
     let call = Call::read(alloc, line)?;
     let text = call.text(1);
@@ -39,7 +39,7 @@ fn answer(alloc: Global, line: &str) -> Result<String, Memory> {
     }
 }
 
-/// The laws of events, entities, properties and documents.
+/// Calls the laws of events, entities, properties and documents.
 fn known() {
     laws::bodies_are_of_events();
     laws::steps_are_of_events();

@@ -1,0 +1,207 @@
+"""The corpus of mutants: reads and writes its tables, finds where a row stands, and digests a crate's contracts.
+
+A table, mutants/CRATE.txt, has a row for each wrong body. Empty lines part the rows:
+
+    # What is wrong, if the change alone doesn't say it.
+    src/kinds.rt Outcome::read
+    - Some(Outcome::Pending)
+    + Some(Outcome::Unknown)
+    = returns-then-eq-4-clause-value
+
+The first line names the file and the function: `name`, `Type::name`, or `TypeTrait::name` in an impl of a trait.
+The text behind `-` stands once in the function's body, whatever its white space; several such lines are one text.
+The text behind `+` takes its place; with none, the old text goes. Behind `=` is the verdict: the goal that refuses the
+row, `not judged`, or `proves: ` and why the row is kept although nothing refuses it.
+"""
+import glob
+import hashlib
+import os
+import re
+
+TOP = os.path.dirname(os.path.dirname(os.path.abspath(__file__)))
+FOLDER = os.path.join(TOP, "mutants")
+TRIED = os.path.join(FOLDER, "tried")
+UNJUDGED = "not judged"
+PROVES = "proves"
+
+IMPL = re.compile(r"^impl(?:<.*?>)? (?:(.*?) for )?(.*?) \{$")
+TRAIT = re.compile(r"^(?:pub(?:\([a-z]+\))? )?trait (\w+)")
+FUNCTION = re.compile(r"^( *)(?:pub(?:\([a-z]+\))? )?(?:const )?fn (\w+)")
+CONSTANT = re.compile(r"^(?:pub(?:\([a-z]+\))? )?const (\w+):.*;$")
+CYCLE = re.compile(r"^\s*#\[cycle\((\w+)\)\]$")
+CLAUSE = re.compile(r"^\s*(?:requires|ensures|ghost)\b")
+
+
+class Row:
+    """A wrong body: what to change in which function, and what refuses it."""
+
+    def __init__(self, crate, lines):
+        self.crate = crate
+        self.notes = [line for line in lines if line.startswith("#")]
+        heads = [line for line in lines if line[0] not in "#-+="]
+        if len(heads) != 1 or len(heads[0].split()) != 2:
+            raise ValueError("%s: a row without a line of its file and function: %s" % (crate, lines))
+        self.file, self.function = heads[0].split()
+        self.old = "\n".join(line[2:] for line in lines if line[0] == "-")
+        self.new = "\n".join(line[2:] for line in lines if line[0] == "+")
+        self.verdict = "".join(line[2:] for line in lines if line[0] == "=")
+
+    def text(self):
+        """The row as it stands in its table."""
+        lines = self.notes + ["%s %s" % (self.file, self.function)]
+        lines += ["- " + line for line in self.old.split("\n")]
+        lines += [("+ " + line).rstrip() for line in self.new.split("\n")]
+        return "\n".join(lines + ["= " + self.verdict]) + "\n"
+
+    def name(self):
+        """The end of the function's name as the prover prints it: its module or its type stands before it."""
+        parts = self.file[len("src/"):-len(".rt")].split("/")
+        modules = [self.crate] if parts in (["lib"], ["main"]) else parts
+        return "::".join((modules + self.function.split("::"))[-2:])
+
+    def is_open(self):
+        """Whether the row is known to prove."""
+        return self.verdict.startswith(PROVES)
+
+
+def crates():
+    """The crates that have a table."""
+    return sorted(os.path.basename(path)[:-len(".txt")] for path in glob.glob(os.path.join(FOLDER, "*.txt")))
+
+
+def read_table(crate):
+    """The rows of a crate."""
+    with open(os.path.join(FOLDER, crate + ".txt"), encoding="utf-8") as file:
+        blocks = re.split(r"\n\s*\n", file.read().strip())
+    return [Row(crate, block.split("\n")) for block in blocks]
+
+
+def write_table(crate, rows):
+    """Writes the rows of a crate."""
+    with open(os.path.join(FOLDER, crate + ".txt"), "w", encoding="utf-8") as file:
+        file.write("\n".join(row.text() for row in rows))
+
+
+def keep_verdict(row, verdict):
+    """Writes a row's verdict into its table, which may have changed since."""
+    rows = read_table(row.crate)
+    for other in rows:
+        if (other.file, other.function, other.old, other.new) == (row.file, row.function, row.old, row.new):
+            other.verdict = verdict
+    write_table(row.crate, rows)
+
+
+def source(row):
+    """The text of the row's file."""
+    with open(os.path.join(TOP, "crates", row.crate, row.file), encoding="utf-8") as file:
+        return file.read()
+
+
+def bare(name):
+    """A type's or trait's name without its path, its borrow and its parameters; `FromFault` for `From<Fault>`."""
+    inner = re.match(r"From<(\w+)", name)
+    plain = re.sub(r"<.*>|&|'\w+ |dyn ", "", name).split("::")[-1]
+    return plain + inner.group(1) if inner else plain
+
+
+def owner_of(line):
+    """The name that an `impl` or a `trait` gives to its functions, or None."""
+    trait, impl = TRAIT.match(line), IMPL.match(line)
+    if trait:
+        return trait.group(1)
+    if impl:
+        return bare(impl.group(2)) + (bare(impl.group(1)) if impl.group(1) else "")
+    return None
+
+
+def body_of(lines, at, indent):
+    """The first and last line of the body of the function whose signature begins at a line; None if it has none."""
+    for first in range(at, len(lines)):
+        line = lines[first]
+        same = line.startswith(indent) and not line.startswith(indent + " ")
+        if same and line.endswith("{"):
+            return first, lines.index(indent + "}", first)
+        if same and line.endswith(";"):
+            return None
+    return None
+
+
+def bodies(text):
+    """Each function's and constant's name, its first line, and the first and last line of its body."""
+    lines, owner = text.split("\n"), ""
+    for at, line in enumerate(lines):
+        if line == "}":
+            owner = ""
+        owner = owner_of(line) or owner
+        function, constant = FUNCTION.match(line), CONSTANT.match(line)
+        span = body_of(lines, at, function.group(1)) if function else None
+        if span:
+            yield (owner + "::" if owner else "") + function.group(2), at, span
+        elif constant:
+            yield constant.group(1), at, (at, at)
+
+
+def places(row):
+    """Where the row's old text stands in its function: for each place its bounds in the text, and the function's lines."""
+    text = source(row)
+    lines = text.split("\n")
+    pattern = re.compile(r"\s+".join(re.escape(word) for word in row.old.split()))
+    found = []
+    for name, at, (first, last) in bodies(text):
+        if name == row.function:
+            start = sum(len(line) + 1 for line in lines[:first])
+            body = "\n".join(lines[first:last + 1])
+            found += [(start + m.start(), start + m.end(), at + 1, last + 1) for m in pattern.finditer(body)]
+    return found
+
+
+def proof_of(row):
+    """The name of the function whose proof is the row's: the function itself, or the one that names its cycle of calls."""
+    lines = source(row).split("\n")
+    at = places(row)[0][2] - 2
+    while at >= 0 and lines[at].lstrip().startswith("#["):
+        cycle = CYCLE.match(lines[at])
+        if cycle:
+            return "::".join(row.name().split("::")[:-1] + [cycle.group(1)])
+        at -= 1
+    return row.name()
+
+
+def clauses_of(text):
+    """The clauses of a source in order, each behind the name of its item; comments and bodies are left out."""
+    depth = 0
+    for line in text.split("\n"):
+        if FUNCTION.match(line) or owner_of(line):
+            yield line.strip()
+        if depth > 0 or CLAUSE.match(line):
+            yield line.strip()
+            depth = max(0, depth + line.count("{") - line.count("}"))
+
+
+def digest_of(crate):
+    """The digest of a crate's clauses and definitions."""
+    hasher = hashlib.sha256()
+    base = os.path.join(TOP, "crates", crate)
+    files = glob.glob(os.path.join(base, "src", "**", "*.rt"), recursive=True)
+    files += glob.glob(os.path.join(base, "specs", "**", "*.antt"), recursive=True)
+    for path in sorted(files):
+        with open(path, encoding="utf-8") as file:
+            text = file.read()
+        parts = clauses_of(text) if path.endswith(".rt") else [text]
+        hasher.update("\n".join([os.path.relpath(path, base), *parts, ""]).encode())
+    return hasher.hexdigest()
+
+
+def read_tried():
+    """The digest that each crate had when its rows were last tried."""
+    if not os.path.exists(TRIED):
+        return {}
+    with open(TRIED, encoding="utf-8") as file:
+        return dict(line.split() for line in file)
+
+
+def write_tried(crate):
+    """Keeps a crate's digest as it is now."""
+    tried = dict(read_tried(), **{crate: digest_of(crate)})
+    with open(TRIED, "w", encoding="utf-8") as file:
+        file.writelines("%s %s\n" % pair for pair in sorted(tried.items()))

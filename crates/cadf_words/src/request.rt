@@ -1,0 +1,112 @@
+//! What a command line asks for.
+use crate::reply::Reply;
+use crate::table::command;
+use clap::{ArgMatches, Error};
+use std::alloc::{AllocError, Global};
+
+/// What the words ask for. Each word stands as it was given, and nothing of it is checked yet.
+#[derive(Drop)]
+pub enum Request<'a> {
+    Join {
+        log: Option<&'a str>,
+        files: Vec<&'a str>,
+    },
+    Missing {
+        from: &'a str,
+        to: &'a str,
+    },
+    MissingBy {
+        from: &'a str,
+        inventory: &'a str,
+    },
+    Inventory {
+        file: &'a str,
+    },
+    Rule {
+        letter: &'a str,
+        key: &'a str,
+        place: &'a str,
+        file: &'a str,
+    },
+    Rehearse {
+        log: &'a str,
+        sites: &'a str,
+        script: &'a str,
+    },
+    Show {
+        conflicts: bool,
+        file: &'a str,
+    },
+    Check {
+        file: &'a str,
+    },
+}
+
+/// The word of that name.
+fn word<'a>(matches: &ArgMatches<'a>, name: &str) -> &'a str {
+    matches.get_str(name).unwrap_or_default()
+}
+
+/// The words of the name `FILE`.
+fn files<'a>(alloc: Global, matches: &ArgMatches<'a>) -> Result<Vec<&'a str>, AllocError> {
+    Vec::from_slice(alloc, matches.get_strs("FILE").unwrap_or_default())
+}
+
+/// What the words of the command of that name ask for.
+fn request_of<'a>(
+    alloc: Global,
+    name: &str,
+    matches: &ArgMatches<'a>,
+) -> Result<Request<'a>, Reply> {
+    Ok(match name {
+        "join" => Request::Join {
+            log: matches.get_str("log"),
+            files: files(alloc, matches)?,
+        },
+        "missing" => Request::Missing {
+            from: word(matches, "FROM"),
+            to: word(matches, "TO"),
+        },
+        "missing-by" => Request::MissingBy {
+            from: word(matches, "FROM"),
+            inventory: word(matches, "INVENTORY"),
+        },
+        "inventory" => Request::Inventory {
+            file: word(matches, "FILE"),
+        },
+        "rule" => Request::Rule {
+            letter: word(matches, "LETTER"),
+            key: word(matches, "KEY"),
+            place: word(matches, "PLACE"),
+            file: word(matches, "FILE"),
+        },
+        "rehearse" => Request::Rehearse {
+            log: word(matches, "LOG"),
+            sites: word(matches, "SITES"),
+            script: word(matches, "SCRIPT"),
+        },
+        "show" => Request::Show {
+            conflicts: matches.get_flag("conflicts"),
+            file: word(matches, "FILE"),
+        },
+        "check" => Request::Check {
+            file: word(matches, "FILE"),
+        },
+        _ => return Err(Reply::Unnamed),
+    })
+}
+
+/// Reads the words by `clap`.
+fn matches_of<'a>(alloc: Global, words: &'a [String]) -> Result<ArgMatches<'a>, Error> {
+    command(alloc)?.try_get_matches_from(words)
+}
+
+/// Reads the words of a command line, of which the first is the program's name. Answers what they ask for; else
+/// `Err` with what is to be printed of them, or `Reply::Memory`.
+pub fn parse<'a>(alloc: Global, words: &'a [String]) -> Result<Request<'a>, Reply> {
+    let matches = matches_of(alloc, words)?;
+    match matches.subcommand() {
+        Some((name, matches)) => request_of(alloc, name, matches),
+        None => Err(Reply::Unnamed),
+    }
+}

@@ -1,0 +1,155 @@
+//! The commands and their words, as tables.
+use clap::builder::ValueParser;
+use clap::{Arg, ArgAction, Command, Error};
+use std::alloc::Global;
+
+/// How a word is given.
+#[derive(Clone, Copy, PartialEq, Eq)]
+enum Kind {
+    /// A file.
+    File,
+    /// One or more files.
+    Files,
+    /// A text, which may be empty.
+    Text,
+    /// `--NAME` and a text, which may be empty.
+    Option,
+    /// `--NAME` alone.
+    Flag,
+}
+
+/// Each command, and its help.
+const COMMANDS: [(&str, &str); 8] = [
+    ("join", "Writes the replica file of what all inputs tell"),
+    (
+        "missing",
+        "Writes the replica file of what TO lacks of FROM",
+    ),
+    (
+        "missing-by",
+        "Writes the replica file of what FROM has beyond INVENTORY",
+    ),
+    ("inventory", "Writes the digests of all that a file tells"),
+    (
+        "rule",
+        "Writes the replica file with a ruling on a conflict",
+    ),
+    (
+        "rehearse",
+        "Plays a schedule, and tells what it leaves at each site",
+    ),
+    ("show", "Prints what a file tells, as a log"),
+    (
+        "check",
+        "Reads a file whole, and counts its atoms and its conflicts",
+    ),
+];
+
+/// Each word of a command, in their order: the command, the word's name, how it is given, and its help.
+const WORDS: [(&str, &str, Kind, &str); 17] = [
+    (
+        "join",
+        "log",
+        Kind::Option,
+        "The log's identifier, else that of the first input that names one",
+    ),
+    ("join", "FILE", Kind::Files, "Replica files, logs or events"),
+    ("missing", "FROM", Kind::File, "The sender's file"),
+    (
+        "missing",
+        "TO",
+        Kind::File,
+        "The receiver's file, as it is or was",
+    ),
+    ("missing-by", "FROM", Kind::File, "The sender's file"),
+    (
+        "missing-by",
+        "INVENTORY",
+        Kind::File,
+        "The receiver's inventory, as it is or was",
+    ),
+    ("inventory", "FILE", Kind::File, "A replica file or a log"),
+    (
+        "rule",
+        "LETTER",
+        Kind::Text,
+        "The key's kind: E event, G geolocation, M metric, P property, R resource",
+    ),
+    (
+        "rule",
+        "KEY",
+        Kind::Text,
+        "The identifier or the name that has several values",
+    ),
+    (
+        "rule",
+        "PLACE",
+        Kind::Text,
+        "Which of them is to be shown, from 1 in their order",
+    ),
+    ("rule", "FILE", Kind::File, "A replica file or a log"),
+    (
+        "rehearse",
+        "LOG",
+        Kind::Text,
+        "The identifier of the log that the sites keep",
+    ),
+    (
+        "rehearse",
+        "SITES",
+        Kind::Text,
+        "How many sites there are, 1 to 64",
+    ),
+    (
+        "rehearse",
+        "SCRIPT",
+        Kind::File,
+        "What the sites learn and send each other, a turn a line",
+    ),
+    (
+        "show",
+        "conflicts",
+        Kind::Flag,
+        "Print the keys with several values instead",
+    ),
+    ("show", "FILE", Kind::File, "A replica file or a log"),
+    ("check", "FILE", Kind::File, "A replica file or a log"),
+];
+
+/// Makes the argument of that name.
+fn argument<'a>(alloc: Global, name: &'a str, kind: Kind, help: &'a str) -> Arg<'a> {
+    let argument = Arg::new(alloc, name).help(help);
+    match kind {
+        Kind::File => argument.required(true),
+        Kind::Files => argument.required(true).num_args(1..),
+        Kind::Text => argument.required(true).value_parser(ValueParser::string()),
+        Kind::Option => argument
+            .long(name)
+            .value_name("ID")
+            .value_parser(ValueParser::string()),
+        Kind::Flag => argument.long(name).action(ArgAction::SetTrue),
+    }
+}
+
+/// Makes the command of that name, with its words.
+fn subcommand<'a>(alloc: Global, name: &'a str, about: &'a str) -> Result<Command<'a>, Error> {
+    let mut command = Command::new(alloc, name).about(about);
+    for (owner, word, kind, help) in WORDS {
+        if owner == name {
+            command = command.arg(argument(alloc, word, kind, help))?;
+        }
+    }
+    Ok(command)
+}
+
+/// Makes the command line's parser.
+pub(crate) fn command<'a>(alloc: Global) -> Result<Command<'a>, Error> {
+    let mut command = Command::new(alloc, "cadf")
+        .version("0.1.0")
+        .about("Keeps replicas of a CADF log and makes them converge")
+        .subcommand_required(true);
+    for (name, about) in COMMANDS {
+        command = command.subcommand(subcommand(alloc, name, about)?)?;
+    }
+    Ok(command)
+}

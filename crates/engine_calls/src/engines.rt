@@ -1,0 +1,111 @@
+//! Engines: a writer, their own words, and readers.
+
+use crate::answers::Answer;
+use crate::words::Words;
+use cadf_event::Name;
+use cadf_json::{MemorySink, MemorySource};
+use cadf_tool::{
+    ToolFault, run_check, run_inventory, run_join, run_missing, run_missing_by, run_rehearse,
+    run_rule, run_show, status,
+};
+use calls::refused;
+use std::alloc::{AllocError as Memory, Global};
+
+/// What an engine answered: nothing where the words don't say what to run.
+type Ran = Option<Result<(), ToolFault>>;
+
+/// `run_join`: a log, empty for none, and readers.
+fn join(alloc: Global, words: Words<'_>, sink: &mut MemorySink) -> Ran {
+    let log = Name::read(alloc, words.text(4)).ok();
+    let mut inputs: Vec<MemorySource<'_>> = Vec::new(alloc);
+    for place in (5..words.count()).step_by(3) {
+        inputs.push(words.source(place)).ok()?;
+    }
+    Some(run_join(alloc, log, inputs.as_mut_slice(), sink))
+}
+
+/// `run_missing`: two readers.
+fn missing(alloc: Global, words: Words<'_>, sink: &mut MemorySink) -> Ran {
+    let (mut from, mut to) = (words.source(4), words.source(7));
+    Some(run_missing(alloc, &mut from, &mut to, sink))
+}
+
+/// `run_missing_by`: two readers.
+fn missing_by(alloc: Global, words: Words<'_>, sink: &mut MemorySink) -> Ran {
+    let (mut from, mut inventory) = (words.source(4), words.source(7));
+    Some(run_missing_by(alloc, &mut from, &mut inventory, sink))
+}
+
+/// `run_rule`: a letter, a key, a place and a reader.
+fn rule(alloc: Global, words: Words<'_>, sink: &mut MemorySink) -> Ran {
+    let letter = words.text(4).chars().next()?;
+    let key = Name::read(alloc, words.text(5)).ok()?;
+    let place = words.number(6) as u64;
+    let mut input = words.source(7);
+    Some(run_rule(alloc, letter, &key, place, &mut input, sink))
+}
+
+/// `run_rehearse`: a log, a number of sites and a reader.
+fn rehearse(alloc: Global, words: Words<'_>, sink: &mut MemorySink) -> Ran {
+    let log = Name::read(alloc, words.text(4)).ok()?;
+    let mut script = words.source(6);
+    Some(run_rehearse(alloc, &log, words.number(5), &mut script, sink))
+}
+
+/// `run_show`: `log` or `conflicts`, and a reader.
+fn show(alloc: Global, words: Words<'_>, sink: &mut MemorySink) -> Ran {
+    let conflicts = words.text(4) == "conflicts";
+    Some(run_show(alloc, conflicts, &mut words.source(5), sink))
+}
+
+/// Runs the engine of that name.
+fn run(alloc: Global, words: Words<'_>, sink: &mut MemorySink) -> Ran {
+    match words.text(0) {
+        "run_join" => join(alloc, words, sink),
+        "run_missing" => missing(alloc, words, sink),
+        "run_missing_by" => missing_by(alloc, words, sink),
+        "run_inventory" => Some(run_inventory(alloc, &mut words.source(4), sink)),
+        "run_rule" => rule(alloc, words, sink),
+        "run_rehearse" => rehearse(alloc, words, sink),
+        "run_show" => show(alloc, words, sink),
+        "run_check" => Some(run_check(alloc, &mut words.source(4), sink)),
+        _ => None,
+    }
+}
+
+/// Makes the answer of an engine: what is told of it, and what it wrote.
+fn answer(alloc: Global, told: String, sink: &MemorySink) -> Result<Answer, Memory> {
+    let written = Vec::from_slice(alloc, sink.bytes())?;
+    Ok(Answer { told, written })
+}
+
+/// The answer of an engine.
+pub(crate) fn answered(alloc: Global, words: Words<'_>) -> Result<Answer, Memory> {
+    let mut sink = words.sink(alloc, 1);
+    let told = match run(alloc, words, &mut sink) {
+        Some(Ok(())) => calls::answer(alloc, "ok", &[])?,
+        Some(Err(fault)) => refused(alloc, &fault)?,
+        None => calls::answer(alloc, "no such call", &[])?,
+    };
+    answer(alloc, told, &sink)
+}
+
+/// The status and the text of a fault.
+fn status_and_text(alloc: Global, fault: &ToolFault) -> Result<String, Memory> {
+    let (status, text) = (status(fault), format!(in alloc; "{fault}")?);
+    calls::answer(
+        alloc,
+        format!(in alloc; "{status}")?.as_str(),
+        &[text.as_str()],
+    )
+}
+
+/// `fault`: an engine's call, of which the fault's status and text are told.
+pub(crate) fn faulted(alloc: Global, words: Words<'_>) -> Result<Answer, Memory> {
+    let mut sink = words.sink(alloc, 1);
+    let told = match run(alloc, words, &mut sink) {
+        Some(Err(fault)) => status_and_text(alloc, &fault)?,
+        _ => calls::answer(alloc, "no fault", &[])?,
+    };
+    answer(alloc, told, &sink)
+}

@@ -1,0 +1,68 @@
+//! The words of a call: texts, numbers, readers and writers.
+
+use cadf_json::{FailingWrite, MemorySink, MemorySource};
+use calls::Call;
+use std::alloc::Global;
+
+/// A call that stands on a line from one of its words on.
+#[derive(Clone, Copy, Drop)]
+pub(crate) struct Words<'a> {
+    call: &'a Call,
+    /// The place of the call's name.
+    first: usize,
+    /// What the word `N` stands for where a number is asked.
+    number: usize,
+}
+
+impl<'a> Words<'a> {
+    /// Makes the call whose name is the word at `first`.
+    pub(crate) fn new(call: &'a Call, first: usize, number: usize) -> Words<'a> {
+        Words {
+            call,
+            first,
+            number,
+        }
+    }
+
+    /// The call whose name is this call's first word.
+    pub(crate) fn inner(self) -> Words<'a> {
+        Words::new(self.call, self.first.saturating_add(1), self.number)
+    }
+
+    /// Counts the words after the name.
+    pub(crate) fn count(self) -> usize {
+        self.call.count().saturating_sub(self.first)
+    }
+
+    /// The text of a word, of which 0 is the name.
+    pub(crate) fn text(self, place: usize) -> &'a str {
+        self.call.text(self.first.saturating_add(place))
+    }
+
+    /// The number that a word spells; 0 where it spells none.
+    pub(crate) fn number(self, place: usize) -> usize {
+        match self.text(place) {
+            "N" => self.number,
+            text => text.parse().unwrap_or(0),
+        }
+    }
+
+    /// Makes the reader of the three words from that place on.
+    pub(crate) fn source(self, place: usize) -> MemorySource<'a> {
+        let bytes = self.call.bytes(self.first.saturating_add(place));
+        let piece = self.number(place.saturating_add(1));
+        let failing = self.number(place.saturating_add(2));
+        MemorySource::new(bytes, piece.max(1), failing as u64)
+    }
+
+    /// Makes the writer of the three words from that place on.
+    pub(crate) fn sink(self, alloc: Global, place: usize) -> MemorySink {
+        let number = self.number(place.saturating_add(2)) as u64;
+        let failing = match self.text(place.saturating_add(1)) {
+            "refuses" => FailingWrite::Refuses(number),
+            "takes-nothing" => FailingWrite::TakesNothing(number),
+            _ => FailingWrite::Never,
+        };
+        MemorySink::new(alloc, self.number(place).max(1), failing)
+    }
+}

@@ -1,0 +1,96 @@
+//! Calls of the command line: each line of standard input is a call's name and its words, and what the call answers
+//! is a line of standard output.
+#![tactic(auto)]
+
+use cadf_words::{Message, Reply, Request, parse};
+use calls::Call;
+use std::alloc::{AllocError as Memory, Global};
+use std::io;
+
+/// The command line, of which each word is a word of the call.
+fn words_of(alloc: Global, call: &Call) -> Result<Vec<String>, Memory> {
+    let mut words = Vec::new(alloc);
+    for place in 1..=call.count() {
+        push_word(alloc, &mut words, call.text(place))?;
+    }
+    Ok(words)
+}
+
+/// Adds a word.
+fn push_word(alloc: Global, words: &mut Vec<String>, word: &str) -> Result<(), Memory> {
+    words.push(String::from_str(alloc, word)?)?;
+    Ok(())
+}
+
+/// A request for `join`, as a line.
+fn joined(alloc: Global, log: Option<&str>, files: &[&str]) -> Result<String, Memory> {
+    let mut line = match log {
+        Some(log) => calls::answer(alloc, "ok", &["Join", "some", log])?,
+        None => calls::answer(alloc, "ok", &["Join", "none"])?,
+    };
+    for file in files {
+        calls::push(&mut line, file)?;
+    }
+    Ok(line)
+}
+
+/// A request, as a line.
+fn asked(alloc: Global, request: &Request<'_>) -> Result<String, Memory> {
+    match request {
+        Request::Join { log, files } => joined(alloc, *log, files.as_slice()),
+        Request::Missing { from, to } => calls::answer(alloc, "ok", &["Missing", from, to]),
+        Request::MissingBy { from, inventory } => calls::answer(
+            alloc,
+            "ok",
+            &["MissingBy", from, inventory],
+        ),
+        Request::Inventory { file } => calls::answer(alloc, "ok", &["Inventory", file]),
+        Request::Rule {
+            letter,
+            key,
+            place,
+            file,
+        } => calls::answer(alloc, "ok", &["Rule", letter, key, place, file]),
+        Request::Rehearse { log, sites, script } => calls::answer(
+            alloc,
+            "ok",
+            &["Rehearse", log, sites, script],
+        ),
+        Request::Show { conflicts, file } => calls::answer(
+            alloc,
+            "ok",
+            &["Show", if *conflicts { "true" } else { "false" }, file],
+        ),
+        Request::Check { file } => calls::answer(alloc, "ok", &["Check", file]),
+    }
+}
+
+/// A text for the user, as a line.
+fn told(alloc: Global, word: &str, message: &Message) -> Result<String, Memory> {
+    let text = format!(in alloc; "{message}")?;
+    calls::answer(alloc, word, &[text.as_str()])
+}
+
+/// What the call on the line answers.
+fn answer(alloc: Global, line: &str) -> Result<String, Memory> {
+    let call = Call::read(alloc, line)?;
+    let words = words_of(alloc, &call)?;
+    match parse(alloc, words.as_slice()) {
+        Ok(request) => asked(alloc, &request),
+        Err(Reply::Memory) => calls::answer(alloc, "err", &["Memory"]),
+        Err(Reply::Help(message)) => told(alloc, "help", &message),
+        Err(Reply::Refused(message)) => told(alloc, "refused", &message),
+        Err(Reply::Unnamed) => calls::answer(alloc, "err", &["Unnamed"]),
+    }
+}
+
+fn main(rt: HostRuntime) -> io::Result<()> {
+    for line in rt.lines(rt.alloc()) {
+        let line = line?;
+        match answer(rt.alloc(), line.as_str()) {
+            Ok(text) => println!(rt; "{text}")?,
+            Err(_) => println!(rt; "err\tMemory")?,
+        }
+    }
+    Ok(())
+}
