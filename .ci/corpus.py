@@ -10,8 +10,8 @@ A table, mutants/CRATE.txt, has a row for each wrong body. Empty lines part the 
 
 The first line names the file and the function: `name`, `Type::name`, or `TypeTrait::name` in an impl of a trait.
 The text after `-` occurs once in the function's body, whatever its white space; several such lines are one text. The
-text after `+` replaces it; an empty one deletes it. After `=` comes the verdict: the goal that refuses the row,
-`not judged`, or `proves: ` and why the row is kept although nothing refuses it.
+text after `+` replaces it; an empty one deletes it. After `=` comes the verdict: the goal that refuses the row
+(`refused` if its name was not kept), `not judged`, or `proves: ` and why the row is kept although nothing refuses it.
 """
 import glob
 import hashlib
