@@ -18,8 +18,8 @@ from texts import C1, K1, V1, V2, digits, document, inventory, replica
 
 CALLS = {
     "each": [],
-    "load": ["load"],
-    "load_within": ["load_within"],
+    "load": ["load", "Loaded::log"],
+    "load_within": ["load_within", "Loaded::log"],
     "run_join": ["run_join"],
     "run_missing": ["run_missing"],
     "run_missing_by": ["run_missing_by"],
