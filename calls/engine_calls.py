@@ -18,9 +18,9 @@ from texts import C1, K1, V1, V2, digits, document, inventory, replica
 
 CALLS = {
     "each": [],
-    "load": ["load", "ReplicaFeed::after_mark"],
+    "load": ["load", "Loaded::log", "ReplicaFeed::after_mark"],
     "load_within": ["load_within"],
-    "run_join": ["run_join", "Loaded::log"],
+    "run_join": ["run_join"],
     "run_missing": ["run_missing"],
     "run_missing_by": ["run_missing_by"],
     "run_inventory": ["run_inventory"],
