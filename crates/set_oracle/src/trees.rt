@@ -81,16 +81,16 @@ fn takes(
 /// Counts the chains that the tree of the plain set finds and takes as this does.
 fn treats_each(alloc: Global, all: &[Vec<String>], set: usize) -> Result<usize, Memory> {
     let tree: ChainTree = value_of(alloc, all, set)?;
-    let (mut count, mut bit, mut behind): (usize, usize, &[Vec<String>]) = (0, 1, all);
+    let (mut count, mut bit): (usize, usize) = (0, 1);
     let mut rest = set;
-    while let [chain, more @ ..] = behind {
+    for place in 0..all.len() {
+        let chain = all[place].as_slice();
         let held = rest % 2 == 1;
         rest /= 2;
-        let is_found = finds(&tree, chain, held, first_of(more, rest))?;
+        let is_found = finds(&tree, chain, held, first_of(&all[place + 1..], rest))?;
         let is_taken = takes(alloc, &tree, chain, held, all, set | bit)?;
         count = count.saturating_add(usize::from(is_found && is_taken));
         bit = bit.wrapping_mul(2);
-        behind = more;
     }
     Ok(count)
 }
