@@ -1,4 +1,4 @@
-"""The corpus of mutants: reads and writes its tables, finds where a row stands, and digests a crate's contracts.
+"""The corpus of mutants: reads and writes its tables, places a row in the sources, digests a crate's contracts.
 
 A table, mutants/CRATE.txt, has a row for each wrong body. Empty lines part the rows:
 
@@ -9,9 +9,9 @@ A table, mutants/CRATE.txt, has a row for each wrong body. Empty lines part the 
     = returns-then-eq-4-clause-value
 
 The first line names the file and the function: `name`, `Type::name`, or `TypeTrait::name` in an impl of a trait.
-The text behind `-` stands once in the function's body, whatever its white space; several such lines are one text.
-The text behind `+` takes its place; with none, the old text goes. Behind `=` is the verdict: the goal that refuses the
-row, `not judged`, or `proves: ` and why the row is kept although nothing refuses it.
+The text after `-` occurs once in the function's body, whatever its white space; several such lines are one text. The
+text after `+` replaces it; an empty one deletes it. After `=` comes the verdict: the goal that refuses the row
+(`refused` if its name was not kept), `not judged`, or `proves: ` and why the row is kept although nothing refuses it.
 """
 import glob
 import hashlib
@@ -28,6 +28,7 @@ IMPL = re.compile(r"^impl(?:<.*?>)? (?:(.*?) for )?(.*?) \{$")
 TRAIT = re.compile(r"^(?:pub(?:\([a-z]+\))? )?trait (\w+)")
 FUNCTION = re.compile(r"^( *)(?:pub(?:\([a-z]+\))? )?(?:const )?fn (\w+)")
 CONSTANT = re.compile(r"^(?:pub(?:\([a-z]+\))? )?const (\w+):.*;$")
+CYCLE = re.compile(r"^\s*#\[cycle\((\w+)\)\]$")
 CLAUSE = re.compile(r"^\s*(?:requires|ensures|ghost)\b")
 
 
@@ -46,30 +47,30 @@ class Row:
         self.verdict = "".join(line[2:] for line in lines if line[0] == "=")
 
     def text(self):
-        """The row as it stands in its table."""
+        """Returns the row as its table has it."""
         lines = self.notes + ["%s %s" % (self.file, self.function)]
         lines += ["- " + line for line in self.old.split("\n")]
         lines += [("+ " + line).rstrip() for line in self.new.split("\n")]
         return "\n".join(lines + ["= " + self.verdict]) + "\n"
 
     def name(self):
-        """The end of the function's name as the prover prints it: its module or its type stands before it."""
+        """Returns the end of the function's name as the prover prints it: its module or its type, and itself."""
         parts = self.file[len("src/"):-len(".rt")].split("/")
         modules = [self.crate] if parts in (["lib"], ["main"]) else parts
         return "::".join((modules + self.function.split("::"))[-2:])
 
     def is_open(self):
-        """Whether the row is known to prove."""
+        """Tells whether the row is known to prove."""
         return self.verdict.startswith(PROVES)
 
 
 def crates():
-    """The crates that have a table."""
+    """Lists the crates that have a table."""
     return sorted(os.path.basename(path)[:-len(".txt")] for path in glob.glob(os.path.join(FOLDER, "*.txt")))
 
 
 def read_table(crate):
-    """The rows of a crate."""
+    """Reads the rows of a crate."""
     with open(os.path.join(FOLDER, crate + ".txt"), encoding="utf-8") as file:
         blocks = re.split(r"\n\s*\n", file.read().strip())
     return [Row(crate, block.split("\n")) for block in blocks]
@@ -91,20 +92,20 @@ def keep_verdict(row, verdict):
 
 
 def source(row):
-    """The text of the row's file."""
+    """Reads the row's file."""
     with open(os.path.join(TOP, "crates", row.crate, row.file), encoding="utf-8") as file:
         return file.read()
 
 
 def bare(name):
-    """A type's or trait's name without its path, its borrow and its parameters; `FromFault` for `From<Fault>`."""
+    """Returns a type's or trait's name without path, borrow and parameters; `FromFault` for `From<Fault>`."""
     inner = re.match(r"From<(\w+)", name)
     plain = re.sub(r"<.*>|&|'\w+ |dyn ", "", name).split("::")[-1]
     return plain + inner.group(1) if inner else plain
 
 
 def owner_of(line):
-    """The name that an `impl` or a `trait` gives to its functions, or None."""
+    """Returns the name that an `impl` or a `trait` puts before its functions, or None."""
     trait, impl = TRAIT.match(line), IMPL.match(line)
     if trait:
         return trait.group(1)
@@ -114,7 +115,7 @@ def owner_of(line):
 
 
 def body_of(lines, at, indent):
-    """The first and last line of the body of the function whose signature begins at a line; None if it has none."""
+    """Returns the first and last line of the body of the function that begins at a line; None if it has none."""
     for first in range(at, len(lines)):
         line = lines[first]
         same = line.startswith(indent) and not line.startswith(indent + " ")
@@ -126,7 +127,7 @@ def body_of(lines, at, indent):
 
 
 def bodies(text):
-    """Each function's and constant's name, its first line, and the first and last line of its body."""
+    """Yields each function's and constant's name, its first line, and the first and last line of its body."""
     lines, owner = text.split("\n"), ""
     for at, line in enumerate(lines):
         if line == "}":
@@ -141,7 +142,7 @@ def bodies(text):
 
 
 def places(row):
-    """Where the row's old text stands in its function: for each place its bounds in the text, and the function's lines."""
+    """Lists where the row's old text occurs in its function: its bounds in the text, and the function's lines."""
     text = source(row)
     lines = text.split("\n")
     pattern = re.compile(r"\s+".join(re.escape(word) for word in row.old.split()))
@@ -154,8 +155,20 @@ def places(row):
     return found
 
 
+def proof_of(row):
+    """Returns whose proof is the row's: the function itself, or the one that names its cycle of calls."""
+    lines = source(row).split("\n")
+    at = places(row)[0][2] - 2
+    while at >= 0 and lines[at].lstrip().startswith("#["):
+        cycle = CYCLE.match(lines[at])
+        if cycle:
+            return "::".join(row.name().split("::")[:-1] + [cycle.group(1)])
+        at -= 1
+    return row.name()
+
+
 def clauses_of(text):
-    """The clauses of a source in order, each behind the name of its item; comments and bodies are left out."""
+    """Yields the clauses of a source in order, each after the first line of its item, without comments and bodies."""
     depth = 0
     for line in text.split("\n"):
         if FUNCTION.match(line) or owner_of(line):
@@ -166,7 +179,7 @@ def clauses_of(text):
 
 
 def digest_of(crate):
-    """The digest of a crate's clauses and definitions."""
+    """Returns the digest of a crate's clauses and definitions."""
     hasher = hashlib.sha256()
     base = os.path.join(TOP, "crates", crate)
     files = glob.glob(os.path.join(base, "src", "**", "*.rt"), recursive=True)
@@ -180,7 +193,7 @@ def digest_of(crate):
 
 
 def read_tried():
-    """The digest that each crate had when its rows were last tried."""
+    """Reads the digest that each crate had when its rows were last tried."""
     if not os.path.exists(TRIED):
         return {}
     with open(TRIED, encoding="utf-8") as file:
@@ -188,7 +201,7 @@ def read_tried():
 
 
 def write_tried(crate):
-    """Keeps a crate's digest as it is now."""
+    """Writes a crate's digest as it is now."""
     tried = dict(read_tried(), **{crate: digest_of(crate)})
     with open(TRIED, "w", encoding="utf-8") as file:
         file.writelines("%s %s\n" % pair for pair in sorted(tried.items()))

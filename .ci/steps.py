@@ -2,8 +2,9 @@
 
     .ci/run
 
-Prints a line a step with its time as the step ends, all that a failed step has written, and at the end a table of all
-steps with the kit's name, and `N passed, M failed`. A failed stage ends the run: what comes after it stands on it.
+Prints a line a step with its times as the step ends, all that a failed step has written, and at the end a table of all
+steps with the kit's name, and `N passed, M failed`. The first time is that of the clock, the second that of all
+processors. A failed stage ends the run: what comes after it stands on it.
 Each step writes to a folder of its own, and leaves nothing in the tree but crates/*/out.
 """
 import concurrent.futures
@@ -39,6 +40,7 @@ STAGES = [
         "growths": ".ci/growths",
         "limits": ".ci/limits",
         "compare": "differential/compare.py",
+        "drivers": "differential/calls.py",
         "documented": ".ci/documented README.md docs/GUIDE.md",
         "many-sites": "examples/many-sites.py",
         "parcelled": "examples/parcelled.py",
@@ -55,10 +57,19 @@ class Ended(NamedTuple):
     name: str
     status: int
     seconds: float
+    processors: float
     said: str
 
     def line(self):
-        return "%-16s %6.1f s  %s" % (self.name, self.seconds, "passed" if self.status == 0 else "FAILED: status %d" % self.status)
+        verdict = "passed" if self.status == 0 else "FAILED: status %d" % self.status
+        return "%-12s %7.1f s %8.1f s  %s" % (self.name, self.seconds, self.processors, verdict)
+
+
+def wait_for(child):
+    """Waits for a process. Returns its status, negative for a signal, and the seconds that it and its own took of all processors."""
+    _, ending, used = os.wait4(child.pid, 0)
+    child.returncode = -os.WTERMSIG(ending) if os.WIFSIGNALED(ending) else os.WEXITSTATUS(ending)
+    return child.returncode, used.ru_utime + used.ru_stime
 
 
 class Gate:
@@ -76,18 +87,18 @@ class Gate:
                                      stderr=subprocess.STDOUT, start_new_session=True)
             with self.lock:
                 self.running.add(child.pid)
-            status = child.wait()
+            status, processors = wait_for(child)
             with self.lock:
                 self.running.discard(child.pid)
             log.seek(0)
-            self.say(Ended(name, status, time.monotonic() - begun, log.read()))
+            self.say(Ended(name, status, time.monotonic() - begun, processors, log.read()))
 
     def say(self, ended):
         """Prints a step's line, and what it wrote where it failed."""
         with self.lock:
             self.ended.append(ended)
             if ended.status:
-                print(ended.said, end="" if ended.said.endswith("\n") else "\n")
+                sys.stdout.write(ended.said)
             last = ended.said.rstrip("\n").rsplit("\n", 1)[-1]
             print("%s%s" % (ended.line(), "" if ended.status else ": " + last), flush=True)
 
@@ -109,7 +120,8 @@ class Gate:
         print("\n%s, %d processors" % (kit, os.cpu_count()))
         for step in self.ended:
             print(step.line())
-        print("%-16s %6.1f s" % ("all", time.monotonic() - begun))
+        used = sum(step.processors for step in self.ended)
+        print("%-12s %7.1f s %8.1f s" % ("all", time.monotonic() - begun, used))
         failed = sum(step.status != 0 for step in self.ended)
         print("%d passed, %d failed" % (len(self.ended) - failed, failed))
         return 1 if failed else 0

@@ -18,8 +18,8 @@ from texts import C1, K1, V1, V2, digits, document, inventory, replica
 
 CALLS = {
     "each": [],
-    "load": ["load", "Loaded::log"],
-    "load_within": ["load_within", "Loaded::log"],
+    "load": ["load", "Loaded::log", "ReplicaFeed::after_mark"],
+    "load_within": ["load_within"],
     "run_join": ["run_join"],
     "run_missing": ["run_missing"],
     "run_missing_by": ["run_missing_by"],

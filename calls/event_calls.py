@@ -14,16 +14,26 @@ CALLS = {
     "event": ["Sighting::read", "Sighting::id", "Sighting::body", "Sighting::chains", "Sighting::tags",
               "Sighting::attachments", "Body::text", "Body::instant", "Step::text"],
     "body": ["Body::read"],
+    "body_with": ["Body::read_with"],
     "step": ["Step::read"],
+    "step_with": ["Step::read_with"],
     "attachment": ["read_attachment"],
     "entity": ["Entity::read", "Entity::kind", "Entity::key", "Entity::text"],
     "property": ["Property::read", "Property::name", "Property::text"],
     "document": ["Document::read", "Document::log", "Document::sightings", "Document::entities", "Document::properties"],
     "plain": ["Document::read_plain"],
+    # What the fault of a reading is shown as.
+    "fault document": ["DocumentFault::fmt", "EventFault::fmt", "EntityFault::fmt", "JsonFault::fmt"],
+    "fault property": ["PropertyFault::fmt"],
+    "fault name": ["NameFault::fmt"],
+    "fault time": ["StampFault::fmt"],
+    "fault canonical": ["JsonFault::fmt"],
+    "fault body": ["TextFault::fmt"],
 }
 
-NAMES, EVENTS, DOCUMENTS, CANONICAL, PLAIN = (
-    "Names", "Events", "Documents", "Canonical JSON text", "ARCHITECTURE: The way of a document")
+NAMES, EVENTS, DOCUMENTS, CANONICAL, PLAIN, FAULTS = (
+    "Names", "Events", "Documents", "Canonical JSON text", "ARCHITECTURE: The way of a document",
+    "ARCHITECTURE: What faults are shown as")
 NOON = 1709294400 * 10**9
 
 # An event as OpenStack's audit middleware writes it, and its parts.
@@ -204,6 +214,37 @@ NOT_PLAIN = [
     ('{"id":"g","events":[{}],"a":1.0}', ["err", "NotWhole"]),
 ]
 
+# Documents, and what the fault of each is shown as.
+SHOWN = [
+    ("[]", "event 0: not an object"),
+    (event("x", nested(100)), "event 0: too deep"),
+    (event("typeURI", "7"), "event 0: typeURI"),
+    (event("id", ""), "event 0: id"),
+    (event("eventType", ""), "event 0: eventType"),
+    (event("eventTime", ""), "event 0: eventTime"),
+    (event("action", ""), "event 0: action"),
+    (event("outcome", ""), "event 0: outcome"),
+    (event("initiatorId", ""), "event 0: initiator"),
+    (event("targetId", ""), "event 0: target"),
+    (event("observerId", ""), "event 0: observer"),
+    (event("reporterchain", "[%s]" % ",".join([S1] * 257)), "event 0: chain 0 step 257"),
+    (document(V1, event("reporterchains", "[[%s,%s,7]]" % (S1, S2))), "event 2: chain 1 step 3"),
+    (event("tags", '["a",""]'), "event 0: tag 2"),
+    (event("attachments", "[1]"), "event 0: attachment 1"),
+    ('{"events":[]}', "log id"),
+    ('{"id":"g","events":7}', "events is not a list"),
+    ('{"id":"g","events":[],"resources":7}', "resources is not a list"),
+    ('{"id":"g","events":[],"geolocations":7}', "geolocations is not a list"),
+    ('{"id":"g","events":[],"metrics":7}', "metrics is not a list"),
+    ('{"id":"g","events":[],"resources":[{}]}', "resource 1: id"),
+    ('{"id":"g","events":[],"geolocations":[{"id":"p"},%s]}' % nested(101), "geolocation 2: not an object"),
+    ('{"id":"g","events":[],"geolocations":[{"id":"p"},{"a":%s}]}' % nested(100), "geolocation 2: too deep"),
+    ('{"id":"g","events":[],"metrics":[{"metricId":"m"},{"metricId":"n"},7]}', "metric 3: not an object"),
+    ('{"id":"g","events":[],"a":1,"b":2,"c":3,"d\\u0001":4}', "property 4"),
+    ("{", "not JSON"),
+    ("[1.5]", "a number is not whole"),
+]
+
 
 def words():
     """Names, and the words that an event chooses from."""
@@ -247,13 +288,15 @@ def events():
 
 def parts():
     """Bodies, steps and attachments by their texts; entities and properties."""
-    yield "body", [B1], ["ok", NOON, B1], EVENTS
-    yield "body", [body("x", nested(99))], ["ok", NOON, body("x", nested(99))], EVENTS
-    for text, fault in NO_BODIES:
-        yield "body", [text], ["err", fault], EVENTS
-    yield "step", [S1], ["ok", S1], EVENTS
-    for text, fault in NO_STEPS:
-        yield "step", [text], ["err", fault], EVENTS
+    for call in ("body", "body_with"):
+        yield call, [B1], ["ok", NOON, B1], EVENTS
+        yield call, [body("x", nested(99))], ["ok", NOON, body("x", nested(99))], EVENTS
+        for text, fault in NO_BODIES:
+            yield call, [text], ["err", fault], EVENTS
+    for call in ("step", "step_with"):
+        yield call, [S1], ["ok", S1], EVENTS
+        for text, fault in NO_STEPS:
+            yield call, [text], ["err", fault], EVENTS
     yield "attachment", ['{"a":1}'], ["ok", '{"a":1}'], EVENTS
     for text, fault in (("[]", "NotThis"), ('{ "a":1}', "NotCanonical"), ('{"a":%s}' % nested(100), "NotThis")):
         yield "attachment", [text], ["err", fault], EVENTS
@@ -279,4 +322,19 @@ def documents():
         yield "plain", [text], ["err", "NotPlain"], PLAIN
 
 
-ROWS = [row for rows in (words, events, parts, documents) for row in rows()]
+def faults():
+    """What faults are shown as."""
+    for text, shown in SHOWN:
+        yield "fault", ["document", text], ["some", shown], DOCUMENTS
+    for what, text, shown in (
+            ("name", "", "empty"), ("name", "a" * 1025, "too long"), ("name", "\n", "control character"),
+            ("time", "", "not a time"), ("time", "2024-03-01T12:00:60Z", "no such time"),
+            ("time", "2024-03-01T00:00:00+15:00", "offset"), ("canonical", " 7", "not canonical"),
+            ("body", " 7", "not canonical"), ("body", "7", "another value")):
+        yield "fault", [what, text], ["some", shown], FAULTS
+    for name, text, shown in (("id", "1", "name"), ("x", nested(101), "too deep")):
+        yield "fault", ["property", name, text], ["some", shown], FAULTS
+    yield "fault", ["document", V1], ["none"], DOCUMENTS
+
+
+ROWS = [row for rows in (words, events, parts, documents, faults) for row in rows()]

@@ -22,6 +22,14 @@ S1 = '{"reporterId":"s1","role":"observer"}'
 S2 = '{"reporterId":"s2","role":"relay"}'
 S3 = '{"reporterId":"s3","role":"relay"}'
 
+# The event of a usual producer: its identifier, its body, the step of its chain and its tag.
+E3 = "openstack:7f3e"
+B3 = ('{"action":"read/list","eventTime":"2014-02-14T01:20:47.932842Z","eventType":"activity",'
+      '"initiator":{"id":"u1","typeURI":"service/security/account/user"},"observer":{"id":"target"},'
+      '"outcome":"success","target":{"id":"t1"}}')
+S0 = '{"reporter":{"id":"target"},"reporterTime":"2014-02-14T01:20:47.932842Z","role":"modifier"}'
+T3 = "correlation_id?value=9"
+
 MEMBERS = {
     "action": '"read"', "eventTime": '"2024-03-01T12:00:00Z"', "eventType": '"activity"', "id": '"e1"',
     "initiatorId": '"u1"', "observerId": '"s1"', "outcome": '"success"', "targetId": '"t1"', "typeURI": '"%s"' % EVT}

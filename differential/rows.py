@@ -164,6 +164,9 @@ REFUSED = [
 FILES_REFUSED = [
     ("a format that is not known", lined("CADF-REPLICA 3"), "version"),
     ("format 2 in an inventory's name", lined("CADF-INVENTORY 2"), "version"),
+    ("a log that is no text", 'CADF-REPLICA 2\nL g\n', "log line"),
+    ("a line that is no UTF-8", 'CADF-REPLICA 2\nL "g"\n\udcff\n', "line 3: not UTF-8"),
+    ("a line that is no JSON", 'CADF-REPLICA 2\nL "g"\n{\n', "line 3: not JSON"),
     ("a letter as the last line", 'CADF-REPLICA 2\nL "g"\n[1,0,"E"]\n', "truncated"),
     ("a letter, and a piece of a line", 'CADF-REPLICA 2\nL "g"\n[1,0,"E"]\n[1', "truncated"),
     ("a letter before a wrong digest", 'CADF-REPLICA 2\nL "g"\n[1,0,"E"]\nZ\n', "line 3: unended"),

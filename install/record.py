@@ -40,16 +40,20 @@ def digest_of_file(name):
         return hashlib.sha256(file.read()).hexdigest()
 
 
+def sources(top, name):
+    """Yields the files that the crate is proved and built from, in order."""
+    for part in ("src", "specs", "proofs"):
+        for at, folders, files in os.walk(os.path.join(top, "crates", name, part)):
+            folders.sort()
+            yield from (os.path.join(at, file) for file in sorted(files))
+
+
 def digest_of_sources(top, names):
     """The digest of all that the crates of these names are proved and built from."""
     whole = hashlib.sha256()
     for name in sorted(names):
-        folder = os.path.join(top, "crates", name)
-        for part in ("src", "specs", "proofs"):
-            for at, folders, files in os.walk(os.path.join(folder, part)):
-                folders.sort()
-                for file in (os.path.join(at, one) for one in sorted(files)):
-                    whole.update(("%s %s\n" % (os.path.relpath(file, top), digest_of_file(file))).encode())
+        for file in sources(top, name):
+            whole.update(("%s %s\n" % (os.path.relpath(file, top), digest_of_file(file))).encode())
     with open(os.path.join(top, "crates.txt"), encoding="utf-8") as file:
         whole.update("".join(line for line in file if line.split(":")[0].split()[:1] in [[name] for name in names]).encode())
     return whole.hexdigest()

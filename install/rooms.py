@@ -54,7 +54,7 @@ def replace(folder, to):
     shutil.rmtree(old, ignore_errors=True)
     if os.path.isdir(to):
         os.rename(to, old)
-    os.rename(folder, to)
+    shutil.move(folder, to)
     shutil.rmtree(old, ignore_errors=True)
 
 
@@ -67,8 +67,8 @@ class Room:
         self.crate = os.path.join(folder, "crates", name)
         self.out = os.path.join(self.crate, "out")
 
-    def fill(self, top, tree, below):
-        """Makes the room of a copy of the tree's sources; `below` are the crates below this one."""
+    def fill(self, top, tree, below, with_kept):
+        """Makes the room of a copy of the tree's sources, with what was kept of the proof if that is asked for."""
         shutil.rmtree(self.folder, ignore_errors=True)
         os.makedirs(os.path.join(self.folder, "crates"))
         with open(os.path.join(tree, "crates.txt"), encoding="utf-8") as file:
@@ -80,7 +80,8 @@ class Room:
             copy(os.path.join(tree, "crates", name), crate, link)
             os.makedirs(os.path.join(crate, "out"))
             copy(os.path.join(top, "crates", name, "out", BUILT), os.path.join(crate, "out", BUILT), link)
-        copy(os.path.join(self.home, KEPT), os.path.join(self.out, KEPT), link)
+        if with_kept:
+            copy(os.path.join(self.home, KEPT), os.path.join(self.out, KEPT), link)
         for item in (self.name, self.name + ".stamp"):
             if os.path.isfile(os.path.join(self.home, item)):
                 shutil.copy2(os.path.join(self.home, item), self.out)
@@ -91,7 +92,7 @@ class Room:
         for item in sorted(os.listdir(self.out)) if os.path.isdir(self.out) else []:
             path, to = os.path.join(self.out, item), os.path.join(self.home, item)
             if not os.path.isdir(path):
-                os.replace(path, to)
+                shutil.move(path, to)
             elif newest(path) > newest(to):
                 replace(path, to)
         shutil.rmtree(self.folder, ignore_errors=True)

@@ -18,17 +18,17 @@ impl Call {
         Ok(Call { fields })
     }
 
-    /// The call's name.
+    /// Answers the call's name.
     pub fn name(&self) -> &str {
         text_of(&self.fields, 0)
     }
 
-    /// The text of a word, of which 1 is the first; empty where the word is missing or no text.
+    /// Answers the text of a word, of which 1 is the first; empty where the word is missing or no text.
     pub fn text(&self, place: usize) -> &str {
         text_of(&self.fields, place)
     }
 
-    /// The bytes of a word, of which 1 is the first; empty where the word is missing.
+    /// Answers the bytes of a word, of which 1 is the first; empty where the word is missing.
     pub fn bytes(&self, place: usize) -> &[u8] {
         match self.fields.get(place) {
             Some(field) => field.as_slice(),
@@ -36,7 +36,7 @@ impl Call {
         }
     }
 
-    /// The number that a word spells, of which 1 is the first; 0 where it spells none.
+    /// Answers the number that a word spells, of which 1 is the first; 0 where it spells none.
     pub fn number(&self, place: usize) -> usize {
         text_of(&self.fields, place).parse().unwrap_or(0)
     }
@@ -47,7 +47,7 @@ impl Call {
     }
 }
 
-/// The text of a field; empty where the field is missing or no text.
+/// Answers the text of a field; empty where the field is missing or no text.
 fn text_of(fields: &[Vec<u8>], place: usize) -> &str {
     match fields.get(place) {
         Some(field) => str::from_utf8(field.as_slice()).unwrap_or(""),
@@ -74,7 +74,7 @@ enum Open {
     Digit(u8),
 }
 
-/// The bytes that the field spells.
+/// Answers the bytes that the field spells.
 fn decoded(alloc: Global, field: &str) -> Result<Vec<u8>, Memory> {
     let mut bytes = Vec::new(alloc);
     let mut open = Open::Plain;
@@ -100,7 +100,7 @@ fn next(bytes: &mut Vec<u8>, open: Open, byte: u8) -> Result<Open, Memory> {
     Ok(Open::Plain)
 }
 
-/// The value of a hexadecimal digit; 0 for another byte.
+/// Answers the value of a hexadecimal digit; 0 for another byte.
 fn digit(byte: u8) -> u8 {
     match byte {
         b'0'..=b'9' => byte - b'0',

@@ -37,7 +37,7 @@ pub fn push_truth(line: &mut String, truth: bool) -> Result<(), Memory> {
     push(line, if truth { "true" } else { "false" })
 }
 
-/// The answer `err` with the fault's name and what it tells, each a field: `Event(1, Id)` makes `err`, `Event`, `1`, `Id`.
+/// Makes the answer `err` with the fault's name and what it tells, each a field: `Event(1, Id)` gives `err`, `Event`, `1`, `Id`.
 pub fn refused(alloc: Global, fault: &impl Debug) -> Result<String, Memory> {
     let shown = format!(in alloc; "{fault:?}")?;
     let mut line = String::from_str(alloc, "err\t")?;
@@ -92,7 +92,7 @@ fn push_byte(line: &mut String, byte: u8) -> Result<(), Memory> {
     line.push(hex_digit(byte & 15))
 }
 
-/// A hexadecimal digit.
+/// Answers a hexadecimal digit.
 fn hex_digit(value: u8) -> char {
     char::from_digit(u32::from(value), 16).unwrap_or('0')
 }

@@ -35,20 +35,21 @@ fn push_properties(line: &mut String, document: &Document) -> Result<(), Memory>
     Ok(())
 }
 
-/// The document's log, events, entities and properties.
+/// Answers the document's log, events, entities and properties.
 fn told(alloc: Global, document: &Document) -> Result<String, Memory> {
     document.known();
-    let mut line = match document.log() {
-        Some(log) => calls::answer(alloc, "ok", &["log", log.as_str()])?,
-        None => calls::answer(alloc, "ok", &["no log"])?,
-    };
+    let mut line = calls::answer(alloc, "ok", &[])?;
+    match document.log() {
+        Some(log) => events::push_named(&mut line, "log", log.as_str())?,
+        None => calls::push(&mut line, "no log")?,
+    }
     push_events(alloc, &mut line, document)?;
     push_entities(&mut line, document)?;
     push_properties(&mut line, document)?;
     Ok(line)
 }
 
-/// What the text is read as, or why it is no document.
+/// Answers what the text is read as, or why it is no document.
 pub(crate) fn document(alloc: Global, text: &str) -> Result<String, Memory> {
     match Json::read(alloc, text.as_bytes()) {
         Ok(json) => match Document::read(alloc, &json.view()) {
@@ -59,7 +60,7 @@ pub(crate) fn document(alloc: Global, text: &str) -> Result<String, Memory> {
     }
 }
 
-/// What the text is read as an event at a time, or why it is no document.
+/// Answers what the text is read as an event at a time, or why it is no document.
 pub(crate) fn plain(alloc: Global, text: &str) -> Result<String, Memory> {
     match Document::read_plain(alloc, text) {
         Ok(Ok(document)) => told(alloc, &document),

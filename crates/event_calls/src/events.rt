@@ -54,14 +54,14 @@ pub(crate) fn push(alloc: Global, line: &mut String, seen: &Sighting) -> Result<
     push_attachments(line, seen)
 }
 
-/// The parts of the event that was read.
+/// Answers the parts of the event that was read.
 fn told(alloc: Global, seen: &Sighting) -> Result<String, Memory> {
     let mut line = calls::answer(alloc, "ok", &[])?;
     push(alloc, &mut line, seen)?;
     Ok(line)
 }
 
-/// What the event is read as, or why the text is none.
+/// Answers what the event is read as, or why the text is none.
 pub(crate) fn event(alloc: Global, text: &str) -> Result<String, Memory> {
     match Json::read(alloc, text.as_bytes()) {
         Ok(json) => match Sighting::read(alloc, &json.view()) {

@@ -4,6 +4,7 @@
 
 mod documents;
 mod events;
+mod faults;
 mod parts;
 mod words;
 
@@ -12,7 +13,7 @@ use calls::Call;
 use std::alloc::{AllocError as Memory, Global};
 use std::io;
 
-/// What the call on the line answers.
+/// Answers what the call on the line answers.
 fn answer(alloc: Global, line: &str) -> Result<String, Memory> {
     let call = Call::read(alloc, line)?;
     let text = call.text(1);
@@ -25,17 +26,20 @@ fn answer(alloc: Global, line: &str) -> Result<String, Memory> {
         "role" => words::role(alloc, text),
         "event" => events::event(alloc, text),
         "body" => parts::body(alloc, text),
+        "body_with" => parts::body_with(alloc, text),
         "step" => parts::step(alloc, text),
+        "step_with" => parts::step_with(alloc, text),
         "attachment" => parts::attachment(alloc, text),
         "entity" => parts::entity(alloc, text, call.text(2)),
         "property" => parts::property(alloc, text, call.text(2)),
         "document" => documents::document(alloc, text),
         "plain" => documents::plain(alloc, text),
+        "fault" => faults::shown(alloc, &call),
         _ => calls::answer(alloc, "no such call", &[]),
     }
 }
 
-/// The laws of events, entities, properties and documents.
+/// Calls the laws of events, entities, properties and documents.
 fn known() {
     laws::bodies_are_of_events();
     laws::steps_are_of_events();

@@ -4,7 +4,7 @@ use cadf_event::{EventType, Name, Outcome, Role};
 use std::alloc::{AllocError as Memory, Global};
 use std::fmt::Debug;
 
-/// The name, copied.
+/// Answers the name, copied.
 pub(crate) fn name(alloc: Global, text: &str) -> Result<String, Memory> {
     match Name::read(alloc, text) {
         Ok(name) => {
@@ -15,17 +15,17 @@ pub(crate) fn name(alloc: Global, text: &str) -> Result<String, Memory> {
     }
 }
 
-/// Whether the text is a name.
+/// Tells whether the text is a name.
 pub(crate) fn named(alloc: Global, text: &str) -> Result<String, Memory> {
     format!(in alloc; "{}", cadf_event::is_named(text))
 }
 
-/// Whether the name is reserved.
+/// Tells whether the name is reserved.
 pub(crate) fn reserved(alloc: Global, text: &str) -> Result<String, Memory> {
     format!(in alloc; "{}", cadf_event::is_reserved(text))
 }
 
-/// What the word is, if it is one.
+/// Answers what the word is, if it is one.
 fn told(alloc: Global, found: Option<impl Debug + Drop>) -> Result<String, Memory> {
     match found {
         Some(found) => format!(in alloc; "some\t{found:?}"),
@@ -33,17 +33,17 @@ fn told(alloc: Global, found: Option<impl Debug + Drop>) -> Result<String, Memor
     }
 }
 
-/// The event type that the word is.
+/// Answers the event type that the word is.
 pub(crate) fn event_type(alloc: Global, text: &str) -> Result<String, Memory> {
     told(alloc, EventType::read(text))
 }
 
-/// The outcome that the word is.
+/// Answers the outcome that the word is.
 pub(crate) fn outcome(alloc: Global, text: &str) -> Result<String, Memory> {
     told(alloc, Outcome::read(text))
 }
 
-/// The role that the word is.
+/// Answers the role that the word is.
 pub(crate) fn role(alloc: Global, text: &str) -> Result<String, Memory> {
     told(alloc, Role::read(text))
 }

@@ -7,18 +7,18 @@ use cadf_json::{Json, ListBuilder, Memory, ObjectBuilder};
 use calls::Call;
 use std::alloc::Global;
 
-/// The value that is this text.
+/// Answers the value that is this text.
 pub(crate) fn text(alloc: Global, text: &str) -> Result<String, Memory> {
     shown(alloc, "ok", &Json::from_text(alloc, text)?.view())
 }
 
-/// The canonical text of a text.
+/// Answers the canonical text of a text.
 pub(crate) fn quoted(alloc: Global, text: &str) -> Result<String, Memory> {
     let spelled = cadf_json::quoted(alloc, text)?;
     calls::answer(alloc, "ok", &[spelled.as_str()])
 }
 
-/// The value that the bytes spell, where it can be a part of another.
+/// Answers the value that the bytes spell, where it can be a part of another.
 fn part(alloc: Global, bytes: &[u8]) -> Option<Json>
     ensures { IfSome result (λ json. nesting json ≤ 126) }
 {
@@ -37,7 +37,7 @@ fn push(alloc: Global, list: &mut ListBuilder, bytes: &[u8]) -> Result<(), Memor
     }
 }
 
-/// The list of the words' values.
+/// Answers the list of the words' values.
 pub(crate) fn list(alloc: Global, call: &Call) -> Result<String, Memory> {
     let mut list = ListBuilder::new(alloc);
     for place in 0..call.count() {
@@ -59,7 +59,7 @@ fn insert(
     }
 }
 
-/// What is built on the value of the first word, or on nothing where that spells none.
+/// Answers what is built on the value of the first word, or on nothing where that spells none.
 fn builder(alloc: Global, bytes: &[u8]) -> ObjectBuilder {
     match Json::read(alloc, bytes) {
         Ok(json) => ObjectBuilder::from_json(alloc, json),
@@ -67,7 +67,7 @@ fn builder(alloc: Global, bytes: &[u8]) -> ObjectBuilder {
     }
 }
 
-/// The object of the first word with two members more, each a name and a value.
+/// Answers the object of the first word with two members more, each a name and a value.
 pub(crate) fn object(alloc: Global, call: &Call) -> Result<String, Memory> {
     let mut object = builder(alloc, call.bytes(1));
     insert(alloc, &mut object, call.text(2), call.bytes(3))?;

@@ -5,24 +5,24 @@ use calls::Call;
 use json::Scratch;
 use std::alloc::{AllocError as Memory, Global};
 
-/// What is asked of the value that the first word spells.
+/// Answers what the first word asks of the value that the second spells.
 pub(crate) fn value(alloc: Global, call: &Call) -> Result<String, Memory> {
-    match Json::read(alloc, call.bytes(1)) {
+    match Json::read(alloc, call.bytes(2)) {
         Ok(json) => seen(alloc, call, &json.view()),
         Err(fault) => calls::refused(alloc, &fault),
     }
 }
 
-/// What is asked of the tree that the first word spells.
+/// Answers what the first word asks of the tree that the second spells.
 pub(crate) fn tree(alloc: Global, call: &Call) -> Result<String, Memory> {
     let mut scratch = Scratch::new(alloc);
-    match Tree::of_text(alloc, call.text(1), &mut scratch) {
+    match Tree::of_text(alloc, call.text(2), &mut scratch) {
         Ok(tree) => seen(alloc, call, &tree.view()),
         Err(fault) => calls::refused(alloc, &fault),
     }
 }
 
-/// The value of a canonical text, spelled again.
+/// Answers the value of a canonical text, spelled again.
 pub(crate) fn canonical(alloc: Global, text: &str) -> Result<String, Memory> {
     match Json::read_canonical(alloc, text) {
         Ok(json) => shown(alloc, "ok", &json.view()),
@@ -30,9 +30,9 @@ pub(crate) fn canonical(alloc: Global, text: &str) -> Result<String, Memory> {
     }
 }
 
-/// What the second word asks.
+/// Answers what the first word asks.
 fn seen(alloc: Global, call: &Call, view: &View<'_, '_>) -> Result<String, Memory> {
-    match call.text(2) {
+    match call.text(1) {
         "kind" => kind(alloc, view),
         "item" => found(alloc, view.item(call.number(3))),
         "member" => found(alloc, view.member(call.text(3))),
@@ -41,18 +41,17 @@ fn seen(alloc: Global, call: &Call, view: &View<'_, '_>) -> Result<String, Memor
         "within" => within(alloc, view, call),
         "rewritten" => rewritten(alloc, view, call),
         "again" => shown(alloc, "ok", &view.again()),
-        "copy" => shown(alloc, "ok", &view.to_json(alloc)?.view()),
         _ => shown(alloc, "ok", view),
     }
 }
 
-/// The word and the canonical text of a part.
+/// Answers the word and the canonical text of a part.
 pub(crate) fn shown(alloc: Global, word: &str, view: &View<'_, '_>) -> Result<String, Memory> {
     let text = view.text(alloc)?;
     calls::answer(alloc, word, &[text.as_str()])
 }
 
-/// Whether the part is null, an object, a list; how many parts it has, how deep it nests, and its text.
+/// Tells whether the part is null, an object, a list; how many parts it has, how deep it nests, and its text.
 fn kind(alloc: Global, view: &View<'_, '_>) -> Result<String, Memory> {
     let (null, object, list) = (view.is_null(), view.is_object(), view.is_list());
     let mut line = format!(in alloc;
@@ -66,7 +65,7 @@ fn kind(alloc: Global, view: &View<'_, '_>) -> Result<String, Memory> {
     Ok(line)
 }
 
-/// A part that may be there.
+/// Answers a part that may be there.
 fn found(alloc: Global, part: Option<View<'_, '_>>) -> Result<String, Memory> {
     match part {
         Some(view) => shown(alloc, "some", &view),
@@ -74,7 +73,7 @@ fn found(alloc: Global, part: Option<View<'_, '_>>) -> Result<String, Memory> {
     }
 }
 
-/// A name that may be there.
+/// Answers a name that may be there.
 fn name(alloc: Global, name: Option<&str>) -> Result<String, Memory> {
     match name {
         Some(name) => calls::answer(alloc, "some", &[name]),
@@ -82,7 +81,7 @@ fn name(alloc: Global, name: Option<&str>) -> Result<String, Memory> {
     }
 }
 
-/// The names and the texts of the members.
+/// Answers the names and the texts of the members.
 fn members(alloc: Global, view: &View<'_, '_>) -> Result<String, Memory> {
     let mut line = calls::answer(alloc, "ok", &[])?;
     for member in view.members() {
@@ -97,7 +96,7 @@ fn push_member(alloc: Global, line: &mut String, member: &Member<'_, '_>) -> Res
     calls::push(line, member.value.text(alloc)?.as_str())
 }
 
-/// Whether each member nests within the limit of its name, or the one of others.
+/// Tells whether each member nests within the limit of its name, or the one of others.
 fn within(alloc: Global, view: &View<'_, '_>, call: &Call) -> Result<String, Memory> {
     let limit = u8::try_from(call.number(4)).unwrap_or(0);
     let others = u8::try_from(call.number(5)).unwrap_or(0);
@@ -105,7 +104,7 @@ fn within(alloc: Global, view: &View<'_, '_>, call: &Call) -> Result<String, Mem
     format!(in alloc; "{fits}")
 }
 
-/// The object with another text at a name, without two members.
+/// Answers the object with another text at a name, without two members.
 fn rewritten(alloc: Global, view: &View<'_, '_>, call: &Call) -> Result<String, Memory> {
     let left_out = [call.text(5), call.text(6)];
     let text = view.rewritten(alloc, &left_out, call.text(3), call.text(4))?;

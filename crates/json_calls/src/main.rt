@@ -14,7 +14,7 @@ use calls::Call;
 use std::alloc::{AllocError as Memory, Global};
 use std::io;
 
-/// What the call on the line answers.
+/// Answers what the call on the line answers.
 fn answer(alloc: Global, line: &str) -> Result<String, Memory> {
     let call = Call::read(alloc, line)?;
     match call.name() {
@@ -38,7 +38,7 @@ fn answer(alloc: Global, line: &str) -> Result<String, Memory> {
     }
 }
 
-/// The laws of values, of their canonical texts and of times.
+/// Calls the laws of values, of their canonical texts and of times.
 fn laws() {
     cadf_json::bytes_spell_values();
     cadf_json::text_tells_values_apart();

@@ -2,7 +2,7 @@
 
 use std::alloc::{AllocError as Memory, Global};
 
-/// Whether the text is a list that can be passed over.
+/// Tells whether the text is a list that can be passed over.
 pub(crate) fn list(alloc: Global, text: &str) -> Result<String, Memory> {
     match cadf_json::check_list(alloc, text) {
         Ok(()) => calls::answer(alloc, "ok", &[]),
@@ -10,7 +10,7 @@ pub(crate) fn list(alloc: Global, text: &str) -> Result<String, Memory> {
     }
 }
 
-/// Whether the text may be JSON at all.
+/// Tells whether the text may be JSON at all.
 pub(crate) fn may_be_json(alloc: Global, text: &str) -> Result<String, Memory> {
     let may = cadf_json::may_be_json(alloc, text)?;
     format!(in alloc; "{may}")

@@ -7,7 +7,7 @@ use calls::Call;
 use std::alloc::{AllocError as Memory, Global};
 use std::io;
 
-/// The bytes that were read, or why they weren't.
+/// Answers the bytes that were read, or why they weren't.
 fn told(alloc: Global, bytes: Result<Vec<u8>, WholeFault>) -> Result<String, Memory> {
     match bytes {
         Ok(bytes) => {
@@ -19,27 +19,27 @@ fn told(alloc: Global, bytes: Result<Vec<u8>, WholeFault>) -> Result<String, Mem
     }
 }
 
-/// The limit that a word spells.
+/// Answers the limit that a word spells.
 fn limit(call: &Call, place: usize) -> usize
     ensures { result < 2 ^ 63 }
 {
     call.number(place).min(1 << 62)
 }
 
-/// The source of these bytes, in pieces of a size of at least 1, of which a read fails.
+/// Answers the source of these bytes, in pieces of a size of at least 1, of which a read fails.
 fn source<'b>(bytes: &'b [u8], call: &Call) -> MemorySource<'b> {
     let failing = u64::try_from(call.number(3)).unwrap_or(0);
     MemorySource::new(bytes, call.number(2).max(1), failing)
 }
 
-/// The whole of the first word's bytes, read in pieces up to a limit; a read may fail.
+/// Answers the whole of the first word's bytes, read in pieces up to a limit; a read may fail.
 pub(crate) fn whole(alloc: Global, call: &Call) -> Result<String, Memory> {
     let mut source = source(call.bytes(1), call);
     let bytes = read_whole(alloc, &mut source, limit(call, 4));
     told(alloc, bytes)
 }
 
-/// The fifth word's bytes, and behind them the first word's, read as in a whole reading.
+/// Answers the fifth word's bytes, and behind them the first word's, read as in a whole reading.
 pub(crate) fn rest(alloc: Global, call: &Call) -> Result<String, Memory> {
     let mut source = source(call.bytes(1), call);
     let start = call.bytes(5).to_vec(alloc)?;
@@ -73,7 +73,7 @@ impl<'b> io::Read for FailsOnce<'b> {
     }
 }
 
-/// The whole of the first word's bytes by a reader of std, and how many calls that took.
+/// Answers the whole of the first word's bytes by a reader of std, and how many calls that took.
 pub(crate) fn by_std(alloc: Global, call: &Call) -> Result<String, Memory> {
     let mut source = FromStd::new(FailsOnce {
         left: call.bytes(1),

@@ -3,7 +3,7 @@
 use cadf_time::Stamp;
 use std::alloc::{AllocError as Memory, Global};
 
-/// The time's instant, its offset and its canonical spelling.
+/// Answers the time's instant, its offset and its canonical spelling.
 pub(crate) fn read(alloc: Global, text: &str) -> Result<String, Memory> {
     match Stamp::read(text) {
         Ok(stamp) => {

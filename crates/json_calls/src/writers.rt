@@ -5,7 +5,7 @@ use calls::Call;
 use std::alloc::{AllocError as Memory, Global};
 use std::io;
 
-/// Whether the bytes were written, and which.
+/// Tells whether the bytes were written, and which.
 fn told(alloc: Global, done: Result<(), Failed>, written: &[u8]) -> Result<String, Memory> {
     let mut line = match done {
         Ok(()) => calls::answer(alloc, "ok", &[])?,
@@ -15,7 +15,7 @@ fn told(alloc: Global, done: Result<(), Failed>, written: &[u8]) -> Result<Strin
     Ok(line)
 }
 
-/// What the third and the fourth word say of a failing write.
+/// Answers what the third and the fourth word say of a failing write.
 fn failing(call: &Call) -> FailingWrite {
     let number = u64::try_from(call.number(4)).unwrap_or(0);
     match call.text(3) {

@@ -1,0 +1,59 @@
+//! Inventory files that are read and written.
+
+use crate::reads::Reading;
+use crate::streams::{sink_of, written};
+use cadf_event::Name;
+use cadf_file::{FileFault, read_inventory, write_inventory};
+use cadf_json::Memory;
+use cadf_replica::Inventory;
+use calls::{Call, answer, push, refused};
+use std::alloc::Global;
+
+/// Answers `ok` with the inventory's log and its digests.
+fn shown(alloc: Global, inventory: &Inventory) -> Result<String, Memory> {
+    let mut line = answer(alloc, "ok", &[inventory.log().as_str()])?;
+    for digest in inventory.digests() {
+        push(&mut line, hex::encode(alloc, digest)?.as_str())?;
+    }
+    Ok(line)
+}
+
+/// Reads the bytes as an inventory file.
+fn read_in(alloc: Global, reading: Reading, bytes: &[u8]) -> Result<Inventory, FileFault> {
+    read_inventory(alloc, &mut reading.source(bytes), reading.limit)
+}
+
+/// Answers `read_inventory`: a reading and a file.
+pub(crate) fn read(alloc: Global, call: &Call) -> Result<String, Memory> {
+    match read_in(alloc, Reading::of(call), call.bytes(4)) {
+        Ok(inventory) => shown(alloc, &inventory),
+        Err(fault) => refused(alloc, &fault),
+    }
+}
+
+/// Puts the digest that the word spells. `false` if it spells none.
+fn put(inventory: &mut Inventory, word: &str) -> bool {
+    let mut digest = [0u8; 32];
+    hex::decode_to_slice(word, &mut digest).is_ok() && inventory.put(&digest).is_ok()
+}
+
+/// Makes the inventory of the log that the fourth word names, with the digests after it. `None` if one is refused.
+fn inventory_of(alloc: Global, call: &Call) -> Option<Inventory> {
+    let log = Name::read(alloc, call.text(4)).ok()?;
+    let mut inventory = Inventory::new(alloc, log);
+    let mut is_whole = true;
+    for place in 4..call.count() {
+        is_whole &= put(&mut inventory, call.text(place.saturating_add(1)));
+    }
+    if is_whole { Some(inventory) } else { None }
+}
+
+/// Answers `write_inventory`: a writer, a log and digests.
+pub(crate) fn write(alloc: Global, call: &Call) -> Result<String, Memory> {
+    let Some(inventory) = inventory_of(alloc, call) else {
+        return answer(alloc, "no inventory", &[]);
+    };
+    let mut sink = sink_of(alloc, call, 1);
+    let done = write_inventory(alloc, &inventory, &mut sink);
+    written(alloc, done, &sink)
+}

@@ -1,0 +1,56 @@
+//! Replica files that are read.
+
+use crate::replicas::shown;
+use cadf_file::{FileFault, read_replica};
+use cadf_json::{Memory, MemorySource};
+use cadf_replica::Replica;
+use calls::{Call, refused};
+use std::alloc::Global;
+
+/// How a file is read.
+#[derive(Clone, Copy, Drop)]
+pub(crate) struct Reading {
+    /// The most bytes of the file.
+    pub(crate) limit: u64,
+    /// The most bytes of a read.
+    pub(crate) piece: usize,
+    /// The number of the read that fails; 0 is none.
+    pub(crate) failing: u64,
+}
+
+impl Reading {
+    /// Takes the first three words: the limit, the bytes of a read, the read that fails.
+    pub(crate) fn of(call: &Call) -> Reading {
+        Reading {
+            limit: call.number(1) as u64,
+            piece: call.number(2),
+            failing: call.number(3) as u64,
+        }
+    }
+
+    /// Makes the reader of these bytes.
+    pub(crate) fn source(self, bytes: &[u8]) -> MemorySource<'_> {
+        MemorySource::new(bytes, self.piece.max(1), self.failing)
+    }
+}
+
+/// Reads the bytes as a replica file.
+pub(crate) fn read_in(alloc: Global, reading: Reading, bytes: &[u8]) -> Result<Replica, FileFault> {
+    read_replica(alloc, &mut reading.source(bytes), reading.limit)
+}
+
+/// Answers a reading: the replica, or the fault.
+pub(crate) fn read_answer(
+    alloc: Global,
+    read: Result<Replica, FileFault>,
+) -> Result<String, Memory> {
+    match read {
+        Ok(replica) => shown(alloc, &replica),
+        Err(fault) => refused(alloc, &fault),
+    }
+}
+
+/// Answers `read`: a reading and a file.
+pub(crate) fn read(alloc: Global, call: &Call) -> Result<String, Memory> {
+    read_answer(alloc, read_in(alloc, Reading::of(call), call.bytes(4)))
+}

@@ -1,0 +1,34 @@
+//! Calls of inventories. The words are the inventory, and the digits of a digest.
+
+use crate::spelled::{digest, inventory, of_inventory};
+use crate::told;
+use cadf_json::Memory;
+use cadf_replica::Inventory;
+use calls::{Call, answer};
+use std::alloc::Global;
+
+/// Answers the call of that name.
+pub(crate) fn answered(alloc: Global, name: &str, call: &Call) -> Result<String, Memory> {
+    let ours = inventory(alloc, call.text(1))?;
+    let given = digest(call.text(2));
+    match name {
+        "has" => told::truth(alloc, ours.has(&given)),
+        "put" => put(alloc, ours, &given),
+        "least_digest" => found(alloc, ours.digest_after(None)),
+        "digest_after" => found(alloc, ours.digest_after(Some(&given))),
+        _ => answer(alloc, "no such call", &[]),
+    }
+}
+
+fn put(alloc: Global, mut ours: Inventory, digest: &[u8; 32]) -> Result<String, Memory> {
+    ours.put(digest)?;
+    let lines = of_inventory(alloc, &ours)?;
+    answer(alloc, "ok", &[lines.as_str()])
+}
+
+fn found(alloc: Global, digest: Option<[u8; 32]>) -> Result<String, Memory> {
+    match digest {
+        Some(digest) => answer(alloc, "some", &[hex::encode(alloc, digest)?.as_str()]),
+        None => answer(alloc, "none", &[]),
+    }
+}

@@ -1,0 +1,56 @@
+//! A visitor that keeps what it is shown.
+ghost use Rattle.std.specs.Prelude.{⊤};
+
+use crate::told;
+use cadf_join::{Memory, Visitor};
+use cadf_replica::Replica;
+use std::alloc::Global;
+
+/// The lists that were shown.
+#[derive(Drop)]
+struct Kept {
+    lists: Vec<Vec<String>>,
+    alloc: Global,
+}
+
+impl Visitor for Kept {
+    type Fault = Memory;
+
+    ghost takes = { λ _ _ _. ⊤ };
+
+    ghost stops = { λ _ _ _ _. ⊤ };
+
+    fn visit(&mut self, list: &[&str]) -> Result<(), Memory> {
+        self.lists.push(copied(self.alloc, list)?)?;
+        Ok(())
+    }
+
+    ghost takes_none = { λ _. tt };
+
+    ghost takes_more = { λ _ _ _ _ _ _ _. tt };
+
+    ghost stops_at_once = { λ _ _ _ _ _. tt };
+
+    ghost stops_later = { λ _ _ _ _ _ _ _ _. tt };
+
+    ghost stops_before = { λ _ _ _ _ _ _. tt };
+}
+
+/// Copies the texts.
+fn copied(alloc: Global, list: &[&str]) -> Result<Vec<String>, Memory> {
+    let mut texts = Vec::new(alloc);
+    for text in list {
+        texts.push(String::from_str(alloc, *text)?)?;
+    }
+    Ok(texts)
+}
+
+/// Answers the atoms that a walk of the replica shows, each the JSON list of its texts.
+pub(crate) fn walked(alloc: Global, replica: &Replica) -> Result<String, Memory> {
+    let mut kept = Kept {
+        lists: Vec::new(alloc),
+        alloc,
+    };
+    replica.walk(&mut kept)?;
+    told::lists(alloc, &kept.lists)
+}

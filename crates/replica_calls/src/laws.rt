@@ -1,0 +1,27 @@
+//! The laws of replicas and of schedules, each once.
+
+use cadf_rehearsal::laws as schedules;
+use cadf_replica::laws as replicas;
+
+/// Calls each law; it does nothing.
+pub(crate) fn hold() {
+    replicas::missing_is_least();
+    replicas::missing_part_suffices();
+    replicas::missing_is_minimal();
+    replicas::replica_is_what_it_took();
+    replicas::same_contributions_same_set();
+    replicas::retries_change_nothing();
+    replicas::every_atom_is_shown_once();
+    replicas::one_value_is_shown();
+    replicas::shown_again_is_the_same();
+    replicas::texts_tell_the_set();
+    replicas::a_path_has_one_kind();
+    replicas::replicas_converge();
+    replicas::nothing_disappears();
+    replicas::line_law();
+    replicas::name_law();
+    replicas::rules_law();
+    replicas::contributions_are_grounded();
+    schedules::answers_cover_their_senders();
+    schedules::schedules_are_plain();
+}

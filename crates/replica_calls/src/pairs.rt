@@ -1,0 +1,42 @@
+//! Calls of two replicas, or of a replica and an inventory. The words are both.
+
+use crate::spelled::{inventory, replica};
+use crate::told;
+use cadf_json::Memory;
+use cadf_replica::Replica;
+use calls::{Call, answer};
+use std::alloc::Global;
+
+/// Answers the call of that name.
+pub(crate) fn answered(alloc: Global, name: &str, call: &Call) -> Result<String, Memory> {
+    let ours = replica(alloc, call.text(1))?;
+    if name == "missing_by" {
+        return told::part(alloc, ours.missing_by(&inventory(alloc, call.text(2))?));
+    }
+    told_of_both(alloc, name, ours, &replica(alloc, call.text(2))?)
+}
+
+fn told_of_both(
+    alloc: Global,
+    name: &str,
+    ours: Replica,
+    theirs: &Replica,
+) -> Result<String, Memory> {
+    match name {
+        "same" => told::truth(alloc, ours.same(theirs)),
+        "join" => joined(alloc, ours, theirs),
+        "join_twice" => joined_twice(alloc, ours, theirs),
+        "missing" => told::part(alloc, ours.missing(theirs)),
+        _ => answer(alloc, "no such call", &[]),
+    }
+}
+
+fn joined(alloc: Global, mut ours: Replica, theirs: &Replica) -> Result<String, Memory> {
+    let outcome = ours.join(theirs);
+    told::changed(alloc, outcome, &ours)
+}
+
+fn joined_twice(alloc: Global, mut ours: Replica, theirs: &Replica) -> Result<String, Memory> {
+    let outcome = ours.join_twice(theirs);
+    told::changed(alloc, outcome, &ours)
+}

@@ -1,0 +1,73 @@
+//! Calls of one replica, which is the first word. The second is the line of an atom.
+
+use crate::kept::walked;
+use crate::spelled::{atom, of_inventory, replica};
+use crate::told;
+use cadf_json::Memory;
+use cadf_replica::{Atom, Replica};
+use calls::{Call, answer};
+use std::alloc::Global;
+
+/// Answers the call of that name.
+pub(crate) fn answered(alloc: Global, name: &str, call: &Call) -> Result<String, Memory> {
+    let ours = replica(alloc, call.text(1))?;
+    match name {
+        "atom_count" => told::number(alloc, ours.atom_count()),
+        "conflict_count" => told::number(alloc, ours.conflict_count()),
+        "copy" => told::replica(alloc, &ours.copy()?),
+        "atom_lists" => told::lists(alloc, &ours.atom_lists()?),
+        "walk" => walked(alloc, &ours),
+        "inventory" => noted(alloc, &ours),
+        "least_atom" => found(alloc, ours.atom_after(None)?),
+        _ => match atom(alloc, call.text(2))? {
+            Some(atom) => told_of_atom(alloc, name, ours, &atom),
+            None => answer(alloc, "no atom", &[]),
+        },
+    }
+}
+
+/// Answers a call about a replica and an atom.
+fn told_of_atom(alloc: Global, name: &str, ours: Replica, atom: &Atom) -> Result<String, Memory> {
+    match name {
+        "holds" => told::truth(alloc, ours.holds(atom)),
+        "atom_after" => found(alloc, ours.atom_after(Some(atom))?),
+        "put" => put(alloc, ours, atom),
+        "put_texts" => put_texts(alloc, ours, atom),
+        "put_last" => put_last(alloc, ours, atom),
+        _ => answer(alloc, "no such call", &[]),
+    }
+}
+
+/// Answers the line of the atom, if there is one.
+fn found(alloc: Global, atom: Option<Atom>) -> Result<String, Memory> {
+    match atom {
+        Some(atom) => told::text(alloc, Some(atom.line(alloc)?)),
+        None => told::text(alloc, None),
+    }
+}
+
+/// Answers the digests of the replica's atoms.
+fn noted(alloc: Global, ours: &Replica) -> Result<String, Memory> {
+    let inventory = ours.inventory()?;
+    let lines = of_inventory(alloc, &inventory)?;
+    answer(alloc, "ok", &[lines.as_str()])
+}
+
+fn put(alloc: Global, mut ours: Replica, atom: &Atom) -> Result<String, Memory> {
+    let outcome = ours.put(atom);
+    told::changed(alloc, outcome, &ours)
+}
+
+fn put_texts(alloc: Global, mut ours: Replica, atom: &Atom) -> Result<String, Memory> {
+    let outcome = ours.put_texts(atom.parts());
+    told::changed(alloc, outcome, &ours)
+}
+
+/// Tells whether the atom was put last, or why not, and what the replica then is.
+fn put_last(alloc: Global, mut ours: Replica, atom: &Atom) -> Result<String, Memory> {
+    match ours.put_last(atom.parts()) {
+        Ok(true) => told::replica(alloc, &ours),
+        Ok(false) => answer(alloc, "not above", &[]),
+        Err(fault) => told::kept(alloc, fault, &ours),
+    }
+}

@@ -1,0 +1,82 @@
+//! Calls of rulings. The words are a letter, a key, and a digest or a value; or a replica, and these.
+
+use crate::spelled::replica;
+use crate::told;
+use cadf_json::Memory;
+use cadf_replica::{Replica, Ruling, RulingFault};
+use calls::{Call, answer, push, refused};
+use std::alloc::Global;
+
+/// Answers the call of that name.
+pub(crate) fn answered(alloc: Global, name: &str, call: &Call) -> Result<String, Memory> {
+    match name {
+        "read" => told_of(alloc, read(alloc, call, 1)),
+        "of" => told_of(
+            alloc,
+            Ruling::of(alloc, letter(call, 1), call.text(2), call.text(3)),
+        ),
+        "take" => taken(alloc, replica(alloc, call.text(1))?, read(alloc, call, 2)),
+        "rulings" => listed(alloc, &replica(alloc, call.text(1))?),
+        _ => answer(alloc, "no such call", &[]),
+    }
+}
+
+/// Answers the first character of the word.
+fn letter(call: &Call, place: usize) -> char {
+    call.text(place).chars().next().unwrap_or(' ')
+}
+
+/// Answers the ruling that the three words from this one on spell.
+fn read(alloc: Global, call: &Call, first: usize) -> Result<Ruling, RulingFault> {
+    let (key, digest) = (first.saturating_add(1), first.saturating_add(2));
+    Ruling::read(
+        alloc,
+        letter(call, first),
+        call.text(key),
+        call.text(digest),
+    )
+}
+
+fn told_of(alloc: Global, read: Result<Ruling, RulingFault>) -> Result<String, Memory> {
+    match read {
+        Ok(ruling) => spelled(alloc, &ruling),
+        Err(fault) => refused(alloc, &fault),
+    }
+}
+
+fn spelled(alloc: Global, ruling: &Ruling) -> Result<String, Memory> {
+    let mut line = format!(in alloc; "ok\t{}", ruling.letter())?;
+    push(&mut line, ruling.key())?;
+    push(&mut line, ruling.digest())?;
+    Ok(line)
+}
+
+/// Answers what the replica is with the ruling.
+fn taken(
+    alloc: Global,
+    mut ours: Replica,
+    read: Result<Ruling, RulingFault>,
+) -> Result<String, Memory> {
+    match read {
+        Ok(ruling) => {
+            ours.take_ruling(&ruling)?;
+            told::replica(alloc, &ours)
+        }
+        Err(fault) => refused(alloc, &fault),
+    }
+}
+
+/// Answers the rulings of the replica, each its letter, key and digest, as fields.
+fn listed(alloc: Global, ours: &Replica) -> Result<String, Memory> {
+    let mut line = answer(alloc, "ok", &[])?;
+    for ruling in ours.rulings()? {
+        push_ruling(alloc, &mut line, &ruling)?;
+    }
+    Ok(line)
+}
+
+fn push_ruling(alloc: Global, line: &mut String, ruling: &Ruling) -> Result<(), Memory> {
+    push(line, format!(in alloc; "{}", ruling.letter())?.as_str())?;
+    push(line, ruling.key())?;
+    push(line, ruling.digest())
+}

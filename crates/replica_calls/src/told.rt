@@ -1,0 +1,81 @@
+//! Answers of the forms that most calls have.
+
+use crate::spelled::{of_list, of_replica};
+use cadf_json::Memory;
+use cadf_replica::{Replica, ReplicaFault};
+use calls::{answer, push, refused};
+use std::alloc::Global;
+
+/// Answers `true` or `false`.
+pub(crate) fn truth(alloc: Global, truth: bool) -> Result<String, Memory> {
+    answer(alloc, if truth { "true" } else { "false" }, &[])
+}
+
+/// Answers `ok`, and `true` or `false`.
+pub(crate) fn found_true(alloc: Global, truth: bool) -> Result<String, Memory> {
+    answer(alloc, "ok", &[if truth { "true" } else { "false" }])
+}
+
+/// Answers a number.
+pub(crate) fn number(alloc: Global, number: u64) -> Result<String, Memory> {
+    format!(in alloc; "{number}")
+}
+
+/// Answers `ok` with a text, or with none.
+pub(crate) fn text(alloc: Global, found: Option<String>) -> Result<String, Memory> {
+    match found {
+        Some(text) => answer(alloc, "ok", &["some", text.as_str()]),
+        None => answer(alloc, "ok", &["none"]),
+    }
+}
+
+/// Answers `ok` with these texts, each a field.
+pub(crate) fn texts(alloc: Global, texts: &[String]) -> Result<String, Memory> {
+    let mut line = answer(alloc, "ok", &[])?;
+    for text in texts {
+        push(&mut line, text.as_str())?;
+    }
+    Ok(line)
+}
+
+/// Answers `ok` with these lists, each a field.
+pub(crate) fn lists(alloc: Global, lists: &[Vec<String>]) -> Result<String, Memory> {
+    let mut line = answer(alloc, "ok", &[])?;
+    for list in lists {
+        push(&mut line, of_list(alloc, list)?.as_str())?;
+    }
+    Ok(line)
+}
+
+/// Answers `ok` with the replica.
+pub(crate) fn replica(alloc: Global, replica: &Replica) -> Result<String, Memory> {
+    let lines = of_replica(alloc, replica)?;
+    answer(alloc, "ok", &[lines.as_str()])
+}
+
+/// Answers how a change came out, and what the replica then is.
+pub(crate) fn changed(
+    alloc: Global,
+    outcome: Result<(), ReplicaFault>,
+    after: &Replica,
+) -> Result<String, Memory> {
+    match outcome {
+        Ok(()) => replica(alloc, after),
+        Err(fault) => kept(alloc, fault, after),
+    }
+}
+
+/// Answers why it was refused, and what the replica still is.
+pub(crate) fn kept(alloc: Global, fault: ReplicaFault, after: &Replica) -> Result<String, Memory> {
+    let mut line = refused(alloc, &fault)?;
+    push(&mut line, of_replica(alloc, after)?.as_str())?;
+    Ok(line)
+}
+
+/// Answers the part that was found, or why none was.
+pub(crate) fn part(alloc: Global, found: Result<Replica, ReplicaFault>) -> Result<String, Memory> {
+    match found {
+        Ok(part) => replica(alloc, &part),
+        Err(fault) => refused(alloc, &fault),
+    }
+}

@@ -1,0 +1,75 @@
+//! The kinds of values, each made of lists.
+
+use crate::lists::{lent, lists};
+use cadf_join::{ChainTree, JoinMap, Memory, TextSet, Walk};
+use cadf_paths::Paths;
+use std::alloc::Global;
+
+/// A value that is made of lists.
+pub(crate) trait Made: Walk {
+    /// Makes a value that holds nothing.
+    fn empty(alloc: Global) -> Self;
+
+    /// Adds the list. One that no value of the kind holds is passed over.
+    fn add(&mut self, alloc: Global, list: &[String]) -> Result<(), Memory>;
+}
+
+impl Made for TextSet {
+    fn empty(alloc: Global) -> TextSet {
+        TextSet::new(alloc)
+    }
+
+    fn add(&mut self, _alloc: Global, list: &[String]) -> Result<(), Memory> {
+        if let [text] = list {
+            self.insert(text.as_str())?;
+        }
+        Ok(())
+    }
+}
+
+impl<V: Made> Made for JoinMap<V> {
+    fn empty(alloc: Global) -> JoinMap<V> {
+        JoinMap::new(alloc)
+    }
+
+    fn add(&mut self, alloc: Global, list: &[String]) -> Result<(), Memory> {
+        if let [key, rest @ ..] = list {
+            let mut value = V::empty(alloc);
+            value.add(alloc, rest)?;
+            self.take_at(key.as_str(), value)?;
+        }
+        Ok(())
+    }
+}
+
+impl Made for ChainTree {
+    fn empty(alloc: Global) -> ChainTree {
+        ChainTree::new(alloc)
+    }
+
+    fn add(&mut self, _alloc: Global, list: &[String]) -> Result<(), Memory> {
+        if !list.is_empty() && list.len() <= 256 {
+            self.insert(list)?;
+        }
+        Ok(())
+    }
+}
+
+impl Made for Paths {
+    fn empty(alloc: Global) -> Paths {
+        Paths::new(alloc)
+    }
+
+    fn add(&mut self, alloc: Global, list: &[String]) -> Result<(), Memory> {
+        self.insert(&lent(alloc, list)?)
+    }
+}
+
+/// Answers the value that holds the lists of the word.
+pub(crate) fn value_of<J: Made>(alloc: Global, word: &str) -> Result<J, Memory> {
+    let mut value = J::empty(alloc);
+    for list in lists(alloc, word)? {
+        value.add(alloc, &list)?;
+    }
+    Ok(value)
+}

@@ -1,0 +1,120 @@
+//! Calls of flat sets of lists. The first word is the set, the second a list or another set.
+ghost use Rattle.std.specs.Prelude.{[]};
+
+use crate::kinds::value_of;
+use crate::lists::{lent, list, lists};
+use crate::told;
+use cadf_join::Memory;
+use cadf_paths::{Carrier, Gathered, Paths};
+use calls::{Call, answer};
+use std::alloc::Global;
+
+/// Answers the call of that name.
+pub(crate) fn answered(alloc: Global, name: &str, call: &Call) -> Result<String, Memory> {
+    match name {
+        "unite" => united(
+            alloc,
+            value_of(alloc, call.text(1))?,
+            &value_of(alloc, call.text(2))?,
+        ),
+        "take" => taken(
+            alloc,
+            value_of(alloc, call.text(1))?,
+            value_of(alloc, call.text(2))?,
+        ),
+        "missing_with_carriers" => missing(
+            alloc,
+            &value_of(alloc, call.text(1))?,
+            &value_of(alloc, call.text(2))?,
+        ),
+        "gathered" => gathered(alloc, call.text(1)),
+        _ => told_of_list(alloc, name, call),
+    }
+}
+
+/// Answers a call about a set and a list.
+fn told_of_list(alloc: Global, name: &str, call: &Call) -> Result<String, Memory> {
+    let ours: Paths = value_of(alloc, call.text(1))?;
+    let given = list(alloc, call.text(2))?;
+    match name {
+        "holds" => told::truth(alloc, ours.holds(&given)),
+        "ends_behind" => told::truth(alloc, ours.ends_behind(&given)),
+        "least" => told::found(alloc, ours.list_after(None)?),
+        "list_after" => told::found(alloc, ours.list_after(Some(given.as_slice()))?),
+        _ => told_of_lent(alloc, name, ours, &lent(alloc, &given)?, call.text(3)),
+    }
+}
+
+/// Answers a call about a set, a list of borrowed texts, and a text.
+fn told_of_lent(
+    alloc: Global,
+    name: &str,
+    ours: Paths,
+    given: &[&str],
+    text: &str,
+) -> Result<String, Memory> {
+    match name {
+        "contains" => told::truth(alloc, ours.contains(given)),
+        "is_above" => told::truth(alloc, ours.is_above(given)),
+        "insert" => inserted(alloc, ours, given),
+        "push" => pushed(alloc, ours, given),
+        "behind" => told::lists(alloc, &ours.behind(given)?),
+        "least_text" => told::text(alloc, ours.next_text(given, None)),
+        "next_text" => told::text(alloc, ours.next_text(given, Some(text))),
+        "texts_behind" => told::texts(alloc, &ours.texts_behind(given)?),
+        "several_behind" => told::number(alloc, ours.several_behind(given)),
+        "longest_behind" => told::found(alloc, ours.longest_behind(given)?),
+        _ => answer(alloc, "no such call", &[]),
+    }
+}
+
+fn inserted(alloc: Global, mut ours: Paths, list: &[&str]) -> Result<String, Memory> {
+    ours.insert(list)?;
+    told::held(alloc, &ours)
+}
+
+/// Pushes the list; one that is not above all that are there is no word of this call.
+fn pushed(alloc: Global, mut ours: Paths, list: &[&str]) -> Result<String, Memory> {
+    if !ours.is_above(list) {
+        return answer(alloc, "not above", &[]);
+    }
+    ours.push(list)?;
+    told::held(alloc, &ours)
+}
+
+fn united(alloc: Global, mut ours: Paths, theirs: &Paths) -> Result<String, Memory> {
+    ours.unite(theirs)?;
+    told::held(alloc, &ours)
+}
+
+fn taken(alloc: Global, mut ours: Paths, theirs: Paths) -> Result<String, Memory> {
+    ours.take(theirs)?;
+    told::held(alloc, &ours)
+}
+
+/// Lists that all have the empty list as their carrier.
+enum ByNothing {}
+
+impl Carrier for ByNothing {
+    ghost carrier = { λ _. [] };
+
+    fn length(_list: &[&str]) -> usize {
+        0
+    }
+
+    ghost in_order = { λ _ _ _ g. Prim.cc };
+}
+
+/// Answers what the first has and the second lacks, with its carriers.
+fn missing(alloc: Global, ours: &Paths, theirs: &Paths) -> Result<String, Memory> {
+    told::held(alloc, &ours.missing_with_carriers::<ByNothing>(theirs)?)
+}
+
+/// Answers the set of the lists, gathered in the order in which they stand.
+fn gathered(alloc: Global, word: &str) -> Result<String, Memory> {
+    let mut gathered = Gathered::new(alloc);
+    for list in lists(alloc, word)? {
+        gathered.push(&lent(alloc, &list)?)?;
+    }
+    told::held(alloc, &gathered.into_paths()?)
+}

@@ -1,0 +1,68 @@
+//! Calls that values of every kind have. The first word is the kind.
+
+use crate::keeping::{walked, walked_behind};
+use crate::kinds::{Made, value_of};
+use crate::lists::list;
+use crate::told;
+use cadf_join::{ChainTree, JoinMap, Memory, TextSet};
+use cadf_paths::Paths;
+use calls::{Call, answer};
+use std::alloc::Global;
+
+/// Answers the call of that name.
+pub(crate) fn answered(alloc: Global, name: &str, call: &Call) -> Result<String, Memory> {
+    match call.text(1) {
+        "texts" => told_of::<TextSet>(alloc, name, call),
+        "map of texts" => told_of::<JoinMap<TextSet>>(alloc, name, call),
+        "map of maps" => told_of::<JoinMap<JoinMap<TextSet>>>(alloc, name, call),
+        "map of trees" => told_of::<JoinMap<ChainTree>>(alloc, name, call),
+        "tree" => told_of::<ChainTree>(alloc, name, call),
+        "paths" => told_of::<Paths>(alloc, name, call),
+        _ => answer(alloc, "no such kind", &[]),
+    }
+}
+
+fn told_of<J: Made>(alloc: Global, name: &str, call: &Call) -> Result<String, Memory> {
+    let ours: J = value_of(alloc, call.text(2))?;
+    match name {
+        "copy" => told::held(alloc, &ours.copy()?),
+        "is_empty" => told::truth(alloc, ours.is_empty()),
+        "list_count" => told::number(alloc, ours.list_count()),
+        "append_lists" => appended(alloc, &ours, call.text(3)),
+        "walk" => walked(alloc, &ours),
+        "walk_behind" => walked_behind(alloc, call.text(3), &ours),
+        _ => told_of_both(alloc, name, ours, &value_of(alloc, call.text(3))?),
+    }
+}
+
+fn told_of_both<J: Made>(alloc: Global, name: &str, ours: J, theirs: &J) -> Result<String, Memory> {
+    match name {
+        "join" => joined(alloc, ours, theirs),
+        "missing_from" => missing(alloc, &ours, theirs),
+        "same" => told::truth(alloc, ours.same(theirs)),
+        _ => answer(alloc, "no such call", &[]),
+    }
+}
+
+fn joined<J: Made>(alloc: Global, mut ours: J, theirs: &J) -> Result<String, Memory> {
+    ours.join(theirs)?;
+    told::held(alloc, &ours)
+}
+
+/// Answers what the first has and the second lacks.
+fn missing<J: Made>(alloc: Global, ours: &J, theirs: &J) -> Result<String, Memory> {
+    match ours.missing_from(theirs)? {
+        Some(part) => {
+            let part = told::contents(alloc, &part)?;
+            answer(alloc, "ok", &["some", part.as_str()])
+        }
+        None => answer(alloc, "ok", &["none"]),
+    }
+}
+
+/// Answers the lists behind the prefix.
+fn appended<J: Made>(alloc: Global, value: &J, prefix: &str) -> Result<String, Memory> {
+    let mut lists = Vec::new(alloc);
+    value.append_lists(&list(alloc, prefix)?, &mut lists)?;
+    told::lists(alloc, &lists)
+}

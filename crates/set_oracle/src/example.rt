@@ -1,0 +1,15 @@
+//! The example of the README.
+
+use cadf_join::{Join, Memory, TextSet};
+use std::alloc::Global;
+
+/// Tells whether two sites hold the same once one has taken what it lacks of the other.
+pub(crate) fn two_sites_join(alloc: Global) -> Result<bool, Memory> {
+    let (mut north, mut south) = (TextSet::new(alloc), TextSet::new(alloc));
+    north.insert("seen")?;
+    south.insert("read")?;
+    if let Some(part) = south.missing_from(&north)? {
+        north.join(&part)?;
+    }
+    Ok(north.contains("read") && south.missing_from(&north)?.is_none())
+}

@@ -1,0 +1,179 @@
+#!/usr/bin/env python3
+"""Compares the drivers of calls with the second implementation on generated calls, where docs/FORMATS.md says the answer.
+
+    differential/calls.py [NUMBER [SEED]]
+
+Generates NUMBER calls (2,000) of values, times, names, documents, files, inventories and the two texts by SEED (1), hands
+them to the built drivers crates/json_calls, event_calls, file_calls and log_calls, and compares what they answer: values by
+their canonical texts, times by their instants and spellings, documents by their log, their atoms and the instants of their
+events, or by what their fault is shown as; files and texts by all fields. A reading of plain texts alone may leave a
+document to the other. The status is 1 where an answer differs; the call is then shown.
+"""
+import collections
+import os
+import random
+import subprocess
+import sys
+
+sys.dont_write_bytecode = True
+
+TOP = os.path.dirname(os.path.dirname(os.path.abspath(__file__)))
+sys.path.insert(0, os.path.join(TOP, "calls"))
+
+import odd_documents
+import odd_events
+from events import Fault, document, is_name
+from fields import line, read as fields_of
+from file_answers import KINDS as FILE_KINDS
+from generate import ODD_JSON, damaged
+from json_text import NotJson, NotWhole, quoted, read, read_canonical, spelled
+from odd_values import any_value, odd_name, time
+from spelling import spelled_oddly
+from times import time_of
+
+LETTERS = {b"resource": "R", b"geolocation": "G", b"metric": "M", b"property": "P"}
+BEHIND = {b"chain": "C", b"tag": "T", b"attachment": "A"}
+
+
+def value_of(data):
+    """The answer to bytes that are read as a value."""
+    try:
+        return ["ok", spelled(read(data))]
+    except NotWhole:
+        return ["err", "NotWhole"]
+    except NotJson:
+        return ["err", "NotJson"]
+
+
+def values(chance):
+    """A call that reads a value of bytes."""
+    data = spelled_oddly(chance, any_value(chance, 4), chance.choice([0, 0.2]))
+    if chance.random() < 0.4:
+        data = damaged(chance, data, 1)
+    if chance.random() < 0.2:
+        data = chance.choice(ODD_JSON)
+    return "json_calls", ["value", "text", data], value_of(data)
+
+
+def canonical(chance):
+    """A call that reads a canonical text, or one that is nearly so."""
+    text = spelled_oddly(chance, any_value(chance, 3), chance.choice([0, 0, 0.1])).decode("utf-8", "replace")
+    try:
+        answer = ["ok", spelled(read_canonical(text))]
+    except NotWhole:
+        answer = ["err", "NotWhole"]
+    except NotJson:
+        kind = value_of(text.encode())
+        answer = ["err", "NotCanonical"] if kind[0] == "ok" else kind
+    return "json_calls", ["canonical", text], answer
+
+
+def texts(chance):
+    """A call that spells a text."""
+    text = odd_name(chance)
+    return "json_calls", ["quoted", text], ["ok", quoted(text)]
+
+
+def times(chance):
+    """A call that reads a time. Which fault it has, the second implementation doesn't tell."""
+    text = time(chance)
+    found = time_of(text)
+    return "json_calls", ["time", text], ["ok", found.instant, None, found.spelling] if found else ["err", None]
+
+
+def names(chance):
+    """A call that reads a name."""
+    text = odd_name(chance)
+    return "event_calls", ["name", text], ["ok", text] if is_name(text) else ["err", None]
+
+
+def documents(chance):
+    """A call that reads a document: its parts, or what its fault is shown as."""
+    kind = chance.randrange(3)
+    if kind == 0:
+        data = odd_documents.any_odd_document(chance)
+    else:
+        made = (odd_events.document if kind == 1 else odd_events.odd_document)(chance)
+        data = spelled_oddly(chance, made, chance.choice([0, 0.1]))
+    text = data.decode("utf-8", "replace")
+    try:
+        parts = document(read(text.encode()))
+    except NotJson:
+        return "event_calls", ["fault", "document", text], ["some", "not JSON"]
+    except NotWhole:
+        return "event_calls", ["fault", "document", text], ["some", "a number is not whole"]
+    except Fault as fault:
+        return "event_calls", ["fault", "document", text], ["some", fault.said]
+    return "event_calls", [chance.choice(["document", "plain"]), text], parts
+
+
+def run_of(fields, place):
+    """Where the steps of a chain end: the first field that is no object."""
+    while place < len(fields) and fields[place].startswith(b"{"):
+        place += 1
+    return place
+
+
+def parts_told(fields):
+    """The log and the atoms that an answer tells, and each event's instant and body."""
+    log, place = (fields[2].decode(), 3) if fields[1] == b"log" else (None, 2)
+    atoms, instants, carrier = set(), [], ()
+    while place < len(fields):
+        word, place = fields[place], place + 1
+        if word == b"event":
+            name, instant, body = (one.decode() for one in fields[place:place + 3])
+            carrier, place = ("E", name, body), place + 3
+            instants.append((int(instant), body))
+            atoms.add(carrier)
+        elif word in BEHIND:
+            end = run_of(fields, place) if word == b"chain" else place + 1
+            atoms.add(carrier + (BEHIND[word],) + tuple(one.decode() for one in fields[place:end]))
+            place = end
+        else:
+            atoms.add((LETTERS[word],) + tuple(one.decode() for one in fields[place:place + 2]))
+            place += 2
+    return log, atoms, instants
+
+
+def alike(call, wanted, answer):
+    """Whether the line answers to the call what is wanted."""
+    fields = fields_of(answer)
+    if call.startswith("plain\t") and fields == [b"err", b"NotPlain"]:
+        return True
+    if isinstance(wanted, list):
+        return len(fields) == len(wanted) and all(
+            one is None or line([one]) == line([other]) for one, other in zip(wanted, fields))
+    if fields[0] != b"ok":
+        return False
+    log, atoms, instants = parts_told(fields)
+    return (log, atoms) == wanted and all(
+        instant == time_of(read(body.encode())["eventTime"]).instant for instant, body in instants)
+
+
+def answers(driver, calls):
+    binary = os.path.join(TOP, "crates", driver, "out", driver)
+    run = subprocess.run([binary], input="".join(calls).encode(), stdout=subprocess.PIPE, check=True)
+    return run.stdout.decode().split("\n")[:-1]
+
+
+def main():
+    number, seed = (int(word) for word in (sys.argv[1:] + ["2000", "1"][len(sys.argv) - 1:]))
+    chance, asked = random.Random(seed), collections.defaultdict(list)
+    for _ in range(number):
+        kind = chance.choice([values, canonical, texts, times, names, documents, documents, *FILE_KINDS])
+        driver, words, wanted = kind(chance)
+        asked[driver].append((line(words), wanted))
+    wrong = 0
+    for driver, rows in asked.items():
+        given = answers(driver, [call for call, _ in rows])
+        for (call, wanted), answer in zip(rows, given + [""] * (len(rows) - len(given))):
+            if not alike(call, wanted, answer):
+                wrong += 1
+                print("calls: %s answers %.2000s to %.2000s" % (driver, answer, call.rstrip("\n")))
+    if wrong:
+        sys.exit("calls: %d of %d are answered otherwise" % (wrong, number))
+    print("calls: %d generated calls are answered alike" % number)
+
+
+if __name__ == "__main__":
+    main()
