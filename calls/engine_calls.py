@@ -79,7 +79,7 @@ def row(call, words, fields, heading):
 
 # The worked calls of the command, with each reader in pieces of 1 to 7 bytes.
 LARGE = 2000  # bytes of an input that is at a limit: the command alone reads it
-for name, words, files, wanted in worked.rows():
+for name, words, files, wanted in worked.all_rows():
     inputs = [files[word] for word in words if word in files]
     if wanted.status == 2 or max(len(text) for text in inputs) > LARGE:
         continue

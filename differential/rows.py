@@ -230,7 +230,7 @@ def called(name, command, files, wanted):
     return name, [*command.encode().split(), *names], dict(zip(names, files)), wanted
 
 
-def document_calls():
+def document_rows_called():
     """The rows of documents."""
     for command, told in (("show", document_rows.SHOWN + document_rows.AT_LIMITS), ("show --conflicts", document_rows.TOLD)):
         for name, text, output in told:
@@ -239,7 +239,7 @@ def document_calls():
         yield called(name, "show", [text], refusal("input 1: " + said))
 
 
-def exchange_calls():
+def exchange_rows_called():
     """The rows of several inputs."""
     for name, inputs, output in exchange_rows.JOINED:
         for ordered in sorted(set(itertools.permutations(inputs))):
@@ -252,8 +252,8 @@ def exchange_calls():
         yield called(name, command, inputs, refusal(said))
 
 
-def rows():
-    """Each row's name, words, files as text, and answer."""
+def file_rows():
+    """Each row of this file: its name, words, files as text, and answer."""
     for name, command, source, by, output in WRITTEN:
         yield called(name, command, [source] + ([by] if by else []), Answer(0, output.encode(), b""))
     for name, source, by, said in REFUSED:
@@ -264,16 +264,26 @@ def rows():
         yield called(name, words, [file], Answer(0, output.encode(), b""))
     for name, words, file, status, said in RULE_REFUSED:
         yield called(name, words, [file], refusal(said, status))
-    yield from document_calls()
-    yield from exchange_calls()
     for sites, lines, wanted in rehearsal_rows():
         yield called("rehearsal of " + "; ".join(lines), "rehearse g %d" % sites, ["\n".join(lines)], wanted)
 
 
-def calls():
-    """Each row's name, words, files and answer."""
-    for name, words, texts, wanted in rows():
+def all_rows():
+    """The rows of this file, and those of documents and of several inputs."""
+    yield from file_rows()
+    yield from document_rows_called()
+    yield from exchange_rows_called()
+
+
+def with_bytes(rows):
+    """The rows, with their files as bytes."""
+    for name, words, texts, wanted in rows:
         yield name, words, {file: text.encode("utf-8", "surrogateescape") for file, text in texts.items()}, wanted
+
+
+def calls():
+    """The rows of this file: few enough for a command that isn't proved yet, which takes a while to start."""
+    return with_bytes(file_rows())
 
 
 def wrong_sizes():
@@ -285,7 +295,7 @@ def main():
     wrong, count = wrong_sizes(), len(SIZES)
     binaries = [os.path.abspath(binary) for binary in sys.argv[1:2]]
     rehearsing = [binary for binary in binaries if lists(binary, "rehearse")]
-    for name, words, files, wanted in calls():
+    for name, words, files, wanted in with_bytes(all_rows()):
         asked = rehearsing if words[0] == b"rehearse" else binaries
         got = [answer(words, files)] + [answered(binary, words, files) for binary in asked]
         if not all(alike(wanted, one) for one in got):
