@@ -23,6 +23,6 @@ pub mod InventoryParts
 pub mod ExchangeWithin
 pub mod ExchangeLemmas
 pub mod ExchangeLaws
-pub mod InventoryRuns
+pub mod MadeByRuns
 pub mod TwoTexts
 pub mod RulingAdded

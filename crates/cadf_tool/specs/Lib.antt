@@ -9,7 +9,6 @@ pub mod InventoryInput
 pub mod Join
 pub mod Uniting
 pub mod WrittenFile
-pub mod JoinWrites
 pub mod Missing
 pub mod MissingBy
 pub mod Rule

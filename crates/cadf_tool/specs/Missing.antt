@@ -1,18 +1,14 @@
 -- What the missing part of one input against another is, as one function of what was loaded.
 --     missing_of from to       what TO lacks of FROM, under their log, or why there is no such part
---     BothLoaded .. P          both sources were loaded, and P holds of what they are
 --     part_of both             the same of a pair, FROM first
-use Rattle.std.specs.Prelude.{◌≡◌, ℕ, List, if◌then◌else◌, Option, Some, None, Result, Ok, Err}
-use Rattle.std.specs.Io.KnownBytes.{Appends}
+use Rattle.std.specs.Prelude.{if◌then◌else◌, Option, Some, None, Result, Ok, Err}
 use Rattle.cadf_join.specs.Contents.{Text, Contents}
 use Rattle.cadf_replica.specs.Missing.{missing}
 use Rattle.cadf_replica.specs.Replica.{Held}
-use Rattle.cadf_tool.specs.WrittenFile.{file}
 use Rattle.cadf_tool.specs.declared.input.Loaded.{Loaded}
 use Rattle.cadf_tool.specs.declared.fault.ToolFault.{ToolFault}
 use Rattle.cadf_tool.specs.declared.fault.ToolFault.TheVariants.{NoLog, OtherLog}
 use Rattle.cadf_tool.specs.Told.{log_named, atoms_loaded}
-use Rattle.cadf_tool.specs.Inputs.{Seen, IsLoadedAs}
 use Rattle.cadf_tool.specs.Join.{is_other}
 
 -- atoms under the log of FROM, where both inputs name a log, and it is one
@@ -27,14 +23,3 @@ missing_of from to = under_one_log (log_named from) (log_named to) (missing (ato
 
 abbrev pub part_of : Loaded × Loaded → Result Held ToolFault
 part_of both = missing_of both.0 both.1
-
--- two sources, before and after
-abbrev pub BothLoaded : (from to from_after to_after : Seen) → (Loaded → Loaded → Type 0) → Type 0
-BothLoaded from to from_after to_after P =
-    (one : Loaded) × (other : Loaded) × IsLoadedAs from from_after one × IsLoadedAs to to_after other × P one other
-
--- the file of the missing part was written, and nothing else
-pub record WritesMissing (before after : Option (List ℕ)) (from to : Loaded) : Type 0 where
-  pub held : Held
-  pub missing : missing_of from to ≡ Ok held
-  pub written : Appends before after (file held)

@@ -3,23 +3,17 @@
 --     missing_by_of from noted       the atoms of FROM whose digest isn't noted, under their log, or why there is no such part
 --     part_by both                   the same of both
 --     IsInventoryInput limit b n     the bytes are the file of this inventory, within the limit
---     IsNotedAs old new noted        a source was read as this inventory
 use Rattle.std.specs.Prelude.{◌≡◌, ◌≤◌, ℕ, List, length, Option, Some, None, Result, Ok, Err}
-use Rattle.std.specs.Io.KnownBytes.{Appends}
 use Rattle.cadf_join.specs.Contents.{Text}
 use Rattle.cadf_replica.specs.Digest.{atom_digest}
 use Rattle.cadf_replica.specs.Inventory.{Noted}
 use Rattle.cadf_replica.specs.Missing.{Digests, digests_of, missing_by}
 use Rattle.cadf_replica.specs.Replica.{Held}
-use Rattle.cadf_tool.specs.WrittenFile.{file}
 use Rattle.cadf_file.specs.InventoryFile.{inventory_file, IsInventory}
-use Rattle.cadf_tool.specs.declared.TheConstants.{FILE_LIMIT}
 use Rattle.cadf_tool.specs.declared.input.Loaded.{Loaded}
 use Rattle.cadf_tool.specs.declared.fault.ToolFault.{ToolFault}
 use Rattle.cadf_tool.specs.declared.fault.ToolFault.TheVariants.{NoLog}
-use Rattle.cadf_tool.specs.Input.{GivesAll}
 use Rattle.cadf_tool.specs.Told.{log_named, atoms_loaded}
-use Rattle.cadf_tool.specs.Inputs.{Seen}
 use Rattle.cadf_tool.specs.Missing.{under_one_log}
 
 -- digests under a log, where it is named
@@ -43,19 +37,3 @@ pub record IsInventoryInput (limit : ℕ) (bytes : List ℕ) (noted : Noted) : T
   pub is : bytes ≡ inventory_file noted
   pub within : length bytes ≤ limit
   pub inventory : IsInventory noted
-
--- a source was read as this inventory, and no read of it failed
-abbrev pub IsNotedAs : Seen → Seen → Noted → Type 0
-IsNotedAs old new noted = GivesAll old.left new.left (λ bytes. IsInventoryInput FILE_LIMIT bytes noted) × (new.failures ≡ old.failures)
-
--- the file of the inventory was written, and nothing else
-pub record WritesInventory (before after : Option (List ℕ)) (loaded : Loaded) : Type 0 where
-  pub noted : Noted
-  pub inventory : noted_of loaded ≡ Ok noted
-  pub written : Appends before after (inventory_file noted)
-
--- the file of the missing part was written, and nothing else
-pub record WritesMissingBy (before after : Option (List ℕ)) (from : Loaded) (noted : Noted) : Type 0 where
-  pub held : Held
-  pub missing : missing_by_of from noted ≡ Ok held
-  pub written : Appends before after (file held)

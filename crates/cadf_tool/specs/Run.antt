@@ -4,7 +4,7 @@
 --     IsWritten sink old new text r     the text was written whole, or a front of it
 --     IsRun sources work tell sink old new r     the run, and its answer
 -- A source is refused before the work is begun, and what is written begins when the work is done.
-use Rattle.std.specs.Prelude.{◌≡◌, ◌≤◌, ◌+◌, ◌⊎◌, ℕ, List, map, Result, Ok, Err, OnOk, OnErr, IfErr}
+use Rattle.std.specs.Prelude.{◌≡◌, ◌≤◌, ◌+◌, ◌⊎◌, ℕ, List, [], ◌∷◌, map, length, take, drop, Result, Ok, Err, OnOk, OnErr, IfErr}
 use Rattle.std.specs.Io.KnownBytes.{Appends}
 use Rattle.cadf_json.specs.declared.stream.Source.{Ghosts as Source}
 use Rattle.cadf_json.specs.declared.stream.Sink.{Ghosts as Sink}
@@ -17,7 +17,7 @@ use Rattle.cadf_tool.specs.declared.fault.ToolFault.{ToolFault}
 use Rattle.cadf_tool.specs.declared.fault.ToolFault.TheVariants.{WriteFault, Memory}
 use Rattle.cadf_tool.specs.Input.{GivesAll, IsInputWithin}
 use Rattle.cadf_tool.specs.Faults.{of_load, is_write_fault, Stage, Reading, Working, Writing, Starving, stage_of}
-use Rattle.cadf_tool.specs.Inputs.{Seen, seen, AreLoaded, NoneFailed, IsRefusedWithin, IsRefusedAt, AreReadWithin}
+use Rattle.cadf_tool.specs.Inputs.{Seen, seen, NoneFailed, IsRefusedWithin, IsRefusedAs, AreReadWithin}
 
 -- ---- sources
 
@@ -87,7 +87,30 @@ two {T} reader t other u = record {
   bounded = IsReadWithin reader.limit t × IsReadWithin other.limit u;
 }
 
--- inputs in a list
+-- ---- inputs in a list
+
+-- each source was read as the input that stands in its place
+abbrev pub AreLoaded : List Seen → List Seen → List Loaded → Type 0
+AreLoaded [] [] [] = Unit {0}
+AreLoaded [] [] (l ∷ ls) = ⊥
+AreLoaded [] (n ∷ ns) ls = ⊥
+AreLoaded (o ∷ os) [] ls = ⊥
+AreLoaded (o ∷ os) (n ∷ ns) [] = ⊥
+AreLoaded (o ∷ os) (n ∷ ns) (l ∷ ls) = IsReadAs as_input (record { old = o; new = n }) l × AreLoaded os ns ls
+
+-- the first source was refused, and the others are as they were
+abbrev pub IsRefusedFirst : List Seen → List Seen → LoadFault → Type 0
+IsRefusedFirst [] ns f = ⊥
+IsRefusedFirst (o ∷ os) [] f = ⊥
+IsRefusedFirst (o ∷ os) (n ∷ ns) f = IsRefusedAs o n f × (ns ≡ os)
+
+-- the source of that number was refused, after those before it were read. Numbers count from 1
+pub record IsRefusedAt (old new : List Seen) (number : ℕ) (f : LoadFault) : Type 0 where
+  pub before : List Loaded
+  pub counted : number ≡ length before + 1
+  pub loaded : AreLoaded (take (length before) old) (take (length before) new) before
+  pub refused : IsRefusedFirst (drop (length before) old) (drop (length before) new) f
+
 abbrev pub all : {S : Type 0} → Source S → List S → List S → Sources (List Loaded)
 all source old new = record {
   are = AreLoaded (map (seen source) old) (map (seen source) new);

@@ -1,9 +1,7 @@
 -- What an engine with one input writes, as one function of the bytes of its input.
 --     log_named loaded, atoms_loaded loaded     the log that an input names, and the atoms that it contributes
 --     IsHeld bytes h                        the bytes are an input that names a log, and h is this log and the input's atoms
---     WritesTold tell before after bytes    what `tell` makes of them was written
 use Rattle.std.specs.Prelude.{◌≡◌, List, ℕ, Option, Some, None, Result, Ok, Err}
-use Rattle.std.specs.Io.KnownBytes.{Appends}
 use Rattle.cadf_join.specs.Contents.{Text, Contents}
 use Rattle.cadf_replica.specs.Contributions.{document_atoms}
 use Rattle.cadf_replica.specs.Replica.{Held}
@@ -36,7 +34,3 @@ pub record IsHeld (bytes : List ℕ) (h : Held) : Type 0 where
   pub input : IsInput bytes loaded
   pub named : log_named loaded ≡ Some h.log
   pub atoms : h.atoms ≡ atoms_loaded loaded
-
--- the text of the bytes was written, and nothing else
-abbrev pub WritesTold : (Held → Text) → Option (List ℕ) → Option (List ℕ) → List ℕ → Type 0
-WritesTold tell before after bytes = (h : Held) × (IsHeld bytes h × Appends before after (tell h))
