@@ -278,8 +278,8 @@ def rehearsal_rows():
         yield sites, lines, Answer(1, b"", ("cadf: %s\n" % said).encode())
 
 
-def calls():
-    """Each row's name, words, files and answer."""
+def rows():
+    """Each row's name, words, files as text, and answer."""
     for name, command, source, by, output in WRITTEN:
         words = [command.encode(), b"from"] + ([b"by"] if by else [])
         yield name, words, {b"from": source, b"by": by or ""}, Answer(0, output.encode(), b"")
@@ -297,13 +297,22 @@ def calls():
         yield "rehearsal of " + "; ".join(lines), words, {b"script": "\n".join(lines)}, wanted
 
 
+def calls():
+    """Each row's name, words, files and answer."""
+    for name, words, texts, wanted in rows():
+        yield name, words, {file: text.encode() for file, text in texts.items()}, wanted
+
+
+def wrong_sizes():
+    """The texts that have another number of bytes."""
+    return ["the size of %.40s" % text for text, size in SIZES if len(text.encode()) != size]
+
+
 def main():
-    wrong = [("the size of %.40s" % text) for text, size in SIZES if len(text.encode()) != size]
-    count = len(SIZES)
+    wrong, count = wrong_sizes(), len(SIZES)
     binaries = [os.path.abspath(binary) for binary in sys.argv[1:2]]
     rehearsing = [binary for binary in binaries if lists(binary, "rehearse")]
-    for name, words, texts, wanted in calls():
-        files = {file: text.encode() for file, text in texts.items()}
+    for name, words, files, wanted in calls():
         asked = rehearsing if words[0] == b"rehearse" else binaries
         got = [answer(words, files)] + [answered(binary, words, files) for binary in asked]
         if not all(alike(wanted, one) for one in got):

@@ -8,12 +8,12 @@ A line of calls.txt is a call's words, ` -> `, and the file that it writes, or i
 writes are made too: those of format 1, and those of format 2 with wrong nodes.
 """
 import os
-import subprocess
 import sys
 
 sys.dont_write_bytecode = True
 
-from command import answer
+from command import Answer, answer
+from compare import alike, answered
 from json_text import spelled
 from replica_files import FIRST_LINES, file_of, read_file
 from sealed_files import head, sealed
@@ -53,33 +53,25 @@ def read(name):
         return file.read()
 
 
-def calls():
+def told():
     """Each call's words with what it writes: the name of a file, or a fault's line."""
     for line in read("calls.txt").decode().split("\n"):
         if line and not line.startswith("#"):
-            words, _, told = line.partition(" -> ")
-            yield words.split(" "), told
+            words, _, written = line.partition(" -> ")
+            yield words.split(" "), written
 
 
-def by_hand(words):
-    """The second implementation's status, output and line."""
-    files = {name.encode(): read(name) for name in os.listdir(FOLDER)}
-    told = answer([word.encode() for word in words], files)
-    return told.status, told.output, told.error
+def named(words):
+    """The files that the words name."""
+    return {word.encode(): read(word) for word in words if os.path.exists(os.path.join(FOLDER, word))}
 
 
-def by_command(binary, words):
-    """The same of the command."""
-    done = subprocess.run([os.path.abspath(binary)] + words, cwd=FOLDER, stdin=subprocess.DEVNULL, capture_output=True)
-    return done.returncode, done.stdout, done.stderr
-
-
-def as_told(words, told, answered):
-    """Whether a call was answered as calls.txt says."""
-    status, output, error = answered
-    if told.startswith("cadf: "):
-        return status == 1 and output == b"" and error == told.encode() + b"\n"
-    return status == 0 and output == read(told)
+def calls():
+    """Each call's name, words, files and answer."""
+    for words, written in told():
+        fault = written.startswith("cadf: ")
+        wanted = Answer(1, b"", written.encode() + b"\n") if fault else Answer(0, read(written), b"")
+        yield " ".join(words), [word.encode() for word in words], named(words), wanted
 
 
 def put(name, content):
@@ -92,20 +84,20 @@ def make():
     for name, lines in WRONG.items():
         texts = [line if isinstance(line, str) else spelled(line) for line in lines]
         put(name, sealed(head(FIRST_LINES[2], "g") + [text.encode() for text in texts]))
-    for words, told in calls():
-        if not told.startswith("cadf: "):
-            put(told, by_hand(words)[1])
-            for name in (name for name, other in OLD.items() if other == told):
-                put(name, file_of(*read_file(read(told)), version=1))
+    for words, written in told():
+        if not written.startswith("cadf: "):
+            put(written, answer([word.encode() for word in words], named(words)).output)
+            for name in (name for name, other in OLD.items() if other == written):
+                put(name, file_of(*read_file(read(written)), version=1))
 
 
 def check(binary):
     """Tries each call both ways; the number of calls."""
     count = 0
-    for words, told in calls():
-        for answered in (by_hand(words), by_command(binary, words)):
-            if not as_told(words, told, answered):
-                sys.exit("vectors: %s: %r" % (" ".join(words), answered))
+    for name, words, files, wanted in calls():
+        for got in (answer(words, files), answered(binary, words, files)):
+            if not alike(wanted, got):
+                sys.exit("vectors: %s: status %s, %r, %r" % (name, got.status, got.output, got.error))
         count += 1
     print("vectors: %d calls, as told" % count)
 
@@ -114,4 +106,4 @@ if __name__ == "__main__":
     if sys.argv[1:] == ["--make"]:
         make()
     else:
-        check(sys.argv[1])
+        check(os.path.abspath(sys.argv[1]))
