@@ -16,8 +16,10 @@ import argparse
 import collections
 import datetime
 import json
+import logging
 import os
 import re
+import shutil
 import subprocess
 import sys
 import tempfile
@@ -50,12 +52,15 @@ def by_month(names):
     """The log of the documents, and their events by month."""
     log, events = None, collections.defaultdict(list)
     for name in names:
-        document = read(name)
+        try:
+            document = read(name)
+            for event in document["events"]:
+                events[month(event)].append(event)
+        except (AttributeError, KeyError, TypeError, ValueError) as fault:
+            raise ValueError("%s: no document with times: %r" % (name, fault))
         if log not in (None, document["id"]) or set(document) - {"id", "typeURI", "events"}:
             raise ValueError("%s: another log, or more than events" % name)
         log = document["id"]
-        for event in document["events"]:
-            events[month(event)].append(event)
     return log, events
 
 
@@ -63,7 +68,9 @@ def put(cadf, names, target):
     """Joins files into the target, which is put there whole. Returns its name."""
     with tempfile.NamedTemporaryFile(dir=os.path.dirname(target), delete=False) as output:
         try:
-            subprocess.run([cadf, "join", "--", *names], stdout=output, check=True)
+            joined = subprocess.run([cadf, "join", "--", *names], stdout=output, stderr=subprocess.PIPE)
+            if joined.returncode:
+                raise ValueError("%s, one of %s to %s" % (joined.stderr.decode().strip(), names[0], names[-1]))
             os.replace(output.name, target)
         except BaseException:
             os.unlink(output.name)
@@ -143,12 +150,18 @@ def main():
     parser.add_argument("documents", nargs="+", metavar="DOCUMENT")
     options = parser.parse_args()
     from distributed import Client
-    cadf = os.environ.get("CADF") or "cadf"
-    where = {"n_workers": options.workers, "threads_per_worker": 1, "dashboard_address": None}
+    cadf = shutil.which(os.environ.get("CADF") or "cadf")
+    if cadf is None:
+        sys.exit("join-many: no cadf")
+    where = {"n_workers": options.workers, "threads_per_worker": 1, "dashboard_address": None, "silence_logs": logging.CRITICAL}
     names = [os.path.abspath(name) for name in options.documents]
+    logging.getLogger("distributed").setLevel(logging.CRITICAL)
     with Client(options.scheduler) if options.scheduler else Client(**where) as client:
-        for log, name in join_many(client, cadf, names, os.path.abspath(options.out), options.fan, shown).items():
-            print(log, name)
+        try:
+            for log, name in join_many(client, cadf, names, os.path.abspath(options.out), options.fan, shown).items():
+                print(log, name)
+        except (OSError, ValueError) as fault:
+            sys.exit("join-many: %s" % fault)
 
 
 if __name__ == "__main__":
