@@ -106,7 +106,7 @@ def done(client, what, calls, progress):
     futures = [client.submit(*call, pure=False) for call in calls]
     for number, _ in enumerate(as_completed(futures), 1):
         progress(what, number, len(futures))
-    return [future.result() for future in futures]
+    return client.gather(futures)
 
 
 def next_level(client, cadf, files, folder, level, fan, progress):
@@ -149,7 +149,9 @@ def main():
     parser.add_argument("--out", required=True, metavar="FOLDER")
     parser.add_argument("documents", nargs="+", metavar="DOCUMENT")
     options = parser.parse_args()
+    import dask
     from distributed import Client
+    dask.config.set({"distributed.comm.timeouts.connect": "5s"})  # for a dead worker that is still asked for a result
     cadf = shutil.which(os.environ.get("CADF") or "cadf")
     if cadf is None:
         sys.exit("join-many: no cadf")
