@@ -1,5 +1,5 @@
 #!/usr/bin/env python3
-"""Events of a real Keystone, from its bootstrap and its API to a log. On demand: it takes half a minute.
+"""Events of a real Keystone, from its bootstrap and its API to a log. On demand: it takes 15 seconds.
 
     examples/real-keystone.py [CADF]
 
