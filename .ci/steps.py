@@ -41,7 +41,11 @@ STAGES = [
         "limits": ".ci/limits",
         "compare": "differential/compare.py",
         "drivers": "differential/calls.py",
-        "documented": ".ci/documented README.md docs/GUIDE.md",
+        "documented": ".ci/documented README.md docs/GUIDE.md docs/OPENSTACK.md",
+        "openstack": ".ci/from-openstack",
+        "sites": ".ci/sites",
+        "week": "examples/week.sh",
+        "join-many": ".ci/join-many",
         "many-sites": "examples/many-sites.py",
         "parcelled": "examples/parcelled.py",
         "statuses": ".ci/statuses",
@@ -49,6 +53,7 @@ STAGES = [
         "vectors": "differential/vectors.py " + CADF,
         "two-sites": "examples/two-sites.sh",
         "real-pycadf": "examples/real-pycadf.py",
+        "producers": "examples/real-producers.py",
     }),
 ]
 
