@@ -45,6 +45,7 @@ fn known() {
     laws::steps_are_of_events();
     laws::attachments_are_of_events();
     laws::bodies_have_nothing_apart();
+    laws::name_law();
     laws::one_event_fault();
     laws::one_entity_fault();
     laws::one_property_fault();

@@ -19,7 +19,6 @@ pub(crate) fn hold() {
     replicas::replicas_converge();
     replicas::nothing_disappears();
     replicas::line_law();
-    replicas::name_law();
     replicas::rules_law();
     replicas::contributions_are_grounded();
     schedules::answers_cover_their_senders();
