@@ -3,7 +3,7 @@
 
     differential/calls.py [NUMBER [SEED]]
 
-Generates NUMBER calls (5,000) by SEED (1): of values, times, names, documents, files, inventories, the two texts, atoms,
+Generates NUMBER calls (6,000) by SEED (1): of values, times, names, documents, files, inventories, the two texts, atoms,
 replicas, rulings, scripts, schedules and engines. They are handed to the built drivers crates/json_calls, event_calls,
 file_calls, log_calls, replica_calls and engine_calls. Compared are values by their canonical texts, times by their instants
 and spellings, documents by their log, their atoms and the instants of their events, or by what their fault is shown as; all
@@ -163,7 +163,7 @@ KINDS = [values, canonical, texts, times, names, documents, documents, *FILE_KIN
 
 
 def main():
-    number, seed = (int(word) for word in (sys.argv[1:] + ["5000", "1"][len(sys.argv) - 1:]))
+    number, seed = (int(word) for word in (sys.argv[1:] + ["6000", "1"][len(sys.argv) - 1:]))
     chance, asked = random.Random(seed), collections.defaultdict(list)
     for _ in range(number):
         kind = chance.choice(KINDS)

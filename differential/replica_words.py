@@ -4,13 +4,14 @@ A replica, or an inventory, is one word: its log, and behind it a line for each 
 function makes the words of one call or of several that take the same.
 """
 from atoms import RULING, is_atom, is_on_a_carrier
+from events import NO_PROPERTY
 from file_answers import line_of
 from generate import nearly, some_digests
 from inventory_files import digest_of
-from odd_files import (DIGITS, ODD_LISTS, ODD_LOG_LINES, atoms_of, damaged, documents_told, grounded_part, some_carrier,
-                       with_rulings)
+from odd_files import (DIGITS, ODD_LISTS, ODD_LOG_LINES, STEP, atoms_of, damaged, documents_told, grounded_part,
+                       some_carrier, with_rulings)
 from odd_nodes import ELEMENTS
-from odd_values import any_value, nested, odd_name
+from odd_values import any_value, good_name, nested, odd_name
 from rulings import digest_of_value
 from schedules import script
 from shown_texts import values_by_key
@@ -23,11 +24,14 @@ def spelled_set(log, lines):
 
 
 def some_atoms(chance):
-    return with_rulings(chance, atoms_of(documents_told(chance)))
+    """A set of atoms, sometimes with properties whose names tell one order from another."""
+    atoms = with_rulings(chance, atoms_of(documents_told(chance)))
+    names = [good_name(chance) for _ in range(chance.choice([0, 0, 5]))]
+    return atoms | {("P", name, "1") for name in names}
 
 
 def some_log(chance):
-    return chance.choice(["g"] * 12 + ["h"])
+    return chance.choice(["g"] * 7 + ["h"])
 
 
 def word_of(chance, atoms, log="g"):
@@ -37,18 +41,19 @@ def word_of(chance, atoms, log="g"):
     return spelled_set(log, map(line_of, sorted(lines, key=is_on_a_carrier)))
 
 
-def deep_list(chance):
-    """A list of texts that is an atom where its value doesn't nest too deep."""
-    deep = nested(chance, chance.choice([98, 99, 100, 101])).data.decode()
+def list_at_a_limit(chance):
+    """A list of texts that is an atom where it nests not too deep, and its chain is not too long."""
+    deep, deeper = (nested(chance, chance.choice([least, least + 1])).data.decode() for least in (99, 100))
     return chance.choice([
-        ["P", "n", deep], ["R", "a", '{"d":%s,"id":"a"}' % deep], some_carrier(chance) + ["A", '{"d":%s}' % deep],
-        some_carrier(chance) + ["C", '{"d":%s,"reporterId":"s","role":"relay"}' % deep]])
+        ["P", "n", deeper], ["R", "a", '{"d":%s,"id":"a"}' % deep], some_carrier(chance) + ["A", '{"d":%s}' % deep],
+        some_carrier(chance) + ["C", '{"d":%s,"reporterId":"s","role":"relay"}' % deep],
+        some_carrier(chance) + ["C"] + [STEP] * chance.choice([256, 257])])
 
 
 def odd_list(chance):
     """A list of texts that is an atom, or nearly one."""
-    if chance.random() < 0.1:
-        return deep_list(chance)
+    if chance.random() < 0.2:
+        return list_at_a_limit(chance)
     found = chance.choice(chance.choice(ODD_LISTS)(chance, some_carrier(chance)))
     return found if isinstance(found, list) and all(isinstance(text, str) for text in found) else []
 
@@ -65,8 +70,18 @@ def odd_line(chance):
     return (damaged(chance, line, 1) if chance.random() < 0.2 else line).decode(errors="replace")
 
 
+def front(chance):
+    """A list of few texts, with which an atom may begin."""
+    letter = chance.choice([*"EEGMPPPR", "U", "X", "A", ""])
+    name = chance.choice(["e1", chance.choice(NO_PROPERTY), odd_name(chance)])
+    behind = some_carrier(chance) + [chance.choice([*"ACT", "X", ""])]
+    return chance.choice([[letter], [letter, name], [letter, name], ["U", letter], ["U", letter, name], behind])
+
+
 def some_path(chance):
     """A list of texts, perhaps cut, or with another text in it or behind it."""
+    if chance.random() < 0.5:
+        return front(chance)
     made = chance.choice([odd_list, lambda chance: list(some_atom(chance))])(chance)
     made = made[:chance.choice([len(made), len(made), chance.randint(0, len(made))])]
     if chance.random() < 0.3:
@@ -130,11 +145,14 @@ def letter_words(chance):
 
 
 def key_words(chance):
-    """A replica, a letter, and mostly the name of a key that is held, of a contested one where there are some."""
-    atoms = with_rulings(chance, some_atoms(chance))
-    values = sorted(values_by_key(atoms).items())
-    keys = [key for key, _ in values] or [("E", "e1")]
-    letter, name = chance.choice([key for key, found in values if len(found) > 1] * 3 + keys)
+    """A replica, a letter, and mostly the name of a key that is held, of a contested one where there are some.
+
+    Of its values none, one or more are ruled, or one that is not held."""
+    atoms = some_atoms(chance)
+    keys = sorted(values_by_key(atoms).items()) or [(("E", "e1"), [])]
+    (letter, name), values = chance.choice([one for one in keys if len(one[1]) > 1] * 3 + keys)
+    ruled = chance.choice([[], values[:1], values[-1:], [*values[:1], "{}"], values])
+    atoms |= {(RULING, letter, name, digest_of_value(text)) for text in ruled}
     if chance.random() < 0.2:
         letter, name = chance.choice(["U", "X", *"EGMPR"]), chance.choice([name, "", "e", name[:-1], name + "!", odd_name(chance)])
     return [word_of(chance, atoms), letter, name]
