@@ -3,11 +3,12 @@
 
     differential/calls.py [NUMBER [SEED]]
 
-Generates NUMBER calls (2,000) of values, times, names, documents, files, inventories and the two texts by SEED (1), hands
-them to the built drivers crates/json_calls, event_calls, file_calls and log_calls, and compares what they answer: values by
-their canonical texts, times by their instants and spellings, documents by their log, their atoms and the instants of their
-events, or by what their fault is shown as; files and texts by all fields. A reading of plain texts alone may leave a
-document to the other. The status is 1 where an answer differs; the call is then shown.
+Generates NUMBER calls (6,000) by SEED (1): of values, times, names, documents, files, inventories, the two texts, atoms,
+replicas, rulings, scripts, schedules and engines. They are handed to the built drivers crates/json_calls, event_calls,
+file_calls, log_calls, replica_calls and engine_calls. Compared are values by their canonical texts, times by their instants
+and spellings, documents by their log, their atoms and the instants of their events, or by what their fault is shown as; all
+others by all fields. A reading of plain texts alone may leave a document to the other. The status is 1 where an answer
+differs; the call is then shown.
 """
 import collections
 import os
@@ -23,11 +24,13 @@ sys.path.insert(0, os.path.join(TOP, "calls"))
 import odd_documents
 import odd_events
 from events import Fault, document, is_name
+from engine_answers import KINDS as ENGINE_KINDS
 from fields import line, read as fields_of
 from file_answers import KINDS as FILE_KINDS
 from generate import ODD_JSON, damaged
 from json_text import NotJson, NotWhole, quoted, read, read_canonical, spelled
 from odd_values import any_value, odd_name, time
+from replica_answers import KINDS as REPLICA_KINDS
 from spelling import spelled_oddly
 from times import time_of
 
@@ -156,11 +159,14 @@ def answers(driver, calls):
     return run.stdout.decode().split("\n")[:-1]
 
 
+KINDS = [values, canonical, texts, times, names, documents, documents, *FILE_KINDS, *REPLICA_KINDS, *ENGINE_KINDS]
+
+
 def main():
-    number, seed = (int(word) for word in (sys.argv[1:] + ["2000", "1"][len(sys.argv) - 1:]))
+    number, seed = (int(word) for word in (sys.argv[1:] + ["6000", "1"][len(sys.argv) - 1:]))
     chance, asked = random.Random(seed), collections.defaultdict(list)
     for _ in range(number):
-        kind = chance.choice([values, canonical, texts, times, names, documents, documents, *FILE_KINDS])
+        kind = chance.choice(KINDS)
         driver, words, wanted = kind(chance)
         asked[driver].append((line(words), wanted))
     wrong = 0

@@ -17,6 +17,7 @@ from shown_texts import conflict_text, log_text
 
 LIMIT = 1 << 30
 PIECE = 4096  # no read of a file asks for more
+MOST_PIECES = 300  # of a feed: each asks for the verdict on all bytes so far
 AT_THE_END = ("truncated", "trailing bytes")  # refusals that no line shows
 NAMES = {
     "version": "Version", "log line": "LogLine", "digest": "Digest", "truncated": "Truncated", "trailing bytes": "Trailing",
@@ -177,7 +178,7 @@ def rest_words(chance):
 
 def feed_words(chance):
     data = any_file(chance)
-    size = chance.choice([1, 2, 7, 64, 1000, PIECE]) if len(data) < 2000 else chance.choice([500, PIECE])
+    size = chance.choice([size for size in (1, 2, 7, 64, 1000, PIECE) if len(data) <= MOST_PIECES * size] or [PIECE])
     pieces = [data[at:at + size] for at in range(0, len(data), size)] + chance.choice([[], [], [b""], [b"x"], [b"\n", b"\n"]])
     return [min(any_limit(chance, data), LIMIT), chance.choice(["ended", "ended", "failed"]), *pieces]
 

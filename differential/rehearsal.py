@@ -98,14 +98,19 @@ class Rehearsal:
         self.sites[site] |= message.atoms
 
 
-def rehearsal_text(log, count, turns):
-    """For each site a line: how many atoms it holds, and the least site that holds the same."""
+def sites_after(log, count, turns):
+    """The set of each site after the turns."""
     rehearsal = Rehearsal(log, count)
     for number, turn in enumerate(turns, 1):
         try:
             rehearsal.take(*turn)
         except Fault as fault:
             raise Fault("line %d: %s" % (number, fault.said))
-    sites = rehearsal.sites
+    return rehearsal.sites
+
+
+def rehearsal_text(log, count, turns):
+    """For each site a line: how many atoms it holds, and the least site that holds the same."""
+    sites = sites_after(log, count, turns)
     return "".join("site %d atoms %d as %d\n" % (site, len(held), sites.index(held))
                    for site, held in enumerate(sites)).encode()
