@@ -193,7 +193,7 @@ def digest_words(chance):
 
 def ruling_words(chance):
     """A letter, a name and digits, perhaps with something odd in one of them or in all."""
-    return [chance.choice([*"EGMPR"] * 4 + ["U", "A", "e", "X", "", "EE"]),
+    return [chance.choice([*"EGMPR"] * 4 + ["U", "A", "e", "X", ""]),
             chance.choice(["e1", "id", "name", odd_name(chance)]),
             chance.choice([digest_of_value("1")] * 4 + DIGITS)]
 
