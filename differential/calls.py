@@ -5,7 +5,7 @@
 
 Generates NUMBER calls (6,000) by SEED (1): of values, times, names, documents, files, inventories, the two texts, atoms,
 replicas, rulings, scripts, schedules and engines. They are handed to the built drivers crates/json_calls, event_calls,
-file_calls, log_calls, replica_calls and engine_calls. Compared are values by their canonical texts, times by their instants
+file_calls, replica_calls and engine_calls. Compared are values by their canonical texts, times by their instants
 and spellings, documents by their log, their atoms and the instants of their events, or by what their fault is shown as; all
 others by all fields. A reading of plain texts alone may leave a document to the other. The status is 1 where an answer
 differs; the call is then shown.

@@ -1,4 +1,4 @@
-"""What the programs file_calls and log_calls answer: calls by chance, and their answers by the second implementation.
+"""What the program file_calls answers: calls by chance, and their answers by the second implementation.
 
 A word of a call or a field of an answer is a text, bytes or a number. Each of `KINDS` makes a driver's name, a call with
 its words and the fields of its answer.
@@ -230,6 +230,6 @@ KINDS = [
     kind("file_calls", "write", file_words, write_replica),
     kind("file_calls", "read_inventory", reading_words(any_inventory), read_digests),
     kind("file_calls", "write_inventory", digest_words, write_digests),
-    kind("log_calls", "write_log", text_words, write_log),
-    kind("log_calls", "write_conflicts", text_words, write_conflicts),
+    kind("file_calls", "write_log", text_words, write_log),
+    kind("file_calls", "write_conflicts", text_words, write_conflicts),
 ]

@@ -1,4 +1,4 @@
-//! Calls of replica files and inventory files. Each line of standard input is a call's name and its words between
+//! Calls of replica files, of inventory files and of the two texts. Each line of standard input is a call's name and its words between
 //! tabs; what the call answers is a line of standard output.
 #![tactic(auto)]
 
@@ -9,6 +9,7 @@ mod reads;
 mod replicas;
 mod streams;
 mod sweeps;
+mod texts;
 mod writes;
 
 use cadf_json::Memory;
@@ -28,6 +29,7 @@ fn answered(alloc: Global, call: &Call) -> Result<String, Memory> {
         "read_rest" => feeds::read_rest_of(alloc, call),
         "read_inventory" => inventories::read(alloc, call),
         "write_inventory" => inventories::write(alloc, call),
+        "write_log" | "write_conflicts" => texts::write(alloc, call),
         "fault_text" => faults::fault_text(alloc, call),
         _ => calls::answer(alloc, "no such call", &[]),
     }
