@@ -5,8 +5,8 @@ use crate::words::Words;
 use cadf_event::Name;
 use cadf_json::{MemorySink, MemorySource};
 use cadf_tool::{
-    Metered, ToolFault, run_check, run_inventory, run_join, run_missing, run_missing_by, run_rehearse,
-    run_rule, run_show, status,
+    Metered, ToolFault, run_check, run_inventory, run_join, run_missing, run_missing_by,
+    run_rehearse, run_rule, run_show, status,
 };
 use calls::{push, push_number, refused};
 use std::alloc::{AllocError as Memory, Global};
