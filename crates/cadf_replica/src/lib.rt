@@ -2,7 +2,6 @@
 #![tactic(auto)]
 
 mod atom;
-mod atom_set;
 mod by_body;
 mod carrier;
 mod gathering;
