@@ -9,6 +9,8 @@ import os
 import re
 import sys
 
+import reachable
+
 TOP = os.path.dirname(os.path.dirname(os.path.abspath(__file__)))
 
 # A line of the list of public calls: the crate and whether its calls take memory, or what no row makes.
@@ -34,11 +36,10 @@ def does_nothing(function):
 
 
 def blocks(folder):
-    """The blocks of a crate's sources, each with the name of its module: a function, or a type's functions."""
+    """The blocks of a crate's sources: a function, or a type's functions."""
     for path in glob.glob(os.path.join(folder, "**", "*.rt"), recursive=True):
         with open(path, encoding="utf-8") as file:
-            for block in re.split(r"(?m)^(?=\S.*[{(]$|impl|pub |fn )", file.read()):
-                yield os.path.basename(path)[:-3], block
+            yield from re.split(r"(?m)^(?=\S.*[{(]$|impl|pub |fn )", file.read())
 
 
 def calls_of(owner, block):
@@ -52,13 +53,12 @@ def calls_of(owner, block):
 def public(crate):
     """The public calls of a crate, as the list names them, but for those that do nothing."""
     folder = os.path.join(TOP, "crates", crate, "src")
-    with open(os.path.join(folder, "lib.rt"), encoding="utf-8") as file:
-        shown = set(re.findall(r"\w+", " ".join(re.findall(r"pub (?:use|mod|trait) [^;{]*(?:\{[^}]*\})?", file.read()))))
-    for module, block in blocks(folder):
+    shown = {name.split("::")[-1] for name, _, _ in reachable.items(crate)}
+    for block in blocks(folder):
         owner, function = OWNER.match(block), re.match(r"pub fn (\w+)", block)
         if owner and owner.group(1) in shown:
             yield from calls_of(owner.group(1), block)
-        elif function and {function.group(1), module} & shown and not does_nothing(block):
+        elif function and function.group(1) in shown and not does_nothing(block):
             yield function.group(1)
 
 
