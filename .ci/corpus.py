@@ -118,6 +118,8 @@ def body_of(lines, at, indent):
     """Returns the first and last line of the body of the function that begins at a line; None if it has none."""
     for first in range(at, len(lines)):
         line = lines[first]
+        if line and not line.startswith(indent):
+            return None
         same = line.startswith(indent) and not line.startswith(indent + " ")
         if same and line.endswith("{"):
             return first, lines.index(indent + "}", first)
