@@ -15,6 +15,7 @@ text after `+` replaces it; an empty one deletes it. After `=` comes the verdict
 """
 import glob
 import hashlib
+import itertools
 import os
 import re
 
@@ -118,6 +119,8 @@ def body_of(lines, at, indent):
     """Returns the first and last line of the body of the function that begins at a line; None if it has none."""
     for first in range(at, len(lines)):
         line = lines[first]
+        if line and not line.startswith(indent):
+            return None
         same = line.startswith(indent) and not line.startswith(indent + " ")
         if same and line.endswith("{"):
             return first, lines.index(indent + "}", first)
@@ -155,15 +158,18 @@ def places(row):
     return found
 
 
+def attributes(row):
+    """Lists the attributes above the row's function, the nearest first."""
+    above = source(row).split("\n")[:places(row)[0][2] - 1]
+    return list(itertools.takewhile(lambda line: line.lstrip().startswith("#["), reversed(above)))
+
+
 def proof_of(row):
     """Returns whose proof is the row's: the function itself, or the one that names its cycle of calls."""
-    lines = source(row).split("\n")
-    at = places(row)[0][2] - 2
-    while at >= 0 and lines[at].lstrip().startswith("#["):
-        cycle = CYCLE.match(lines[at])
+    for attribute in attributes(row):
+        cycle = CYCLE.match(attribute)
         if cycle:
             return "::".join(row.name().split("::")[:-1] + [cycle.group(1)])
-        at -= 1
     return row.name()
 
 
