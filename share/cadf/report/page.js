@@ -108,6 +108,7 @@ function wire() {
   });
   addEventListener("beforeprint", () => print(true));
   addEventListener("afterprint", () => print(false));
+  addEventListener("resize", calmed(() => { drawTimeline(); }));
   timelinePointer();
 }
 

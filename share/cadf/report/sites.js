@@ -19,16 +19,16 @@ function lackTimeline(facts) {
   const drawn = frameOf(first, Math.max(last, first + 10000)), count = Math.round((drawn.until - drawn.from) / drawn.step);
   const bins = SIDES.map(() => new Int32Array(count));
   for (const {side, time} of facts) if (!Number.isNaN(time)) bins[side][Math.floor((time - drawn.from) / drawn.step)]++;
-  const most = Math.max(...bins[0], ...bins[1]), width = WIDE / count;
+  const most = Math.max(...bins[0], ...bins[1]), width = wide / count;
   const named = `Facts of events by time, ${span(drawn.from, drawn.until)} UTC: at most ${counted(most)} in ${length(drawn.step)}`;
-  const picture = draw("svg", {viewBox: `0 0 ${WIDE} ${LACK_HIGH}`, role: "img", "aria-label": named});
+  const picture = draw("svg", {viewBox: `0 0 ${wide} ${LACK_HIGH}`, role: "img", "aria-label": named});
   bins.forEach((counts, side) => counts.forEach((number, at) => {
     if (!number) return;
     const height = Math.max(1.5, number / most * (LACK_BASE - 4)), from = drawn.from + at * drawn.step;
     const box = {class: "lack" + side, x: at * width + 0.4, y: side ? LACK_BASE : LACK_BASE - height, width: Math.max(1, width - 0.8), height};
     picture.append(draw("rect", box, draw("title", {}, `${span(from, from + drawn.step)}\n${counted(number)} ${SIDES[side]}`)));
   }));
-  picture.append(draw("line", {class: "ground", x1: 0, x2: WIDE, y1: LACK_BASE, y2: LACK_BASE}), axis(drawn, LACK_HIGH - 17));
+  picture.append(draw("line", {class: "ground", x1: 0, x2: wide, y1: LACK_BASE, y2: LACK_BASE}), axis(drawn, LACK_HIGH - 17));
   return make("figure", {class: "lacks"}, picture, make("figcaption", {class: "minor"}, make("span", {class: "chip lack0"}), " above: these files lack it; ",
     make("span", {class: "chip lack1"}), " below: the other site lacks it. " + named));
 }

@@ -5,12 +5,13 @@ const multiples = (unit, ...counts) => counts.map(count => count * unit);
 const STEPS = [...multiples(1, 1, 2, 5, 10, 20, 50, 100, 200, 500), ...multiples(SECOND, 1, 2, 5, 10, 30),
   ...multiples(MINUTE, 1, 2, 5, 10, 30), ...multiples(HOUR, 1, 2, 3, 6, 12), ...multiples(DAY, 1, 2, 7),
   ...multiples(YEAR, 1 / 12, 1 / 4, 1, 2, 5, 10, 50, 100, 500, 1000)];
-const WIDE = 1200, HIGH = 124, BASE = 104, TOP = 15, BINS = 150;
+const HIGH = 124, BASE = 104, TOP = 15;
+let wide = 1200;   // of the drawing, in pixels
 const timeline = {from: 0, until: 1, step: 1e3, bins: [], anchor: null, cursor: null};
 
 /** Returns the round borders between which a span of time is drawn, and the step of a bin. */
 function frameOf(first, last) {
-  const step = STEPS.find(each => (last - first) / each < BINS) || STEPS[STEPS.length - 1];
+  const step = STEPS.find(each => (last - first) / each < wide / 8) || STEPS[STEPS.length - 1];
   const from = Math.floor(first / step) * step;
   return {from, until: Math.max(from + step, (Math.floor(last / step) + 1) * step), step};
 }
@@ -81,12 +82,12 @@ function contestedStrip(width) {
 /** Draws the labels of a frame below its bars. */
 function axis({from, until}, base) {
   const group = draw("g", {class: "axis"});
-  const every = STEPS.find(step => (until - from) / step <= 10) || STEPS[STEPS.length - 1];
+  const every = STEPS.find(step => (until - from) / step <= wide / 120) || STEPS[STEPS.length - 1];
   let before = null;
   for (let time = Math.ceil(from / every) * every; time < until; time += every) {
-    const x = (time - from) / (until - from) * WIDE;
+    const x = (time - from) / (until - from) * wide;
     group.append(draw("line", {x1: x, x2: x, y1: base, y2: base + 16}));
-    if (x < WIDE - 70) group.append(draw("text", {x: x + 3, y: base + 16}, label(time, before, every)));
+    if (x < wide - 70) group.append(draw("text", {x: x + 3, y: base + 16}, label(time, before, every)));
     before = time;
   }
   return group;
@@ -94,15 +95,16 @@ function axis({from, until}, base) {
 
 /** Draws the timeline again. */
 function drawTimeline() {
+  wide = id("histogram").clientWidth || wide;
   timeline.bins = binned();
-  const most = Math.max(1, ...timeline.bins.map(total)), width = WIDE / timeline.bins.length;
-  const picture = draw("svg", {viewBox: `0 0 ${WIDE} ${HIGH}`, "aria-hidden": "true"});
+  const most = Math.max(1, ...timeline.bins.map(total)), width = wide / timeline.bins.length;
+  const picture = draw("svg", {viewBox: `0 0 ${wide} ${HIGH}`, "aria-hidden": "true"});
   const front = Math.max(timeline.from, chosen.from), back = Math.min(timeline.until, chosen.until);
   if (chosen.from > -Infinity || chosen.until < Infinity) {
     const scale = time => (time - timeline.from) / timeline.step * width;
     picture.append(draw("rect", {class: "range", x: scale(front), y: 0, width: Math.max(0, scale(back) - scale(front)), height: BASE}));
   }
-  picture.append(draw("line", {class: "ground", x1: 0, x2: WIDE, y1: BASE, y2: BASE}));
+  picture.append(draw("line", {class: "ground", x1: 0, x2: wide, y1: BASE, y2: BASE}));
   timeline.bins.forEach((bin, at) => {
     const time = timeline.from + at * timeline.step, column = total(bin) ? bar(bin, at, width, most) : null;
     if (column && (time + timeline.step <= chosen.from || time >= chosen.until)) column.setAttribute("class", "faint");
@@ -227,6 +229,12 @@ function switches() {
   const turn = outcome => on => chosen.outcomes[on ? "add" : "delete"](outcome);
   const made = OUTCOMES.map((name, outcome) => toggle(chosen.outcomes.has(outcome), chip(outcome), name, counts[outcome], turn(outcome)));
   const strip = make("span", {class: "chip contested"}), turnContested = on => { chosen.contested = on; };
+  made.push(button("Only failures", () => {
+    chosen.outcomes = new Set([0]);
+    switches();
+    update();
+    id("outcomes").querySelector("button").focus();
+  }, {class: "small"}));
   if (contestedValues.length) made.push(toggle(chosen.contested, strip, "contested", contestedValues.length, turnContested));
   id("outcomes").replaceChildren(id("outcomes").firstElementChild, ...made);
 }
