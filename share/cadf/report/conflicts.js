@@ -123,7 +123,7 @@ function choicesFile() {
 /** Hands the file of all choices to the browser to be saved. */
 function saveChoices() {
   const address = URL.createObjectURL(new Blob([choicesFile()], {type: "text/plain"}));
-  make("a", {href: address, download: "choices"}).click();
+  make("a", {href: address, download: "choices.txt"}).click();
   setTimeout(() => URL.revokeObjectURL(address), 60000);
 }
 
@@ -193,7 +193,7 @@ function choiceBar() {
   choiceWatchers.push(show);
   show();
   return make("div", {class: "bar chosen"}, make("span", {role: "status", id: "chosen"}, count), save, copy, clear,
-    make("span", {class: "minor"}, "then ", make("code", {}, "cadf-conflicts --rule choices SITE >rulings.cadf")));
+    make("span", {class: "minor"}, "then ", make("code", {}, "cadf-conflicts --rule choices.txt SITE >rulings.cadf")));
 }
 
 /* ---- The comparison. ---- */
