@@ -9,7 +9,7 @@ use Rattle.cadf_replica.specs.Inventory.{Noted}
 use Rattle.cadf_replica.specs.Replica.{Held}
 use Rattle.cadf_file.specs.InventoryFile.{inventory_file}
 use Rattle.cadf_tool.specs.WrittenFile.{file}
-use Rattle.cadf_tool.specs.declared.TheConstants.{FILE_LIMIT}
+use Rattle.cadf_frame.specs.declared.file_feed.TheConstants.{FILE_LIMIT}
 use Rattle.cadf_tool.specs.declared.fault.ToolFault.{ToolFault}
 use Rattle.cadf_tool.specs.Told.{log_named, atoms_loaded, under_log, held_of}
 use Rattle.cadf_tool.specs.Inputs.{Seen, seen}
