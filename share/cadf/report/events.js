@@ -215,7 +215,8 @@ function head([name, label]) {
 function filterOf([name, label]) {
   if (name === "time" || name === "outcome") return make("td");
   const column = columns[name], counts = column.counts();
-  const often = column.texts.map((_, number) => number).sort((a, b) => counts[b] - counts[a] || a - b).slice(0, 300);
+  const often = column.texts.map((_, number) => number).filter(number => !column.texts[number].match(ODD))
+    .sort((a, b) => counts[b] - counts[a] || a - b).slice(0, 300);   // a browser shows an option as it is
   const list = make("datalist", {id: "known-" + name});
   for (const number of often) list.append(make("option", {value: "=" + column.texts[number]}, named(column.names[number] || "") + " (" + counted(counts[number]) + ")"));
   const input = make("input", {"data-filter": name, list: list.id, placeholder: "contains, or =exactly", "aria-label": "Filter by " + label, spellcheck: "false", autocomplete: "off"});

@@ -155,6 +155,6 @@ function update({filters = true} = {}) {
 /** Sets filters from elsewhere on the page, and shows the events. */
 function choose(filters) {
   Object.assign(chosen, filters);
-  for (const input of document.querySelectorAll("[data-filter]")) input.value = chosen[input.dataset.filter];
+  for (const input of document.querySelectorAll("[data-filter]")) input.value = named(chosen[input.dataset.filter]);
   update();
 }
