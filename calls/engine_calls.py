@@ -299,7 +299,7 @@ for command, readers, status, text in [
     call, words = engine(command, readers, writer(ALL, "refuses", 1))
     row("fault", [call, *words], [status, text], FAULTS)
 
-# A command, its inputs, and what it writes: the bytes are counted, and told of where they are above the limit.
+# A command, its inputs, and what it writes: the bytes are counted, and reported if they are more than the limit.
 COUNTED = [
     ("check", [EMPTY_LOG], 'ok "g" atoms 0 conflicts 0\n'),
     ("join", [EMPTY_LOG, V1], made.EVENT_TREE),
@@ -307,8 +307,8 @@ COUNTED = [
 ]
 
 
-def told_of(count, limit):
-    """What is told of so many bytes."""
+def counted(count, limit):
+    """The fields of the count, and of the report if it is above the limit."""
     if count <= limit:
         return ["ok", count, "none"]
     return ["ok", count, "some", "%d bytes were written, and no input above %d is read" % (count, limit)]
@@ -317,7 +317,7 @@ def told_of(count, limit):
 def metered(limit, command, inputs, count, written, to=None):
     """A row of a command that writes so many bytes of a text."""
     call, words = engine(command, map(reader, inputs), to)
-    row("metered", [limit, call, *words], told_of(count, limit) + ([written] if count else []), STREAMS)
+    row("metered", [limit, call, *words], counted(count, limit) + ([written] if count else []), STREAMS)
 
 
 for command, inputs, output in COUNTED:
@@ -325,7 +325,7 @@ for command, inputs, output in COUNTED:
     for limit in (0, size - 1, size, size + 1, 2**30, 2**64 - 1):
         metered(limit, command, inputs, size, text)
     call, words = engine(command, map(reader, inputs), writer("N"))
-    row("each", each(1, 7, "metered", [size - 1, call, *words]), [*told_of(size, size - 1), text], STREAMS)
+    row("each", each(1, 7, "metered", [size - 1, call, *words]), [*counted(size, size - 1), text], STREAMS)
     for way in ("refuses", "takes-nothing"):
         for limit in (3, 4):
             metered(limit, command, inputs, 4, text[:4], writer(1, way, 5))

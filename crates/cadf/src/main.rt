@@ -14,7 +14,7 @@ use std::io::{BufWriter, Write};
 use std::process::ExitCode;
 use std::{env, io};
 
-/// Hands out what is still in the buffer, and tells of more bytes than an input may have.
+/// Flushes the buffer, and reports an output that is larger than an input may be.
 fn flushed<W: Write + Drop>(output: Metered<FromStd<W>>) -> Result<Option<Oversized>, ToolFault> {
     let oversized = output.oversized(FILE_LIMIT);
     match output.into_inner().into_inner().flush() {
@@ -23,7 +23,7 @@ fn flushed<W: Write + Drop>(output: Metered<FromStd<W>>) -> Result<Option<Oversi
     }
 }
 
-/// Runs the request's engine on standard output, and tells of more bytes than an input may have.
+/// Runs the request's engine on standard output, and reports an output that is larger than an input may be.
 fn run_out(rt: &HostRuntime, request: &Request<'_>) -> Result<Option<Oversized>, Stop> {
     let Ok(buffer) = BufWriter::new(rt.alloc(), io::writer(rt)) else {
         return Err(Stop::Tool(ToolFault::Memory));

@@ -1,4 +1,4 @@
--- A sink whose bytes are counted, and what is told of too many of them.
+-- A sink whose bytes are counted, and the report of too many of them.
 use Rattle.std.specs.Prelude.{ℕ, ◌+◌, ◌-◌, ◌^◌, min, nat_lt, if◌then◌else◌, Option, Some, None, Result, Ok, Err}
 use Rattle.cadf_tool.specs.declared.metered.Metered.{Metered}
 use Rattle.cadf_tool.specs.declared.metered.Oversized.{Oversized}
@@ -14,6 +14,6 @@ abbrev pub with_taken : {E : Type 0} → ℕ → Result ℕ E → ℕ
 with_taken taken (Ok n) = min (taken + n) (2 ^ 64 - 1)
 with_taken taken (Err e) = taken
 
--- what is told of so many bytes that were written: nothing, up to the limit
-abbrev pub told_of : ℕ → ℕ → Option Oversized
-told_of written limit = if nat_lt limit written then Some (record { written = written; limit = limit }) else None
+-- the report of so many bytes that were written: none, up to the limit
+abbrev pub report_of : ℕ → ℕ → Option Oversized
+report_of written limit = if nat_lt limit written then Some (record { written = written; limit = limit }) else None

@@ -1,4 +1,4 @@
-//! Counts what a sink takes, and tells of an output that is larger than an input may be.
+//! Counts what a sink takes, and reports an output that is larger than an input may be.
 ghost use Rattle.std.specs.Prelude.{◌≡◌};
 ghost use Rattle.std.specs.Io.{WritesAtMost};
 ghost use Rattle.std.specs.Io.KnownBytes.{WriteAppends};
@@ -23,9 +23,9 @@ pub struct Metered<W> {
 }
 
 impl<W> Metered<W> {
-    ghost use Rattle.cadf_tool.specs.Metered.{metered_sink, metered_taken, told_of};
+    ghost use Rattle.cadf_tool.specs.Metered.{metered_sink, metered_taken, report_of};
 
-    /// Counts from now on.
+    /// Wraps a sink, and starts to count at 0.
     pub fn new(sink: W) -> Metered<W>
         ensures sink { metered_sink result ≡ sink }
         ensures taken { metered_taken result ≡ 0 }
@@ -33,16 +33,16 @@ impl<W> Metered<W> {
         Metered { sink, taken: 0 }
     }
 
-    /// Counts the bytes that were taken; beyond 2^64-1 it stays there.
+    /// Returns how many bytes the sink took; the count stays at 2^64-1.
     pub fn taken(&self) -> u64
         ensures { result ≡ metered_taken self.now }
     {
         self.taken
     }
 
-    /// Tells of more bytes than the limit; of no more than that it tells nothing.
+    /// Reports the bytes if they are more than `limit`. `None` if they are not.
     pub fn oversized(&self, limit: u64) -> Option<Oversized>
-        ensures { result ≡ told_of (metered_taken self.now) limit }
+        ensures { result ≡ report_of (metered_taken self.now) limit }
     {
         if self.taken > limit {
             return Some(Oversized {
@@ -53,7 +53,7 @@ impl<W> Metered<W> {
         None
     }
 
-    /// The sink.
+    /// Returns the sink.
     pub fn into_inner(self) -> W
         ensures { result ≡ metered_sink self }
     {

@@ -118,7 +118,7 @@ pub(crate) fn faulted(alloc: Global, words: Words<'_>) -> Result<Answer, Memory>
     answer(alloc, told, sink)
 }
 
-/// How many bytes were written, and what is told of more than the limit.
+/// Answers how many bytes were written, and the report if they are more than the limit.
 fn count_and_warning(alloc: Global, sink: &Output, limit: u64) -> Result<String, Memory> {
     let mut line = calls::answer(alloc, "ok", &[])?;
     push_number(alloc, &mut line, i128::from(sink.taken()))?;
@@ -132,7 +132,7 @@ fn count_and_warning(alloc: Global, sink: &Output, limit: u64) -> Result<String,
     Ok(line)
 }
 
-/// `metered`: a limit and an engine's call, of which it is told how many bytes it wrote, whether or not it failed.
+/// `metered`: a limit and an engine's call. Answers how many bytes it wrote, even if it failed.
 pub(crate) fn metered(alloc: Global, words: Words<'_>) -> Result<Answer, Memory> {
     let call = words.inner().inner();
     let mut sink = output(alloc, call);
