@@ -41,7 +41,7 @@ def hostile():
     entities = [{"id": name, "at": at} for name in NAMES[:6] for at in range(2)] + [{"id": "one" + ALERT, "x": ALERT}]
     metrics = [{"metricId": each["id"], "unit": each.get("at", ALERT)} for each in entities]
     log = {"id": ALERT + NAMES[5], "events": events, "resources": entities, "geolocations": entities, "metrics": metrics}
-    return {**log, ALERT: ALERT, "__proto__": {"a": ALERT}}
+    return {**log, ALERT: ALERT, "__proto__": {"a": ALERT}, "number": INT_LIMITS[0], "zero": False}
 
 
 def plain(count):
