@@ -1,0 +1,166 @@
+#!/usr/bin/env python3
+"""Measures the page of cadf-report: its bytes an event, seconds to write and to load it, to filter, sort, search.
+
+    bench/report.py [--events 10000,100000] [--runs 3] [BINARY]
+
+The events have 1,250 bytes of log text each, three random identifiers, a chain with times, a tag. BINARY is crates/cadf/out/cadf
+unless given. Each number is the least of the runs. Beside writing stand `cadf`'s own calls and Python's json.loads and json.dumps
+of the log text; beside loading, Chromium's JSON.parse of the log text; beside filter and search, jq and grep on the log text.
+The browser's part needs Debian's chromium, chromium-driver and python3-selenium, and is left out where they aren't there.
+"""
+import argparse
+import hashlib
+import json
+import os
+import shutil
+import subprocess
+import sys
+import tempfile
+import time
+
+from measure import BINARY, identifier_of, key_of, measured_in_turn, written_apart
+
+TOP = os.path.dirname(os.path.dirname(os.path.abspath(__file__)))
+REPORT = os.path.join(TOP, "tools", "cadf-report")
+SYSTEM = "/usr/bin/python3"  # where Debian's packages are
+JSON = "import json, sys; data = open(sys.argv[1], 'rb').read(); json.dumps(json.loads(data))"
+SERVICES = ("nova", "glance", "cinder", "keystone", "neutron")
+ACTIONS = ("read", "read/list", "update", "create", "delete", "authenticate")
+
+
+def event(number):
+    """An event as OpenStack's services write them: users and servers come again, identifiers and times don't."""
+    chance = int(key_of(number)[:12], 16)
+    user, server, service = chance % 997, chance // 997 % 400, SERVICES[chance // 7 % 5]
+    seconds = number * 26
+    stamp = "2024-03-%02dT%02d:%02d:%02d." % (1 + seconds // 86400 % 30, seconds // 3600 % 24, seconds // 60 % 60, seconds % 60)
+    reporter = {"id": identifier_of(service), "name": service, "typeURI": "service/compute"}
+    return {
+        "id": identifier_of(number), "eventType": "activity", "typeURI": "http://schemas.dmtf.org/cloud/audit/1.0/event",
+        "eventTime": stamp + "%06dZ" % (chance % 1000000), "action": ACTIONS[chance // 11 % 6],
+        "outcome": ("success", "failure", "pending")[max(0, chance // 31 % 10 - 7)],
+        "initiator": {"id": identifier_of("user %d" % user), "name": "user%d" % user, "typeURI": "service/security/account/user",
+                      "host": {"address": "10.0.3.%d" % (user % 250), "agent": "python-novaclient"},
+                      "project_id": key_of("project %d" % (user % 50))[:32], "credential": {"token": "***", "identity_status": "Confirmed"}},
+        "target": {"id": identifier_of("server %d" % server), "name": "vm-%d" % server, "typeURI": "service/compute/servers",
+                   "addresses": [{"name": name, "url": "http://nova.example.org:8774/v2.1"} for name in ("public", "admin")]},
+        "observer": reporter, "requestPath": "/v2.1/servers/" + identifier_of("path %d" % number),
+        "reason": {"reasonType": "HTTP", "reasonCode": "200"}, "tags": ["correlation_id?value=" + identifier_of("tag %d" % number)],
+        "reporterchain": [{"role": "modifier", "reporter": {"id": reporter["id"]}, "reporterTime": stamp + "%06dZ" % (chance % 1000000)},
+                          {"role": "relay", "reporterId": "relay-%d" % (chance % 10), "reporterTime": stamp + "%06dZ" % (chance % 900000 + 99999)}]}
+
+
+def write_document(path, count):
+    with open(path, "w") as file:
+        file.write('{"id":"region-one:audit","events":[')
+        for number in range(count):
+            file.write(("," if number else "") + json.dumps(event(number)))
+        file.write("]}")
+
+
+def written(path, *words):
+    """Writes what a command says to a file, and returns its path."""
+    with open(path, "wb") as file:
+        subprocess.run(words, stdout=file, check=True)
+    return path
+
+
+def canned_cadf(place, binary, document):
+    """A command that says at once what the binary says of the document, so that the writer alone is measured."""
+    replica = written(os.path.join(place, "replica"), binary, "join", document)
+    log = written(os.path.join(place, "log"), binary, "show", replica)
+    conflicts = written(os.path.join(place, "conflicts"), binary, "show", "--conflicts", replica)
+    path = os.path.join(place, "canned")
+    with open(path, "w") as file:
+        file.write('#!/bin/sh\ncase "$1 $2" in join*) exec head -n 2 %s;; "show --conflicts") exec cat %s;; *) exec cat %s;; esac\n'
+                   % (replica, conflicts, log))
+    os.chmod(path, 0o755)
+    return path, replica, log
+
+
+def measure_writing(place, binary, count, runs):
+    """Measures the writer, what it calls, and json; and jq and grep for what a filter and a search are."""
+    document = os.path.join(place, "document")
+    written_apart(lambda: write_document(document, count))
+    canned, replica, log = canned_cadf(place, binary, document)
+    page = written(os.path.join(place, "page.html"), "env", "CADF=" + binary, REPORT, document)
+    size, page_size = os.path.getsize(log), os.path.getsize(page)
+    print("%d events: log text %d bytes, %.0f an event; page %d bytes, %.0f an event" % (count, size, size / count, page_size, page_size / count))
+    commands = {
+        "cadf-report": ["env", "CADF=" + binary, REPORT, document], "cadf-report beside cadf's calls": ["env", "CADF=" + canned, REPORT, document],
+        "json.loads and json.dumps": [sys.executable, "-c", JSON, log], "cadf join": [binary, "join", document],
+        "cadf show": [binary, "show", replica], "jq: failures of one user": ["jq", "-c", '.events[]|select(.outcome=="failure" and .initiator.name=="user7")|.id', log],
+        "grep: a text": ["grep", "-c", "10.0.3.77", log]}
+    results = dict(zip(commands, measured_in_turn(list(commands.values()), runs)))
+    for what, (seconds, processors, memory) in results.items():
+        print("  %-34s %7.2f s %7.2f s of processors %6.0f MB" % (what, seconds, processors, memory), flush=True)
+    own, beside = results["cadf-report beside cadf's calls"], results["json.loads and json.dumps"]
+    print("  the writer to json: %.2f of the time, %.2f of the processors; %.2f bytes of memory a byte of log text" % (
+        own[0] / beside[0], own[1] / beside[1], own[2] * 1024 * 1024 / size))
+    return log, page
+
+
+LOADED = "return Number(document.documentElement.dataset.ready)"
+TIMED = "const start = performance.now(); %s; return performance.now() - start"
+SEARCH = ("const box = document.getElementById('search'), real = setTimeout; let took; window.setTimeout = action => { const start = performance.now(); action();"
+          " took = performance.now() - start; }; box.value = '10.0.3.77'; box.dispatchEvent(new Event('input')); window.setTimeout = real; return took")
+STEPS = (("filter by outcome", TIMED % "document.querySelector('#outcomes input').click()"),
+         ("sort by initiator", TIMED % "document.querySelector('[data-sort=initiator] button').click()"), ("search", SEARCH),
+         ("who to what", TIMED % "document.getElementById('clear').click(); document.getElementById('tab-pairs').click()"))
+
+
+def measure_browser(log, page, runs):
+    """Measures the page in Chromium, and its JSON.parse of the log text, each run in a new browser."""
+    with open(log, encoding="utf-8") as file, open(log + ".html", "w", encoding="utf-8") as out:
+        out.write('<meta charset="utf-8"><script type="application/json" id="log">' + file.read().replace("<", "\\u003c") + "</script>")
+    found = {}
+    for _ in range(runs):
+        for what, milliseconds in browsed(log, page):
+            found[what] = min(milliseconds, found.get(what, milliseconds))
+    for what, milliseconds in found.items():
+        print("  %-34s %7.0f ms" % (what, milliseconds))
+    print("  loading to JSON.parse of the log text: %.2f; a filter to loading: %.3f" % (
+        found["loading"] / found["JSON.parse of the log text"], found["filter by outcome"] / found["loading"]))
+
+
+def browsed(log, page):
+    from selenium import webdriver
+    from selenium.webdriver.chrome.service import Service
+    options = webdriver.ChromeOptions()
+    options.binary_location = shutil.which("chromium")
+    for word in ("--headless=new", "--no-sandbox", "--disable-gpu", "--window-size=1440,1000"):
+        options.add_argument(word)
+    driver = webdriver.Chrome(service=Service(shutil.which("chromedriver")), options=options)
+    try:
+        driver.get("file://" + log + ".html")
+        yield "JSON.parse of the log text", driver.execute_script(
+            "const text = document.getElementById('log').textContent; const start = performance.now(); window.kept = JSON.parse(text); return performance.now() - start")
+        driver.get("file://" + page)
+        yield "loading", driver.execute_script(LOADED)
+        for what, script in STEPS:
+            yield what, driver.execute_script(script)
+    finally:
+        driver.quit()
+
+
+def main():
+    parser = argparse.ArgumentParser(description=__doc__, formatter_class=argparse.RawDescriptionHelpFormatter)
+    parser.add_argument("--events", default="10000,100000")
+    parser.add_argument("--runs", type=int, default=3)
+    parser.add_argument("binary", nargs="?", default=BINARY)
+    options = parser.parse_args()
+    try:
+        import selenium
+    except ImportError:
+        if os.path.exists(SYSTEM) and os.path.realpath(sys.executable) != os.path.realpath(SYSTEM):
+            os.execv(SYSTEM, [SYSTEM, *sys.argv])
+        selenium = None
+    for count in map(int, options.events.split(",")):
+        with tempfile.TemporaryDirectory() as place:
+            log, page = measure_writing(place, os.path.abspath(options.binary), count, options.runs)
+            if selenium and shutil.which("chromium") and shutil.which("chromedriver"):
+                measure_browser(log, page, options.runs)
+
+
+if __name__ == "__main__":
+    main()

@@ -1,0 +1,380 @@
+/* Conflicts and rulings: what differs, side by side, and which values a person chooses. */
+
+const KINDS = {E: "event", R: "resource", G: "geolocation", M: "metric", P: "property", C: "chain", T: "tag", A: "attachment", U: "ruling"};
+const BESIDE = new Set(["id", "typeURI", "reporterchain", "reporterchains", "tags", "attachments"]);
+const kindOf = at => plain(member(conflicts[at], "kind")), keyOf = at => plain(member(conflicts[at], "key"));
+const ruledKeys = new Map();   // the digests that are ruled, by kind and key
+for (const ruling of rulings) {
+  const [kind, key, digest] = parts(ruling).map(plain), name = kind + key;
+  ruledKeys.set(name, (ruledKeys.get(name) || new Set()).add(digest));
+}
+const ruledOf = at => ruledKeys.get(kindOf(at) + keyOf(at)) || new Set();
+
+/** Lists all values of a conflict by place, each with its digest and whether it is ruled, and shown for that. */
+function valuesOf(at) {
+  const ruled = plain(member(conflicts[at], "ruled")), others = parts(member(conflicts[at], "values")).values(), ofKey = ruledOf(at);
+  return data.digests[at].map((digest, index) => {
+    const shown = digest === ruled && data.shown[at] !== 0;
+    return {value: shown ? data.shown[at][0] : others.next().value, place: index + 1, digest, ruled: ofKey.has(digest), shown};
+  });
+}
+
+/** Writes a path one step longer. */
+function stepped(path, name) {
+  if (typeof name === "number") return `${path}[${name}]`;
+  return /^[\w:-]+$/.test(name) ? (path ? path + "." : "") + name : `${path}[${JSON.stringify(name)}]`;
+}
+
+/** Lists a value's leaves by their paths. */
+function leaves(cell, path = "", found = new Map(), skipped = new Set()) {
+  const inside = entries(cell).filter(([name]) => !skipped.has(name));
+  if (!inside.length) found.set(path || "value", text(cell));
+  for (const [name, part] of inside) {
+    leaves(part, stepped(path, name), found);
+  }
+  return found;
+}
+
+/** Compares values path by path: those that differ, and those that are the same in all. */
+function compared(values, isEvent) {
+  const flat = values.map(({value}) => leaves(value, "", new Map(), isEvent ? BESIDE : new Set()));
+  const paths = [...new Set(flat.flatMap(each => [...each.keys()]))].sort();
+  const same = path => flat.every(each => each.get(path) === flat[0].get(path));
+  return {flat, differing: paths.filter(path => !same(path)), equal: paths.filter(same)};
+}
+
+/** Names who reported an event by a chain, from the first to the last. */
+const route = chain => parts(chain).map(step => { const [identifier, name] = party(step, "reporter"); return name || identifier; }).join(" \u2192 ");
+
+/** Makes the cell that says what came with a value: its chains, and how many tags and attachments. */
+function cameCell(value) {
+  const made = make("td", {class: "minor came"}), chains = chainsOf(value);
+  for (const chain of chains.slice(0, 3)) put(made, cut(route(chain), 200), "div");
+  if (chains.length > 3) made.append(make("div", {}, `and ${counted(chains.length - 3)} more chains`));
+  for (const [name, list] of [["tag", "tags"], ["attachment", "attachments"]]) {
+    const count = parts(member(value, list)).length;
+    if (count) made.append(make("div", {}, `${counted(count)} ${name}${count > 1 ? "s" : ""}`));
+  }
+  if (!made.childElementCount) made.append("nothing");
+  return made;
+}
+
+/** Cuts a text between two places, and no character in two. */
+function piece(string, from, until) {
+  const half = at => at > 0 && /[\udc00-\udfff]/.test(string[at] || "") ? 1 : 0;
+  return string.slice(from - half(from), until - half(until));
+}
+
+/** Returns how many characters all texts have in common at their front, or at their back behind some at the front. */
+function common(texts, most, at) {
+  let count = 0;
+  while (count < most && texts.every(each => at(each, count) === at(texts[0], count))) count++;
+  return count;
+}
+
+/** Puts a text into an element with the part marked that is not common to all; long common parts are left out. */
+function putMarked(element, string, front, back) {
+  const end = string.length - back, start = Math.max(0, front - 80), stop = Math.min(end, front + 2000);
+  put(element, (start ? "\u2026" : "") + piece(string, start, front));
+  if (end > front) put(element, piece(string, front, stop), "mark");
+  put(element, stop < end ? `\u2026 (${counted(string.length)} characters)` : piece(string, end, Math.min(string.length, end + 200)) + (back > 200 ? "\u2026" : ""));
+  return element;
+}
+
+/** Makes a row of a comparison. */
+function comparison(path, flat, differs) {
+  const present = flat.filter(each => each.has(path)).map(each => each.get(path));
+  const least = present.reduce((least, each) => Math.min(least, each.length), Infinity), many = differs && present.length > 1;
+  const front = many ? common(present, least, (each, count) => each[count]) : 0;
+  const back = many ? common(present, least - front, (each, count) => each[each.length - 1 - count]) : 0;
+  const cell = each => {
+    if (!each.has(path)) return make("td", {class: "absent"}, "absent");
+    return many ? putMarked(make("td"), each.get(path), front, back) : put(make("td"), cut(each.get(path), 2000));
+  };
+  return make("tr", {class: differs ? "differs" : ""}, put(make("th", {scope: "row"}), cut(path, 600)), ...flat.map(cell));
+}
+
+/* ---- Choices. ---- */
+
+const choices = new Map();   // of a conflict the place of the value that is chosen
+const choiceWatchers = [];
+
+/** Chooses values, by conflict; none where the place is 0. */
+function chooseValues(pairs) {
+  for (const [at, place] of pairs) place ? choices.set(at, place) : choices.delete(at);
+  for (const show of choiceWatchers) show();
+}
+
+/** Spells a text in JSON that any file, terminal and shell takes within single quotes. */
+const inAscii = string => JSON.stringify(string).replace(/[^ -~]|'/g, escaped);
+
+/** Writes the line that `cadf-conflicts --rule` takes for a value. */
+const choiceLine = (at, place) => `${kindOf(at)} ${inAscii(keyOf(at))} ${place} ${data.digests[at][place - 1]}`;
+
+/** Writes the command that makes the ruling of one value. */
+const command = (at, place) => `printf '%s\\n' '${choiceLine(at, place)}' | cadf-conflicts --rule /dev/stdin SITE >rulings.cadf`;
+
+/** Writes the file of all choices, in the order of the conflict list. */
+function choicesFile() {
+  const head = `# Choices for the log ${inAscii(plain(member(data.log, "id")))}, by the conflict list ${id("conflict-digest").textContent}\n`;
+  return head + [...choices].sort((a, b) => a[0] - b[0]).map(([at, place]) => choiceLine(at, place) + "\n").join("");
+}
+
+/** Hands the file of all choices to the browser to be saved. */
+function saveChoices() {
+  const address = URL.createObjectURL(new Blob([choicesFile()], {type: "text/plain"}));
+  make("a", {href: address, download: "choices.txt"}).click();
+  setTimeout(() => URL.revokeObjectURL(address), 60000);
+}
+
+/** Names what tells a conflict's values apart: what they have at the paths at which they differ, and who reported them. */
+function tellings(at) {
+  const named = paths[at].map(path => [path, valuesOf(at).map(({value}) => told(value, path))]);
+  const found = valuesOf(at).map((_, index) => new Map(named.map(([path, values]) => [JSON.stringify([path, values[index]]), [pathText(path), values[index]]])));
+  if (kindOf(at) === "E") valuesOf(at).forEach(({value}, index) => {
+    for (const step of chainsOf(value).flatMap(parts)) {
+      const [identifier, name] = party(step, "reporter");
+      found[index].set(JSON.stringify([identifier]), ["reporter", name || identifier]);
+    }
+  });
+  return found;
+}
+
+/** Returns the text of what a value has at a path. */
+function told(value, path) {
+  const cell = path.reduce((inner, name) => inner === undefined ? undefined : typeof name === "number" ? parts(inner)[name] : member(inner, name), value);
+  return cell === undefined ? "absent" : text(cell);
+}
+
+/** Counts by what one value alone of a conflict can be told, over conflicts: the most useful first. */
+function criteria(members) {
+  const found = new Map();
+  for (const at of members) {
+    if (ruledOf(at).size) continue;
+    const each = tellings(at), counts = new Map();
+    each.forEach((keys, index) => { for (const key of keys.keys()) counts.set(key, counts.has(key) ? 0 : index + 1); });
+    for (const [key, place] of counts) {
+      if (!place) continue;
+      if (!found.has(key)) found.set(key, {words: each[place - 1].get(key), places: []});
+      found.get(key).places.push([at, place]);
+    }
+  }
+  return [...found.values()].sort((a, b) => b.places.length - a.places.length).slice(0, 40);
+}
+
+/** Makes what chooses values in all listed conflicts; `listed` returns those. */
+function bulkChoice(listed) {
+  const select = make("select", {"aria-label": "What the values to choose have"}), said = make("span", {role: "status", class: "minor"});
+  let found = [];
+  const fill = () => {
+    found = criteria(listed());
+    select.replaceChildren(...found.map(({words: [name, value], places}, at) =>
+      make("option", {value: at}, named(cut(`${name}${name === "reporter" ? ": " : " is "}${value}`, 90)) + ` (${counted(places.length)})`)));
+    select.disabled = go.disabled = !found.length;
+    said.textContent = "";
+  };
+  const go = button("Choose in all that are listed", () => {
+    const {places} = found[select.value];
+    chooseValues(places);
+    said.textContent = `${counted(places.length)} chosen of ${counted(listed().length)} listed`;
+  });
+  return {element: make("div", {class: "bar"}, make("label", {}, "The value whose ", select), go, said), fill};
+}
+
+/** Makes what saves and clears the choices. */
+function choiceBar() {
+  const count = make("b"), save = button("Save the choices", saveChoices, {id: "save"});
+  const copy = button("Copy", () => navigator.clipboard.writeText(choicesFile()).catch(() => { count.textContent = "This browser doesn't copy: save instead. "; }));
+  const clear = button("Clear", () => chooseValues([...choices.keys()].map(at => [at, 0])));
+  const show = () => {
+    count.textContent = `${counted(choices.size)} chosen`;
+    for (const each of [save, copy, clear]) each.disabled = !choices.size;
+  };
+  choiceWatchers.push(show);
+  show();
+  return make("div", {class: "bar chosen"}, make("span", {role: "status", id: "chosen"}, count), save, copy, clear,
+    make("span", {class: "minor"}, "then ", make("code", {}, "cadf-conflicts --rule choices.txt SITE >rulings.cadf")));
+}
+
+/* ---- The comparison. ---- */
+
+/** Makes the head of a value: its place, what chooses it, and what a ruling says of it. */
+function valueHead(at, {place, ruled, shown}) {
+  const made = make("th", {scope: "col"}), name = `value ${place}`;
+  if (ruledOf(at).size) made.append(name);
+  else {
+    const pick = make("input", {type: "radio", name: "choice-" + at, value: place, "aria-label": `Choose ${name} of ` + cut(named(keyOf(at)), 80)});
+    pick.checked = choices.get(at) === place;
+    pick.addEventListener("change", () => chooseValues([[at, place]]));
+    made.append(make("label", {class: "pick"}, pick, " " + name));
+  }
+  if (shown) made.append(" ", make("span", {class: "badge settled"}, "ruled, shown in the log"));
+  else if (ruled) made.append(" ", make("span", {class: "badge open"}, "ruled"));
+  return made;
+}
+
+const COLUMNS = 6, PATTERNS = 10;
+
+/** Makes the comparison of a conflict's values, some at a time. */
+function compareTable(at, values, from, turn) {
+  const isEvent = kindOf(at) === "E", result = compared(values, isEvent);
+  const some = values.slice(from, from + COLUMNS), flat = result.flat.slice(from, from + COLUMNS);
+  const body = make("tbody", {}, ...result.differing.slice(0, 500).map(path => comparison(path, flat, true)));
+  const foot = make("tfoot");
+  if (result.differing.length > 500) foot.append(make("tr", {}, make("td", {colspan: some.length + 1, class: "minor"}, `and ${counted(result.differing.length - 500)} more paths`)));
+  if (isEvent) foot.append(make("tr", {}, make("th", {scope: "row"}, "came with it"), ...some.map(({value}) => cameCell(value))));
+  const heads = make("thead", {}, make("tr", {}, make("th", {scope: "col"}, "path"), ...some.map(value => valueHead(at, value))));
+  const made = make("div", {}, make("div", {class: "scroll"}, make("table", {class: "compare"}, heads, body, foot)));
+  if (values.length > COLUMNS) made.prepend(pager(values.length, COLUMNS, from / COLUMNS, page => turn(page * COLUMNS)));
+  return [made, result];
+}
+
+/** Makes a value in full, with the line that rules for it alone. */
+function fullValue(at, {value, place}) {
+  const string = command(at, place), made = titled(`Value ${place}`, kindOf(at) === "E" ? detail(value) : block(value));
+  if (!ruledOf(at).size) made.append(make("p", {class: "command"}, "to rule for it alone: ", make("code", {tabindex: 0}, string), " ", copier(string)));
+  return made;
+}
+
+/** Makes what can be opened of a conflict: the parts that are the same, and each value in full. */
+function conflictMore(at, values, {equal, flat}) {
+  const more = make("details", {}, make("summary", {}, `${equal.length} ${equal.length === 1 ? "path is" : "paths are"} the same; values in full, and commands`));
+  more.addEventListener("toggle", () => {
+    if (more.childElementCount > 1) return;
+    more.append(make("table", {class: "compare"}, make("tbody", {}, ...equal.slice(0, 500).map(path => comparison(path, flat.slice(0, 1), false)))));
+    more.append(...values.slice(0, 20).map(value => fullValue(at, value)));
+    if (values.length > 20) more.append(make("p", {class: "minor"}, `and ${counted(values.length - 20)} more values`));
+  });
+  return more;
+}
+
+/** Says what a contested event is about, as its first value has it. */
+function about(value) {
+  const made = make("p", {class: "minor about"}), short = role => { const [identifier, name] = party(value, role); return cut(name || identifier, 40); };
+  put(made, plain(member(value, "eventTime")).replace("T", " "));
+  put(put(made, cut(plain(member(value, "action")), 40)), short("initiator")).append(" \u2192 ");
+  return put(made, short("target"));
+}
+
+/** Says in what state a conflict is, in a class and in words. */
+function stateOf(at) {
+  if (member(conflicts[at], "ruled") !== undefined) return ["settled", "settled by a ruling"];
+  const ruled = ruledOf(at), held = data.digests[at].filter(digest => ruled.has(digest)).length;
+  if (held > 1) return ["open", "rulings disagree: none is shown, for good"];
+  return ["open", ruled.size ? "open: the ruled value isn't here yet" : "open"];
+}
+
+/** Makes the card of a conflict. */
+function conflictCard(at) {
+  const values = valuesOf(at), card = make("article", {class: "conflict"}), [state, words] = stateOf(at);
+  const title = put(make("h3", {}, make("span", {class: "kind"}, KINDS[kindOf(at)]), " "), cut(keyOf(at), 1024));
+  title.append(" ", make("span", {class: "badge " + state}, words));
+  const show = from => {
+    const [table, result] = compareTable(at, values, from, show), count = result.differing.length;
+    const differ = make("p", {class: "minor"}, `${counted(values.length)} values differ in ${counted(count)} ${count === 1 ? "path" : "paths"}`);
+    const bar = make("div", {class: "bar"}, title, differ, ...(kindOf(at) === "E" ? [about(values[0].value)] : []));
+    card.replaceChildren(bar, table, conflictMore(at, values, result));
+  };
+  show(0);
+  return card;
+}
+
+/** Lists the paths at which values part, as lists of names; what is shared is known to be equal without a look. */
+function parting(cells, path, found, skipped = new Set()) {
+  if (cells.every(cell => cell === cells[0])) return found;
+  if (!cells.every(isObject)) {
+    if (cells.some(cell => cell === undefined || text(cell) !== text(cells[0]))) found.push(path);
+    return found;
+  }
+  const names = new Set(cells.flatMap(cell => data.shapes[real(cell)[0] - 1]));
+  for (const name of [...names].sort()) if (!skipped.has(name)) parting(cells.map(cell => member(cell, name)), [...path, name], found);
+  return found;
+}
+
+const pathText = path => path.reduce(stepped, "") || "value";
+let paths = [];   // of each conflict, when they are first shown
+
+/** Finds of each conflict the paths at which its values part. */
+function findPaths() {
+  paths = conflicts.map((_, at) => parting(valuesOf(at).slice(0, 20).map(({value}) => value), [], [], kindOf(at) === "E" ? BESIDE : undefined));
+}
+
+/** Groups conflicts by the paths at which their values part. */
+function patterns() {
+  const groups = new Map();
+  conflicts.forEach((_, at) => {
+    const kind = kindOf(at), key = JSON.stringify([kind, ...paths[at]]);
+    if (!groups.has(key)) groups.set(key, {kind, differing: paths[at].map(pathText), members: []});
+    groups.get(key).members.push(at);
+  });
+  return [...groups.values()].sort((a, b) => b.members.length - a.members.length);
+}
+
+/** Lists the groups of conflicts; each can be chosen. */
+function patternList(groups, pick) {
+  const list = make("ul", {class: "patterns"});
+  const add = (label, members, differing) => {
+    const made = button(label, () => {
+      for (const each of list.querySelectorAll("button")) each.setAttribute("aria-pressed", String(each === made));
+      pick(members);
+    }, {"aria-pressed": String(!differing)});
+    for (const path of (differing || []).slice(0, 8)) put(made, cut(path, 60), "code");
+    if (differing && differing.length > 8) made.append(` and ${differing.length - 8} more`);
+    list.append(make("li", {}, made));
+  };
+  add(`all ${counted(conflicts.length)}`, conflicts.map((_, at) => at));
+  for (const {kind, differing, members} of groups.slice(0, PATTERNS)) add(`${counted(members.length)} ${KINDS[kind]}${members.length > 1 ? "s differ" : " differs"} in `, members, differing);
+  if (groups.length > PATTERNS) list.append(make("li", {class: "minor"}, `and ${counted(groups.length - PATTERNS)} more groups`));
+  return list;
+}
+
+const STATES = {
+  settles: "settles its key: the log shows the value",
+  disagrees: "stands against another ruling of the key: none is shown",
+  waits: "waits: no such value is held",
+  idle: "has no effect yet: the key has this value alone",
+};
+
+/** Makes the table of rulings. */
+function rulingTable() {
+  const rows = rulings.slice(0, 1000).map((ruling, at) => {
+    const [kind, key, digest] = parts(ruling).map(plain);
+    return make("tr", {}, make("td", {}, KINDS[kind]), put(make("td", {class: "party"}), key), make("td", {}, make("code", {}, digest)), make("td", {}, STATES[data.states[at]]));
+  });
+  const heads = heading(["Kind", "Key", "SHA-256 of the value", "What it does"]);
+  return titled(`Rulings: ${counted(rulings.length)}`, make("div", {class: "scroll"}, make("table", {class: "pairs"}, heads, make("tbody", {}, ...rows))));
+}
+
+/** Lists conflicts by group and search, with what chooses among their values. */
+function conflictList(panel) {
+  findPaths();
+  const cards = make("div"), top = make("div", {class: "pages"});
+  const everything = conflicts.map((_, at) => at);
+  let group = everything, listed = everything, searched = "";
+  const bulk = bulkChoice(() => listed), list = paged(20, top, cards, conflictCard, () => group.length);
+  const show = pick => {
+    if (!pick && (panel.hidden || searched === chosen.search && cards.childElementCount)) return;
+    group = pick || group;
+    searched = chosen.search;
+    const search = searched ? new Search(searched) : null;
+    listed = search ? group.filter(at => search.finds(conflicts[at]) || data.shown[at] !== 0 && search.finds(data.shown[at][0])) : group;
+    list(listed);
+    bulk.fill();
+  };
+  watchers.push(() => show());
+  choiceWatchers.push(() => {
+    for (const pick of cards.querySelectorAll("input[type=radio]")) pick.checked = choices.get(Number(pick.name.slice(7))) === Number(pick.value);
+  });
+  panel.append(patternList(patterns(), show), bulk.element, choiceBar(), top, cards);
+  return () => show();
+}
+
+/** Makes the panel of conflicts and rulings. */
+function conflictsPanel(panel) {
+  panel.append(make("p", {class: "minor"}, conflicts.length
+    ? "A ruling is a person's word for the value that is to be shown, and is never taken back. Choose values, save the choices, and make rulings of them."
+    : "Nothing contradicts: the log shows all that was told."));
+  const show = conflicts.length ? conflictList(panel) : () => {};
+  if (rulings.length) panel.append(rulingTable());
+  return show;
+}

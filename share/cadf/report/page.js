@@ -1,0 +1,129 @@
+/* The rest of the log, the views, and the start. */
+
+const LISTS = {E: ["events", "id"], R: ["resources", "id"], G: ["geolocations", "id"], M: ["metrics", "metricId"]};
+
+/** Makes a table of named values, some at a time. */
+function namedValues(title, found) {
+  const body = make("tbody"), top = make("div", {class: "pages"});
+  paged(50, top, body, ([name, value]) => make("tr", {}, put(make("th", {scope: "row"}), name), make("td", {}, block(value))))(found);
+  return titled(`${title}: ${counted(found.length)}`, ...(found.length > 50 ? [top] : []), make("table", {class: "compare"}, body));
+}
+
+/** Lists the properties and entities of the log. */
+function restOf() {
+  const own = new Set(["id", "typeURI", "events", "resources", "geolocations", "metrics"]);
+  const lists = ["R", "G", "M"].map(kind => {
+    const [list, name] = LISTS[kind];
+    return [list[0].toUpperCase() + list.slice(1), parts(member(data.log, list)).map(each => [plain(member(each, name)), each])];
+  });
+  return [["Properties", entries(data.log).filter(([name]) => !own.has(name))], ...lists].filter(([, found]) => found.length);
+}
+
+/* ---- The views, and the start. ---- */
+
+const panels = new Map();
+
+/** Shows one of the views. */
+function showPanel(name) {
+  for (const [each, {tab, panel, show}] of panels) {
+    tab.setAttribute("aria-selected", String(each === name));
+    tab.tabIndex = each === name ? 0 : -1;
+    panel.hidden = each !== name;
+    if (each === name && show) show();
+  }
+}
+
+/** Moves between tabs by keys. */
+function tabKey(event) {
+  const names = [...panels.keys()], at = names.findIndex(name => panels.get(name).tab === event.target);
+  const to = {ArrowRight: at + 1, ArrowLeft: at - 1, Home: 0, End: names.length - 1}[event.key];
+  if (to === undefined) return;
+  const name = names[(to + names.length) % names.length];
+  showPanel(name);
+  panels.get(name).tab.focus();
+  event.preventDefault();
+}
+
+/** Adds a view; it is filled when it is first shown. */
+function addPanel(name, label, count, fill, eager) {
+  const tab = button(label, () => showPanel(name), {role: "tab", id: "tab-" + name, "aria-controls": "panel-" + name});
+  if (count !== null) tab.append(" ", make("b", {}, counted(count)));
+  const panel = make("div", {role: "tabpanel", id: "panel-" + name, "aria-labelledby": "tab-" + name, tabindex: -1});
+  panel.hidden = true;
+  let again = eager ? fill(panel) : undefined, filled = Boolean(eager);
+  const show = () => {
+    if (!filled) again = fill(panel);
+    filled = true;
+    if (again) again();
+  };
+  panels.set(name, {tab, panel, show});
+  id("tabs").append(tab);
+  id("panels").append(panel);
+}
+
+/** Works out the digest of the log text from what the page holds, and compares. */
+async function prove() {
+  if (!crypto.subtle) {
+    id("proved").textContent = "This browser hashes nothing from an address that isn't secure: open the page from a file.";
+    return;
+  }
+  id("proved").textContent = "Working\u2026";
+  await new Promise(resolve => setTimeout(resolve, 20));
+  const answers = [];
+  for (const [cell, name] of [[data.log, "log-digest"], [data.listed, "conflict-digest"]]) {
+    const sum = await crypto.subtle.digest("SHA-256", new TextEncoder().encode(text(cell) + "\n"));
+    answers.push([...new Uint8Array(sum)].map(byte => byte.toString(16).padStart(2, "0")).join("") === id(name).textContent);
+  }
+  id("proved").textContent = answers.every(Boolean) ? "\u2713 The data in this page make both digests." : "\u2715 The data in this page do not make these digests.";
+}
+
+/** Fills the head of the page. */
+function fillHead() {
+  const name = plain(member(data.log, "id"));
+  id("log").textContent = "";
+  put(id("log"), name);
+  document.title = "CADF: " + cut(named(name), 80);
+  id("span").textContent = events.length ? utc(0) + " \u2013 " + utc(events.length - 1) + " UTC" : "no events";
+  id("when").hidden = !events.length;
+  id("other").hidden = !data.lacks.length;
+  id("range").hidden = !id("range").textContent;
+  id("open").textContent = counted(unsettled.length);
+}
+
+/** Ties the controls of the page to what they do. */
+function wire() {
+  id("prove").addEventListener("click", prove);
+  id("zoom").addEventListener("click", zoom);
+  id("whole").addEventListener("click", selectAll);
+  id("from").addEventListener("change", typedRange);
+  id("until").addEventListener("change", typedRange);
+  id("tabs").addEventListener("keydown", tabKey);
+  id("search").dataset.filter = "search";
+  id("search").addEventListener("input", calmed(() => { chosen.search = id("search").value; update(); }));
+  id("clear").addEventListener("click", () => {
+    chosen.outcomes = new Set([0, 1, 2, 3]);
+    switches();
+    frameAll();
+    choose(all);
+  });
+  addEventListener("beforeprint", () => print(true));
+  addEventListener("afterprint", () => print(false));
+  addEventListener("resize", calmed(() => { drawTimeline(); }));
+  timelinePointer();
+}
+
+fillHead();
+switches();
+frameAll();
+watchers.push(drawTimeline);
+addPanel("events", "Events", inLog.length, eventsPanel, true);
+addPanel("pairs", "Who to what", null, pairsPanel);
+addPanel("conflicts", "Conflicts", conflicts.length, conflictsPanel);
+if (data.lacks.length) addPanel("sites", "Two sites", data.lacks.reduce((before, side) => before + parts(side).length, 0), sitesPanel);
+const rest = restOf();
+const fillRest = panel => panel.append(...rest.map(([title, found]) => namedValues(title, found)));
+if (rest.length) addPanel("rest", "Rest of the log", rest.reduce((sum, [, found]) => sum + found.length, 0), fillRest);
+wire();
+update();
+showPanel("events");
+document.documentElement.dataset.ready = String(Math.round(performance.now()));

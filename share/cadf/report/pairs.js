@@ -1,0 +1,101 @@
+/* Who did what to what: failures and events by initiator and target. */
+
+/** Counts the listed events by initiator and target: failures first, then the most. */
+function pairs() {
+  const counts = new Map(), {initiator, target} = columns;
+  for (const event of listed) {
+    const key = initiator.at[event] * target.texts.length + target.at[event];
+    let pair = counts.get(key);
+    if (!pair) counts.set(key, pair = {initiator: initiator.at[event], target: target.at[event], by: [0, 0, 0, 0], actions: new Map(), all: 0});
+    const action = columns.action.at[event];
+    pair.by[outcomes[event]]++;
+    pair.all++;
+    pair.actions.set(action, (pair.actions.get(action) || 0) + 1);
+  }
+  return [...counts.values()].sort((a, b) => b.by[0] - a.by[0] || b.all - a.all || a.initiator - b.initiator || a.target - b.target);
+}
+
+/** Draws how many events of each outcome there are, as a bar. */
+function shares(by, most) {
+  const picture = draw("svg", {class: "shares", viewBox: "0 0 100 8", preserveAspectRatio: "none", "aria-hidden": "true"});
+  let x = 0;
+  by.forEach((count, outcome) => {
+    const width = count / most * 100;
+    if (count) picture.append(draw("rect", {class: OUTCOMES[outcome], x, y: 0, width, height: 8}));
+    x += width;
+  });
+  return picture;
+}
+
+/** Puts a party of a column into a cell, by name and identifier. */
+function partyOf(cell, column, number) {
+  const name = column.names[number], identifier = column.texts[number];
+  if (name && name !== identifier) put(cell, cut(name, 200)).append(" ");
+  return put(cell, cut(identifier, 300), name && name !== identifier ? "small" : "bdi");
+}
+
+/** Shows the events of a pair. */
+function showPair({initiator, target}) {
+  choose({initiator: "=" + columns.initiator.texts[initiator], target: "=" + columns.target.texts[target]});
+  showPanel("events");
+}
+
+/** Makes the row of a pair; it leads to its events. */
+function pairRow(pair, most) {
+  const {initiator, target, action} = columns;
+  const often = [...pair.actions].sort((a, b) => b[1] - a[1] || a[0] - b[0]);
+  const actions = make("td");
+  often.slice(0, 3).forEach(([number, count], at) => put(actions, (at ? ", " : "") + cut(action.texts[number], 60)).append(" ", make("small", {}, counted(count))));
+  if (often.length > 3) actions.append(` and ${counted(often.length - 3)} more`);
+  const go = button(counted(pair.all), () => showPair(pair), {class: "link", "aria-label": counted(pair.all) + " events: show them"});
+  return make("tr", {}, partyOf(make("td", {class: "party"}), initiator, pair.initiator), partyOf(make("td", {class: "party"}), target, pair.target), actions,
+    make("td", {class: "number" + (pair.by[0] ? " failed" : "")}, counted(pair.by[0])), make("td", {class: "number"}, go), make("td", {class: "sharing"}, shares(pair.by, most)));
+}
+
+/** Returns the first numbers of one side of pairs. */
+const foremost = (found, side, most) => [...new Set(found.map(pair => pair[side]))].slice(0, most);
+
+/** Makes the cell of a matrix; darker where more failed. */
+function matrixCell(pair) {
+  if (!pair) return make("td");
+  const failed = pair.by[0], depth = failed ? Math.min(5, 1 + Math.floor(Math.log10(failed) * 1.4)) : 0;
+  const words = `${counted(pair.all)} events, ${counted(failed)} failed`;
+  const go = button("", () => showPair(pair), {title: words, "aria-label": words + ": show them"});
+  if (failed) go.append(make("b", {}, counted(failed)), "/");
+  go.append(counted(pair.all));
+  return make("td", {class: "heat" + depth}, go);
+}
+
+const NAMES = {initiator: "Initiator", target: "Target"};
+
+/** Makes the matrix of those initiators and targets that failures are most about, the one side in rows. */
+function matrix(found, side, other) {
+  const rows = foremost(found, side, 14), heads = foremost(found, other, 12);
+  const cells = new Map(found.map(pair => [pair[side] + " " + pair[other], pair]));
+  const label = (column, number, scope) => partyOf(make("th", {scope, title: cut(named(column.names[number] + "\n" + column.texts[number]), 400)}), column, number);
+  const corner = make("td", {class: "corner"}, `${NAMES[side]} \u2193 ${NAMES[other]} \u2192`);
+  const top = make("tr", {}, corner, ...heads.map(number => label(columns[other], number, "col")));
+  const body = rows.map(number => make("tr", {}, label(columns[side], number, "row"), ...heads.map(each => matrixCell(cells.get(number + " " + each)))));
+  const caption = make("caption", {}, "Failures / events of the pairs with most failures; a number leads to its events");
+  return make("table", {class: "matrix"}, caption, make("thead", {}, top), make("tbody", {}, ...body));
+}
+
+/** Makes the panel of pairs. */
+function pairsPanel(panel) {
+  const body = make("tbody"), top = make("div", {class: "pages"}), square = make("div", {class: "scroll"});
+  let sides = ["initiator", "target"], found = [], most = 1;
+  const heads = heading(["Initiator", "Target", "Actions", "Failures", "Events", "By outcome"], ["Failures", "Events"]);
+  const table = make("table", {class: "pairs"}, heads, body);
+  const list = paged(50, top, body, pair => pairRow(pair, most));
+  const draw = () => square.replaceChildren(found.length ? matrix(found, ...sides) : make("p", {class: "none"}, "No event passes the filters."));
+  const show = () => {
+    if (panel.hidden) return;
+    found = pairs();
+    most = found.reduce((before, pair) => Math.max(before, pair.all), 1);
+    draw();
+    list(found);
+  };
+  watchers.push(show);
+  panel.append(button("Swap rows and columns", () => { sides.reverse(); draw(); }, {id: "swap"}), square, top, make("div", {class: "scroll"}, table));
+  return show;
+}
