@@ -37,6 +37,8 @@ STAGES = [
         "installed": ".ci/installed",
         "faults": ".ci/faults",
         "take": ".ci/take",
+        "spool": ".ci/spool",
+        "listen": ".ci/listen",
         "growths": ".ci/growths",
         "limits": ".ci/limits",
         "compare": "differential/compare.py",
