@@ -43,7 +43,7 @@ STAGES = [
         "limits": ".ci/limits",
         "compare": "differential/compare.py",
         "drivers": "differential/calls.py",
-        "documented": ".ci/documented README.md docs/GUIDE.md docs/OPENSTACK.md",
+        "documented": ".ci/documented README.md docs/GUIDE.md docs/OPENSTACK.md docs/BUS.md",
         "openstack": ".ci/from-openstack",
         "sites": ".ci/sites",
         "week": "examples/week.sh",
