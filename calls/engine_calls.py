@@ -29,6 +29,7 @@ CALLS = {
     "run_show": ["run_show"],
     "run_check": ["run_check"],
     "fault": ["status"],
+    "metered": ["Metered::new", "Metered::taken", "Metered::oversized", "Metered::into_inner"],
 }
 
 COMMANDS, FAULTS, STREAMS = "What the commands write", "Fault lines", "ARCHITECTURE: Inputs and outputs"
@@ -297,3 +298,35 @@ for command, readers, status, text in [
         ("show", [GOOD], 3, "write fault")]:
     call, words = engine(command, readers, writer(ALL, "refuses", 1))
     row("fault", [call, *words], [status, text], FAULTS)
+
+# A command, its inputs, and what it writes: the bytes are counted, and reported if they are more than the limit.
+COUNTED = [
+    ("check", [EMPTY_LOG], 'ok "g" atoms 0 conflicts 0\n'),
+    ("join", [EMPTY_LOG, V1], made.EVENT_TREE),
+    ("rehearse g 2", [""], "site 0 atoms 0 as 0\nsite 1 atoms 0 as 0\n"),
+]
+
+
+def counted(count, limit):
+    """The fields of the count, and of the report if it is above the limit."""
+    if count <= limit:
+        return ["ok", count, "none"]
+    return ["ok", count, "some", "%d bytes were written, and no input above %d is read" % (count, limit)]
+
+
+def metered(limit, command, inputs, count, written, to=None):
+    """A row of a command that writes so many bytes of a text."""
+    call, words = engine(command, map(reader, inputs), to)
+    row("metered", [limit, call, *words], counted(count, limit) + ([written] if count else []), STREAMS)
+
+
+for command, inputs, output in COUNTED:
+    size, text = len(data(output)), data(output)
+    for limit in (0, size - 1, size, size + 1, 2**30, 2**64 - 1):
+        metered(limit, command, inputs, size, text)
+    call, words = engine(command, map(reader, inputs), writer("N"))
+    row("each", each(1, 7, "metered", [size - 1, call, *words]), [*counted(size, size - 1), text], STREAMS)
+    for way in ("refuses", "takes-nothing"):
+        for limit in (3, 4):
+            metered(limit, command, inputs, 4, text[:4], writer(1, way, 5))
+metered(0, "check", ["{"], 0, b"")

@@ -23,8 +23,6 @@ CALLS = {
     "canonical": ["Json::read_canonical"],
     "text": ["Json::from_text"],
     "quoted": ["quoted"],
-    "list": ["ListBuilder::new", "ListBuilder::push", "ListBuilder::finish"],
-    "object": ["ObjectBuilder::new", "ObjectBuilder::from_json", "ObjectBuilder::insert", "ObjectBuilder::finish"],
     "split": ["read_split", "TakesItems::take"],
     "check_list": ["check_list"],
     "may_be_json": ["may_be_json"],
@@ -126,15 +124,6 @@ FOUND = [
     ('{"time":"now","id":1,"a":[0]}', ["rewritten", "time", "t\n", "id", "tags"], ["ok", '{"a":[0],"time":"t\\n"}']),
     ('{"id":1,"b":{"id":2}}', ["rewritten", "time", "t", "id", "tags"], ["ok", '{"b":{"id":2}}']),
     ('{"x":1,"id":1,"tags":[]}', ["rewritten", "time", "t", "id", "tags"], ["ok", '{"x":1}']),
-]
-
-# Values that are built of texts: of a list's items, of an object and two members more.
-LISTS = [(["1", '{"k":7}', '"x"'], '[1,{"k":7},"x"]'), ([], "[]"), ([nested(126)], nested(127))]
-OBJECTS = [
-    (["", "b", '"x"', "a", '"null"'], '{"a":"null","b":"x"}'),
-    (['{"b":["x",{"k":7}],"a":"null"}', "a", "[]"], '{"a":[],"b":["x",{"k":7}]}'),
-    (['"x"'], "{}"),
-    (["", "a", "1", "a", "2"], '{"a":2}'),
 ]
 
 # Objects of which `list` is taken: what is left, and the items.
@@ -258,15 +247,11 @@ def looks():
             yield how, [asked[0], text, *asked[1:]], found, VALUES
 
 
-def built():
-    """Values that are built."""
+def made():
+    """Values that are made of a text, and their texts."""
     yield "quoted", ['a"b\n'], ["ok", '"a\\"b\\n"'], CANONICAL
     yield "text", ["x"], ["ok", '"x"'], VALUES
     yield "text", ["null"], ["ok", '"null"'], VALUES
-    for words, text in LISTS:
-        yield "list", words, ["ok", text], VALUES
-    for words, text in OBJECTS:
-        yield "object", words, ["ok", text], VALUES
 
 
 def passed():
@@ -316,4 +301,4 @@ def times():
         yield "time", [text], ["err", fault], TIMES
 
 
-ROWS = [row for rows in (values, looks, built, passed, streams, times) for row in rows()]
+ROWS = [row for rows in (values, looks, made, passed, streams, times) for row in rows()]

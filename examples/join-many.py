@@ -69,7 +69,7 @@ def put(cadf, names, target):
     with tempfile.NamedTemporaryFile(dir=os.path.dirname(target), delete=False) as output:
         try:
             joined = subprocess.run([cadf, "join", "--", *names], stdout=output, stderr=subprocess.PIPE)
-            if joined.returncode:
+            if joined.returncode or joined.stderr:  # it also says of a file that it is too large to be read
                 raise ValueError("%s, one of %s to %s" % (joined.stderr.decode().strip(), names[0], names[-1]))
             os.replace(output.name, target)
         except BaseException:

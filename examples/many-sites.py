@@ -3,11 +3,13 @@
 
     examples/many-sites.py [--exchanges 40] [--seed 7] [CADF]
 
-Ten documents are made of the events in this folder, with other outcomes, tags and relays. In each exchange two to
-five sites are told them in some order, some of them twice, and send each other parts, each made against some earlier
-state of its receiver, late, or again, until each has heard of all. Half of the parts are made from the receiver's whole
-file, half from an inventory with which it asked, then or earlier. In the end every site's file must be the file of one
-join of the ten documents, and its log and conflict list those of that file.
+Ten documents are made of the events in this folder, with other outcomes, tags and relays, under one of two names. In
+each exchange two to five sites are told them in some order, some of them twice, and send each other parts, each made
+against some earlier state of its receiver, late, or again, until each has heard of all. Half of the parts are made from
+the receiver's whole file, half from an inventory with which it asked, then or earlier. Some are made against a file
+without atoms, which their receiver never joined. Sites that hold both names rule for one of them, and join parts that
+were made before they ruled. In the end every site's file must be the file of one join of the ten documents with that
+ruling, and its log and conflict list those of that file.
 """
 import argparse
 import copy
@@ -28,6 +30,7 @@ class Command:
 
     def __init__(self, binary, folder):
         self.binary, self.folder, self.files, self.inventories = binary, folder, 0, {}
+        self.empty = self.join(self.keep(b'{"id": "federation", "events": []}'))
 
     def keep(self, content):
         """A new file with that content."""
@@ -37,8 +40,11 @@ class Command:
             out.write(content)
         return path
 
+    def run(self, *words):
+        return subprocess.run([self.binary, *words], capture_output=True)
+
     def written(self, *words):
-        done = subprocess.run([self.binary, *words], capture_output=True)
+        done = self.run(*words)
         if done.returncode:
             sys.exit("cadf %s: %s" % (" ".join(words), done.stderr.decode()))
         return done.stdout
@@ -51,6 +57,15 @@ class Command:
         if random.random() < 0.5:
             return self.keep(self.written("missing", sender, receiver))
         return self.keep(self.written("missing-by", sender, self.inventory(receiver)))
+
+    def ruled(self, file):
+        """The file with a ruling for the second of two names, or the file itself where it hasn't two."""
+        done = self.run("rule", "P", "name", "2", file)
+        if done.returncode == 1 and done.stderr == b"cadf: no such value\n":
+            return file
+        if done.returncode:
+            sys.exit("cadf rule: %s" % done.stderr.decode())
+        return self.keep(done.stdout)
 
     def inventory(self, file):
         """The file's inventory, made when it is first asked for."""
@@ -98,12 +113,16 @@ def exchanged(command, pool):
     for site, documents in enumerate(told):
         for document in documents[1:]:
             states[site].append(command.join(states[site][-1], document))
-            late = command.missing(random.choice(random.choice(states)), random.choice(states[site]))
+            late = command.missing(random.choice(random.choice(states)), random.choice([command.empty] + states[site]))
+            if random.random() < 0.5:
+                states[site].append(command.ruled(states[site][-1]))
             operands = [states[site][-1], late]
             random.shuffle(operands)
             states[site].append(command.join(*operands))
-    for sender in list(range(len(states))) * 2:  # twice around the ring
-        receiver = states[(sender + 1) % len(states)]
+    for turn in range(2 * len(states)):  # twice around the ring
+        if turn == len(states):  # the first site has heard of all
+            states[0].append(command.ruled(states[0][-1]))
+        sender, receiver = turn % len(states), states[(turn + 1) % len(states)]
         part = command.missing(states[sender][-1], random.choice(receiver))
         operands = [receiver[-1], part, part]
         random.shuffle(operands)
@@ -127,7 +146,9 @@ def main():
     with tempfile.TemporaryDirectory() as folder:
         command = Command(options.binary, folder)
         pool = list(documents(command))
-        wanted = told(command, command.join(*pool))
+        wanted = told(command, command.ruled(command.join(*pool)))
+        if b'"ruled":' not in wanted[2]:
+            sys.exit("no ruling was made")
         sites = 0
         for number in range(options.exchanges):
             for file in exchanged(command, pool):

@@ -4,7 +4,7 @@
 #     examples/week.sh [CADF]
 #
 # Each day each site gets a part of the raw events, some of them two sites. It makes a document of them, takes it, and asks
-# another site for what it lacks. West is cut off for three days; a part is damaged on its way; two sites tell one event
+# another site for what it lacks, while that site asks it. West is cut off for three days; a part is damaged on its way; two sites tell one event
 # otherwise, and a person rules. At the end all sites hold the same bytes, which are those of one join of all.
 set -eu
 top=$(cd "$(dirname "$0")/.." && pwd)
@@ -63,8 +63,9 @@ for day in 0 1 2 3 4 5 6; do
         if [ "$site" = west ] && [ $day -ge 2 ] && [ $day -le 4 ]; then continue; fi
         evening $site $day
     done
-    ask north south
+    ask north south & # both at once
     ask south north
+    wait $!
     if [ $day = 5 ]; then # west is back: three days of its own at once, and its neighbours' answers
         for late in 2 3 4; do evening west $late; done
         ask west south

@@ -1,21 +1,22 @@
 # Completion of cadf's words for bash.
 _cadf() {
-    local word=${COMP_WORDS[COMP_CWORD]}
-    if [ "$COMP_CWORD" -eq 1 ]; then
-        mapfile -t COMPREPLY < <(compgen -W 'join missing missing-by inventory rule rehearse show check help --help --version' -- "$word")
-        return
-    fi
-    case ${COMP_WORDS[1]} in
-        join) mapfile -t COMPREPLY < <(compgen -W '--log' -- "$word") ;;
-        show) mapfile -t COMPREPLY < <(compgen -W '--conflicts' -- "$word") ;;
+    local commands='join missing missing-by inventory rule rehearse show check help'
+    local word=${COMP_WORDS[COMP_CWORD]} words=''
+    case $COMP_CWORD:${COMP_WORDS[1]}:${COMP_WORDS[COMP_CWORD - 1]}:$word in
+        1:*:-*) words='--help --version' ;;
+        1:* | 2:help:*) words=$commands ;;
+        *:help:* | *:-*:*:* | *:join:--log:*) ;;
+        *:join:*:-*) words='--help --log' ;;
+        *:show:*:-*) words='--conflicts --help' ;;
+        *:*:*:-*) words=--help ;;
+        2:rule:*) words='E G M P R' ;;
+        [34]:rule:* | [23]:rehearse:*) ;; # texts that only the caller knows
+        *)
+            compopt -o filenames
+            mapfile -t COMPREPLY < <(compgen -f -- "$word")
+            return
+            ;;
     esac
-    if [ "${COMP_WORDS[1]}" = rule ] && [ "$COMP_CWORD" -eq 2 ]; then
-        mapfile -t COMPREPLY < <(compgen -W 'E G M P R' -- "$word")
-        return
-    fi
-    case $word in
-        -*) ;;
-        *) mapfile -t COMPREPLY < <(compgen -f -- "$word") ;;
-    esac
+    mapfile -t COMPREPLY < <(compgen -W "$words" -- "$word")
 }
-complete -o filenames -F _cadf cadf
+complete -F _cadf cadf

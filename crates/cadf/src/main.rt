@@ -3,54 +3,44 @@
 
 mod engines;
 mod given;
-mod metered;
 mod stop;
 
 use crate::engines::run_engine;
-use crate::metered::Metered;
 use crate::stop::{REFUSED, Stop, report};
 use cadf_json::FromStd;
-use cadf_tool::{FILE_LIMIT, ToolFault};
+use cadf_tool::{FILE_LIMIT, Metered, Oversized, ToolFault};
 use cadf_words::{Reply, Request, parse};
 use std::io::{BufWriter, Write};
 use std::process::ExitCode;
 use std::{env, io};
 
-/// Hands out what is still in the buffer, and answers how many bytes were written.
-fn flushed<W: Write + Drop>(output: FromStd<Metered<W>>) -> Result<u64, ToolFault> {
-    let mut writer = output.into_inner();
-    match writer.flush() {
-        Ok(()) => Ok(writer.taken()),
+/// Flushes the buffer, and reports an output that is larger than an input may be.
+fn flushed<W: Write + Drop>(output: Metered<FromStd<W>>) -> Result<Option<Oversized>, ToolFault> {
+    let oversized = output.oversized(FILE_LIMIT);
+    match output.into_inner().into_inner().flush() {
+        Ok(()) => Ok(oversized),
         Err(_) => Err(ToolFault::WriteFault),
     }
 }
 
-/// Runs the request's engine on standard output, and answers how many bytes it wrote.
-fn run_out(rt: &HostRuntime, request: &Request<'_>) -> Result<u64, Stop> {
+/// Runs the request's engine on standard output, and reports an output that is larger than an input may be.
+fn run_out(rt: &HostRuntime, request: &Request<'_>) -> Result<Option<Oversized>, Stop> {
     let Ok(buffer) = BufWriter::new(rt.alloc(), io::writer(rt)) else {
         return Err(Stop::Tool(ToolFault::Memory));
     };
-    let mut output = FromStd::new(Metered::new(buffer));
+    let mut output = Metered::new(FromStd::new(buffer));
     run_engine(rt, request, &mut output)?;
     Ok(flushed(output)?)
-}
-
-/// Says that what was written is larger than any input may be.
-fn warn(rt: &HostRuntime, written: u64) {
-    if written > FILE_LIMIT as u64 {
-        let _ = eprintln!(rt;
-            "cadf: {written} bytes were written, and no input above {FILE_LIMIT} is read"
-        );
-    }
 }
 
 /// Runs the request, and says what it ended with.
 fn run(rt: &HostRuntime, request: &Request<'_>) -> ExitCode {
     match run_out(rt, request) {
-        Ok(written) => {
-            warn(rt, written);
+        Ok(Some(oversized)) => {
+            let _ = eprintln!(rt; "cadf: {oversized}");
             ExitCode::SUCCESS
         }
+        Ok(None) => ExitCode::SUCCESS,
         Err(stop) => report(rt, &stop),
     }
 }

@@ -7,7 +7,6 @@ pub mod Nodes
 pub mod Outcome
 pub mod Risings
 pub mod Seeks
-pub mod SeveralKeys
 pub mod Shows
 pub mod Strings
 pub mod Walks

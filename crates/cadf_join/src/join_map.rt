@@ -6,14 +6,12 @@ ghost use Rattle.std.specs.Prelude.{IfOk, IsTrue, ◌↔◌, Some, None, Ok, tru
 ghost use Rattle.cadf_join.specs.Sets as set;
 ghost use Rattle.cadf_join.specs.Contents.{Text, IsBetween, under, section, next_after};
 ghost use Rattle.cadf_join.specs.Maps.{contents_at, held, heads, HasKeyed, NoneIsEmpty};
-ghost use Rattle.cadf_join.specs.Prefixes.{saturated};
-ghost use Rattle.cadf_join.specs.Several.{several};
 ghost use Rattle.cadf_join.specs.laws.Maps.{joined_keyed, Puts, PartMissing};
 
 use crate::prefix::longer;
 use crate::text_set::is_after;
 use crate::walk::{Visitor, Walk, walk_behind};
-use crate::{HasFirsts, Join, Memory};
+use crate::{Join, Memory};
 use std::alloc::Global;
 use std::collections::BTreeMap;
 use std::marker::Model;
@@ -178,21 +176,6 @@ impl<V: Join> JoinMap<V> {
             }
         }
         true
-    }
-}
-
-impl<V: HasFirsts> JoinMap<V> {
-    /// The number of keys with several first texts behind them, or `u64::MAX` where there are more.
-    pub fn several_count(&self) -> u64
-        ensures { result ≡ saturated (length (several (contents_at V.contents self.now))) }
-    {
-        let mut count: u64 = 0;
-        for (_, part) in &self.parts {
-            if part.has_several() {
-                count = count.saturating_add(1);
-            }
-        }
-        count
     }
 }
 

@@ -7,7 +7,7 @@ use Rattle.json.specs.Json.{Parse, parse_map, after_end_array, items}
 use Rattle.serde_json.specs.Data.{Data, Items, no_items, item}
 use Rattle.serde_json.specs.Read.{of_json, of_items, converted}
 use Rattle.serde_json.specs.Written.{has_float, items_have_float}
-use Rattle.cadf_json.specs.Parts.{to_list, with_last}
+use Rattle.cadf_json.specs.Parts.{to_list}
 use Rattle.cadf_json.specs.Split.{AreTaken}
 use Rattle.cadf_json.proofs.Turns.{item_read, items_over}
 
@@ -18,6 +18,11 @@ followed (item d ds) rest = item d (followed ds rest)
 followed-none : (ds : Items) → followed ds no_items ≡ ds
 followed-none no_items = refl
 followed-none (item d ds) = ap (item d) (followed-none ds)
+
+-- the items with one more at their end
+abbrev pub with_last : Data → Items → Items
+with_last e no_items = item e no_items
+with_last e (item d ds) = item d (with_last e ds)
 
 followed-last : (ds : Items) (d : Data) (rest : Items) → followed ds (item d rest) ≡ followed (with_last d ds) rest
 followed-last no_items d rest = refl

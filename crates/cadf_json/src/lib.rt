@@ -1,7 +1,6 @@
 //! Whole-number JSON values, held or read into small trees that borrow their text; their canonical text; and where bytes come from and go to.
 #![tactic(auto)]
 
-mod build;
 mod laws;
 mod look;
 mod members;
@@ -21,7 +20,6 @@ mod value;
 mod view;
 mod whole;
 
-pub use crate::build::{ListBuilder, ObjectBuilder};
 pub use crate::laws::{
     bytes_spell_values, text_is_one_line, text_spells_its_value, text_tells_values_apart,
 };

@@ -14,7 +14,6 @@ use crate::look::{
     are_within, depth, item_at, item_count, member_count, member_of, name_at, value_at,
 };
 use crate::part_rewrite::{finished, write_object};
-use crate::value::Json;
 use json::{Value, Writer, to_vec};
 use std::alloc::Global;
 use std::marker::Model;
@@ -184,18 +183,6 @@ impl<'v, 'a> Part<'v, 'a> {
         ensures value { IsValue self.now }
     {
         depth(self.value)
-    }
-
-    /// The same value, held.
-    pub(crate) fn to_json(&self, alloc: Global) -> Result<Json, Memory>
-        ensures { IfOk result (λ j. j ≡ self.now) }
-    {
-        self.known();
-        let text = self.text(alloc)?;
-        match Json::read(alloc, text.as_bytes()) {
-            Ok(json) => Ok(json),
-            Err(_) => Err(Memory),
-        }
     }
 
     /// The canonical text, held at its length.

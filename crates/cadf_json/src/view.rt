@@ -12,7 +12,6 @@ use crate::members::Members;
 use crate::owned::{count_in, depth, members_within, name_in, part_in, text_in};
 use crate::part::Part;
 use crate::rewrite::rewritten;
-use crate::value::Json;
 use serde_json::Value;
 use std::alloc::Global;
 use std::marker::Model;
@@ -204,16 +203,6 @@ impl<'v, 'a> View<'v, 'a> {
         match &self.basis {
             Basis::Owned(value) => View::of_value(value),
             Basis::Plain(part) => View::of_part(part.again()),
-        }
-    }
-
-    /// A copy of the part.
-    pub fn to_json(&self, alloc: Global) -> Result<Json, Memory>
-        ensures { IfOk result (λ j. j ≡ self.now) }
-    {
-        match &self.basis {
-            Basis::Owned(value) => Json::copied(value),
-            Basis::Plain(part) => part.to_json(alloc),
         }
     }
 

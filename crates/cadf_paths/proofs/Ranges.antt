@@ -13,7 +13,6 @@ use Rattle.cadf_join.specs.laws.Sets as sets
 use Rattle.cadf_join.specs.Contents.{Texts, text_cmp, texts_cmp}
 use Rattle.cadf_paths.specs.Flat.{prefix_cmp, is_before, strip}
 use Rattle.cadf_paths.proofs.Halving.{before_below}
-use Rattle.cadf_paths.proofs.Spans.{all_turned}
 
 -- what is before the bound does not begin with the prefix
 pub before_has_none : (p l : Texts) → is_before p false l ≡ true → strip p l ≡ None
@@ -93,22 +92,7 @@ find_head f (z ∷ xs) x ys e h = ap (λ b. cond b (Some z) (find f xs)) h.0 ∙
     first : z ∷ xs ≡ x ∷ ys → z ≡ x
     first q = cc
 
-module _ (p : Texts) (passed : Bool) (rows : List Texts) (n : ℕ) (below : AllByRecursion (λ l. is_before p passed l ≡ true) (take n rows))
-    (above : AllByRecursion (λ l. is_before p passed l ≡ false) (drop n rows)) where
-  pub next_found : (x : Texts) (ys : List Texts) → drop n rows ≡ x ∷ ys → find (λ l. not (is_before p passed l)) rows ≡ Some x
-  next_found x ys e =
-      sym (found_first (λ l. not (is_before p passed l)) rows n
-      (all_turned (λ l. is_before p passed l ≡ true) (λ l. not (is_before p passed l) ≡ false) (take n rows) (λ l h. ap not h) below))
-      ∙ find_head (λ l. not (is_before p passed l)) (drop n rows) x ys e
-      (all_turned (λ l. is_before p passed l ≡ false) (λ l. not (is_before p passed l) ≡ true) (drop n rows) (λ l h. ap not h) above)
-
-  pub no_next : drop n rows ≡ [] → find (λ l. not (is_before p passed l)) rows ≡ None
-  no_next e =
-      sym (found_first (λ l. not (is_before p passed l)) rows n
-      (all_turned (λ l. is_before p passed l ≡ true) (λ l. not (is_before p passed l) ≡ false) (take n rows) (λ l h. ap not h) below))
-      ∙ ap (find (λ l. not (is_before p passed l))) e
-
--- the same of any test that the lists from there on pass, and no list before
+-- a test that the lists from there on pass, and no list before
 module _ (f : Texts → Bool) (rows : List Texts) (n : ℕ) (below : AllByRecursion (λ l. f l ≡ false) (take n rows))
     (above : AllByRecursion (λ l. f l ≡ true) (drop n rows)) where
   pub passing_found : (x : Texts) (ys : List Texts) → drop n rows ≡ x ∷ ys → find f rows ≡ Some x

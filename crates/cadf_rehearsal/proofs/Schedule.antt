@@ -11,14 +11,15 @@ use Rattle.cadf_join.specs.laws.Sets as laws
 use Rattle.cadf_replica.specs.Atoms.{IsGrounded}
 use Rattle.cadf_replica.specs.Missing.{missing, missing_by, digests_of, unknown, NoCollision}
 use Rattle.cadf_replica.specs.Contributions.{document_atoms}
+use Rattle.cadf_event.specs.Document.{DocumentParts}
 use Rattle.cadf_rehearsal.specs.declared.turn.Turn.{Turn}
 use Rattle.cadf_rehearsal.specs.declared.turn.Turn.TheVariants.{Learn, Ask, Answer, Send, Deliver}
 use Rattle.cadf_rehearsal.specs.declared.fault.RehearseFault.{RehearseFault}
 use Rattle.cadf_rehearsal.specs.declared.fault.RehearseFault.TheVariants.{WrongAddressee}
 use Rattle.cadf_rehearsal.specs.Schedule.{Message, Inventory, PartFor, Whole, World, start, with_at, adds, makes, is_message, is_of_log, Means}
-use Rattle.cadf_rehearsal.specs.Schedule.{delivered, answered, turned, next, after, made_by, plain, carried, learnt, AllLearnt, LearnsGrounded}
+use Rattle.cadf_rehearsal.specs.Schedule.{delivered, answered, turned, next, after, made_by, plain, carried, learnt}
 use Rattle.cadf_replica.proofs.Missing.{missing_within, missing_by_is, part_suffices, missing_or_held, with_carriers_least, unknown_has}
-use Rattle.cadf_replica.proofs.History.{grounded_union}
+use Rattle.cadf_replica.proofs.ContributionLaws.{grounded_union, grounded_empty, document_grounded}
 
 cond_ok : {A C : Type 0} (b : Bool) (r : Result A C) (c : C) (x : A) → cond b r (Err c) ≡ Ok x → (b ≡ true) × (r ≡ Ok x)
 cond_ok true r c x h = (refl, h)
@@ -28,6 +29,16 @@ Ok-same : {A C : Type 0} (x y : A) → ◌≡◌ {A = Result A C} (Ok x) (Ok y) 
 Ok-same x y h = cc
 
 -- ---- what each plain set has, that each document has, and that unions keep
+
+-- P holds of each document
+abbrev AllLearnt : (DocumentParts → Type 0) → List Turn → Type 0
+AllLearnt P [] = Unit {0}
+AllLearnt P (Learn k d ∷ earlier) = P d × AllLearnt P earlier
+AllLearnt P (Ask k ∷ earlier) = AllLearnt P earlier
+AllLearnt P (Answer k m ∷ earlier) = AllLearnt P earlier
+AllLearnt P (Send k ∷ earlier) = AllLearnt P earlier
+AllLearnt P (Deliver m k ∷ earlier) = AllLearnt P earlier
+
 module _ (P : Contents → Type 0) (none : P set.empty) (both : (s t : Contents) → P s → P t → P (set.union s t)) where
   pick : (b : Bool) (s t : Contents) → P s → P t → P (cond b s t)
   pick true s t h k = h
@@ -50,11 +61,17 @@ module _ (P : Contents → Type 0) (none : P set.empty) (both : (s t : Contents)
     carried_has (Send k ∷ e) h m = pick (nat_eq m (suc (made_by e))) _ _ (plain_has e h k) (carried_has e h m)
     carried_has (Deliver i k ∷ e) h m = carried_has e h m
 
-pub none_grounded : IsGrounded set.empty
-none_grounded q h = absurd (members.not_in_empty texts_total texts_same q h)
+each_learnt : (P : DocumentParts → Type 0) → ((d : DocumentParts) → P d) → (turns : List Turn) → AllLearnt P turns
+each_learnt P h [] = tt
+each_learnt P h (Learn k d ∷ e) = (h d, each_learnt P h e)
+each_learnt P h (Ask k ∷ e) = each_learnt P h e
+each_learnt P h (Answer k m ∷ e) = each_learnt P h e
+each_learnt P h (Send k ∷ e) = each_learnt P h e
+each_learnt P h (Deliver m k ∷ e) = each_learnt P h e
 
-pub plain_grounded : (turns : List Turn) → LearnsGrounded turns → (j : ℕ) → IsGrounded (plain turns j)
-plain_grounded = plain_has IsGrounded none_grounded grounded_union
+pub plain_grounded : (turns : List Turn) (j : ℕ) → IsGrounded (plain turns j)
+plain_grounded turns =
+    plain_has IsGrounded grounded_empty grounded_union turns (each_learnt (λ d. IsGrounded (document_atoms d)) document_grounded turns)
 
 learnt_within : (turns : List Turn) (t : Contents) → IsWithin (learnt turns) t → AllLearnt (λ d. IsWithin (document_atoms d) t) turns
 learnt_within [] t f = tt
@@ -79,13 +96,6 @@ learnt_grows (Ask k) e = laws.IsWithin-refl _
 learnt_grows (Answer k m) e = laws.IsWithin-refl _
 learnt_grows (Send k) e = laws.IsWithin-refl _
 learnt_grows (Deliver m k) e = laws.IsWithin-refl _
-
-grounded_before : (t : Turn) (e : List Turn) → LearnsGrounded (t ∷ e) → LearnsGrounded e
-grounded_before (Learn k d) e g = g.1
-grounded_before (Ask k) e g = g
-grounded_before (Answer k m) e g = g
-grounded_before (Send k) e g = g
-grounded_before (Deliver m k) e g = g
 
 either_within : (b : Bool) (s t : Contents) → IsWithin s (cond b (set.union s t) s)
 either_within true s t = laws.IsWithin-left texts_total s t
@@ -198,9 +208,9 @@ module _ (digest : Texts → Text) where
         subst (Kept (Deliver m k ∷ e)) (Ok-same _ _ is)
         (kept_adds (Deliver m k) e w kept k s refl (taken_at e w kept k s (carried e m) (ap (set.union (plain e k)) means)))
 
-    kept_answered : (n : ℕ) (e : List Turn) (w v : World) (j m : ℕ) (x : Message) → LearnsGrounded e → NoCollision digest (learnt e) → Kept e w
+    kept_answered : (n : ℕ) (e : List Turn) (w v : World) (j m : ℕ) (x : Message) → NoCollision digest (learnt e) → Kept e w
         → Means digest e m x → answered digest log sites n w j x ≡ Ok v → Kept (Answer j m ∷ e) v
-    kept_answered n e w v j m (Inventory a d) g apart kept means is =
+    kept_answered n e w v j m (Inventory a d) apart kept means is =
         let b = means.1.0 in
         let own = plain e j in
         let near : NoCollision digest (set.union own b) = λ x y h k. apart x y (within_both x h) (within_both y k) in
@@ -208,7 +218,7 @@ module _ (digest : Texts → Text) where
         (λ i. missing_by digest (kept.sites_are j i) (means.1.1 i)) ∙ missing_by_is digest own b near in
         subst (Kept (Answer j m ∷ e)) (Ok-same _ _ is) (kept_makes (Answer j m) e w kept _ refl (λ i. refl) (
           subst (λ c. IsWithin (missing_by digest (w.sites j) d) c) (sym (this (made_by e) own _))
-              (subst (λ p. IsWithin p own) (sym part_is) (missing_within own b (plain_grounded e g j))),
+              (subst (λ p. IsWithin p own) (sym part_is) (missing_within own b (plain_grounded e j))),
           λ q h. elim (missing_or_held own b q (subst (λ c. Has c q) (this (made_by e) own _) h)) [
             | inl k ↦ inl (means.1.2 q k)
             | inr k ↦ inr (subst (λ p. Has p q) (sym part_is) k)
@@ -217,26 +227,26 @@ module _ (digest : Texts → Text) where
       where
         within_both : (x : Texts) → Has (set.union (plain e j) means.1.0) x → Has (learnt e) x
         within_both = laws.IsWithin-union texts_total (plain e j) means.1.0 _ (plain_learnt e j) (λ q h. plain_learnt e a q (means.1.2 q h))
-    kept_answered n e w v j m (PartFor a p) g apart kept means is = cc
-    kept_answered n e w v j m (Whole s) g apart kept means is = cc
+    kept_answered n e w v j m (PartFor a p) apart kept means is = cc
+    kept_answered n e w v j m (Whole s) apart kept means is = cc
 
-    kept_turn : (n : ℕ) (t : Turn) (e : List Turn) (w v : World) → LearnsGrounded e → NoCollision digest (learnt e) → Kept e w
+    kept_turn : (n : ℕ) (t : Turn) (e : List Turn) (w v : World) → NoCollision digest (learnt e) → Kept e w
         → turned digest log sites n w t ≡ Ok v → Kept (t ∷ e) v
-    kept_turn n (Learn j d) e w v g apart kept is =
+    kept_turn n (Learn j d) e w v apart kept is =
         let h = cond_ok (is_of_log log d.log) _ _ v (cond_ok (nat_lt j sites) _ _ v is).1 in
         subst (Kept (Learn j d ∷ e)) (Ok-same _ _ h.1)
         (kept_adds (Learn j d) e w kept j (document_atoms d) refl (taken_at e w kept j (document_atoms d) (document_atoms d) refl))
-    kept_turn n (Ask j) e w v g apart kept is =
+    kept_turn n (Ask j) e w v apart kept is =
         subst (Kept (Ask j ∷ e)) (Ok-same _ _ (cond_ok (nat_lt j sites) _ _ v is).1) (kept_makes (Ask j) e w kept _ refl (λ i. refl)
         (this (made_by e) _ _, (plain e j, ap (digests_of digest) (kept.sites_are j), laws.IsWithin-refl _)))
-    kept_turn n (Answer j m) e w v g apart kept is =
+    kept_turn n (Answer j m) e w v apart kept is =
         let h = cond_ok (is_message w m) _ _ v (cond_ok (nat_lt j sites) _ _ v is).1 in
         let r = is_message_at w m h.0 in
-        kept_answered n e w v j m (w.messages m) g apart kept (kept.mean m r.0 r.1) h.1
-    kept_turn n (Send j) e w v g apart kept is =
+        kept_answered n e w v j m (w.messages m) apart kept (kept.mean m r.0 r.1) h.1
+    kept_turn n (Send j) e w v apart kept is =
         subst (Kept (Send j ∷ e)) (Ok-same _ _ (cond_ok (nat_lt j sites) _ _ v is).1)
         (kept_makes (Send j) e w kept _ refl (λ i. refl) (kept.sites_are j ∙ sym (this (made_by e) _ _)))
-    kept_turn n (Deliver m j) e w v g apart kept is =
+    kept_turn n (Deliver m j) e w v apart kept is =
         let h = cond_ok (is_message w m) _ _ v (cond_ok (nat_lt j sites) _ _ v is).1 in
         let r = is_message_at w m h.0 in
         kept_delivered n e w v m j (w.messages m) kept (kept.mean m r.0 r.1) h.1
@@ -246,22 +256,21 @@ module _ (digest : Texts → Text) where
     next_ok turn t (Ok w) v h = (w, refl, h)
     next_ok turn t (Err f) v h = cc
 
-    pub kept_after : (turns : List Turn) (w : World) → LearnsGrounded turns → NoCollision digest (learnt turns) → after digest log sites turns ≡ Ok w
+    pub kept_after : (turns : List Turn) (w : World) → NoCollision digest (learnt turns) → after digest log sites turns ≡ Ok w
         → Kept turns w
-    kept_after [] w g apart is = subst (Kept []) (Ok-same _ _ is) kept_start
-    kept_after (t ∷ e) w g apart is =
+    kept_after [] w apart is = subst (Kept []) (Ok-same _ _ is) kept_start
+    kept_after (t ∷ e) w apart is =
         let h = next_ok _ t (after digest log sites e) w is in
-        let before = grounded_before t e g in
         let apart_before : NoCollision digest (learnt e) = λ x y a b. apart x y (learnt_grows t e x a) (learnt_grows t e y b) in
-        kept_turn _ t e h.0 w before apart_before (kept_after e h.0 before apart_before h.1) h.2
+        kept_turn _ t e h.0 w apart_before (kept_after e h.0 apart_before h.1) h.2
 
-    pub sites_are_plain : (turns : List Turn) (w : World) → LearnsGrounded turns → NoCollision digest (learnt turns) → after digest log sites turns ≡ Ok w
+    pub sites_are_plain : (turns : List Turn) (w : World) → NoCollision digest (learnt turns) → after digest log sites turns ≡ Ok w
         → (j : ℕ) → w.sites j ≡ plain turns j
-    sites_are_plain turns w g apart is = (kept_after turns w g apart is).sites_are
+    sites_are_plain turns w apart is = (kept_after turns w apart is).sites_are
 
-    pub messages_mean : (turns : List Turn) (w : World) → LearnsGrounded turns → NoCollision digest (learnt turns) → after digest log sites turns ≡ Ok w
+    pub messages_mean : (turns : List Turn) (w : World) → NoCollision digest (learnt turns) → after digest log sites turns ≡ Ok w
         → (m : ℕ) → 0 < m → m ≤ w.made → Means digest turns m (w.messages m)
-    messages_mean turns w g apart is = (kept_after turns w g apart is).mean
+    messages_mean turns w apart is = (kept_after turns w apart is).mean
 
   -- ---- without that premise: each set is within its plain one
   abbrev pub MeansAtMost : List Turn → ℕ → Message → Type 0
@@ -328,43 +337,42 @@ module _ (digest : Texts → Text) where
     within_delivered n e w v m k (Whole s) kept means is =
         subst (KeptWithin (Deliver m k ∷ e)) (Ok-same _ _ is) (within_adds (Deliver m k) e w kept k s refl (delivered_adds e m k s means))
 
-    within_answered : (n : ℕ) (e : List Turn) (w v : World) (j m : ℕ) (x : Message) → LearnsGrounded e → KeptWithin e w
+    within_answered : (n : ℕ) (e : List Turn) (w v : World) (j m : ℕ) (x : Message) → KeptWithin e w
         → answered digest log sites n w j x ≡ Ok v → KeptWithin (Answer j m ∷ e) v
-    within_answered n e w v j m (Inventory a d) g kept is =
+    within_answered n e w v j m (Inventory a d) kept is =
         subst (KeptWithin (Answer j m ∷ e)) (Ok-same _ _ is) (within_makes (Answer j m) e w kept _ refl (
         subst (λ c. IsWithin (missing_by digest (w.sites j) d) c) (sym (this (made_by e) (plain e j) _))
         (with_carriers_least (unknown digest (w.sites j) d) (plain e j)
-        (plain_grounded e g j, λ q h. kept.sites_within j q (unknown_has digest (w.sites j) d q h)))))
-    within_answered n e w v j m (PartFor a p) g kept is = cc
-    within_answered n e w v j m (Whole s) g kept is = cc
+        (plain_grounded e j, λ q h. kept.sites_within j q (unknown_has digest (w.sites j) d q h)))))
+    within_answered n e w v j m (PartFor a p) kept is = cc
+    within_answered n e w v j m (Whole s) kept is = cc
 
-    within_turn : (n : ℕ) (t : Turn) (e : List Turn) (w v : World) → LearnsGrounded e → KeptWithin e w → turned digest log sites n w t ≡ Ok v
+    within_turn : (n : ℕ) (t : Turn) (e : List Turn) (w v : World) → KeptWithin e w → turned digest log sites n w t ≡ Ok v
         → KeptWithin (t ∷ e) v
-    within_turn n (Learn j d) e w v g kept is =
+    within_turn n (Learn j d) e w v kept is =
         let h = cond_ok (is_of_log log d.log) _ _ v (cond_ok (nat_lt j sites) _ _ v is).1 in
         subst (KeptWithin (Learn j d ∷ e)) (Ok-same _ _ h.1) (within_adds (Learn j d) e w kept j (document_atoms d) refl
         (subst (λ b. IsWithin (document_atoms d) (cond b (set.union (plain e j) (document_atoms d)) (plain e j))) (sym (eq-eqb j j refl))
         (laws.IsWithin-right texts_total (plain e j) (document_atoms d))))
-    within_turn n (Ask j) e w v g kept is =
+    within_turn n (Ask j) e w v kept is =
         subst (KeptWithin (Ask j ∷ e)) (Ok-same _ _ (cond_ok (nat_lt j sites) _ _ v is).1) (within_makes (Ask j) e w kept _ refl tt)
-    within_turn n (Answer j m) e w v g kept is =
+    within_turn n (Answer j m) e w v kept is =
         let h = cond_ok (is_message w m) _ _ v (cond_ok (nat_lt j sites) _ _ v is).1 in
-        within_answered n e w v j m (w.messages m) g kept h.1
-    within_turn n (Send j) e w v g kept is =
+        within_answered n e w v j m (w.messages m) kept h.1
+    within_turn n (Send j) e w v kept is =
         subst (KeptWithin (Send j ∷ e)) (Ok-same _ _ (cond_ok (nat_lt j sites) _ _ v is).1) (within_makes (Send j) e w kept _ refl
         (subst (λ c. IsWithin (w.sites j) c) (sym (this (made_by e) (plain e j) _)) (kept.sites_within j)))
-    within_turn n (Deliver m j) e w v g kept is =
+    within_turn n (Deliver m j) e w v kept is =
         let h = cond_ok (is_message w m) _ _ v (cond_ok (nat_lt j sites) _ _ v is).1 in
         let r = is_message_at w m h.0 in
         within_delivered n e w v m j (w.messages m) kept (kept.mean m r.0 r.1) h.1
 
-    within_after : (turns : List Turn) (w : World) → LearnsGrounded turns → after digest log sites turns ≡ Ok w → KeptWithin turns w
-    within_after [] w g is = subst (KeptWithin []) (Ok-same _ _ is) within_start
-    within_after (t ∷ e) w g is =
+    within_after : (turns : List Turn) (w : World) → after digest log sites turns ≡ Ok w → KeptWithin turns w
+    within_after [] w is = subst (KeptWithin []) (Ok-same _ _ is) within_start
+    within_after (t ∷ e) w is =
         let h = next_ok log sites _ t (after digest log sites e) w is in
-        let before = grounded_before t e g in
-        within_turn _ t e h.0 w before (within_after e h.0 before h.1) h.2
+        within_turn _ t e h.0 w (within_after e h.0 h.1) h.2
 
-    pub sites_within_plain : (turns : List Turn) (w : World) → LearnsGrounded turns → after digest log sites turns ≡ Ok w → (j : ℕ)
+    pub sites_within_plain : (turns : List Turn) (w : World) → after digest log sites turns ≡ Ok w → (j : ℕ)
         → IsWithin (w.sites j) (plain turns j)
-    sites_within_plain turns w g is = (within_after turns w g is).sites_within
+    sites_within_plain turns w is = (within_after turns w is).sites_within

@@ -121,19 +121,6 @@ learnt (Answer k m ∷ earlier) = learnt earlier
 learnt (Send k ∷ earlier) = learnt earlier
 learnt (Deliver m k ∷ earlier) = learnt earlier
 
--- P holds of each document
-abbrev pub AllLearnt : (DocumentParts → Type 0) → List Turn → Type 0
-AllLearnt P [] = Unit {0}
-AllLearnt P (Learn k d ∷ earlier) = P d × AllLearnt P earlier
-AllLearnt P (Ask k ∷ earlier) = AllLearnt P earlier
-AllLearnt P (Answer k m ∷ earlier) = AllLearnt P earlier
-AllLearnt P (Send k ∷ earlier) = AllLearnt P earlier
-AllLearnt P (Deliver m k ∷ earlier) = AllLearnt P earlier
-
--- each document brings its carriers with it, as every document does that was read
-abbrev pub LearnsGrounded : List Turn → Type 0
-LearnsGrounded turns = AllLearnt (λ d. IsGrounded (document_atoms d)) turns
-
 -- An inventory notes a set that its asker holds from then on. A part has nothing that its sender didn't hold, and
 -- all of it that its asker doesn't hold from then on. A whole copy is what its sender held.
 abbrev pub Means : (Texts → Text) → List Turn → ℕ → Message → Type 0

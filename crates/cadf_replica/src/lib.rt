@@ -15,15 +15,12 @@ pub mod path;
 pub mod replica;
 mod ruling;
 mod shape;
-mod tail;
 mod unnoted;
 
 pub use atom::{Atom, AtomFault};
 pub use inventory::Inventory;
 pub use letter::Letter;
-pub use path::{
-    PathKind, path_atom, path_kind, path_kind_behind, path_kind_behind_with, path_kind_with,
-};
+pub use path::{PathKind, path_atom, path_kind, path_kind_behind_with, path_kind_with};
 pub use replica::{Replica, ReplicaFault};
 pub use ruling::{Ruling, RulingFault};
 pub use shape::may_follow;

@@ -1,10 +1,14 @@
 -- Whatever was run, a file bears its log, and holds no atoms but those that came from outside.
-use Rattle.std.proofs.Common.{◌≡◌, ℕ, List, [], ◌∷◌, ◌++◌, Option, Some, Ok, refl, sym, ap, ◌∙◌, subst, inl}
+use Rattle.std.proofs.Common.{◌≡◌, ℕ, List, [], ◌∷◌, ◌++◌, Option, Some, Ok, refl, sym, ap, ◌∙◌, subst}
 use Rattle.std.specs.Option.{option_or}
-use Rattle.cadf_join.specs.Contents.{Text, Has, IsWithin}
+use Rattle.cadf_join.specs.Contents.{Text, Contents, Has, IsWithin}
+use Rattle.cadf_join.specs.Sets as set
+use Rattle.cadf_join.specs.laws.Contents.{texts_total}
 use Rattle.cadf_join.specs.laws.Sets as laws
 use Rattle.cadf_replica.specs.AtomSets.{AreKept}
+use Rattle.cadf_replica.specs.Contributions.{Contribution, one_atom}
 use Rattle.cadf_replica.specs.Replica.{Held}
+use Rattle.cadf_replica.specs.RulingTexts.{RulingParts, ruling_atom}
 use Rattle.cadf_replica.proofs.ContributionLaws.{kept_empty, kept_union}
 use Rattle.cadf_tool.specs.WrittenFile.{file}
 use Rattle.cadf_tool.specs.declared.input.Loaded.{Loaded}
@@ -12,29 +16,52 @@ use Rattle.cadf_tool.specs.declared.input.Loaded.TheVariants.{Replica}
 use Rattle.cadf_tool.specs.Input.{IsInput}
 use Rattle.cadf_tool.specs.Told.{log_named, atoms_loaded, IsHeld}
 use Rattle.cadf_tool.specs.Join.{first_named, union_of, join_of}
-use Rattle.cadf_tool.specs.Exchange.{Making, Outside, Joined, Operands, End, Whole, Part, PartBy, IsReadOf, IsPartOf, IsPartByOf, IsMade, AreRead}
-use Rattle.cadf_tool.specs.Exchange.{outside, outside_all, log_of, log_in, IsToldWithin}
+use Rattle.cadf_tool.specs.Rule.{ruling_at, ruled_of}
+use Rattle.cadf_tool.specs.Exchange.{Making, Outside, Empty, Joined, Ruled, Operands, End, Whole, Part, PartBy}
+use Rattle.cadf_tool.specs.Exchange.{IsReadOf, IsPartOf, IsPartByOf, IsMade, AreRead}
+use Rattle.cadf_tool.specs.Exchange.{outside, outside_all, brought, log_of, log_in, IsToldWithin}
 use Rattle.cadf_tool.proofs.OneText.{one_loaded}
 use Rattle.cadf_tool.proofs.KeptInputs.{input_kept}
-use Rattle.cadf_tool.proofs.InputUnions.{in_all, left_within, right_within, more_within, loaded_file, IsJoin, join_is, part_is, part_within, part_kept}
+use Rattle.cadf_tool.proofs.Brought.{brought_by, brought_alone, left_brought, right_brought}
+use Rattle.cadf_tool.proofs.RuledFiles.{rule_kept, rule_log, rule_atoms}
+use Rattle.cadf_tool.proofs.InputUnions.{more_within, loaded_file, IsJoin, join_is, part_is, part_within, part_kept}
 use Rattle.cadf_tool.proofs.InventoryParts.{part_by_is, part_by_within, part_by_kept}
 
 pub record IsReadWithin (m : Making) (l : Loaded) : Type 0 where
   pub log : log_named l ≡ log_of m
-  pub atoms : IsWithin (atoms_loaded l) (union_of (outside m))
+  pub atoms : IsWithin (atoms_loaded l) (brought m)
 
 loaded_within : (m : Making) (l : Loaded) (h : Held) → l ≡ Replica h → IsToldWithin m h → IsReadWithin m l
 loaded_within m l h same told = record { log = ap log_named same ∙ sym told.log; atoms = λ q k. told.atoms q (subst (λ t. Has (atoms_loaded t) q) same k) }
 
-outside_read : (m : Making) (l loaded : Loaded) → l ≡ loaded → log_of m ≡ log_named loaded → outside m ≡ loaded ∷ [] → IsReadWithin m l
-outside_read m l loaded same log is = record {
-  log = ap log_named same ∙ sym log;
-  atoms = λ q k. subst (λ ls. Has (union_of ls) q) (sym is) (in_all (loaded ∷ []) loaded (inl refl) q (subst (λ t. Has (atoms_loaded t) q) same k));
-}
+read_same : (m : Making) (l : Loaded) → log_named l ≡ log_of m → atoms_loaded l ≡ brought m → IsReadWithin m l
+read_same m l log atoms = record { log = log; atoms = λ q k. subst (λ s. Has s q) atoms k }
+
+outside_read : (given : List ℕ) (l loaded : Loaded) → l ≡ loaded → IsReadWithin (Outside given loaded) l
+outside_read given l loaded same = read_same (Outside given loaded) l (ap log_named same) (ap atoms_loaded same ∙ sym (brought_alone loaded))
+
+empty_read : (log : Text) (bytes : List ℕ) (l : Loaded) → IsMade (Empty log) bytes → IsInput bytes l → IsReadWithin (Empty log) l
+empty_read log bytes l made input =
+    let same = one_loaded bytes l made.loaded input made.input in
+    read_same (Empty log) l (ap log_named same ∙ made.named) (ap atoms_loaded same ∙ sym made.atoms)
+
+-- the ruling, and what was read of the file before it
+pub ruled_within : (place : ℕ) (ruling : RulingParts) (m : Making) (loaded : Loaded) (h : Held) → IsReadWithin m loaded
+    → ruling_at (atoms_loaded loaded) ruling.letter ruling.key place ≡ Ok ruling → ruled_of ruling.letter ruling.key place loaded ≡ Ok h
+    → IsToldWithin (Ruled place ruling m) h
+ruled_within place ruling m loaded h r at made =
+    let one : Contents = one_atom (ruling_atom ruling) in
+    record {
+      log = sym r.log ∙ rule_log place ruling loaded h made;
+      atoms = subst (λ s. IsWithin s (set.union one (brought m))) (sym (rule_atoms place ruling loaded h made at))
+          (laws.IsWithin-union texts_total (atoms_loaded loaded) one _
+          (λ q k. laws.IsWithin-right texts_total one (brought m) q (r.atoms q k))
+          (laws.IsWithin-left texts_total one (brought m)));
+    }
 
 pub joined_within : (log : Option Text) (operands : Operands) (inputs : List Loaded) (h : Held) → join_of log inputs ≡ Ok h
     → first_named inputs ≡ log_in operands
-    → IsWithin (union_of inputs) (union_of (outside_all operands)) → IsToldWithin (Joined log operands) h
+    → IsWithin (union_of inputs) (brought_by (outside_all operands)) → IsToldWithin (Joined log operands) h
 joined_within log operands inputs h joined names low =
     let j : IsJoin log inputs h = join_is log inputs h joined in
     record { log = sym (ap (option_or log) names) ∙ j.log; atoms = λ q k. low q (subst (λ s. Has s q) j.atoms k) }
@@ -80,17 +107,21 @@ part_by_read from to l f (bytes, (one, noted, r, s, (h, e, is)), input) =
 
 -- ---- what is read of a file
 
-first_within : (m : Making) (ms : List Loaded) (l : Loaded) (ls : List Loaded) → IsReadWithin m l → IsWithin (union_of ls) (union_of ms)
-    → IsWithin (union_of (l ∷ ls)) (union_of (outside m ++ ms))
-first_within m ms l ls r low = more_within l ls _ (λ q k. left_within (outside m) ms q (r.atoms q k)) (λ q k. right_within (outside m) ms q (low q k))
+first_within : (m : Making) (cs : List Contribution) (l : Loaded) (ls : List Loaded) → IsReadWithin m l → IsWithin (union_of ls) (brought_by cs)
+    → IsWithin (union_of (l ∷ ls)) (brought_by (outside m ++ cs))
+first_within m cs l ls r low = more_within l ls _ (λ q k. left_brought (outside m) cs q (r.atoms q k)) (λ q k. right_brought (outside m) cs q (low q k))
 
 mutual
   pub read_within : (m : Making) (l : Loaded) → IsReadOf (λ b. IsMade m b) l → IsReadWithin m l
   read_within (Outside given loaded) l (bytes, made, input) =
-      outside_read (Outside given loaded) l loaded (one_loaded bytes l loaded input (subst (λ b. IsInput b loaded) (sym made.0) made.1)) refl refl
+      outside_read given l loaded (one_loaded bytes l loaded input (subst (λ b. IsInput b loaded) (sym made.0) made.1))
+  read_within (Empty log) l (bytes, made, input) = empty_read log bytes l made input
   read_within (Joined log operands) l (bytes, (inputs, read, (h, joined, is)), input) =
       loaded_within (Joined log operands) l h (loaded_file bytes h l (join_kept log operands inputs h read joined) is input)
       (joined_within log operands inputs h joined (names operands inputs read) (inputs_within operands inputs read))
+  read_within (Ruled place ruling m) l (bytes, (loaded, read, at, (h, made, is)), input) =
+      loaded_within (Ruled place ruling m) l h (loaded_file bytes h l (rule_kept place ruling loaded h made read.0 read.2) is input)
+      (ruled_within place ruling m loaded h (read_within m loaded read) at made)
 
   pub names : (operands : Operands) (inputs : List Loaded) → AreRead operands inputs → first_named inputs ≡ log_in operands
   names End [] read = refl
@@ -107,7 +138,8 @@ mutual
       λ i. option_or (r.log i) (names operands ls read.1 i)
 
   -- nothing else is joined
-  pub inputs_within : (operands : Operands) (inputs : List Loaded) → AreRead operands inputs → IsWithin (union_of inputs) (union_of (outside_all operands))
+  pub inputs_within : (operands : Operands) (inputs : List Loaded) → AreRead operands inputs
+      → IsWithin (union_of inputs) (brought_by (outside_all operands))
   inputs_within End [] read = laws.IsWithin-refl _
   inputs_within End (l ∷ ls) read = absurd read
   inputs_within (Whole m operands) [] read = absurd read

@@ -10,7 +10,7 @@ use Rattle.cadf_frame.proofs.ReadingLemmas as reading
 use Rattle.cadf_file.specs.InventoryReads.{ReadsInventory}
 use Rattle.cadf_file.specs.InventoryVerdict.{inventory_form, noted_or_fault, inventory_decided, inventory_verdict}
 use Rattle.cadf_file.proofs.InventoryVerdictLemmas.{accepts-inventories}
-use Rattle.cadf_tool.specs.declared.TheConstants.{FILE_LIMIT}
+use Rattle.cadf_frame.specs.declared.file_feed.TheConstants.{FILE_LIMIT}
 use Rattle.cadf_tool.specs.InputFault.{of_file}
 use Rattle.cadf_tool.specs.Faults.{of_load}
 use Rattle.cadf_tool.specs.InventoryInput.{RefusesInventory, as_inventory}

@@ -20,6 +20,8 @@ pub mod HeldReplicas
 pub mod ShownAgain
 pub mod DigestBytes
 pub mod InventoryParts
+pub mod Brought
+pub mod RuledFiles
 pub mod ExchangeWithin
 pub mod ExchangeLemmas
 pub mod ExchangeLaws

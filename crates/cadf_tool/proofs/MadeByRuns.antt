@@ -9,7 +9,7 @@ use Rattle.cadf_replica.specs.Inventory.{Noted}
 use Rattle.cadf_replica.specs.Replica.{Held}
 use Rattle.cadf_file.specs.InventoryFile.{inventory_file}
 use Rattle.cadf_tool.specs.WrittenFile.{file}
-use Rattle.cadf_tool.specs.declared.TheConstants.{FILE_LIMIT}
+use Rattle.cadf_frame.specs.declared.file_feed.TheConstants.{FILE_LIMIT}
 use Rattle.cadf_tool.specs.declared.fault.ToolFault.{ToolFault}
 use Rattle.cadf_tool.specs.Told.{log_named, atoms_loaded, under_log, held_of}
 use Rattle.cadf_tool.specs.Inputs.{Seen, seen}
@@ -18,9 +18,10 @@ use Rattle.cadf_tool.specs.InventoryInput.{as_inventory}
 use Rattle.cadf_tool.specs.Join.{join_of}
 use Rattle.cadf_tool.specs.Missing.{part_of}
 use Rattle.cadf_tool.specs.MissingBy.{noted_of, part_by, IsInventoryInput}
-use Rattle.cadf_tool.specs.Rule.{ruled_of}
+use Rattle.cadf_tool.specs.Rule.{ruling_on, ruling_for, ruled_of}
 use Rattle.cadf_tool.specs.TwoTexts.{IsTextOf}
-use Rattle.cadf_tool.specs.Exchange.{Making, Joined, Operands, IsMade, IsPartOf, IsInventoryOf, IsNotedOf, IsPartByOf, IsRuledOf, GivesFile, AreSources}
+use Rattle.cadf_tool.specs.Exchange.{Making, Joined, Ruled, Operands, IsMade, IsPartOf, IsInventoryOf, IsNotedOf, IsPartByOf, GivesFile, AreSources}
+use Rattle.cadf_tool.proofs.RulingAdded.{ruled_is}
 use Rattle.cadf_tool.proofs.ExchangeLaws.{read_of, are_read, written_behind}
 
 -- ---- a run that was answered with Ok
@@ -100,17 +101,26 @@ module _ {S W T : Type 0} (source : Source S) (sink : Sink W) (old new : W) (t :
 
   pub rule_makes : (letter key : Text) (place : ℕ) (m : Making) (input after : S) → GivesFile (λ b. IsMade m b) (seen source input)
       → IsRun (one as_input (used source input after)) (ruled_of letter key place) file sink old new (Ok t)
-      → (bytes : List ℕ) × (sink.written new ≡ Some (before ++ bytes)) × IsRuledOf letter key place (λ b. IsMade m b) bytes
+      → (value : Text) × (bytes : List ℕ) × (sink.written new ≡ Some (before ++ bytes))
+      × IsMade (Ruled place (ruling_on letter key value) m) bytes
   rule_makes letter key place m input after s run =
       by (run_ok (one as_input (used source input after)) (ruled_of letter key place) file sink old new t run)
     where
       by : HasRun (one as_input (used source input after)) (ruled_of letter key place) file sink old new t
-          → (bytes : List ℕ) × (sink.written new ≡ Some (before ++ bytes)) × IsRuledOf letter key place (λ b. IsMade m b) bytes
-      by (loaded, h, r, made, w) = (
-        file h,
-        text_behind sink old new before (file h) begun w,
-        (loaded, read_of (λ b. IsMade m b) (seen source input) (seen source after) loaded s r, (h, made, refl)),
-      )
+          → (value : Text) × (bytes : List ℕ) × (sink.written new ≡ Some (before ++ bytes))
+          × IsMade (Ruled place (ruling_on letter key value) m) bytes
+      by (loaded, h, r, made, w) =
+          let ruled = ruled_is letter key place (log_named loaded) (atoms_loaded loaded) h made in (
+            ruled.value,
+            file h,
+            text_behind sink old new before (file h) begun w,
+            (
+              loaded,
+              read_of (λ b. IsMade m b) (seen source input) (seen source after) loaded s r,
+              ap (ruling_for letter key) ruled.at_place,
+              (h, made, refl),
+            ),
+          )
 
   noted_of_file : (to : List ℕ → Type 0) (by by_after : Seen) (noted : Noted) → GivesFile (IsInventoryOf to) by
       → IsReadAs as_inventory (record { old = by; new = by_after }) noted → IsNotedOf to noted

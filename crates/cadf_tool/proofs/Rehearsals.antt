@@ -7,7 +7,7 @@ use Rattle.cadf_tool.specs.declared.fault.ToolFault.{ToolFault}
 use Rattle.cadf_tool.specs.Faults.{Stage, Reading, Working, Writing, Starving, stage_of}
 use Rattle.cadf_tool.specs.Rehearse.{IsScriptJudged, as_bytes, as_script, turns_of, left_of, played_in, played}
 use Rattle.cadf_tool.specs.Run.{Use, one, IsReadAs, IsReadWithin, IsFirstFault, IsDue, IsWorked}
-use Rattle.cadf_tool.specs.declared.TheConstants.{FILE_LIMIT}
+use Rattle.cadf_frame.specs.declared.file_feed.TheConstants.{FILE_LIMIT}
 use Rattle.cadf_tool.proofs.Runs.{worked}
 
 -- what was read of a source is a script, if its bytes are

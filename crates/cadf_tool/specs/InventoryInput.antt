@@ -8,7 +8,7 @@ use Rattle.cadf_replica.specs.Inventory.{Noted}
 use Rattle.cadf_frame.specs.declared.fault.FileFault.{FileFault}
 use Rattle.cadf_frame.specs.declared.fault.FileFault.TheVariants.{Trailing, ReadFault, Memory}
 use Rattle.cadf_file.specs.InventoryVerdict.{inventory_decided, inventory_verdict}
-use Rattle.cadf_tool.specs.declared.TheConstants.{FILE_LIMIT}
+use Rattle.cadf_frame.specs.declared.file_feed.TheConstants.{FILE_LIMIT}
 use Rattle.cadf_tool.specs.declared.input.LoadFault.{LoadFault}
 use Rattle.cadf_tool.specs.InputFault.{of_file}
 use Rattle.cadf_tool.specs.Inputs.{Seen}

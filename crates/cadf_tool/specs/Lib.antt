@@ -14,5 +14,6 @@ pub mod MissingBy
 pub mod Rule
 pub mod Rehearse
 pub mod Sites
+pub mod Metered
 pub mod Exchange
 pub mod TwoTexts

@@ -13,7 +13,7 @@ use Rattle.cadf_rehearsal.specs.declared.fault.RehearseFault.TheVariants.{NoSite
 use Rattle.cadf_rehearsal.specs.Schedule.{World, after}
 use Rattle.cadf_rehearsal.specs.Federation.{left_by}
 use Rattle.cadf_script.specs.Script.{IsScript, IsFirstBad, lines_of}
-use Rattle.cadf_tool.specs.declared.TheConstants.{FILE_LIMIT}
+use Rattle.cadf_frame.specs.declared.file_feed.TheConstants.{FILE_LIMIT}
 use Rattle.cadf_tool.specs.declared.input.LoadFault.{LoadFault}
 use Rattle.cadf_tool.specs.declared.input.LoadFault.TheVariants.{TooLarge, ReadFault}
 use Rattle.cadf_tool.specs.declared.fault.ToolFault.{ToolFault}

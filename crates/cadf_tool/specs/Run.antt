@@ -10,7 +10,7 @@ use Rattle.cadf_json.specs.declared.stream.Source.{Ghosts as Source}
 use Rattle.cadf_json.specs.declared.stream.Sink.{Ghosts as Sink}
 use Rattle.cadf_json.specs.Streams.{AppendsFront, counted}
 use Rattle.cadf_join.specs.Contents.{Text}
-use Rattle.cadf_tool.specs.declared.TheConstants.{FILE_LIMIT}
+use Rattle.cadf_frame.specs.declared.file_feed.TheConstants.{FILE_LIMIT}
 use Rattle.cadf_tool.specs.declared.input.Loaded.{Loaded}
 use Rattle.cadf_tool.specs.declared.input.LoadFault.{LoadFault}
 use Rattle.cadf_tool.specs.declared.fault.ToolFault.{ToolFault}

@@ -9,6 +9,7 @@ mod inputs;
 mod inventory;
 mod join;
 pub mod laws;
+mod metered;
 mod missing;
 mod missing_by;
 mod rehearse;
@@ -22,11 +23,10 @@ pub use crate::fault::{ToolFault, status};
 pub use crate::input::{LoadFault, Loaded, load, load_within};
 pub use crate::inventory::run_inventory;
 pub use crate::join::run_join;
+pub use crate::metered::{Metered, Oversized};
 pub use crate::missing::run_missing;
 pub use crate::missing_by::run_missing_by;
 pub use crate::rehearse::run_rehearse;
 pub use crate::rule::run_rule;
 pub use crate::show::run_show;
-
-/// The most bytes that an input may have.
-pub const FILE_LIMIT: usize = 1 << 30;
+pub use cadf_file::FILE_LIMIT;

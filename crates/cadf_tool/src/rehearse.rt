@@ -20,7 +20,7 @@ fn bytes_of<R: Source>(alloc: Global, script: &mut R) -> Result<Vec<u8>, ToolFau
     ensures err { IfErr result (IsUnread (one as_script (used R.Source script.old script.new))) }
     ensures reads { IsReadWithin FILE_LIMIT (used R.Source script.old script.new) }
 {
-    match read_whole(alloc, script, FILE_LIMIT) {
+    match read_whole(alloc, script, FILE_LIMIT as usize) {
         Ok(bytes) => Ok(bytes),
         Err(WholeFault::TooLarge) => Err(ToolFault::Input(1, LoadFault::TooLarge)),
         Err(WholeFault::ReadFault) => Err(ToolFault::ReadFault(1)),

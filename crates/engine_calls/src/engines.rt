@@ -5,17 +5,20 @@ use crate::words::Words;
 use cadf_event::Name;
 use cadf_json::{MemorySink, MemorySource};
 use cadf_tool::{
-    ToolFault, run_check, run_inventory, run_join, run_missing, run_missing_by, run_rehearse,
-    run_rule, run_show, status,
+    Metered, ToolFault, run_check, run_inventory, run_join, run_missing, run_missing_by,
+    run_rehearse, run_rule, run_show, status,
 };
-use calls::refused;
+use calls::{push, push_number, refused};
 use std::alloc::{AllocError as Memory, Global};
 
 /// What an engine answered: nothing where the words don't say what to run.
 type Ran = Option<Result<(), ToolFault>>;
 
+/// What an engine writes to: its bytes are counted, as the command counts them.
+type Output = Metered<MemorySink>;
+
 /// `run_join`: a log, empty for none, and readers.
-fn join(alloc: Global, words: Words<'_>, sink: &mut MemorySink) -> Ran {
+fn join(alloc: Global, words: Words<'_>, sink: &mut Output) -> Ran {
     let log = Name::read(alloc, words.text(4)).ok();
     let mut inputs: Vec<MemorySource<'_>> = Vec::new(alloc);
     for place in (5..words.count()).step_by(3) {
@@ -25,19 +28,19 @@ fn join(alloc: Global, words: Words<'_>, sink: &mut MemorySink) -> Ran {
 }
 
 /// `run_missing`: two readers.
-fn missing(alloc: Global, words: Words<'_>, sink: &mut MemorySink) -> Ran {
+fn missing(alloc: Global, words: Words<'_>, sink: &mut Output) -> Ran {
     let (mut from, mut to) = (words.source(4), words.source(7));
     Some(run_missing(alloc, &mut from, &mut to, sink))
 }
 
 /// `run_missing_by`: two readers.
-fn missing_by(alloc: Global, words: Words<'_>, sink: &mut MemorySink) -> Ran {
+fn missing_by(alloc: Global, words: Words<'_>, sink: &mut Output) -> Ran {
     let (mut from, mut inventory) = (words.source(4), words.source(7));
     Some(run_missing_by(alloc, &mut from, &mut inventory, sink))
 }
 
 /// `run_rule`: a letter, a key, a place and a reader.
-fn rule(alloc: Global, words: Words<'_>, sink: &mut MemorySink) -> Ran {
+fn rule(alloc: Global, words: Words<'_>, sink: &mut Output) -> Ran {
     let letter = words.text(4).chars().next()?;
     let key = Name::read(alloc, words.text(5)).ok()?;
     let place = words.number(6) as u64;
@@ -46,20 +49,20 @@ fn rule(alloc: Global, words: Words<'_>, sink: &mut MemorySink) -> Ran {
 }
 
 /// `run_rehearse`: a log, a number of sites and a reader.
-fn rehearse(alloc: Global, words: Words<'_>, sink: &mut MemorySink) -> Ran {
+fn rehearse(alloc: Global, words: Words<'_>, sink: &mut Output) -> Ran {
     let log = Name::read(alloc, words.text(4)).ok()?;
     let mut script = words.source(6);
     Some(run_rehearse(alloc, &log, words.number(5), &mut script, sink))
 }
 
 /// `run_show`: `log` or `conflicts`, and a reader.
-fn show(alloc: Global, words: Words<'_>, sink: &mut MemorySink) -> Ran {
+fn show(alloc: Global, words: Words<'_>, sink: &mut Output) -> Ran {
     let conflicts = words.text(4) == "conflicts";
     Some(run_show(alloc, conflicts, &mut words.source(5), sink))
 }
 
 /// Runs the engine of that name.
-fn run(alloc: Global, words: Words<'_>, sink: &mut MemorySink) -> Ran {
+fn run(alloc: Global, words: Words<'_>, sink: &mut Output) -> Ran {
     match words.text(0) {
         "run_join" => join(alloc, words, sink),
         "run_missing" => missing(alloc, words, sink),
@@ -73,21 +76,26 @@ fn run(alloc: Global, words: Words<'_>, sink: &mut MemorySink) -> Ran {
     }
 }
 
+/// Makes the writer of an engine.
+fn output(alloc: Global, words: Words<'_>) -> Output {
+    Metered::new(words.sink(alloc, 1))
+}
+
 /// Makes the answer of an engine: what is told of it, and what it wrote.
-fn answer(alloc: Global, told: String, sink: &MemorySink) -> Result<Answer, Memory> {
-    let written = Vec::from_slice(alloc, sink.bytes())?;
+fn answer(alloc: Global, told: String, sink: Output) -> Result<Answer, Memory> {
+    let written = Vec::from_slice(alloc, sink.into_inner().bytes())?;
     Ok(Answer { told, written })
 }
 
 /// The answer of an engine.
 pub(crate) fn answered(alloc: Global, words: Words<'_>) -> Result<Answer, Memory> {
-    let mut sink = words.sink(alloc, 1);
+    let mut sink = output(alloc, words);
     let told = match run(alloc, words, &mut sink) {
         Some(Ok(())) => calls::answer(alloc, "ok", &[])?,
         Some(Err(fault)) => refused(alloc, &fault)?,
         None => calls::answer(alloc, "no such call", &[])?,
     };
-    answer(alloc, told, &sink)
+    answer(alloc, told, sink)
 }
 
 /// The status and the text of a fault.
@@ -102,10 +110,35 @@ fn status_and_text(alloc: Global, fault: &ToolFault) -> Result<String, Memory> {
 
 /// `fault`: an engine's call, of which the fault's status and text are told.
 pub(crate) fn faulted(alloc: Global, words: Words<'_>) -> Result<Answer, Memory> {
-    let mut sink = words.sink(alloc, 1);
+    let mut sink = output(alloc, words);
     let told = match run(alloc, words, &mut sink) {
         Some(Err(fault)) => status_and_text(alloc, &fault)?,
         _ => calls::answer(alloc, "no fault", &[])?,
     };
-    answer(alloc, told, &sink)
+    answer(alloc, told, sink)
+}
+
+/// Answers how many bytes were written, and the report if they are more than the limit.
+fn count_and_warning(alloc: Global, sink: &Output, limit: u64) -> Result<String, Memory> {
+    let mut line = calls::answer(alloc, "ok", &[])?;
+    push_number(alloc, &mut line, i128::from(sink.taken()))?;
+    match sink.oversized(limit) {
+        Some(oversized) => {
+            push(&mut line, "some")?;
+            push(&mut line, format!(in alloc; "{oversized}")?.as_str())?;
+        }
+        None => push(&mut line, "none")?,
+    }
+    Ok(line)
+}
+
+/// `metered`: a limit and an engine's call. Answers how many bytes it wrote, even if it failed.
+pub(crate) fn metered(alloc: Global, words: Words<'_>) -> Result<Answer, Memory> {
+    let call = words.inner().inner();
+    let mut sink = output(alloc, call);
+    let told = match run(alloc, call, &mut sink) {
+        Some(_) => count_and_warning(alloc, &sink, words.number(1) as u64)?,
+        None => calls::answer(alloc, "no such call", &[])?,
+    };
+    answer(alloc, told, sink)
 }

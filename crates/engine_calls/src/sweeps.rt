@@ -12,6 +12,7 @@ fn one(alloc: Global, words: Words<'_>) -> Result<Answer, Memory> {
         "load" => loads::load_all(alloc, words),
         "load_within" => loads::load_limited(alloc, words),
         "fault" => engines::faulted(alloc, words.inner()),
+        "metered" => engines::metered(alloc, words),
         _ => engines::answered(alloc, words),
     }
 }

@@ -23,8 +23,6 @@ fn answer(alloc: Global, line: &str) -> Result<String, Memory> {
         "canonical" => looks::canonical(alloc, call.text(1)),
         "text" => builds::text(alloc, call.text(1)),
         "quoted" => builds::quoted(alloc, call.text(1)),
-        "list" => builds::list(alloc, &call),
-        "object" => builds::object(alloc, &call),
         "split" => splits::split(alloc, call.text(1), call.text(2)),
         "check_list" => passes::list(alloc, call.text(1)),
         "may_be_json" => passes::may_be_json(alloc, call.text(1)),
