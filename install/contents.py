@@ -1,0 +1,66 @@
+"""What is installed: the command, the tools around it with their parts, the manual page, pages, examples, completions.
+
+install/install puts these files under a prefix, install/package into a package.
+"""
+import os
+import subprocess
+from typing import NamedTuple
+
+import record
+
+# The pages keep the places that they name each other by, so TOP=PREFIX/share/doc/cadf serves the commands that they show.
+DOC = "share/doc/cadf"
+PAGES = ("README.md", "CHANGELOG.md", "bench/RESULTS.md")
+# These examples need differential/, which is not installed.
+NOT_INSTALLED = ("examples/many-sites.py", "examples/parcelled.py")
+ZSH = "share/zsh/site-functions"
+
+
+class File(NamedTuple):
+    """A file to install: its place under the prefix, its permissions, and what is in it."""
+    place: str
+    mode: int
+    content: bytes
+
+
+def file_of(top, name, place, mode=None):
+    """The file of the tree, for that place, with the permissions of its kind unless others are given."""
+    path = os.path.join(top, name)
+    with open(path, "rb") as file:
+        return File(place, mode or (0o755 if os.access(path, os.X_OK) else 0o644), file.read())
+
+
+def names_below(top, folder):
+    """The names of the files in a folder of the tree: those that the history knows, or all where there is none."""
+    listed = record.answer(["git", "ls-files", "--", folder], top).splitlines()
+    walked = (os.path.join(at, name) for at, _, names in os.walk(os.path.join(top, folder)) for name in names)
+    found = listed or [os.path.relpath(path, top) for path in walked if not path.endswith(".pyc")]
+    return sorted(name for name in found if os.path.exists(os.path.join(top, name)))
+
+
+def files(top):
+    """Yields what is installed, by its place under the prefix."""
+    yield file_of(top, os.path.relpath(record.binary(top), top), "bin/cadf", 0o755)
+    yield file_of(top, "install/cadf.1", "share/man/man1/cadf.1")
+    for name in names_below(top, "tools"):
+        tool = os.path.basename(name)
+        yield file_of(top, name, "bin/" + tool)
+        yield File("share/man/man1/%s.1" % tool, 0o644, b".so man1/cadf.1\n")  # `man cadf-take` shows the one page
+    for name in names_below(top, "share"):
+        yield file_of(top, name, name)
+    yield file_of(top, "install/cadf.bash", "share/bash-completion/completions/cadf")
+    yield file_of(top, "install/_cadf", ZSH + "/_cadf")
+    pages = names_below(top, "docs")
+    examples = [name for name in names_below(top, "examples") if name not in NOT_INSTALLED]
+    for name in (*PAGES, *pages, *examples):
+        yield file_of(top, name, "%s/%s" % (DOC, name))
+
+
+def is_in_zsh(folder):
+    """Whether zsh looks for completions in the folder; None where there is no zsh."""
+    try:
+        ran = subprocess.run(["zsh", "-c", "print -l $fpath"], stdin=subprocess.DEVNULL, stdout=subprocess.PIPE,
+                             stderr=subprocess.DEVNULL, check=False)
+    except OSError:
+        return None
+    return os.path.realpath(folder) in map(os.path.realpath, ran.stdout.decode("utf-8", "replace").splitlines())
