@@ -3,7 +3,7 @@
 use crate::spelled::atom;
 use crate::told;
 use cadf_json::Memory;
-use cadf_replica::{Atom, Letter, path_atom};
+use cadf_replica::{Atom, KeyKind, Letter, path_atom};
 use calls::{Call, answer, refused};
 use std::alloc::Global;
 use std::cmp::Ordering;
@@ -12,6 +12,7 @@ use std::cmp::Ordering;
 pub(crate) fn answered(alloc: Global, name: &str, call: &Call) -> Result<String, Memory> {
     match name {
         "letter" => letter(alloc, call.text(1)),
+        "kind" => kind(alloc, call.text(1)),
         "read" => read(alloc, call.text(1)),
         _ => match atom(alloc, call.text(1))? {
             Some(atom) => told_of(alloc, name, atom, call),
@@ -75,4 +76,13 @@ fn letter(alloc: Global, name: &str) -> Result<String, Memory> {
         _ => Letter::Tag,
     };
     format!(in alloc; "{}\t{}", letter.text(), letter.char())
+}
+
+/// Answers the letter of the kind of keys that has the character.
+fn kind(alloc: Global, text: &str) -> Result<String, Memory> {
+    let letter = text.chars().next().unwrap_or(' ');
+    match KeyKind::of(letter) {
+        Some(kind) => answer(alloc, "some", &[kind.letter().text()]),
+        None => answer(alloc, "none", &[]),
+    }
 }

@@ -70,13 +70,13 @@ fn taken(
 fn listed(alloc: Global, ours: &Replica) -> Result<String, Memory> {
     let mut line = answer(alloc, "ok", &[])?;
     for ruling in ours.rulings()? {
-        push_ruling(alloc, &mut line, &ruling)?;
+        push_ruling(&mut line, &ruling)?;
     }
     Ok(line)
 }
 
-fn push_ruling(alloc: Global, line: &mut String, ruling: &Ruling) -> Result<(), Memory> {
-    push(line, format!(in alloc; "{}", ruling.letter())?.as_str())?;
+fn push_ruling(line: &mut String, ruling: &Ruling) -> Result<(), Memory> {
+    push(line, ruling.kind().letter().text())?;
     push(line, ruling.key())?;
     push(line, ruling.digest())
 }
