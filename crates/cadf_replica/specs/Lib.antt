@@ -12,6 +12,7 @@ pub mod KeyKinds
 pub mod Letters
 pub mod Line
 pub mod Missing
+pub mod NextKinds
 pub mod Order
 pub mod PathKind
 pub mod Refusals
