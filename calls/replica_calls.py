@@ -13,6 +13,7 @@ CALLS = {
     "atom.path_atom": ["path_atom"],
     "atom.letter": ["Letter::text", "Letter::char"],
     "atom.kind": ["KeyKind::of", "KeyKind::letter"],
+    "atom.kind_of_text": ["KeyKind::read"],
     "path.kind": ["path_kind"],
     "path.kind_with": ["path_kind_with"],
     "path.may_follow": ["may_follow"],
@@ -144,8 +145,12 @@ for name, letter in [("Event", "E"), ("Geolocation", "G"), ("Metric", "M"), ("Pr
     row("Atoms", "atom.letter", [name], letter, letter)
 for letter in "EGMPR":
     row("Atoms", "atom.kind", [letter], "some", letter)
+    row("Atoms", "atom.kind_of_text", [letter], "some", letter)
 for letter in "UACTXe":
     row("Atoms", "atom.kind", [letter], "none")
+    row("Atoms", "atom.kind_of_text", [letter], "none")
+for text in ["", "EG", "E "]:
+    row("Atoms", "atom.kind_of_text", [text], "none")
 
 # ---- Lists of texts that are atoms, begin one, or do neither.
 for kind, texts in [

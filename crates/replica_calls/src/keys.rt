@@ -1,6 +1,6 @@
 //! Calls of the keys of a replica. The words are the replica, a letter, and a key or another text.
 
-use crate::spelled::replica;
+use crate::spelled::{letter_at, replica};
 use crate::told;
 use cadf_json::Memory;
 use cadf_replica::{KeyKind, Replica};
@@ -10,7 +10,7 @@ use std::alloc::Global;
 /// Answers the call of that name.
 pub(crate) fn answered(alloc: Global, name: &str, call: &Call) -> Result<String, Memory> {
     let ours = replica(alloc, call.text(1))?;
-    let letter = call.text(2).chars().next().unwrap_or(' ');
+    let letter = letter_at(call, 2);
     let key = call.text(3);
     match name {
         "least_key" => told::text(alloc, ours.key_after(letter, None)?),
