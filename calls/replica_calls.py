@@ -12,6 +12,8 @@ CALLS = {
     "atom.new": ["Atom::new", "Atom::into_parts"],
     "atom.path_atom": ["path_atom"],
     "atom.letter": ["Letter::text", "Letter::char"],
+    "atom.kind": ["KeyKind::of", "KeyKind::letter"],
+    "atom.kind_of_text": ["KeyKind::read"],
     "path.kind": ["path_kind"],
     "path.kind_with": ["path_kind_with"],
     "path.may_follow": ["may_follow"],
@@ -52,7 +54,7 @@ CALLS = {
     "ruling.read": ["Ruling::read", "Ruling::letter", "Ruling::key", "Ruling::digest"],
     "ruling.of": ["Ruling::of"],
     "ruling.take": ["Replica::take_ruling"],
-    "ruling.rulings": ["Replica::rulings"],
+    "ruling.rulings": ["Replica::rulings", "Ruling::kind"],
     "inventory.has": ["Inventory::has"],
     "inventory.put": ["Inventory::new", "Inventory::put"],
     "inventory.least_digest": ["Inventory::digest_after"],
@@ -141,6 +143,14 @@ for one, other, order in [
 for name, letter in [("Event", "E"), ("Geolocation", "G"), ("Metric", "M"), ("Property", "P"), ("Resource", "R"), ("Ruling", "U"),
                      ("Attachment", "A"), ("Chain", "C"), ("Tag", "T")]:
     row("Atoms", "atom.letter", [name], letter, letter)
+for letter in "EGMPR":
+    row("Atoms", "atom.kind", [letter], "some", letter)
+    row("Atoms", "atom.kind_of_text", [letter], "some", letter)
+for letter in "UACTXe":
+    row("Atoms", "atom.kind", [letter], "none")
+    row("Atoms", "atom.kind_of_text", [letter], "none")
+for text in ["", "EG", "E "]:
+    row("Atoms", "atom.kind_of_text", [text], "none")
 
 # ---- Lists of texts that are atoms, begin one, or do neither.
 for kind, texts in [
@@ -240,9 +250,8 @@ for text, found in [(CF, C1), (LA, L12), (K1, L12), (LT, C2), (C2, SOUTH), (G1, 
 
 # ---- Keys, and their values.
 KEYED = held(CF, C1, C2, NORTH)
-for letter, keys in [("E", ["e1", "e2"]), ("P", ["name"]), ("R", []), ("U", []), ("X", []), ("", [])]:
+for letter, keys in [("E", ["e1", "e2"]), ("P", ["name"]), ("R", [])]:
     row(REPLICA, "key.keys", [KEYED, letter], "ok", *keys)
-row(REPLICA, "key.keys", [held(C1, UB), "U"], "ok")
 for letter, key in [("E", "e1"), ("P", "name"), ("G", None), ("X", None)]:
     row(REPLICA, "key.least_key", [KEYED, letter], "ok", *option(key))
 row(REPLICA, "key.least_key", [held(C1, UB), "U"], "ok", "none")
@@ -361,11 +370,11 @@ for replica, letter, key, shown, ruled, contested in [
         (held(C1, UB), "E", "e1", B1, None, False),
         (held(NORTH, SOUTHERN), "P", "name", '"north"', None, False),
         (held(NORTH, SOUTH, SOUTHERN), "P", "name", '"south"', '"south"', True),
-        (held(NORTH, SOUTH), "R", "name", None, None, False),
-        (held(C1, UB), "U", "E", None, None, False)]:
+        (held(NORTH, SOUTH), "R", "name", None, None, False)]:
     row("Atoms", "key.shown", [replica, letter, key], "ok", *option(shown))
     row("Atoms", "key.ruled", [replica, letter, key], "ok", *option(ruled))
     row("Atoms", "key.is_contested", [replica, letter, key], "ok", contested)
+row("Atoms", "key.ruled", [held(C1, UB), "U", "E"], "ok", "none")
 for replica, letter, keys in [
         (CONFLICT, "E", ["e1"]), (held(CF, C1, UB), "E", ["e1"]), (held(C1, C2), "E", []), (held(NORTH, SOUTH), "P", ["name"]),
         (held(NORTH, SOUTH), "E", []), (held(CF, C1, C2, line("E", "e2", BF)), "E", ["e1", "e2"])]:

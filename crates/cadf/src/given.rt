@@ -1,6 +1,7 @@
 //! Reads the words that are no files: names, numbers and letters.
 use crate::stop::Stop;
 use cadf_event::{Name, NameFault};
+use cadf_replica::KeyKind;
 use cadf_tool::ToolFault;
 use std::alloc::Global;
 
@@ -57,15 +58,11 @@ pub(crate) fn sites_given(word: &str) -> Result<usize, Stop> {
     }
 }
 
-/// The letter of values that the word is.
+/// Reads the word as the letter of a kind of keys.
 pub(crate) fn letter_given(word: &str) -> Result<char, Stop> {
-    match word {
-        "E" => Ok('E'),
-        "G" => Ok('G'),
-        "M" => Ok('M'),
-        "P" => Ok('P'),
-        "R" => Ok('R'),
-        _ => Err(Stop::Letter),
+    match KeyKind::read(word) {
+        Some(kind) => Ok(kind.letter().char()),
+        None => Err(Stop::Letter),
     }
 }
 

@@ -7,6 +7,7 @@ pub mod Content
 pub mod ContributionLaws
 pub mod History
 pub mod Inventories
+pub mod KeyKinds
 pub mod LineDigests
 pub mod Lists
 pub mod Missing

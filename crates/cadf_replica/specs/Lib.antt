@@ -8,6 +8,7 @@ pub mod Contributions
 pub mod Digest
 pub mod History
 pub mod Inventory
+pub mod KeyKinds
 pub mod Letters
 pub mod Line
 pub mod Missing

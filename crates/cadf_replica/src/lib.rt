@@ -6,6 +6,7 @@ mod by_body;
 mod carrier;
 mod gathering;
 mod inventory;
+mod key_kind;
 pub mod laws;
 mod letter;
 mod line_digest;
@@ -19,6 +20,7 @@ mod unnoted;
 
 pub use atom::{Atom, AtomFault};
 pub use inventory::Inventory;
+pub use key_kind::KeyKind;
 pub use letter::Letter;
 pub use next_kind::next_path_kind;
 pub use path::{PathKind, path_atom, path_kind, path_kind_with};

@@ -1,9 +1,9 @@
 //! Calls of atoms. The first word is a line.
 
-use crate::spelled::atom;
+use crate::spelled::{atom, letter_at};
 use crate::told;
 use cadf_json::Memory;
-use cadf_replica::{Atom, Letter, path_atom};
+use cadf_replica::{Atom, KeyKind, Letter, path_atom};
 use calls::{Call, answer, refused};
 use std::alloc::Global;
 use std::cmp::Ordering;
@@ -12,6 +12,8 @@ use std::cmp::Ordering;
 pub(crate) fn answered(alloc: Global, name: &str, call: &Call) -> Result<String, Memory> {
     match name {
         "letter" => letter(alloc, call.text(1)),
+        "kind" => kind(alloc, KeyKind::of(letter_at(call, 1))),
+        "kind_of_text" => kind(alloc, KeyKind::read(call.text(1))),
         "read" => read(alloc, call.text(1)),
         _ => match atom(alloc, call.text(1))? {
             Some(atom) => told_of(alloc, name, atom, call),
@@ -75,4 +77,12 @@ fn letter(alloc: Global, name: &str) -> Result<String, Memory> {
         _ => Letter::Tag,
     };
     format!(in alloc; "{}\t{}", letter.text(), letter.char())
+}
+
+/// Answers the letter of the kind, if there is one.
+fn kind(alloc: Global, found: Option<KeyKind>) -> Result<String, Memory> {
+    match found {
+        Some(kind) => answer(alloc, "some", &[kind.letter().text()]),
+        None => answer(alloc, "none", &[]),
+    }
 }

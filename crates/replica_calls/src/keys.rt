@@ -1,37 +1,41 @@
 //! Calls of the keys of a replica. The words are the replica, a letter, and a key or another text.
 
-use crate::spelled::replica;
+use crate::spelled::{letter_at, replica};
 use crate::told;
 use cadf_json::Memory;
-use cadf_replica::Replica;
+use cadf_replica::{KeyKind, Replica};
 use calls::{Call, answer};
 use std::alloc::Global;
 
 /// Answers the call of that name.
 pub(crate) fn answered(alloc: Global, name: &str, call: &Call) -> Result<String, Memory> {
     let ours = replica(alloc, call.text(1))?;
-    let letter = call.text(2).chars().next().unwrap_or(' ');
+    let letter = letter_at(call, 2);
+    let key = call.text(3);
     match name {
-        "keys" => told::texts(alloc, &ours.keys(call.text(2))?),
         "least_key" => told::text(alloc, ours.key_after(letter, None)?),
-        "contested" => told::texts(alloc, &ours.contested(letter)?),
-        _ => told_of_key(alloc, name, &ours, letter, call.text(3)),
-    }
-}
-
-fn told_of_key(
-    alloc: Global,
-    name: &str,
-    ours: &Replica,
-    letter: char,
-    key: &str,
-) -> Result<String, Memory> {
-    match name {
         "key_after" => told::text(alloc, ours.key_after(letter, Some(key))?),
         "values" => told::texts(alloc, &ours.values(letter, key)?),
         "ruled" => told::text(alloc, ours.ruled(letter, key)?),
-        "shown" => told::text(alloc, ours.shown(letter, key)?),
-        "is_contested" => told::found_true(alloc, ours.is_contested(letter, key)?),
+        _ => match KeyKind::of(letter) {
+            Some(kind) => told_of_kind(alloc, name, &ours, kind, key),
+            None => answer(alloc, "no such kind", &[]),
+        },
+    }
+}
+
+fn told_of_kind(
+    alloc: Global,
+    name: &str,
+    ours: &Replica,
+    kind: KeyKind,
+    key: &str,
+) -> Result<String, Memory> {
+    match name {
+        "keys" => told::texts(alloc, &ours.keys(kind)?),
+        "contested" => told::texts(alloc, &ours.contested(kind)?),
+        "shown" => told::text(alloc, ours.shown(kind, key)?),
+        "is_contested" => told::found_true(alloc, ours.is_contested(kind, key)?),
         _ => answer(alloc, "no such call", &[]),
     }
 }

@@ -1,6 +1,6 @@
 //! Calls of rulings. The words are a letter, a key, and a digest or a value; or a replica, and these.
 
-use crate::spelled::replica;
+use crate::spelled::{letter_at, replica};
 use crate::told;
 use cadf_json::Memory;
 use cadf_replica::{Replica, Ruling, RulingFault};
@@ -13,7 +13,7 @@ pub(crate) fn answered(alloc: Global, name: &str, call: &Call) -> Result<String,
         "read" => told_of(alloc, read(alloc, call, 1)),
         "of" => told_of(
             alloc,
-            Ruling::of(alloc, letter(call, 1), call.text(2), call.text(3)),
+            Ruling::of(alloc, letter_at(call, 1), call.text(2), call.text(3)),
         ),
         "take" => taken(alloc, replica(alloc, call.text(1))?, read(alloc, call, 2)),
         "rulings" => listed(alloc, &replica(alloc, call.text(1))?),
@@ -21,17 +21,12 @@ pub(crate) fn answered(alloc: Global, name: &str, call: &Call) -> Result<String,
     }
 }
 
-/// Answers the first character of the word.
-fn letter(call: &Call, place: usize) -> char {
-    call.text(place).chars().next().unwrap_or(' ')
-}
-
 /// Answers the ruling that the three words from this one on spell.
 fn read(alloc: Global, call: &Call, first: usize) -> Result<Ruling, RulingFault> {
     let (key, digest) = (first.saturating_add(1), first.saturating_add(2));
     Ruling::read(
         alloc,
-        letter(call, first),
+        letter_at(call, first),
         call.text(key),
         call.text(digest),
     )
@@ -70,13 +65,13 @@ fn taken(
 fn listed(alloc: Global, ours: &Replica) -> Result<String, Memory> {
     let mut line = answer(alloc, "ok", &[])?;
     for ruling in ours.rulings()? {
-        push_ruling(alloc, &mut line, &ruling)?;
+        push_ruling(&mut line, &ruling)?;
     }
     Ok(line)
 }
 
-fn push_ruling(alloc: Global, line: &mut String, ruling: &Ruling) -> Result<(), Memory> {
-    push(line, format!(in alloc; "{}", ruling.letter())?.as_str())?;
+fn push_ruling(line: &mut String, ruling: &Ruling) -> Result<(), Memory> {
+    push(line, ruling.kind().letter().text())?;
     push(line, ruling.key())?;
     push(line, ruling.digest())
 }

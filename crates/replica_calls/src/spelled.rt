@@ -3,6 +3,7 @@
 use cadf_event::Name;
 use cadf_json::{Memory, quoted};
 use cadf_replica::{Atom, AtomFault, Inventory, Replica, ReplicaFault};
+use calls::Call;
 use hex::FromHex;
 use std::alloc::Global;
 
@@ -104,4 +105,9 @@ pub(crate) fn of_inventory(alloc: Global, inventory: &Inventory) -> Result<Strin
         spelled.push_str(hex::encode(alloc, digest)?.as_str())?;
     }
     Ok(spelled)
+}
+
+/// Answers the first character of the word, or a blank.
+pub(crate) fn letter_at(call: &Call, place: usize) -> char {
+    call.text(place).chars().next().unwrap_or(' ')
 }
