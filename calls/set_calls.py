@@ -15,23 +15,14 @@ CALLS = {
     "value.is_empty": ["Join::is_empty"],
     "value.list_count": ["Join::list_count"],
     "value.append_lists": ["Join::append_lists"],
-    "value.walk": ["Walk::walk", "Visitor::visit"],
-    "value.walk_behind": ["walk_behind"],
     "texts.insert": ["TextSet::new", "TextSet::insert"],
     "texts.contains": ["TextSet::contains"],
-    "texts.text_count": ["TextSet::text_count"],
     "texts.least": ["TextSet::after"],
     "texts.after": ["TextSet::after"],
-    "texts.texts": ["TextSet::texts"],
-    "texts.has_several": ["HasFirsts::has_several"],
     "map.get": ["JoinMap::get"],
     "map.join_at": ["JoinMap::new", "JoinMap::join_at"],
-    "map.take_at": ["JoinMap::take_at"],
     "map.least": ["JoinMap::after"],
     "map.after": ["JoinMap::after"],
-    "map.keys": ["JoinMap::keys"],
-    "map.key_count": ["JoinMap::key_count"],
-    "map.has_several": ["HasFirsts::has_several"],
     "tree.insert": ["ChainTree::new", "ChainTree::insert"],
     "tree.contains": ["ChainTree::contains"],
     "tree.count": ["ChainTree::count"],
@@ -46,6 +37,7 @@ CALLS = {
     "paths.holds": ["Paths::holds"],
     "paths.contains": ["Paths::contains"],
     "paths.ends_behind": ["Paths::ends_behind"],
+    "paths.walk": ["Walk::walk", "Visitor::visit"],
     "paths.least": ["Paths::list_after"],
     "paths.list_after": ["Paths::list_after"],
     "paths.is_above": ["Paths::is_above"],
@@ -58,7 +50,6 @@ CALLS = {
     "paths.several_behind": ["Paths::several_behind"],
     "paths.longest_behind": ["Paths::longest_behind"],
     "prefix.copied": ["copied"],
-    "prefix.longer": ["longer"],
 }
 
 SETS = "PROMISES: Sets that join"
@@ -144,7 +135,6 @@ ALONE = [
 
 for kind, written in ALONE:
     row(*value("copy", kind, written), "ok", lists(written))
-    row(*value("walk", kind, written), "ok", lists(written))
     row(*value("is_empty", kind, written), not written)
     row(*value("list_count", kind, written), len(written.split()))
 
@@ -158,31 +148,20 @@ PREFIXED = [
 for kind, written, prefix, wanted in PREFIXED:
     row("value.append_lists", [kind, lists(written), lst(prefix)], "ok", lists(wanted))
 
-for kind, written, text, wanted in [
-        ("texts", "b a", "p", "p/a p/b"), ("map of texts", "k/a l/c", "p", "p/k/a p/l/c"), ("tree", "a a/b", "p", "p/a p/a/b"),
-        ("paths", "- a", "p", "p p/a"), ("map of maps", "", "p", "")]:
-    row("value.walk_behind", [kind, lists(written), text], "ok", lists(wanted))
-
 # A value's texts are any texts: the empty one, those that JSON escapes, and those whose order is that of their bytes.
-row("value.walk", ["texts", spelled([["\U00010000"], ["\uffff"], ["é"], ["z"], [""], ["a\"\\\n\t\x01\x7f"]])],
+row("value.copy", ["texts", spelled([["\U00010000"], ["\uffff"], ["é"], ["z"], [""], ["a\"\\\n\t\x01\x7f"]])],
     "ok", '[[""],["a\\"\\\\\\n\\t\\u0001\x7f"],["z"],["é"],["\uffff"],["\U00010000"]]')
-row("value.walk", ["paths", spelled([["a", ""], ["a"], [""], []])], "ok", spelled([[], [""], ["a"], ["a", ""]]))
+row("value.copy", ["paths", spelled([["a", ""], ["a"], [""], []])], "ok", spelled([[], [""], ["a"], ["a", ""]]))
 
 # Sets of texts.
 for written, text, new, after in [("", "b", True, "b"), ("b", "a", True, "a b"), ("a b", "b", False, "a b")]:
     row("texts.insert", [lists(written), text], "ok", new, lists(after))
 for text, held in [("a", True), ("c", False), ("", False), ("ab", False)]:
     row("texts.contains", [lists("a b"), text], held)
-for written, count in [("", 0), ("b a b", 2)]:
-    row("texts.text_count", [lists(written)], count)
 row("texts.least", [lists("b a")], "some", "a")
 row("texts.least", [lists("")], "none")
 for text, found in [("a", "b"), ("ab", "b"), ("b", ""), ("", "a"), ("B", "a")]:
     row("texts.after", [lists("b a"), text], *(["some", found] if found else ["none"]))
-row("texts.texts", [lists("b a")], "ok", "a", "b")
-row("texts.texts", [lists("")], "ok")
-for written, several in [("", False), ("a", False), ("b a", True)]:
-    row("texts.has_several", [lists(written)], several)
 
 # Maps. The first word is the kind of the values.
 LARGE = "k/a k/b l/c"
@@ -190,23 +169,17 @@ for kind, written, key, found in [
         ("texts", LARGE, "k", "a b"), ("texts", LARGE, "l", "c"), ("texts", LARGE, "m", None), ("texts", "", "k", None),
         ("tree", "body/s/t body/s", "body", "s s/t"), ("tree", "body/s", "s", None), ("map of texts", "o/k/a", "o", "k/a")]:
     row("map.get", [kind, lists(written), key], *(["none"] if found is None else ["some", lists(found)]))
-for call in ["map.join_at", "map.take_at"]:
-    for kind, written, key, added, after in [
-            ("texts", "", "k", "a", "k/a"), ("texts", "k/a", "k", "b", "k/a k/b"), ("texts", "k/a", "l", "c", "k/a l/c"),
-            ("texts", "k/a", "k", "a", "k/a"), ("tree", "", "body", "s/t s", "body/s body/s/t"),
-            ("map of texts", "o/k/a", "p", "k/a", "o/k/a p/k/a"),
-            # An empty value is not held.
-            ("texts", "", "z", "", ""), ("texts", "k/a", "z", "", "k/a"), ("texts", "k/a", "k", "", "k/a")]:
-        row(call, [kind, lists(written), key, lists(added)], "ok", lists(after))
+for kind, written, key, added, after in [
+        ("texts", "", "k", "a", "k/a"), ("texts", "k/a", "k", "b", "k/a k/b"), ("texts", "k/a", "l", "c", "k/a l/c"),
+        ("texts", "k/a", "k", "a", "k/a"), ("tree", "", "body", "s/t s", "body/s body/s/t"),
+        ("map of texts", "o/k/a", "p", "k/a", "o/k/a p/k/a"),
+        # An empty value is not held.
+        ("texts", "", "z", "", ""), ("texts", "k/a", "z", "", "k/a"), ("texts", "k/a", "k", "", "k/a")]:
+    row("map.join_at", [kind, lists(written), key, lists(added)], "ok", lists(after))
 row("map.least", ["texts", lists(LARGE)], "some", "k")
 row("map.least", ["texts", lists("")], "none")
 for text, found in [("k", "l"), ("l", ""), ("ka", "l"), ("", "k"), ("j", "k")]:
     row("map.after", ["texts", lists(LARGE), text], *(["some", found] if found else ["none"]))
-row("map.keys", ["texts", lists(LARGE)], "ok", "k", "l")
-row("map.keys", ["tree", lists("")], "ok")
-for written, count in [(LARGE, 2), ("k/a k/b", 1), ("", 0)]:
-    row("map.key_count", ["texts", lists(written)], count)
-    row("map.has_several", ["texts", lists(written)], count > 1)
 
 # Trees of chains.
 for written, chain, new, after in [
@@ -274,6 +247,8 @@ for written, given, after in [("", "-", "-"), ("-", "a", "- a"), ("a a/b", "a/b/
 for prefix, found in [
         ("-", FIVE), ("a", "- a b b/a"), ("a/b", "- a"), ("a/b/a", "-"), ("a/b/b", ""), ("b", ""), ("c", "-"), ("d", "")]:
     row("paths.behind", [lists(FIVE), lst(prefix)], "ok", lists(found))
+for written, path, shown in [("", "-", ""), ("-", "-", "-"), ("b a/b a -", "-", "- a a/b b"), ("a -", "p", "p p/a")]:
+    row("paths.walk", [lists(written), lst(path)], "ok", lists(shown))
 for prefix, found in [("-", "a"), ("a", "a"), ("a/b", "a"), ("c", "b"), ("c/b", ""), ("d", "")]:
     row("paths.least_text", [lists(SIX), lst(prefix)], *(["some", found] if found else ["none"]))
 for prefix, text, found in [
@@ -287,7 +262,5 @@ for prefix, found in [("-", "a/b/a"), ("a", "b/a"), ("a/b", "a"), ("c", "b"), ("
     row("paths.longest_behind", [lists(SIX), lst(prefix)], "ok", *option(found))
 
 # Prefixes of lists.
-row("prefix.longer", [lst("-"), "a"], "ok", lst("a"))
-row("prefix.longer", [lst("a"), "b"], "ok", lst("a/b"))
 row("prefix.copied", [lst("a/b")], "ok", lst("a/b"))
 row("prefix.copied", [lst("-")], "ok", lst("-"))

@@ -1,13 +1,8 @@
 -- What a visitor was shown so far, of all that it is to be shown.
 --     Shown takes old new rest all     the state was led from the old one to the new one by all but the rest
-use Rattle.std.proofs.Common.{◌≡◌, List, [], ◌∷◌, ◌++◌, sym, ap, ap₂, subst, ◌∙◌, append_assoc, Bor}
-use Rattle.std.specs.Prelude.{map}
-use Rattle.std.proofs.lemmas.List.{map_push, map-append}
-use Rattle.cadf_join.specs.Sets as set
-use Rattle.cadf_join.specs.Contents.{Text, Texts, Contents, under}
-use Rattle.cadf_join.specs.Prefixes.{continued, texts_at}
-use Rattle.cadf_join.proofs.Risings.{rising-under}
-use Rattle.cadf_join.proofs.Walks.{append_nothing, continued_below}
+use Rattle.std.proofs.Common.{◌≡◌, List, [], ◌++◌, sym, ap, subst, ◌∙◌, append_assoc}
+use Rattle.cadf_join.specs.Contents.{Texts}
+use Rattle.cadf_join.proofs.Walks.{append_nothing}
 
 pub record Shown {S : Type 0} (takes : S → List Texts → S → Type 0) (old new : S) (rest all : List Texts) : Type 0 where
   pub done : List Texts
@@ -45,28 +40,3 @@ module _ {S F : Type 0} (takes : S → List Texts → S → Type 0) (stops : S �
       → before ≡ here ++ rest → Shown takes u v before all → stops v here f w → stops u all f w
   shown_stops_in sooner u v w before here rest all f e s t =
       shown_stops u v w before all f s (subst (λ xs. stops v xs f w) (sym e) (sooner v w here rest f t))
-
--- the path with one text more
-pub path_longer : (old new : List (Bor Text)) (t : Bor Text) (text : Text) → new ≡ old ++ t ∷ [] → t.now ≡ text → texts_at new ≡ texts_at old ++ text ∷ []
-path_longer old new t text e same = ap texts_at e ∙ map_push (λ x. x.now) old t ∙ ap (λ x. texts_at old ++ x ∷ []) same
-
--- what stands behind a text, in turn before the rest
-pub behind_path : (path longer : Texts) (text : Text) (cs rest : List Texts) → longer ≡ path ++ text ∷ []
-    → continued path (map (λ c. text ∷ c) cs ++ rest) ≡ continued longer cs ++ continued path rest
-behind_path path longer text cs rest e =
-    map-append (λ c. path ++ c) (map (λ c. text ∷ c) cs) rest
-    ∙ ap (λ us. us ++ continued path rest) (sym (ap (λ p. continued p cs) e ∙ continued_below path text cs))
-
--- what stands behind a key, in turn before the rest
-pub behind_key : (old here : List (Bor Text)) (k text : Text) (s : Contents) (rest : List Texts) → here ≡ old → k ≡ text
-    → continued (texts_at old) (map (λ c. text ∷ c) (set.rising s) ++ rest)
-    ≡ continued (texts_at here) (set.rising (under k s)) ++ continued (texts_at old) rest
-behind_key old here k text s rest same is =
-    map-append (λ c. texts_at old ++ c) (map (λ c. text ∷ c) (set.rising s)) rest
-    ∙ ap (λ xs. continued (texts_at old) xs ++ continued (texts_at old) rest) (sym (rising-under text s))
-    ∙ ap₂ (λ p t. continued (texts_at p) (set.rising (under t s)) ++ continued (texts_at old) rest) (sym same) (sym is)
-
--- what is shown behind a longer path is shown behind a text
-pub behind_text : (path longer : Texts) (k : Text) (s : Contents) → longer ≡ path ++ k ∷ []
-    → continued longer (set.rising s) ≡ continued path (set.rising (under k s))
-behind_text path longer k s e = ap (λ p. continued p (set.rising s)) e ∙ continued_below path k (set.rising s) ∙ ap (continued path) (sym (rising-under k s))

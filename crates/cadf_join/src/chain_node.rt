@@ -1,17 +1,16 @@
 //! A place in a tree of prefixes.
-ghost use Rattle.std.specs.Prelude.{◌≡◌, ◌++◌, [], ◌∷◌, ◌↔◌, OnOk, OnErr, IfOk, IfErr, IsTrue, length, not, map};
+ghost use Rattle.std.specs.Prelude.{◌≡◌, ◌++◌, [], ◌∷◌, ◌↔◌, OnOk, OnErr, IfOk, IsTrue, length, not, map};
 ghost use Rattle.cadf_join.specs.Sets as set;
 ghost use Rattle.cadf_join.specs.Contents.{IsBetween, IsWithin, under, section};
 ghost use Rattle.std.specs.Option.{option_copied, option_map};
 ghost use Rattle.cadf_join.specs.Maps.{held};
 ghost use Rattle.std.specs.List.{find};
 ghost use Rattle.cadf_join.specs.Prefixes.{chain_texts, all_texts, texts_found, continued, saturated, chains};
-ghost use Rattle.cadf_join.specs.Prefixes.{Follows, is_from, rising_behind, texts_at};
+ghost use Rattle.cadf_join.specs.Prefixes.{Follows, is_from};
 ghost use Rattle.cadf_join.specs.Longest.{longest, longest_with, longer_than};
 
 use crate::Memory;
 use crate::prefix::copied;
-use crate::walk::{Visitor, lengthen};
 use std::alloc::Global;
 use std::cmp::Ordering;
 use std::collections::BTreeMap;
@@ -213,27 +212,6 @@ impl Node {
         for (text, child) in &self.next {
             path.push(String::from_str(alloc, text.as_str())?)?;
             child.walk(alloc, path, chains)?;
-            path.pop();
-        }
-        Ok(())
-    }
-
-    /// Shows each chain that begins with the path to this node, in order.
-    pub(crate) fn show<'a, S: Visitor>(
-        &'a self,
-        path: &mut Vec<&'a str>,
-        visitor: &mut S,
-    ) -> Result<(), S::Fault>
-        ensures path { OnOk result (path.new.items ≡ path.old.items) }
-        ensures shown { OnOk result (S.takes visitor.old (rising_behind (texts_at path.old.items) self.now) visitor.new) }
-        ensures stopped { IfErr result (λ f. S.stops visitor.old (rising_behind (texts_at path.old.items) self.now) f visitor.new) }
-    {
-        if self.ends {
-            visitor.visit(path.as_slice())?;
-        }
-        for (text, child) in &self.next {
-            lengthen(path, text.as_str())?;
-            child.show(path, visitor)?;
             path.pop();
         }
         Ok(())

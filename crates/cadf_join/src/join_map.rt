@@ -1,5 +1,5 @@
 //! A map from texts to values that join.
-ghost use Rattle.std.specs.Prelude.{◌≡◌, OnOk, OnErr, IfSome, IsSome, length, map, string_bytes};
+ghost use Rattle.std.specs.Prelude.{◌≡◌, OnOk, OnErr, IfSome, IsSome};
 ghost use Rattle.std.specs.Option.{option_copied};
 ghost use Rattle.std.specs.FinMap as fin;
 ghost use Rattle.std.specs.Prelude.{IfOk, IsTrue, ◌↔◌, Some, None, Ok, true, false};
@@ -10,7 +10,6 @@ ghost use Rattle.cadf_join.specs.laws.Maps.{joined_keyed, Puts, PartMissing};
 
 use crate::prefix::longer;
 use crate::text_set::is_after;
-use crate::walk::{Visitor, Walk, walk_behind};
 use crate::{Join, Memory};
 use std::alloc::Global;
 use std::collections::BTreeMap;
@@ -69,19 +68,6 @@ impl<V: Join> JoinMap<V> {
         self.put_new(key, part)
     }
 
-    /// Joins a value into that of the key, and keeps it as it is where there was none, so that nothing is copied. An empty value changes nothing.
-    /// After a refused growth the other keys are as before and this one lies between.
-    pub fn take_at(&mut self, key: &str, value: V) -> Result<(), Memory>
-        ensures ok { OnOk result (contents_at V.contents self.new ≡ set.union (contents_at V.contents self.old) (under key.now (V.contents value))) }
-        ensures err { OnErr result (IsBetween (contents_at V.contents self.old) (contents_at V.contents self.new)
-            (set.union (contents_at V.contents self.old) (under key.now (V.contents value)))) }
-    {
-        if self.join_held(key, &value)? {
-            return Ok(());
-        }
-        self.put_new(key, value)
-    }
-
     /// Joins a value into that of the key, where the key is held, and tells whether it is.
     fn join_held(&mut self, key: &str, value: &V) -> Result<bool, Memory>
         ensures joined { result ≡ Ok true
@@ -109,14 +95,7 @@ impl<V: Join> JoinMap<V> {
         self.put(key, value)
     }
 
-    /// The number of keys.
-    pub fn key_count(&self) -> usize
-        ensures { result ≡ length (set.rising (heads (contents_at V.contents self.now))) }
-    {
-        self.parts.len()
-    }
-
-    /// The least key above the given text, held or not, by their bytes, or the least of all for `None`. Walks all keys before it: `keys` lists them all.
+    /// The least key above the given text, held or not, by their bytes, or the least of all for `None`. Walks all keys before it.
     pub fn after(&self, text: Option<&str>) -> Option<&str>
         ensures { option_copied result ≡ next_after (heads (contents_at V.contents self.now)) (option_copied text.entry) }
     {
@@ -126,17 +105,6 @@ impl<V: Join> JoinMap<V> {
             }
         }
         None
-    }
-
-    /// Each key once, in order.
-    pub fn keys(&self) -> Result<Vec<String>, Memory>
-        ensures { IfOk result (λ keys. map string_bytes keys.items ≡ set.rising (heads (contents_at V.contents self.now))) }
-    {
-        let mut keys = Vec::new(self.alloc);
-        for (key, _) in &self.parts {
-            keys.push(String::from_str(self.alloc, key.as_str())?)?;
-        }
-        Ok(keys)
     }
 
     /// Puts a value that is not empty at the key.
@@ -247,17 +215,4 @@ impl<V: Join> Join for JoinMap<V> {
     }
 
     ghost contents_are = { joined_keyed V.contents V.is_contents V.contents_are };
-}
-
-impl<V: Walk> Walk for JoinMap<V> {
-    fn walk<'a, S: Visitor>(
-        &'a self,
-        path: &mut Vec<&'a str>,
-        visitor: &mut S,
-    ) -> Result<(), S::Fault> {
-        for (key, part) in &self.parts {
-            walk_behind(key.as_str(), part, path, visitor)?;
-        }
-        Ok(())
-    }
 }

@@ -6,7 +6,6 @@ mod chain_tree;
 mod join_map;
 pub mod laws;
 pub mod prefix;
-mod several;
 mod text_set;
 mod walk;
 
@@ -17,10 +16,9 @@ ghost use Rattle.cadf_join.specs.Prefixes.{all_texts, chain_texts, continued, sa
 
 pub use chain_tree::ChainTree;
 pub use join_map::JoinMap;
-pub use several::HasFirsts;
 use std::alloc::AllocError;
 pub use text_set::TextSet;
-pub use walk::{Visitor, Walk, walk_behind};
+pub use walk::{Visitor, Walk};
 
 /// The allocator refused a growth.
 pub type Memory = AllocError;

@@ -1,12 +1,11 @@
 //! A set of texts.
-ghost use Rattle.std.specs.Prelude.{◌≡◌, OnOk, OnErr, IfOk, length, not, map, string_bytes};
+ghost use Rattle.std.specs.Prelude.{◌≡◌, OnOk, OnErr, IfOk, not};
 ghost use Rattle.cadf_join.specs.Sets as set;
 ghost use Rattle.std.specs.Option.{option_copied};
 ghost use Rattle.cadf_join.specs.Contents.{text_cmp, singles, HasSingles, next_after, is_after};
 ghost use Rattle.cadf_join.specs.laws.Contents.{singles_are_single};
 
 use crate::prefix::longer;
-use crate::walk::{Visitor, Walk, lengthen};
 use crate::{Join, Memory};
 use std::alloc::Global;
 use std::collections::BTreeSet;
@@ -62,14 +61,7 @@ impl TextSet {
         self.texts.contains(text)
     }
 
-    /// The number of texts.
-    pub fn text_count(&self) -> usize
-        ensures { result ≡ length (set.rising self.now) }
-    {
-        self.texts.len()
-    }
-
-    /// The least text above the given one, held or not, by their bytes, or the least of all for `None`. Walks all texts before it: `texts` lists them all.
+    /// The least text above the given one, held or not, by their bytes, or the least of all for `None`. Walks all texts before it.
     pub fn after(&self, text: Option<&str>) -> Option<&str>
         ensures { option_copied result ≡ next_after self.now (option_copied text.entry) }
     {
@@ -79,17 +71,6 @@ impl TextSet {
             }
         }
         None
-    }
-
-    /// Each text once, in order.
-    pub fn texts(&self) -> Result<Vec<String>, Memory>
-        ensures { IfOk result (λ texts. map string_bytes texts.items ≡ set.rising self.now) }
-    {
-        let mut texts = Vec::new(self.alloc);
-        for text in &self.texts {
-            texts.push(String::from_str(self.alloc, text.as_str())?)?;
-        }
-        Ok(texts)
     }
 }
 
@@ -143,7 +124,7 @@ impl Join for TextSet {
     }
 
     fn list_count(&self) -> u64 {
-        self.text_count() as u64
+        self.texts.len() as u64
     }
 
     fn append_lists(&self, prefix: &[String], lists: &mut Vec<Vec<String>>) -> Result<(), Memory> {
@@ -154,19 +135,4 @@ impl Join for TextSet {
     }
 
     ghost contents_are = { singles_are_single };
-}
-
-impl Walk for TextSet {
-    fn walk<'a, S: Visitor>(
-        &'a self,
-        path: &mut Vec<&'a str>,
-        visitor: &mut S,
-    ) -> Result<(), S::Fault> {
-        for text in &self.texts {
-            lengthen(path, text.as_str())?;
-            visitor.visit(path.as_slice())?;
-            path.pop();
-        }
-        Ok(())
-    }
 }

@@ -1,7 +1,7 @@
 //! A value's lists in order, each shown in its place without being made.
 ghost use Rattle.std.specs.Prelude.{◌≡◌, ◌++◌, ◌∷◌, [], List, OnOk, IfErr};
 ghost use Rattle.std.specs.declared.alloc.AllocError.{AllocError};
-ghost use Rattle.cadf_join.specs.Contents.{Texts, under};
+ghost use Rattle.cadf_join.specs.Contents.{Texts};
 ghost use Rattle.cadf_join.specs.Prefixes.{rising_behind, texts_at};
 
 use crate::{Join, Memory};
@@ -49,29 +49,4 @@ pub trait Walk: Join {
         ensures path { OnOk result (path.new.items ≡ path.old.items) }
         ensures shown { OnOk result (S.takes visitor.old (rising_behind (texts_at path.old.items) (Self.contents self.now)) visitor.new) }
         ensures stopped { IfErr result (λ f. S.stops visitor.old (rising_behind (texts_at path.old.items) (Self.contents self.now)) f visitor.new) };
-}
-
-/// Shows each list of the value, behind the path and the text, in order, until the visitor stops.
-pub fn walk_behind<'a, V: Walk, S: Visitor>(
-    text: &'a str,
-    value: &'a V,
-    path: &mut Vec<&'a str>,
-    visitor: &mut S,
-) -> Result<(), S::Fault>
-    ensures path { OnOk result (path.new.items ≡ path.old.items) }
-    ensures shown { OnOk result (S.takes visitor.old (rising_behind (texts_at path.old.items) (under text.now (V.contents value.now))) visitor.new) }
-    ensures stopped { IfErr result (λ f. S.stops visitor.old (rising_behind (texts_at path.old.items) (under text.now (V.contents value.now))) f visitor.new) }
-{
-    lengthen(path, text)?;
-    value.walk(path, visitor)?;
-    path.pop();
-    Ok(())
-}
-
-/// Adds the text to the path.
-pub(crate) fn lengthen<'a>(path: &mut Vec<&'a str>, text: &'a str) -> Result<(), Memory>
-    ensures { OnOk result (path.new.items ≡ path.old.items ++ text.entry ∷ []) }
-{
-    path.push(text)?;
-    Ok(())
 }

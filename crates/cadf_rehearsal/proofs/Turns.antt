@@ -25,7 +25,7 @@ none = schedule.Whole sets.empty
 
 -- the federation with what one of its sites has now
 abbrev pub with_site : Federation → ℕ → Held → Federation
-with_site f k h = record { log = f.log; sites = with_item f.sites k h; messages = f.messages }
+with_site f k h = record { sites = with_item f.sites k h; messages = f.messages }
 
 -- ---- the site and the message of a turn
 
@@ -44,12 +44,12 @@ at_message f m turn x F v pos le at is =
 
 -- ---- one log
 
-pub site_log : (f : Federation) (k : ℕ) (x : Held) → IsOneLog f → k < length f.sites.items → x ≡ get_or f.sites.items k x → x.log ≡ f.log
-site_log f k x one h at = sym (at_or_read log_at f.log f.sites.items k x h at) ∙ one.sites k
+pub site_log : (log : Text) (f : Federation) (k : ℕ) (x : Held) → IsOneLog log f → k < length f.sites.items → x ≡ get_or f.sites.items k x → x.log ≡ log
+site_log log f k x one h at = sym (at_or_read log_at log f.sites.items k x h at) ∙ one.sites k
 
-pub message_log : (f : Federation) (m : ℕ) (x : Message) → IsOneLog f → 0 < m → m ≤ length f.messages.items
-    → x ≡ get_or f.messages.items (m - 1) x → log_of_message x ≡ f.log
-message_log f m x one pos le at = sym (at_number_read log_of_message f.log f.messages.items m x pos le at) ∙ one.messages m
+pub message_log : (log : Text) (f : Federation) (m : ℕ) (x : Message) → IsOneLog log f → 0 < m → m ≤ length f.messages.items
+    → x ≡ get_or f.messages.items (m - 1) x → log_of_message x ≡ log
+message_log log f m x one pos le at = sym (at_number_read log_of_message log f.messages.items m x pos le at) ∙ one.messages m
 
 -- ---- a site takes what s is
 
@@ -57,24 +57,22 @@ pub site_takes : (f : Federation) (k : ℕ) (old new : Held) (s : Contents) → 
     → new.atoms ≡ sets.union old.atoms s → schedule.adds (world_of f) k s ≡ world_of (with_site f k new)
 site_takes f k old new s h at is = seen_adds held_at message_of none f.sites.items f.messages.items k old new s h at is
 
-pub site_later : (f : Federation) (k : ℕ) (new : Held) → IsOneLog f → k < length f.sites.items → new.log ≡ f.log → IsLater f (with_site f k new)
-site_later f k new one h same = record {
-  log = refl;
+pub site_later : (f : Federation) (k : ℕ) (new : Held) → k < length f.sites.items → ((log : Text) → IsOneLog log f → new.log ≡ log)
+    → IsLater f (with_site f k new)
+site_later f k new h same = record {
   count = length-set f.sites.items k new;
-  one_log = record { sites = all_set log_at f.log f.sites.items k new h one.sites same; messages = one.messages };
+  one_log = λ log one. record { sites = all_set log_at log f.sites.items k new h one.sites (same log one); messages = one.messages };
 }
 
 -- ---- a message is kept
 
-pub kept_later : (f g : Federation) (m : Message) → IsOneLog f → g.log ≡ f.log → g.sites ≡ f.sites
-    → g.messages.items ≡ f.messages.items ++ m ∷ [] → log_of_message m ≡ f.log → IsLater f g
-kept_later f g m one log sites messages same = record {
-  log = log;
+pub kept_later : (f g : Federation) (m : Message) → g.sites ≡ f.sites → g.messages.items ≡ f.messages.items ++ m ∷ []
+    → ((log : Text) → IsOneLog log f → log_of_message m ≡ log) → IsLater f g
+kept_later f g m sites messages same = record {
   count = ap (λ v. length v.items) sites;
-  one_log = record {
-    sites = λ j. (λ i. at_or (log i) (map log_at (sites i).items) j) ∙ one.sites j ∙ sym log;
-    messages = λ k. (λ i. at_number (log i) (map log_of_message (messages i)) k) ∙ all_push log_of_message f.log f.messages.items m one.messages same k
-        ∙ sym log;
+  one_log = λ log one. record {
+    sites = λ j. (λ i. at_or log (map log_at (sites i).items) j) ∙ one.sites j;
+    messages = λ k. (λ i. at_number log (map log_of_message (messages i)) k) ∙ all_push log_of_message log f.messages.items m one.messages (same log one) k;
   };
 }
 
@@ -119,20 +117,20 @@ starts log n xs ms sites messages =
     no_message zero = refl
     no_message (suc m) = refl
 
-pub begins : (log : Text) (n : ℕ) (f : Federation) → f.sites.items ≡ fresh log n → f.log ≡ log → f.messages.items ≡ [] → IsOneLog f
-begins log n f sites named messages = record {
-  sites = λ j. (λ i. at_or (named i) (map log_at (sites i)) j) ∙ all_named log n j ∙ sym named;
-  messages = λ m. (λ i. at_number f.log (map log_of_message (messages i)) m) ∙ no_message m;
+pub begins : (log : Text) (n : ℕ) (f : Federation) → f.sites.items ≡ fresh log n → f.messages.items ≡ [] → IsOneLog log f
+begins log n f sites messages = record {
+  sites = λ j. (λ i. at_or log (map log_at (sites i)) j) ∙ all_named log n j;
+  messages = λ m. (λ i. at_number log (map log_of_message (messages i)) m) ∙ no_message m;
 }
   where
-    no_message : (m : ℕ) → at_number f.log [] m ≡ f.log
+    no_message : (m : ℕ) → at_number log [] m ≡ log
     no_message zero = refl
     no_message (suc m) = refl
 
 -- ---- an answer to what is no inventory
 
-pub not_answered : (f : Federation) (turn j : ℕ) (x : Message) → ((a : ℕ) (i : Noted) → x ≡ Asked a i → ⊥)
-    → schedule.answered atom_digest f.log (length f.sites.items) turn (world_of f) j (message_of x) ≡ Err (NotInventory turn)
-not_answered f turn j (Asked a i) other = absurd (other a i refl)
-not_answered f turn j (PartFor a h) other = refl
-not_answered f turn j (Whole h) other = refl
+pub not_answered : (log : Text) (f : Federation) (turn j : ℕ) (x : Message) → ((a : ℕ) (i : Noted) → x ≡ Asked a i → ⊥)
+    → schedule.answered atom_digest log (length f.sites.items) turn (world_of f) j (message_of x) ≡ Err (NotInventory turn)
+not_answered log f turn j (Asked a i) other = absurd (other a i refl)
+not_answered log f turn j (PartFor a h) other = refl
+not_answered log f turn j (Whole h) other = refl

@@ -1,10 +1,11 @@
 -- A federation as it is kept, seen as the world of its schedule.
 --     world_of f             where its sites stand, and its messages
---     IsOneLog f             each site and each message is of the federation's log
---     turned_from f n t      what the turn t of number n leaves of it, or why it can't be taken
+--     IsOneLog log f         each site and each message is of that log
+--     TurnsTo f n t g        the turn t of number n leaves the federation g of the federation f
+--     IsTurnFault f n t e    the fault e is why that turn can't be taken, or memory was refused
 --     IsFaultDue fault r          the fault is r's, or memory was refused
 --     left_by log count w    the replicas that the world leaves at the sites 0 to count - 1
-use Rattle.std.specs.Prelude.{◌≡◌, ℕ, zero, suc, ◌∷◌, List, [], map, length, Result, Err, ◌⊎◌}
+use Rattle.std.specs.Prelude.{◌≡◌, ℕ, zero, suc, ◌∷◌, List, [], map, length, Result, Ok, Err, ◌⊎◌}
 use Rattle.std.specs.List.{range_with_len}
 use Rattle.cadf_join.specs.Sets as set
 use Rattle.cadf_join.specs.Contents.{Text, Contents}
@@ -52,21 +53,30 @@ world_of f = record {
   messages = at_number (schedule.Whole set.empty) (map message_of f.messages.items);
 }
 
-pub record IsOneLog (f : Federation) : Type 0 where
-  pub sites : (j : ℕ) → at_or f.log (map log_at f.sites.items) j ≡ f.log
-  pub messages : (m : ℕ) → at_number f.log (map log_of_message f.messages.items) m ≡ f.log
+pub record IsOneLog (log : Text) (f : Federation) : Type 0 where
+  pub sites : (j : ℕ) → at_or log (map log_at f.sites.items) j ≡ log
+  pub messages : (m : ℕ) → at_number log (map log_of_message f.messages.items) m ≡ log
 
--- the federation after a turn that was taken: one log, the same, and as many sites
+abbrev pub HasOneLog : Federation → Type 0
+HasOneLog f = (log : Text) × IsOneLog log f
+
+-- the federation after a turn that was taken: of the same log, and with as many sites
 pub record IsLater (old new : Federation) : Type 0 where
-  pub log : new.log ≡ old.log
   pub count : length new.sites.items ≡ length old.sites.items
-  pub one_log : IsOneLog new
+  pub one_log : (log : Text) → IsOneLog log old → IsOneLog log new
 
-abbrev pub turned_from : Federation → ℕ → Turn → Result schedule.World RehearseFault
-turned_from f turn t = schedule.turned atom_digest f.log (length f.sites.items) turn (world_of f) t
+-- what the turn of that number leaves of a federation of that log
+abbrev pub turned_from : Text → Federation → ℕ → Turn → Result schedule.World RehearseFault
+turned_from log f turn t = schedule.turned atom_digest log (length f.sites.items) turn (world_of f) t
 
 abbrev pub IsFaultDue : {A : Type 0} → RehearseFault → Result A RehearseFault → Type 0
 IsFaultDue fault r = (fault ≡ Memory) ⊎ (r ≡ Err fault)
+
+abbrev pub TurnsTo : Federation → ℕ → Turn → Federation → Type 0
+TurnsTo old turn t new = (log : Text) → IsOneLog log old → turned_from log old turn t ≡ Ok (world_of new)
+
+abbrev pub IsTurnFault : Federation → ℕ → Turn → RehearseFault → Type 0
+IsTurnFault old turn t fault = (log : Text) → IsOneLog log old → IsFaultDue fault (turned_from log old turn t)
 
 abbrev pub left_by : Text → ℕ → schedule.World → List Held
 left_by log count w = map (λ j. record { log = log; atoms = w.sites j }) (range_with_len 0 count)

@@ -1,8 +1,8 @@
 //! The sites of one log and all messages so far, which take one turn after another.
-ghost use Rattle.std.specs.Prelude.{◌≡◌, ◌∷◌, [], ◌++◌, length, OnOk, IfOk, IfErr, Ok};
+ghost use Rattle.std.specs.Prelude.{◌≡◌, ◌∷◌, [], ◌++◌, length, OnOk, IfOk, IfErr};
 ghost use Rattle.cadf_join.specs.Sets as set;
 ghost use Rattle.cadf_rehearsal.specs.Schedule.{start};
-ghost use Rattle.cadf_rehearsal.specs.Federation.{IsOneLog, IsLater, IsFaultDue, world_of, turned_from};
+ghost use Rattle.cadf_rehearsal.specs.Federation.{IsOneLog, HasOneLog, IsLater, TurnsTo, IsTurnFault, world_of};
 ghost use Rattle.cadf_rehearsal.specs.declared.turn.Turn.TheVariants as turn;
 
 use crate::fault::RehearseFault;
@@ -26,7 +26,6 @@ pub(crate) enum Message {
 /// The sites, and all messages so far.
 #[derive(Drop)]
 pub(crate) struct Federation {
-    pub(crate) log: Name,
     pub(crate) sites: Vec<Replica>,
     messages: Vec<Message>,
 }
@@ -35,7 +34,7 @@ impl Federation {
     /// Keeps a new message.
     fn post(&mut self, message: Message) -> Result<(), RehearseFault>
         ensures ok { OnOk result (self.new.messages.items ≡ self.old.messages.items ++ message ∷ []) }
-        ensures rest { (self.new.sites ≡ self.old.sites) × (self.new.log ≡ self.old.log) }
+        ensures rest { self.new.sites ≡ self.old.sites }
         ensures only { IfErr result (λ fault. fault ≡ RehearseFault.Memory) }
     {
         match self.messages.push(message) {
@@ -46,9 +45,9 @@ impl Federation {
 
     /// No messages yet, and so many sites of the log without atoms.
     pub(crate) fn new(alloc: Global, log: &Name, count: usize) -> Result<Federation, RehearseFault>
-        ensures ok { IfOk result (λ f. (f.log ≡ log.now) × (length f.sites.items ≡ count)) }
+        ensures ok { IfOk result (λ f. length f.sites.items ≡ count) }
         ensures start { IfOk result (λ f. world_of f ≡ start) }
-        ensures one_log { IfOk result IsOneLog }
+        ensures one_log { IfOk result (IsOneLog log.now) }
         ensures only { IfErr result (λ fault. fault ≡ RehearseFault.Memory) }
     {
         let mut sites = Vec::new(alloc);
@@ -59,7 +58,6 @@ impl Federation {
             }
         }
         Ok(Federation {
-            log: log.copied(alloc)?,
             sites,
             messages: Vec::new(alloc),
         })
@@ -72,10 +70,9 @@ impl Federation {
         site: usize,
         document: &Document,
     ) -> Result<(), RehearseFault>
-        requires { IsOneLog self.old }
-        ensures ok { OnOk result (turned_from self.old number (turn.Learn site document.now) ≡ Ok (world_of self.new)) }
+        ensures ok { OnOk result (TurnsTo self.old number (turn.Learn site document.now) self.new) }
         ensures later { OnOk result (IsLater self.old self.new) }
-        ensures err { IfErr result (λ fault. IsFaultDue fault (turned_from self.old number (turn.Learn site document.now))) }
+        ensures err { IfErr result (IsTurnFault self.old number (turn.Learn site document.now)) }
     {
         if site >= self.sites.len() {
             return Err(RehearseFault::NoSite(number));
@@ -90,10 +87,9 @@ impl Federation {
 
     /// The site sends the digests of what it holds.
     fn ask(&mut self, number: usize, site: usize) -> Result<(), RehearseFault>
-        requires { IsOneLog self.old }
-        ensures ok { OnOk result (turned_from self.old number (turn.Ask site) ≡ Ok (world_of self.new)) }
+        ensures ok { OnOk result (TurnsTo self.old number (turn.Ask site) self.new) }
         ensures later { OnOk result (IsLater self.old self.new) }
-        ensures err { IfErr result (λ fault. IsFaultDue fault (turned_from self.old number (turn.Ask site))) }
+        ensures err { IfErr result (IsTurnFault self.old number (turn.Ask site)) }
     {
         if site >= self.sites.len() {
             return Err(RehearseFault::NoSite(number));
@@ -105,10 +101,9 @@ impl Federation {
 
     /// The site sends all that it holds.
     fn send(&mut self, number: usize, site: usize) -> Result<(), RehearseFault>
-        requires { IsOneLog self.old }
-        ensures ok { OnOk result (turned_from self.old number (turn.Send site) ≡ Ok (world_of self.new)) }
+        ensures ok { OnOk result (TurnsTo self.old number (turn.Send site) self.new) }
         ensures later { OnOk result (IsLater self.old self.new) }
-        ensures err { IfErr result (λ fault. IsFaultDue fault (turned_from self.old number (turn.Send site))) }
+        ensures err { IfErr result (IsTurnFault self.old number (turn.Send site)) }
     {
         if site >= self.sites.len() {
             return Err(RehearseFault::NoSite(number));
@@ -120,10 +115,10 @@ impl Federation {
 
     /// The site sends what the asker of an inventory lacks.
     fn answer(&mut self, number: usize, site: usize, message: usize) -> Result<(), RehearseFault>
-        requires { IsOneLog self.old }
-        ensures ok { OnOk result (turned_from self.old number (turn.Answer site message) ≡ Ok (world_of self.new)) }
+        requires { HasOneLog self.old }
+        ensures ok { OnOk result (TurnsTo self.old number (turn.Answer site message) self.new) }
         ensures later { OnOk result (IsLater self.old self.new) }
-        ensures err { IfErr result (λ fault. IsFaultDue fault (turned_from self.old number (turn.Answer site message))) }
+        ensures err { IfErr result (IsTurnFault self.old number (turn.Answer site message)) }
     {
         if site >= self.sites.len() {
             return Err(RehearseFault::NoSite(number));
@@ -146,10 +141,10 @@ impl Federation {
 
     /// The site takes what a message carries.
     fn deliver(&mut self, number: usize, message: usize, site: usize) -> Result<(), RehearseFault>
-        requires { IsOneLog self.old }
-        ensures ok { OnOk result (turned_from self.old number (turn.Deliver message site) ≡ Ok (world_of self.new)) }
+        requires { HasOneLog self.old }
+        ensures ok { OnOk result (TurnsTo self.old number (turn.Deliver message site) self.new) }
         ensures later { OnOk result (IsLater self.old self.new) }
-        ensures err { IfErr result (λ fault. IsFaultDue fault (turned_from self.old number (turn.Deliver message site))) }
+        ensures err { IfErr result (IsTurnFault self.old number (turn.Deliver message site)) }
     {
         if site >= self.sites.len() {
             return Err(RehearseFault::NoSite(number));
@@ -175,10 +170,10 @@ impl Federation {
 
     /// Takes the turn of that number.
     pub(crate) fn take(&mut self, number: usize, turn: &Turn) -> Result<(), RehearseFault>
-        requires { IsOneLog self.old }
-        ensures ok { OnOk result (turned_from self.old number turn.now ≡ Ok (world_of self.new)) }
+        requires { HasOneLog self.old }
+        ensures ok { OnOk result (TurnsTo self.old number turn.now self.new) }
         ensures later { OnOk result (IsLater self.old self.new) }
-        ensures err { IfErr result (λ fault. IsFaultDue fault (turned_from self.old number turn.now)) }
+        ensures err { IfErr result (IsTurnFault self.old number turn.now) }
     {
         match turn {
             Turn::Learn(site, document) => self.learn(number, *site, document),

@@ -1,7 +1,7 @@
 //! The calls that one kind of value has, watched, and what must hold after a refusal.
 use crate::values::{Map, long_chain, long_tree, put};
 use crate::watched::{Watched, is_between, join_of};
-use cadf_join::{Join, JoinMap, Memory, TextSet};
+use cadf_join::{Join, Memory, TextSet};
 use growths::{Report, told};
 use std::alloc::Global;
 
@@ -27,12 +27,12 @@ pub fn insert_text(alloc: Global) -> Result<Report, Memory> {
     let mut set = TextSet::small(alloc)?;
     let first = set.insert("a");
     let refused = first.is_err();
-    let unchanged = !refused || (set.contains("b") && set.text_count() == 1);
+    let unchanged = !refused || (set.contains("b") && set.list_count() == 1);
     let new = match first {
         Ok(new) => new,
         Err(_) => set.insert("a")?,
     };
-    let added = new && set.contains("a") && set.contains("b") && set.text_count() == 2;
+    let added = new && set.contains("a") && set.contains("b") && set.list_count() == 2;
     Ok(told(refused, unchanged && added))
 }
 
@@ -48,29 +48,6 @@ pub fn join_at(alloc: Global) -> Result<Report, Memory> {
     }
     let whole = map.same(&union);
     Ok(told(refused, between && whole))
-}
-
-/// A refused taking at a key leaves something between, and the same again the union.
-pub fn take_at(alloc: Global) -> Result<Report, Memory> {
-    let old = Map::new(alloc);
-    let union = Map::large(alloc)?;
-    let mut map = Map::new(alloc);
-    let part = outer_of(alloc, &union)?;
-    let refused = map.take_at("outer", part).is_err();
-    let between = is_between(&old, &map, &union)?;
-    if refused {
-        map.take_at("outer", outer_of(alloc, &union)?)?;
-    }
-    let whole = map.same(&union);
-    Ok(told(refused, between && whole))
-}
-
-// A copy of what the map has at its one key.
-fn outer_of(alloc: Global, map: &Map) -> Result<JoinMap<TextSet>, Memory> {
-    match map.get("outer") {
-        Some(inner) => inner.copy(),
-        None => Ok(JoinMap::new(alloc)),
-    }
 }
 
 // Joins what the other map has at its one key.

@@ -12,11 +12,10 @@ use crate::steps::{Step, run};
 use growths::{is_asked, tell};
 use std::io;
 
-const STEPS: [Step; 14] = [
+const STEPS: [Step; 13] = [
     Step::Insert,
     Step::InsertText,
     Step::JoinAt,
-    Step::TakeAt,
     Step::JoinDeepTrees,
     Step::JoinTrees,
     Step::MissingTrees,

@@ -1,5 +1,5 @@
 //! The steps: each makes its values, and then the one call that is watched.
-use crate::inserts::{insert_chain, insert_text, join_at, join_deep_trees, take_at};
+use crate::inserts::{insert_chain, insert_text, join_at, join_deep_trees};
 use crate::values::Map;
 use crate::watched::{join, look, missing};
 use cadf_join::{ChainTree, Memory, TextSet};
@@ -13,7 +13,6 @@ pub enum Step {
     Insert,
     InsertText,
     JoinAt,
-    TakeAt,
     /// A tree that shares 255 steps with the other.
     JoinDeepTrees,
     JoinTrees,
@@ -34,7 +33,6 @@ impl Step {
             Step::Insert => ("insert", "trees"),
             Step::InsertText => ("insert", "texts"),
             Step::JoinAt => ("join-at", "maps"),
-            Step::TakeAt => ("take-at", "maps"),
             Step::JoinDeepTrees => ("join", "deep-trees"),
             Step::JoinTrees => ("join", "trees"),
             Step::MissingTrees => ("missing", "trees"),
@@ -62,7 +60,6 @@ fn tried(alloc: Global, step: Step) -> Result<Report, Memory> {
         Step::Insert => insert_chain(alloc),
         Step::InsertText => insert_text(alloc),
         Step::JoinAt => join_at(alloc),
-        Step::TakeAt => take_at(alloc),
         Step::JoinDeepTrees => join_deep_trees(alloc),
         Step::JoinTrees => join::<ChainTree>(alloc),
         Step::MissingTrees => missing::<ChainTree>(alloc),

@@ -77,7 +77,7 @@ impl Watched for TextSet {
     }
 
     fn looks(&self) -> Result<bool, Memory> {
-        Ok(self.texts()?.len() == 3)
+        Ok(self.after(Some("a")) == Some("b"))
     }
 }
 
@@ -105,7 +105,6 @@ impl Watched for Map {
     }
 
     fn looks(&self) -> Result<bool, Memory> {
-        let keys = self.keys()?;
-        Ok(keys.len() == 1)
+        Ok(self.after(None) == Some("outer"))
     }
 }

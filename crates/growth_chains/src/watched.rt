@@ -11,7 +11,7 @@ pub trait Watched: Join {
     /// A value that holds three lists, one of them that of `small`.
     fn large(alloc: Global) -> Result<Self, Memory>;
 
-    /// Whether the looks into `large` that take memory see what they should.
+    /// Whether the looks into `large` see what they should.
     fn looks(&self) -> Result<bool, Memory>;
 }
 

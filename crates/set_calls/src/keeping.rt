@@ -2,7 +2,7 @@
 ghost use Rattle.std.specs.Prelude.{⊤};
 
 use crate::told;
-use cadf_join::{Memory, Visitor, Walk, walk_behind};
+use cadf_paths::{Memory, Paths, Visitor, Walk};
 use std::alloc::Global;
 
 /// The lists that were shown.
@@ -44,26 +44,16 @@ fn kept(alloc: Global, list: &[&str]) -> Result<Vec<String>, Memory> {
     Ok(texts)
 }
 
-/// Answers the lists that a walk of the value shows.
-pub(crate) fn walked<W: Walk>(alloc: Global, value: &W) -> Result<String, Memory> {
-    let mut keeping = Keeping {
-        lists: Vec::new(alloc),
-        alloc,
-    };
-    value.walk(&mut Vec::new(alloc), &mut keeping)?;
-    told::lists(alloc, &keeping.lists)
-}
-
-/// Answers the lists that a walk of the value behind the text shows.
-pub(crate) fn walked_behind<W: Walk>(
+/// Answers the lists that a walk of the set shows after a path.
+pub(crate) fn walked<'a>(
     alloc: Global,
-    text: &str,
-    value: &W,
+    set: &'a Paths,
+    path: &mut Vec<&'a str>,
 ) -> Result<String, Memory> {
     let mut keeping = Keeping {
         lists: Vec::new(alloc),
         alloc,
     };
-    walk_behind(text, value, &mut Vec::new(alloc), &mut keeping)?;
+    set.walk(path, &mut keeping)?;
     told::lists(alloc, &keeping.lists)
 }

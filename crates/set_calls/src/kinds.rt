@@ -1,12 +1,12 @@
 //! The kinds of values, each made of lists.
 
 use crate::lists::{lent, lists};
-use cadf_join::{ChainTree, JoinMap, Memory, TextSet, Walk};
+use cadf_join::{ChainTree, Join, JoinMap, Memory, TextSet};
 use cadf_paths::Paths;
 use std::alloc::Global;
 
 /// A value that is made of lists.
-pub(crate) trait Made: Walk {
+pub(crate) trait Made: Join {
     /// Makes a value that holds nothing.
     fn empty(alloc: Global) -> Self;
 
@@ -36,7 +36,7 @@ impl<V: Made> Made for JoinMap<V> {
         if let [key, rest @ ..] = list {
             let mut value = V::empty(alloc);
             value.add(alloc, rest)?;
-            self.take_at(key.as_str(), value)?;
+            self.join_at(key.as_str(), &value)?;
         }
         Ok(())
     }

@@ -1,16 +1,18 @@
 //! Lists of texts as words, and prefixes of lists.
 
-use cadf_join::prefix::{copied, longer};
-use cadf_json::{Json, JsonFault, Memory, View, quoted};
+use cadf_join::prefix::copied;
+use cadf_json::{Json, Memory, View, quoted};
 use calls::{Call, answer};
 use std::alloc::Global;
 
-/// Answers the JSON value that the word spells; an empty text where it spells none.
+/// Reads the JSON value of the word, or that of an empty list if the word has none.
 fn json(alloc: Global, word: &str) -> Result<Json, Memory> {
-    match Json::read(alloc, word.as_bytes()) {
+    if let Ok(json) = Json::read(alloc, word.as_bytes()) {
+        return Ok(json);
+    }
+    match Json::read(alloc, b"[]") {
         Ok(json) => Ok(json),
-        Err(JsonFault::Memory) => Err(Memory),
-        Err(_) => Json::from_text(alloc, ""),
+        Err(_) => Err(Memory),
     }
 }
 
@@ -106,12 +108,8 @@ pub(crate) fn all_spelled(alloc: Global, lists: &[Vec<String>]) -> Result<String
     Ok(spelled)
 }
 
-/// Answers a call of a prefix with the list that it makes.
-pub(crate) fn answered(alloc: Global, name: &str, call: &Call) -> Result<String, Memory> {
-    let prefix = list(alloc, call.text(1))?;
-    let made = match name {
-        "longer" => longer(alloc, &prefix, call.text(2))?,
-        _ => copied(alloc, &prefix)?,
-    };
-    answer(alloc, "ok", &[spelled(alloc, &made)?.as_str()])
+/// Answers a copy of the prefix.
+pub(crate) fn answered(alloc: Global, call: &Call) -> Result<String, Memory> {
+    let copy = copied(alloc, &list(alloc, call.text(1))?)?;
+    answer(alloc, "ok", &[spelled(alloc, &copy)?.as_str()])
 }

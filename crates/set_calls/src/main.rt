@@ -28,7 +28,7 @@ fn answered(alloc: Global, line: &str) -> Result<String, Memory> {
         "map" => maps::answered(alloc, name, call),
         "tree" => trees::answered(alloc, name, call),
         "paths" => paths::answered(alloc, name, call),
-        "prefix" => lists::answered(alloc, name, call),
+        "prefix" => lists::answered(alloc, call),
         _ => answer(alloc, "no such call", &[]),
     }
 }

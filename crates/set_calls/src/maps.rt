@@ -2,7 +2,7 @@
 
 use crate::kinds::{Made, value_of};
 use crate::told;
-use cadf_join::{ChainTree, HasFirsts, JoinMap, Memory, TextSet};
+use cadf_join::{ChainTree, JoinMap, Memory, TextSet};
 use calls::{Call, answer};
 use std::alloc::Global;
 
@@ -21,12 +21,8 @@ fn told_of<V: Made>(alloc: Global, name: &str, call: &Call) -> Result<String, Me
     match name {
         "get" => got(alloc, ours.get(call.text(3))),
         "join_at" => joined(alloc, ours, call.text(3), &value_of(alloc, call.text(4))?),
-        "take_at" => taken(alloc, ours, call.text(3), value_of(alloc, call.text(4))?),
         "least" => told::text(alloc, ours.after(None)),
         "after" => told::text(alloc, ours.after(Some(call.text(3)))),
-        "keys" => told::texts(alloc, &ours.keys()?),
-        "key_count" => told::number(alloc, ours.key_count() as u64),
-        "has_several" => told::truth(alloc, ours.has_several()),
         _ => answer(alloc, "no such call", &[]),
     }
 }
@@ -46,15 +42,5 @@ fn joined<V: Made>(
     value: &V,
 ) -> Result<String, Memory> {
     ours.join_at(key, value)?;
-    told::held(alloc, &ours)
-}
-
-fn taken<V: Made>(
-    alloc: Global,
-    mut ours: JoinMap<V>,
-    key: &str,
-    value: V,
-) -> Result<String, Memory> {
-    ours.take_at(key, value)?;
     told::held(alloc, &ours)
 }

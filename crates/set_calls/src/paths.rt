@@ -1,6 +1,7 @@
 //! Calls of flat sets of lists. The first word is the set, the second a list or another set.
 ghost use Rattle.std.specs.Prelude.{[]};
 
+use crate::keeping::walked;
 use crate::kinds::value_of;
 use crate::lists::{lent, list, lists};
 use crate::told;
@@ -41,6 +42,7 @@ fn told_of_list(alloc: Global, name: &str, call: &Call) -> Result<String, Memory
         "ends_behind" => told::truth(alloc, ours.ends_behind(&given)),
         "least" => told::found(alloc, ours.list_after(None)?),
         "list_after" => told::found(alloc, ours.list_after(Some(given.as_slice()))?),
+        "walk" => walked(alloc, &ours, &mut lent(alloc, &given)?),
         _ => told_of_lent(alloc, name, ours, &lent(alloc, &given)?, call.text(3)),
     }
 }

@@ -2,7 +2,7 @@
 
 use crate::kinds::value_of;
 use crate::told;
-use cadf_join::{HasFirsts, Memory, TextSet};
+use cadf_join::{Memory, TextSet};
 use calls::{Call, answer};
 use std::alloc::Global;
 
@@ -12,11 +12,8 @@ pub(crate) fn answered(alloc: Global, name: &str, call: &Call) -> Result<String,
     match name {
         "insert" => inserted(alloc, ours, call.text(2)),
         "contains" => told::truth(alloc, ours.contains(call.text(2))),
-        "text_count" => told::number(alloc, ours.text_count() as u64),
         "least" => told::text(alloc, ours.after(None)),
         "after" => told::text(alloc, ours.after(Some(call.text(2)))),
-        "texts" => told::texts(alloc, &ours.texts()?),
-        "has_several" => told::truth(alloc, ours.has_several()),
         _ => answer(alloc, "no such call", &[]),
     }
 }

@@ -1,6 +1,5 @@
 //! Calls that values of every kind have. The first word is the kind.
 
-use crate::keeping::{walked, walked_behind};
 use crate::kinds::{Made, value_of};
 use crate::lists::list;
 use crate::told;
@@ -29,8 +28,6 @@ fn told_of<J: Made>(alloc: Global, name: &str, call: &Call) -> Result<String, Me
         "is_empty" => told::truth(alloc, ours.is_empty()),
         "list_count" => told::number(alloc, ours.list_count()),
         "append_lists" => appended(alloc, &ours, call.text(3)),
-        "walk" => walked(alloc, &ours),
-        "walk_behind" => walked_behind(alloc, call.text(3), &ours),
         _ => told_of_both(alloc, name, ours, &value_of(alloc, call.text(3))?),
     }
 }

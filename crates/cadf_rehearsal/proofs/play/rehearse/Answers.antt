@@ -1,12 +1,15 @@
-use Rattle.std.proofs.Common.{◌≡◌, ℕ, ◌+◌, ◌<◌, ◌≤◌, length, ap, sym, ◌∙◌, reverse, map, refl, inl, inr, arith}
+use Rattle.std.proofs.Common.{◌+◌, ◌<◌, ◌≤◌, length, ap, sym, ◌∙◌, reverse, refl, inl, inr, arith}
 use Rattle.std.proofs.lemmas.Result.{err_from_is_err_and}
 use Rattle.std.proofs.lemmas.List.{take_all}
 use Rattle.cadf_replica.specs.Digest.{atom_digest}
 use Rattle.cadf_rehearsal.specs.Schedule.{after, turned}
-use Rattle.cadf_rehearsal.specs.Federation.{world_of, IsFaultDue, at_or, log_at}
+use Rattle.cadf_rehearsal.specs.Federation.{world_of, IsFaultDue}
 use Rattle.cadf_rehearsal.proofs.Played.{after_more, after_refused}
 use Rattle.cadf_rehearsal.proofs.Seen.{left_is}
 use Rattle.cadf_rehearsal.proofs.play.rehearse.Goals as goal
+
+pub take-requires : goal.take-requires
+take-requires c = (c.args.log.now, c.loop-i.invariant.one_log)
 
 pub loop-i-preserved : goal.loop-i-preserved
 loop-i-preserved c =
@@ -17,11 +20,10 @@ loop-i-preserved c =
     let lt : i < length c.args.turns.now = omega arith in
     let later = c.in_ok-take.ensures.later in
     record {
-      log = later.log ∙ kept.log;
       count = later.count ∙ kept.count;
-      one_log = later.one_log;
+      one_log = later.one_log c.args.log.now kept.one_log;
       so_far = after_more atom_digest c.args.log.now c.args.sites c.args.turns.now i t (world_of f) _ lt c.index-turns-i.is kept.so_far
-          ((λ k. turned atom_digest (sym kept.log k) (sym kept.count k) (i + 1) (world_of f) t) ∙ c.in_ok-take.ensures.ok);
+          ((λ k. turned atom_digest c.args.log.now (sym kept.count k) (i + 1) (world_of f) t) ∙ c.in_ok-take.ensures.ok c.args.log.now kept.one_log);
     }
 
 pub returns-in_err-take-clause-err : goal.returns-in_err-take-clause-err
@@ -32,10 +34,10 @@ returns-in_err-take-clause-err c =
     let t = c.index-turns-i.result in
     let lt : i < length c.args.turns.now = omega arith in
     let due : IsFaultDue c.in_err-take.field-0.0 (after atom_digest c.args.log.now c.args.sites (reverse c.args.turns.now)) =
-    elim c.in_err-take.ensures.err [
+    elim (c.in_err-take.ensures.err c.args.log.now kept.one_log) [
       | inl memory ↦ inl memory
       | inr is ↦ inr (after_refused atom_digest c.args.log.now c.args.sites c.args.turns.now i t (world_of f) _ lt c.index-turns-i.is kept.so_far
-          ((λ k. turned atom_digest (sym kept.log k) (sym kept.count k) (i + 1) (world_of f) t) ∙ is))
+          ((λ k. turned atom_digest c.args.log.now (sym kept.count k) (i + 1) (world_of f) t) ∙ is))
     ] in
     let p = err_from_is_err_and c.from_residual-in_err-take.result c.from_residual-in_err-take.ensures.1 in
     rw (p.1, p.2) due
@@ -47,9 +49,5 @@ returns-clause-ok c =
     let all : length c.args.turns.now ≤ c.loop-i.i = omega arith in (
       world_of f,
       ap (λ ts. after atom_digest c.args.log.now c.args.sites (reverse ts)) (sym (take_all c.loop-i.i c.args.turns.now all)) ∙ kept.so_far,
-      left_is c.args.log.now f.sites.items (world_of f) c.args.sites kept.count named (λ j. refl),
+      left_is c.args.log.now f.sites.items (world_of f) c.args.sites kept.count kept.one_log.sites (λ j. refl),
     )
-  where
-    named : (j : ℕ) → at_or c.args.log.now (map log_at c.loop-i.federation.sites.items) j ≡ c.args.log.now
-    named j =
-        (λ k. at_or (sym c.loop-i.invariant.log k) (map log_at c.loop-i.federation.sites.items) j) ∙ c.loop-i.invariant.one_log.sites j ∙ c.loop-i.invariant.log

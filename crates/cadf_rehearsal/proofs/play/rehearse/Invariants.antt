@@ -6,8 +6,7 @@ use Rattle.cadf_rehearsal.proofs.play.rehearse.Given as goal
 
 abbrev pub invariant-loop-i : goal.invariant-loop-i
 invariant-loop-i l = record {
-  log : l.federation.log ≡ l.log;
   count : length l.federation.sites.items ≡ l.sites;
-  one_log : IsOneLog l.federation;
+  one_log : IsOneLog l.log l.federation;
   so_far : after atom_digest l.log l.sites (reverse (take l.i l.turns)) ≡ Ok (world_of l.federation);
 }

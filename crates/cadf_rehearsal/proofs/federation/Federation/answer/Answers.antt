@@ -20,37 +20,37 @@ returns-in_default c =
     let pos : 0 < c.args.message = omega arith in
     let le : c.args.message ≤ length f.messages.items = omega arith in
     let x = c.index.result.now in
-    let answer = schedule.answered atom_digest f.log (length f.sites.items) c.args.number (world_of f) c.args.site in
     record {
       ok = tt;
       later = tt;
-      err = inr (at_site f c.args.site c.args.number _ _ there (at_message f c.args.message c.args.number x answer _ pos le c.index.ensures
-          (not_answered f c.args.number c.args.site x c.in_default.not-Asked)));
+      err = λ log one.
+          let answer = schedule.answered atom_digest log (length f.sites.items) c.args.number (world_of f) c.args.site in
+          inr (at_site f c.args.site c.args.number _ _ there (at_message f c.args.message c.args.number x answer _ pos le c.index.ensures
+          (not_answered log f c.args.number c.args.site x c.in_default.not-Asked)));
     }
 
 pub returns-clause-ok : goal.returns-clause-ok
-returns-clause-ok c =
+returns-clause-ok c log one =
     let f = c.args.self.now in
     let there : c.args.site < length f.sites.items = omega arith in
     let pos : 0 < c.args.message = omega arith in
     let le : c.args.message ≤ length f.messages.items = omega arith in
     let x = c.index.result.now in
-    let answer = schedule.answered atom_digest f.log (length f.sites.items) c.args.number (world_of f) c.args.site in
+    let answer = schedule.answered atom_digest log (length f.sites.items) c.args.number (world_of f) c.args.site in
     let own = at_or_read _ set.empty f.sites.items c.args.site c.index-in-Asked.result.now there c.index-in-Asked.ensures in
     at_site f c.args.site c.args.number _ _ there (at_message f c.args.message c.args.number x answer _ pos le c.index.ensures
     (ap (λ m. answer (message_of m)) c.in-Asked.is
     ∙ ap Ok (
     ap (λ s. schedule.makes (world_of f) (schedule.PartFor c.in-Asked.asker (missing_by atom_digest s c.in-Asked.held.digests))) own
     ∙ ap (λ s. schedule.makes (world_of f) (schedule.PartFor c.in-Asked.asker s)) (sym (ap (λ h. h.atoms) c.in-Ok.ensures.ok.1))
-    ∙ seen_posted _ _ _ f.sites.items _ f.messages.items _ _ (ap (λ v. v.items) c.post.ensures.rest.0) c.in_ok-post.ensures.ok)))
+    ∙ seen_posted _ _ _ f.sites.items _ f.messages.items _ _ (ap (λ v. v.items) c.post.ensures.rest) c.in_ok-post.ensures.ok)))
 
 pub returns-clause-later : goal.returns-clause-later
 returns-clause-later c =
     let f = c.args.self.now in
     let there : c.args.site < length f.sites.items = omega arith in
-    let same = site_log f c.args.site c.index-in-Asked.result.now c.requires there c.index-in-Asked.ensures in
-    kept_later f c.post.new.self _ c.requires c.post.ensures.rest.1 c.post.ensures.rest.0 c.in_ok-post.ensures.ok
-    (ap (λ h. h.log) c.in-Ok.ensures.ok.1 ∙ same)
+    kept_later f c.post.new.self _ c.post.ensures.rest c.in_ok-post.ensures.ok (λ log one.
+    ap (λ h. h.log) c.in-Ok.ensures.ok.1 ∙ site_log log f c.args.site c.index-in-Asked.result.now one there c.index-in-Asked.ensures)
 
 -- the site and the asker are of one log
 pub unreachable-requires : goal.unreachable-requires
@@ -59,7 +59,7 @@ unreachable-requires c =
     let there : c.args.site < length f.sites.items = omega arith in
     let pos : 0 < c.args.message = omega arith in
     let le : c.args.message ≤ length f.messages.items = omega arith in
-    let own = site_log f c.args.site c.index-in-Asked.result.now c.requires there c.index-in-Asked.ensures in
-    let asked = message_log f c.args.message c.index.result.now c.requires pos le c.index.ensures in
+    let own = site_log c.requires.0 f c.args.site c.index-in-Asked.result.now c.requires.1 there c.index-in-Asked.ensures in
+    let asked = message_log c.requires.0 f c.args.message c.index.result.now c.requires.1 pos le c.index.ensures in
     let other : c.index-in-Asked.result.now.log ≢ c.in-Asked.held.log = subst (IsLogFault _ _) c.in-Err-OtherLog.field-0-is c.in-Err-OtherLog.ensures.err in
     other (own ∙ sym asked ∙ ap log_of_message c.in-Asked.is)

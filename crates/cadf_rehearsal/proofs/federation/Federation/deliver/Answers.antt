@@ -7,7 +7,7 @@ use Rattle.cadf_rehearsal.specs.Federation.{message_of, log_of_message}
 use Rattle.cadf_rehearsal.proofs.federation.Federation.deliver.Goals as goal
 
 pub returns-then-asker-site-clause-err : goal.returns-then-asker-site-clause-err
-returns-then-asker-site-clause-err c =
+returns-then-asker-site-clause-err c log one =
     let f = c.args.self.now in
     let there : c.args.site < length f.sites.items = omega arith in
     let pos : 0 < c.args.message = omega arith in
@@ -27,8 +27,8 @@ joined-requires c =
     let le : c.args.message ≤ length f.messages.items = omega arith in
     let x = c.index.result.now in
     sym (ap log_of_message c.in-PartFor.is)
-    ∙ message_log f c.args.message x c.requires pos le c.index.ensures
-    ∙ sym (site_log f c.args.site c.index_mut.result.now c.requires there c.index_mut.ensures.value)
+    ∙ message_log c.requires.0 f c.args.message x c.requires.1 pos le c.index.ensures
+    ∙ sym (site_log c.requires.0 f c.args.site c.index_mut.result.now c.requires.1 there c.index_mut.ensures.value)
 
 pub joined-requires-in-Whole : goal.joined-requires-in-Whole
 joined-requires-in-Whole c =
@@ -38,11 +38,11 @@ joined-requires-in-Whole c =
     let le : c.args.message ≤ length f.messages.items = omega arith in
     let x = c.index.result.now in
     sym (ap log_of_message c.in-Whole.is)
-    ∙ message_log f c.args.message x c.requires pos le c.index.ensures
-    ∙ sym (site_log f c.args.site c.index_mut-in-Whole.result.now c.requires there c.index_mut-in-Whole.ensures.value)
+    ∙ message_log c.requires.0 f c.args.message x c.requires.1 pos le c.index.ensures
+    ∙ sym (site_log c.requires.0 f c.args.site c.index_mut-in-Whole.result.now c.requires.1 there c.index_mut-in-Whole.ensures.value)
 
 pub returns-in-Asked-clause-ok : goal.returns-in-Asked-clause-ok
-returns-in-Asked-clause-ok c =
+returns-in-Asked-clause-ok c log one =
     let f = c.args.self.now in
     let there : c.args.site < length f.sites.items = omega arith in
     let pos : 0 < c.args.message = omega arith in
@@ -53,7 +53,7 @@ returns-in-Asked-clause-ok c =
     (ap (λ m. deliver (message_of m)) c.in-Asked.is))
 
 pub returns-in_ok-joined-in-PartFor-clause-ok : goal.returns-in_ok-joined-in-PartFor-clause-ok
-returns-in_ok-joined-in-PartFor-clause-ok c =
+returns-in_ok-joined-in-PartFor-clause-ok c log one =
     let f = c.args.self.now in
     let there : c.args.site < length f.sites.items = omega arith in
     let pos : 0 < c.args.message = omega arith in
@@ -71,11 +71,10 @@ pub returns-in_ok-joined-in-PartFor-clause-later : goal.returns-in_ok-joined-in-
 returns-in_ok-joined-in-PartFor-clause-later c =
     let f = c.args.self.now in
     let there : c.args.site < length f.sites.items = omega arith in
-    let same = site_log f c.args.site c.index_mut.result.now c.requires there c.index_mut.ensures.value in
-    site_later f c.args.site c.joined.new.site c.requires there (c.joined.ensures.log ∙ same)
+    site_later f c.args.site c.joined.new.site there (λ log one. c.joined.ensures.log ∙ site_log log f c.args.site c.index_mut.result.now one there c.index_mut.ensures.value)
 
 pub returns-in_ok-joined-in-Whole-clause-ok : goal.returns-in_ok-joined-in-Whole-clause-ok
-returns-in_ok-joined-in-Whole-clause-ok c =
+returns-in_ok-joined-in-Whole-clause-ok c log one =
     let f = c.args.self.now in
     let there : c.args.site < length f.sites.items = omega arith in
     let pos : 0 < c.args.message = omega arith in
@@ -91,5 +90,4 @@ pub returns-in_ok-joined-in-Whole-clause-later : goal.returns-in_ok-joined-in-Wh
 returns-in_ok-joined-in-Whole-clause-later c =
     let f = c.args.self.now in
     let there : c.args.site < length f.sites.items = omega arith in
-    let same = site_log f c.args.site c.index_mut-in-Whole.result.now c.requires there c.index_mut-in-Whole.ensures.value in
-    site_later f c.args.site c.joined-in-Whole.new.site c.requires there (c.joined-in-Whole.ensures.log ∙ same)
+    site_later f c.args.site c.joined-in-Whole.new.site there (λ log one. c.joined-in-Whole.ensures.log ∙ site_log log f c.args.site c.index_mut-in-Whole.result.now one there c.index_mut-in-Whole.ensures.value)

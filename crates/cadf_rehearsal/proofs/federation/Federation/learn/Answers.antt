@@ -8,31 +8,31 @@ use Rattle.cadf_replica.specs.Contributions.{document_atoms}
 use Rattle.cadf_rehearsal.proofs.federation.Federation.learn.Goals as goal
 
 pub returns-in-Ok-clause-ok : goal.returns-in-Ok-clause-ok
-returns-in-Ok-clause-ok c =
+returns-in-Ok-clause-ok c log one =
     let f = c.args.self.now in
     let there : c.args.site < length f.sites.items = omega arith in
     let site = c.index_mut.result.now in
-    let same = site_log f c.args.site site c.requires there c.index_mut.ensures.value in
-    let named = subst (λ log. IsOfLog log c.args.document.now.log) same c.in-Ok.ensures.ok.0 in
+    let same = site_log log f c.args.site site one there c.index_mut.ensures.value in
+    let named = subst (λ x. IsOfLog x c.args.document.now.log) same c.in-Ok.ensures.ok.0 in
     at_site f c.args.site c.args.number _ _ there
     (ap (λ t. cond t (Ok (schedule.adds (world_of f) c.args.site (document_atoms c.args.document.now))) (Err (fault.OtherLog c.args.number)))
-    (of_log f.log c.args.document.now.log named)
+    (of_log log c.args.document.now.log named)
     ∙ ap Ok (site_takes f c.args.site site c.take_document.new.self _ there c.index_mut.ensures.value c.in-Ok.ensures.ok.1))
 
 pub returns-in-Ok-clause-later : goal.returns-in-Ok-clause-later
 returns-in-Ok-clause-later c =
     let f = c.args.self.now in
     let there : c.args.site < length f.sites.items = omega arith in
-    let same = site_log f c.args.site c.index_mut.result.now c.requires there c.index_mut.ensures.value in
-    site_later f c.args.site c.take_document.new.self c.requires there (c.take_document.ensures.log ∙ same)
+    site_later f c.args.site c.take_document.new.self there (λ log one.
+    c.take_document.ensures.log ∙ site_log log f c.args.site c.index_mut.result.now one there c.index_mut.ensures.value)
 
 pub returns-in-Err-OtherLog-clause-err : goal.returns-in-Err-OtherLog-clause-err
-returns-in-Err-OtherLog-clause-err c =
+returns-in-Err-OtherLog-clause-err c log one =
     let f = c.args.self.now in
     let there : c.args.site < length f.sites.items = omega arith in
-    let same = site_log f c.args.site c.index_mut.result.now c.requires there c.index_mut.ensures.value in
-    let other = subst (λ log. ¬ IsOfLog log c.args.document.now.log) same
+    let same = site_log log f c.args.site c.index_mut.result.now one there c.index_mut.ensures.value in
+    let other = subst (λ x. ¬ IsOfLog x c.args.document.now.log) same
     (subst (IsNamedLogFault c.index_mut.result.now.log c.args.document.now.log) c.in-Err-OtherLog.field-0-is c.in-Err-OtherLog.ensures.err) in
     inr (at_site f c.args.site c.args.number _ _ there
     (ap (λ t. cond t (Ok (schedule.adds (world_of f) c.args.site (document_atoms c.args.document.now))) (Err (fault.OtherLog c.args.number)))
-    (of_other_log f.log c.args.document.now.log other)))
+    (of_other_log log c.args.document.now.log other)))

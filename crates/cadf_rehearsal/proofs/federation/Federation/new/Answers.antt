@@ -5,4 +5,4 @@ pub returns-clause-start : goal.returns-clause-start
 returns-clause-start c = starts c.args.log.now _ _ _ c.loop.invariant.empty c.new.ensures.items
 
 pub returns-clause-one_log : goal.returns-clause-one_log
-returns-clause-one_log c = begins c.args.log.now _ _ c.loop.invariant.empty c.in_ok-copied-2.ensures c.new.ensures.items
+returns-clause-one_log c = begins c.args.log.now _ _ c.loop.invariant.empty c.new.ensures.items

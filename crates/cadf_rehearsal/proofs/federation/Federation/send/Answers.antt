@@ -7,18 +7,17 @@ use Rattle.cadf_rehearsal.proofs.Seen.{at_or_read, seen_posted}
 use Rattle.cadf_rehearsal.proofs.federation.Federation.send.Goals as goal
 
 pub returns-clause-ok : goal.returns-clause-ok
-returns-clause-ok c =
+returns-clause-ok c log one =
     let f = c.args.self.now in
     let there : c.args.site < length f.sites.items = omega arith in
     let own = at_or_read _ set.empty f.sites.items c.args.site c.index.result.now there c.index.ensures in
     at_site f c.args.site c.args.number _ _ there (ap Ok (
     ap (λ s. schedule.makes (world_of f) (schedule.Whole s)) (own ∙ sym (ap (λ h. h.atoms) c.in_ok-copy.ensures))
-    ∙ seen_posted _ _ _ f.sites.items _ f.messages.items _ _ (ap (λ v. v.items) c.post.ensures.rest.0) c.in_ok-post.ensures.ok))
+    ∙ seen_posted _ _ _ f.sites.items _ f.messages.items _ _ (ap (λ v. v.items) c.post.ensures.rest) c.in_ok-post.ensures.ok))
 
 pub returns-clause-later : goal.returns-clause-later
 returns-clause-later c =
     let f = c.args.self.now in
     let there : c.args.site < length f.sites.items = omega arith in
-    let same = site_log f c.args.site c.index.result.now c.requires there c.index.ensures in
-    kept_later f c.post.new.self _ c.requires c.post.ensures.rest.1 c.post.ensures.rest.0 c.in_ok-post.ensures.ok
-    (ap (λ h. h.log) c.in_ok-copy.ensures ∙ same)
+    kept_later f c.post.new.self _ c.post.ensures.rest c.in_ok-post.ensures.ok (λ log one.
+    ap (λ h. h.log) c.in_ok-copy.ensures ∙ site_log log f c.args.site c.index.result.now one there c.index.ensures)

@@ -1,10 +1,10 @@
-use Rattle.std.proofs.Common.{◌≡◌, subst, sym, Ok}
+use Rattle.std.proofs.Common.{subst, sym}
 use Rattle.std.specs.Result.{OnOk}
 use Rattle.cadf_rehearsal.specs.declared.turn.Turn.{Turn}
-use Rattle.cadf_rehearsal.specs.Federation.{world_of, turned_from}
+use Rattle.cadf_rehearsal.specs.Federation.{TurnsTo}
 use Rattle.cadf_rehearsal.proofs.federation.Federation.take.Goals as goal
 
 pub returns-in-Deliver-clause-ok : goal.returns-in-Deliver-clause-ok
 returns-in-Deliver-clause-ok c =
-    subst (λ (t : Turn). OnOk c.deliver.result (turned_from c.args.self.now c.args.number t ≡ Ok (world_of c.deliver.new.self)))
+    subst (λ (t : Turn). OnOk c.deliver.result (TurnsTo c.args.self.now c.args.number t c.deliver.new.self))
     (sym c.in-Deliver.is) c.deliver.ensures.ok
