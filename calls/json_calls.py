@@ -21,7 +21,6 @@ CALLS = {
     "value text": ["Json::read", "Json::view", "View::text"],
     "tree text": ["Tree::of_text", "Tree::read", "Tree::view"],
     "canonical": ["Json::read_canonical"],
-    "text": ["Json::from_text"],
     "quoted": ["quoted"],
     "split": ["read_split", "TakesItems::take"],
     "check_list": ["check_list"],
@@ -248,10 +247,8 @@ def looks():
 
 
 def made():
-    """Values that are made of a text, and their texts."""
+    """The canonical text of a text."""
     yield "quoted", ['a"b\n'], ["ok", '"a\\"b\\n"'], CANONICAL
-    yield "text", ["x"], ["ok", '"x"'], VALUES
-    yield "text", ["null"], ["ok", '"null"'], VALUES
 
 
 def passed():

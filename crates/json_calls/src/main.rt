@@ -2,9 +2,9 @@
 //! and what the call answers is a line of standard output.
 #![tactic(auto)]
 
-mod builds;
 mod looks;
 mod passes;
+mod quotes;
 mod splits;
 mod streams;
 mod times;
@@ -21,8 +21,7 @@ fn answer(alloc: Global, line: &str) -> Result<String, Memory> {
         "value" => looks::value(alloc, &call),
         "tree" => looks::tree(alloc, &call),
         "canonical" => looks::canonical(alloc, call.text(1)),
-        "text" => builds::text(alloc, call.text(1)),
-        "quoted" => builds::quoted(alloc, call.text(1)),
+        "quoted" => quotes::quoted(alloc, call.text(1)),
         "split" => splits::split(alloc, call.text(1), call.text(2)),
         "check_list" => passes::list(alloc, call.text(1)),
         "may_be_json" => passes::may_be_json(alloc, call.text(1)),
