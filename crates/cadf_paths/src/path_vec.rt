@@ -353,15 +353,8 @@ fn nearest(nodes: &Nodes, numbers: &[u32], at: usize, path: &[&str]) -> u32
     requires within { at ≤ length numbers.now }
     ensures { result ≤ length nodes.now }
 {
-    let (before, after) = numbers.split_at(at);
-    let lower = match before {
-        [] => 0,
-        [.., last] => *last,
-    };
-    let upper = match after {
-        [] => 0,
-        [first, ..] => *first,
-    };
+    let lower = if at > 0 { numbers[at - 1] } else { 0 };
+    let upper = if at < numbers.len() { numbers[at] } else { 0 };
     let (_, below) = list_cmp(nodes, lower, path, 0);
     let (_, above) = list_cmp(nodes, upper, path, 0);
     if above > below { upper } else { lower }

@@ -1,5 +1,5 @@
 //! Suffixes: lists of a range, each without its first texts.
-ghost use Rattle.std.specs.Prelude.{◌≡◌, ◌≤◌, ◌<◌, ℕ, [], IfOk, IfSome, None, true, false, length, take, drop, get_or, map, nat_le};
+ghost use Rattle.std.specs.Prelude.{◌≡◌, ◌≤◌, ◌<◌, ℕ, [], ◌∷◌, IfOk, IfSome, None, true, false, length, take, drop, get_or, map, nat_le};
 ghost use Rattle.std.specs.List.{AllByRecursion, find};
 ghost use Rattle.std.specs.List.Sorted.{IsStrictlySortedBy};
 ghost use Rattle.std.specs.Option.{option_copied, option_map};
@@ -58,7 +58,7 @@ impl<'a> SuffixRange<'a> {
     pub fn count(&self) -> usize
         ensures { result ≡ length self.now }
     {
-        self.lists.len()
+        self.numbers.len()
     }
 
     /// Returns the number of the first suffix that begins with the text, or, if `passed`, of the first above those.

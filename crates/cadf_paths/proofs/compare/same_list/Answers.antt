@@ -1,0 +1,24 @@
+use Rattle.std.proofs.Common.{◌≡◌, ◌∙◌, ap, sym, arith}
+use Rattle.cadf_join.specs.Contents.{Texts}
+use Rattle.cadf_paths.specs.Nodes.{last_text, list_at}
+use Rattle.cadf_paths.proofs.Orders.{same_ends, same_fronts}
+use Rattle.cadf_paths.proofs.compare.same_list.Goals as goal
+
+pub loop-a-preserved : goal.loop-a-preserved
+loop-a-preserved c =
+    let h = c.loop-a.invariant in
+    let x : Texts = list_at c.args.nodes.now c.loop-a.a in
+    let y : Texts = list_at c.args.others.now c.loop-a.b in
+    let p : Texts = list_at c.args.nodes.now c.parent-a.result in
+    let q : Texts = list_at c.args.others.now c.parent-b.result in
+    let before = c.parent-a.ensures.before in
+    let lower = c.parent-b.ensures.before in
+    let there = h.ours in
+    let held = h.theirs in
+    record {
+      ours = omega (arith, before, there);
+      theirs = omega (arith, lower, held);
+      same = λ e. h.same (same_ends x y p q (last_text x) (last_text y) c.parent-a.ensures.list c.parent-b.ensures.list
+          (sym c.text.ensures ∙ c.if-ne.false ∙ c.text-2.ensures) e);
+      back = λ e. same_fronts x y p q (last_text x) (last_text y) c.parent-a.ensures.list c.parent-b.ensures.list (h.back e);
+    }
