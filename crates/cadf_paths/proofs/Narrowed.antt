@@ -29,7 +29,7 @@ map_twice : {A B C : Type 0} (f : A → B) (g : B → C) (xs : List A) → map (
 map_twice f g [] = refl
 map_twice f g (x ∷ xs) = ap (λ z. g (f x) ∷ z) (map_twice f g xs)
 
-module _ (ts : Texts) (d : ℕ) (numbers : List ℕ) (ls : List Texts) (view : map (rest_of ts d) numbers ≡ ls) (high : ℕ) (front : List ℕ)
+module _ (ts : List Texts) (d : ℕ) (numbers : List ℕ) (ls : List Texts) (view : map (rest_of ts d) numbers ≡ ls) (high : ℕ) (front : List ℕ)
     (front_is : front ≡ take high numbers) where
   pub front_view : map (rest_of ts d) front ≡ take high ls
   front_view = ap (map (rest_of ts d)) front_is ∙ sym (take-map (rest_of ts d) high numbers) ∙ ap (take high) view

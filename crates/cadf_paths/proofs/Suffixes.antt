@@ -1,7 +1,7 @@
 -- The suffixes of lists, by their first texts.
 use Rattle.std.proofs.Common.{◌≡◌, ℕ, Bool, true, false, ◌+◌, ◌<◌, ◌≤◌, min, List, [], ◌∷◌, Option, Some, None, refl, sym, ap, ◌∙◌, suc, zero}
 use Rattle.std.proofs.Common.{length, take, drop, get_or, map, arith}
-use Rattle.std.proofs.lemmas.List.{drop_more, get_or-map, length-drop}
+use Rattle.std.proofs.lemmas.List.{drop-drop, drop_more, length-drop}
 use Rattle.std.specs.declared.cmp.Ordering.{Ordering}
 use Rattle.std.specs.declared.cmp.Ordering.TheVariants.{Less, Equal, Greater}
 use Rattle.std.specs.Ordering.{match_ordering, ordering_then}
@@ -65,18 +65,18 @@ pub none_after : (l : Texts) (n : ℕ) → length l ≤ n → None ≡ first_tex
 none_after l n h = sym (ap first_text (dropped_all l n h))
 
 pub drop_one_more : (l : Texts) (n : ℕ) → drop (n + 1) l ≡ drop 1 (drop n l)
-drop_one_more [] zero = refl
-drop_one_more [] (suc n) = refl
-drop_one_more (t ∷ l) zero = refl
-drop_one_more (t ∷ l) (suc n) = drop_one_more l n
+drop_one_more l n = sym (drop-drop 1 n l)
 
 pub drop_past : (l : Texts) (n : ℕ) → length l ≤ n → drop n l ≡ drop 1 (drop n l)
 drop_past l n h = dropped_all l n h ∙ sym (ap (drop 1) (dropped_all l n h))
 
+nothing_dropped : (n : ℕ) → drop n [] ≡ []
+nothing_dropped zero = refl
+nothing_dropped (suc n) = refl
+
 pub drop_least : (l : Texts) (n m : ℕ) → m ≡ min n (length l) → drop m l ≡ drop n l
-drop_least [] zero m e = ap (λ k. drop k []) e
-drop_least [] (suc n) m e = ap (λ k. drop k []) e
-drop_least (t ∷ l) zero m e = ap (λ k. drop k (t ∷ l)) e
+drop_least [] n m e = nothing_dropped m ∙ sym (nothing_dropped n)
+drop_least (t ∷ l) zero m e = let none : m ≡ 0 = omega (arith, e) in ap (λ k. drop k (t ∷ l)) none
 drop_least (t ∷ l) (suc n) zero e = absurd (omega (arith, e))
 drop_least (t ∷ l) (suc n) (suc m) e = drop_least l n m (omega (arith, e))
 

@@ -112,6 +112,9 @@ pub(crate) fn same_list(nodes: &Nodes, node: u32, others: &Nodes, other: u32) ->
     requires theirs { other ≤ length others.now }
     ensures { IsTrue result ↔ (list_at nodes.now node ≡ list_at others.now other) }
 {
+    if depth(nodes, node) != depth(others, other) {
+        return false;
+    }
     let mut a = node;
     let mut b = other;
     while a > 0 && b > 0 {
@@ -121,5 +124,5 @@ pub(crate) fn same_list(nodes: &Nodes, node: u32, others: &Nodes, other: u32) ->
         a = nodes.parent(a);
         b = others.parent(b);
     }
-    a == 0 && b == 0
+    true
 }

@@ -1,6 +1,7 @@
 use Rattle.std.proofs.Common.{◌≡◌, ◌∙◌, ap, sym, arith}
 use Rattle.cadf_join.specs.Contents.{Texts}
 use Rattle.cadf_paths.specs.Nodes.{last_text, list_at}
+use Rattle.cadf_paths.proofs.Arena.{one_longer}
 use Rattle.cadf_paths.proofs.Orders.{same_ends, same_fronts}
 use Rattle.cadf_paths.proofs.compare.same_list.Goals as goal
 
@@ -15,10 +16,14 @@ loop-a-preserved c =
     let lower = c.parent-b.ensures.before in
     let there = h.ours in
     let held = h.theirs in
+    let long = h.long in
+    let one = one_longer x p (last_text x) c.parent-a.ensures.list in
+    let two = one_longer y q (last_text y) c.parent-b.ensures.list in
     record {
       ours = omega (arith, before, there);
       theirs = omega (arith, lower, held);
+      long = omega (arith, long, one, two);
       same = λ e. h.same (same_ends x y p q (last_text x) (last_text y) c.parent-a.ensures.list c.parent-b.ensures.list
-          (sym c.text.ensures ∙ c.if-ne.false ∙ c.text-2.ensures) e);
+          (sym c.text.ensures ∙ c.if-ne.false ∙ c.text-in-loop-a.ensures) e);
       back = λ e. same_fronts x y p q (last_text x) (last_text y) c.parent-a.ensures.list c.parent-b.ensures.list (h.back e);
     }
