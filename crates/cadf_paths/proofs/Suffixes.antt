@@ -70,7 +70,7 @@ drop_one_more l n = sym (drop-drop 1 n l)
 pub drop_past : (l : Texts) (n : ℕ) → length l ≤ n → drop n l ≡ drop 1 (drop n l)
 drop_past l n h = dropped_all l n h ∙ sym (ap (drop 1) (dropped_all l n h))
 
-nothing_dropped : (n : ℕ) → drop n [] ≡ []
+nothing_dropped : (n : ℕ) → drop {A = Text} n [] ≡ []
 nothing_dropped zero = refl
 nothing_dropped (suc n) = refl
 

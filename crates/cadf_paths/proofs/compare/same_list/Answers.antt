@@ -2,7 +2,7 @@ use Rattle.std.proofs.Common.{◌≡◌, ◌∙◌, ap, sym, arith}
 use Rattle.cadf_join.specs.Contents.{Texts}
 use Rattle.cadf_paths.specs.Nodes.{last_text, list_at}
 use Rattle.cadf_paths.proofs.Arena.{one_longer}
-use Rattle.cadf_paths.proofs.Orders.{same_ends, same_fronts}
+use Rattle.cadf_paths.proofs.Orders.{same_bytes, same_ends, same_fronts}
 use Rattle.cadf_paths.proofs.compare.same_list.Goals as goal
 
 pub loop-a-preserved : goal.loop-a-preserved
@@ -24,6 +24,6 @@ loop-a-preserved c =
       theirs = omega (arith, lower, held);
       long = omega (arith, long, one, two);
       same = λ e. h.same (same_ends x y p q (last_text x) (last_text y) c.parent-a.ensures.list c.parent-b.ensures.list
-          (sym c.text.ensures ∙ c.if-ne.false ∙ c.text-in-loop-a.ensures) e);
+          (sym c.text.ensures ∙ same_bytes c.text.result.now c.text-in-loop-a.result.now (c.if-ne.ensures tt) ∙ c.text-in-loop-a.ensures) e);
       back = λ e. same_fronts x y p q (last_text x) (last_text y) c.parent-a.ensures.list c.parent-b.ensures.list (h.back e);
     }
