@@ -10,7 +10,7 @@ use Rattle.cadf_join.specs.Sets.{Listed, contains-from_list}
 use Rattle.cadf_join.specs.laws.Rising.{AllByRecursion-listed, any_listed, listed_any}
 use Rattle.cadf_join.specs.Contents.{Texts, texts_cmp}
 use Rattle.cadf_join.specs.laws.Contents.{texts_total, texts_same}
-use Rattle.cadf_paths.specs.Flat.{last_of, ends_below}
+use Rattle.cadf_paths.specs.Lists.{last_of, ends_below}
 
 is_less : (r : Ordering) → is_lt r ≡ true → r ≡ Less
 is_less Less h = refl

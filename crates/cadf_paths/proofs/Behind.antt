@@ -41,7 +41,7 @@ use Rattle.cadf_join.specs.Prefixes.{texts_at}
 use Rattle.cadf_join.specs.Sets as set
 use Rattle.cadf_join.specs.laws.Rising.{rising-from_list, rising_is_sorted}
 use Rattle.cadf_join.proofs.Risings.{rising-section}
-use Rattle.cadf_paths.specs.Flat.{first_text, is_before, strip}
+use Rattle.cadf_paths.specs.Lists.{first_text, is_before, strip}
 use Rattle.cadf_paths.specs.Sections.{behind, sections}
 use Rattle.cadf_paths.proofs.Firsts.{DoesNotFall, find_rising}
 use Rattle.cadf_paths.proofs.Halving.{first_dropped}

@@ -13,7 +13,7 @@ use Rattle.cadf_join.specs.laws.Contents.{texts_total, texts_same}
 use Rattle.cadf_join.proofs.Members as members
 use Rattle.cadf_join.specs.laws.Sets as sets
 use Rattle.cadf_paths.specs.Carriers.{carriers_in, with_carriers}
-use Rattle.cadf_paths.specs.Flat.{last_of, ends_below}
+use Rattle.cadf_paths.specs.Lists.{last_of, ends_below}
 use Rattle.cadf_paths.specs.Merge.{sorted_merge}
 use Rattle.cadf_paths.proofs.Above.{above_last, last_listed}
 use Rattle.cadf_paths.proofs.Merges.{pushed_rises, merged_is_union}

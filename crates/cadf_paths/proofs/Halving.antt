@@ -18,8 +18,8 @@ use Rattle.cadf_join.specs.laws.Contents.{text_total, text_same, texts_total, te
 use Rattle.cadf_join.specs.Sets as set
 use Rattle.cadf_join.specs.Sets.{contains-from_list, contains-insert}
 use Rattle.cadf_paths.proofs.Spans.{all_more, all_turned}
-use Rattle.cadf_paths.proofs.Runs.{all_put}
-use Rattle.cadf_paths.specs.Flat.{prefix_cmp, is_before, last_of, ends_behind, ends_below}
+use Rattle.cadf_paths.proofs.Inserts.{all_put}
+use Rattle.cadf_paths.specs.Lists.{prefix_cmp, is_before, last_of, ends_behind, ends_below}
 
 -- what is below a list that is before the bound is before it
 pub before_below : (p : Texts) (more : Bool) (a b : Texts) → texts_cmp a b ≡ Less → is_before p more b ≡ true → is_before p more a ≡ true

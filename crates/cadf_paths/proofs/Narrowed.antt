@@ -1,11 +1,11 @@
--- The runs between two bounds, without one more text, are what stands behind a text.
+-- The lists between two bounds, without one more text, are the suffixes after a text.
 use Rattle.std.proofs.Common.{◌≡◌, ℕ, suc, zero, true, false, List, [], ◌∷◌, refl, sym, ap, ◌∙◌, subst, take, drop, map}
 use Rattle.std.specs.List.{AllByRecursion, take-map, drop-map}
 use Rattle.std.specs.declared.cmp.Ordering.TheVariants.{Less}
 use Rattle.std.specs.List.Sorted.{IsStrictlySortedBy}
 use Rattle.cadf_join.specs.Contents.{Text, Texts, rests, texts_cmp}
-use Rattle.cadf_paths.specs.Flat.{is_before, rest_of, IsRunOf}
-use Rattle.cadf_paths.specs.declared.pool.Span.{Span}
+use Rattle.cadf_paths.specs.Lists.{is_before}
+use Rattle.cadf_paths.specs.Nodes.{rest_of, IsThere}
 use Rattle.cadf_paths.proofs.Behind.{rests_between, rests_from, rests_up_to}
 use Rattle.cadf_paths.proofs.Spans.{map_same}
 
@@ -29,16 +29,16 @@ map_twice : {A B C : Type 0} (f : A → B) (g : B → C) (xs : List A) → map (
 map_twice f g [] = refl
 map_twice f g (x ∷ xs) = ap (λ z. g (f x) ∷ z) (map_twice f g xs)
 
-module _ (ts : Texts) (d : ℕ) (spans : List Span) (ls : List Texts) (view : map (rest_of ts d) spans ≡ ls) (high : ℕ) (front : List Span)
-    (front_is : front ≡ take high spans) where
+module _ (ts : List Texts) (d : ℕ) (numbers : List ℕ) (ls : List Texts) (view : map (rest_of ts d) numbers ≡ ls) (high : ℕ) (front : List ℕ)
+    (front_is : front ≡ take high numbers) where
   pub front_view : map (rest_of ts d) front ≡ take high ls
-  front_view = ap (map (rest_of ts d)) front_is ∙ sym (take-map (rest_of ts d) high spans) ∙ ap (take high) view
+  front_view = ap (map (rest_of ts d)) front_is ∙ sym (take-map (rest_of ts d) high numbers) ∙ ap (take high) view
 
-  module _ (runs : AllByRecursion (IsRunOf ts) spans) (further low : ℕ) (lists : List Span) (lists_are : lists ≡ drop low front)
-      (deeper : (r : Span) → IsRunOf ts r → rest_of ts further r ≡ drop 1 (rest_of ts d r)) where
-    runs_left : AllByRecursion (IsRunOf ts) lists
-    runs_left = subst (AllByRecursion (IsRunOf ts)) (sym (lists_are ∙ ap (drop low) front_is))
-        (all_of_last (IsRunOf ts) (take high spans) low (all_of_first (IsRunOf ts) spans high runs))
+  module _ (there : AllByRecursion (IsThere ts) numbers) (further low : ℕ) (lists : List ℕ) (lists_are : lists ≡ drop low front)
+      (deeper : (r : ℕ) → IsThere ts r → rest_of ts further r ≡ drop 1 (rest_of ts d r)) where
+    left_there : AllByRecursion (IsThere ts) lists
+    left_there = subst (AllByRecursion (IsThere ts)) (sym (lists_are ∙ ap (drop low) front_is))
+        (all_of_last (IsThere ts) (take high numbers) low (all_of_first (IsThere ts) numbers high there))
 
     pub section_view : (t : Text) → AllByRecursion (λ l. is_before (t ∷ []) true l ≡ true) (take high ls)
         → AllByRecursion (λ l. is_before (t ∷ []) true l ≡ false) (drop high ls)
@@ -46,7 +46,7 @@ module _ (ts : Texts) (d : ℕ) (spans : List Span) (ls : List Texts) (view : ma
         → AllByRecursion (λ l. is_before (t ∷ []) false l ≡ false) (drop low (take high ls))
         → map (rest_of ts further) lists ≡ rests t ls
     section_view t upto over below from =
-        map_same (IsRunOf ts) (rest_of ts further) (λ r. drop 1 (rest_of ts d r)) lists deeper runs_left
+        map_same (IsThere ts) (rest_of ts further) (λ r. drop 1 (rest_of ts d r)) lists deeper left_there
         ∙ map_twice (rest_of ts d) (λ l. drop 1 l) lists
         ∙ ap (map (λ l. drop 1 l)) (ap (map (rest_of ts d)) lists_are ∙ sym (drop-map (rest_of ts d) low front) ∙ ap (drop low) front_view)
         ∙ sym (rests_between t (drop low (take high ls)) from (all_of_last (λ l. is_before (t ∷ []) true l ≡ true) (take high ls) low upto))

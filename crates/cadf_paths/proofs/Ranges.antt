@@ -11,7 +11,7 @@ use Rattle.std.specs.List.{AllByRecursion, cons_option, filter_map, find}
 use Rattle.std.specs.List.Sorted.{IsStrictlySortedBy}
 use Rattle.cadf_join.specs.laws.Sets as sets
 use Rattle.cadf_join.specs.Contents.{Texts, text_cmp, texts_cmp}
-use Rattle.cadf_paths.specs.Flat.{prefix_cmp, is_before, strip}
+use Rattle.cadf_paths.specs.Lists.{prefix_cmp, is_before, strip}
 use Rattle.cadf_paths.proofs.Halving.{before_below}
 
 -- what is before the bound does not begin with the prefix

@@ -11,7 +11,6 @@ use Rattle.cadf_join.specs.Sets as set
 use Rattle.cadf_join.specs.Sets.{contains-from_list, contains-insert, contains-union}
 use Rattle.std.specs.Prelude.{◌||◌, Bool, false}
 use Rattle.cadf_paths.specs.Merge.{sorted_merge}
-use Rattle.cadf_paths.specs.declared.pool.Span.{Span}
 use Rattle.cadf_paths.proofs.Merges.{merged_rises, merged_is_union}
 use Rattle.cadf_paths.proofs.Spans.{all_turned}
 
@@ -60,7 +59,7 @@ of_both xs ys = contents_same _ _ (λ q.
     ∙ (λ i. sym (contains-from_list texts_total xs q) i || sym (contains-from_list texts_total ys q) i)
     ∙ sym (contains-union texts_total (set.from_list xs) (set.from_list ys) q))
 
-module _ (f : Span → Texts) (front back a b : List Span) (a_is : a ≡ front) (b_is : b ≡ back) (all : List Texts)
+module _ {A : Type 0} (f : A → Texts) (front back a b : List A) (a_is : a ≡ front) (b_is : b ≡ back) (all : List Texts)
     (merged : all ≡ sorted_merge texts_cmp true (map f a) (map f b)) where
   of_halves : all ≡ sorted_merge texts_cmp true (map f front) (map f back)
   of_halves = merged ∙ (λ i. sorted_merge texts_cmp true (map f (a_is i)) (map f (b_is i)))
@@ -68,7 +67,7 @@ module _ (f : Span → Texts) (front back a b : List Span) (a_is : a ≡ front) 
   pub halves_rise : IsStrictlySortedBy texts_cmp (map f front) → IsStrictlySortedBy texts_cmp (map f back) → IsStrictlySortedBy texts_cmp all
   halves_rise s t = subst (IsStrictlySortedBy texts_cmp) (sym of_halves) (merged_rises texts_total texts_same (map f front) (map f back) s t)
 
-  pub halves_are_all : (lists before behind : List Span) (n : ℕ) → before ≡ take n lists → behind ≡ drop n lists
+  pub halves_are_all : (lists before behind : List A) (n : ℕ) → before ≡ take n lists → behind ≡ drop n lists
       → set.from_list {R = texts_cmp} (map f front) ≡ set.from_list (map f before) → set.from_list {R = texts_cmp} (map f back) ≡ set.from_list (map f behind)
       → set.from_list {R = texts_cmp} all ≡ set.from_list (map f lists)
   halves_are_all lists before behind n before_is behind_is same also =

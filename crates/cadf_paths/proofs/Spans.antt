@@ -5,7 +5,8 @@ use Rattle.std.proofs.Math.Seq.{drop-append_seam}
 use Rattle.std.proofs.lemmas.Str.{IsUtf8-drop, IsUtf8-take, IsCharBoundary-at_seam, IsCharBoundary-end, IsCharBoundary-from_take}
 use Rattle.std.specs.List.{AllByRecursion}
 use Rattle.std.specs.Str.{IsUtf8, IsCharBoundary}
-use Rattle.cadf_paths.specs.Flat.{Place, Moves, ahead, text_of, IsSpan}
+use Rattle.cadf_paths.specs.Block.{text_of, IsSpan}
+use Rattle.cadf_paths.specs.Walks.{Place, Moves, ahead}
 use Rattle.cadf_paths.specs.declared.pool.Span.{Span}
 
 pub all_more : {A : Type 0} (P : A → Type 0) (xs : List A) (x : A) → AllByRecursion P xs → P x → AllByRecursion P (xs ++ x ∷ [])

@@ -4,7 +4,7 @@
 use Rattle.std.specs.Prelude.{List, [], ◌∷◌, ◌++◌, cond, map}
 use Rattle.cadf_join.specs.Sets as set
 use Rattle.cadf_join.specs.Contents.{Texts, Contents}
-use Rattle.cadf_paths.specs.Flat.{ends_below}
+use Rattle.cadf_paths.specs.Lists.{ends_below}
 
 abbrev pub with_carriers : (Texts → Texts) → Contents → Contents
 with_carriers carrier s = set.union s (set.from_list (map carrier (set.items s)))

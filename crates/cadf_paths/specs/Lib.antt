@@ -1,5 +1,8 @@
+pub mod Block
 pub mod Carriers
-pub mod Flat
 pub mod Kept
+pub mod Lists
 pub mod Merge
+pub mod Nodes
 pub mod Sections
+pub mod Walks

@@ -8,7 +8,7 @@ ghost use Rattle.cadf_join.specs.Longest.{longest_of};
 ghost use Rattle.cadf_join.specs.Maps.{heads};
 ghost use Rattle.cadf_join.specs.Prefixes.{chain_texts, saturated, texts_at, texts_found};
 ghost use Rattle.cadf_join.specs.Several.{several};
-ghost use Rattle.cadf_paths.specs.Flat.{ends_behind, strip};
+ghost use Rattle.cadf_paths.specs.Lists.{ends_behind, strip};
 ghost use Rattle.cadf_paths.specs.Sections.{sections};
 
 use crate::Memory;
@@ -49,17 +49,17 @@ impl Paths {
     pub fn next_text(&self, prefix: &[&str], text: Option<&str>) -> Option<&str>
         ensures { option_copied result ≡ next_after (heads (sections self.now (texts_at prefix.now))) (option_copied text.entry) }
     {
-        self.rows.part(prefix).next_text(text)
+        self.rows.suffixes(prefix).next_text(text)
     }
 
     /// The texts next behind the prefix, in order.
     pub fn texts_behind(&self, prefix: &[&str]) -> Result<Vec<String>, Memory>
         ensures { IfOk result (λ found. map string_bytes found.items ≡ set.rising (heads (sections self.now (texts_at prefix.now)))) }
     {
-        let part = self.rows.part(prefix);
+        let range = self.rows.suffixes(prefix);
         let mut texts = Vec::new(self.alloc);
         let mut last = None;
-        while let Some(text) = part.next_text(last) {
+        while let Some(text) = range.next_text(last) {
             texts.push(String::from_str(self.alloc, text)?)?;
             last = Some(text);
         }
@@ -70,11 +70,11 @@ impl Paths {
     pub fn several_behind(&self, prefix: &[&str]) -> u64
         ensures { result ≡ saturated (length (several (sections self.now (texts_at prefix.now)))) }
     {
-        let part = self.rows.part(prefix);
+        let range = self.rows.suffixes(prefix);
         let mut count: u64 = 0;
         let mut last = None;
-        while let Some(text) = part.next_text(last) {
-            if part.section(text).has_several() {
+        while let Some(text) = range.next_text(last) {
+            if range.section(text).has_several() {
                 count = count.saturating_add(1);
             }
             last = Some(text);
@@ -86,9 +86,9 @@ impl Paths {
     pub fn longest_behind(&self, prefix: &[&str]) -> Result<Option<Vec<String>>, Memory>
         ensures { IfOk result (λ found. texts_found found ≡ longest_of (filter_map (strip (texts_at prefix.now)) (set.rising self.now))) }
     {
-        let part = self.rows.part(prefix);
-        match part.longest() {
-            Some(number) => Ok(Some(part.copied(self.alloc, number)?)),
+        let range = self.rows.suffixes(prefix);
+        match range.longest() {
+            Some(number) => Ok(Some(range.copied(self.alloc, number)?)),
             None => Ok(None),
         }
     }

@@ -6,7 +6,7 @@ ghost use Rattle.cadf_join.specs.Prefixes.{texts_at};
 ghost use Rattle.cadf_paths.specs.Carriers.{carriers_in};
 
 use crate::Memory;
-use crate::rows::Rows;
+use crate::path_vec::PathVec;
 use std::alloc::Global;
 
 /// Which list each list needs with it, its carrier: the first texts of the list, or all of them.
@@ -24,10 +24,10 @@ pub trait Carrier {
 }
 
 /// The carriers of the lists, each once, in order.
-pub(crate) fn carriers_of<C: Carrier>(alloc: Global, rows: &Rows) -> Result<Rows, Memory>
+pub(crate) fn carriers_of<C: Carrier>(alloc: Global, rows: &PathVec) -> Result<PathVec, Memory>
     ensures { IfOk result (λ all. all ≡ carriers_in C.carrier [] rows.now) }
 {
-    let mut all = Rows::new(alloc);
+    let mut all = PathVec::new(alloc);
     let mut cursor = rows.cursor();
     let mut more = cursor.next()?;
     while more {

@@ -5,14 +5,14 @@ ghost use Rattle.cadf_join.specs.Prefixes.{texts_at};
 
 use crate::Memory;
 use crate::paths::Paths;
-use crate::rows::Rows;
+use crate::path_vec::PathVec;
 use std::alloc::Global;
 use std::marker::Model;
 
 /// Lists gathered in any order, not yet a set in order.
 #[derive(Drop)]
 pub struct Gathered {
-    rows: Rows,
+    rows: PathVec,
     alloc: Global,
 }
 
@@ -34,7 +34,7 @@ impl Gathered {
         ensures { result ≡ set.empty }
     {
         Gathered {
-            rows: Rows::new(alloc),
+            rows: PathVec::new(alloc),
             alloc,
         }
     }

@@ -1,16 +1,16 @@
 //! The order of lists of texts, and their prefixes.
-ghost use Rattle.std.specs.Prelude.{◌≡◌, ◌++◌, IfOk};
+ghost use Rattle.std.specs.Prelude.{◌≡◌, ◌++◌, IfOk, drop};
 ghost use Rattle.std.specs.Option.{option_copied, option_map};
 ghost use Rattle.cadf_join.specs.Contents.{texts_cmp};
 ghost use Rattle.cadf_join.specs.Prefixes.{chain_texts, texts_at};
-ghost use Rattle.cadf_paths.specs.Flat.{strip};
+ghost use Rattle.cadf_paths.specs.Lists.{strip};
 
 use crate::Memory;
 use cadf_join::prefix::copied;
 use std::alloc::Global;
 use std::cmp::Ordering;
 
-/// The order of two lists: text by text, by their bytes, a prefix first.
+/// Compares two lists: text by text, by their bytes, a prefix first.
 pub(crate) fn texts_cmp(a: &[&str], b: &[&str]) -> Ordering
     ensures { result ≡ texts_cmp (texts_at a.now) (texts_at b.now) }
 {
@@ -33,7 +33,7 @@ pub(crate) fn texts_cmp(a: &[&str], b: &[&str]) -> Ordering
     }
 }
 
-/// What follows the prefix, where the list begins with it.
+/// Returns the suffix after the prefix. `None` if the list does not begin with it.
 pub(crate) fn strip<'l, 'a>(list: &'l [&'a str], prefix: &[&str]) -> Option<&'l [&'a str]>
     ensures { option_map texts_at (option_copied result) ≡ strip (texts_at prefix.now) (texts_at list.now) }
 {
@@ -50,7 +50,7 @@ pub(crate) fn strip<'l, 'a>(list: &'l [&'a str], prefix: &[&str]) -> Option<&'l 
     }
 }
 
-/// The prefix with the texts behind it.
+/// Copies the prefix with the path after it.
 pub(crate) fn continued(
     alloc: Global,
     prefix: &[String],
@@ -63,4 +63,16 @@ pub(crate) fn continued(
         list.push(String::from_str(alloc, *text)?)?;
     }
     Ok(list)
+}
+
+/// Copies the path without its first `skipped` texts.
+pub(crate) fn copied_after(
+    alloc: Global,
+    path: &[&str],
+    skipped: usize,
+) -> Result<Vec<String>, Memory>
+    ensures { IfOk result (λ list. chain_texts list.items ≡ drop skipped (texts_at path.now)) }
+{
+    let (_, rest) = path.split_at(skipped.min(path.len()));
+    continued(alloc, &[], rest)
 }

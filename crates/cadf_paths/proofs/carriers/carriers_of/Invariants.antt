@@ -1,6 +1,6 @@
 use Rattle.std.proofs.Common.{◌≡◌, [], length}
 use Rattle.cadf_paths.specs.Carriers.{carriers_in}
-use Rattle.cadf_paths.specs.Flat.{ahead}
+use Rattle.cadf_paths.specs.Walks.{ahead}
 use Rattle.cadf_paths.proofs.carriers.carriers_of.Given as goal
 
 abbrev pub invariant-loop-more : goal.invariant-loop-more

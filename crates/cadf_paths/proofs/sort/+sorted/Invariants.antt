@@ -2,4 +2,4 @@ use Rattle.std.proofs.Common.{length}
 use Rattle.cadf_paths.proofs.sort.+sorted.Given as goal
 
 abbrev pub decreases-sorted : goal.decreases-sorted
-decreases-sorted l = length l.lists.now
+decreases-sorted l = length l.numbers.now

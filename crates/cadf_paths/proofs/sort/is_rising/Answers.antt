@@ -1,7 +1,7 @@
 use Rattle.std.proofs.Common.{ap, sym, subst, ◌∙◌, arith, length}
 use Rattle.std.proofs.lemmas.List.{length-drop}
 use Rattle.std.specs.List.{AllByRecursion}
-use Rattle.cadf_paths.specs.Flat.{IsRunOf, run_of}
+use Rattle.cadf_paths.specs.Nodes.{IsThere, list_at}
 use Rattle.cadf_paths.proofs.Narrowed.{all_of_last}
 use Rattle.cadf_paths.proofs.Sorts.{first_rises, one_rises}
 use Rattle.cadf_paths.proofs.sort.is_rising.Goals as goal
@@ -12,13 +12,13 @@ loop-rest-preserved c =
     let within = c.loop-rest.invariant.within in
     let shorter = ap length c.split_at.ensures.back ∙ length-drop 1 rest in
     record {
-      rises = λ s. c.loop-rest.invariant.rises (first_rises (run_of c.args.texts.now) rest c.split_at.result.1.now _ _ c.split_at.ensures.back
-          c.loop-rest-test.true (sym c.run_cmp.ensures ∙ c.in-Less.is) s);
-      runs = subst (AllByRecursion (IsRunOf c.args.texts.now)) (sym c.split_at.ensures.back)
-          (all_of_last (IsRunOf c.args.texts.now) rest 1 c.loop-rest.invariant.runs);
+      rises = λ s. c.loop-rest.invariant.rises (first_rises (list_at c.args.nodes.now) rest c.split_at.result.1.now _ _ c.split_at.ensures.back
+          c.loop-rest-test.true (sym c.node_cmp.ensures ∙ c.in-Less.is) s);
+      there = subst (AllByRecursion (IsThere c.args.nodes.now)) (sym c.split_at.ensures.back)
+          (all_of_last (IsThere c.args.nodes.now) rest 1 c.loop-rest.invariant.there);
       within = omega (arith, within, shorter);
     }
 
 pub returns-clause-rises : goal.returns-clause-rises
 returns-clause-rises c = λ _. c.loop-rest.invariant.rises
-    (one_rises (run_of c.args.texts.now) c.loop-rest.rest.now (let t = c.loop-rest-test.false in omega (arith, t)))
+    (one_rises (list_at c.args.nodes.now) c.loop-rest.rest.now (let t = c.loop-rest-test.false in omega (arith, t)))

@@ -2,14 +2,14 @@ use Rattle.std.proofs.Common.{◌≤◌, length, map}
 use Rattle.std.specs.List.{AllByRecursion}
 use Rattle.std.specs.List.Sorted.{IsStrictlySortedBy}
 use Rattle.cadf_join.specs.Contents.{texts_cmp}
-use Rattle.cadf_paths.specs.Flat.{IsRunOf, run_of}
+use Rattle.cadf_paths.specs.Nodes.{IsThere, list_at}
 use Rattle.cadf_paths.proofs.sort.is_rising.Given as goal
 
 abbrev pub invariant-loop-rest : goal.invariant-loop-rest
 invariant-loop-rest l = record {
-  rises : IsStrictlySortedBy texts_cmp (map (run_of l.texts) l.rest) → IsStrictlySortedBy texts_cmp (map (run_of l.texts) l.lists);
-  runs : AllByRecursion (IsRunOf l.texts) l.rest;
-  within : length l.rest ≤ length l.lists;
+  rises : IsStrictlySortedBy texts_cmp (map (list_at l.nodes) l.rest) → IsStrictlySortedBy texts_cmp (map (list_at l.nodes) l.numbers);
+  there : AllByRecursion (IsThere l.nodes) l.rest;
+  within : length l.rest ≤ length l.numbers;
 }
 
 abbrev pub decreases-loop-rest : goal.decreases-loop-rest

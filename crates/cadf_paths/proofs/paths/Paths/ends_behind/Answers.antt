@@ -3,7 +3,7 @@ use Rattle.cadf_join.specs.Sets as set
 use Rattle.cadf_join.specs.laws.Rising.{rising-from_list}
 use Rattle.cadf_join.specs.laws.Contents.{texts_total, texts_same}
 use Rattle.cadf_join.specs.Prefixes.{chain_texts}
-use Rattle.cadf_paths.specs.Flat.{ends_behind}
+use Rattle.cadf_paths.specs.Lists.{ends_behind}
 use Rattle.cadf_paths.proofs.paths.Paths.ends_behind.Goals as goal
 
 pub returns : goal.returns

@@ -5,7 +5,7 @@ use Rattle.cadf_join.specs.Longest.{longest_of}
 use Rattle.cadf_join.specs.Prefixes.{texts_at}
 use Rattle.cadf_join.specs.Sets as set
 use Rattle.cadf_join.specs.laws.Rising.{rising-from_list}
-use Rattle.cadf_paths.specs.Flat.{strip}
+use Rattle.cadf_paths.specs.Lists.{strip}
 use Rattle.cadf_paths.proofs.Behind.{behind_strip}
 use Rattle.cadf_paths.proofs.paths.Paths.longest_behind.Goals as goal
 
@@ -14,7 +14,7 @@ returns-in_ok-copied-in-Some c =
     let p = texts_at c.args.prefix.now in
     let rows = c.self.inside.rows in
     ap Some c.in_ok-copied-in-Some.ensures ∙ c.in-Some.ensures.longest
-    ∙ ap longest_of (c.part-part.ensures.behind ∙ behind_strip p rows
+    ∙ ap longest_of (c.suffixes-range.ensures.behind ∙ behind_strip p rows
     ∙ ap (filter_map (strip p)) (sym (rising-from_list texts_total texts_same rows c.self.invariant) ∙ ap set.rising c.self.view_is))
 
 pub returns-in-None : goal.returns-in-None
@@ -22,5 +22,5 @@ returns-in-None c =
     let p = texts_at c.args.prefix.now in
     let rows = c.self.inside.rows in
     c.in-None.ensures.longest
-    ∙ ap longest_of (c.part-part.ensures.behind ∙ behind_strip p rows
+    ∙ ap longest_of (c.suffixes-range.ensures.behind ∙ behind_strip p rows
     ∙ ap (filter_map (strip p)) (sym (rising-from_list texts_total texts_same rows c.self.invariant) ∙ ap set.rising c.self.view_is))

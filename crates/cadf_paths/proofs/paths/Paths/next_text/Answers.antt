@@ -10,4 +10,4 @@ pub returns : goal.returns
 returns c =
     c.next_text.ensures
     ∙ ap (λ s. next_after (heads s) (option_copied c.args.text))
-    (part_is (texts_at c.args.prefix.now) c.self.inside.rows c.self.invariant c.part.result c.args.self.now c.part.ensures.behind c.self.view_is)
+    (part_is (texts_at c.args.prefix.now) c.self.inside.rows c.self.invariant c.suffixes.result c.args.self.now c.suffixes.ensures.behind c.self.view_is)

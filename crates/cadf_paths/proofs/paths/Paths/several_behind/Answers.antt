@@ -18,7 +18,7 @@ use Rattle.cadf_paths.proofs.paths.Paths.several_behind.Goals as goal
 
 pub loop-text-init : goal.loop-text-init
 loop-text-init c =
-    let s = set.from_list c.part-part.result in
+    let s = set.from_list c.suffixes-range.result in
     let all = ap (λ ks. length (filter (has_two s) ks)) (all_after text_total text_same (set.rising (heads s))) in
     record {
       to_come = omega (arith, all);
@@ -27,24 +27,24 @@ loop-text-init c =
 
 pub has_several-requires : goal.has_several-requires
 has_several-requires c = subst (IsStrictlySortedBy texts_cmp) (sym c.section.ensures)
-    (rests_rise c.in-Some.text.now c.part-part.result c.part-part.ensures.rising)
+    (rests_rise c.in-Some.text.now c.suffixes-range.result c.suffixes-range.ensures.rising)
 
 pub loop-text-smaller : goal.loop-text-smaller
 loop-text-smaller c =
-    let h = heads (set.from_list c.part-part.result) in
+    let h = heads (set.from_list c.suffixes-range.result) in
     let step = ap length (next_one text_total text_same (option_copied c.loop-text.last) (set.rising h) (rising_is_sorted text_total text_same h)
     c.in-Some.text.now (sym c.next_text.ensures ∙ ap option_copied c.in-Some.is)) in
     omega (arith, step)
 
 pub loop-text-preserved : goal.loop-text-preserved
 loop-text-preserved c =
-    let s = set.from_list c.part-part.result in
+    let s = set.from_list c.suffixes-range.result in
     let t = c.in-Some.text.now in
     let left = filter (is_after text_cmp (Some t)) (set.rising (heads s)) in
     let step = ap (λ ks. length (filter (has_two s) ks)) (next_one text_total text_same (option_copied c.loop-text.last) (set.rising (heads s))
     (rising_is_sorted text_total text_same (heads s)) t (sym c.next_text.ensures ∙ ap option_copied c.in-Some.is)) in
     let told : has_two s t ≡ c.has_several.result =
-    ap (λ z. nat_le 2 (length (set.rising (heads z)))) (section_of t c.part-part.result c.part-part.ensures.rising ∙ ap set.from_list (sym c.section.ensures))
+    ap (λ z. nat_le 2 (length (set.rising (heads z)))) (section_of t c.suffixes-range.result c.suffixes-range.ensures.rising ∙ ap set.from_list (sym c.section.ensures))
     ∙ sym c.has_several.ensures in
     let before = c.loop-text.invariant.to_come in
     let small = c.loop-text.invariant.small in
@@ -67,7 +67,7 @@ loop-text-preserved c =
 
 pub returns : goal.returns
 returns c =
-    let s = set.from_list c.part-part.result in
+    let s = set.from_list c.suffixes-range.result in
     let none = ap (λ ks. length (filter (has_two s) ks)) (next_none text_total text_same (is_after text_cmp (option_copied c.loop-text.last))
     (set.rising (heads s))
     (sym c.next_text.ensures ∙ ap option_copied c.in_default.is)) in
@@ -75,4 +75,4 @@ returns c =
     let small = c.loop-text.invariant.small in
     let all : c.loop-text.count ≡ saturated (length (several s)) = omega (arith, none, before, small) in
     all ∙ ap (λ z. saturated (length (several z)))
-    (part_is (texts_at c.args.prefix.now) c.self.inside.rows c.self.invariant c.part-part.result c.args.self.now c.part-part.ensures.behind c.self.view_is)
+    (part_is (texts_at c.args.prefix.now) c.self.inside.rows c.self.invariant c.suffixes-range.result c.args.self.now c.suffixes-range.ensures.behind c.self.view_is)

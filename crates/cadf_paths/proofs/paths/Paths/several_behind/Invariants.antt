@@ -12,10 +12,10 @@ use Rattle.cadf_paths.proofs.paths.Paths.several_behind.Given as goal
 abbrev pub invariant-loop-text : goal.invariant-loop-text
 invariant-loop-text l = record {
   to_come : saturated (l.count + length
-      (filter (has_two (set.from_list l.part)) (filter (is_after text_cmp (option_copied l.last)) (set.rising (heads (set.from_list l.part))))))
-      ≡ saturated (length (several (set.from_list l.part)));
+      (filter (has_two (set.from_list l.range)) (filter (is_after text_cmp (option_copied l.last)) (set.rising (heads (set.from_list l.range))))))
+      ≡ saturated (length (several (set.from_list l.range)));
   small : l.count ≤ 18446744073709551615;
 }
 
 abbrev pub decreases-loop-text : goal.decreases-loop-text
-decreases-loop-text l = length (filter (is_after text_cmp (option_copied l.last)) (set.rising (heads (set.from_list l.part))))
+decreases-loop-text l = length (filter (is_after text_cmp (option_copied l.last)) (set.rising (heads (set.from_list l.range))))

@@ -15,19 +15,19 @@ use Rattle.cadf_paths.proofs.paths.Paths.texts_behind.Goals as goal
 
 pub loop-text-init : goal.loop-text-init
 loop-text-init c =
-    let ks = set.rising (heads (set.from_list c.part-part.result)) in
+    let ks = set.rising (heads (set.from_list c.suffixes-range.result)) in
     (λ i. map string_bytes (c.new-texts.ensures.items i) ++ all_after text_total text_same ks i)
 
 pub loop-text-smaller : goal.loop-text-smaller
 loop-text-smaller c =
-    let h = heads (set.from_list c.part-part.result) in
+    let h = heads (set.from_list c.suffixes-range.result) in
     let step = ap length (next_one text_total text_same (option_copied c.loop-text.last) (set.rising h) (rising_is_sorted text_total text_same h)
     c.in-Some.text.now (sym c.next_text.ensures ∙ ap option_copied c.in-Some.is)) in
     omega (arith, step)
 
 pub loop-text-preserved : goal.loop-text-preserved
 loop-text-preserved c =
-    let h = heads (set.from_list c.part-part.result) in
+    let h = heads (set.from_list c.suffixes-range.result) in
     let t = c.in-Some.text.now in
     let left = filter (is_after text_cmp (Some t)) (set.rising h) in
     let done = map string_bytes c.loop-text.texts.items in
@@ -41,11 +41,11 @@ loop-text-preserved c =
 
 pub returns : goal.returns
 returns c =
-    let h = heads (set.from_list c.part-part.result) in
+    let h = heads (set.from_list c.suffixes-range.result) in
     let done = map string_bytes c.loop-text.texts.items in
     sym (append-nil done)
     ∙ ap (λ ts. done ++ ts) (sym (next_none text_total text_same (is_after text_cmp (option_copied c.loop-text.last)) (set.rising h)
     (sym c.next_text.ensures ∙ ap option_copied c.in_default.is)))
     ∙ c.loop-text.invariant
     ∙ ap (λ s. set.rising (heads s))
-    (part_is (texts_at c.args.prefix.now) c.self.inside.rows c.self.invariant c.part-part.result c.args.self.now c.part-part.ensures.behind c.self.view_is)
+    (part_is (texts_at c.args.prefix.now) c.self.inside.rows c.self.invariant c.suffixes-range.result c.args.self.now c.suffixes-range.ensures.behind c.self.view_is)

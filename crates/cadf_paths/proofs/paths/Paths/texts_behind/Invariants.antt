@@ -8,8 +8,8 @@ use Rattle.cadf_paths.proofs.paths.Paths.texts_behind.Given as goal
 
 abbrev pub invariant-loop-text : goal.invariant-loop-text
 invariant-loop-text l =
-    map string_bytes l.texts.items ++ filter (is_after text_cmp (option_copied l.last)) (set.rising (heads (set.from_list l.part)))
-    ≡ set.rising (heads (set.from_list l.part))
+    map string_bytes l.texts.items ++ filter (is_after text_cmp (option_copied l.last)) (set.rising (heads (set.from_list l.range)))
+    ≡ set.rising (heads (set.from_list l.range))
 
 abbrev pub decreases-loop-text : goal.decreases-loop-text
-decreases-loop-text l = length (filter (is_after text_cmp (option_copied l.last)) (set.rising (heads (set.from_list l.part))))
+decreases-loop-text l = length (filter (is_after text_cmp (option_copied l.last)) (set.rising (heads (set.from_list l.range))))

@@ -1,0 +1,42 @@
+-- Lists of texts: their prefixes, and the last of some lists.
+--     first_text l           the first text of a list
+--     prefix_cmp l p         whether a list is below those that begin with p, one of them, or above
+--     is_before p more l     whether it is below them, or one of them if they count too
+--     strip p l              the suffix after the prefix, if the list begins with it
+--     last_of p ls           the last of the lists, or p
+--     ends_below ls q        whether q is above the last of the lists, as it is if there is none
+--     ends_behind ls p       whether the last of the lists begins with p
+use Rattle.std.specs.Prelude.{Bool, true, false, List, [], ◌∷◌, Option, Some, None}
+use Rattle.std.specs.declared.cmp.Ordering.{Ordering}
+use Rattle.std.specs.declared.cmp.Ordering.TheVariants.{Less, Equal, Greater}
+use Rattle.std.specs.Ordering.{is_eq, is_lt, match_ordering}
+use Rattle.cadf_join.specs.Contents.{Text, Texts, text_cmp, texts_cmp}
+
+abbrev pub first_text : Texts → Option Text
+first_text [] = None
+first_text (t ∷ l) = Some t
+
+abbrev pub prefix_cmp : Texts → Texts → Ordering
+prefix_cmp l [] = Equal
+prefix_cmp [] (t ∷ p) = Less
+prefix_cmp (u ∷ l) (t ∷ p) = match_ordering (text_cmp u t) Less (prefix_cmp l p) Greater
+
+abbrev pub is_before : Texts → Bool → Texts → Bool
+is_before p more l = match_ordering (prefix_cmp l p) true more false
+
+abbrev pub strip : Texts → Texts → Option Texts
+strip [] l = Some l
+strip (t ∷ p) [] = None
+strip (t ∷ p) (u ∷ l) = match_ordering (text_cmp u t) None (strip p l) None
+
+abbrev pub last_of : Texts → List Texts → Texts
+last_of p [] = p
+last_of p (l ∷ ls) = last_of l ls
+
+abbrev pub ends_below : List Texts → Texts → Bool
+ends_below [] q = true
+ends_below (l ∷ ls) q = is_lt (texts_cmp (last_of l ls) q)
+
+abbrev pub ends_behind : List Texts → Texts → Bool
+ends_behind [] p = false
+ends_behind (l ∷ ls) p = is_eq (prefix_cmp (last_of l ls) p)
