@@ -3,6 +3,7 @@
 Each public call must be listed, each listed one must stand behind a row, and each that takes memory behind a row whose
 answer is no refusal.
 """
+import collections
 import glob
 import importlib
 import os
@@ -51,15 +52,17 @@ def calls_of(owner, block):
 
 
 def public(crate):
-    """The public calls of a crate, as the list names them, but for those that do nothing."""
-    folder = os.path.join(TOP, "crates", crate, "src")
-    shown = {name.split("::")[-1] for name, _, _ in reachable.items(crate)}
-    for block in blocks(folder):
-        owner, function = OWNER.match(block), re.match(r"pub fn (\w+)", block)
-        if owner and owner.group(1) in shown:
-            yield from calls_of(owner.group(1), block)
-        elif function and function.group(1) in shown and not does_nothing(block):
-            yield function.group(1)
+    """The public calls that a crate shows, its own and those that it exports of others, but for those that do nothing."""
+    shown = collections.defaultdict(set)
+    for _, home, item in reachable.items(crate):
+        shown[home].add(item)
+    for home, items in shown.items():
+        for block in blocks(os.path.join(TOP, "crates", home, "src")):
+            owner, function = OWNER.match(block), re.match(r"pub fn (\w+)", block)
+            if owner and owner.group(1) in items:
+                yield from calls_of(owner.group(1), block)
+            elif function and function.group(1) in items and not does_nothing(block):
+                yield function.group(1)
 
 
 def made():

@@ -14,7 +14,12 @@ const NEAR: usize = 8;
 
 /// Compares the node's list with another, if they are known to share `known` texts. Returns their order, and a number of texts
 /// that they share.
-pub(crate) fn list_cmp<W: AsText>(nodes: &Nodes, node: u32, list: &[W], known: usize) -> (Ordering, usize)
+pub(crate) fn list_cmp<W: AsText>(
+    nodes: &Nodes,
+    node: u32,
+    list: &[W],
+    known: usize,
+) -> (Ordering, usize)
     requires there { node ≤ length nodes.now }
     requires known { Agree known (list_at nodes.now node) (map W.bytes list.now) }
     ensures order { result.0 ≡ texts_cmp (list_at nodes.now node) (map W.bytes list.now) }
@@ -28,7 +33,13 @@ pub(crate) fn list_cmp<W: AsText>(nodes: &Nodes, node: u32, list: &[W], known: u
 }
 
 /// Compares from the front: the first difference decides.
-fn cmp_down<W: AsText>(nodes: &Nodes, node: u32, has: usize, list: &[W], known: usize) -> (Ordering, usize)
+fn cmp_down<W: AsText>(
+    nodes: &Nodes,
+    node: u32,
+    has: usize,
+    list: &[W],
+    known: usize,
+) -> (Ordering, usize)
     requires there { node ≤ length nodes.now }
     requires has { has ≡ length (list_at nodes.now node) }
     requires known { Agree known (list_at nodes.now node) (map W.bytes list.now) }
@@ -56,7 +67,13 @@ fn parted(order: Ordering, here: usize, behind: usize) -> usize
 }
 
 /// Compares in one climb: the difference nearest to the root decides.
-fn cmp_up<W: AsText>(nodes: &Nodes, node: u32, has: usize, list: &[W], known: usize) -> (Ordering, usize)
+fn cmp_up<W: AsText>(
+    nodes: &Nodes,
+    node: u32,
+    has: usize,
+    list: &[W],
+    known: usize,
+) -> (Ordering, usize)
     requires there { node ≤ length nodes.now }
     requires has { has ≡ length (list_at nodes.now node) }
     requires known { Agree known (list_at nodes.now node) (map W.bytes list.now) }

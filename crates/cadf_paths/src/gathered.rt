@@ -4,8 +4,8 @@ ghost use Rattle.cadf_join.specs.Sets as set;
 ghost use Rattle.cadf_join.specs.Prefixes.{texts_at};
 
 use crate::Memory;
-use crate::paths::Paths;
 use crate::path_vec::PathVec;
+use crate::paths::Paths;
 use std::alloc::Global;
 use std::marker::Model;
 

@@ -8,9 +8,9 @@ use Rattle.cadf_join.specs.Contents.{Text, Texts, Contents, Has, IsWithin}
 use Rattle.cadf_join.specs.laws.Contents.{texts_total, texts_same}
 use Rattle.cadf_join.proofs.Members as members
 use Rattle.cadf_join.specs.laws.Sets as laws
-use Rattle.cadf_replica.specs.Atoms.{IsGrounded}
-use Rattle.cadf_replica.specs.Missing.{missing, missing_by, digests_of, unknown, NoCollision}
-use Rattle.cadf_replica.specs.Contributions.{document_atoms}
+use Rattle.cadf_line.specs.Atoms.{IsGrounded}
+use Rattle.cadf_line.specs.Missing.{missing, missing_by, digests_of, unknown, NoCollision}
+use Rattle.cadf_atom.specs.Contributions.{document_atoms}
 use Rattle.cadf_event.specs.Document.{DocumentParts}
 use Rattle.cadf_rehearsal.specs.declared.turn.Turn.{Turn}
 use Rattle.cadf_rehearsal.specs.declared.turn.Turn.TheVariants.{Learn, Ask, Answer, Send, Deliver}
@@ -18,8 +18,8 @@ use Rattle.cadf_rehearsal.specs.declared.fault.RehearseFault.{RehearseFault}
 use Rattle.cadf_rehearsal.specs.declared.fault.RehearseFault.TheVariants.{WrongAddressee}
 use Rattle.cadf_rehearsal.specs.Schedule.{Message, Inventory, PartFor, Whole, World, start, with_at, adds, makes, is_message, is_of_log, Means}
 use Rattle.cadf_rehearsal.specs.Schedule.{delivered, answered, turned, next, after, made_by, plain, carried, learnt}
-use Rattle.cadf_replica.proofs.Missing.{missing_within, missing_by_is, part_suffices, missing_or_held, with_carriers_least, unknown_has}
-use Rattle.cadf_replica.proofs.ContributionLaws.{grounded_union, grounded_empty, document_grounded}
+use Rattle.cadf_line.proofs.Missing.{missing_within, missing_by_is, part_suffices, missing_or_held, with_carriers_least, unknown_has}
+use Rattle.cadf_set.proofs.ContributionLaws.{grounded_union, grounded_empty, document_grounded}
 
 cond_ok : {A C : Type 0} (b : Bool) (r : Result A C) (c : C) (x : A) → cond b r (Err c) ≡ Ok x → (b ≡ true) × (r ≡ Ok x)
 cond_ok true r c x h = (refl, h)

@@ -6,7 +6,7 @@ use Rattle.std.specs.Prelude.{Result, Ok, Err, nat_eq}
 use Rattle.cadf_join.specs.Sets as sets
 use Rattle.cadf_join.specs.Contents.{Text, Contents}
 use Rattle.cadf_rehearsal.specs.Schedule.{World, Message, with_at, adds, makes, is_message}
-use Rattle.cadf_replica.specs.Replica.{Held}
+use Rattle.cadf_set.specs.Replica.{Held}
 use Rattle.std.proofs.lemmas.List.{same_lists}
 use Rattle.std.proofs.lemmas.List.FromFn.{get_or-map-range_with_len, length-map-range_with_len}
 use Rattle.cadf_rehearsal.specs.Federation.{at_or, at_number, held_at, log_at, left_by}

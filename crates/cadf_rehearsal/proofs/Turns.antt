@@ -6,8 +6,8 @@ use Rattle.std.specs.Vec.{with_item}
 use Rattle.std.proofs.lemmas.List.{length-set}
 use Rattle.cadf_join.specs.Sets as sets
 use Rattle.cadf_join.specs.Contents.{Text, Contents}
-use Rattle.cadf_replica.specs.Replica.{Held}
-use Rattle.cadf_replica.specs.Refusals.{IsOfLog}
+use Rattle.cadf_set.specs.Replica.{Held}
+use Rattle.cadf_set.specs.Refusals.{IsOfLog}
 use Rattle.std.specs.Cmp.Lexicographic.{bytes_decides}
 use Rattle.cadf_rehearsal.specs.Schedule as schedule
 use Rattle.cadf_rehearsal.specs.Federation.{at_or, at_number, held_at, log_at, message_of, log_of_message, world_of, IsOneLog, IsLater}
@@ -15,8 +15,8 @@ use Rattle.cadf_rehearsal.specs.declared.federation.Federation.{Federation}
 use Rattle.cadf_rehearsal.specs.declared.federation.Message.{Message}
 use Rattle.cadf_rehearsal.specs.declared.fault.RehearseFault.{RehearseFault}
 use Rattle.cadf_rehearsal.specs.declared.federation.Message.TheVariants.{Asked, PartFor, Whole}
-use Rattle.cadf_replica.specs.Digest.{atom_digest}
-use Rattle.cadf_replica.specs.Inventory.{Noted}
+use Rattle.cadf_line.specs.Digest.{atom_digest}
+use Rattle.cadf_set.specs.Inventory.{Noted}
 use Rattle.cadf_rehearsal.specs.declared.fault.RehearseFault.TheVariants.{NoSite, NoMessage, NotInventory}
 use Rattle.cadf_rehearsal.proofs.Seen.{seen_adds, at_or_read, at_number_read, all_set, all_push, made_is}
 

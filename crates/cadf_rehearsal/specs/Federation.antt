@@ -9,8 +9,8 @@ use Rattle.std.specs.Prelude.{◌≡◌, ℕ, zero, suc, ◌∷◌, List, [], ma
 use Rattle.std.specs.List.{range_with_len}
 use Rattle.cadf_join.specs.Sets as set
 use Rattle.cadf_join.specs.Contents.{Text, Contents}
-use Rattle.cadf_replica.specs.Replica.{Held}
-use Rattle.cadf_replica.specs.Digest.{atom_digest}
+use Rattle.cadf_set.specs.Replica.{Held}
+use Rattle.cadf_line.specs.Digest.{atom_digest}
 use Rattle.cadf_rehearsal.specs.Schedule as schedule
 use Rattle.cadf_rehearsal.specs.declared.turn.Turn.{Turn}
 use Rattle.cadf_rehearsal.specs.declared.fault.RehearseFault.{RehearseFault}

@@ -8,9 +8,9 @@ use Rattle.std.specs.Prelude.{◌≡◌, ◌⊎◌, ℕ, suc, ◌+◌, Bool, tru
 use Rattle.cadf_join.specs.Sets as set
 use Rattle.cadf_join.specs.Contents.{Text, Texts, Contents, Has, IsWithin}
 use Rattle.cadf_event.specs.Document.{DocumentParts}
-use Rattle.cadf_replica.specs.Atoms.{IsGrounded, is_text}
-use Rattle.cadf_replica.specs.Contributions.{document_atoms}
-use Rattle.cadf_replica.specs.Missing.{Digests, digests_of, missing_by}
+use Rattle.cadf_line.specs.Atoms.{IsGrounded, is_text}
+use Rattle.cadf_atom.specs.Contributions.{document_atoms}
+use Rattle.cadf_line.specs.Missing.{Digests, digests_of, missing_by}
 use Rattle.cadf_rehearsal.specs.declared.turn.Turn.{Turn}
 use Rattle.cadf_rehearsal.specs.declared.turn.Turn.TheVariants.{Learn, Ask, Answer, Send, Deliver}
 use Rattle.cadf_rehearsal.specs.declared.fault.RehearseFault.{RehearseFault}

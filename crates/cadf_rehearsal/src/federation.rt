@@ -9,7 +9,7 @@ use crate::fault::RehearseFault;
 use crate::turn::Turn;
 use cadf_event::{Document, Name};
 use cadf_json::Memory;
-use cadf_replica::{Inventory, Replica, ReplicaFault};
+use cadf_set::{Inventory, Replica, ReplicaFault};
 use std::alloc::Global;
 
 /// What a site sent.

@@ -2,7 +2,7 @@
 ghost use Rattle.std.specs.Prelude.{◌≡◌, ◌<◌, ◌≤◌, ℕ, List, Ok};
 ghost use Rattle.cadf_join.specs.Sets as set;
 ghost use Rattle.cadf_join.specs.Contents.{Text, Texts, Contents, IsWithin};
-ghost use Rattle.cadf_replica.specs.Missing.{NoCollision, missing_by, digests_of};
+ghost use Rattle.cadf_line.specs.Missing.{NoCollision, missing_by, digests_of};
 ghost use Rattle.cadf_rehearsal.specs.declared.turn.Turn.{Turn};
 ghost use Rattle.cadf_rehearsal.specs.Schedule.{World, after, plain, learnt, Means};
 

@@ -1,6 +1,6 @@
 //! A schedule is played from its first turn to its last.
 ghost use Rattle.std.specs.Prelude.{◌≡◌, reverse, IfOk, IfErr, Ok};
-ghost use Rattle.cadf_replica.specs.Digest.{atom_digest};
+ghost use Rattle.cadf_line.specs.Digest.{atom_digest};
 ghost use Rattle.cadf_rehearsal.specs.Schedule.{World, after};
 ghost use Rattle.cadf_rehearsal.specs.Federation.{IsFaultDue, left_by};
 
@@ -8,7 +8,7 @@ use crate::fault::RehearseFault;
 use crate::federation::Federation;
 use crate::turn::Turn;
 use cadf_event::Name;
-use cadf_replica::Replica;
+use cadf_set::Replica;
 use std::alloc::Global;
 
 /// Plays the turns in order over so many sites of the log, which begin without atoms: the replicas that

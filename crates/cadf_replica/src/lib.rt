@@ -1,29 +1,13 @@
-//! A replica of a log as its set of atoms.
+//! Atoms, replicas, inventories, rulings and schedules under one name: what the crates below show of them.
 #![tactic(auto)]
 
-mod atom;
-mod by_body;
-mod carrier;
-mod gathering;
-mod inventory;
-mod key_kind;
 pub mod laws;
-mod letter;
-mod line_digest;
-mod next_kind;
-mod noting;
-pub mod path;
-pub mod replica;
-mod ruling;
-mod shape;
-mod unnoted;
 
-pub use atom::{Atom, AtomFault};
-pub use inventory::Inventory;
-pub use key_kind::KeyKind;
-pub use letter::Letter;
-pub use next_kind::next_path_kind;
-pub use path::{PathKind, path_atom, path_kind, path_kind_with};
-pub use replica::{Replica, ReplicaFault};
-pub use ruling::{Ruling, RulingFault};
-pub use shape::may_follow;
+pub use cadf_atom::{Atom, AtomFault, KeyKind, PathKind, Ruling, RulingFault, may_follow};
+pub use cadf_event::{Document, Entity, Name, Property, Sighting};
+pub use cadf_join::{Memory, Visitor};
+pub use cadf_line::Letter;
+pub use cadf_prefix::{next_path_kind, path_atom, path_kind, path_kind_with};
+pub use cadf_rehearsal::{RehearseFault, Turn, rehearse};
+pub use cadf_set::{Inventory, Replica, ReplicaFault};
+pub use json::Scratch;

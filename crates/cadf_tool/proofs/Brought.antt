@@ -5,8 +5,8 @@ use Rattle.cadf_join.specs.Contents.{Contents, IsWithin}
 use Rattle.cadf_join.specs.laws.Contents.{texts_total, texts_same}
 use Rattle.cadf_join.specs.laws.Sets as laws
 use Rattle.cadf_join.proofs.Members as members
-use Rattle.cadf_replica.specs.Contributions.{Contribution, atoms, union_all}
-use Rattle.cadf_replica.proofs.History.{contains_listed, listed_contains, in_union_all, of_union_all, listed_within}
+use Rattle.cadf_atom.specs.Contributions.{Contribution, atoms, union_all}
+use Rattle.cadf_set.proofs.History.{contains_listed, listed_contains, in_union_all, of_union_all, listed_within}
 use Rattle.cadf_tool.specs.declared.input.Loaded.{Loaded}
 use Rattle.cadf_tool.specs.declared.input.Loaded.TheVariants.{Replica, Document}
 use Rattle.cadf_tool.specs.Told.{atoms_loaded}

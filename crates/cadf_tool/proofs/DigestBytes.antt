@@ -5,11 +5,11 @@ use Rattle.std.proofs.Math.Nat.{mod-lt}
 use Rattle.sha2.specs.Sha256.{sha256, digest_bytes, final_hash, initial_hash_256}
 use Rattle.sha2.proofs.Facts256.{length-sha256}
 use Rattle.cadf_join.specs.Contents.{Contents}
-use Rattle.cadf_replica.specs.Atom.{line}
-use Rattle.cadf_replica.specs.Digest.{atom_digest, IsDigest}
-use Rattle.cadf_replica.specs.Inventory.{AreDigests}
-use Rattle.cadf_replica.specs.Missing.{digests_of}
-use Rattle.cadf_replica.proofs.Missing.{digest_of_some}
+use Rattle.cadf_line.specs.AtomLine.{line}
+use Rattle.cadf_line.specs.Digest.{atom_digest, IsDigest}
+use Rattle.cadf_set.specs.Inventory.{AreDigests}
+use Rattle.cadf_line.specs.Missing.{digests_of}
+use Rattle.cadf_line.proofs.Missing.{digest_of_some}
 
 abbrev AreBytes : List ℕ → Type 0
 AreBytes bytes = (place : ℕ) → slice_index bytes place < 256

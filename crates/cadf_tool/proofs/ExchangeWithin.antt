@@ -5,11 +5,11 @@ use Rattle.cadf_join.specs.Contents.{Text, Contents, Has, IsWithin}
 use Rattle.cadf_join.specs.Sets as set
 use Rattle.cadf_join.specs.laws.Contents.{texts_total}
 use Rattle.cadf_join.specs.laws.Sets as laws
-use Rattle.cadf_replica.specs.AtomSets.{AreKept}
-use Rattle.cadf_replica.specs.Contributions.{Contribution, one_atom}
-use Rattle.cadf_replica.specs.Replica.{Held}
-use Rattle.cadf_replica.specs.RulingTexts.{RulingParts, ruling_atom}
-use Rattle.cadf_replica.proofs.ContributionLaws.{kept_empty, kept_union}
+use Rattle.cadf_atom.specs.AtomSets.{AreKept}
+use Rattle.cadf_atom.specs.Contributions.{Contribution, one_atom}
+use Rattle.cadf_set.specs.Replica.{Held}
+use Rattle.cadf_line.specs.RulingTexts.{RulingParts, ruling_atom}
+use Rattle.cadf_set.proofs.ContributionLaws.{kept_empty, kept_union}
 use Rattle.cadf_tool.specs.WrittenFile.{file}
 use Rattle.cadf_tool.specs.declared.input.Loaded.{Loaded}
 use Rattle.cadf_tool.specs.declared.input.Loaded.TheVariants.{Replica}

@@ -2,11 +2,11 @@
 use Rattle.std.proofs.Common.{◌≡◌, ℕ, Bool, true, false, cond, List, Option, None, Some, Result, Ok, Err, refl, sym, ap, ◌∙◌, subst}
 use Rattle.cadf_join.specs.Sets as set
 use Rattle.cadf_join.specs.Contents.{Text, Contents, IsWithin}
-use Rattle.cadf_replica.specs.Atoms.{IsGrounded}
-use Rattle.cadf_replica.specs.AtomSets.{AreKept}
-use Rattle.cadf_replica.specs.Missing.{Digests, digests_of, unknown, missing_by, NoCollision}
-use Rattle.cadf_replica.specs.Replica.{Held}
-use Rattle.cadf_replica.proofs.Missing.{with_carriers_grounded, with_carriers_least, unknown_has, missing_by_is}
+use Rattle.cadf_line.specs.Atoms.{IsGrounded}
+use Rattle.cadf_atom.specs.AtomSets.{AreKept}
+use Rattle.cadf_line.specs.Missing.{Digests, digests_of, unknown, missing_by, NoCollision}
+use Rattle.cadf_set.specs.Replica.{Held}
+use Rattle.cadf_line.proofs.Missing.{with_carriers_grounded, with_carriers_least, unknown_has, missing_by_is}
 use Rattle.cadf_file.specs.InventoryFile.{IsInventory}
 use Rattle.cadf_file.proofs.InventoryVerdictLemmas.{inventory-file-tells}
 use Rattle.cadf_tool.specs.declared.input.Loaded.{Loaded}
@@ -16,8 +16,8 @@ use Rattle.cadf_tool.specs.Input.{IsInput}
 use Rattle.cadf_tool.specs.Told.{log_named, atoms_loaded, IsHeld}
 use Rattle.cadf_tool.specs.Join.{is_other}
 use Rattle.cadf_tool.specs.Missing.{under_one_log}
-use Rattle.cadf_replica.specs.Digest.{atom_digest}
-use Rattle.cadf_replica.specs.Inventory.{Noted, AreDigests}
+use Rattle.cadf_line.specs.Digest.{atom_digest}
+use Rattle.cadf_set.specs.Inventory.{Noted, AreDigests}
 use Rattle.cadf_tool.specs.MissingBy.{noted_under, noted_of, missing_by_of}
 use Rattle.cadf_tool.specs.Exchange.{IsReadOf, IsNotedOf}
 use Rattle.cadf_tool.proofs.DigestBytes.{are_digests}

@@ -2,8 +2,8 @@
 use Rattle.std.proofs.Common.{◌≡◌, ◌≢◌, ℕ, Bool, true, false, List, Option, Some, None, Result, Ok, Err, refl, ap, ◌∙◌, subst, inl, inr}
 use Rattle.std.specs.Io.KnownBytes.{IsAtEnd}
 use Rattle.cadf_json.specs.Streams.{counted}
-use Rattle.cadf_replica.specs.Inventory.{Noted}
-use Rattle.cadf_replica.specs.declared.inventory.Inventory.{Inventory}
+use Rattle.cadf_set.specs.Inventory.{Noted}
+use Rattle.cadf_set.specs.declared.inventory.Inventory.{Inventory}
 use Rattle.cadf_frame.specs.declared.fault.FileFault.{FileFault}
 use Rattle.cadf_frame.specs.declared.fault.FileFault.TheVariants.{Version, LogLine, Line, Digest, Truncated, Trailing, TooLarge, ReadFault, Memory}
 use Rattle.cadf_frame.proofs.ReadingLemmas as reading

@@ -2,9 +2,9 @@
 use Rattle.std.proofs.Common.{ℕ, List}
 use Rattle.cadf_json.proofs.Spelled.{spelled_is_value}
 use Rattle.cadf_event.proofs.KnownDocument.{known_document}
-use Rattle.cadf_replica.specs.Atoms.{IsGrounded}
-use Rattle.cadf_replica.specs.AtomSets.{AreKept}
-use Rattle.cadf_replica.proofs.ContributionLaws.{document_kept}
+use Rattle.cadf_line.specs.Atoms.{IsGrounded}
+use Rattle.cadf_atom.specs.AtomSets.{AreKept}
+use Rattle.cadf_set.proofs.ContributionLaws.{document_kept}
 use Rattle.cadf_tool.specs.declared.input.Loaded.{Loaded}
 use Rattle.cadf_tool.specs.declared.input.Loaded.TheVariants.{Replica, Document}
 use Rattle.cadf_tool.specs.Input.{IsInput}

@@ -5,8 +5,8 @@ use Rattle.std.proofs.KnownBytes.{Consumes-whole}
 use Rattle.cadf_json.specs.declared.stream.Source.{Ghosts as Source}
 use Rattle.cadf_json.specs.declared.stream.Sink.{Ghosts as Sink}
 use Rattle.cadf_join.specs.Contents.{Text, Contents}
-use Rattle.cadf_replica.specs.Inventory.{Noted}
-use Rattle.cadf_replica.specs.Replica.{Held}
+use Rattle.cadf_set.specs.Inventory.{Noted}
+use Rattle.cadf_set.specs.Replica.{Held}
 use Rattle.cadf_file.specs.InventoryFile.{inventory_file}
 use Rattle.cadf_tool.specs.WrittenFile.{file}
 use Rattle.cadf_frame.specs.declared.file_feed.TheConstants.{FILE_LIMIT}

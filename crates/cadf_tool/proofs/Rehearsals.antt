@@ -1,7 +1,7 @@
 -- A script that is read and played.
 use Rattle.std.proofs.Common.{◌≡◌, ℕ, List, Result, Ok, Err, refl, sym, ap, subst}
 use Rattle.cadf_join.specs.Contents.{Text}
-use Rattle.cadf_replica.specs.Replica.{Held}
+use Rattle.cadf_set.specs.Replica.{Held}
 use Rattle.cadf_rehearsal.specs.declared.turn.Turn.{Turn as Step}
 use Rattle.cadf_tool.specs.declared.fault.ToolFault.{ToolFault}
 use Rattle.cadf_tool.specs.Faults.{Stage, Reading, Working, Writing, Starving, stage_of}

@@ -2,10 +2,10 @@
 use Rattle.std.proofs.Common.{◌≡◌, ℕ, List, Some, Result, Ok, sym, ap, ◌∙◌}
 use Rattle.cadf_join.specs.laws.Contents.{texts_total, texts_same}
 use Rattle.cadf_join.specs.laws.Sets as laws
-use Rattle.cadf_replica.specs.AtomSets.{AreKept}
-use Rattle.cadf_replica.specs.Contributions.{ARuling, one_atom, taken}
-use Rattle.cadf_replica.specs.Replica.{Held}
-use Rattle.cadf_replica.specs.RulingTexts.{RulingParts, ruling_atom}
+use Rattle.cadf_atom.specs.AtomSets.{AreKept}
+use Rattle.cadf_atom.specs.Contributions.{ARuling, one_atom, taken}
+use Rattle.cadf_set.specs.Replica.{Held}
+use Rattle.cadf_line.specs.RulingTexts.{RulingParts, ruling_atom}
 use Rattle.cadf_tool.specs.declared.input.Loaded.{Loaded}
 use Rattle.cadf_tool.specs.declared.fault.ToolFault.{ToolFault}
 use Rattle.cadf_tool.specs.Input.{IsInput}

@@ -46,21 +46,21 @@ use Rattle.cadf_join.specs.Contents.{Text, Texts, Contents, Has, IsWithin}
 use Rattle.cadf_join.specs.laws.Sets as laws
 use Rattle.cadf_join.specs.laws.Contents.{texts_total, texts_same}
 use Rattle.cadf_join.proofs.Members as members
-use Rattle.cadf_replica.specs.Atom.{atom_rules, IsRuling}
+use Rattle.cadf_atom.specs.Atom.{atom_rules, IsRuling}
 use Rattle.cadf_event.specs.LogName.{is_name_text}
-use Rattle.cadf_replica.specs.Atoms.{IsAtom, property, resource, geolocation, metric, event, is_text, ruling_letter}
-use Rattle.cadf_replica.specs.AtomSets.{AreKept}
-use Rattle.cadf_replica.specs.Contributions.{ARuling, one_atom, taken}
-use Rattle.cadf_replica.specs.Replica.{Held}
-use Rattle.cadf_replica.specs.Rulings.{ruling_of}
-use Rattle.cadf_replica.specs.RulingTexts.{RulingParts, ruling_atom, is_value_letter, is_digest_text, value_digest}
-use Rattle.cadf_replica.specs.Shown.{strip, only, values}
-use Rattle.cadf_replica.specs.declared.ruling.RulingFault.{RulingFault}
-use Rattle.cadf_replica.specs.declared.ruling.RulingFault.TheVariants.{Letter as BadLetter, Key as BadKey, Digest as BadDigest}
-use Rattle.cadf_replica.proofs.Again.{in_order_retain, value_is}
-use Rattle.cadf_replica.proofs.ContributionLaws.{kept_union, ruling_kept}
-use Rattle.cadf_replica.proofs.Lists.{Some-same, filter_map_listed}
-use Rattle.cadf_replica.proofs.RulingTexts.{hex_is_digest}
+use Rattle.cadf_line.specs.Atoms.{IsAtom, property, resource, geolocation, metric, event, is_text, ruling_letter}
+use Rattle.cadf_atom.specs.AtomSets.{AreKept}
+use Rattle.cadf_atom.specs.Contributions.{ARuling, one_atom, taken}
+use Rattle.cadf_set.specs.Replica.{Held}
+use Rattle.cadf_atom.specs.Rulings.{ruling_of}
+use Rattle.cadf_line.specs.RulingTexts.{RulingParts, ruling_atom, is_value_letter, is_digest_text, value_digest}
+use Rattle.cadf_atom.specs.Shown.{strip, only, values}
+use Rattle.cadf_atom.specs.declared.ruling.RulingFault.{RulingFault}
+use Rattle.cadf_atom.specs.declared.ruling.RulingFault.TheVariants.{Letter as BadLetter, Key as BadKey, Digest as BadDigest}
+use Rattle.cadf_set.proofs.Again.{in_order_retain, value_is}
+use Rattle.cadf_set.proofs.ContributionLaws.{kept_union, ruling_kept}
+use Rattle.cadf_line.proofs.Lists.{Some-same, filter_map_listed}
+use Rattle.cadf_atom.proofs.RulingTexts.{hex_is_digest}
 use Rattle.sha2.specs.Sha256.{sha256}
 use Rattle.cadf_tool.specs.declared.fault.ToolFault.{ToolFault}
 use Rattle.cadf_tool.specs.declared.input.Loaded.{Loaded}

@@ -30,8 +30,8 @@ use Rattle.cadf_join.specs.Contents.{Text, Contents}
 use Rattle.cadf_join.specs.Sets as set
 use Rattle.cadf_join.specs.laws.Sets.{subset-from_IsWithin, IsWithin-from_subset}
 use Rattle.cadf_join.specs.laws.Contents.{texts_total, contents_same}
-use Rattle.cadf_replica.specs.Atoms.{is_text}
-use Rattle.cadf_replica.specs.Replica.{Held}
+use Rattle.cadf_line.specs.Atoms.{is_text}
+use Rattle.cadf_set.specs.Replica.{Held}
 use Rattle.std.specs.Cmp.Lexicographic.{bytes_decides}
 use Rattle.std.proofs.lemmas.List.{drop_all}
 use Rattle.cadf_tool.specs.Sites.{is_same, line_at, lines_from}

@@ -4,7 +4,7 @@
 use Rattle.std.specs.Prelude.{◌≡◌, ◌≢◌, ◌⊎◌, ℕ, List, Bool, true, false, None, Err}
 use Rattle.std.specs.Io.KnownBytes.{Consumes, IsAtEnd}
 use Rattle.cadf_json.specs.Streams.{counted}
-use Rattle.cadf_replica.specs.Inventory.{Noted}
+use Rattle.cadf_set.specs.Inventory.{Noted}
 use Rattle.cadf_frame.specs.declared.fault.FileFault.{FileFault}
 use Rattle.cadf_frame.specs.declared.fault.FileFault.TheVariants.{Trailing, ReadFault, Memory}
 use Rattle.cadf_file.specs.InventoryVerdict.{inventory_decided, inventory_verdict}

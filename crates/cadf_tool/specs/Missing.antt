@@ -3,8 +3,8 @@
 --     part_of both             the same of a pair, FROM first
 use Rattle.std.specs.Prelude.{if◌then◌else◌, Option, Some, None, Result, Ok, Err}
 use Rattle.cadf_join.specs.Contents.{Text, Contents}
-use Rattle.cadf_replica.specs.Missing.{missing}
-use Rattle.cadf_replica.specs.Replica.{Held}
+use Rattle.cadf_line.specs.Missing.{missing}
+use Rattle.cadf_set.specs.Replica.{Held}
 use Rattle.cadf_tool.specs.declared.input.Loaded.{Loaded}
 use Rattle.cadf_tool.specs.declared.fault.ToolFault.{ToolFault}
 use Rattle.cadf_tool.specs.declared.fault.ToolFault.TheVariants.{NoLog, OtherLog}

@@ -5,10 +5,10 @@
 --     IsInventoryInput limit b n     the bytes are the file of this inventory, within the limit
 use Rattle.std.specs.Prelude.{◌≡◌, ◌≤◌, ℕ, List, length, Option, Some, None, Result, Ok, Err}
 use Rattle.cadf_join.specs.Contents.{Text}
-use Rattle.cadf_replica.specs.Digest.{atom_digest}
-use Rattle.cadf_replica.specs.Inventory.{Noted}
-use Rattle.cadf_replica.specs.Missing.{Digests, digests_of, missing_by}
-use Rattle.cadf_replica.specs.Replica.{Held}
+use Rattle.cadf_line.specs.Digest.{atom_digest}
+use Rattle.cadf_set.specs.Inventory.{Noted}
+use Rattle.cadf_line.specs.Missing.{Digests, digests_of, missing_by}
+use Rattle.cadf_set.specs.Replica.{Held}
 use Rattle.cadf_file.specs.InventoryFile.{inventory_file, IsInventory}
 use Rattle.cadf_tool.specs.declared.input.Loaded.{Loaded}
 use Rattle.cadf_tool.specs.declared.fault.ToolFault.{ToolFault}

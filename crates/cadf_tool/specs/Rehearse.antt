@@ -5,8 +5,8 @@
 use Rattle.std.specs.Prelude.{◌≡◌, ◌≤◌, ◌+◌, ℕ, List, length, reverse, true, false, Result, Ok, Err}
 use Rattle.cadf_json.specs.Streams.{counted, ConsumesAtMost, ConsumesExactly}
 use Rattle.cadf_join.specs.Contents.{Text}
-use Rattle.cadf_replica.specs.Digest.{atom_digest}
-use Rattle.cadf_replica.specs.Replica.{Held}
+use Rattle.cadf_line.specs.Digest.{atom_digest}
+use Rattle.cadf_set.specs.Replica.{Held}
 use Rattle.cadf_rehearsal.specs.declared.turn.Turn.{Turn}
 use Rattle.cadf_rehearsal.specs.declared.fault.RehearseFault.{RehearseFault}
 use Rattle.cadf_rehearsal.specs.declared.fault.RehearseFault.TheVariants.{NoSite, NoMessage, NotInventory, WrongAddressee, OtherLog, Memory}

@@ -5,10 +5,10 @@
 --     ruled_of letter key place loaded     the log of an input, and its atoms with that ruling, or why there are none
 use Rattle.std.specs.Prelude.{ℕ, zero, suc, List, Option, Some, None, Result, Ok, Err, slice_get}
 use Rattle.cadf_join.specs.Contents.{Text, Contents}
-use Rattle.cadf_replica.specs.Contributions.{ARuling, taken}
-use Rattle.cadf_replica.specs.Replica.{Held}
-use Rattle.cadf_replica.specs.RulingTexts.{RulingParts, value_digest}
-use Rattle.cadf_replica.specs.Shown.{values}
+use Rattle.cadf_atom.specs.Contributions.{ARuling, taken}
+use Rattle.cadf_set.specs.Replica.{Held}
+use Rattle.cadf_line.specs.RulingTexts.{RulingParts, value_digest}
+use Rattle.cadf_atom.specs.Shown.{values}
 use Rattle.cadf_tool.specs.declared.input.Loaded.{Loaded}
 use Rattle.cadf_tool.specs.declared.fault.ToolFault.{ToolFault}
 use Rattle.cadf_tool.specs.declared.fault.ToolFault.TheVariants.{NoValue}

@@ -7,8 +7,8 @@ use Rattle.std.specs.List.{position_or_len}
 use Rattle.cadf_join.specs.Contents.{Text}
 use Rattle.cadf_join.specs.Sets as set
 use Rattle.cadf_join.specs.Prefixes.{saturated}
-use Rattle.cadf_replica.specs.Atoms.{is_text}
-use Rattle.cadf_replica.specs.Replica.{Held}
+use Rattle.cadf_line.specs.Atoms.{is_text}
+use Rattle.cadf_set.specs.Replica.{Held}
 
 abbrev pub is_same : Held → Held → Bool
 is_same h k = is_text h.log k.log && (set.is_subset h.atoms k.atoms && set.is_subset k.atoms h.atoms)

@@ -3,8 +3,8 @@
 --     IsHeld bytes h                        the bytes are an input that names a log, and h is this log and the input's atoms
 use Rattle.std.specs.Prelude.{◌≡◌, List, ℕ, Option, Some, None, Result, Ok, Err}
 use Rattle.cadf_join.specs.Contents.{Text, Contents}
-use Rattle.cadf_replica.specs.Contributions.{document_atoms}
-use Rattle.cadf_replica.specs.Replica.{Held}
+use Rattle.cadf_atom.specs.Contributions.{document_atoms}
+use Rattle.cadf_set.specs.Replica.{Held}
 use Rattle.cadf_tool.specs.declared.input.Loaded.{Loaded}
 use Rattle.cadf_tool.specs.declared.input.Loaded.TheVariants.{Replica, Document}
 use Rattle.cadf_tool.specs.declared.fault.ToolFault.{ToolFault}

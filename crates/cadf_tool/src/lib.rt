@@ -29,4 +29,7 @@ pub use crate::missing_by::run_missing_by;
 pub use crate::rehearse::run_rehearse;
 pub use crate::rule::run_rule;
 pub use crate::show::run_show;
-pub use cadf_file::FILE_LIMIT;
+pub use cadf_event::{Document, DocumentFault, Name};
+pub use cadf_file::{FILE_LIMIT, FileFault};
+pub use cadf_json::{Failed, JsonFault, Memory, Sink, Source};
+pub use cadf_replica::{RehearseFault, Replica};

@@ -9,8 +9,7 @@ use crate::fault::ToolFault;
 use crate::input::LoadFault;
 use cadf_event::Name;
 use cadf_json::{Memory, Sink, Source, WholeFault, read_whole, write_whole};
-use cadf_rehearsal::{RehearseFault, Turn, rehearse};
-use cadf_replica::Replica;
+use cadf_replica::{RehearseFault, Replica, Turn, rehearse};
 use cadf_script::{ScriptFault, read_script};
 use std::alloc::Global;
 

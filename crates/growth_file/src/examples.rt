@@ -2,7 +2,7 @@
 use cadf_event::{Document, Name};
 use cadf_file::{Format, read_replica, write_replica};
 use cadf_json::{FailingWrite, MemorySink, MemorySource};
-use cadf_replica::Replica;
+use cadf_set::Replica;
 use growths::{Report, told};
 use std::alloc::Global;
 

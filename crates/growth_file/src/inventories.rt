@@ -1,7 +1,7 @@
 //! Inventory files that are read and written.
 use crate::examples::{FILE, LIMIT, front, in_pieces, replica, sink};
 use cadf_file::{FileFault, read_inventory, write_inventory};
-use cadf_replica::Inventory;
+use cadf_set::Inventory;
 use growths::{Report, told};
 use std::alloc::Global;
 

@@ -2,7 +2,7 @@
 use crate::cases::Case;
 use crate::changes::{Change, changed, joined_twice};
 use crate::replicas::{Held, document};
-use cadf_replica::{Inventory, Replica};
+use cadf_set::{Inventory, Replica};
 use growths::{Report, again, seen};
 use std::alloc::Global;
 

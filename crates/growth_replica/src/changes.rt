@@ -1,7 +1,7 @@
 //! Calls that change a replica.
 use crate::replicas::Held;
 use cadf_event::Document;
-use cadf_replica::{Replica, ReplicaFault};
+use cadf_set::{Replica, ReplicaFault};
 use growths::{Report, seen, told};
 
 /// What a replica is changed by.

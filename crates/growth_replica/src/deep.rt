@@ -1,6 +1,6 @@
 //! Two replicas with one event, each with a chain of 256 steps, of which they share 255.
 use crate::replicas::replica;
-use cadf_replica::Replica;
+use cadf_set::Replica;
 use growths::{Report, again, told};
 use std::alloc::Global;
 

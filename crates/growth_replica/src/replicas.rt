@@ -2,7 +2,7 @@
 use crate::cases::Case;
 use cadf_event::{Document, Name};
 use cadf_json::Json;
-use cadf_replica::Replica;
+use cadf_set::Replica;
 use std::alloc::Global;
 
 /// What is held before, what comes, and both together.

@@ -1,8 +1,7 @@
 //! What faults are shown as. The word names the fault; a second one is its number.
 
 use cadf_json::Memory;
-use cadf_rehearsal::RehearseFault;
-use cadf_replica::{AtomFault, ReplicaFault, RulingFault};
+use cadf_replica::{AtomFault, RehearseFault, ReplicaFault, RulingFault};
 use cadf_script::ScriptFault;
 use calls::{Call, answer};
 use std::alloc::Global;

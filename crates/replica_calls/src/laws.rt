@@ -1,6 +1,5 @@
 //! The laws of replicas and of schedules, each once.
 
-use cadf_rehearsal::laws as schedules;
 use cadf_replica::laws as replicas;
 
 /// Calls each law; it does nothing.
@@ -21,6 +20,6 @@ pub(crate) fn hold() {
     replicas::line_law();
     replicas::rules_law();
     replicas::contributions_are_grounded();
-    schedules::answers_cover_their_senders();
-    schedules::schedules_are_plain();
+    replicas::answers_cover_their_senders();
+    replicas::schedules_are_plain();
 }

@@ -3,8 +3,7 @@
 use crate::spelled::{name as log_of, of_replica};
 use cadf_event::Name;
 use cadf_json::Memory;
-use cadf_rehearsal::{RehearseFault, Turn, rehearse};
-use cadf_replica::Replica;
+use cadf_replica::{RehearseFault, Replica, Turn, rehearse};
 use cadf_script::read_script;
 use calls::{Call, answer, push, refused};
 use std::alloc::Global;

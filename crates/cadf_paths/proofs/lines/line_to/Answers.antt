@@ -5,10 +5,12 @@ use Rattle.cadf_paths.proofs.Threads.{end_list, end_there, line_agreed}
 use Rattle.cadf_paths.proofs.lines.line_to.Goals as goal
 
 pub extend-requires : goal.extend-requires
-extend-requires c = record { line =
-    line_agreed c.args.nodes.now c.args.line.now.items c.truncate.new.self.items (texts_at c.args.path.now) c.cmp_from-agreed.result.1 c.requires
-    (subst (λ z. Agree c.cmp_from-agreed.result.1 (place c.args.nodes.now z) (texts_at c.args.path.now)) c.as_slice.ensures.value c.cmp_from-agreed.ensures.agreed)
-    c.truncate.ensures.items }
+extend-requires c = record {
+  line =
+      line_agreed c.args.nodes.now c.args.line.now.items c.truncate.new.self.items (texts_at c.args.path.now) c.cmp_from-agreed.result.1 c.requires
+      (subst (λ z. Agree c.cmp_from-agreed.result.1 (place c.args.nodes.now z) (texts_at c.args.path.now)) c.as_slice.ensures.value c.cmp_from-agreed.ensures.agreed)
+      c.truncate.ensures.items;
+}
 
 pub returns-clause-there : goal.returns-clause-there
 returns-clause-there c =

@@ -2,7 +2,7 @@ use Rattle.std.proofs.Common.{inl, inr, sym, subst}
 use Rattle.cadf_join.specs.Contents.{Has}
 use Rattle.cadf_join.specs.laws.Contents.{texts_total, texts_same}
 use Rattle.cadf_join.proofs.Members as members
-use Rattle.cadf_replica.proofs.Missing.{missing_or_held, missing_by_is}
+use Rattle.cadf_line.proofs.Missing.{missing_or_held, missing_by_is}
 use Rattle.cadf_rehearsal.proofs.Schedule.{messages_mean}
 use Rattle.cadf_rehearsal.proofs.laws.answers_cover_their_senders.Goals as goal
 

@@ -1,7 +1,7 @@
 use Rattle.std.proofs.Common.{◌+◌, ◌<◌, ◌≤◌, length, ap, sym, ◌∙◌, reverse, refl, inl, inr, arith}
 use Rattle.std.proofs.lemmas.Result.{err_from_is_err_and}
 use Rattle.std.proofs.lemmas.List.{take_all}
-use Rattle.cadf_replica.specs.Digest.{atom_digest}
+use Rattle.cadf_line.specs.Digest.{atom_digest}
 use Rattle.cadf_rehearsal.specs.Schedule.{after, turned}
 use Rattle.cadf_rehearsal.specs.Federation.{world_of, IsFaultDue}
 use Rattle.cadf_rehearsal.proofs.Played.{after_more, after_refused}

@@ -1,5 +1,5 @@
 use Rattle.std.proofs.Common.{◌≡◌, length, reverse, take, Ok}
-use Rattle.cadf_replica.specs.Digest.{atom_digest}
+use Rattle.cadf_line.specs.Digest.{atom_digest}
 use Rattle.cadf_rehearsal.specs.Schedule.{after}
 use Rattle.cadf_rehearsal.specs.Federation.{world_of, IsOneLog}
 use Rattle.cadf_rehearsal.proofs.play.rehearse.Given as goal

@@ -17,7 +17,7 @@ returns c =
     let m = length-map ns (list_at ls) in
     let h = c.requires in
     let at = first_ahead c.in_ok-next.field-0 c.new-cursor.result c.next.new.self (lists_at ls ns) c.args.number (omega (arith, h, v, n, m))
-        (c.new-cursor.ensures.ahead ∙ ap (lists_at ls) c.split_at.ensures.back ∙ sym (drop-map (list_at ls) c.args.number ns)) c.in_ok-next.ensures in
+    (c.new-cursor.ensures.ahead ∙ ap (lists_at ls) c.split_at.ensures.back ∙ sym (drop-map (list_at ls) c.args.number ns)) c.in_ok-next.ensures in
     if_ok_then c.copied_after.result _ (λ list. chain_texts list.items ≡ get_or c.args.self.now c.args.number [])
     (λ list e. e ∙ ap (drop s.depth) (c.path.ensures ∙ at) ∙ sym (suffix_at ls ns s.depth c.args.number (omega (arith, h, v, n)))
     ∙ ap (λ z. get_or z c.args.number []) c.self.view_is)

@@ -1,9 +1,9 @@
 use Rattle.std.proofs.Common.{◌<◌, ◌≤◌, length, Ok, ap, sym, subst, ◌∙◌, inr, arith}
 use Rattle.std.specs.Prelude.{◌≢◌}
 use Rattle.cadf_join.specs.Sets as set
-use Rattle.cadf_replica.specs.Missing.{missing_by}
-use Rattle.cadf_replica.specs.Digest.{atom_digest}
-use Rattle.cadf_replica.specs.Refusals.{IsLogFault}
+use Rattle.cadf_line.specs.Missing.{missing_by}
+use Rattle.cadf_line.specs.Digest.{atom_digest}
+use Rattle.cadf_set.specs.Refusals.{IsLogFault}
 use Rattle.cadf_rehearsal.specs.Schedule as schedule
 use Rattle.cadf_rehearsal.specs.Federation.{world_of}
 use Rattle.cadf_rehearsal.specs.Federation.{log_of_message}

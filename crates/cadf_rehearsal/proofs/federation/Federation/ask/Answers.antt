@@ -1,7 +1,7 @@
 use Rattle.std.proofs.Common.{◌<◌, length, Ok, ap, sym, ◌∙◌, arith}
 use Rattle.cadf_join.specs.Sets as set
-use Rattle.cadf_replica.specs.Missing.{digests_of}
-use Rattle.cadf_replica.specs.Digest.{atom_digest}
+use Rattle.cadf_line.specs.Missing.{digests_of}
+use Rattle.cadf_line.specs.Digest.{atom_digest}
 use Rattle.cadf_rehearsal.specs.Schedule as schedule
 use Rattle.cadf_rehearsal.specs.Federation.{world_of}
 use Rattle.cadf_rehearsal.proofs.Turns.{at_site, site_log, kept_later}

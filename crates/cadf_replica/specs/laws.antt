@@ -1,3 +1,0 @@
--- Laws that ghost members cite.
-pub mod CarrierOrder
-pub mod Inventory
