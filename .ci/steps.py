@@ -35,6 +35,9 @@ STAGES = [
     ("built programs", 0, {
         "bits": "differential/bits.py",
         "installed": ".ci/installed",
+        "package": ".ci/package",
+        "sandbox": ".ci/sandbox",
+        "units": ".ci/units",
         "faults": ".ci/faults",
         "take": ".ci/take",
         "spool": ".ci/spool",
@@ -43,7 +46,7 @@ STAGES = [
         "limits": ".ci/limits",
         "compare": "differential/compare.py",
         "drivers": "differential/calls.py",
-        "documented": ".ci/documented README.md docs/GUIDE.md docs/OPENSTACK.md docs/BUS.md docs/REPORT.md",
+        "documented": ".ci/documented README.md docs/GUIDE.md docs/OPENSTACK.md docs/BUS.md docs/REPORT.md docs/OPERATING.md docs/RELEASING.md",
         "openstack": ".ci/from-openstack",
         "sites": ".ci/sites",
         "report": ".ci/report",

@@ -1,6 +1,7 @@
 """What the built command was made of: one file beside it, crates/cadf/out/cadf.built, a line `NAME: VALUE` each.
 
-It has the digests of the binary and of its sources, the commit, the processor, the kit, and the verdict on each crate.
+It has the digests of the binary, of the object that it was linked from and of its sources, the commit, the processor, the
+kit, and the verdict on each crate.
 """
 import hashlib
 import os
@@ -12,6 +13,11 @@ DEFAULT_PROCESSOR = "x86-64-v2"
 
 def binary(top):
     return os.path.join(top, "crates", PROGRAM, "out", PROGRAM)
+
+
+def object_file(top):
+    """What the binary was linked from."""
+    return binary(top) + ".o"
 
 
 def path(top):
@@ -26,6 +32,11 @@ def answer(words, top):
 
 def kit(top):
     return answer(["rt", "version"], top)
+
+
+def kit_folder(top):
+    """The kit's folder: its first page is there."""
+    return os.path.dirname(answer(["rt", "doc"], top))
 
 
 def commit(top):
@@ -73,6 +84,11 @@ def write(top, record):
     with open(path(top) + ".new", "w", encoding="utf-8") as file:
         file.writelines("%s: %s\n" % line for line in record.items())
     os.replace(path(top) + ".new", path(top))
+
+
+def is_object_kept(top):
+    """Whether the object is the one that install/build left there."""
+    return os.path.exists(object_file(top)) and read(top).get("object") == digest_of_file(object_file(top))
 
 
 def why_not(top, names, processor=None):
