@@ -73,6 +73,30 @@ def measured(command, runs):
     return best.wall, best.memory
 
 
+def tell(title, ours, others, runs):
+    """Runs all commands in turn, and prints what each took; of ours also the ratios to each of the others."""
+    took = dict(zip([*ours, *others], measured_in_turn([*ours.values(), *others.values()], runs)))
+    for name, run in took.items():
+        print("%s, %s: %.2f s, %.2f s of processors, %.0f MB" % (title, name, *run), flush=True)
+        for other in others if name in ours else ():
+            print("    to %s: time %.2f, processors %.2f, memory %.2f" % (other, *(a / b for a, b in zip(run, took[other]))))
+
+
+def digest_of(command):
+    """What `sha256sum` says of what the command writes."""
+    with subprocess.Popen(command, stdout=subprocess.PIPE, stdin=subprocess.DEVNULL) as writer:
+        digest = subprocess.check_output(["sha256sum"], stdin=writer.stdout)
+    if writer.returncode != 0:
+        sys.exit("%s ended with status %d" % (command[0], writer.returncode))
+    return digest
+
+
+def check_same_bytes(commands):
+    """Exits if two of the commands write different bytes."""
+    if len({digest_of(command) for command in commands}) > 1:
+        sys.exit("they write different bytes: %s" % "; ".join(map(" ".join, commands)))
+
+
 def instructions(command, status=0):
     """How many instructions the command executes, counted by callgrind; exits if it ends with another status."""
     with tempfile.NamedTemporaryFile() as profile:
