@@ -8,12 +8,14 @@ BINARY is crates/cadf/out/cadf unless given; --size is the least size in MB. A s
 document, in a replica file, or in either; `cadf join` makes most files of the documents. `chains-64` to `chains-256` have
 an eighth of the size: chains of that many steps, of which only the last differs.
 
-A line has the bytes that are read at the least size, the least processor seconds of the runs at each size, how often as
-long each doubling takes, the greatest memory, and the memory a byte: between the two greatest sizes, so what any run
-takes doesn't count. At the end each command is compared on `chains-256` and `chains-64`, and a byte of `chains-256` with
-one of `events`. What is above its aim says so: a doubling 2.3; 256 steps to 64, 1.3; a byte of them to an ordinary one,
-4; memory a byte 12 for `tiny` and `fraction`. For other files of at least 50 MB it is 3, and 80 an atom more for
-`inventory` and `missing-by`; `show` may take what it writes more. The status is 1 if anything is above its aim.
+A line has the bytes that are read at the least size, the least processor seconds of the runs at each size, the factor of
+each doubling, the greatest memory, and the memory a byte. At the end each command's time on `chains-256` is compared with
+that on as many chains of `chains-64`, and the time a byte with that on `events`. These three, and the memory a byte, are
+taken between the two greatest sizes, so what any run takes doesn't count.
+
+The aims: a doubling 2.3; 256 steps to 64 steps 1.3; a byte of deep chains to an ordinary one 4; memory a byte 12 for
+tiny objects and fractions. For other files of at least 50 MB it is 3, and 80 an atom more for `inventory` and
+`missing-by`; `show` may take what it writes more. What is above its aim says so, and the status is then 1.
 
 --gate counts instructions in place of seconds, which needs valgrind: a few shapes at two sizes, within a minute.
 """
@@ -105,7 +107,7 @@ COMMANDS = {"check": ("first",), "show": ("first",), "join": ("first", "second")
             "inventory": ("first",), "missing-by": ("first", "inventory")}
 # By --gate: shapes with their form, and about how many bytes the least size has.
 GATE = {"chains-64": "file", "chains-256": "file", "names": "file", "tiny": "document"}
-GATE_COMMANDS, GATE_SIZE = ("check", "show", "join"), MEGABYTE // 10
+GATE_COMMANDS, GATE_SIZE = ("check", "show", "join"), MEGABYTE // 10  # about 200 chains
 
 
 def write_log(path, members):
@@ -184,24 +186,28 @@ class Row(NamedTuple):
     def growths(self):
         return [later.cost / max(earlier.cost, 0.001) for earlier, later in zip(self.points, self.points[1:])]
 
+    def rise(self, field):
+        """By how much a field rises between the two greatest sizes: what any run takes doesn't count."""
+        earlier, later = (getattr(point, field) for point in self.points[-2:])
+        return later - earlier
+
     def memory_a_byte(self):
-        """The memory a byte between the two greatest sizes, and what is asked of it, or None."""
-        earlier, later = self.points[-2:]
-        size = later.size - earlier.size
-        asked = SHAPES[self.name].memory
-        if asked is None and self.form == "file" and earlier.size >= LARGE:
-            asked = MEMORY + (later.more - earlier.more) / size
-        return (later.memory - earlier.memory) * 2 ** 20 / size, asked
+        """The memory a byte, and the aim, or None."""
+        aim = SHAPES[self.name].memory
+        if aim is None and self.form == "file" and self.points[-2].size >= LARGE:
+            aim = MEMORY + self.rise("more") / self.rise("size")
+        return self.rise("memory") * 2 ** 20 / self.rise("size"), aim
 
     def tell(self):
         """Prints the row. Returns how many aims are missed."""
-        growths, (memory, asked) = self.growths(), self.memory_a_byte()
-        above = [any(growth > DOUBLING for growth in growths), asked is not None and memory > asked]
-        missed = [text for text, is_above in zip(("TIME ABOVE", "MEMORY ABOVE %.1f" % (asked or 0)), above) if is_above]
+        growths, (memory, aim) = self.growths(), self.memory_a_byte()
+        above = {"TIME ABOVE %.1f" % DOUBLING: max(growths) > DOUBLING,
+                 "MEMORY ABOVE %.1f" % (aim or 0): aim is not None and memory > aim}
+        missed = [text for text, is_above in above.items() if is_above]
         print(TOLD % (self.name, self.form, self.command, self.points[0].size,
                       " ".join("%8.3f" % point.cost for point in self.points), " ".join("%5.2f" % growth for growth in growths),
                       "%.0f MB" % self.points[-1].memory, "%.2f" % memory), " ".join(missed), flush=True)
-        return sum(above)
+        return len(missed)
 
 
 def rows_of(name, form, options):
@@ -218,19 +224,23 @@ def rows_of(name, form, options):
 
 
 def compared(rows):
-    """Compares the greatest sizes of deep chains with each other and with ordinary events. Returns how many are above."""
-    last = {(row.name, row.command): row.points[-1] for row in rows if row.form == "file"}
+    """Compares deep chains with each other and with ordinary events. Returns how many ratios are above their aims."""
+    found = {(row.name, row.command): row for row in rows if row.form == "file"}
     missed = 0
     for command in dict.fromkeys(row.command for row in rows):
-        deep, flat, plain = (last.get((name, command)) for name in ("chains-256", "chains-64", "events"))
-        told = {"256 steps to 64": (deep and flat and deep.cost / flat.cost, STEPS),
-                "a byte of 256 steps to an ordinary one": (
-                    deep and plain and deep.cost / deep.size / (plain.cost / plain.size), BYTE)}
-        for what, (ratio, most) in told.items():
-            if ratio:
-                print("%-10s %s: %.2f of %.1f%s" % (command, what, ratio, most, " ABOVE" if ratio > most else ""))
-                missed += ratio > most
+        deep, flat, plain = (found.get((name, command)) for name in ("chains-256", "chains-64", "events"))
+        if deep and flat:
+            missed += tell_ratio(command, "256 steps to 64", deep.rise("cost") / flat.rise("cost"), STEPS)
+        if deep and plain:
+            ratio = deep.rise("cost") / deep.rise("size") / (plain.rise("cost") / plain.rise("size"))
+            missed += tell_ratio(command, "a byte of 256 steps to an ordinary one", ratio, BYTE)
     return missed
+
+
+def tell_ratio(command, what, ratio, most):
+    """Prints a ratio with its aim. Returns whether it is above."""
+    print("%-10s %s: %.2f of %.1f%s" % (command, what, ratio, most, " ABOVE" if ratio > most else ""))
+    return ratio > most
 
 
 def options_of():
