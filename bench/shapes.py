@@ -2,6 +2,7 @@
 """How the commands grow: time and memory on inputs of many shapes, at 1, 2 and 4 times the size.
 
     bench/shapes.py [--size 4] [--runs 3] [--shapes tags,names] [--forms file] [--commands check,join] [BINARY]
+    bench/shapes.py --instructions --size 0.2 [..]
     bench/shapes.py --gate [BINARY]
 
 BINARY is crates/cadf/out/cadf unless given; --size is the least size in MB. A shape is much of one thing, in a log
@@ -17,7 +18,8 @@ The aims: a doubling 2.3; 256 steps to 64 steps 1.3; a byte of deep chains to an
 tiny objects and fractions. For other files of at least 50 MB it is 3, and 80 an atom more for `inventory` and
 `missing-by`; `show` may take what it writes more. What is above its aim says so, and the status is then 1.
 
---gate counts instructions in place of seconds, which needs valgrind: a few shapes at two sizes, within a minute.
+--instructions counts these in millions in place of seconds and memory, whatever else the machine does; it needs valgrind.
+--gate does so for the commands and shapes of GATE at two sizes, within a minute.
 """
 import argparse
 import itertools
@@ -159,7 +161,7 @@ class Inputs:
         inputs = [self.paths[name] for name in COMMANDS[command]]
         words = [self.options.binary, command, *inputs]
         size = sum(map(os.path.getsize, inputs))
-        if self.options.gate:
+        if self.options.instructions:
             return Point(size, instructions(words, self.shape.status) / 1e6, 0, 0)
         best = best_of([run_apart(words, self.paths["output"], self.shape.status) for _ in range(self.options.runs)])
         return Point(size, best.processors, best.memory, self.more(command))
@@ -250,6 +252,7 @@ def options_of():
     parser.add_argument("--shapes", default=",".join(SHAPES))
     parser.add_argument("--forms", default="document,file")
     parser.add_argument("--commands", default=",".join(COMMANDS))
+    parser.add_argument("--instructions", action="store_true")
     parser.add_argument("--gate", action="store_true")
     parser.add_argument("binary", nargs="?", default=BINARY)
     options = parser.parse_args()
@@ -258,15 +261,16 @@ def options_of():
                      if form in SHAPES[name].forms]
     options.commands = options.commands.split(",")
     if options.gate:
+        options.instructions = True
         options.bytes, options.times, options.cases, options.commands = GATE_SIZE, (1, 2), GATE.items(), GATE_COMMANDS
     return options
 
 
 def main():
     options = options_of()
-    if options.gate and not is_valgrind_there():
+    if options.instructions and not is_valgrind_there():
         return 0
-    print(TOLD % ("shape", "form", "command", "bytes", "millions of instructions" if options.gate else "seconds",
+    print(TOLD % ("shape", "form", "command", "bytes", "millions of instructions" if options.instructions else "seconds",
                   "a doubling", "memory", "a byte"))
     rows, missed = [], 0
     for name, form in options.cases:
