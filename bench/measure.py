@@ -67,12 +67,6 @@ def measured_in_turn(commands, runs):
     return [best_of(each) for each in zip(*rounds)]
 
 
-def measured(command, runs):
-    """The least wall time in seconds, and the greatest resident memory in MB, of that many runs."""
-    best = best_of([run_apart(command) for _ in range(runs)])
-    return best.wall, best.memory
-
-
 def tell(title, ours, others, runs):
     """Runs all commands in turn, and prints what each took; of ours also the ratios to each of the others."""
     took = dict(zip([*ours, *others], measured_in_turn([*ours.values(), *others.values()], runs)))
