@@ -6,8 +6,9 @@
     bench/shapes.py --gate [BINARY]
 
 BINARY is crates/cadf/out/cadf unless given; --size is the least size in MB. A shape is much of one thing, in a log
-document, in a replica file, or in either; `cadf join` makes most files of the documents. `chains-64` to `chains-256` have
-an eighth of the size: chains of that many steps, of which only the last differs.
+document, in a replica file, or in either; `cadf join` makes most files of the documents. `large-body` is an event with a
+member of 100 KB and tags of a tenth of the size; `chains-64` to `chains-256` are chains of that many steps, of which only
+the last differs, of an eighth of the size.
 
 A line has the bytes that are read at the least size, the least processor seconds of the runs at each size, the factor of
 each doubling, the greatest memory, and the memory a byte. At the end each command's time on `chains-256` is compared with
@@ -87,7 +88,8 @@ SHAPES = {
     "events": Shape(880, lambda numbers: {"events": (event(number, number) for number in numbers)}),
     "values": Shape(27, lambda numbers: {"events": [], "resources": ('{"id":"r","name":"%07d"}' % n for n in numbers)}),
     "bodies": Shape(880, lambda numbers: {"events": (event(number, 0) for number in numbers)}),
-    "tags": Shape(14, lambda numbers: one_event(tags=["tag-%07d" % n for n in numbers], reason={"text": "x" * 100000})),
+    "tags": Shape(14, lambda numbers: one_event(tags=["tag-%07d" % n for n in numbers])),
+    "large-body": Shape(140, lambda numbers: one_event(tags=["tag-%07d" % n for n in numbers], reason={"text": "x" * 100000})),
     "attachments": Shape(50, lambda numbers: one_event(
         attachments=[{"content": n, "name": "a%07d" % n, "typeURI": "number"} for n in numbers])),
     "chains": Shape(43, lambda numbers: one_event(reporterchains=[[step("s%07d" % n)] for n in numbers])),
