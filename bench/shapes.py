@@ -143,8 +143,8 @@ class Point(NamedTuple):
     """A command at one size."""
     size: int  # bytes of input
     cost: float  # processor seconds, or millions of instructions
-    memory: float  # MB
-    more: int  # bytes of memory that it may take beside those that are asked of every command
+    memory: float  # MB, 0 if it was not measured
+    more: int  # bytes of memory that the aim allows it beside those for every byte of input
 
 
 class Inputs:
@@ -153,9 +153,9 @@ class Inputs:
     def __init__(self, folder, shape, form, number, options):
         self.shape, self.form, self.options = shape, form, options
         self.paths = {name: os.path.join(folder, name) for name in ("first", "second", "inventory", "output")}
-        for name, start in (("first", 0), ("second", number // 2)):
-            write_input(self.paths[name], shape, form, range(start, start + number), options.binary)
+        write_input(self.paths["first"], shape, form, range(number), options.binary)
         if not shape.status:
+            write_input(self.paths["second"], shape, form, range(number // 2, number // 2 + number), options.binary)
             run_apart([options.binary, "inventory", self.paths["second"]], self.paths["inventory"])
 
     def measured(self, command):
@@ -169,7 +169,7 @@ class Inputs:
         return Point(size, best.processors, best.memory, self.more(command))
 
     def more(self, command):
-        """The bytes that the command may take more than other commands."""
+        """The bytes of memory that the aim allows the command beside those for every byte of input."""
         if self.shape.status or self.form == "document":
             return 0
         if command == "show":
@@ -208,9 +208,10 @@ class Row(NamedTuple):
         above = {"TIME ABOVE %.1f" % DOUBLING: max(growths) > DOUBLING,
                  "MEMORY ABOVE %.1f" % (aim or 0): aim is not None and memory > aim}
         missed = [text for text, is_above in above.items() if is_above]
-        print(TOLD % (self.name, self.form, self.command, self.points[0].size,
-                      " ".join("%8.3f" % point.cost for point in self.points), " ".join("%5.2f" % growth for growth in growths),
-                      "%.0f MB" % self.points[-1].memory, "%.2f" % memory), " ".join(missed), flush=True)
+        costs = " ".join("%8.3f" % point.cost for point in self.points)
+        held = ("%.0f MB" % self.points[-1].memory, "%.2f" % memory) if self.points[-1].memory else ("", "")
+        print(TOLD % (self.name, self.form, self.command, self.points[0].size, costs,
+                      " ".join("%5.2f" % growth for growth in growths), *held), " ".join(missed), flush=True)
         return len(missed)
 
 
