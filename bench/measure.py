@@ -1,12 +1,14 @@
-"""What the benchmarks share: a command's wall time and peak memory, and generated events and replica files."""
+"""What the benchmarks share: what a command takes, in time, memory and instructions; generated replica files."""
 import hashlib
 import json
-import multiprocessing
 import os
+import re
+import shutil
 import subprocess
 import sys
-import time
+import tempfile
 import traceback
+from typing import NamedTuple
 
 sys.dont_write_bytecode = True
 
@@ -18,63 +20,94 @@ from replica_files import FIRST_LINES, lines_of
 from sealed_files import sealed
 
 
-def measured(command, runs):
-    """The least wall time in seconds, and the greatest resident memory in MB, of that many runs."""
-    time_, _, peak = measured_in_turn([command], runs)[0]
-    return time_, peak
+class Run(NamedTuple):
+    """What a run of a command took, or the best of several runs."""
+    wall: float  # seconds
+    processors: float  # seconds
+    memory: float  # greatest resident memory in MB
 
 
-def measured_in_turn(commands, runs):
-    """Of each command the least wall time and processor time in seconds and the greatest resident memory in MB.
-
-    The commands take turns, so that what else the machine does meets all of them.
-    """
-    runs_of = [[] for _ in commands]
-    for _ in range(runs):
-        for each, command in zip(runs_of, commands):
-            each.append(measured_once(command))
-    return [(min(r[0] for r in each), min(r[1] for r in each), max(r[2] for r in each)) for each in runs_of]
-
-
-def measured_once(command):
-    """A run's wall time and processor time in seconds, and its greatest resident memory in MB."""
-    start = time.monotonic()
-    with open(os.devnull, "w") as null:
-        child = subprocess.Popen(command, stdout=null, stdin=subprocess.DEVNULL)
-        _, status, usage = os.wait4(child.pid, 0)
-    spent = time.monotonic() - start
-    if status != 0:
-        sys.exit("%s ended with status %d" % (command[0], status))
-    return spent, usage.ru_utime + usage.ru_stime, usage.ru_maxrss / 1024
-
-
-# A process of few MB: runs the command behind its first word, the path of what it writes, and tells how it went.
+# A process of few MB: runs the command after its first word, the path of the output, and prints how it went.
 SMALL = """
-import os, resource, sys
+import os, resource, sys, time
 resource.setrlimit(resource.RLIMIT_CPU, (%d, %d))
 output = [(os.POSIX_SPAWN_OPEN, 1, sys.argv[1], os.O_WRONLY | os.O_CREAT | os.O_TRUNC, 0o644),
           (os.POSIX_SPAWN_OPEN, 2, os.devnull, os.O_WRONLY, 0)]
+start = time.monotonic()
 child = os.posix_spawnp(sys.argv[2], sys.argv[2:], os.environ, file_actions=output)
 _, status, usage = os.wait4(child, 0)
-print(os.waitstatus_to_exitcode(status), usage.ru_utime + usage.ru_stime, usage.ru_maxrss / 1024)
+wall = time.monotonic() - start
+print(os.waitstatus_to_exitcode(status), wall, usage.ru_utime + usage.ru_stime, usage.ru_maxrss / 1024)
 """
 MOST_SECONDS = 1000  # of processors
 
 
-def measured_apart(command, output=os.devnull):
-    """A run's exit status, its processor seconds and its greatest resident memory in MB, started by a small process.
+def run_apart(command, output=os.devnull, status=0):
+    """Runs the command from a small process. Exits if it ends with another status.
 
-    So the memory isn't that of this process, which each command that it starts is told to have held, too; what the small
-    one holds, some 8 MB, is the least that is told. A status below 0 is a signal's.
+    The kernel counts the memory of the process that starts a command as the command's, too. So the memory is at least
+    that of the small process, some 8 MB.
     """
     small = SMALL % (MOST_SECONDS, MOST_SECONDS)
-    told = subprocess.check_output([sys.executable, "-I", "-S", "-c", small, output, *command], stdin=subprocess.DEVNULL)
-    status, seconds, memory = told.split()
-    return int(status), float(seconds), float(memory)
+    words = [sys.executable, "-I", "-S", "-c", small, output, *command]
+    ended, *taken = subprocess.check_output(words, stdin=subprocess.DEVNULL).split()
+    if int(ended) != status:
+        sys.exit("%s: status %s" % (" ".join(command), ended.decode()))
+    return Run(*map(float, taken))
+
+
+def best_of(runs):
+    """The least wall time, the least processor time and the greatest memory of the runs."""
+    return Run(min(run.wall for run in runs), min(run.processors for run in runs), max(run.memory for run in runs))
+
+
+def measured_in_turn(commands, runs):
+    """The best of so many runs of each command. The commands take turns, so that other load meets all of them."""
+    rounds = [[run_apart(command) for command in commands] for _ in range(runs)]
+    return [best_of(each) for each in zip(*rounds)]
+
+
+def tell(title, ours, others, runs):
+    """Runs all commands in turn, and prints what each took; of ours also the ratios to each of the others."""
+    took = dict(zip([*ours, *others], measured_in_turn([*ours.values(), *others.values()], runs)))
+    for name, run in took.items():
+        print("%s, %s: %.2f s, %.2f s of processors, %.0f MB" % (title, name, *run), flush=True)
+        for other in others if name in ours else ():
+            print("    to %s: time %.2f, processors %.2f, memory %.2f" % (other, *(a / b for a, b in zip(run, took[other]))))
+
+
+def digest_of(command):
+    """What `sha256sum` says of what the command writes."""
+    with subprocess.Popen(command, stdout=subprocess.PIPE, stdin=subprocess.DEVNULL) as writer:
+        digest = subprocess.check_output(["sha256sum"], stdin=writer.stdout)
+    if writer.returncode != 0:
+        sys.exit("%s ended with status %d" % (command[0], writer.returncode))
+    return digest
+
+
+def check_same_bytes(commands):
+    """Exits if two of the commands write different bytes."""
+    if len({digest_of(command) for command in commands}) > 1:
+        sys.exit("they write different bytes: %s" % "; ".join(map(" ".join, commands)))
+
+
+def instructions(command, status=0):
+    """How many instructions the command executes, counted by callgrind; exits if it ends with another status."""
+    with tempfile.NamedTemporaryFile() as profile:
+        run_apart(["valgrind", "--tool=callgrind", "--callgrind-out-file=" + profile.name, *command], status=status)
+        return int(re.search(rb"^(?:summary|totals): (\d+)", profile.read(), re.MULTILINE)[1])
+
+
+def is_valgrind_there():
+    """Whether instructions can be counted; says so if not."""
+    if shutil.which("valgrind"):
+        return True
+    print("skipped: valgrind is not there (Debian: valgrind)")
+    return False
 
 
 def written_apart(write):
-    """Calls that in a process of its own, which ends with what it held."""
+    """Calls that in a process of its own, whose memory is free when it ends."""
     child = os.fork()
     if child == 0:
         try:
@@ -119,17 +152,14 @@ def atoms_of(number):
 
 
 def replica_file(path, log, events, version=1):
-    """Writes the replica file of these events' atoms in that format, and says how many atoms it has.
-
-    In a process of its own: what this one has held, each command that it starts is told to have held, too.
-    """
-    with multiprocessing.get_context("fork").Pool(1) as apart:
-        return apart.apply(written_file, (path, log, events, version))
-
-
-def written_file(path, log, events, version):
+    """Writes the replica file of these events' atoms in that format, and returns how many atoms it has."""
     atoms = [atom for event in events for atom in atoms_of(event)]
-    head = [FIRST_LINES[version], b"L " + spelled(log).encode()]
-    with open(path, "wb") as out:
-        out.write(sealed(head + [spelled(value).encode() for value in lines_of(atoms, version)]))
+    written_apart(lambda: write_replica(path, log, atoms, version))
     return len(atoms)
+
+
+def write_replica(path, log, atoms, version=2):
+    """Writes the replica file of these atoms in that format."""
+    lines = [spelled(value).encode() for value in lines_of(atoms, version)]
+    with open(path, "wb") as out:
+        out.write(sealed([FIRST_LINES[version], b"L " + spelled(log).encode()] + lines))

@@ -3,17 +3,16 @@
 
     bench/rehearse.py [--turns 2000] [--sites 16] [--runs 5] [BINARY]
 
-Both must write the same bytes. What counts is the ratio of the least wall times in one run.
+Both must write the same bytes. What counts are the ratios of the least times in one run.
 """
 import argparse
 import json
 import os
 import random
-import subprocess
 import sys
 import tempfile
 
-from measure import BINARY, TOP, measured
+from measure import BINARY, TOP, check_same_bytes, tell
 
 SECOND = os.path.join(TOP, "differential", "cadf")
 
@@ -66,11 +65,8 @@ def main():
             file.write(script(options.turns, options.sites))
         words = ["rehearse", "g", str(options.sites), path]
         ours, theirs = [options.binary, *words], [sys.executable, SECOND, *words]
-        if subprocess.check_output(ours) != subprocess.check_output(theirs):
-            sys.exit("the two write other bytes")
-        mine, its = measured(ours, options.runs), measured(theirs, options.runs)
-        print("%d turns over %d sites: %.3f s %.0f MB, Python %.3f s %.0f MB, time %.3f" % (
-            options.turns, options.sites, mine[0], mine[1], its[0], its[1], mine[0] / its[0]))
+        check_same_bytes([ours, theirs])
+        tell("%d turns over %d sites" % (options.turns, options.sites), {"cadf": ours}, {"Python": theirs}, options.runs)
 
 
 main()

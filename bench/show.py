@@ -1,18 +1,20 @@
 #!/usr/bin/env python3
-"""Times `cadf show` beside `jq -cS .` on generated log documents.
+"""Times `cadf show` beside `jq -cS .` and the peer in Rust on generated log documents.
 
     bench/show.py [--sizes 10,100] [--runs 3] [--conflicts] [BINARY ..]
 
 BINARY is crates/cadf/out/cadf unless given; of several each is timed. With --conflicts two events each have one
-identifier, and the conflict list is shown in place of the log. All programs run on the same file in the same run;
-what counts are the ratios to jq, of the least wall time, of the least processor seconds and of the greatest
-resident memory. Prints one line a size and program.
+identifier, and the conflict list is shown in place of the log; the peer has none. All programs run on the same file, in
+turn; the peer must write the same bytes. Prints for each size and program the least wall time, the least processor time
+and the greatest memory of the runs, and of ours the ratios to jq and to the peer. On a machine with other load the
+processor times count.
 """
 import argparse
 import os
 import tempfile
 
-from measure import BINARY, identifier_of, key_of, measured_in_turn
+from measure import BINARY, check_same_bytes, identifier_of, key_of, tell
+from peer import peer
 
 
 def event(n, name):
@@ -47,27 +49,30 @@ def document(path, size, bodies):
     return n
 
 
-def told(times):
-    return "%.2f s, %.2f s of processors, %.0f MB" % times
+def timed(path, title, options, by_hand):
+    """Times the programs on a document, and prints their lines."""
+    shown = ["--conflicts"] if options.conflicts else []
+    ours = {binary: [binary, "show", *shown, path] for binary in options.binaries}
+    others = {"jq": ["jq", "-cS", ".", path]}
+    if by_hand:
+        others["peer"] = [by_hand, path]
+        check_same_bytes([*ours.values(), others["peer"]])
+    tell(title, ours, others, options.runs)
 
 
 def main():
     parser = argparse.ArgumentParser(description=__doc__, formatter_class=argparse.RawDescriptionHelpFormatter)
-    parser.add_argument("--sizes", default="10,100", help="in MB, parted by commas")
+    parser.add_argument("--sizes", default="10,100", help="in MB, separated by commas")
     parser.add_argument("--runs", type=int, default=3)
     parser.add_argument("--conflicts", action="store_true")
     parser.add_argument("binaries", nargs="*", default=[BINARY])
     options = parser.parse_args()
-    shown = ["show", "--conflicts"] if options.conflicts else ["show"]
-    for size in (int(word) for word in options.sizes.split(",")):
+    by_hand = None if options.conflicts else peer("show")
+    for size in map(int, options.sizes.split(",")):
         with tempfile.TemporaryDirectory() as folder:
             path = os.path.join(folder, "log.json")
             events = document(path, size * 1000000, 2 if options.conflicts else 1)
-            commands = [[binary] + shown + [path] for binary in options.binaries] + [["jq", "-cS", ".", path]]
-            times = measured_in_turn(commands, options.runs)
-        for binary, ours in zip(options.binaries, times):
-            print("%d MB, %d events, %s: %s; jq: %s; ratios: time %.2f, processor %.2f, memory %.2f" % (
-                (size, events, binary, told(ours), told(times[-1])) + tuple(a / b for a, b in zip(ours, times[-1]))))
+            timed(path, "%d MB, %d events" % (size, events), options, by_hand)
 
 
 if __name__ == "__main__":
