@@ -12,7 +12,7 @@ from texts import (
 
 CALLS = {
     "read": ["read_replica", "read_file", "Body::start", "Body::new", "Body::accept", "Body::left_open", "Either::into_side",
-             "path_kind_behind_with"],
+             "next_path_kind"],
     "each_failing_read": ["read_replica"],
     "each_prefix": ["read_replica"],
     "each_bit": ["read_replica"],

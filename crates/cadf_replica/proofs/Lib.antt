@@ -10,9 +10,9 @@ pub mod Inventories
 pub mod LineDigests
 pub mod Lists
 pub mod Missing
+pub mod NextKinds
 pub mod OrderLemmas
 pub mod PathKinds
-pub mod PathsBehind
 pub mod Places
 pub mod Puts
 pub mod Retry

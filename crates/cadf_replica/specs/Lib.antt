@@ -11,6 +11,7 @@ pub mod Inventory
 pub mod Letters
 pub mod Line
 pub mod Missing
+pub mod NextKinds
 pub mod Order
 pub mod PathKind
 pub mod Refusals
