@@ -14,6 +14,25 @@ EVENT = {"eventType": "activity", "eventTime": "2024-03-01T12:00:00Z", "action":
 INT_LIMITS = [18446744073709551615, -9223372036854775808]
 
 
+def attempts(address):
+    """Attempts to run a script, to load something or to send something away, by what each makes of the page: a text and a selector."""
+    return {
+        "script": ("<script>window.pwned=1</script>", "script"), "script by address": ("<script src=%s/script></script>" % address, "script[src]"),
+        "module": ("<script type=module>import '%s/module'</script>" % address, "script[type=module]"),
+        "handler": ("<img id=odd src=%s/image onerror=window.pwned=1>" % address, "#odd"), "drawing": ("<svg onload=window.pwned=1><image href=%s/drawing /></svg>" % address, "svg[onload]"),
+        "focus": ("<input autofocus onfocus=window.pwned=1>", "input[onfocus]"), "details": ("<details open ontoggle=window.pwned=1>x</details>", "details[ontoggle]"),
+        "frame": ("<iframe src=%s/frame></iframe>" % address, "iframe[src^=http]"), "frame's script": ("<iframe src=javascript:parent.pwned=1></iframe>", "iframe[src^=javascript]"),
+        "frame's text": ("<iframe srcdoc='<script>parent.pwned=1</script>'></iframe>", "iframe[srcdoc]"),
+        "style": ("<style>body{background:url(%s/style)}header{display:none}</style>" % address, "style"), "import": ("<style>@import '%s/import';</style>" % address, "style"),
+        "style of an element": ("<b id=styled style='background:url(%s/styled);position:fixed;inset:0'>x</b>" % address, "#styled"),
+        "sheet": ("<link rel=stylesheet href=%s/sheet>" % address, "link[rel=stylesheet]"),
+        "object": ("<object data=%s/object></object>" % address, "object"), "embed": ("<embed src=%s/embed>" % address, "embed"),
+        "film": ("<video src=%s/film></video>" % address, "video"), "sound": ("<audio src=%s/sound autoplay></audio>" % address, "audio"),
+        "base": ("<base href=%s/base/><img src=relative>" % address, "base"), "form": ("<form action=%s/form><button id=sender>x</button></form>" % address, "#sender"),
+        "link": ("<a id=linked href=javascript:window.pwned=1>x</a>", "#linked"),
+        "refresh": ("<meta http-equiv=refresh content='0;url=%s/refresh'>" % address, "meta[http-equiv=refresh]")}
+
+
 def hostile_event(identifier, name, **members):
     """An event in which a name stands wherever one may stand."""
     party = {"id": name, "name": name, "typeURI": name, name: {"__proto__": name}}

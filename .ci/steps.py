@@ -19,6 +19,8 @@ from typing import NamedTuple
 
 TOP = os.path.dirname(os.path.dirname(os.path.abspath(__file__)))
 CADF = "crates/cadf/out/cadf"
+# The steps and all that they start run the Python that runs this, without a program that looks for one each time.
+ENVIRONMENT = dict(os.environ, PATH=os.path.dirname(sys.executable) + os.pathsep + os.environ["PATH"])
 
 # Each stage: its steps, by name, and how many of them may run at once (0: as many as there are processors).
 STAGES = [
@@ -95,7 +97,7 @@ class Gate:
         name, command = step
         begun = time.monotonic()
         with tempfile.TemporaryFile("w+", errors="replace") as log:
-            child = subprocess.Popen(command.split(), cwd=TOP, stdin=subprocess.DEVNULL, stdout=log,
+            child = subprocess.Popen(command.split(), cwd=TOP, env=ENVIRONMENT, stdin=subprocess.DEVNULL, stdout=log,
                                      stderr=subprocess.STDOUT, start_new_session=True)
             with self.lock:
                 self.running.add(child.pid)

@@ -193,7 +193,7 @@ function choiceBar() {
   choiceWatchers.push(show);
   show();
   return make("div", {class: "bar chosen"}, make("span", {role: "status", id: "chosen"}, count), save, copy, clear,
-    make("span", {class: "minor"}, "then ", make("code", {}, "cadf-conflicts --rule choices.txt SITE >rulings.cadf")));
+    make("span", {class: "minor"}, "then ", make("code", {}, "cadf-conflicts --rule choices.txt SITE >rulings.cadf"), " and ", make("code", {}, "cadf-take SITE rulings.cadf")));
 }
 
 /* ---- The comparison. ---- */

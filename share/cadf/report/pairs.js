@@ -34,9 +34,10 @@ function partyOf(cell, column, number) {
   return put(cell, cut(identifier, 300), name && name !== identifier ? "small" : "bdi");
 }
 
-/** Shows the events of a pair. */
-function showPair({initiator, target}) {
-  choose({initiator: "=" + columns.initiator.texts[initiator], target: "=" + columns.target.texts[target]});
+/** Shows the events of a pair, or of the one side that it has. */
+function showPair(pair) {
+  const sides = ["initiator", "target"].filter(side => pair[side] !== undefined);
+  choose(Object.fromEntries(sides.map(side => [side, "=" + columns[side].texts[pair[side]]])));
   showPanel("events");
 }
 
@@ -52,8 +53,17 @@ function pairRow(pair, most) {
     make("td", {class: "number" + (pair.by[0] ? " failed" : "")}, counted(pair.by[0])), make("td", {class: "number"}, go), make("td", {class: "sharing"}, shares(pair.by, most)));
 }
 
-/** Returns the first numbers of one side of pairs. */
-const foremost = (found, side, most) => [...new Set(found.map(pair => pair[side]))].slice(0, most);
+/** Adds up the pairs of each initiator or of each target: failures first, then the most. */
+function sums(found, side) {
+  const counts = new Map();
+  for (const pair of found) {
+    const number = pair[side];
+    if (!counts.has(number)) counts.set(number, {[side]: number, by: [0], all: 0});
+    counts.get(number).by[0] += pair.by[0];
+    counts.get(number).all += pair.all;
+  }
+  return [...counts.values()].sort((a, b) => b.by[0] - a.by[0] || b.all - a.all || a[side] - b[side]);
+}
 
 /** Makes the cell of a matrix; darker where more failed. */
 function matrixCell(pair) {
@@ -68,16 +78,25 @@ function matrixCell(pair) {
 
 const NAMES = {initiator: "Initiator", target: "Target"};
 
-/** Makes the matrix of those initiators and targets that failures are most about, the one side in rows. */
+/** Makes the matrix of those initiators and targets that have most failures, the one side in rows, with their sums. */
 function matrix(found, side, other) {
-  const rows = foremost(found, side, 14), heads = foremost(found, other, 12);
+  const rows = sums(found, side).slice(0, 14), heads = sums(found, other).slice(0, 11);
   const cells = new Map(found.map(pair => [pair[side] + " " + pair[other], pair]));
   const label = (column, number, scope) => partyOf(make("th", {scope, title: cut(named(column.names[number] + "\n" + column.texts[number]), 400)}), column, number);
+  const line = (head, sum, pairs) => make("tr", {}, head, matrixCell(sum), ...pairs.map(matrixCell));
   const corner = make("td", {class: "corner"}, `${NAMES[side]} \u2193 ${NAMES[other]} \u2192`);
-  const top = make("tr", {}, corner, ...heads.map(number => label(columns[other], number, "col")));
-  const body = rows.map(number => make("tr", {}, label(columns[side], number, "row"), ...heads.map(each => matrixCell(cells.get(number + " " + each)))));
-  const caption = make("caption", {}, "Failures / events of the pairs with most failures; a number leads to its events");
-  return make("table", {class: "matrix"}, caption, make("thead", {}, top), make("tbody", {}, ...body));
+  const top = make("tr", {}, corner, make("th", {scope: "col"}, "all"), ...heads.map(sum => label(columns[other], sum[other], "col")));
+  const body = rows.map(sum => line(label(columns[side], sum[side], "row"), sum, heads.map(head => cells.get(sum[side] + " " + head[other]))));
+  const all = {by: [found.reduce((before, pair) => before + pair.by[0], 0)], all: listed.length};
+  const caption = make("caption", {}, `Failures / events; a number leads to its events. ${counting()}`);
+  return make("table", {class: "matrix"}, caption, make("thead", {}, top), make("tbody", {}, line(make("th", {scope: "row"}, "all"), all, heads), ...body));
+}
+
+/** Says of what the failures and events are counted. */
+function counting() {
+  const every = chosen.contested ? events.length : inLog.length;
+  return listed.length === every ? `All ${counted(every)} events are counted.`
+    : `Only the ${counted(listed.length)} events of ${counted(every)} that pass the filters are counted.`;
 }
 
 /** Makes the panel of pairs. */
