@@ -29,8 +29,17 @@ pub(crate) fn answered(alloc: Global, name: &str, call: &Call) -> Result<String,
             &value_of(alloc, call.text(2))?,
         ),
         "gathered" => gathered(alloc, call.text(1)),
+        "walk" => shown(alloc, call),
         _ => told_of_list(alloc, name, call),
     }
+}
+
+/// Answers the lists that a walk of a set shows after a path.
+fn shown(alloc: Global, call: &Call) -> Result<String, Memory> {
+    let ours: Paths = value_of(alloc, call.text(1))?;
+    let given = list(alloc, call.text(2))?;
+    let mut path = lent(alloc, &given)?;
+    walked(alloc, &ours, &mut path)
 }
 
 /// Answers a call about a set and a list.
@@ -42,7 +51,6 @@ fn told_of_list(alloc: Global, name: &str, call: &Call) -> Result<String, Memory
         "ends_behind" => told::truth(alloc, ours.ends_behind(&given)),
         "least" => told::found(alloc, ours.list_after(None)?),
         "list_after" => told::found(alloc, ours.list_after(Some(given.as_slice()))?),
-        "walk" => walked(alloc, &ours, &mut lent(alloc, &given)?),
         _ => told_of_lent(alloc, name, ours, &lent(alloc, &given)?, call.text(3)),
     }
 }
