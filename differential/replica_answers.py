@@ -4,7 +4,7 @@ A word of a call or a field of an answer is a text, bytes or a number; replica_w
 a driver's name, a call with its words and the fields of its answer.
 """
 import replica_words as words
-from atoms import DIGITS, RULING, is_atom, is_front, is_on_a_carrier, is_part, with_carriers
+from atoms import DIGITS, LETTERS, RULING, is_atom, is_front, is_on_a_carrier, is_part, with_carriers
 from events import Fault, document, is_name
 from file_answers import CAUSES, atoms_in, line_of
 from inventory_files import digest_of, missing_by
@@ -128,6 +128,13 @@ def put_last(before, line):
 def of_itself(told):
     """What answers a replica's word, by what its log and its atoms tell."""
     return lambda word: told(*replica_of(word))
+
+
+def of_kind(answer):
+    """The answer to a call that takes a kind of keys: no other letter names one."""
+    def answered(word, letter, *names):
+        return answer(word, letter, *names) if letter in LETTERS else ["no such kind"]
+    return answered
 
 
 def atom_lists(log, atoms):
@@ -281,14 +288,14 @@ CALLS = [
         "replica.least_atom": of_itself(lambda log, atoms: atom_found(min(atoms, default=None))),
         "ruling.rulings": of_itself(rulings_told)}),
     (words.letter_words, {
-        "key.keys": lambda word, letter: ["ok", *keys_of(word, letter)],
+        "key.keys": of_kind(lambda word, letter: ["ok", *keys_of(word, letter)]),
         "key.least_key": lambda word, letter: ["ok", *option(min(keys_of(word, letter), default=None))],
-        "key.contested": lambda word, letter: ["ok", *keys_of(word, letter, 2)]}),
+        "key.contested": of_kind(lambda word, letter: ["ok", *keys_of(word, letter, 2)])}),
     (words.key_words, {
         "key.key_after": lambda word, letter, name: ["ok", *option(least_above(keys_of(word, letter), name))],
         "key.values": lambda word, letter, name: ["ok", *values_of(word, letter, name)],
-        "key.ruled": ruled, "key.shown": shown,
-        "key.is_contested": lambda word, letter, name: ["ok", len(values_of(word, letter, name)) > 1]}),
+        "key.ruled": ruled, "key.shown": of_kind(shown),
+        "key.is_contested": of_kind(lambda word, letter, name: ["ok", len(values_of(word, letter, name)) > 1])}),
     (words.body_words, {
         "body.chains": lambda word, name, body: ["ok", *map(line_of, parts_of(word, "C", name, body))],
         "body.longest_chain": longest_chain,
