@@ -31,7 +31,7 @@ def listed(text):
 
 
 def does_nothing(function):
-    """Whether the function has neither a result nor what it could change: `known`, or a law."""
+    """Whether the function has neither a result nor what it could change: `type_invariant`, or a law."""
     signature = SIGNATURE.match(function).group()
     return "->" not in signature and "&mut" not in signature
 
@@ -99,4 +99,4 @@ def uncalled():
             yield "no row of %s has an answer that is no refusal" % name
     for name in sorted(name for name in asked - names if not name.endswith("Fault::fmt")):
         yield "a table names %s, and no crate has it" % name
-    print("promised: %d calls listed, of which %d take memory" % (len(calls), sum(map(bool, calls.values()))))
+    print("check-promises: %d calls listed, of which %d take memory" % (len(calls), sum(map(bool, calls.values()))))

@@ -28,8 +28,8 @@ CALLS = {
     "run_rehearse": ["run_rehearse"],
     "run_show": ["run_show"],
     "run_check": ["run_check"],
-    "fault": ["status"],
-    "metered": ["Metered::new", "Metered::taken", "Metered::oversized", "Metered::into_inner"],
+    "fault": ["exit_status"],
+    "metered": ["CountingSink::new", "CountingSink::bytes_written", "CountingSink::check_limit", "CountingSink::into_inner"],
 }
 
 COMMANDS, FAULTS, STREAMS = "What the commands write", "Fault lines", "ARCHITECTURE: Inputs and outputs"

@@ -5,8 +5,8 @@
 from texts import B1, S1, S2, V1, V2, body, document, event, nested
 
 CALLS = {
-    "name": ["Name::read", "Name::copied", "Name::as_str"],
-    "is_named": ["is_named"],
+    "name": ["Name::read", "Name::copy", "Name::as_str"],
+    "is_valid_name": ["is_valid_name"],
     "is_reserved": ["is_reserved"],
     "event_type": ["EventType::read"],
     "outcome": ["Outcome::read"],
@@ -21,7 +21,7 @@ CALLS = {
     "entity": ["Entity::read", "Entity::kind", "Entity::key", "Entity::text"],
     "property": ["Property::read", "Property::name", "Property::text"],
     "document": ["Document::read", "Document::log", "Document::sightings", "Document::entities", "Document::properties"],
-    "plain": ["Document::read_plain"],
+    "plain": ["Document::read_streaming"],
     # What the fault of a reading is shown as.
     "fault document": ["DocumentFault::fmt", "EventFault::fmt", "EntityFault::fmt", "JsonFault::fmt"],
     "fault property": ["PropertyFault::fmt"],
@@ -250,11 +250,11 @@ def words():
     """Names, and the words that an event chooses from."""
     for text in ("a" * 1024, "a", "openstack:audit", "é", "\x80 "):
         yield "name", [text], ["ok", text], NAMES
-        yield "is_named", [text], [True], NAMES
+        yield "is_valid_name", [text], [True], NAMES
     for text, fault in (("a" * 1025, "TooLong"), ("é" * 513, "TooLong"), ("", "Empty"), ("a\x7f", "Control"), ("\n", "Control"),
                         ("\x1fa", "Control")):
         yield "name", [text], ["err", fault], NAMES
-        yield "is_named", [text], [False], NAMES
+        yield "is_valid_name", [text], [False], NAMES
     for text in ("id", "typeURI", "events", "resources", "geolocations", "metrics"):
         yield "is_reserved", [text], [True], DOCUMENTS
     for text in ("name", "ID", ""):
@@ -319,7 +319,7 @@ def documents():
             yield call, [text], ["err", *fault], heading
     for text, answer in NOT_PLAIN:
         yield "document", [text], answer, DOCUMENTS
-        yield "plain", [text], ["err", "NotPlain"], PLAIN
+        yield "plain", [text], ["err", "NeedsFullParse"], PLAIN
 
 
 def faults():

@@ -11,7 +11,7 @@ from texts import (
     B1, B3, BF, C1, C2, CF, E3, K1, KF, S0, S1, S2, T3, digits, inventory, line, nested, quoted, replica, tree)
 
 CALLS = {
-    "read": ["read_replica", "read_file", "Body::start", "Body::new", "Body::accept", "Body::left_open", "Either::into_side",
+    "read": ["read_replica", "read_file", "LineDecoder::start", "LineDecoder::new", "LineDecoder::accept", "LineDecoder::unended_cause", "Either::into_side",
              "next_path_kind"],
     "each_failing_read": ["read_replica"],
     "each_prefix": ["read_replica"],
@@ -19,7 +19,7 @@ CALLS = {
     "write": ["write_replica"],
     "feed": ["ReplicaFeed::new", "ReplicaFeed::feed", "ReplicaFeed::pending", "ReplicaFeed::finish",
              "Feed::new", "Feed::feed", "Feed::pending", "Feed::finish"],
-    "read_rest": ["ReplicaFeed::new", "cadf_file::read_rest", "cadf_frame::read_rest"],
+    "read_rest": ["ReplicaFeed::new", "cadf_file::read_rest", "cadf_linefile::read_rest"],
     "read_inventory": ["read_inventory"],
     "write_inventory": ["write_inventory"],
     "fault_text": [],

@@ -11,9 +11,9 @@ ASKED = {
     "member": ["View::member"],
     "name": ["View::name_at"],
     "members": ["View::members"],
-    "within": ["View::members_within"],
-    "rewritten": ["View::rewritten"],
-    "again": ["View::again"],
+    "within": ["View::members_nest_within"],
+    "rewritten_text": ["View::rewritten_text"],
+    "reborrow": ["View::reborrow"],
 }
 
 CALLS = {
@@ -22,14 +22,14 @@ CALLS = {
     "tree text": ["Tree::of_text", "Tree::read", "Tree::view"],
     "canonical": ["Json::read_canonical"],
     "quoted": ["quoted"],
-    "split": ["read_split", "TakesItems::take"],
+    "split": ["read_object_streaming", "ItemVisitor::take"],
     "check_list": ["check_list"],
-    "may_be_json": ["may_be_json"],
-    "read_whole": ["read_whole", "MemorySource::new", "Source::read"],
+    "has_json_syntax": ["has_json_syntax"],
+    "read_to_limit": ["read_to_limit", "MemorySource::new", "Source::read"],
     "read_rest": ["cadf_json::read_rest"],
-    "read_by_std": ["FromStd::new", "FromStd::into_inner"],
-    "write_whole": ["write_whole", "MemorySink::new", "MemorySink::bytes", "Sink::write"],
-    "write_by_std": ["FromStd::new", "FromStd::into_inner"],
+    "read_by_std": ["StdStream::new", "StdStream::into_inner"],
+    "write_all": ["write_all", "MemorySink::new", "MemorySink::bytes", "Sink::write"],
+    "write_by_std": ["StdStream::new", "StdStream::into_inner"],
     "time": ["Stamp::read", "Stamp::instant", "Stamp::offset", "Stamp::text"],
 }
 
@@ -99,7 +99,7 @@ FOUND = [
     (PARTS, ["member", "b"], ["some", '[1,"x",null]']),
     (PARTS, ["member", "c"], ["none"]),
     (PARTS, ["member", ""], ["none"]),
-    (PARTS, ["again"], ["ok", '{"a":{},"b":[1,"x",null]}']),
+    (PARTS, ["reborrow"], ["ok", '{"a":{},"b":[1,"x",null]}']),
     ('[1,"x",null]', ["item", 1], ["some", '"x"']),
     ('[1,"x",null]', ["item", 2], ["some", "null"]),
     ('[1,"x",null]', ["item", 3], ["none"]),
@@ -117,12 +117,12 @@ FOUND = [
     ('{"b":[1,[2]],"d":{}}', ["within", "b", 1, 1], [False]),
     ('{"b":[1,[2]],"d":{}}', ["within", "d", 0, 2], [False]),
     # The name with its text, and the names that are left out.
-    (MEMBERS, ["rewritten", "t", 'y"', "id", "other"], ["ok", '{"deep":[[]],"t":"y\\""}']),
-    ("[1]", ["rewritten", "t", "y", "id", "tags"], ["ok", "{}"]),
-    ("{}", ["rewritten", "t", "y", "id", "tags"], ["ok", "{}"]),
-    ('{"time":"now","id":1,"a":[0]}', ["rewritten", "time", "t\n", "id", "tags"], ["ok", '{"a":[0],"time":"t\\n"}']),
-    ('{"id":1,"b":{"id":2}}', ["rewritten", "time", "t", "id", "tags"], ["ok", '{"b":{"id":2}}']),
-    ('{"x":1,"id":1,"tags":[]}', ["rewritten", "time", "t", "id", "tags"], ["ok", '{"x":1}']),
+    (MEMBERS, ["rewritten_text", "t", 'y"', "id", "other"], ["ok", '{"deep":[[]],"t":"y\\""}']),
+    ("[1]", ["rewritten_text", "t", "y", "id", "tags"], ["ok", "{}"]),
+    ("{}", ["rewritten_text", "t", "y", "id", "tags"], ["ok", "{}"]),
+    ('{"time":"now","id":1,"a":[0]}', ["rewritten_text", "time", "t\n", "id", "tags"], ["ok", '{"a":[0],"time":"t\\n"}']),
+    ('{"id":1,"b":{"id":2}}', ["rewritten_text", "time", "t", "id", "tags"], ["ok", '{"b":{"id":2}}']),
+    ('{"x":1,"id":1,"tags":[]}', ["rewritten_text", "time", "t", "id", "tags"], ["ok", '{"x":1}']),
 ]
 
 # Objects of which `list` is taken: what is left, and the items.
@@ -215,21 +215,21 @@ def values():
         yield "canonical", [spelled], ["ok", spelled], CANONICAL
     for text, spelled in TWICE:
         yield "value", ["text", text], ["ok", spelled], CANONICAL
-        yield "tree", ["text", text], ["err", "NotPlain"], VALUES
+        yield "tree", ["text", text], ["err", "NeedsFullParse"], VALUES
     yield "value", ["text", '{"a":1,"a":1.5}'], ["err", "NotWhole"], CANONICAL
     for number in NOT_WHOLE:
         for text in (number, '{"measurements":[{"metricId":"m1","result":%s}]}' % number):
             yield "value", ["text", text], ["err", "NotWhole"], CANONICAL
-            yield "tree", ["text", text], ["err", "NotPlain"], VALUES
+            yield "tree", ["text", text], ["err", "NeedsFullParse"], VALUES
     for number in WHOLE:
         text = '{"measurements":[{"metricId":"m1","result":%s}]}' % number
         yield "value", ["text", text], ["ok", text], CANONICAL
     for data in NO_JSON:
         yield "value", ["text", data], ["err", "NotJson"], CANONICAL
     for text in ("", "[1", "[1]]", "{} {}", '{"a"}', "[1,]", '"\\ud800"', "nul", nested(128)):
-        yield "tree", ["text", text], ["err", "NotPlain"], VALUES
+        yield "tree", ["text", text], ["err", "NeedsFullParse"], VALUES
     yield "tree", ["text", LATE[64]], ["ok", '{"a":1,' + LATE[64][1:].replace(',"a":1', "")], VALUES
-    yield "tree", ["text", LATE[65]], ["err", "NotPlain"], VALUES
+    yield "tree", ["text", LATE[65]], ["err", "NeedsFullParse"], VALUES
     yield "value", ["text", LATE[65]], ["ok", '{"a":1,' + LATE[65][1:].replace(',"a":1', "")], CANONICAL
     yield "value", ["text", "1e400"], ["err", "NotJson"], "DECISIONS: Reading JSON"
     for text, fault in NO_CANONICAL:
@@ -258,21 +258,21 @@ def passed():
     for text, whole in WITHOUT_LIST:
         yield "split", [text, "list"], ["whole", whole], VALUES
     for text in NO_SPLIT:
-        yield "split", [text, "list"], ["err", "NotPlain"], VALUES
+        yield "split", [text, "list"], ["err", "NeedsFullParse"], VALUES
     for text in PASSED:
         yield "check_list", [text], ["ok"], VALUES
     for text in NOT_PASSED:
-        yield "check_list", [text], ["err", "NotPlain"], VALUES
+        yield "check_list", [text], ["err", "NeedsFullParse"], VALUES
     for text in MAY_BE:
-        yield "may_be_json", [text], [True], VALUES
+        yield "has_json_syntax", [text], [True], VALUES
     for text in MAY_NOT:
-        yield "may_be_json", [text], [False], VALUES
+        yield "has_json_syntax", [text], [False], VALUES
 
 
 def streams():
     """Readings and writings in pieces, with a failure at each call in turn."""
     for data, piece, failing, limit, answer in reads():
-        yield "read_whole", [data, piece, failing, limit], answer, STREAMS
+        yield "read_to_limit", [data, piece, failing, limit], answer, STREAMS
     # The rest behind a start of five bytes: the limit is on both together.
     yield "read_rest", [BYTES[5:], 7, 0, 22, BYTES[:5]], ["ok", BYTES], STREAMS
     for limit in (21, 4, 0):
@@ -285,7 +285,7 @@ def streams():
     yield "read_by_std", [b"xxxxx", 4, 2], ["err", "TooLarge", 3], STREAMS
     yield "read_by_std", [BYTES, 0, 22], ["ok", BYTES, 23], STREAMS
     for piece, how, failing, answer in writes():
-        yield "write_whole", [BYTES, piece, how, failing], answer, STREAMS
+        yield "write_all", [BYTES, piece, how, failing], answer, STREAMS
     yield "write_by_std", [BYTES, 22], ["ok", BYTES], STREAMS
     yield "write_by_std", [BYTES, 3], ["err", "WriteFault", BYTES[:3]], STREAMS
 

@@ -41,8 +41,8 @@ CALLS = {
     "key.values": ["Replica::values"],
     "key.ruled": ["Replica::ruled"],
     "key.shown": ["Replica::shown"],
-    "key.is_contested": ["Replica::is_contested"],
-    "key.contested": ["Replica::contested"],
+    "key.is_conflicted": ["Replica::is_conflicted"],
+    "key.conflicted_keys": ["Replica::conflicted_keys"],
     "body.chains": ["Replica::chains"],
     "body.longest_chain": ["Replica::longest_chain"],
     "body.tags": ["Replica::tags"],
@@ -52,7 +52,7 @@ CALLS = {
     "document.take_entities": ["Replica::take_entity"],
     "document.take_properties": ["Replica::take_property"],
     "ruling.read": ["Ruling::read", "Ruling::letter", "Ruling::key", "Ruling::digest"],
-    "ruling.of": ["Ruling::of"],
+    "ruling.of": ["Ruling::for_value"],
     "ruling.take": ["Replica::take_ruling"],
     "ruling.rulings": ["Replica::rulings", "Ruling::kind"],
     "inventory.has": ["Inventory::has"],
@@ -373,12 +373,12 @@ for replica, letter, key, shown, ruled, contested in [
         (held(NORTH, SOUTH), "R", "name", None, None, False)]:
     row("Atoms", "key.shown", [replica, letter, key], "ok", *option(shown))
     row("Atoms", "key.ruled", [replica, letter, key], "ok", *option(ruled))
-    row("Atoms", "key.is_contested", [replica, letter, key], "ok", contested)
+    row("Atoms", "key.is_conflicted", [replica, letter, key], "ok", contested)
 row("Atoms", "key.ruled", [held(C1, UB), "U", "E"], "ok", "none")
 for replica, letter, keys in [
         (CONFLICT, "E", ["e1"]), (held(CF, C1, UB), "E", ["e1"]), (held(C1, C2), "E", []), (held(NORTH, SOUTH), "P", ["name"]),
         (held(NORTH, SOUTH), "E", []), (held(CF, C1, C2, line("E", "e2", BF)), "E", ["e1", "e2"])]:
-    row("Atoms", "key.contested", [replica, letter], "ok", *keys)
+    row("Atoms", "key.conflicted_keys", [replica, letter], "ok", *keys)
 
 # ---- Scripts, and the schedules that they spell.
 EXCHANGE = ["learn 0 " + V1, "ask 1", "learn 1 " + V2, "answer 0 1", "send 0", "deliver 3 1", "deliver 2 1", "deliver 2 1", "send 1", "deliver 4 0"]

@@ -30,26 +30,26 @@ CALLS = {
     "tree.after": ["ChainTree::after"],
     "tree.longest": ["ChainTree::longest"],
     "tree.walk": ["ChainTree::walk"],
-    "paths.unite": ["Paths::unite"],
-    "paths.take": ["Paths::take"],
-    "paths.missing_with_carriers": ["Paths::missing_with_carriers", "Carrier::length"],
-    "paths.gathered": ["Gathered::new", "Gathered::push", "Gathered::into_paths"],
-    "paths.holds": ["Paths::holds"],
-    "paths.contains": ["Paths::contains"],
-    "paths.ends_behind": ["Paths::ends_behind"],
+    "paths.union_with": ["PathSet::union_with"],
+    "paths.take": ["PathSet::take"],
+    "paths.missing_with_carriers": ["PathSet::missing_with_carriers", "Carrier::length"],
+    "paths.gathered": ["PathSetBuilder::new", "PathSetBuilder::push", "PathSetBuilder::build"],
+    "paths.holds": ["PathSet::holds"],
+    "paths.contains": ["PathSet::contains"],
+    "paths.ends_behind": ["PathSet::ends_behind"],
     "paths.walk": ["Walk::walk", "Visitor::visit"],
-    "paths.least": ["Paths::list_after"],
-    "paths.list_after": ["Paths::list_after"],
-    "paths.is_above": ["Paths::is_above"],
-    "paths.insert": ["Paths::new", "Paths::insert"],
-    "paths.push": ["Paths::push"],
-    "paths.behind": ["Paths::behind"],
-    "paths.least_text": ["Paths::next_text"],
-    "paths.next_text": ["Paths::next_text"],
-    "paths.texts_behind": ["Paths::texts_behind"],
-    "paths.several_behind": ["Paths::several_behind"],
-    "paths.longest_behind": ["Paths::longest_behind"],
-    "prefix.copied": ["copied"],
+    "paths.least": ["PathSet::list_after"],
+    "paths.list_after": ["PathSet::list_after"],
+    "paths.is_above": ["PathSet::is_above"],
+    "paths.insert": ["PathSet::new", "PathSet::insert"],
+    "paths.push": ["PathSet::push"],
+    "paths.behind": ["PathSet::behind"],
+    "paths.least_text": ["PathSet::next_text"],
+    "paths.next_text": ["PathSet::next_text"],
+    "paths.texts_behind": ["PathSet::texts_behind"],
+    "paths.multi_valued_count_at": ["PathSet::multi_valued_count_at"],
+    "paths.longest_behind": ["PathSet::longest_behind"],
+    "prefix.copied": ["copy_texts"],
 }
 
 SETS = "PROMISES: Sets that join"
@@ -214,7 +214,7 @@ row("value.join", ["tree", "[" + OTHER + "]", "[" + DEEP + "]"], "ok", "[" + DEE
 FIVE, SIX = "a a/a a/b a/b/a c", "- a a/a a/b/a a/b/b c/b"
 row("paths.gathered", [lists("c/b a/b/a a - a/a c/b a/b/b")], "ok", lists(SIX))
 row("paths.gathered", ["[]"], "ok", "[]")
-for call in ["paths.unite", "paths.take"]:
+for call in ["paths.union_with", "paths.take"]:
     for ours, theirs, union in [
             (SIX, "d a/b/a a/b", "- a a/a a/b a/b/a a/b/b c/b d"), ("", SIX, SIX), (SIX, "", SIX), ("a", "a", "a")]:
         row(call, [lists(ours), lists(theirs)], "ok", lists(union))
@@ -257,7 +257,7 @@ for prefix, text, found in [
 for prefix, found in [("-", ["a", "c"]), ("a", ["a", "b"]), ("a/b", ["a", "b"]), ("c/b", []), ("d", [])]:
     row("paths.texts_behind", [lists(SIX), lst(prefix)], "ok", *found)
 for prefix, count in [("-", 1), ("a", 1), ("a/b", 0), ("c", 0), ("d", 0)]:
-    row("paths.several_behind", [lists(SIX), lst(prefix)], count)
+    row("paths.multi_valued_count_at", [lists(SIX), lst(prefix)], count)
 for prefix, found in [("-", "a/b/a"), ("a", "b/a"), ("a/b", "a"), ("c", "b"), ("c/b", "-"), ("d", "")]:
     row("paths.longest_behind", [lists(SIX), lst(prefix)], "ok", *option(found))
 

@@ -141,7 +141,7 @@ def parts_told(fields):
 def alike(call, wanted, answer):
     """Whether the line answers to the call what is wanted."""
     fields = fields_of(answer)
-    if call.startswith("plain\t") and fields == [b"err", b"NotPlain"]:
+    if call.startswith("plain\t") and fields == [b"err", b"NeedsFullParse"]:
         return True
     if isinstance(wanted, list):
         return len(fields) == len(wanted) and all(

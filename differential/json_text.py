@@ -34,7 +34,7 @@ class NotWhole(Exception):
     """The bytes are a JSON value, and one of its numbers isn't whole."""
 
 
-class Reader:
+class InputSpec:
     """A place in the bytes of a JSON value."""
 
     def __init__(self, data):
@@ -159,7 +159,7 @@ def all_whole(value):
 
 def read(data):
     """The value that the bytes spell."""
-    value = Reader(data).whole()
+    value = InputSpec(data).whole()
     if not all_whole(value):
         raise NotWhole
     return value

@@ -6,7 +6,7 @@ from events import Fault, document
 from inventory_files import digest_of, missing_by
 
 NUMBER = re.compile("0|[1-9][0-9]{0,8}")
-MOST_SITES = 64
+MAX_SITES = 64
 
 
 def number_of(word):
@@ -18,7 +18,7 @@ def number_of(word):
 def sites_of(word):
     """The number of sites that a word of the command line tells."""
     count = int(word) if NUMBER.fullmatch(word) else 0
-    if not 1 <= count <= MOST_SITES:
+    if not 1 <= count <= MAX_SITES:
         raise Fault("sites", 2)
     return count
 

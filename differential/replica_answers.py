@@ -290,12 +290,12 @@ CALLS = [
     (words.letter_words, {
         "key.keys": of_kind(lambda word, letter: ["ok", *keys_of(word, letter)]),
         "key.least_key": lambda word, letter: ["ok", *option(min(keys_of(word, letter), default=None))],
-        "key.contested": of_kind(lambda word, letter: ["ok", *keys_of(word, letter, 2)])}),
+        "key.conflicted_keys": of_kind(lambda word, letter: ["ok", *keys_of(word, letter, 2)])}),
     (words.key_words, {
         "key.key_after": lambda word, letter, name: ["ok", *option(least_above(keys_of(word, letter), name))],
         "key.values": lambda word, letter, name: ["ok", *values_of(word, letter, name)],
         "key.ruled": ruled, "key.shown": of_kind(shown),
-        "key.is_contested": of_kind(lambda word, letter, name: ["ok", len(values_of(word, letter, name)) > 1])}),
+        "key.is_conflicted": of_kind(lambda word, letter, name: ["ok", len(values_of(word, letter, name)) > 1])}),
     (words.body_words, {
         "body.chains": lambda word, name, body: ["ok", *map(line_of, parts_of(word, "C", name, body))],
         "body.longest_chain": longest_chain,

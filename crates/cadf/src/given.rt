@@ -6,10 +6,10 @@ use cadf_tool::ToolFault;
 use std::alloc::Global;
 
 /// The most sites of a rehearsal.
-const MOST_SITES: u64 = 64;
+const MAX_SITES: u64 = 64;
 
 /// The greatest place of a value that can be ruled.
-const MOST_PLACE: u64 = 999_999_999;
+const MAX_PLACE: u64 = 999_999_999;
 
 /// The name that the word is, or why the command stops where it is none.
 fn name_given(alloc: Global, word: &str, otherwise: Stop) -> Result<Name, Stop> {
@@ -52,7 +52,7 @@ fn number_given(word: &str, most: u64) -> Option<u64> {
 
 /// The number of sites that the word spells.
 pub(crate) fn sites_given(word: &str) -> Result<usize, Stop> {
-    match number_given(word, MOST_SITES) {
+    match number_given(word, MAX_SITES) {
         Some(sites) => Ok(sites as usize),
         None => Err(Stop::Sites),
     }
@@ -68,7 +68,7 @@ pub(crate) fn letter_given(word: &str) -> Result<char, Stop> {
 
 /// The place of a value that the word spells.
 pub(crate) fn place_given(word: &str) -> Result<u64, Stop> {
-    match number_given(word, MOST_PLACE) {
+    match number_given(word, MAX_PLACE) {
         Some(place) => Ok(place),
         None => Err(Stop::Place),
     }

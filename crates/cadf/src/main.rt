@@ -7,18 +7,20 @@ mod stop;
 
 use crate::engines::run_engine;
 use crate::stop::{REFUSED, Stop, report};
-use cadf_json::FromStd;
-use cadf_tool::{FILE_LIMIT, Metered, Oversized, ToolFault};
+use cadf_json::StdStream;
+use cadf_tool::{CountingSink, FILE_LIMIT, Oversized, ToolFault};
 use cadf_words::{Reply, Request, parse};
 use std::io::{BufWriter, Write};
 use std::process::ExitCode;
 use std::{env, io};
 
 /// Flushes the buffer, and reports an output that is larger than an input may be.
-fn flushed<W: Write + Drop>(output: Metered<FromStd<W>>) -> Result<Option<Oversized>, ToolFault> {
-    let oversized = output.oversized(FILE_LIMIT);
+fn flushed<W: Write + Drop>(
+    output: CountingSink<StdStream<W>>,
+) -> Result<Option<Oversized>, ToolFault> {
+    let check_limit = output.check_limit(FILE_LIMIT);
     match output.into_inner().into_inner().flush() {
-        Ok(()) => Ok(oversized),
+        Ok(()) => Ok(check_limit),
         Err(_) => Err(ToolFault::WriteFault),
     }
 }
@@ -28,7 +30,7 @@ fn run_out(rt: &HostRuntime, request: &Request<'_>) -> Result<Option<Oversized>,
     let Ok(buffer) = BufWriter::new(rt.alloc(), io::writer(rt)) else {
         return Err(Stop::Tool(ToolFault::Memory));
     };
-    let mut output = Metered::new(FromStd::new(buffer));
+    let mut output = CountingSink::new(StdStream::new(buffer));
     run_engine(rt, request, &mut output)?;
     Ok(flushed(output)?)
 }
@@ -36,8 +38,8 @@ fn run_out(rt: &HostRuntime, request: &Request<'_>) -> Result<Option<Oversized>,
 /// Runs the request, and says what it ended with.
 fn run(rt: &HostRuntime, request: &Request<'_>) -> ExitCode {
     match run_out(rt, request) {
-        Ok(Some(oversized)) => {
-            let _ = eprintln!(rt; "cadf: {oversized}");
+        Ok(Some(check_limit)) => {
+            let _ = eprintln!(rt; "cadf: {check_limit}");
             ExitCode::SUCCESS
         }
         Ok(None) => ExitCode::SUCCESS,

@@ -3,7 +3,7 @@ use Rattle.std.proofs.Common.{◌≡◌, Bool, [], ◌∷◌, true, false, refl,
 use Rattle.std.specs.Prelude.{◌↔◌, ◌&&◌}
 use mathlib.Core.Bool.{true≢false}
 use Rattle.std.specs.FinMap as fin
-use Rattle.cadf_join.specs.Contents.{Text, Texts, TextSetValue, Contents, Has, under, section, singles}
+use Rattle.cadf_join.specs.Contents.{Text, Texts, TextSetValue, Contents, Has, under, suffixes_of, singles}
 use Rattle.cadf_join.specs.laws.Contents.{
   text_total,
   text_same,
@@ -33,7 +33,7 @@ in_under k s q = (find q, λ found. there found.0 found.1 found.2)
     there : (r : Texts) → q ≡ k ∷ r → Has s r → Has (under k s) q
     there r is h = subst (Has (under k s)) (sym is) (contains-under k s k r ∙ (λ i. members.equal_itself text_total text_same k i && h i))
 
-pub in_section : (s : Contents) (k : Text) (r : Texts) → Has (section s k) r ↔ Has s (k ∷ r)
+pub in_section : (s : Contents) (k : Text) (r : Texts) → Has (suffixes_of s k) r ↔ Has s (k ∷ r)
 in_section s k r = (λ h. sym (contains-section s k r) ∙ h, λ h. contains-section s k r ∙ h)
 
 pub in_singles : (s : TextSetValue) (q : Texts) → Has (singles s) q ↔ ((t : Text) × (q ≡ t ∷ []) × Has s t)

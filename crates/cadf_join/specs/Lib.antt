@@ -3,5 +3,5 @@ pub mod Longest
 pub mod Maps
 pub mod Prefixes
 pub mod Sets
-pub mod Several
+pub mod MultiValued
 pub mod laws

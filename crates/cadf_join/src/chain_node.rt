@@ -1,7 +1,7 @@
 //! A place in a tree of prefixes.
 ghost use Rattle.std.specs.Prelude.{◌≡◌, ◌++◌, [], ◌∷◌, ◌↔◌, OnOk, OnErr, IfOk, IsTrue, length, not, map};
 ghost use Rattle.cadf_join.specs.Sets as set;
-ghost use Rattle.cadf_join.specs.Contents.{IsBetween, IsWithin, under, section};
+ghost use Rattle.cadf_join.specs.Contents.{IsBetween, IsWithin, under, suffixes_of};
 ghost use Rattle.std.specs.Option.{option_copied, option_map};
 ghost use Rattle.cadf_join.specs.Maps.{held};
 ghost use Rattle.std.specs.List.{find};
@@ -10,7 +10,7 @@ ghost use Rattle.cadf_join.specs.Prefixes.{Follows, is_from};
 ghost use Rattle.cadf_join.specs.Longest.{longest, longest_with, longer_than};
 
 use crate::Memory;
-use crate::prefix::copied;
+use crate::prefix::copy_texts;
 use std::alloc::Global;
 use std::cmp::Ordering;
 use std::collections::BTreeMap;
@@ -147,7 +147,7 @@ impl Node {
     /// Puts a child that isn't empty at a text where there is none.
     fn put_below(&mut self, alloc: Global, text: &str, child: Node) -> Result<(), Memory>
         requires other { child ≡ set.empty → ⊥ }
-        requires none { section self.old text.now ≡ set.empty }
+        requires none { suffixes_of self.old text.now ≡ set.empty }
         ensures ok { OnOk result (self.new ≡ set.union self.old (under text.now child)) }
         ensures err { OnErr result (self.new ≡ self.old) }
     {
@@ -346,7 +346,7 @@ fn take_longer(
     ensures { OnOk result (texts_found found.new ≡ longest_with (texts_found found.old) (chain_texts chain.now ∷ [])) }
 {
     if is_longer(chain, found) {
-        *found = Some(copied(alloc, chain)?);
+        *found = Some(copy_texts(alloc, chain)?);
     }
     Ok(())
 }

@@ -4,11 +4,11 @@ ghost use Rattle.std.specs.Option.{option_copied};
 ghost use Rattle.std.specs.FinMap as fin;
 ghost use Rattle.std.specs.Prelude.{IfOk, IsTrue, ◌↔◌, Some, None, Ok, true, false};
 ghost use Rattle.cadf_join.specs.Sets as set;
-ghost use Rattle.cadf_join.specs.Contents.{Text, IsBetween, under, section, next_after};
+ghost use Rattle.cadf_join.specs.Contents.{Text, IsBetween, under, suffixes_of, next_after};
 ghost use Rattle.cadf_join.specs.Maps.{contents_at, held, heads, HasKeyed, NoneIsEmpty};
 ghost use Rattle.cadf_join.specs.laws.Maps.{joined_keyed, Puts, PartMissing};
 
-use crate::prefix::longer;
+use crate::prefix::copy_with_text;
 use crate::text_set::is_after;
 use crate::{Join, Memory};
 use std::alloc::Global;
@@ -48,7 +48,7 @@ impl<V: Join> JoinMap<V> {
 
     /// The value at the key, which is not empty.
     pub fn get(&self, key: &str) -> Option<&V>
-        ensures part { held V.contents (option_copied result) ≡ section (contents_at V.contents self.now) key.now }
+        ensures part { held V.contents (option_copied result) ≡ suffixes_of (contents_at V.contents self.now) key.now }
         ensures some { IfSome result (λ v. V.contents v.now ≡ set.empty → ⊥) }
     {
         self.parts.get(key)
@@ -208,7 +208,7 @@ impl<V: Join> Join for JoinMap<V> {
 
     fn append_lists(&self, prefix: &[String], lists: &mut Vec<Vec<String>>) -> Result<(), Memory> {
         for (key, part) in &self.parts {
-            let behind = longer(self.alloc, prefix, key.as_str())?;
+            let behind = copy_with_text(self.alloc, prefix, key.as_str())?;
             part.append_lists(behind.as_slice(), lists)?;
         }
         Ok(())

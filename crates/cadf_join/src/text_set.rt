@@ -5,7 +5,7 @@ ghost use Rattle.std.specs.Option.{option_copied};
 ghost use Rattle.cadf_join.specs.Contents.{text_cmp, singles, HasSingles, next_after, is_after};
 ghost use Rattle.cadf_join.specs.laws.Contents.{singles_are_single};
 
-use crate::prefix::longer;
+use crate::prefix::copy_with_text;
 use crate::{Join, Memory};
 use std::alloc::Global;
 use std::collections::BTreeSet;
@@ -129,7 +129,7 @@ impl Join for TextSet {
 
     fn append_lists(&self, prefix: &[String], lists: &mut Vec<Vec<String>>) -> Result<(), Memory> {
         for text in &self.texts {
-            lists.push(longer(self.alloc, prefix, text.as_str())?)?;
+            lists.push(copy_with_text(self.alloc, prefix, text.as_str())?)?;
         }
         Ok(())
     }

@@ -29,7 +29,7 @@ use Rattle.json.specs.Json.{Parse, read_key, members, value}
 use Rattle.serde_json.specs.Data.{Data, array, Items, no_items, Members, no_members, put}
 use Rattle.serde_json.specs.Find.{get_member}
 use Rattle.serde_json.specs.Read.{of_json, of_members, converted}
-use Rattle.cadf_json.specs.Split.{AreTaken, AreMembersRead, AreAround}
+use Rattle.cadf_json.specs.StreamedObjects.{AreTaken, AreMembersRead, AreAround}
 use Rattle.cadf_json.proofs.Rewriting.{get-put}
 use Rattle.cadf_json.proofs.Turns.{member_read, members_over}
 use Rattle.cadf_json.proofs.Splits.{put-again, put-swaps}

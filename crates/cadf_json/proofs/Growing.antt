@@ -5,7 +5,7 @@ use Rattle.json.specs.Json.{parse_map}
 use Rattle.json.specs.Value.{value_view, items_view}
 use Rattle.json.specs.declared.value.Value.{Value}
 use Rattle.serde_json.specs.Data.{Items, no_items, item}
-use Rattle.cadf_json.specs.Tree.{data_in, listed_in, IsSettledWithin, AreItemsWithin}
+use Rattle.cadf_json.specs.Tree.{data_in, listed_in, IsNormalizedWithin, AreItemsWithin}
 
 abbrev pub items_before : {A : Type 0} → List (Value A) → Items → Items
 items_before [] rest = rest
@@ -25,7 +25,7 @@ pub one_more_item : {A : Type 0} → (vs : List (Value A)) (v : Value A) (r : Op
 one_more_item vs v None = refl
 one_more_item vs v (Some p) = ap (λ ds. Some (ds, p.1)) (items_push vs v p.0)
 
-pub within_push : {A : Type 0} → (n : ℕ) (vs : List (Value A)) (v : Value A) → IsSettledWithin n (value_view v) → AreItemsWithin n (items_view vs)
+pub within_push : {A : Type 0} → (n : ℕ) (vs : List (Value A)) (v : Value A) → IsNormalizedWithin n (value_view v) → AreItemsWithin n (items_view vs)
     → AreItemsWithin n (items_view (vs ++ v ∷ []))
 within_push n [] v h all = ((h.0, tt), omega (arith, h.1))
 within_push n (w ∷ vs) v h all =

@@ -40,7 +40,7 @@ use Rattle.json.specs.declared.value.Value.{Value}
 use Rattle.serde_json.specs.Data.{Data, Members, member, members_depth}
 use Rattle.serde_json.specs.Find.{get_member}
 use Rattle.cadf_json.specs.Parts.{to_list, values_of, names_of}
-use Rattle.cadf_json.specs.Tree.{data_in, listed_in, named_in, MembersAreSettled, IsSettledWithin, AreItemsWithin, AreMembersWithin}
+use Rattle.cadf_json.specs.Tree.{data_in, listed_in, named_in, MembersAreNormalized, IsNormalizedWithin, AreItemsWithin, AreMembersWithin}
 use Rattle.cadf_json.proofs.Placed.{Entry}
 
 module _ {A : Type 0} where
@@ -89,21 +89,21 @@ module _ {A : Type 0} where
 
 module _ {A : Type 0} (n : ℕ) where
   pub item_settled : (vs : List (Value A)) (i : ℕ) (v : Value A) → AreItemsWithin n (items_view vs) → i < length vs → v ≡ get_or vs i v
-      → IsSettledWithin (suc n) (value_view v)
+      → IsNormalizedWithin (suc n) (value_view v)
   item_settled [] i v all h e = absurd (omega arith)
-  item_settled (w ∷ vs) zero v all h e = subst (λ (y : Value A). IsSettledWithin (suc n) (value_view y)) (sym e) (all.0.0, omega (arith, all.1))
+  item_settled (w ∷ vs) zero v all h e = subst (λ (y : Value A). IsNormalizedWithin (suc n) (value_view y)) (sym e) (all.0.0, omega (arith, all.1))
   item_settled (w ∷ vs) (suc i) v all h e = item_settled vs i v (all.0.1, omega (arith, all.1)) (omega arith) e
 
   abbrev Ready : List (Entry A) → Type 0
-  Ready ms = MembersAreSettled (members_view ms) × (members_depth (named_in (members_view ms)) ≤ n)
+  Ready ms = MembersAreNormalized (members_view ms) × (members_depth (named_in (members_view ms)) ≤ n)
 
-  ready_settled : (ms : List (Entry A)) (i : ℕ) (m : Entry A) → Ready ms → i < length ms → m ≡ get_or ms i m → IsSettledWithin (suc n) (value_view m.1)
+  ready_settled : (ms : List (Entry A)) (i : ℕ) (m : Entry A) → Ready ms → i < length ms → m ≡ get_or ms i m → IsNormalizedWithin (suc n) (value_view m.1)
   ready_settled [] i m all h e = absurd (omega arith)
-  ready_settled (w ∷ ms) zero m all h e = subst (λ (y : Entry A). IsSettledWithin (suc n) (value_view y.1)) (sym e) (all.0.1, omega (arith, all.1))
+  ready_settled (w ∷ ms) zero m all h e = subst (λ (y : Entry A). IsNormalizedWithin (suc n) (value_view y.1)) (sym e) (all.0.1, omega (arith, all.1))
   ready_settled (w ∷ ms) (suc i) m all h e = ready_settled ms i m (all.0.2, omega (arith, all.1)) (omega arith) e
 
   pub member_settled : (ms : List (Entry A)) (i : ℕ) (m : Entry A) → AreMembersWithin n (members_view ms) → i < length ms → m ≡ get_or ms i m
-      → IsSettledWithin (suc n) (value_view m.1)
+      → IsNormalizedWithin (suc n) (value_view m.1)
   member_settled ms i m all h e = ready_settled ms i m (all.0.0, all.1) h e
 
 -- ---- a member by its name

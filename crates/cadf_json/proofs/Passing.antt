@@ -8,7 +8,7 @@ use Rattle.serde_json.specs.Data.{Data, Items, no_items, item}
 use Rattle.serde_json.specs.Read.{of_json, of_items, converted}
 use Rattle.serde_json.specs.Written.{has_float, items_have_float}
 use Rattle.cadf_json.specs.Parts.{to_list}
-use Rattle.cadf_json.specs.Split.{AreTaken}
+use Rattle.cadf_json.specs.StreamedObjects.{AreTaken}
 use Rattle.cadf_json.proofs.Turns.{item_read, items_over}
 
 abbrev pub followed : Items → Items → Items

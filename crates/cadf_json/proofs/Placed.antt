@@ -9,7 +9,7 @@ use Rattle.json.specs.declared.value.Value.{Value}
 use Rattle.serde_json.specs.Data.{Members, no_members, member, put, depth, members_depth}
 use Rattle.cadf_json.specs.Value.{RisesFrom, Rises}
 use Rattle.cadf_json.proofs.Orders.{Rises-put, greater-from_less, less-from_greater}
-use Rattle.cadf_json.specs.Tree.{data_in, named_in, IsSettled, MembersAreSettled, IsSettledWithin, AreMembersWithin}
+use Rattle.cadf_json.specs.Tree.{data_in, named_in, IsNormalized, MembersAreNormalized, IsNormalizedWithin, AreMembersWithin}
 use Rattle.cadf_json.specs.Place.{IsPlace}
 
 abbrev pub Entry : Type 0 → Type 0
@@ -30,8 +30,8 @@ module _ {A : Type 0} where
   named_insert (x ∷ xs) zero m h = rw h
   named_insert (x ∷ xs) (suc p) m h = rw h.0 (ap (member (name x) (data_in (value_view x.1))) (named_insert xs p m h.1))
 
-  settled_insert : (xs : List (Entry A)) (p : ℕ) (m : Entry A) → IsPlace p (name m) xs → IsUtf8 (name m) → IsSettled (value_view m.1)
-      → MembersAreSettled (members_view xs) → MembersAreSettled (members_view (insert xs p m))
+  settled_insert : (xs : List (Entry A)) (p : ℕ) (m : Entry A) → IsPlace p (name m) xs → IsUtf8 (name m) → IsNormalized (value_view m.1)
+      → MembersAreNormalized (members_view xs) → MembersAreNormalized (members_view (insert xs p m))
   settled_insert [] zero m h u s all = (u, s, tt)
   settled_insert [] (suc p) m h u s all = absurd h
   settled_insert (x ∷ xs) zero m h u s all = (u, s, all)
@@ -44,7 +44,7 @@ module _ {A : Type 0} where
   depth_insert n (x ∷ xs) zero m h d all = omega arith
   depth_insert n (x ∷ xs) (suc p) m h d all = omega (arith, depth_insert n xs p m h.1 d (omega arith))
 
-  pub within_insert : (n : ℕ) (xs : List (Entry A)) (p : ℕ) (m : Entry A) → IsPlace p (name m) xs → IsUtf8 (name m) → IsSettledWithin n (value_view m.1)
+  pub within_insert : (n : ℕ) (xs : List (Entry A)) (p : ℕ) (m : Entry A) → IsPlace p (name m) xs → IsUtf8 (name m) → IsNormalizedWithin n (value_view m.1)
       → AreMembersWithin n (members_view xs) → AreMembersWithin n (members_view (insert xs p m))
   within_insert n xs p m h u s all = (
     (settled_insert xs p m h u s.0 all.0.0, rw (named_insert xs p m h) (Rises-put (name m) (data_in (value_view m.1)) (named_in (members_view xs)) all.0.1)),

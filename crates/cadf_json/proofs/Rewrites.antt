@@ -6,7 +6,7 @@ use Rattle.json.specs.Tree.{json_tokens}
 use Rattle.serde_json.specs.Data.{Data, Members, member}
 use Rattle.serde_json.specs.Written.{outline}
 use Rattle.cadf_json.specs.Rewritten.{is_one_of}
-use Rattle.cadf_json.specs.Tree.{data_in, IsSettled}
+use Rattle.cadf_json.specs.Tree.{data_in, IsNormalized}
 use Rattle.cadf_json.specs.Rewriting.{rewritten_tokens}
 use Rattle.cadf_json.proofs.Settled.{outline-data_in}
 
@@ -26,7 +26,7 @@ pub after_two : (a b c ts us : List Token) (s t : Token) → b ≡ a ++ s ∷ []
 after_two a b c ts us s t h k e = ap (λ x. x ++ ts) (k ∙ ap (λ x. x ++ t ∷ []) h) ∙ append_assoc (a ++ s ∷ []) (t ∷ []) ts ∙ append_assoc a (s ∷ []) (t ∷ ts)
     ∙ ap (λ x. a ++ x) e
 
-pub after_value : (a b c ts us : List Token) (s : Token) (j : json.Json) → IsSettled j → b ≡ a ++ s ∷ [] → c ≡ b ++ json_tokens j → s
+pub after_value : (a b c ts us : List Token) (s : Token) (j : json.Json) → IsNormalized j → b ≡ a ++ s ∷ [] → c ≡ b ++ json_tokens j → s
     ∷ (json_tokens (outline (data_in j)) ++ ts) ≡ us → c ++ ts ≡ a ++ us
 after_value a b c ts us s j settled h k e =
     ap (λ x. x ++ ts) (k ∙ ap (λ x. x ++ json_tokens j) h) ∙ append_assoc (a ++ s ∷ []) (json_tokens j) ts ∙ append_assoc a (s ∷ []) (json_tokens j ++ ts)

@@ -11,7 +11,17 @@ use Rattle.serde_json.proofs.Numbers.{number_of-decimal, number_of-negative}
 use Rattle.serde_json.proofs.Texts.{print-outline}
 use Rattle.cadf_json.specs.Value.{IsWholeNumber, IsWhole, ItemsAreWhole, MembersAreWhole, IsValue}
 use Rattle.cadf_json.proofs.Texts.{HasNumbers-outline}
-use Rattle.cadf_json.specs.Tree.{IsWholeText, number_in, data_in, listed_in, named_in, IsSettled, ItemsAreSettled, MembersAreSettled, IsSettledWithin}
+use Rattle.cadf_json.specs.Tree.{
+  IsWholeText,
+  number_in,
+  data_in,
+  listed_in,
+  named_in,
+  IsNormalized,
+  ItemsAreNormalized,
+  MembersAreNormalized,
+  IsNormalizedWithin,
+}
 
 number_read : (n : Num) → IsWholeNumber n → number_of (number_text n) ≡ Some n
 number_read (unsigned n) h = number_of-decimal n h
@@ -36,7 +46,7 @@ IsWholeText-signed s (pos n) below fits e = absurd (grind arith)
 IsWholeText-signed s (negsuc n) below fits e = (negative (negsuc n), grind arith, e)
 
 mutual
-  pub outline-data_in : (j : json.Json) → IsSettled j → outline (data_in j) ≡ j
+  pub outline-data_in : (j : json.Json) → IsNormalized j → outline (data_in j) ≡ j
   outline-data_in json.null h = refl
   outline-data_in (json.boolean b) h = refl
   outline-data_in (json.number s) h = ap json.number (ap number_text (number_in_is s h) ∙ sym h.2)
@@ -44,16 +54,16 @@ mutual
   outline-data_in (json.array js) h = ap json.array (items_outline-listed_in js h)
   outline-data_in (json.object ms) h = ap json.object (members_outline-named_in ms h.0)
 
-  items_outline-listed_in : (js : json.Items) → ItemsAreSettled js → items_outline (listed_in js) ≡ js
+  items_outline-listed_in : (js : json.Items) → ItemsAreNormalized js → items_outline (listed_in js) ≡ js
   items_outline-listed_in json.no_items h = refl
   items_outline-listed_in (json.item j js) h = ap₂ json.item (outline-data_in j h.0) (items_outline-listed_in js h.1)
 
-  members_outline-named_in : (ms : json.Members) → MembersAreSettled ms → members_outline (named_in ms) ≡ ms
+  members_outline-named_in : (ms : json.Members) → MembersAreNormalized ms → members_outline (named_in ms) ≡ ms
   members_outline-named_in json.no_members h = refl
   members_outline-named_in (json.member k j ms) h = ap₂ (json.member k) (outline-data_in j h.1) (members_outline-named_in ms h.2)
 
 mutual
-  pub IsWhole-data_in : (j : json.Json) → IsSettled j → IsWhole (data_in j)
+  pub IsWhole-data_in : (j : json.Json) → IsNormalized j → IsWhole (data_in j)
   IsWhole-data_in json.null h = tt
   IsWhole-data_in (json.boolean b) h = tt
   IsWhole-data_in (json.number s) h = subst IsWholeNumber (sym (number_in_is s h)) h.1
@@ -61,20 +71,20 @@ mutual
   IsWhole-data_in (json.array js) h = ItemsAreWhole-listed_in js h
   IsWhole-data_in (json.object ms) h = (MembersAreWhole-named_in ms h.0, h.1)
 
-  ItemsAreWhole-listed_in : (js : json.Items) → ItemsAreSettled js → ItemsAreWhole (listed_in js)
+  ItemsAreWhole-listed_in : (js : json.Items) → ItemsAreNormalized js → ItemsAreWhole (listed_in js)
   ItemsAreWhole-listed_in json.no_items h = tt
   ItemsAreWhole-listed_in (json.item j js) h = (IsWhole-data_in j h.0, ItemsAreWhole-listed_in js h.1)
 
-  pub MembersAreWhole-named_in : (ms : json.Members) → MembersAreSettled ms → MembersAreWhole (named_in ms)
+  pub MembersAreWhole-named_in : (ms : json.Members) → MembersAreNormalized ms → MembersAreWhole (named_in ms)
   MembersAreWhole-named_in json.no_members h = tt
   MembersAreWhole-named_in (json.member k j ms) h = (h.0, IsWhole-data_in j h.1, MembersAreWhole-named_in ms h.2)
 
 -- a settled tree can be written, and what is written is the canonical text
-pub HasNumbers-settled : (j : json.Json) → IsSettled j → HasNumbers j
+pub HasNumbers-settled : (j : json.Json) → IsNormalized j → HasNumbers j
 HasNumbers-settled j h = subst HasNumbers (outline-data_in j h) (HasNumbers-outline (data_in j) (IsWhole-data_in j h))
 
-pub print-settled : (j : json.Json) → IsSettled j → print (json_tokens j) ≡ compact_text (data_in j)
+pub print-settled : (j : json.Json) → IsNormalized j → print (json_tokens j) ≡ compact_text (data_in j)
 print-settled j h = ap (λ i. print (json_tokens i)) (sym (outline-data_in j h)) ∙ print-outline (data_in j)
 
-pub IsValue-settled : (j : json.Json) → IsSettledWithin 127 j → IsValue (data_in j)
+pub IsValue-settled : (j : json.Json) → IsNormalizedWithin 127 j → IsValue (data_in j)
 IsValue-settled j h = (IsWhole-data_in j h.0, h.1)

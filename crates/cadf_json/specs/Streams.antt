@@ -24,10 +24,10 @@ use Rattle.std.specs.Prelude.{
   Err,
 }
 use Rattle.std.specs.Io.KnownBytes.{Appends, Consumes}
-use Rattle.cadf_json.specs.declared.whole.WholeFault.{WholeFault}
-use Rattle.cadf_json.specs.declared.whole.WholeFault.TheVariants.{TooLarge, ReadFault, Memory}
-use Rattle.cadf_json.specs.declared.whole.OutFault.{OutFault}
-use Rattle.cadf_json.specs.declared.whole.OutFault.TheVariants.{WriteFault, Memory as OutOfMemory}
+use Rattle.cadf_json.specs.declared.transfer.ReadAllFault.{ReadAllFault}
+use Rattle.cadf_json.specs.declared.transfer.ReadAllFault.TheVariants.{TooLarge, ReadFault, Memory}
+use Rattle.cadf_json.specs.declared.transfer.OutputFault.{OutputFault}
+use Rattle.cadf_json.specs.declared.transfer.OutputFault.TheVariants.{WriteFault, Memory as OutOfMemory}
 
 -- a count of 64 bits, which stays at its greatest value
 abbrev pub one_more : ℕ → ℕ
@@ -59,18 +59,18 @@ abbrev pub ConsumesWithin : Option (List ℕ) → Option (List ℕ) → ℕ → 
 ConsumesWithin old new start n = (bytes : List ℕ) × Consumes old new bytes × (start + length bytes ≤ n)
 
 -- a front of the bytes was written
-abbrev pub AppendsFront : Option (List ℕ) → Option (List ℕ) → List ℕ → Type 0
-AppendsFront old new bytes = (n : ℕ) × Appends old new (take n bytes)
+abbrev pub AppendsPrefix : Option (List ℕ) → Option (List ℕ) → List ℕ → Type 0
+AppendsPrefix old new bytes = (n : ℕ) × Appends old new (take n bytes)
 
 -- the source was not read whole, since a read failed
-abbrev pub is_read_fault : {T : Type 0} → Result T WholeFault → Bool
+abbrev pub is_read_fault : {T : Type 0} → Result T ReadAllFault → Bool
 is_read_fault (Ok v) = false
 is_read_fault (Err TooLarge) = false
 is_read_fault (Err ReadFault) = true
 is_read_fault (Err Memory) = false
 
 -- the text was not written whole, since a write failed
-abbrev pub is_write_fault : {T : Type 0} → Result T OutFault → Bool
+abbrev pub is_write_fault : {T : Type 0} → Result T OutputFault → Bool
 is_write_fault (Ok v) = false
 is_write_fault (Err WriteFault) = true
 is_write_fault (Err OutOfMemory) = false

@@ -52,28 +52,28 @@ abbrev mutual
 
 -- texts are UTF-8, numbers are whole and in their one spelling, and the names of each object rise
 abbrev mutual
-  pub IsSettled : json.Json → Type 0
-  IsSettled json.null = ⊤
-  IsSettled (json.boolean b) = ⊤
-  IsSettled (json.number s) = IsWholeText s
-  IsSettled (json.string s) = IsUtf8 s
-  IsSettled (json.array js) = ItemsAreSettled js
-  IsSettled (json.object ms) = MembersAreSettled ms × Rises (named_in ms)
+  pub IsNormalized : json.Json → Type 0
+  IsNormalized json.null = ⊤
+  IsNormalized (json.boolean b) = ⊤
+  IsNormalized (json.number s) = IsWholeText s
+  IsNormalized (json.string s) = IsUtf8 s
+  IsNormalized (json.array js) = ItemsAreNormalized js
+  IsNormalized (json.object ms) = MembersAreNormalized ms × Rises (named_in ms)
 
-  pub ItemsAreSettled : json.Items → Type 0
-  ItemsAreSettled json.no_items = ⊤
-  ItemsAreSettled (json.item j js) = IsSettled j × ItemsAreSettled js
+  pub ItemsAreNormalized : json.Items → Type 0
+  ItemsAreNormalized json.no_items = ⊤
+  ItemsAreNormalized (json.item j js) = IsNormalized j × ItemsAreNormalized js
 
-  pub MembersAreSettled : json.Members → Type 0
-  MembersAreSettled json.no_members = ⊤
-  MembersAreSettled (json.member k j ms) = IsUtf8 k × IsSettled j × MembersAreSettled ms
+  pub MembersAreNormalized : json.Members → Type 0
+  MembersAreNormalized json.no_members = ⊤
+  MembersAreNormalized (json.member k j ms) = IsUtf8 k × IsNormalized j × MembersAreNormalized ms
 
 -- it is settled, and nests no deeper than this
-abbrev pub IsSettledWithin : ℕ → json.Json → Type 0
-IsSettledWithin n j = IsSettled j × (depth (data_in j) ≤ n)
+abbrev pub IsNormalizedWithin : ℕ → json.Json → Type 0
+IsNormalizedWithin n j = IsNormalized j × (depth (data_in j) ≤ n)
 
 abbrev pub AreItemsWithin : ℕ → json.Items → Type 0
-AreItemsWithin n js = ItemsAreSettled js × (items_depth (listed_in js) ≤ n)
+AreItemsWithin n js = ItemsAreNormalized js × (items_depth (listed_in js) ≤ n)
 
 abbrev pub AreMembersWithin : ℕ → json.Members → Type 0
-AreMembersWithin n ms = (MembersAreSettled ms × Rises (named_in ms)) × (members_depth (named_in ms) ≤ n)
+AreMembersWithin n ms = (MembersAreNormalized ms × Rises (named_in ms)) × (members_depth (named_in ms) ≤ n)

@@ -9,28 +9,28 @@ mod number;
 mod owned;
 mod part;
 mod part_rewrite;
-mod pass;
 mod place;
 mod read;
 mod rewrite;
-mod split;
+mod skip;
 mod stream;
+mod streamed_object;
+mod transfer;
 mod tree;
 mod value;
 mod view;
-mod whole;
 
 pub use crate::laws::{
-    bytes_spell_values, text_is_one_line, text_spells_its_value, text_tells_values_apart,
+    bytes_spell_values, text_is_injective, text_is_one_line, text_spells_its_value,
 };
 pub use crate::members::{Member, Members};
 pub use crate::memory::{FailingWrite, MemorySink, MemorySource};
-pub use crate::pass::{check_list, may_be_json};
-pub use crate::read::Unread;
-pub use crate::split::{Split, TakesItems, read_split};
-pub use crate::stream::{Failed, FromStd, Sink, Source};
+pub use crate::read::TreeFault;
+pub use crate::skip::{check_list, has_json_syntax};
+pub use crate::stream::{Failed, Sink, Source, StdStream};
+pub use crate::streamed_object::{ItemVisitor, StreamedObject, read_object_streaming};
+pub use crate::transfer::{OutputFault, ReadAllFault, read_rest, read_to_limit, write_all};
 pub use crate::tree::Tree;
 pub use crate::value::{Json, JsonFault, quoted};
 pub use crate::view::View;
-pub use crate::whole::{OutFault, WholeFault, read_rest, read_whole, write_whole};
 pub use std::alloc::AllocError as Memory;

@@ -5,7 +5,7 @@ ghost use Rattle.serde_json.specs.Data.{depth as nesting, items_depth, members_d
 ghost use Rattle.serde_json.specs.Find.{get_member};
 ghost use Rattle.cadf_json.specs.Parts.{to_list, values_of, names_of};
 ghost use Rattle.cadf_json.specs.Rewritten.{all_members, limit_for, limits_of};
-ghost use Rattle.cadf_json.specs.Tree.{data_in, listed_in, named_in, IsSettledWithin, AreItemsWithin, AreMembersWithin};
+ghost use Rattle.cadf_json.specs.Tree.{data_in, listed_in, named_in, IsNormalizedWithin, AreItemsWithin, AreMembersWithin};
 
 use crate::owned::limit_of;
 use json::Value;
@@ -31,7 +31,7 @@ pub(crate) fn item_at<'v, 'a>(items: &'v Vec<Value<'a>>, index: usize) -> Option
     requires { AreItemsWithin 126 (items_view items.now.items) }
     ensures part { option_map (λ v. data_in (value_view v.now)) result
         ≡ slice_get (to_list (listed_in (items_view items.now.items))) index }
-    ensures within { IfSome result (λ v. IsSettledWithin 127 (value_view v.now)) }
+    ensures within { IfSome result (λ v. IsNormalizedWithin 127 (value_view v.now)) }
 {
     if index < items.len() {
         Some(&items[index])
@@ -48,7 +48,7 @@ pub(crate) fn value_at<'v, 'a>(
     requires { AreMembersWithin 126 (members_view members.now.items) }
     ensures part { option_map (λ v. data_in (value_view v.now)) result
         ≡ slice_get (values_of (named_in (members_view members.now.items))) index }
-    ensures within { IfSome result (λ v. IsSettledWithin 127 (value_view v.now)) }
+    ensures within { IfSome result (λ v. IsNormalizedWithin 127 (value_view v.now)) }
 {
     if index < members.len() {
         Some(&members[index].1)
@@ -77,7 +77,7 @@ pub(crate) fn member_of<'v, 'a>(
     requires { AreMembersWithin 126 (members_view members.now.items) }
     ensures part { option_map (λ v. data_in (value_view v.now)) result
         ≡ get_member name.now (named_in (members_view members.now.items)) }
-    ensures within { IfSome result (λ v. IsSettledWithin 127 (value_view v.now)) }
+    ensures within { IfSome result (λ v. IsNormalizedWithin 127 (value_view v.now)) }
 {
     for member in members {
         if name == member.0 {

@@ -159,7 +159,7 @@ pub(crate) fn name_in(value: &Value, index: usize) -> Option<&str>
 }
 
 /// Whether each member nests at most as deep as its name allows.
-pub(crate) fn members_within(value: &Value, limits: &[(&str, u8)], others: u8) -> bool
+pub(crate) fn members_nest_within(value: &Value, limits: &[(&str, u8)], others: u8) -> bool
     requires { nesting (data_of value.now) ≤ 127 }
     ensures { result
         ≡ all_members (λ k d. nat_le (nesting d) (limit_for (limits_of limits.now) others k)) (members_in (data_of value.now)) }

@@ -6,7 +6,7 @@ ghost use Rattle.serde_json.specs.Find.{as_null, as_str, as_array, get};
 ghost use Rattle.cadf_json.specs.Parts.{is_object, parts_in, names_in, members_in};
 ghost use Rattle.cadf_json.specs.Rewritten.{texts_of, without, replaced, all_members, limit_for, limits_of};
 ghost use Rattle.cadf_json.specs.Value.{IsValue, text as text_of};
-ghost use Rattle.cadf_json.specs.Tree.{data_in, named_in, IsSettledWithin, AreMembersWithin};
+ghost use Rattle.cadf_json.specs.Tree.{data_in, named_in, IsNormalizedWithin, AreMembersWithin};
 ghost use Rattle.cadf_json.specs.Walk.{borrowed_members};
 
 use crate::Memory;
@@ -31,7 +31,7 @@ impl<'v, 'a> Model for Part<'v, 'a> {
     ghost use Rattle.serde_json.specs.Data.{Data};
     ghost use Rattle.json.specs.Value.{value_view};
     ghost use Rattle.cadf_json.specs.Coding.{data_code};
-    ghost use Rattle.cadf_json.specs.Tree.{data_in, IsSettledWithin};
+    ghost use Rattle.cadf_json.specs.Tree.{data_in, IsNormalizedWithin};
 
     ghost Value = { Data };
 
@@ -39,13 +39,13 @@ impl<'v, 'a> Model for Part<'v, 'a> {
 
     ghost view = { λ p. data_in (value_view p.value.now) };
 
-    ghost invariant = { λ p. IsSettledWithin 127 (value_view p.value.now) };
+    ghost invariant = { λ p. IsNormalizedWithin 127 (value_view p.value.now) };
 }
 
 impl<'v, 'a> Part<'v, 'a> {
     /// The whole of a settled tree.
     pub(crate) fn of(value: &'v Value<'a>) -> Part<'v, 'a>
-        requires { IsSettledWithin 127 (value_view value.now) }
+        requires { IsNormalizedWithin 127 (value_view value.now) }
         ensures whole { result ≡ data_in (value_view value.now) }
         ensures value { IsValue result }
     {
@@ -125,7 +125,7 @@ impl<'v, 'a> Part<'v, 'a> {
     }
 
     /// Whether each member nests at most as deep as its name allows.
-    pub(crate) fn members_within(&self, limits: &[(&str, u8)], others: u8) -> bool
+    pub(crate) fn members_nest_within(&self, limits: &[(&str, u8)], others: u8) -> bool
         ensures { result
             ≡ all_members (λ k d. nat_le (nesting d) (limit_for (limits_of limits.now) others k)) (members_in self.now) }
     {
@@ -148,7 +148,7 @@ impl<'v, 'a> Part<'v, 'a> {
 
     /// The canonical text of an object without the members of these names, and with this text at
     /// that name where it has one.
-    pub(crate) fn rewritten(
+    pub(crate) fn rewritten_text(
         &self,
         alloc: Global,
         left_out: &[&str],
@@ -164,14 +164,14 @@ impl<'v, 'a> Part<'v, 'a> {
     }
 
     /// Every part is a value: an empty call that tells so.
-    pub(crate) fn known(&self)
+    pub(crate) fn type_invariant(&self)
         ensures { IsValue self.now }
     {
         let _value = &self.value;
     }
 
     /// The same part once more.
-    pub(crate) fn again(&self) -> Part<'v, 'a>
+    pub(crate) fn reborrow(&self) -> Part<'v, 'a>
         ensures { result ≡ self.now }
     {
         Part { value: self.value }
@@ -199,10 +199,10 @@ impl<'v, 'a> Part<'v, 'a> {
 
 // The item, or the value of the member, at this place.
 fn part_at<'v, 'a>(value: &'v Value<'a>, index: usize) -> Option<&'v Value<'a>>
-    requires { IsSettledWithin 127 (value_view value.now) }
+    requires { IsNormalizedWithin 127 (value_view value.now) }
     ensures part { option_map (λ v. data_in (value_view v.now)) result
         ≡ slice_get (parts_in (data_in (value_view value.now))) index }
-    ensures within { IfSome result (λ v. IsSettledWithin 127 (value_view v.now)) }
+    ensures within { IfSome result (λ v. IsNormalizedWithin 127 (value_view v.now)) }
 {
     match value {
         Value::Array(items) => item_at(items, index),
@@ -213,10 +213,10 @@ fn part_at<'v, 'a>(value: &'v Value<'a>, index: usize) -> Option<&'v Value<'a>>
 
 // The value of the member of this name.
 fn part_named<'v, 'a>(value: &'v Value<'a>, name: &str) -> Option<&'v Value<'a>>
-    requires { IsSettledWithin 127 (value_view value.now) }
+    requires { IsNormalizedWithin 127 (value_view value.now) }
     ensures part { option_map (λ v. data_in (value_view v.now)) result
         ≡ get name.now (data_in (value_view value.now)) }
-    ensures within { IfSome result (λ v. IsSettledWithin 127 (value_view v.now)) }
+    ensures within { IfSome result (λ v. IsNormalizedWithin 127 (value_view v.now)) }
 {
     match value {
         Value::Object(members) => member_of(members, name),

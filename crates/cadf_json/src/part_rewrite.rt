@@ -6,7 +6,7 @@ ghost use Rattle.json.specs.Print.{print};
 ghost use Rattle.serde_json.specs.Data.{Members, member as member_in};
 ghost use Rattle.cadf_json.specs.Parts.{members_in};
 ghost use Rattle.cadf_json.specs.Rewritten.{texts_of};
-ghost use Rattle.cadf_json.specs.Tree.{data_in, named_in, IsSettled, MembersAreSettled};
+ghost use Rattle.cadf_json.specs.Tree.{data_in, named_in, IsNormalized, MembersAreNormalized};
 ghost use Rattle.cadf_json.specs.Rewriting.{rewritten_tokens};
 
 use crate::Memory;
@@ -22,7 +22,7 @@ fn write_member(
     name: &str,
     text: &str,
 ) -> Result<(), Memory>
-    requires { IsSettled (value_view member.now) }
+    requires { IsNormalized (value_view member.now) }
     ensures tokens { OnOk result ((rest : Members)
         → writer.new.tokens ++ rewritten_tokens (texts_of left_out.now) name.now text.now rest
         ≡ writer.old.tokens ++ rewritten_tokens (texts_of left_out.now) name.now text.now
@@ -49,7 +49,7 @@ fn write_members(
     name: &str,
     text: &str,
 ) -> Result<(), Memory>
-    requires { MembersAreSettled (members_view members.now.items) }
+    requires { MembersAreNormalized (members_view members.now.items) }
     ensures tokens { OnOk result (writer.new.tokens ≡ writer.old.tokens
         ++ rewritten_tokens (texts_of left_out.now) name.now text.now (named_in (members_view members.now.items))) }
     ensures before { OnOk result (writer.new.before ≡ writer.old.before) }
@@ -69,7 +69,7 @@ pub(crate) fn write_object(
     name: &str,
     text: &str,
 ) -> Result<(), Memory>
-    requires { IsSettled (value_view value.now) }
+    requires { IsNormalized (value_view value.now) }
     ensures tokens { OnOk result (writer.new.tokens ≡ writer.old.tokens ++ begin_object
         ∷ rewritten_tokens (texts_of left_out.now) name.now text.now (members_in (data_in (value_view value.now)))) }
     ensures before { OnOk result (writer.new.before ≡ writer.old.before) }

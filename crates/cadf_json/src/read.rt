@@ -4,7 +4,7 @@ ghost use Rattle.json.specs.Json.{value, items, members};
 ghost use Rattle.json.specs.Value.{value_view, items_view, members_view};
 ghost use Rattle.serde_json.specs.Data.{no_members, put};
 ghost use Rattle.serde_json.specs.Read.{of_json, of_items, of_members, converted};
-ghost use Rattle.cadf_json.specs.Tree.{data_in, listed_in, named_in, IsSettledWithin, AreItemsWithin, AreMembersWithin};
+ghost use Rattle.cadf_json.specs.Tree.{data_in, listed_in, named_in, IsNormalizedWithin, AreItemsWithin, AreMembersWithin};
 
 use crate::Memory;
 use crate::number::is_whole;
@@ -18,34 +18,34 @@ const FEW: usize = 2;
 
 /// Why there is no tree.
 #[derive(Clone, Copy, Debug, Drop, PartialEq, Eq, Error)]
-pub enum Unread {
+pub enum TreeFault {
     /// The text is not plain: what it is has to be judged in another way.
     #[error("not plain")]
-    NotPlain,
+    NeedsFullParse,
     /// An allocation was refused.
     #[error("out of memory")]
     Memory,
 }
 
-impl From<Memory> for Unread {
+impl From<Memory> for TreeFault {
     ghost use Rattle.std.specs.Prelude.{◌≡◌};
-    ghost use Rattle.cadf_json.specs.declared.read.Unread.TheVariants.{Memory as OutOfMemory};
+    ghost use Rattle.cadf_json.specs.declared.read.TreeFault.TheVariants.{Memory as OutOfMemory};
 
     ghost from_gives = { λ _ e. e ≡ OutOfMemory };
 
-    fn from(_refused: Memory) -> Unread {
-        Unread::Memory
+    fn from(_refused: Memory) -> TreeFault {
+        TreeFault::Memory
     }
 }
 
-impl<T: Drop> From<AllocFailed<T>> for Unread {
+impl<T: Drop> From<AllocFailed<T>> for TreeFault {
     ghost use Rattle.std.specs.Prelude.{◌≡◌};
-    ghost use Rattle.cadf_json.specs.declared.read.Unread.TheVariants.{Memory as OutOfMemory};
+    ghost use Rattle.cadf_json.specs.declared.read.TreeFault.TheVariants.{Memory as OutOfMemory};
 
     ghost from_gives = { λ _ e. e ≡ OutOfMemory };
 
-    fn from(_refused: AllocFailed<T>) -> Unread {
-        Unread::Memory
+    fn from(_refused: AllocFailed<T>) -> TreeFault {
+        TreeFault::Memory
     }
 }
 
@@ -55,34 +55,36 @@ pub(crate) fn read<'a>(
     alloc: Global,
     reader: &mut Reader<'a>,
     depth: usize,
-) -> Result<Value<'a>, Unread>
+) -> Result<Value<'a>, TreeFault>
     ensures ok { IfOk result
         (λ v. converted of_json (value depth reader.old) ≡ Some (data_in (value_view v), reader.new)) }
-    ensures within { IfOk result (λ v. IsSettledWithin depth (value_view v)) }
+    ensures within { IfOk result (λ v. IsNormalizedWithin depth (value_view v)) }
     ensures shorter { OnOk result (length reader.new < length reader.old) }
 {
     let Some(token) = reader.next() else {
-        return Err(Unread::NotPlain);
+        return Err(TreeFault::NeedsFullParse);
     };
     match token {
         Token::String(text) => Ok(Value::String(text)),
         Token::Number(text) => if is_whole(text) {
             Ok(Value::Number(text))
         } else {
-            Err(Unread::NotPlain)
+            Err(TreeFault::NeedsFullParse)
         },
         Token::Bool(b) => Ok(Value::Bool(b)),
         Token::Null => Ok(Value::Null),
-        Token::EndObject | Token::EndArray | Token::Key(_) | Token::Bad => Err(Unread::NotPlain),
+        Token::EndObject | Token::EndArray | Token::Key(_) | Token::Bad => Err(
+            TreeFault::NeedsFullParse,
+        ),
         Token::BeginArray => {
             if depth == 0 {
-                return Err(Unread::NotPlain);
+                return Err(TreeFault::NeedsFullParse);
             }
             Ok(Value::Array(read_items(alloc, reader, depth - 1)?))
         }
         Token::BeginObject => {
             if depth == 0 {
-                return Err(Unread::NotPlain);
+                return Err(TreeFault::NeedsFullParse);
             }
             Ok(Value::Object(read_members(alloc, reader, depth - 1)?))
         }
@@ -95,7 +97,7 @@ fn read_items<'a>(
     alloc: Global,
     reader: &mut Reader<'a>,
     depth: usize,
-) -> Result<Vec<Value<'a>>, Unread>
+) -> Result<Vec<Value<'a>>, TreeFault>
     ensures ok { IfOk result
         (λ v. converted of_items (items (value depth) (length reader.old) reader.old)
         ≡ Some (listed_in (items_view v.items), reader.new)) }
@@ -116,7 +118,7 @@ fn read_members<'a>(
     alloc: Global,
     reader: &mut Reader<'a>,
     depth: usize,
-) -> Result<Vec<(&'a str, Value<'a>)>, Unread>
+) -> Result<Vec<(&'a str, Value<'a>)>, TreeFault>
     ensures ok { IfOk result
         (λ v. converted (λ ms. of_members ms no_members)
         (members (value depth) (length reader.old) reader.old)
@@ -127,7 +129,7 @@ fn read_members<'a>(
     let mut found = Vec::new(alloc);
     'members: loop {
         let Ok(key) = reader.next_key() else {
-            return Err(Unread::NotPlain);
+            return Err(TreeFault::NeedsFullParse);
         };
         let Some(name) = key else {
             return Ok(trimmed(found));
@@ -153,15 +155,15 @@ pub(crate) fn put_member<'a>(
     name: &'a str,
     member: Value<'a>,
     depth: usize,
-) -> Result<(), Unread>
+) -> Result<(), TreeFault>
     requires { AreMembersWithin depth (members_view found.old.items)
-        × IsSettledWithin depth (value_view member) }
+        × IsNormalizedWithin depth (value_view member) }
     ensures named { OnOk result (named_in (members_view found.new.items)
         ≡ put name.now (data_in (value_view member.entry)) (named_in (members_view found.old.items))) }
     ensures within { OnOk result (AreMembersWithin depth (members_view found.new.items)) }
 {
     let Some(at) = place_of(found, name) else {
-        return Err(Unread::NotPlain);
+        return Err(TreeFault::NeedsFullParse);
     };
     found.insert(at, (name, member))?;
     Ok(())

@@ -8,7 +8,7 @@ ghost use Rattle.cadf_json.specs.Tree.{named_in, AreMembersWithin};
 ghost use Rattle.cadf_json.specs.Value.{IsValue, SpellsValue, text as text_of};
 
 use crate::part::Part;
-use crate::read::{Unread, read};
+use crate::read::{TreeFault, read};
 use crate::view::View;
 use json::{Reader, Scratch, Value};
 use std::alloc::Global;
@@ -26,7 +26,7 @@ impl<'a> Model for Tree<'a> {
     ghost use Rattle.serde_json.specs.Data.{Data};
     ghost use Rattle.json.specs.Value.{value_view};
     ghost use Rattle.cadf_json.specs.Coding.{data_code};
-    ghost use Rattle.cadf_json.specs.Tree.{data_in, IsSettledWithin};
+    ghost use Rattle.cadf_json.specs.Tree.{data_in, IsNormalizedWithin};
 
     ghost Value = { Data };
 
@@ -34,12 +34,12 @@ impl<'a> Model for Tree<'a> {
 
     ghost view = { λ t. data_in (value_view t.value) };
 
-    ghost invariant = { λ t. IsSettledWithin 127 (value_view t.value) };
+    ghost invariant = { λ t. IsNormalizedWithin 127 (value_view t.value) };
 }
 
 impl<'a> Tree<'a> {
     /// The value that comes next. Lists and objects may nest `depth` deep.
-    pub fn read(alloc: Global, reader: &mut Reader<'a>, depth: usize) -> Result<Tree<'a>, Unread>
+    pub fn read(alloc: Global, reader: &mut Reader<'a>, depth: usize) -> Result<Tree<'a>, TreeFault>
         requires { depth ≤ 127 }
         ensures ok { IfOk result (λ t. converted of_json (value_at depth reader.old) ≡ Some (t, reader.new)) }
         ensures value { IfOk result IsValue }
@@ -55,14 +55,14 @@ impl<'a> Tree<'a> {
         alloc: Global,
         text: &'a str,
         scratch: &'a mut Scratch,
-    ) -> Result<Tree<'a>, Unread>
+    ) -> Result<Tree<'a>, TreeFault>
         ensures ok { IfOk result (λ t. SpellsValue text.now t) }
         ensures value { IfOk result IsValue }
     {
         let mut reader = Reader::new(text, scratch)?;
         let tree = Tree::read(alloc, &mut reader, MAX_DEPTH)?;
         if reader.next().is_some() {
-            return Err(Unread::NotPlain);
+            return Err(TreeFault::NeedsFullParse);
         }
         Ok(tree)
     }

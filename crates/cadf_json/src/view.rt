@@ -9,9 +9,9 @@ ghost use Rattle.cadf_json.specs.Value.{IsValue, text as text_of};
 
 use crate::Memory;
 use crate::members::Members;
-use crate::owned::{count_in, depth, members_within, name_in, part_in, text_in};
+use crate::owned::{count_in, depth, members_nest_within, name_in, part_in, text_in};
 use crate::part::Part;
-use crate::rewrite::rewritten;
+use crate::rewrite::rewritten_text;
 use serde_json::Value;
 use std::alloc::Global;
 use std::marker::Model;
@@ -62,7 +62,7 @@ impl<'v, 'a> View<'v, 'a> {
         ensures part { result ≡ part.entry }
         ensures value { IsValue part.entry }
     {
-        part.known();
+        part.type_invariant();
         View {
             basis: Basis::Plain(part),
         }
@@ -161,19 +161,19 @@ impl<'v, 'a> View<'v, 'a> {
     }
 
     /// Whether each member nests at most as deep as its name allows.
-    pub fn members_within(&self, limits: &[(&str, u8)], others: u8) -> bool
+    pub fn members_nest_within(&self, limits: &[(&str, u8)], others: u8) -> bool
         ensures { result
             ≡ all_members (λ k d. nat_le (nesting d) (limit_for (limits_of limits.now) others k)) (members_in self.now) }
     {
         match &self.basis {
-            Basis::Owned(value) => members_within(value, limits, others),
-            Basis::Plain(part) => part.members_within(limits, others),
+            Basis::Owned(value) => members_nest_within(value, limits, others),
+            Basis::Plain(part) => part.members_nest_within(limits, others),
         }
     }
 
     /// The canonical text of an object without the members of these names, and with this text at
     /// that name where it has one.
-    pub fn rewritten(
+    pub fn rewritten_text(
         &self,
         alloc: Global,
         left_out: &[&str],
@@ -184,25 +184,25 @@ impl<'v, 'a> View<'v, 'a> {
             ≡ text_of (object_of (replaced name.now (text_value text.now) (without (texts_of left_out.now) (members_in self.now))))) }
     {
         match &self.basis {
-            Basis::Owned(value) => rewritten(alloc, value, left_out, name, text),
-            Basis::Plain(part) => part.rewritten(alloc, left_out, name, text),
+            Basis::Owned(value) => rewritten_text(alloc, value, left_out, name, text),
+            Basis::Plain(part) => part.rewritten_text(alloc, left_out, name, text),
         }
     }
 
     /// Every part is a value: an empty call that tells so.
-    pub fn known(&self)
+    pub fn type_invariant(&self)
         ensures { IsValue self.now }
     {
         let _basis = &self.basis;
     }
 
     /// The same part once more.
-    pub fn again(&self) -> View<'v, 'a>
+    pub fn reborrow(&self) -> View<'v, 'a>
         ensures { result ≡ self.now }
     {
         match &self.basis {
             Basis::Owned(value) => View::of_value(value),
-            Basis::Plain(part) => View::of_part(part.again()),
+            Basis::Plain(part) => View::of_part(part.reborrow()),
         }
     }
 

@@ -6,7 +6,7 @@ use Rattle.std.proofs.lemmas.List.{reverse-append, length-reverse, length-take-l
 use Rattle.cadf_join.specs.Contents.{Text, Texts}
 use Rattle.cadf_rehearsal.specs.declared.turn.Turn.{Turn}
 use Rattle.cadf_rehearsal.specs.declared.fault.RehearseFault.{RehearseFault}
-use Rattle.cadf_rehearsal.specs.Schedule.{World, turned, next, after}
+use Rattle.cadf_rehearsal.specs.Schedule.{World, world_after_turn, next, after}
 
 -- the turns so far, the newest first
 abbrev pub played : List Turn → List Turn
@@ -32,17 +32,17 @@ module _ (digest : Texts → Text) (log : Text) (sites : ℕ) where
       ap (next digest log sites (length (later ++ earlier) + 1) t) (after_fault later earlier fault is)
 
   pub after_more : (ts : List Turn) (i : ℕ) (t : Turn) (w v : World) → i < length ts → t ≡ get_or ts i t
-      → after digest log sites (played (take i ts)) ≡ Ok w → turned digest log sites (i + 1) w t ≡ Ok v
+      → after digest log sites (played (take i ts)) ≡ Ok w → world_after_turn digest log sites (i + 1) w t ≡ Ok v
       → after digest log sites (played (take (i + 1) ts)) ≡ Ok v
   after_more ts i t w v h at before step =
       let le : i ≤ length ts = omega arith in
       ap (after digest log sites) (played_more ts i t h at)
       ∙ ap (next digest log sites (length (played (take i ts)) + 1) t) before
-      ∙ ap (λ k. turned digest log sites (k + 1) w t) (played_length ts i le)
+      ∙ ap (λ k. world_after_turn digest log sites (k + 1) w t) (played_length ts i le)
       ∙ step
 
   pub after_refused : (ts : List Turn) (i : ℕ) (t : Turn) (w : World) (fault : RehearseFault) → i < length ts → t ≡ get_or ts i t
-      → after digest log sites (played (take i ts)) ≡ Ok w → turned digest log sites (i + 1) w t ≡ Err fault
+      → after digest log sites (played (take i ts)) ≡ Ok w → world_after_turn digest log sites (i + 1) w t ≡ Err fault
       → after digest log sites (played ts) ≡ Err fault
   after_refused ts i t w fault h at before step =
       let le : i ≤ length ts = omega arith in
@@ -50,5 +50,5 @@ module _ (digest : Texts → Text) (log : Text) (sites : ℕ) where
       ∙ after_fault (played (drop (i + 1) ts)) (played (take (i + 1) ts)) fault (
       ap (after digest log sites) (played_more ts i t h at)
       ∙ ap (next digest log sites (length (played (take i ts)) + 1) t) before
-      ∙ ap (λ k. turned digest log sites (k + 1) w t) (played_length ts i le)
+      ∙ ap (λ k. world_after_turn digest log sites (k + 1) w t) (played_length ts i le)
       ∙ step)

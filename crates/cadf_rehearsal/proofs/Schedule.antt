@@ -17,7 +17,7 @@ use Rattle.cadf_rehearsal.specs.declared.turn.Turn.TheVariants.{Learn, Ask, Answ
 use Rattle.cadf_rehearsal.specs.declared.fault.RehearseFault.{RehearseFault}
 use Rattle.cadf_rehearsal.specs.declared.fault.RehearseFault.TheVariants.{WrongAddressee}
 use Rattle.cadf_rehearsal.specs.Schedule.{Message, Inventory, PartFor, Whole, World, start, with_at, adds, makes, is_message, is_of_log, Means}
-use Rattle.cadf_rehearsal.specs.Schedule.{delivered, answered, turned, next, after, made_by, plain, carried, learnt}
+use Rattle.cadf_rehearsal.specs.Schedule.{delivered, answered, world_after_turn, next, after, made_by, plain, carried, learnt_atoms}
 use Rattle.cadf_line.proofs.Missing.{missing_within, missing_by_is, part_suffices, missing_or_held, with_carriers_least, unknown_has}
 use Rattle.cadf_set.proofs.ContributionLaws.{grounded_union, grounded_empty, document_grounded}
 
@@ -73,7 +73,7 @@ pub plain_grounded : (turns : List Turn) (j : ℕ) → IsGrounded (plain turns j
 plain_grounded turns =
     plain_has IsGrounded grounded_empty grounded_union turns (each_learnt (λ d. IsGrounded (document_atoms d)) document_grounded turns)
 
-learnt_within : (turns : List Turn) (t : Contents) → IsWithin (learnt turns) t → AllLearnt (λ d. IsWithin (document_atoms d) t) turns
+learnt_within : (turns : List Turn) (t : Contents) → IsWithin (learnt_atoms turns) t → AllLearnt (λ d. IsWithin (document_atoms d) t) turns
 learnt_within [] t f = tt
 learnt_within (Learn k d ∷ e) t f = (
   λ q h. f q (members.in_union_left texts_total texts_same _ _ q h),
@@ -85,12 +85,12 @@ learnt_within (Answer k m ∷ e) t f = learnt_within e t f
 learnt_within (Send k ∷ e) t f = learnt_within e t f
 learnt_within (Deliver m k ∷ e) t f = learnt_within e t f
 
-pub plain_learnt : (turns : List Turn) (j : ℕ) → IsWithin (plain turns j) (learnt turns)
+pub plain_learnt : (turns : List Turn) (j : ℕ) → IsWithin (plain turns j) (learnt_atoms turns)
 plain_learnt turns =
-    plain_has (λ s. IsWithin s (learnt turns)) (laws.IsWithin-empty (learnt turns)) (λ s t f g. laws.IsWithin-union texts_total s t _ f g) turns
+    plain_has (λ s. IsWithin s (learnt_atoms turns)) (laws.IsWithin-empty (learnt_atoms turns)) (λ s t f g. laws.IsWithin-union texts_total s t _ f g) turns
     (learnt_within turns _ (laws.IsWithin-refl _))
 
-pub learnt_grows : (t : Turn) (e : List Turn) → IsWithin (learnt e) (learnt (t ∷ e))
+pub learnt_grows : (t : Turn) (e : List Turn) → IsWithin (learnt_atoms e) (learnt_atoms (t ∷ e))
 learnt_grows (Learn k d) e = laws.IsWithin-right texts_total (document_atoms d) _
 learnt_grows (Ask k) e = laws.IsWithin-refl _
 learnt_grows (Answer k m) e = laws.IsWithin-refl _
@@ -208,7 +208,7 @@ module _ (digest : Texts → Text) where
         subst (Kept (Deliver m k ∷ e)) (Ok-same _ _ is)
         (kept_adds (Deliver m k) e w kept k s refl (taken_at e w kept k s (carried e m) (ap (set.union (plain e k)) means)))
 
-    kept_answered : (n : ℕ) (e : List Turn) (w v : World) (j m : ℕ) (x : Message) → NoCollision digest (learnt e) → Kept e w
+    kept_answered : (n : ℕ) (e : List Turn) (w v : World) (j m : ℕ) (x : Message) → NoCollision digest (learnt_atoms e) → Kept e w
         → Means digest e m x → answered digest log sites n w j x ≡ Ok v → Kept (Answer j m ∷ e) v
     kept_answered n e w v j m (Inventory a d) apart kept means is =
         let b = means.1.0 in
@@ -225,13 +225,13 @@ module _ (digest : Texts → Text) where
           ],
         ))
       where
-        within_both : (x : Texts) → Has (set.union (plain e j) means.1.0) x → Has (learnt e) x
+        within_both : (x : Texts) → Has (set.union (plain e j) means.1.0) x → Has (learnt_atoms e) x
         within_both = laws.IsWithin-union texts_total (plain e j) means.1.0 _ (plain_learnt e j) (λ q h. plain_learnt e a q (means.1.2 q h))
     kept_answered n e w v j m (PartFor a p) apart kept means is = cc
     kept_answered n e w v j m (Whole s) apart kept means is = cc
 
-    kept_turn : (n : ℕ) (t : Turn) (e : List Turn) (w v : World) → NoCollision digest (learnt e) → Kept e w
-        → turned digest log sites n w t ≡ Ok v → Kept (t ∷ e) v
+    kept_turn : (n : ℕ) (t : Turn) (e : List Turn) (w v : World) → NoCollision digest (learnt_atoms e) → Kept e w
+        → world_after_turn digest log sites n w t ≡ Ok v → Kept (t ∷ e) v
     kept_turn n (Learn j d) e w v apart kept is =
         let h = cond_ok (is_of_log log d.log) _ _ v (cond_ok (nat_lt j sites) _ _ v is).1 in
         subst (Kept (Learn j d ∷ e)) (Ok-same _ _ h.1)
@@ -252,23 +252,23 @@ module _ (digest : Texts → Text) where
         kept_delivered n e w v m j (w.messages m) kept (kept.mean m r.0 r.1) h.1
 
     next_ok : (turn : ℕ) (t : Turn) (r : Result World RehearseFault) (v : World) → next digest log sites turn t r ≡ Ok v
-        → (w : World) × (r ≡ Ok w) × (turned digest log sites turn w t ≡ Ok v)
+        → (w : World) × (r ≡ Ok w) × (world_after_turn digest log sites turn w t ≡ Ok v)
     next_ok turn t (Ok w) v h = (w, refl, h)
     next_ok turn t (Err f) v h = cc
 
-    pub kept_after : (turns : List Turn) (w : World) → NoCollision digest (learnt turns) → after digest log sites turns ≡ Ok w
+    pub kept_after : (turns : List Turn) (w : World) → NoCollision digest (learnt_atoms turns) → after digest log sites turns ≡ Ok w
         → Kept turns w
     kept_after [] w apart is = subst (Kept []) (Ok-same _ _ is) kept_start
     kept_after (t ∷ e) w apart is =
         let h = next_ok _ t (after digest log sites e) w is in
-        let apart_before : NoCollision digest (learnt e) = λ x y a b. apart x y (learnt_grows t e x a) (learnt_grows t e y b) in
+        let apart_before : NoCollision digest (learnt_atoms e) = λ x y a b. apart x y (learnt_grows t e x a) (learnt_grows t e y b) in
         kept_turn _ t e h.0 w apart_before (kept_after e h.0 apart_before h.1) h.2
 
-    pub sites_are_plain : (turns : List Turn) (w : World) → NoCollision digest (learnt turns) → after digest log sites turns ≡ Ok w
+    pub sites_are_plain : (turns : List Turn) (w : World) → NoCollision digest (learnt_atoms turns) → after digest log sites turns ≡ Ok w
         → (j : ℕ) → w.sites j ≡ plain turns j
     sites_are_plain turns w apart is = (kept_after turns w apart is).sites_are
 
-    pub messages_mean : (turns : List Turn) (w : World) → NoCollision digest (learnt turns) → after digest log sites turns ≡ Ok w
+    pub messages_mean : (turns : List Turn) (w : World) → NoCollision digest (learnt_atoms turns) → after digest log sites turns ≡ Ok w
         → (m : ℕ) → 0 < m → m ≤ w.made → Means digest turns m (w.messages m)
     messages_mean turns w apart is = (kept_after turns w apart is).mean
 
@@ -347,7 +347,7 @@ module _ (digest : Texts → Text) where
     within_answered n e w v j m (PartFor a p) kept is = cc
     within_answered n e w v j m (Whole s) kept is = cc
 
-    within_turn : (n : ℕ) (t : Turn) (e : List Turn) (w v : World) → KeptWithin e w → turned digest log sites n w t ≡ Ok v
+    within_turn : (n : ℕ) (t : Turn) (e : List Turn) (w v : World) → KeptWithin e w → world_after_turn digest log sites n w t ≡ Ok v
         → KeptWithin (t ∷ e) v
     within_turn n (Learn j d) e w v kept is =
         let h = cond_ok (is_of_log log d.log) _ _ v (cond_ok (nat_lt j sites) _ _ v is).1 in

@@ -6,7 +6,7 @@ use Rattle.std.specs.Prelude.{Result, Ok, Err, nat_eq}
 use Rattle.cadf_join.specs.Sets as sets
 use Rattle.cadf_join.specs.Contents.{Text, Contents}
 use Rattle.cadf_rehearsal.specs.Schedule.{World, Message, with_at, adds, makes, is_message}
-use Rattle.cadf_set.specs.Replica.{Held}
+use Rattle.cadf_set.specs.Replica.{ReplicaModel}
 use Rattle.std.proofs.lemmas.List.{same_lists}
 use Rattle.std.proofs.lemmas.List.FromFn.{get_or-map-range_with_len, length-map-range_with_len}
 use Rattle.cadf_rehearsal.specs.Federation.{at_or, at_number, held_at, log_at, left_by}
@@ -115,14 +115,14 @@ get_at f d (x ∷ xs) zero e h = refl
 get_at f d (x ∷ xs) (suc k) e h = get_at f d xs k e (omega arith)
 
 -- the replicas of one log that hold what a world leaves
-pub left_is : (log : Text) (xs : List Held) (w : World) (count : ℕ) → length xs ≡ count → ((j : ℕ) → at_or log (map log_at xs) j ≡ log)
+pub left_is : (log : Text) (xs : List ReplicaModel) (w : World) (count : ℕ) → length xs ≡ count → ((j : ℕ) → at_or log (map log_at xs) j ≡ log)
     → ((j : ℕ) → w.sites j ≡ at_or sets.empty (map held_at xs) j) → xs ≡ left_by log count w
 left_is log xs w count len logs sites = same_lists xs (left_by log count w) (len ∙ sym (length-map-range_with_len site 0 count)) each
   where
-    site : ℕ → Held
+    site : ℕ → ReplicaModel
     site j = record { log = log; atoms = w.sites j }
 
-    each : (k : ℕ) (d : Held) → k < length xs → get_or xs k d ≡ get_or (left_by log count w) k d
+    each : (k : ℕ) (d : ReplicaModel) → k < length xs → get_or xs k d ≡ get_or (left_by log count w) k d
     each k d h =
         let in_range : k < count = omega arith in
         (λ i. record { log = (sym (get_at log_at log xs k d h) ∙ logs k) i; atoms = (sym (get_at held_at sets.empty xs k d h) ∙ sym (sites k)) i })

@@ -6,7 +6,7 @@ use Rattle.std.specs.Vec.{with_item}
 use Rattle.std.proofs.lemmas.List.{length-set}
 use Rattle.cadf_join.specs.Sets as sets
 use Rattle.cadf_join.specs.Contents.{Text, Contents}
-use Rattle.cadf_set.specs.Replica.{Held}
+use Rattle.cadf_set.specs.Replica.{ReplicaModel}
 use Rattle.cadf_set.specs.Refusals.{IsOfLog}
 use Rattle.std.specs.Cmp.Lexicographic.{bytes_decides}
 use Rattle.cadf_rehearsal.specs.Schedule as schedule
@@ -16,7 +16,7 @@ use Rattle.cadf_rehearsal.specs.declared.federation.Message.{Message}
 use Rattle.cadf_rehearsal.specs.declared.fault.RehearseFault.{RehearseFault}
 use Rattle.cadf_rehearsal.specs.declared.federation.Message.TheVariants.{Asked, PartFor, Whole}
 use Rattle.cadf_line.specs.Digest.{atom_digest}
-use Rattle.cadf_set.specs.Inventory.{Noted}
+use Rattle.cadf_set.specs.Inventory.{InventoryModel}
 use Rattle.cadf_rehearsal.specs.declared.fault.RehearseFault.TheVariants.{NoSite, NoMessage, NotInventory}
 use Rattle.cadf_rehearsal.proofs.Seen.{seen_adds, at_or_read, at_number_read, all_set, all_push, made_is}
 
@@ -24,7 +24,7 @@ abbrev pub none : schedule.Message
 none = schedule.Whole sets.empty
 
 -- the federation with what one of its sites has now
-abbrev pub with_site : Federation → ℕ → Held → Federation
+abbrev pub with_site : Federation → ℕ → ReplicaModel → Federation
 with_site f k h = record { sites = with_item f.sites k h; messages = f.messages }
 
 -- ---- the site and the message of a turn
@@ -44,7 +44,7 @@ at_message f m turn x F v pos le at is =
 
 -- ---- one log
 
-pub site_log : (log : Text) (f : Federation) (k : ℕ) (x : Held) → IsOneLog log f → k < length f.sites.items → x ≡ get_or f.sites.items k x → x.log ≡ log
+pub site_log : (log : Text) (f : Federation) (k : ℕ) (x : ReplicaModel) → IsOneLog log f → k < length f.sites.items → x ≡ get_or f.sites.items k x → x.log ≡ log
 site_log log f k x one h at = sym (at_or_read log_at log f.sites.items k x h at) ∙ one.sites k
 
 pub message_log : (log : Text) (f : Federation) (m : ℕ) (x : Message) → IsOneLog log f → 0 < m → m ≤ length f.messages.items
@@ -53,11 +53,11 @@ message_log log f m x one pos le at = sym (at_number_read log_of_message log f.m
 
 -- ---- a site takes what s is
 
-pub site_takes : (f : Federation) (k : ℕ) (old new : Held) (s : Contents) → k < length f.sites.items → old ≡ get_or f.sites.items k old
+pub site_takes : (f : Federation) (k : ℕ) (old new : ReplicaModel) (s : Contents) → k < length f.sites.items → old ≡ get_or f.sites.items k old
     → new.atoms ≡ sets.union old.atoms s → schedule.adds (world_of f) k s ≡ world_of (with_site f k new)
 site_takes f k old new s h at is = seen_adds held_at message_of none f.sites.items f.messages.items k old new s h at is
 
-pub site_later : (f : Federation) (k : ℕ) (new : Held) → k < length f.sites.items → ((log : Text) → IsOneLog log f → new.log ≡ log)
+pub site_later : (f : Federation) (k : ℕ) (new : ReplicaModel) → k < length f.sites.items → ((log : Text) → IsOneLog log f → new.log ≡ log)
     → IsLater f (with_site f k new)
 site_later f k new h same = record {
   count = length-set f.sites.items k new;
@@ -103,10 +103,10 @@ all_named log (suc n) zero = refl
 all_named log (suc n) (suc j) = all_named log n j
 
 -- a federation whose sites are such, and which has no message
-abbrev pub fresh : Text → ℕ → List Held
+abbrev pub fresh : Text → ℕ → List ReplicaModel
 fresh log n = replicate n (record { log = log; atoms = sets.empty })
 
-pub starts : (log : Text) (n : ℕ) (xs : List Held) (ms : List Message) → xs ≡ fresh log n → ms ≡ []
+pub starts : (log : Text) (n : ℕ) (xs : List ReplicaModel) (ms : List Message) → xs ≡ fresh log n → ms ≡ []
     → ◌≡◌ {A = schedule.World}
     (record { sites = at_or sets.empty (map held_at xs); made = length ms; messages = at_number none (map message_of ms) }) schedule.start
 starts log n xs ms sites messages =
@@ -129,7 +129,7 @@ begins log n f sites messages = record {
 
 -- ---- an answer to what is no inventory
 
-pub not_answered : (log : Text) (f : Federation) (turn j : ℕ) (x : Message) → ((a : ℕ) (i : Noted) → x ≡ Asked a i → ⊥)
+pub not_answered : (log : Text) (f : Federation) (turn j : ℕ) (x : Message) → ((a : ℕ) (i : InventoryModel) → x ≡ Asked a i → ⊥)
     → schedule.answered atom_digest log (length f.sites.items) turn (world_of f) j (message_of x) ≡ Err (NotInventory turn)
 not_answered log f turn j (Asked a i) other = absurd (other a i refl)
 not_answered log f turn j (PartFor a h) other = refl

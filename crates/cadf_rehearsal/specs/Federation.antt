@@ -9,7 +9,7 @@ use Rattle.std.specs.Prelude.{◌≡◌, ℕ, zero, suc, ◌∷◌, List, [], ma
 use Rattle.std.specs.List.{range_with_len}
 use Rattle.cadf_join.specs.Sets as set
 use Rattle.cadf_join.specs.Contents.{Text, Contents}
-use Rattle.cadf_set.specs.Replica.{Held}
+use Rattle.cadf_set.specs.Replica.{ReplicaModel}
 use Rattle.cadf_line.specs.Digest.{atom_digest}
 use Rattle.cadf_rehearsal.specs.Schedule as schedule
 use Rattle.cadf_rehearsal.specs.declared.turn.Turn.{Turn}
@@ -30,10 +30,10 @@ abbrev pub at_number : {A : Type 0} → A → List A → ℕ → A
 at_number d xs zero = d
 at_number d xs (suc k) = at_or d xs k
 
-abbrev pub held_at : Held → Contents
+abbrev pub held_at : ReplicaModel → Contents
 held_at h = h.atoms
 
-abbrev pub log_at : Held → Text
+abbrev pub log_at : ReplicaModel → Text
 log_at h = h.log
 
 abbrev pub message_of : Message → schedule.Message
@@ -78,5 +78,5 @@ TurnsTo old turn t new = (log : Text) → IsOneLog log old → turned_from log o
 abbrev pub IsTurnFault : Federation → ℕ → Turn → RehearseFault → Type 0
 IsTurnFault old turn t fault = (log : Text) → IsOneLog log old → IsFaultDue fault (turned_from log old turn t)
 
-abbrev pub left_by : Text → ℕ → schedule.World → List Held
+abbrev pub left_by : Text → ℕ → schedule.World → List ReplicaModel
 left_by log count w = map (λ j. record { log = log; atoms = w.sites j }) (range_with_len 0 count)

@@ -2,7 +2,7 @@
 --     Message, World         what was sent, and where all stands
 --     after turns            the world after the turns, or the first fault
 --     plain turns j          what site j holds if each answer and each send carried the sender's whole set
---     learnt turns           the atoms of all documents
+--     learnt_atoms turns           the atoms of all documents
 --     Means turns m x        what the message of that number is worth, where no two atoms share a digest
 use Rattle.std.specs.Prelude.{◌≡◌, ◌⊎◌, ℕ, suc, ◌+◌, Bool, true, cond, ◌&&◌, List, [], ◌∷◌, length, Option, Some, None, Result, Ok, Err, nat_eq, nat_lt, nat_le}
 use Rattle.cadf_join.specs.Sets as set
@@ -71,15 +71,15 @@ module _ (digest : Texts → Text) (log : Text) (sites : ℕ) where
   at_message turn w m r = cond (is_message w m) r (Err (NoMessage turn))
 
   -- the turn of that number
-  abbrev pub turned : ℕ → World → Turn → Result World RehearseFault
-  turned turn w (Learn j d) = at_site turn j (cond (is_of_log log d.log) (Ok (adds w j (document_atoms d))) (Err (OtherLog turn)))
-  turned turn w (Ask j) = at_site turn j (Ok (makes w (Inventory j (digests_of digest (w.sites j)))))
-  turned turn w (Answer j m) = at_site turn j (at_message turn w m (answered turn w j (w.messages m)))
-  turned turn w (Send j) = at_site turn j (Ok (makes w (Whole (w.sites j))))
-  turned turn w (Deliver m j) = at_site turn j (at_message turn w m (delivered turn w j (w.messages m)))
+  abbrev pub world_after_turn : ℕ → World → Turn → Result World RehearseFault
+  world_after_turn turn w (Learn j d) = at_site turn j (cond (is_of_log log d.log) (Ok (adds w j (document_atoms d))) (Err (OtherLog turn)))
+  world_after_turn turn w (Ask j) = at_site turn j (Ok (makes w (Inventory j (digests_of digest (w.sites j)))))
+  world_after_turn turn w (Answer j m) = at_site turn j (at_message turn w m (answered turn w j (w.messages m)))
+  world_after_turn turn w (Send j) = at_site turn j (Ok (makes w (Whole (w.sites j))))
+  world_after_turn turn w (Deliver m j) = at_site turn j (at_message turn w m (delivered turn w j (w.messages m)))
 
   abbrev pub next : ℕ → Turn → Result World RehearseFault → Result World RehearseFault
-  next turn t (Ok w) = turned turn w t
+  next turn t (Ok w) = world_after_turn turn w t
   next turn t (Err f) = Err f
 
   abbrev pub after : List Turn → Result World RehearseFault
@@ -113,13 +113,13 @@ abbrev mutual
   carried (Send k ∷ earlier) m = cond (nat_eq m (suc (made_by earlier))) (plain earlier k) (carried earlier m)
   carried (Deliver i k ∷ earlier) m = carried earlier m
 
-abbrev pub learnt : List Turn → Contents
-learnt [] = set.empty
-learnt (Learn k d ∷ earlier) = set.union (document_atoms d) (learnt earlier)
-learnt (Ask k ∷ earlier) = learnt earlier
-learnt (Answer k m ∷ earlier) = learnt earlier
-learnt (Send k ∷ earlier) = learnt earlier
-learnt (Deliver m k ∷ earlier) = learnt earlier
+abbrev pub learnt_atoms : List Turn → Contents
+learnt_atoms [] = set.empty
+learnt_atoms (Learn k d ∷ earlier) = set.union (document_atoms d) (learnt_atoms earlier)
+learnt_atoms (Ask k ∷ earlier) = learnt_atoms earlier
+learnt_atoms (Answer k m ∷ earlier) = learnt_atoms earlier
+learnt_atoms (Send k ∷ earlier) = learnt_atoms earlier
+learnt_atoms (Deliver m k ∷ earlier) = learnt_atoms earlier
 
 -- An inventory notes a set that its asker holds from then on. A part has nothing that its sender didn't hold, and
 -- all of it that its asker doesn't hold from then on. A whole copy is what its sender held.

@@ -52,7 +52,7 @@ impl Federation {
     {
         let mut sites = Vec::new(alloc);
         for _ in 0..count {
-            let site = Replica::new(alloc, log.copied(alloc)?);
+            let site = Replica::new(alloc, log.copy(alloc)?);
             if sites.push(site).is_err() {
                 return Err(RehearseFault::Memory);
             }

@@ -4,21 +4,21 @@ ghost use Rattle.cadf_join.specs.Sets as set;
 ghost use Rattle.cadf_join.specs.Contents.{Text, Texts, Contents, IsWithin};
 ghost use Rattle.cadf_line.specs.Missing.{NoCollision, missing_by, digests_of};
 ghost use Rattle.cadf_rehearsal.specs.declared.turn.Turn.{Turn};
-ghost use Rattle.cadf_rehearsal.specs.Schedule.{World, after, plain, learnt, Means};
+ghost use Rattle.cadf_rehearsal.specs.Schedule.{World, after, plain, learnt_atoms, Means};
 
 /// A part with the inventory that it answers covers what its sender held, and what that inventory notes its asker holds from then on.
 pub fn answers_cover_their_senders()
     ensures part { (digest : Texts → Text) (sender noted : Contents) → NoCollision digest (set.union sender noted)
         → IsWithin sender (set.union noted (missing_by digest sender (digests_of digest noted))) }
     ensures messages { (digest : Texts → Text) (log : Text) (sites : ℕ) (turns : List Turn) (world : World)
-        → NoCollision digest (learnt turns) → after digest log sites turns ≡ Ok world
+        → NoCollision digest (learnt_atoms turns) → after digest log sites turns ≡ Ok world
         → (m : ℕ) → 0 < m → m ≤ world.made → Means digest turns m (world.messages m) }
 {}
 
 /// Whatever is stale, lost, repeated or reordered: a site holds what it would if each answer carried the sender's whole set.
 pub fn schedules_are_plain()
     ensures exact { (digest : Texts → Text) (log : Text) (sites : ℕ) (turns : List Turn) (world : World)
-        → NoCollision digest (learnt turns) → after digest log sites turns ≡ Ok world
+        → NoCollision digest (learnt_atoms turns) → after digest log sites turns ≡ Ok world
         → (j : ℕ) → world.sites j ≡ plain turns j }
     // Whatever shares a digest, it never holds more.
     ensures within { (digest : Texts → Text) (log : Text) (sites : ℕ) (turns : List Turn) (world : World)

@@ -3,9 +3,9 @@ use Rattle.std.proofs.Common.{◌≡◌, ℕ, Bool, true, false, cond, List, Opt
 use Rattle.cadf_join.specs.Sets as set
 use Rattle.cadf_join.specs.Contents.{Text, Contents, IsWithin}
 use Rattle.cadf_line.specs.Atoms.{IsGrounded}
-use Rattle.cadf_atom.specs.AtomSets.{AreKept}
+use Rattle.cadf_atom.specs.AtomSets.{IsReplicaSet}
 use Rattle.cadf_line.specs.Missing.{Digests, digests_of, unknown, missing_by, NoCollision}
-use Rattle.cadf_set.specs.Replica.{Held}
+use Rattle.cadf_set.specs.Replica.{ReplicaModel}
 use Rattle.cadf_line.proofs.Missing.{with_carriers_grounded, with_carriers_least, unknown_has, missing_by_is}
 use Rattle.cadf_file.specs.InventoryFile.{IsInventory}
 use Rattle.cadf_file.proofs.InventoryVerdictLemmas.{inventory-file-tells}
@@ -17,9 +17,9 @@ use Rattle.cadf_tool.specs.Told.{log_named, atoms_loaded, IsHeld}
 use Rattle.cadf_tool.specs.Join.{is_other}
 use Rattle.cadf_tool.specs.Missing.{under_one_log}
 use Rattle.cadf_line.specs.Digest.{atom_digest}
-use Rattle.cadf_set.specs.Inventory.{Noted, AreDigests}
-use Rattle.cadf_tool.specs.MissingBy.{noted_under, noted_of, missing_by_of}
-use Rattle.cadf_tool.specs.Exchange.{IsReadOf, IsNotedOf}
+use Rattle.cadf_set.specs.Inventory.{InventoryModel, AreDigests}
+use Rattle.cadf_tool.specs.MissingBy.{inventory_model_under, inventory_model_of, missing_by_of}
+use Rattle.cadf_tool.specs.Exchange.{IsReadOf, IsInventoryModelOf}
 use Rattle.cadf_tool.proofs.DigestBytes.{are_digests}
 use Rattle.cadf_tool.proofs.KeptInputs.{input_kept, input_grounded}
 use Rattle.cadf_tool.proofs.HeldReplicas.{held_replica}
@@ -27,30 +27,30 @@ use Rattle.cadf_tool.proofs.InputUnions.{IsPart}
 
 -- ---- the inventory of an input
 
-pub record Notes (loaded : Loaded) (noted : Noted) : Type 0 where
+pub record Notes (loaded : Loaded) (noted : InventoryModel) : Type 0 where
   pub log : log_named loaded ≡ Some noted.log
   pub digests : noted.digests ≡ digests_of atom_digest (atoms_loaded loaded)
 
-abbrev noted_as : Text → Digests → Noted
+abbrev noted_as : Text → Digests → InventoryModel
 noted_as log digests = record { log = log; digests = digests }
 
-noted_same : (log : Text) (digests : Digests) (n : Noted) → ◌≡◌ {A = Result Noted ToolFault} (Ok (noted_as log digests)) (Ok n)
+noted_same : (log : Text) (digests : Digests) (n : InventoryModel) → ◌≡◌ {A = Result InventoryModel ToolFault} (Ok (noted_as log digests)) (Ok n)
     → (log ≡ n.log) × (n.digests ≡ digests)
 noted_same log digests n e =
     let same : noted_as log digests ≡ n = cc in
-    (ap (λ (k : Noted). k.log) same, sym (ap (λ (k : Noted). k.digests) same))
+    (ap (λ (k : InventoryModel). k.log) same, sym (ap (λ (k : InventoryModel). k.digests) same))
 
-pub notes : (loaded : Loaded) (noted : Noted) → noted_of loaded ≡ Ok noted → Notes loaded noted
+pub notes : (loaded : Loaded) (noted : InventoryModel) → inventory_model_of loaded ≡ Ok noted → Notes loaded noted
 notes loaded noted e = by (log_named loaded) refl e
   where
-    by : (o : Option Text) → log_named loaded ≡ o → noted_under o (digests_of atom_digest (atoms_loaded loaded)) ≡ Ok noted → Notes loaded noted
+    by : (o : Option Text) → log_named loaded ≡ o → inventory_model_under o (digests_of atom_digest (atoms_loaded loaded)) ≡ Ok noted → Notes loaded noted
     by None is k = absurd (cc)
     by (Some name) is k =
         let same = noted_same name (digests_of atom_digest (atoms_loaded loaded)) noted k in
         record { log = is ∙ ap Some same.0; digests = same.1 }
 
 -- what was noted of an input is an inventory
-notes_inventory : (bytes : List ℕ) (loaded : Loaded) (noted : Noted) → IsInput bytes loaded → Notes loaded noted → IsInventory noted
+notes_inventory : (bytes : List ℕ) (loaded : Loaded) (noted : InventoryModel) → IsInput bytes loaded → Notes loaded noted → IsInventory noted
 notes_inventory bytes loaded noted input n =
     let held : IsHeld bytes (record { log = noted.log; atoms = atoms_loaded loaded }) = record {
       loaded = loaded;
@@ -64,7 +64,7 @@ notes_inventory bytes loaded noted input n =
     }
 
 -- what was read of an inventory's file is what was noted of the input
-pub noted_by : (to : List ℕ → Type 0) (noted : Noted) → IsNotedOf to noted → (other : Loaded) × IsReadOf to other × Notes other noted
+pub noted_by : (to : List ℕ → Type 0) (noted : InventoryModel) → IsInventoryModelOf to noted → (other : Loaded) × IsReadOf to other × Notes other noted
 noted_by to noted (bytes, (other, written, read, made, is), input) =
     let n : Notes other written = notes other written made in
     let same : written ≡ noted = inventory-file-tells written noted (notes_inventory read.0 other written read.2 n) input.inventory (sym is ∙ input.is) in
@@ -72,19 +72,19 @@ noted_by to noted (bytes, (other, written, read, made, is), input) =
 
 -- ---- the part that an inventory doesn't note
 
-pub record IsPartBy (from : Loaded) (noted : Noted) (part : Held) : Type 0 where
+pub record IsPartBy (from : Loaded) (noted : InventoryModel) (part : ReplicaModel) : Type 0 where
   pub log : log_named from ≡ Some part.log
   pub atoms : part.atoms ≡ missing_by atom_digest (atoms_loaded from) noted.digests
 
-abbrev held_under : Text → Contents → Held
+abbrev held_under : Text → Contents → ReplicaModel
 held_under log atoms = record { log = log; atoms = atoms }
 
-held_same : (log : Text) (atoms : Contents) (h : Held) → ◌≡◌ {A = Result Held ToolFault} (Ok (held_under log atoms)) (Ok h) → (log ≡ h.log) × (h.atoms ≡ atoms)
+held_same : (log : Text) (atoms : Contents) (h : ReplicaModel) → ◌≡◌ {A = Result ReplicaModel ToolFault} (Ok (held_under log atoms)) (Ok h) → (log ≡ h.log) × (h.atoms ≡ atoms)
 held_same log atoms h e =
     let same : held_under log atoms ≡ h = cc in
-    (ap (λ (k : Held). k.log) same, sym (ap (λ (k : Held). k.atoms) same))
+    (ap (λ (k : ReplicaModel). k.log) same, sym (ap (λ (k : ReplicaModel). k.atoms) same))
 
-pub part_by_is : (from : Loaded) (noted : Noted) (part : Held) → missing_by_of from noted ≡ Ok part → IsPartBy from noted part
+pub part_by_is : (from : Loaded) (noted : InventoryModel) (part : ReplicaModel) → missing_by_of from noted ≡ Ok part → IsPartBy from noted part
 part_by_is from noted part e = by (log_named from) refl e
   where
     atoms : Contents
@@ -99,20 +99,20 @@ part_by_is from noted part e = by (log_named from) refl e
     by None is k = absurd (cc)
     by (Some name) is k = one_log name (is_other name (Some noted.log)) is k
 
-pub part_by_within : (bytes : List ℕ) (from : Loaded) (noted : Noted) (part : Held) → IsInput bytes from → IsPartBy from noted part
+pub part_by_within : (bytes : List ℕ) (from : Loaded) (noted : InventoryModel) (part : ReplicaModel) → IsInput bytes from → IsPartBy from noted part
     → IsWithin part.atoms (atoms_loaded from)
 part_by_within bytes from noted part is p =
     subst (λ s. IsWithin s (atoms_loaded from)) (sym p.atoms)
     (with_carriers_least _ (atoms_loaded from) (input_grounded bytes from is, unknown_has atom_digest (atoms_loaded from) noted.digests))
 
-pub part_by_kept : (bytes : List ℕ) (from : Loaded) (noted : Noted) (part : Held) → IsInput bytes from → IsPartBy from noted part → AreKept part.atoms
+pub part_by_kept : (bytes : List ℕ) (from : Loaded) (noted : InventoryModel) (part : ReplicaModel) → IsInput bytes from → IsPartBy from noted part → IsReplicaSet part.atoms
 part_by_kept bytes from noted part is p = record {
   grounded = subst IsGrounded (sym p.atoms) (with_carriers_grounded (unknown atom_digest (atoms_loaded from) noted.digests));
   are_atoms = λ q h. (input_kept bytes from is).are_atoms q (part_by_within bytes from noted part is p q h);
 }
 
 -- where no two different atoms share a digest, it is the missing part
-pub part_by_part : (from to : Loaded) (noted : Noted) (part : Held) → NoCollision atom_digest (set.union (atoms_loaded from) (atoms_loaded to)) → Notes to noted
+pub part_by_part : (from to : Loaded) (noted : InventoryModel) (part : ReplicaModel) → NoCollision atom_digest (set.union (atoms_loaded from) (atoms_loaded to)) → Notes to noted
     → IsPartBy from noted part → IsPart from to part
 part_by_part from to noted part apart i p = record {
   log = p.log;

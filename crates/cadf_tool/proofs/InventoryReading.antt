@@ -2,25 +2,25 @@
 use Rattle.std.proofs.Common.{◌≡◌, ◌≢◌, ℕ, Bool, true, false, List, Option, Some, None, Result, Ok, Err, refl, ap, ◌∙◌, subst, inl, inr}
 use Rattle.std.specs.Io.KnownBytes.{IsAtEnd}
 use Rattle.cadf_json.specs.Streams.{counted}
-use Rattle.cadf_set.specs.Inventory.{Noted}
+use Rattle.cadf_set.specs.Inventory.{InventoryModel}
 use Rattle.cadf_set.specs.declared.inventory.Inventory.{Inventory}
-use Rattle.cadf_frame.specs.declared.fault.FileFault.{FileFault}
-use Rattle.cadf_frame.specs.declared.fault.FileFault.TheVariants.{Version, LogLine, Line, Digest, Truncated, Trailing, TooLarge, ReadFault, Memory}
-use Rattle.cadf_frame.proofs.ReadingLemmas as reading
+use Rattle.cadf_linefile.specs.declared.fault.FileFault.{FileFault}
+use Rattle.cadf_linefile.specs.declared.fault.FileFault.TheVariants.{Version, LogLine, Line, Digest, Truncated, Trailing, TooLarge, ReadFault, Memory}
+use Rattle.cadf_linefile.proofs.ReadingLemmas as reading
 use Rattle.cadf_file.specs.InventoryReads.{ReadsInventory}
-use Rattle.cadf_file.specs.InventoryVerdict.{inventory_form, noted_or_fault, inventory_decided, inventory_verdict}
+use Rattle.cadf_file.specs.InventoryVerdict.{inventory_form, inventory_model_or_fault, inventory_decided, inventory_verdict}
 use Rattle.cadf_file.proofs.InventoryVerdictLemmas.{accepts-inventories}
-use Rattle.cadf_frame.specs.declared.file_feed.TheConstants.{FILE_LIMIT}
+use Rattle.cadf_linefile.specs.declared.file_feed.TheConstants.{FILE_LIMIT}
 use Rattle.cadf_tool.specs.InputFault.{of_file}
 use Rattle.cadf_tool.specs.Faults.{of_load}
-use Rattle.cadf_tool.specs.InventoryInput.{RefusesInventory, as_inventory}
-use Rattle.cadf_tool.specs.Run.{Use, numbered, IsReadAs, IsUnread}
+use Rattle.cadf_tool.specs.InventoryInput.{RefusesInventory, inventory_spec}
+use Rattle.cadf_tool.specs.Run.{SourceTransition, numbered, IsReadAs, IsUnread}
 
 -- an answer
-abbrev answer_of : Result Noted FileFault → Result Inventory FileFault
+abbrev answer_of : Result InventoryModel FileFault → Result Inventory FileFault
 answer_of r = r
 
-no_fault : (n : Noted) (f : FileFault) → answer_of (Ok n) ≡ Err f → ⊥
+no_fault : (n : InventoryModel) (f : FileFault) → answer_of (Ok n) ≡ Err f → ⊥
 no_fault n f e = cc
 
 same_fault : (e f : FileFault) → answer_of (Err e) ≡ Err f → e ≡ f
@@ -28,15 +28,15 @@ same_fault e f is = cc
 
 refused_verdict : (limit : ℕ) (failed : Bool) (bytes : List ℕ) (f : FileFault) → inventory_decided limit bytes ≡ Some f
     → inventory_verdict limit failed bytes ≡ Err f
-refused_verdict limit failed bytes f d = ap noted_or_fault (reading.refused_verdict inventory_form limit failed bytes f d)
+refused_verdict limit failed bytes f d = ap inventory_model_or_fault (reading.refused_verdict inventory_form limit failed bytes f d)
 
-module _ (t : Use) where
-  abbrev Reads : Result Noted FileFault → Type 0
+module _ (t : SourceTransition) where
+  abbrev Reads : Result InventoryModel FileFault → Type 0
   Reads r = ReadsInventory FILE_LIMIT t.old.left t.new.left t.old.failures t.new.failures r
 
   -- ---- it is an inventory
 
-  module _ (n : Noted) (r : Reads (Ok n)) where
+  module _ (n : InventoryModel) (r : Reads (Ok n)) where
     unfailed : (b : Bool) → r.failed ≡ b → r.failed ≡ false
     unfailed false is = is
     unfailed true is = elim (r.failure is) [ inl e ↦ absurd (no_fault n ReadFault e) | inr e ↦ absurd (no_fault n Trailing e) ]
@@ -45,10 +45,10 @@ module _ (t : Use) where
     undecided None is = is
     undecided (Some f) is = absurd (clash (inventory_verdict FILE_LIMIT r.failed r.bytes) r.verdict (refused_verdict FILE_LIMIT r.failed r.bytes f is))
       where
-        clash : (v : Result Noted FileFault) → v ≡ Ok n → v ≡ Err f → ⊥
+        clash : (v : Result InventoryModel FileFault) → v ≡ Ok n → v ≡ Err f → ⊥
         clash v a b = cc
 
-    pub inventory_read : IsReadAs as_inventory t n
+    pub inventory_read : IsReadAs inventory_spec t n
     inventory_read =
         let whole : r.failed ≡ false = unfailed r.failed refl in
         let at_end : IsAtEnd t.new.left = elim (r.end whole (undecided (inventory_decided FILE_LIMIT r.bytes) refl)) [
@@ -82,7 +82,7 @@ module _ (t : Use) where
       trailing : answer_of (Err Memory) ≡ Err Trailing → ⊥
       trailing e = cc
 
-  pub inventory_unread : (number : ℕ) (f : FileFault) → Reads (Err f) → IsUnread (numbered number as_inventory t) (of_load number (of_file f))
+  pub inventory_unread : (number : ℕ) (f : FileFault) → Reads (Err f) → IsUnread (numbered number inventory_spec t) (of_load number (of_file f))
   inventory_unread number Version r = (refl, (refl, (Version, (λ e. cc), refl, refuses Version (λ e. cc) r r.verdict)))
   inventory_unread number LogLine r = (refl, (refl, (LogLine, (λ e. cc), refl, refuses LogLine (λ e. cc) r r.verdict)))
   inventory_unread number (Line n cause) r = (refl, (refl, (Line n cause, (λ e. cc), refl, refuses (Line n cause) (λ e. cc) r r.verdict)))

@@ -5,22 +5,34 @@ use Rattle.std.proofs.KnownBytes.{Consumes-whole}
 use Rattle.cadf_json.specs.declared.stream.Source.{Ghosts as Source}
 use Rattle.cadf_json.specs.declared.stream.Sink.{Ghosts as Sink}
 use Rattle.cadf_join.specs.Contents.{Text, Contents}
-use Rattle.cadf_set.specs.Inventory.{Noted}
-use Rattle.cadf_set.specs.Replica.{Held}
+use Rattle.cadf_set.specs.Inventory.{InventoryModel}
+use Rattle.cadf_set.specs.Replica.{ReplicaModel}
 use Rattle.cadf_file.specs.InventoryFile.{inventory_file}
 use Rattle.cadf_tool.specs.WrittenFile.{file}
-use Rattle.cadf_frame.specs.declared.file_feed.TheConstants.{FILE_LIMIT}
+use Rattle.cadf_linefile.specs.declared.file_feed.TheConstants.{FILE_LIMIT}
 use Rattle.cadf_tool.specs.declared.fault.ToolFault.{ToolFault}
 use Rattle.cadf_tool.specs.Told.{log_named, atoms_loaded, under_log, held_of}
-use Rattle.cadf_tool.specs.Inputs.{Seen, seen}
-use Rattle.cadf_tool.specs.Run.{used, Sources, one, two, all, as_input, IsReadAs, IsDueOf, IsAnswer, IsRun}
-use Rattle.cadf_tool.specs.InventoryInput.{as_inventory}
+use Rattle.cadf_tool.specs.Inputs.{SourceState, source_state}
+use Rattle.cadf_tool.specs.Run.{transition_of, Sources, one, two, all, input_spec, IsReadAs, IsExpectedOf, IsAnswer, IsRun}
+use Rattle.cadf_tool.specs.InventoryInput.{inventory_spec}
 use Rattle.cadf_tool.specs.Join.{join_of}
 use Rattle.cadf_tool.specs.Missing.{part_of}
-use Rattle.cadf_tool.specs.MissingBy.{noted_of, part_by, IsInventoryInput}
+use Rattle.cadf_tool.specs.MissingBy.{inventory_model_of, part_by, IsInventoryInput}
 use Rattle.cadf_tool.specs.Rule.{ruling_on, ruling_for, ruled_of}
 use Rattle.cadf_tool.specs.TwoTexts.{IsTextOf}
-use Rattle.cadf_tool.specs.Exchange.{Making, Joined, Ruled, Operands, IsMade, IsPartOf, IsInventoryOf, IsNotedOf, IsPartByOf, GivesFile, AreSources}
+use Rattle.cadf_tool.specs.Exchange.{
+  Derivation,
+  Joined,
+  Ruled,
+  Operands,
+  IsDerived,
+  IsPartOf,
+  IsInventoryOf,
+  IsInventoryModelOf,
+  IsPartByOf,
+  GivesFile,
+  AreSources,
+}
 use Rattle.cadf_tool.proofs.RulingAdded.{ruled_is}
 use Rattle.cadf_tool.proofs.ExchangeLaws.{read_of, are_read, written_behind}
 
@@ -35,12 +47,12 @@ module _ {A M W T : Type 0} (sources : Sources A) (work : A → Result M ToolFau
   abbrev pub HasRun : Type 0
   HasRun = (a : A) × (made : M) × sources.are a × (work a ≡ Ok made) × Appends (sink.written old) (sink.written new) (tell made)
 
-  run_by : (due : Result M ToolFault) → IsDueOf sources work due → IsAnswer tell sink old new due (Ok t) → HasRun
+  run_by : (expected : Result M ToolFault) → IsExpectedOf sources work expected → IsAnswer tell sink old new expected (Ok t) → HasRun
   run_by (Ok made) (a, are, worked) answer = (a, made, are, worked, answer.whole)
   run_by (Err fault) first answer = absurd (never fault answer.0)
 
   pub run_ok : IsRun sources work tell sink old new (Ok t) → HasRun
-  run_ok run = run_by run.due run.first.is run.answer
+  run_ok run = run_by run.expected run.first.is run.answer
 
 pub text_behind : {W : Type 0} (sink : Sink W) (old new : W) (before bytes : List ℕ) → sink.written old ≡ Some before
     → Appends (sink.written old) (sink.written new) bytes → sink.written new ≡ Some (before ++ bytes)
@@ -51,64 +63,64 @@ text_behind sink old new before bytes begun w =
 
 module _ {S W T : Type 0} (source : Source S) (sink : Sink W) (old new : W) (t : T) (before : List ℕ)
     (begun : sink.written old ≡ Some before) where
-  pub join_makes : (log : Option Text) (operands : Operands) (inputs after : List S) → AreSources operands (map (seen source) inputs)
+  pub join_makes : (log : Option Text) (operands : Operands) (inputs after : List S) → AreSources operands (map (source_state source) inputs)
       → IsRun (all source inputs after) (join_of log) file sink old new (Ok t)
-      → (bytes : List ℕ) × (sink.written new ≡ Some (before ++ bytes)) × IsMade (Joined log operands) bytes
+      → (bytes : List ℕ) × (sink.written new ≡ Some (before ++ bytes)) × IsDerived (Joined log operands) bytes
   join_makes log operands inputs after given run = by (run_ok (all source inputs after) (join_of log) file sink old new t run)
     where
       by : HasRun (all source inputs after) (join_of log) file sink old new t
-          → (bytes : List ℕ) × (sink.written new ≡ Some (before ++ bytes)) × IsMade (Joined log operands) bytes
+          → (bytes : List ℕ) × (sink.written new ≡ Some (before ++ bytes)) × IsDerived (Joined log operands) bytes
       by (loaded, h, read, joined, w) = (
         file h,
         text_behind sink old new before (file h) begun w,
-        (loaded, are_read operands (map (seen source) inputs) (map (seen source) after) loaded given read, (h, joined, refl)),
+        (loaded, are_read operands (map (source_state source) inputs) (map (source_state source) after) loaded given read, (h, joined, refl)),
       )
 
-  pub missing_makes : (from to : Making) (input other after other_after : S) → GivesFile (λ b. IsMade from b) (seen source input)
-      → GivesFile (λ b. IsMade to b) (seen source other)
-      → IsRun (two as_input (used source input after) as_input (used source other other_after)) part_of file sink old new (Ok t)
-      → (bytes : List ℕ) × (sink.written new ≡ Some (before ++ bytes)) × IsPartOf (λ b. IsMade from b) (λ b. IsMade to b) bytes
+  pub missing_makes : (from to : Derivation) (input other after other_after : S) → GivesFile (λ b. IsDerived from b) (source_state source input)
+      → GivesFile (λ b. IsDerived to b) (source_state source other)
+      → IsRun (two input_spec (transition_of source input after) input_spec (transition_of source other other_after)) part_of file sink old new (Ok t)
+      → (bytes : List ℕ) × (sink.written new ≡ Some (before ++ bytes)) × IsPartOf (λ b. IsDerived from b) (λ b. IsDerived to b) bytes
   missing_makes from to input other after other_after s u run =
-      by (run_ok (two as_input (used source input after) as_input (used source other other_after)) part_of file sink old new t run)
+      by (run_ok (two input_spec (transition_of source input after) input_spec (transition_of source other other_after)) part_of file sink old new t run)
     where
-      by : HasRun (two as_input (used source input after) as_input (used source other other_after)) part_of file sink old new t
-          → (bytes : List ℕ) × (sink.written new ≡ Some (before ++ bytes)) × IsPartOf (λ b. IsMade from b) (λ b. IsMade to b) bytes
+      by : HasRun (two input_spec (transition_of source input after) input_spec (transition_of source other other_after)) part_of file sink old new t
+          → (bytes : List ℕ) × (sink.written new ≡ Some (before ++ bytes)) × IsPartOf (λ b. IsDerived from b) (λ b. IsDerived to b) bytes
       by ((first, second), h, (r, k), made, w) = (
         file h,
         text_behind sink old new before (file h) begun w,
         (
           first,
           second,
-          read_of (λ b. IsMade from b) (seen source input) (seen source after) first s r,
-          read_of (λ b. IsMade to b) (seen source other) (seen source other_after) second u k,
+          read_of (λ b. IsDerived from b) (source_state source input) (source_state source after) first s r,
+          read_of (λ b. IsDerived to b) (source_state source other) (source_state source other_after) second u k,
           (h, made, refl),
         ),
       )
 
-  pub inventory_makes : (to : Making) (input after : S) → GivesFile (λ b. IsMade to b) (seen source input)
-      → IsRun (one as_input (used source input after)) noted_of inventory_file sink old new (Ok t)
-      → (bytes : List ℕ) × (sink.written new ≡ Some (before ++ bytes)) × IsInventoryOf (λ b. IsMade to b) bytes
+  pub inventory_makes : (to : Derivation) (input after : S) → GivesFile (λ b. IsDerived to b) (source_state source input)
+      → IsRun (one input_spec (transition_of source input after)) inventory_model_of inventory_file sink old new (Ok t)
+      → (bytes : List ℕ) × (sink.written new ≡ Some (before ++ bytes)) × IsInventoryOf (λ b. IsDerived to b) bytes
   inventory_makes to input after s run =
-      by (run_ok (one as_input (used source input after)) noted_of inventory_file sink old new t run)
+      by (run_ok (one input_spec (transition_of source input after)) inventory_model_of inventory_file sink old new t run)
     where
-      by : HasRun (one as_input (used source input after)) noted_of inventory_file sink old new t
-          → (bytes : List ℕ) × (sink.written new ≡ Some (before ++ bytes)) × IsInventoryOf (λ b. IsMade to b) bytes
+      by : HasRun (one input_spec (transition_of source input after)) inventory_model_of inventory_file sink old new t
+          → (bytes : List ℕ) × (sink.written new ≡ Some (before ++ bytes)) × IsInventoryOf (λ b. IsDerived to b) bytes
       by (loaded, noted, r, made, w) = (
         inventory_file noted,
         text_behind sink old new before (inventory_file noted) begun w,
-        (loaded, noted, read_of (λ b. IsMade to b) (seen source input) (seen source after) loaded s r, made, refl),
+        (loaded, noted, read_of (λ b. IsDerived to b) (source_state source input) (source_state source after) loaded s r, made, refl),
       )
 
-  pub rule_makes : (letter key : Text) (place : ℕ) (m : Making) (input after : S) → GivesFile (λ b. IsMade m b) (seen source input)
-      → IsRun (one as_input (used source input after)) (ruled_of letter key place) file sink old new (Ok t)
+  pub rule_makes : (letter key : Text) (place : ℕ) (m : Derivation) (input after : S) → GivesFile (λ b. IsDerived m b) (source_state source input)
+      → IsRun (one input_spec (transition_of source input after)) (ruled_of letter key place) file sink old new (Ok t)
       → (value : Text) × (bytes : List ℕ) × (sink.written new ≡ Some (before ++ bytes))
-      × IsMade (Ruled place (ruling_on letter key value) m) bytes
+      × IsDerived (Ruled place (ruling_on letter key value) m) bytes
   rule_makes letter key place m input after s run =
-      by (run_ok (one as_input (used source input after)) (ruled_of letter key place) file sink old new t run)
+      by (run_ok (one input_spec (transition_of source input after)) (ruled_of letter key place) file sink old new t run)
     where
-      by : HasRun (one as_input (used source input after)) (ruled_of letter key place) file sink old new t
+      by : HasRun (one input_spec (transition_of source input after)) (ruled_of letter key place) file sink old new t
           → (value : Text) × (bytes : List ℕ) × (sink.written new ≡ Some (before ++ bytes))
-          × IsMade (Ruled place (ruling_on letter key value) m) bytes
+          × IsDerived (Ruled place (ruling_on letter key value) m) bytes
       by (loaded, h, r, made, w) =
           let ruled = ruled_is letter key place (log_named loaded) (atoms_loaded loaded) h made in (
             ruled.value,
@@ -116,58 +128,58 @@ module _ {S W T : Type 0} (source : Source S) (sink : Sink W) (old new : W) (t :
             text_behind sink old new before (file h) begun w,
             (
               loaded,
-              read_of (λ b. IsMade m b) (seen source input) (seen source after) loaded s r,
+              read_of (λ b. IsDerived m b) (source_state source input) (source_state source after) loaded s r,
               ap (ruling_for letter key) ruled.at_place,
               (h, made, refl),
             ),
           )
 
-  noted_of_file : (to : List ℕ → Type 0) (by by_after : Seen) (noted : Noted) → GivesFile (IsInventoryOf to) by
-      → IsReadAs as_inventory (record { old = by; new = by_after }) noted → IsNotedOf to noted
+  noted_of_file : (to : List ℕ → Type 0) (by by_after : SourceState) (noted : InventoryModel) → GivesFile (IsInventoryOf to) by
+      → IsReadAs inventory_spec (record { old = by; new = by_after }) noted → IsInventoryModelOf to noted
   noted_of_file to by by_after noted (bytes, left, made) ((given, (consumed, at_end, input)), failures) =
       let of_given = Consumes-whole by.left by_after.left given (λ b. IsInventoryInput FILE_LIMIT b noted) consumed at_end input in
       (bytes, made, subst (λ o. IfSome o (λ b. IsInventoryInput FILE_LIMIT b noted)) left of_given)
 
-  pub missing_by_makes : (from to : Making) (input by after by_after : S) → GivesFile (λ b. IsMade from b) (seen source input)
-      → GivesFile (IsInventoryOf (λ b. IsMade to b)) (seen source by)
-      → IsRun (two as_input (used source input after) as_inventory (used source by by_after)) part_by file sink old new (Ok t)
-      → (bytes : List ℕ) × (sink.written new ≡ Some (before ++ bytes)) × IsPartByOf (λ b. IsMade from b) (λ b. IsMade to b) bytes
+  pub missing_by_makes : (from to : Derivation) (input by after by_after : S) → GivesFile (λ b. IsDerived from b) (source_state source input)
+      → GivesFile (IsInventoryOf (λ b. IsDerived to b)) (source_state source by)
+      → IsRun (two input_spec (transition_of source input after) inventory_spec (transition_of source by by_after)) part_by file sink old new (Ok t)
+      → (bytes : List ℕ) × (sink.written new ≡ Some (before ++ bytes)) × IsPartByOf (λ b. IsDerived from b) (λ b. IsDerived to b) bytes
   missing_by_makes from to input by after by_after s u run =
-      made_by (run_ok (two as_input (used source input after) as_inventory (used source by by_after)) part_by file sink old new t run)
+      made_by (run_ok (two input_spec (transition_of source input after) inventory_spec (transition_of source by by_after)) part_by file sink old new t run)
     where
-      made_by : HasRun (two as_input (used source input after) as_inventory (used source by by_after)) part_by file sink old new t
-          → (bytes : List ℕ) × (sink.written new ≡ Some (before ++ bytes)) × IsPartByOf (λ b. IsMade from b) (λ b. IsMade to b) bytes
+      made_by : HasRun (two input_spec (transition_of source input after) inventory_spec (transition_of source by by_after)) part_by file sink old new t
+          → (bytes : List ℕ) × (sink.written new ≡ Some (before ++ bytes)) × IsPartByOf (λ b. IsDerived from b) (λ b. IsDerived to b) bytes
       made_by ((loaded, noted), h, (r, k), made, w) = (
         file h,
         text_behind sink old new before (file h) begun w,
         (
           loaded,
           noted,
-          read_of (λ b. IsMade from b) (seen source input) (seen source after) loaded s r,
-          noted_of_file (λ b. IsMade to b) (seen source by) (seen source by_after) noted u k,
+          read_of (λ b. IsDerived from b) (source_state source input) (source_state source after) loaded s r,
+          noted_of_file (λ b. IsDerived to b) (source_state source by) (source_state source by_after) noted u k,
           (h, made, refl),
         ),
       )
 
 -- ---- an engine with one input, whose log and atoms it tells
 
-held_named : (o : Option Text) (atoms : Contents) (h : Held) → under_log o atoms ≡ Ok h → (o ≡ Some h.log) × (h.atoms ≡ atoms)
+held_named : (o : Option Text) (atoms : Contents) (h : ReplicaModel) → under_log o atoms ≡ Ok h → (o ≡ Some h.log) × (h.atoms ≡ atoms)
 held_named None atoms h e = absurd (cc)
 held_named (Some log) atoms h e =
     let is : record { log = log; atoms = atoms } ≡ h = cc in
-    (ap (λ (k : Held). Some k.log) is, sym (ap (λ (k : Held). k.atoms) is))
+    (ap (λ (k : ReplicaModel). Some k.log) is, sym (ap (λ (k : ReplicaModel). k.atoms) is))
 
 module _ {S W T : Type 0} (source : Source S) (sink : Sink W) (old new : W) (t : T) (before : List ℕ)
-    (begun : sink.written old ≡ Some before) (tell : Held → Text) where
-  pub text_makes : (m : Making) (input after : S) → GivesFile (λ b. IsMade m b) (seen source input)
-      → IsRun (one as_input (used source input after)) held_of tell sink old new (Ok t)
+    (begun : sink.written old ≡ Some before) (tell : ReplicaModel → Text) where
+  pub text_makes : (m : Derivation) (input after : S) → GivesFile (λ b. IsDerived m b) (source_state source input)
+      → IsRun (one input_spec (transition_of source input after)) held_of tell sink old new (Ok t)
       → (text : Text) × (sink.written new ≡ Some (before ++ text)) × IsTextOf tell m text
-  text_makes m input after s run = by (run_ok (one as_input (used source input after)) held_of tell sink old new t run)
+  text_makes m input after s run = by (run_ok (one input_spec (transition_of source input after)) held_of tell sink old new t run)
     where
-      by : HasRun (one as_input (used source input after)) held_of tell sink old new t
+      by : HasRun (one input_spec (transition_of source input after)) held_of tell sink old new t
           → (text : Text) × (sink.written new ≡ Some (before ++ text)) × IsTextOf tell m text
       by (loaded, h, r, made, w) =
-          let file_read = read_of (λ b. IsMade m b) (seen source input) (seen source after) loaded s r in
+          let file_read = read_of (λ b. IsDerived m b) (source_state source input) (source_state source after) loaded s r in
           let named = held_named (log_named loaded) (atoms_loaded loaded) h made in (
             tell h,
             text_behind sink old new before (tell h) begun w,

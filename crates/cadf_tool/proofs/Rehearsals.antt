@@ -1,44 +1,44 @@
 -- A script that is read and played.
 use Rattle.std.proofs.Common.{◌≡◌, ℕ, List, Result, Ok, Err, refl, sym, ap, subst}
 use Rattle.cadf_join.specs.Contents.{Text}
-use Rattle.cadf_set.specs.Replica.{Held}
+use Rattle.cadf_set.specs.Replica.{ReplicaModel}
 use Rattle.cadf_rehearsal.specs.declared.turn.Turn.{Turn as Step}
 use Rattle.cadf_tool.specs.declared.fault.ToolFault.{ToolFault}
-use Rattle.cadf_tool.specs.Faults.{Stage, Reading, Working, Writing, Starving, stage_of}
-use Rattle.cadf_tool.specs.Rehearse.{IsScriptJudged, as_bytes, as_script, turns_of, left_of, played_in, played}
-use Rattle.cadf_tool.specs.Run.{Use, one, IsReadAs, IsReadWithin, IsFirstFault, IsDue, IsWorked}
-use Rattle.cadf_frame.specs.declared.file_feed.TheConstants.{FILE_LIMIT}
+use Rattle.cadf_tool.specs.Faults.{FaultStage, Reading, Working, Writing, OutOfMemoryStage, fault_stage}
+use Rattle.cadf_tool.specs.Rehearse.{IsScriptJudged, bytes_spec, script_spec, turns_of, left_of, played_in, final_sites}
+use Rattle.cadf_tool.specs.Run.{SourceTransition, one, IsReadAs, IsReadWithin, IsFirstFault, IsExpected, IsWorked}
+use Rattle.cadf_linefile.specs.declared.file_feed.TheConstants.{FILE_LIMIT}
 use Rattle.cadf_tool.proofs.Runs.{worked}
 
 -- what was read of a source is a script, if its bytes are
-pub judged : (t : Use) (v : List ℕ) (script : Result (List Step) ℕ) → IsReadAs as_bytes t v → IsScriptJudged v script → IsReadAs as_script t script
+pub judged : (t : SourceTransition) (v : List ℕ) (script : Result (List Step) ℕ) → IsReadAs bytes_spec t v → IsScriptJudged v script → IsReadAs script_spec t script
 judged t v script ((bytes, (consumed, end, (same, short))), unfailed) h =
     ((bytes, (consumed, end, (short, subst (λ b. IsScriptJudged b script) (sym same) h))), unfailed)
 
-module _ (t : Use) (bounded : IsReadWithin FILE_LIMIT t) (v : List ℕ) (read : IsReadAs as_bytes t v) where
-  pub turns_read : (turns : List Step) → IsScriptJudged v (Ok turns) → IsDue (one as_script t) turns_of (Ok turns)
+module _ (t : SourceTransition) (bounded : IsReadWithin FILE_LIMIT t) (v : List ℕ) (read : IsReadAs bytes_spec t v) where
+  pub turns_read : (turns : List Step) → IsScriptJudged v (Ok turns) → IsExpected (one script_spec t) turns_of (Ok turns)
   turns_read turns h = record { is = (Ok turns, judged t v (Ok turns) read h, refl); bounded = bounded }
 
-  pub line_refused : (line : ℕ) → IsScriptJudged v (Err line) → IsDue (one as_script t) turns_of (turns_of (Err line))
+  pub line_refused : (line : ℕ) → IsScriptJudged v (Err line) → IsExpected (one script_spec t) turns_of (turns_of (Err line))
   line_refused line h = record { is = (Err line, judged t v (Err line) read h, refl); bounded = bounded }
 
-module _ (t : Use) (log : Text) (sites : ℕ) where
-  refused_at : (fault : ToolFault) (s : Stage) → IsFirstFault (one as_script t) turns_of fault s → IsFirstFault (one as_script t) (played log sites) fault s
+module _ (t : SourceTransition) (log : Text) (sites : ℕ) where
+  refused_at : (fault : ToolFault) (s : FaultStage) → IsFirstFault (one script_spec t) turns_of fault s → IsFirstFault (one script_spec t) (final_sites log sites) fault s
   refused_at fault (Reading n f) h = h
   refused_at fault Working (a, read, e) = (a, read, stops (turns_of a) fault e)
     where
       stops : (r : Result (List Step) ToolFault) (fault : ToolFault) → r ≡ Err fault → played_in log sites r ≡ Err fault
       stops r fault e = ap (played_in log sites) e
   refused_at fault Writing h = h
-  refused_at fault Starving h = h
+  refused_at fault OutOfMemoryStage h = h
 
   -- a script that is refused isn't played
-  pub script_refused : (fault : ToolFault) → IsDue (one as_script t) turns_of (Err fault) → IsDue (one as_script t) (played log sites) (Err fault)
-  script_refused fault h = record { is = refused_at fault (stage_of fault) h.is; bounded = h.bounded }
+  pub script_refused : (fault : ToolFault) → IsExpected (one script_spec t) turns_of (Err fault) → IsExpected (one script_spec t) (final_sites log sites) (Err fault)
+  script_refused fault h = record { is = refused_at fault (fault_stage fault) h.is; bounded = h.bounded }
 
   -- the turns of a script are played
-  pub script_played : (turns : List Step) (due : Result (List Held) ToolFault) → IsDue (one as_script t) turns_of (Ok turns)
-      → IsWorked (left_of log sites turns) due → IsDue (one as_script t) (played log sites) due
-  script_played turns due h w =
-      worked (one as_script t) (played log sites) h.is.0 due h.bounded h.is.1 h.is.1.1
-      (subst (λ r. IsWorked r due) (sym (ap (played_in log sites) h.is.2)) w)
+  pub script_played : (turns : List Step) (expected : Result (List ReplicaModel) ToolFault) → IsExpected (one script_spec t) turns_of (Ok turns)
+      → IsWorked (left_of log sites turns) expected → IsExpected (one script_spec t) (final_sites log sites) expected
+  script_played turns expected h w =
+      worked (one script_spec t) (final_sites log sites) h.is.0 expected h.bounded h.is.1 h.is.1.1
+      (subst (λ r. IsWorked r expected) (sym (ap (played_in log sites) h.is.2)) w)

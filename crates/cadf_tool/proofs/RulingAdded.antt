@@ -49,9 +49,9 @@ use Rattle.cadf_join.proofs.Members as members
 use Rattle.cadf_atom.specs.Atom.{atom_rules, IsRuling}
 use Rattle.cadf_event.specs.LogName.{is_name_text}
 use Rattle.cadf_line.specs.Atoms.{IsAtom, property, resource, geolocation, metric, event, is_text, ruling_letter}
-use Rattle.cadf_atom.specs.AtomSets.{AreKept}
+use Rattle.cadf_atom.specs.AtomSets.{IsReplicaSet}
 use Rattle.cadf_atom.specs.Contributions.{ARuling, one_atom, taken}
-use Rattle.cadf_set.specs.Replica.{Held}
+use Rattle.cadf_set.specs.Replica.{ReplicaModel}
 use Rattle.cadf_atom.specs.Rulings.{ruling_of}
 use Rattle.cadf_line.specs.RulingTexts.{RulingParts, ruling_atom, is_value_letter, is_digest_text, value_digest}
 use Rattle.cadf_atom.specs.Shown.{strip, only, values}
@@ -106,17 +106,17 @@ ruling_is letter key value atom =
 -- ---- what `rule` makes
 
 -- the value that is ruled, and the set with its ruling
-pub record IsRuled (letter key : Text) (place : ℕ) (named : Option Text) (s : Contents) (h : Held) : Type 0 where
+pub record IsRuled (letter key : Text) (place : ℕ) (named : Option Text) (s : Contents) (h : ReplicaModel) : Type 0 where
   pub value : Text
   pub at_place : value_at (values s letter key) place ≡ Some value
   pub held : Has s (letter ∷ key ∷ value ∷ [])
   pub log : named ≡ Some h.log
   pub atoms : h.atoms ≡ taken s (ARuling (ruling_on letter key value))
 
-same_held : (h k : Held) → ◌≡◌ {A = Result Held ToolFault} (Ok h) (Ok k) → h ≡ k
+same_held : (h k : ReplicaModel) → ◌≡◌ {A = Result ReplicaModel ToolFault} (Ok h) (Ok k) → h ≡ k
 same_held h k e = cc
 
-pub ruled_is : (letter key : Text) (place : ℕ) (named : Option Text) (s : Contents) (h : Held)
+pub ruled_is : (letter key : Text) (place : ℕ) (named : Option Text) (s : Contents) (h : ReplicaModel)
     → ruled_in letter key place (under_log named s) ≡ Ok h → IsRuled letter key place named s h
 ruled_is letter key place None s h e = cc
 ruled_is letter key place (Some log) s h e = by (value_at (values s letter key) place) refl e
@@ -130,15 +130,15 @@ ruled_is letter key place (Some log) s h e = by (value_at (values s letter key) 
           value = value;
           at_place = is;
           held = listed_held s letter key value (at_listed (values s letter key) place value is);
-          log = ap (λ (k : Held). Some k.log) same;
-          atoms = sym (ap (λ (k : Held). k.atoms) same);
+          log = ap (λ (k : ReplicaModel). Some k.log) same;
+          atoms = sym (ap (λ (k : ReplicaModel). k.atoms) same);
         }
 
-pub ruled_kept : (letter key : Text) (place : ℕ) (named : Option Text) (s : Contents) (h : Held) → AreKept s
-    → IsRuled letter key place named s h → AreKept h.atoms
+pub ruled_kept : (letter key : Text) (place : ℕ) (named : Option Text) (s : Contents) (h : ReplicaModel) → IsReplicaSet s
+    → IsRuled letter key place named s h → IsReplicaSet h.atoms
 ruled_kept letter key place named s h kept r =
     let rule = ruling_on letter key r.value in
-    subst AreKept (sym r.atoms)
+    subst IsReplicaSet (sym r.atoms)
     (kept_union s (one_atom (ruling_atom rule)) kept (ruling_kept rule (ruling_is letter key r.value (kept.are_atoms (letter ∷ key ∷ r.value ∷ []) r.held))))
 
 -- ---- no key has other values for it
@@ -214,7 +214,7 @@ taken_twice s r = laws.same_from_within texts_total texts_same _ _
     ])
     (λ q h. members.in_union_left texts_total texts_same (taken s (ARuling r)) (one_atom (ruling_atom r)) q h)
 
-pub ruled_again : (letter key : Text) (place : ℕ) (named : Option Text) (s : Contents) (h : Held)
+pub ruled_again : (letter key : Text) (place : ℕ) (named : Option Text) (s : Contents) (h : ReplicaModel)
     → IsRuled letter key place named s h → ruled_in letter key place (Ok h) ≡ Ok h
 ruled_again letter key place named s h r =
     let rule = ruling_on letter key r.value in
@@ -262,7 +262,7 @@ ruling_there s letter key place xs x r are one lt at read =
     ∙ ap (ruling_for letter key) (some_at xs place x one lt at)
     ∙ ap Ok (read_is letter key (string_bytes x) r read)
 
-pub rule_held : (letter key : Text) (place : ℕ) (loaded : Loaded) (h : Held) (result : Result Held ToolFault) → log_named loaded ≡ Some h.log
+pub rule_held : (letter key : Text) (place : ℕ) (loaded : Loaded) (h : ReplicaModel) (result : Result ReplicaModel ToolFault) → log_named loaded ≡ Some h.log
     → h.atoms ≡ atoms_loaded loaded → IsWorked (ruled_in letter key place (Ok h)) result → IsWorked (ruled_of letter key place loaded) result
 rule_held letter key place loaded h result named atoms worked =
-    subst (λ (held : Result Held ToolFault). IsWorked (ruled_in letter key place held) result) (λ i. under_log (sym named i) (atoms i)) worked
+    subst (λ (held : Result ReplicaModel ToolFault). IsWorked (ruled_in letter key place held) result) (λ i. under_log (sym named i) (atoms i)) worked

@@ -31,7 +31,7 @@ use Rattle.cadf_join.specs.Sets as set
 use Rattle.cadf_join.specs.laws.Sets.{subset-from_IsWithin, IsWithin-from_subset}
 use Rattle.cadf_join.specs.laws.Contents.{texts_total, contents_same}
 use Rattle.cadf_line.specs.Atoms.{is_text}
-use Rattle.cadf_set.specs.Replica.{Held}
+use Rattle.cadf_set.specs.Replica.{ReplicaModel}
 use Rattle.std.specs.Cmp.Lexicographic.{bytes_decides}
 use Rattle.std.proofs.lemmas.List.{drop_all}
 use Rattle.cadf_tool.specs.Sites.{is_same, line_at, lines_from}
@@ -52,14 +52,14 @@ one_set s t h k =
     contents_same s t (λ q. one_value (set.contains s q) (set.contains t q) (IsWithin-from_subset texts_total s t h q)
     (IsWithin-from_subset texts_total t s k q))
 
-same_is : (h k : Held) → is_same h k ≡ true → h ≡ k
+same_is : (h k : ReplicaModel) → is_same h k ≡ true → h ≡ k
 same_is h k e =
     let p = all_three (is_text h.log k.log) (set.is_subset h.atoms k.atoms) (set.is_subset k.atoms h.atoms) e in
     let logs = (bytes_decides h.log k.log).0 p.0 in
     let sets = one_set h.atoms k.atoms p.1 p.2 in
     λ i. record { log = logs i; atoms = sets i }
 
-same_itself : (h : Held) → is_same h h ≡ true
+same_itself : (h : ReplicaModel) → is_same h h ≡ true
 same_itself h =
     (λ i. (bytes_decides h.log h.log).1 refl i && (within i && within i))
   where
@@ -67,7 +67,7 @@ same_itself h =
     within = subset-from_IsWithin texts_total h.atoms h.atoms (λ q w. w)
 
 -- what tells the same from the other is the definition
-pub decided : (r : Bool) (h k : Held) → (IsTrue r ↔ (h ≡ k)) → r ≡ is_same h k
+pub decided : (r : Bool) (h k : ReplicaModel) → (IsTrue r ↔ (h ≡ k)) → r ≡ is_same h k
 decided true h k w = sym (subst (λ x. is_same h x ≡ true) (w.0 refl) (same_itself h))
 decided false h k w = by (is_same h k) refl
   where
@@ -76,18 +76,18 @@ decided false h k w = by (is_same h k) refl
     by false e = refl
 
 -- one more line
-pub next_line : (sites : List Held) (i : ℕ) (h : Held) → i < length sites → h ≡ get_or sites i h
+pub next_line : (sites : List ReplicaModel) (i : ℕ) (h : ReplicaModel) → i < length sites → h ≡ get_or sites i h
     → lines_from sites i (drop i sites) ≡ line_at sites i h ++ lines_from sites (i + 1) (drop (i + 1) sites)
 next_line sites i h within e =
     ap (lines_from sites i) (drop-cons sites i h within ∙ (λ j. sym e j ∷ drop (sym (add-one i) j) sites))
 
-pub next_lines : (text whole : Text) (sites : List Held) (i : ℕ) (h : Held) → i < length sites → h ≡ get_or sites i h
+pub next_lines : (text whole : Text) (sites : List ReplicaModel) (i : ℕ) (h : ReplicaModel) → i < length sites → h ≡ get_or sites i h
     → text ++ lines_from sites i (drop i sites) ≡ whole
     → (text ++ line_at sites i h) ++ lines_from sites (i + 1) (drop (i + 1) sites) ≡ whole
 next_lines text whole sites i h within e so_far =
     append_assoc text (line_at sites i h) (lines_from sites (i + 1) (drop (i + 1) sites))
     ∙ ap (λ rest. text ++ rest) (sym (next_line sites i h within e)) ∙ so_far
 
-pub all_lines : (text whole : Text) (sites : List Held) (i : ℕ) → length sites ≤ i → text ++ lines_from sites i (drop i sites) ≡ whole → text ≡ whole
+pub all_lines : (text whole : Text) (sites : List ReplicaModel) (i : ℕ) → length sites ≤ i → text ++ lines_from sites i (drop i sites) ≡ whole → text ≡ whole
 all_lines text whole sites i past so_far =
     sym (append-nil text) ∙ ap (λ rest. text ++ lines_from sites i rest) (sym (drop_all i sites past)) ∙ so_far

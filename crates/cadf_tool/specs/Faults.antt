@@ -1,7 +1,7 @@
 -- How the faults of the engines come of other faults, and which exit status each has.
 use Rattle.std.specs.Prelude.{ℕ, Bool, true, false, Result, Ok, Err}
-use Rattle.cadf_json.specs.declared.whole.OutFault.{OutFault}
-use Rattle.cadf_json.specs.declared.whole.OutFault.TheVariants.{WriteFault as OutWriteFault, Memory as OutMemory}
+use Rattle.cadf_json.specs.declared.transfer.OutputFault.{OutputFault}
+use Rattle.cadf_json.specs.declared.transfer.OutputFault.TheVariants.{WriteFault as OutWriteFault, Memory as OutMemory}
 use Rattle.cadf_tool.specs.declared.input.LoadFault.{LoadFault}
 use Rattle.cadf_tool.specs.declared.input.LoadFault.TheVariants.{File, TooLarge, ReadFault, Json, Document, Memory}
 use Rattle.cadf_tool.specs.declared.fault.ToolFault.{ToolFault}
@@ -27,7 +27,7 @@ of_load n (Document f) = Input n (Document f)
 of_load n Memory = OutOfMemory
 
 -- of a text that was written
-abbrev pub of_out : {T : Type 0} → Result T OutFault → Result T ToolFault
+abbrev pub of_out : {T : Type 0} → Result T OutputFault → Result T ToolFault
 of_out (Ok v) = Ok v
 of_out (Err OutWriteFault) = Err WriteFault
 of_out (Err OutMemory) = Err OutOfMemory
@@ -45,27 +45,27 @@ status_of WriteFault = 3
 status_of OutOfMemory = 4
 
 -- when an engine gives up: a source is refused, the work is, a write fails, or there is no memory
-pub data Stage : Type 0 where
-  Reading : ℕ → LoadFault → Stage
-  Working : Stage
-  Writing : Stage
-  Starving : Stage
+pub data FaultStage : Type 0 where
+  Reading : ℕ → LoadFault → FaultStage
+  Working : FaultStage
+  Writing : FaultStage
+  OutOfMemoryStage : FaultStage
 
 -- a fault that is none of these is the work's own
-abbrev pub stage_of : ToolFault → Stage
-stage_of (Input n f) = Reading n f
-stage_of (ReadFailed n) = Reading n ReadFault
-stage_of WriteFault = Writing
-stage_of OutOfMemory = Starving
-stage_of _ = Working
+abbrev pub fault_stage : ToolFault → FaultStage
+fault_stage (Input n f) = Reading n f
+fault_stage (ReadFailed n) = Reading n ReadFault
+fault_stage WriteFault = Writing
+fault_stage OutOfMemory = OutOfMemoryStage
+fault_stage _ = Working
 
-abbrev pub is_writing : Stage → Bool
+abbrev pub is_writing : FaultStage → Bool
 is_writing (Reading n f) = false
 is_writing Working = false
 is_writing Writing = true
-is_writing Starving = false
+is_writing OutOfMemoryStage = false
 
 -- the text was not written whole, since a write failed
 abbrev pub is_write_fault : {T : Type 0} → Result T ToolFault → Bool
 is_write_fault (Ok v) = false
-is_write_fault (Err fault) = is_writing (stage_of fault)
+is_write_fault (Err fault) = is_writing (fault_stage fault)

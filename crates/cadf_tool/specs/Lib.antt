@@ -7,13 +7,13 @@ pub mod Inputs
 pub mod Run
 pub mod InventoryInput
 pub mod Join
-pub mod Uniting
+pub mod JoinState
 pub mod WrittenFile
 pub mod Missing
 pub mod MissingBy
 pub mod Rule
 pub mod Rehearse
 pub mod Sites
-pub mod Metered
+pub mod CountingSink
 pub mod Exchange
 pub mod TwoTexts

@@ -4,7 +4,7 @@
 use Rattle.std.specs.Prelude.{if◌then◌else◌, Option, Some, None, Result, Ok, Err}
 use Rattle.cadf_join.specs.Contents.{Text, Contents}
 use Rattle.cadf_line.specs.Missing.{missing}
-use Rattle.cadf_set.specs.Replica.{Held}
+use Rattle.cadf_set.specs.Replica.{ReplicaModel}
 use Rattle.cadf_tool.specs.declared.input.Loaded.{Loaded}
 use Rattle.cadf_tool.specs.declared.fault.ToolFault.{ToolFault}
 use Rattle.cadf_tool.specs.declared.fault.ToolFault.TheVariants.{NoLog, OtherLog}
@@ -12,14 +12,14 @@ use Rattle.cadf_tool.specs.Told.{log_named, atoms_loaded}
 use Rattle.cadf_tool.specs.Join.{is_other}
 
 -- atoms under the log of FROM, where both inputs name a log, and it is one
-abbrev pub under_one_log : Option Text → Option Text → Contents → Result Held ToolFault
+abbrev pub under_one_log : Option Text → Option Text → Contents → Result ReplicaModel ToolFault
 under_one_log None to atoms = Err NoLog
 under_one_log (Some log) None atoms = Err NoLog
 under_one_log (Some log) (Some to) atoms = if is_other log (Some to) then Err (OtherLog 2) else Ok (record { log = log; atoms = atoms })
 
 -- THE MISSING PART: the least grounded set that contains the atoms of FROM that TO lacks
-abbrev pub missing_of : Loaded → Loaded → Result Held ToolFault
+abbrev pub missing_of : Loaded → Loaded → Result ReplicaModel ToolFault
 missing_of from to = under_one_log (log_named from) (log_named to) (missing (atoms_loaded from) (atoms_loaded to))
 
-abbrev pub part_of : Loaded × Loaded → Result Held ToolFault
+abbrev pub part_of : Loaded × Loaded → Result ReplicaModel ToolFault
 part_of both = missing_of both.0 both.1

@@ -1,14 +1,14 @@
 -- What an inventory notes of an input, and what an input has that an inventory doesn't note.
---     noted_of loaded                the log of an input, and the digests of its atoms; or why there are none
+--     inventory_model_of loaded                the log of an input, and the digests of its atoms; or why there are none
 --     missing_by_of from noted       the atoms of FROM whose digest isn't noted, under their log, or why there is no such part
 --     part_by both                   the same of both
 --     IsInventoryInput limit b n     the bytes are the file of this inventory, within the limit
 use Rattle.std.specs.Prelude.{◌≡◌, ◌≤◌, ℕ, List, length, Option, Some, None, Result, Ok, Err}
 use Rattle.cadf_join.specs.Contents.{Text}
 use Rattle.cadf_line.specs.Digest.{atom_digest}
-use Rattle.cadf_set.specs.Inventory.{Noted}
+use Rattle.cadf_set.specs.Inventory.{InventoryModel}
 use Rattle.cadf_line.specs.Missing.{Digests, digests_of, missing_by}
-use Rattle.cadf_set.specs.Replica.{Held}
+use Rattle.cadf_set.specs.Replica.{ReplicaModel}
 use Rattle.cadf_file.specs.InventoryFile.{inventory_file, IsInventory}
 use Rattle.cadf_tool.specs.declared.input.Loaded.{Loaded}
 use Rattle.cadf_tool.specs.declared.fault.ToolFault.{ToolFault}
@@ -17,23 +17,23 @@ use Rattle.cadf_tool.specs.Told.{log_named, atoms_loaded}
 use Rattle.cadf_tool.specs.Missing.{under_one_log}
 
 -- digests under a log, where it is named
-abbrev pub noted_under : Option Text → Digests → Result Noted ToolFault
-noted_under None digests = Err NoLog
-noted_under (Some log) digests = Ok (record { log = log; digests = digests })
+abbrev pub inventory_model_under : Option Text → Digests → Result InventoryModel ToolFault
+inventory_model_under None digests = Err NoLog
+inventory_model_under (Some log) digests = Ok (record { log = log; digests = digests })
 
 -- THE INVENTORY of an input
-abbrev pub noted_of : Loaded → Result Noted ToolFault
-noted_of loaded = noted_under (log_named loaded) (digests_of atom_digest (atoms_loaded loaded))
+abbrev pub inventory_model_of : Loaded → Result InventoryModel ToolFault
+inventory_model_of loaded = inventory_model_under (log_named loaded) (digests_of atom_digest (atoms_loaded loaded))
 
 -- THE MISSING PART BY AN INVENTORY: the least grounded set that contains the atoms of FROM whose digest isn't noted
-abbrev pub missing_by_of : Loaded → Noted → Result Held ToolFault
+abbrev pub missing_by_of : Loaded → InventoryModel → Result ReplicaModel ToolFault
 missing_by_of from noted = under_one_log (log_named from) (Some noted.log) (missing_by atom_digest (atoms_loaded from) noted.digests)
 
-abbrev pub part_by : Loaded × Noted → Result Held ToolFault
+abbrev pub part_by : Loaded × InventoryModel → Result ReplicaModel ToolFault
 part_by both = missing_by_of both.0 both.1
 
 -- the bytes are the file of this inventory, within the limit
-pub record IsInventoryInput (limit : ℕ) (bytes : List ℕ) (noted : Noted) : Type 0 where
+pub record IsInventoryInput (limit : ℕ) (bytes : List ℕ) (noted : InventoryModel) : Type 0 where
   pub is : bytes ≡ inventory_file noted
   pub within : length bytes ≤ limit
   pub inventory : IsInventory noted

@@ -1,25 +1,25 @@
 -- A script that is read whole, and what its schedule leaves.
---     as_script                     how a source is read as a script: its turns, or the first line that spells none
+--     script_spec                     how a source is read as a script: its turns, or the first line that spells none
 --     left_of log sites turns       the replicas that the turns leave, or the first that can't be taken
---     played log sites script       the same of a script, or its first line that spells no turn
+--     final_sites log sites script       the same of a script, or its first line that spells no turn
 use Rattle.std.specs.Prelude.{◌≡◌, ◌≤◌, ◌+◌, ℕ, List, length, reverse, true, false, Result, Ok, Err}
 use Rattle.cadf_json.specs.Streams.{counted, ConsumesAtMost, ConsumesExactly}
 use Rattle.cadf_join.specs.Contents.{Text}
 use Rattle.cadf_line.specs.Digest.{atom_digest}
-use Rattle.cadf_set.specs.Replica.{Held}
+use Rattle.cadf_set.specs.Replica.{ReplicaModel}
 use Rattle.cadf_rehearsal.specs.declared.turn.Turn.{Turn}
 use Rattle.cadf_rehearsal.specs.declared.fault.RehearseFault.{RehearseFault}
 use Rattle.cadf_rehearsal.specs.declared.fault.RehearseFault.TheVariants.{NoSite, NoMessage, NotInventory, WrongAddressee, OtherLog, Memory}
 use Rattle.cadf_rehearsal.specs.Schedule.{World, after}
 use Rattle.cadf_rehearsal.specs.Federation.{left_by}
 use Rattle.cadf_script.specs.Script.{IsScript, IsFirstBad, lines_of}
-use Rattle.cadf_frame.specs.declared.file_feed.TheConstants.{FILE_LIMIT}
+use Rattle.cadf_linefile.specs.declared.file_feed.TheConstants.{FILE_LIMIT}
 use Rattle.cadf_tool.specs.declared.input.LoadFault.{LoadFault}
 use Rattle.cadf_tool.specs.declared.input.LoadFault.TheVariants.{TooLarge, ReadFault}
 use Rattle.cadf_tool.specs.declared.fault.ToolFault.{ToolFault}
 use Rattle.cadf_tool.specs.declared.fault.ToolFault.TheVariants.{Script, Rehearse, Memory as OutOfMemory}
-use Rattle.cadf_tool.specs.Inputs.{Seen}
-use Rattle.cadf_tool.specs.Run.{Reader}
+use Rattle.cadf_tool.specs.Inputs.{SourceState}
+use Rattle.cadf_tool.specs.Run.{InputSpec}
 
 -- the bytes spell these turns, or the line of that number is the first that spells none
 abbrev pub IsScriptJudged : List ℕ → Result (List Turn) ℕ → Type 0
@@ -30,24 +30,24 @@ abbrev pub IsScriptInput : List ℕ → Result (List Turn) ℕ → Type 0
 IsScriptInput bytes judged = (length bytes ≤ FILE_LIMIT) × IsScriptJudged bytes judged
 
 -- one byte more than may be was read, and no read failed, or one did
-abbrev pub RefusesScript : Seen → Seen → LoadFault → Type 0
+abbrev pub RefusesScript : SourceState → SourceState → LoadFault → Type 0
 RefusesScript old new TooLarge = ConsumesExactly old.left new.left (FILE_LIMIT + 1) × (new.failures ≡ counted false old.failures)
 RefusesScript old new ReadFault = ConsumesAtMost old.left new.left FILE_LIMIT × (new.failures ≡ counted true old.failures)
 RefusesScript old new _ = ⊥
 
-abbrev pub as_script : Reader (Result (List Turn) ℕ)
-as_script = record { limit = FILE_LIMIT; is = IsScriptInput; refuses = RefusesScript }
+abbrev pub script_spec : InputSpec (Result (List Turn) ℕ)
+script_spec = record { limit = FILE_LIMIT; is = IsScriptInput; refuses = RefusesScript }
 
 -- the bytes themselves
-abbrev pub as_bytes : Reader (List ℕ)
-as_bytes = record { limit = FILE_LIMIT; is = λ bytes v. (bytes ≡ v) × (length bytes ≤ FILE_LIMIT); refuses = RefusesScript }
+abbrev pub bytes_spec : InputSpec (List ℕ)
+bytes_spec = record { limit = FILE_LIMIT; is = λ bytes v. (bytes ≡ v) × (length bytes ≤ FILE_LIMIT); refuses = RefusesScript }
 
 -- the turns of a script, all of them or none
 abbrev pub turns_of : Result (List Turn) ℕ → Result (List Turn) ToolFault
 turns_of (Ok turns) = Ok turns
 turns_of (Err line) = Err (Script line)
 
-abbrev pub left_in : Text → ℕ → Result World RehearseFault → Result (List Held) ToolFault
+abbrev pub left_in : Text → ℕ → Result World RehearseFault → Result (List ReplicaModel) ToolFault
 left_in log sites (Ok world) = Ok (left_by log sites world)
 left_in log sites (Err fault) = Err (Rehearse fault)
 
@@ -61,13 +61,13 @@ of_rehearsal (OtherLog turn) = Rehearse (OtherLog turn)
 of_rehearsal Memory = OutOfMemory
 
 -- WHAT THE TURNS LEAVE at so many sites of the log
-abbrev pub left_of : Text → ℕ → List Turn → Result (List Held) ToolFault
+abbrev pub left_of : Text → ℕ → List Turn → Result (List ReplicaModel) ToolFault
 left_of log sites turns = left_in log sites (after atom_digest log sites (reverse turns))
 
-abbrev pub played_in : Text → ℕ → Result (List Turn) ToolFault → Result (List Held) ToolFault
+abbrev pub played_in : Text → ℕ → Result (List Turn) ToolFault → Result (List ReplicaModel) ToolFault
 played_in log sites (Ok turns) = left_of log sites turns
 played_in log sites (Err fault) = Err fault
 
 -- WHAT A SCRIPT LEAVES
-abbrev pub played : Text → ℕ → Result (List Turn) ℕ → Result (List Held) ToolFault
-played log sites judged = played_in log sites (turns_of judged)
+abbrev pub final_sites : Text → ℕ → Result (List Turn) ℕ → Result (List ReplicaModel) ToolFault
+final_sites log sites judged = played_in log sites (turns_of judged)

@@ -6,7 +6,7 @@
 use Rattle.std.specs.Prelude.{ℕ, zero, suc, List, Option, Some, None, Result, Ok, Err, slice_get}
 use Rattle.cadf_join.specs.Contents.{Text, Contents}
 use Rattle.cadf_atom.specs.Contributions.{ARuling, taken}
-use Rattle.cadf_set.specs.Replica.{Held}
+use Rattle.cadf_set.specs.Replica.{ReplicaModel}
 use Rattle.cadf_line.specs.RulingTexts.{RulingParts, value_digest}
 use Rattle.cadf_atom.specs.Shown.{values}
 use Rattle.cadf_tool.specs.declared.input.Loaded.{Loaded}
@@ -30,14 +30,14 @@ ruling_for letter key (Some value) = Ok (ruling_on letter key value)
 abbrev pub ruling_at : Contents → (letter key : Text) → ℕ → Result RulingParts ToolFault
 ruling_at s letter key place = ruling_for letter key (value_at (values s letter key) place)
 
-abbrev pub with_ruling : Held → Result RulingParts ToolFault → Result Held ToolFault
+abbrev pub with_ruling : ReplicaModel → Result RulingParts ToolFault → Result ReplicaModel ToolFault
 with_ruling h (Ok ruling) = Ok (record { log = h.log; atoms = taken h.atoms (ARuling ruling) })
 with_ruling h (Err fault) = Err fault
 
-abbrev pub ruled_in : (letter key : Text) → ℕ → Result Held ToolFault → Result Held ToolFault
+abbrev pub ruled_in : (letter key : Text) → ℕ → Result ReplicaModel ToolFault → Result ReplicaModel ToolFault
 ruled_in letter key place (Ok h) = with_ruling h (ruling_at h.atoms letter key place)
 ruled_in letter key place (Err fault) = Err fault
 
 -- THE RULED SET of an input
-abbrev pub ruled_of : (letter key : Text) → ℕ → Loaded → Result Held ToolFault
+abbrev pub ruled_of : (letter key : Text) → ℕ → Loaded → Result ReplicaModel ToolFault
 ruled_of letter key place loaded = ruled_in letter key place (held_of loaded)

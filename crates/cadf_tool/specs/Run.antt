@@ -1,6 +1,6 @@
 -- THE RUN of an engine: its sources are read in turn, one thing is made of them, and the text of that is written.
 --     one, two, all                     what came of one source, of two, of a list of them
---     IsDue sources work due            what is made of the sources, or the fault that comes first
+--     IsExpected sources work expected            what is made of the sources, or the fault that comes first
 --     IsWritten sink old new text r     the text was written whole, or a front of it
 --     IsRun sources work tell sink old new r     the run, and its answer
 -- A source is refused before the work is begun, and what is written begins when the work is done.
@@ -8,49 +8,49 @@ use Rattle.std.specs.Prelude.{◌≡◌, ◌≤◌, ◌+◌, ◌⊎◌, ℕ, Lis
 use Rattle.std.specs.Io.KnownBytes.{Appends}
 use Rattle.cadf_json.specs.declared.stream.Source.{Ghosts as Source}
 use Rattle.cadf_json.specs.declared.stream.Sink.{Ghosts as Sink}
-use Rattle.cadf_json.specs.Streams.{AppendsFront, counted}
+use Rattle.cadf_json.specs.Streams.{AppendsPrefix, counted}
 use Rattle.cadf_join.specs.Contents.{Text}
-use Rattle.cadf_frame.specs.declared.file_feed.TheConstants.{FILE_LIMIT}
+use Rattle.cadf_linefile.specs.declared.file_feed.TheConstants.{FILE_LIMIT}
 use Rattle.cadf_tool.specs.declared.input.Loaded.{Loaded}
 use Rattle.cadf_tool.specs.declared.input.LoadFault.{LoadFault}
 use Rattle.cadf_tool.specs.declared.fault.ToolFault.{ToolFault}
 use Rattle.cadf_tool.specs.declared.fault.ToolFault.TheVariants.{WriteFault, Memory}
 use Rattle.cadf_tool.specs.Input.{GivesAll, IsInputWithin}
-use Rattle.cadf_tool.specs.Faults.{of_load, is_write_fault, Stage, Reading, Working, Writing, Starving, stage_of}
-use Rattle.cadf_tool.specs.Inputs.{Seen, seen, NoneFailed, IsRefusedWithin, IsRefusedAs, AreReadWithin}
+use Rattle.cadf_tool.specs.Faults.{of_load, is_write_fault, FaultStage, Reading, Working, Writing, OutOfMemoryStage, fault_stage}
+use Rattle.cadf_tool.specs.Inputs.{SourceState, source_state, NoneFailed, IsRefusedWithin, IsRefusedAs, AreReadWithin}
 
 -- ---- sources
 
 -- a source before and after a run
-pub record Use : Type 0 where
-  pub old : Seen
-  pub new : Seen
+pub record SourceTransition : Type 0 where
+  pub old : SourceState
+  pub new : SourceState
 
-abbrev pub used : {S : Type 0} → Source S → S → S → Use
-used source old new = record { old = seen source old; new = seen source new }
+abbrev pub transition_of : {S : Type 0} → Source S → S → S → SourceTransition
+transition_of source old new = record { old = source_state source old; new = source_state source new }
 
 -- how a source is read as a T: the most bytes it may have, what its bytes are, and why it is refused
-pub record Reader (T : Type 0) : Type 1 where
+pub record InputSpec (T : Type 0) : Type 1 where
   pub limit : ℕ
   pub is : List ℕ → T → Type 0
-  pub refuses : Seen → Seen → LoadFault → Type 0
+  pub refuses : SourceState → SourceState → LoadFault → Type 0
 
 -- a document or a replica file
-abbrev pub as_input_within : ℕ → Reader Loaded
-as_input_within limit = record { limit = limit; is = IsInputWithin limit; refuses = IsRefusedWithin limit }
+abbrev pub input_spec_within : ℕ → InputSpec Loaded
+input_spec_within limit = record { limit = limit; is = IsInputWithin limit; refuses = IsRefusedWithin limit }
 
-abbrev pub as_input : Reader Loaded
-as_input = as_input_within FILE_LIMIT
+abbrev pub input_spec : InputSpec Loaded
+input_spec = input_spec_within FILE_LIMIT
 
 -- the source gave all its bytes, no read failed, and they are this
-abbrev pub IsReadAs : {T : Type 0} → Reader T → Use → T → Type 0
+abbrev pub IsReadAs : {T : Type 0} → InputSpec T → SourceTransition → T → Type 0
 IsReadAs reader t value =
     GivesAll t.old.left t.new.left (λ bytes. reader.is bytes value) × (t.new.failures ≡ t.old.failures)
 
-abbrev pub IsUnfailed : Use → Type 0
+abbrev pub IsUnfailed : SourceTransition → Type 0
 IsUnfailed t = t.new.failures ≡ t.old.failures
 
-abbrev pub IsReadWithin : ℕ → Use → Type 0
+abbrev pub IsReadWithin : ℕ → SourceTransition → Type 0
 IsReadWithin limit t = t.new.reads ≤ t.old.reads + limit + 2
 
 -- what came of the sources of a run: they are an A, or one is refused. Numbers count from 1
@@ -65,7 +65,7 @@ pub record Sources (A : Type 0) : Type 1 where
   pub bounded : Type 0
 
 -- one source alone, which has that number
-abbrev pub numbered : {T : Type 0} → ℕ → Reader T → Use → Sources T
+abbrev pub numbered : {T : Type 0} → ℕ → InputSpec T → SourceTransition → Sources T
 numbered number reader t = record {
   are = IsReadAs reader t;
   refused = λ n f. (n ≡ number) × reader.refuses t.old t.new f;
@@ -73,11 +73,11 @@ numbered number reader t = record {
   bounded = IsReadWithin reader.limit t;
 }
 
-abbrev pub one : {T : Type 0} → Reader T → Use → Sources T
+abbrev pub one : {T : Type 0} → InputSpec T → SourceTransition → Sources T
 one reader t = numbered 1 reader t
 
 -- the second is read where the first was
-abbrev pub two : {T U : Type 0} → Reader T → Use → Reader U → Use → Sources (T × U)
+abbrev pub two : {T U : Type 0} → InputSpec T → SourceTransition → InputSpec U → SourceTransition → Sources (T × U)
 two {T} reader t other u = record {
   are = λ both. IsReadAs reader t both.0 × IsReadAs other u both.1;
   refused = λ n f.
@@ -90,22 +90,22 @@ two {T} reader t other u = record {
 -- ---- inputs in a list
 
 -- each source was read as the input that stands in its place
-abbrev pub AreLoaded : List Seen → List Seen → List Loaded → Type 0
+abbrev pub AreLoaded : List SourceState → List SourceState → List Loaded → Type 0
 AreLoaded [] [] [] = Unit {0}
 AreLoaded [] [] (l ∷ ls) = ⊥
 AreLoaded [] (n ∷ ns) ls = ⊥
 AreLoaded (o ∷ os) [] ls = ⊥
 AreLoaded (o ∷ os) (n ∷ ns) [] = ⊥
-AreLoaded (o ∷ os) (n ∷ ns) (l ∷ ls) = IsReadAs as_input (record { old = o; new = n }) l × AreLoaded os ns ls
+AreLoaded (o ∷ os) (n ∷ ns) (l ∷ ls) = IsReadAs input_spec (record { old = o; new = n }) l × AreLoaded os ns ls
 
 -- the first source was refused, and the others are as they were
-abbrev pub IsRefusedFirst : List Seen → List Seen → LoadFault → Type 0
+abbrev pub IsRefusedFirst : List SourceState → List SourceState → LoadFault → Type 0
 IsRefusedFirst [] ns f = ⊥
 IsRefusedFirst (o ∷ os) [] f = ⊥
 IsRefusedFirst (o ∷ os) (n ∷ ns) f = IsRefusedAs o n f × (ns ≡ os)
 
 -- the source of that number was refused, after those before it were read. Numbers count from 1
-pub record IsRefusedAt (old new : List Seen) (number : ℕ) (f : LoadFault) : Type 0 where
+pub record IsRefusedAt (old new : List SourceState) (number : ℕ) (f : LoadFault) : Type 0 where
   pub before : List Loaded
   pub counted : number ≡ length before + 1
   pub loaded : AreLoaded (take (length before) old) (take (length before) new) before
@@ -113,9 +113,9 @@ pub record IsRefusedAt (old new : List Seen) (number : ℕ) (f : LoadFault) : Ty
 
 abbrev pub all : {S : Type 0} → Source S → List S → List S → Sources (List Loaded)
 all source old new = record {
-  are = AreLoaded (map (seen source) old) (map (seen source) new);
-  refused = IsRefusedAt (map (seen source) old) (map (seen source) new);
-  unfailed = NoneFailed (map (seen source) old) (map (seen source) new);
+  are = AreLoaded (map (source_state source) old) (map (source_state source) new);
+  refused = IsRefusedAt (map (source_state source) old) (map (source_state source) new);
+  unfailed = NoneFailed (map (source_state source) old) (map (source_state source) new);
   bounded = AreReadWithin (map source.reads old) (map source.reads new);
 }
 
@@ -123,44 +123,44 @@ all source old new = record {
 
 -- the fault comes first: of a source, or of the work where all were read.
 -- Want of memory may come at any time, but not for a read that failed
-abbrev pub IsFirstFault : {A M : Type 0} → Sources A → (A → Result M ToolFault) → ToolFault → Stage → Type 0
+abbrev pub IsFirstFault : {A M : Type 0} → Sources A → (A → Result M ToolFault) → ToolFault → FaultStage → Type 0
 IsFirstFault sources work fault (Reading n f) = (fault ≡ of_load n f) × sources.refused n f
 IsFirstFault {A} sources work fault Working = (a : A) × sources.are a × (work a ≡ Err fault)
 IsFirstFault sources work fault Writing = ⊥
-IsFirstFault sources work fault Starving = sources.unfailed
+IsFirstFault sources work fault OutOfMemoryStage = sources.unfailed
 
 -- no work is asked for: a source was refused, or there was no memory to read it
 abbrev pub IsUnread : {A : Type 0} → Sources A → ToolFault → Type 0
-IsUnread sources fault = IsFirstFault sources Ok fault (stage_of fault)
+IsUnread sources fault = IsFirstFault sources Ok fault (fault_stage fault)
 
-abbrev pub IsDueOf : {A M : Type 0} → Sources A → (A → Result M ToolFault) → Result M ToolFault → Type 0
-IsDueOf {A} sources work (Ok made) = (a : A) × sources.are a × (work a ≡ Ok made)
-IsDueOf sources work (Err fault) = IsFirstFault sources work fault (stage_of fault)
+abbrev pub IsExpectedOf : {A M : Type 0} → Sources A → (A → Result M ToolFault) → Result M ToolFault → Type 0
+IsExpectedOf {A} sources work (Ok made) = (a : A) × sources.are a × (work a ≡ Ok made)
+IsExpectedOf sources work (Err fault) = IsFirstFault sources work fault (fault_stage fault)
 
-pub record IsDue {A M : Type 0} (sources : Sources A) (work : A → Result M ToolFault)
-    (due : Result M ToolFault) : Type 0 where
-  pub is : IsDueOf sources work due
+pub record IsExpected {A M : Type 0} (sources : Sources A) (work : A → Result M ToolFault)
+    (expected : Result M ToolFault) : Type 0 where
+  pub is : IsExpectedOf sources work expected
   pub bounded : sources.bounded
 
 -- ---- the work
 
 -- the work was done as it should, or there was no memory for it
-abbrev pub IsWorkFault : {M : Type 0} → Result M ToolFault → ToolFault → Stage → Type 0
-IsWorkFault due fault (Reading n f) = ⊥
-IsWorkFault due fault Working = due ≡ Err fault
-IsWorkFault due fault Writing = ⊥
-IsWorkFault due fault Starving = Unit {0}
+abbrev pub IsWorkFault : {M : Type 0} → Result M ToolFault → ToolFault → FaultStage → Type 0
+IsWorkFault expected fault (Reading n f) = ⊥
+IsWorkFault expected fault Working = expected ≡ Err fault
+IsWorkFault expected fault Writing = ⊥
+IsWorkFault expected fault OutOfMemoryStage = Unit {0}
 
 abbrev pub IsWorked : {M : Type 0} → Result M ToolFault → Result M ToolFault → Type 0
-IsWorked due (Ok made) = due ≡ Ok made
-IsWorked due (Err fault) = IsWorkFault due fault (stage_of fault)
+IsWorked expected (Ok made) = expected ≡ Ok made
+IsWorked expected (Err fault) = IsWorkFault expected fault (fault_stage fault)
 
 -- ---- what is written
 
 pub record IsWritten {W T : Type 0} (sink : Sink W) (old new : W) (text : Text)
     (result : Result T ToolFault) : Type 0 where
   pub whole : OnOk result (Appends (sink.written old) (sink.written new) text)
-  pub front : OnErr result (AppendsFront (sink.written old) (sink.written new) text)
+  pub front : OnErr result (AppendsPrefix (sink.written old) (sink.written new) text)
   pub only : IfErr result (λ fault. (fault ≡ WriteFault) ⊎ (fault ≡ Memory))
   pub failures : sink.failures new ≡ counted (is_write_fault result) (sink.failures old)
 
@@ -171,6 +171,6 @@ IsAnswer tell sink old new (Err fault) result = (result ≡ Err fault) × (new �
 
 pub record IsRun {A M W T : Type 0} (sources : Sources A) (work : A → Result M ToolFault) (tell : M → Text)
     (sink : Sink W) (old new : W) (result : Result T ToolFault) : Type 0 where
-  pub due : Result M ToolFault
-  pub first : IsDue sources work due
-  pub answer : IsAnswer tell sink old new due result
+  pub expected : Result M ToolFault
+  pub first : IsExpected sources work expected
+  pub answer : IsAnswer tell sink old new expected result

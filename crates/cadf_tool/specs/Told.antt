@@ -4,7 +4,7 @@
 use Rattle.std.specs.Prelude.{◌≡◌, List, ℕ, Option, Some, None, Result, Ok, Err}
 use Rattle.cadf_join.specs.Contents.{Text, Contents}
 use Rattle.cadf_atom.specs.Contributions.{document_atoms}
-use Rattle.cadf_set.specs.Replica.{Held}
+use Rattle.cadf_set.specs.Replica.{ReplicaModel}
 use Rattle.cadf_tool.specs.declared.input.Loaded.{Loaded}
 use Rattle.cadf_tool.specs.declared.input.Loaded.TheVariants.{Replica, Document}
 use Rattle.cadf_tool.specs.declared.fault.ToolFault.{ToolFault}
@@ -21,15 +21,15 @@ atoms_loaded (Replica h) = h.atoms
 atoms_loaded (Document doc) = document_atoms doc
 
 -- the log that an input names and its atoms, where it names one
-abbrev pub under_log : Option Text → Contents → Result Held ToolFault
+abbrev pub under_log : Option Text → Contents → Result ReplicaModel ToolFault
 under_log None atoms = Err NoLog
 under_log (Some log) atoms = Ok (record { log = log; atoms = atoms })
 
 -- THE REPLICA that an input is
-abbrev pub held_of : Loaded → Result Held ToolFault
+abbrev pub held_of : Loaded → Result ReplicaModel ToolFault
 held_of loaded = under_log (log_named loaded) (atoms_loaded loaded)
 
-pub record IsHeld (bytes : List ℕ) (h : Held) : Type 0 where
+pub record IsHeld (bytes : List ℕ) (h : ReplicaModel) : Type 0 where
   pub loaded : Loaded
   pub input : IsInput bytes loaded
   pub named : log_named loaded ≡ Some h.log

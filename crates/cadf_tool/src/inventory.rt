@@ -1,7 +1,7 @@
 //! The digests of what an input has, as an inventory file.
 ghost use Rattle.cadf_file.specs.InventoryFile.{inventory_file};
-ghost use Rattle.cadf_tool.specs.MissingBy.{noted_of};
-ghost use Rattle.cadf_tool.specs.Run.{one, used, as_input, IsDue, IsWorked, IsWritten, IsRun};
+ghost use Rattle.cadf_tool.specs.MissingBy.{inventory_model_of};
+ghost use Rattle.cadf_tool.specs.Run.{one, transition_of, input_spec, IsExpected, IsWorked, IsWritten, IsRun};
 
 use crate::fault::{ToolFault, answered, refused};
 use crate::input::{Loaded, load};
@@ -13,7 +13,7 @@ use std::alloc::Global;
 
 /// The inventory of a loaded input.
 fn noted(alloc: Global, loaded: Loaded) -> Result<Inventory, ToolFault>
-    ensures { IsWorked (noted_of loaded) result }
+    ensures { IsWorked (inventory_model_of loaded) result }
 {
     let replica = replica_of(alloc, loaded)?;
     match replica.inventory() {
@@ -24,7 +24,7 @@ fn noted(alloc: Global, loaded: Loaded) -> Result<Inventory, ToolFault>
 
 /// The inventory of the only input of an engine.
 fn load_noted<R: Source>(alloc: Global, input: &mut R) -> Result<Inventory, ToolFault>
-    ensures { IsDue (one as_input (used R.Source input.old input.new)) noted_of result }
+    ensures { IsExpected (one input_spec (transition_of R.Source input.old input.new)) inventory_model_of result }
 {
     match load(alloc, input) {
         Ok(loaded) => noted(alloc, loaded),
@@ -49,7 +49,7 @@ pub fn run_inventory<R: Source, W: Sink>(
     input: &mut R,
     output: &mut W,
 ) -> Result<(), ToolFault>
-    ensures { IsRun (one as_input (used R.Source input.old input.new)) noted_of
+    ensures { IsRun (one input_spec (transition_of R.Source input.old input.new)) inventory_model_of
         inventory_file W.Sink output.old output.new result }
 {
     let inventory = load_noted(alloc, input)?;

@@ -2,28 +2,28 @@
 #![tactic(auto)]
 
 mod check;
+mod counting_sink;
 pub mod exchange;
 mod fault;
 mod input;
 mod inputs;
 mod inventory;
 mod join;
+mod join_state;
 pub mod laws;
-mod metered;
 mod missing;
 mod missing_by;
 mod rehearse;
 mod rule;
 mod show;
 mod told;
-mod uniting;
 
 pub use crate::check::run_check;
-pub use crate::fault::{ToolFault, status};
+pub use crate::counting_sink::{CountingSink, Oversized};
+pub use crate::fault::{ToolFault, exit_status};
 pub use crate::input::{LoadFault, Loaded, load, load_within};
 pub use crate::inventory::run_inventory;
 pub use crate::join::run_join;
-pub use crate::metered::{Metered, Oversized};
 pub use crate::missing::run_missing;
 pub use crate::missing_by::run_missing_by;
 pub use crate::rehearse::run_rehearse;

@@ -1,9 +1,9 @@
 //! What an input has beyond an inventory, as a replica file.
 ghost use Rattle.cadf_tool.specs.WrittenFile.{file};
 ghost use Rattle.cadf_tool.specs.declared.input.Loaded.TheVariants as loaded;
-ghost use Rattle.cadf_tool.specs.InventoryInput.{as_inventory};
+ghost use Rattle.cadf_tool.specs.InventoryInput.{inventory_spec};
 ghost use Rattle.cadf_tool.specs.MissingBy.{missing_by_of, part_by};
-ghost use Rattle.cadf_tool.specs.Run.{two, used, as_input, IsDue, IsWorked, IsRun};
+ghost use Rattle.cadf_tool.specs.Run.{two, transition_of, input_spec, IsExpected, IsWorked, IsRun};
 
 use crate::fault::ToolFault;
 use crate::input::Loaded;
@@ -40,7 +40,7 @@ fn missing_by<R: Source>(
     from: &mut R,
     inventory: &mut R,
 ) -> Result<Replica, ToolFault>
-    ensures { IsDue (two as_input (used R.Source from.old from.new) as_inventory (used R.Source inventory.old inventory.new))
+    ensures { IsExpected (two input_spec (transition_of R.Source from.old from.new) inventory_spec (transition_of R.Source inventory.old inventory.new))
         part_by result }
 {
     let first = load_one(alloc, 1, from)?;
@@ -57,7 +57,7 @@ pub fn run_missing_by<R: Source, W: Sink>(
     inventory: &mut R,
     output: &mut W,
 ) -> Result<(), ToolFault>
-    ensures { IsRun (two as_input (used R.Source from.old from.new) as_inventory (used R.Source inventory.old inventory.new))
+    ensures { IsRun (two input_spec (transition_of R.Source from.old from.new) inventory_spec (transition_of R.Source inventory.old inventory.new))
         part_by file W.Sink output.old output.new result }
 {
     let part = missing_by(alloc, from, inventory)?;

@@ -1,36 +1,36 @@
 //! A schedule that is read of a script, and what it leaves at each site.
 ghost use Rattle.std.specs.Prelude.{◌≡◌, IfOk, IfErr, Ok, string_bytes};
-ghost use Rattle.cadf_tool.specs.Rehearse.{as_bytes, as_script, turns_of, of_rehearsal, left_of, played as played_of};
-ghost use Rattle.cadf_tool.specs.Run.{one, used, IsReadAs, IsReadWithin, IsUnread, IsDue, IsWorked, IsWritten, IsRun};
+ghost use Rattle.cadf_tool.specs.Rehearse.{bytes_spec, script_spec, turns_of, of_rehearsal, left_of, final_sites as played_of};
+ghost use Rattle.cadf_tool.specs.Run.{one, transition_of, IsReadAs, IsReadWithin, IsUnread, IsExpected, IsWorked, IsWritten, IsRun};
 ghost use Rattle.cadf_tool.specs.Sites.{is_same, place_of as place_in, site_line, sites_text as text_of_sites};
 
 use crate::FILE_LIMIT;
 use crate::fault::ToolFault;
 use crate::input::LoadFault;
 use cadf_event::Name;
-use cadf_json::{Memory, Sink, Source, WholeFault, read_whole, write_whole};
+use cadf_json::{Memory, ReadAllFault, Sink, Source, read_to_limit, write_all};
 use cadf_replica::{RehearseFault, Replica, Turn, rehearse};
 use cadf_script::{ScriptFault, read_script};
 use std::alloc::Global;
 
 /// The bytes of a script.
 fn bytes_of<R: Source>(alloc: Global, script: &mut R) -> Result<Vec<u8>, ToolFault>
-    ensures ok { IfOk result (λ v. IsReadAs as_bytes (used R.Source script.old script.new) v.items) }
-    ensures err { IfErr result (IsUnread (one as_script (used R.Source script.old script.new))) }
-    ensures reads { IsReadWithin FILE_LIMIT (used R.Source script.old script.new) }
+    ensures ok { IfOk result (λ v. IsReadAs bytes_spec (transition_of R.Source script.old script.new) v.items) }
+    ensures err { IfErr result (IsUnread (one script_spec (transition_of R.Source script.old script.new))) }
+    ensures reads { IsReadWithin FILE_LIMIT (transition_of R.Source script.old script.new) }
 {
-    match read_whole(alloc, script, FILE_LIMIT as usize) {
+    match read_to_limit(alloc, script, FILE_LIMIT as usize) {
         Ok(bytes) => Ok(bytes),
-        Err(WholeFault::TooLarge) => Err(ToolFault::Input(1, LoadFault::TooLarge)),
-        Err(WholeFault::ReadFault) => Err(ToolFault::ReadFault(1)),
-        Err(WholeFault::Memory) => Err(ToolFault::Memory),
+        Err(ReadAllFault::TooLarge) => Err(ToolFault::Input(1, LoadFault::TooLarge)),
+        Err(ReadAllFault::ReadFault) => Err(ToolFault::ReadFault(1)),
+        Err(ReadAllFault::Memory) => Err(ToolFault::Memory),
     }
 }
 
 /// The turns of a script, which is read whole before the first.
 fn turns<R: Source>(alloc: Global, script: &mut R) -> Result<Vec<Turn>, ToolFault>
-    ensures ok { IfOk result (λ v. IsDue (one as_script (used R.Source script.old script.new)) turns_of (Ok v.items)) }
-    ensures err { IfErr result (λ f. IsDue (one as_script (used R.Source script.old script.new)) turns_of (Err f)) }
+    ensures ok { IfOk result (λ v. IsExpected (one script_spec (transition_of R.Source script.old script.new)) turns_of (Ok v.items)) }
+    ensures err { IfErr result (λ f. IsExpected (one script_spec (transition_of R.Source script.old script.new)) turns_of (Err f)) }
 {
     let bytes = bytes_of(alloc, script)?;
     match read_script(alloc, &bytes) {
@@ -62,14 +62,14 @@ fn left(alloc: Global, log: &Name, sites: usize, turns: &[Turn]) -> Result<Vec<R
 }
 
 /// The replicas that a script leaves at the sites.
-fn played<R: Source>(
+fn final_sites<R: Source>(
     alloc: Global,
     log: &Name,
     sites: usize,
     script: &mut R,
 ) -> Result<Vec<Replica>, ToolFault>
-    ensures ok { IfOk result (λ v. IsDue (one as_script (used R.Source script.old script.new)) (played_of log.now sites) (Ok v.items)) }
-    ensures err { IfErr result (λ f. IsDue (one as_script (used R.Source script.old script.new)) (played_of log.now sites) (Err f)) }
+    ensures ok { IfOk result (λ v. IsExpected (one script_spec (transition_of R.Source script.old script.new)) (played_of log.now sites) (Ok v.items)) }
+    ensures err { IfErr result (λ f. IsExpected (one script_spec (transition_of R.Source script.old script.new)) (played_of log.now sites) (Err f)) }
 {
     match turns(alloc, script) {
         Ok(turns) => left(alloc, log, sites, turns.as_slice()),
@@ -124,7 +124,7 @@ fn write_lines<W: Sink>(alloc: Global, sites: &[Replica], output: &mut W) -> Res
     let Ok(text) = lines(alloc, sites) else {
         return Err(ToolFault::Memory);
     };
-    match write_whole(output, text.as_bytes()) {
+    match write_all(output, text.as_bytes()) {
         Ok(()) => Ok(()),
         Err(_) => Err(ToolFault::WriteFault),
     }
@@ -139,12 +139,12 @@ pub fn run_rehearse<R: Source, W: Sink>(
     script: &mut R,
     output: &mut W,
 ) -> Result<(), ToolFault>
-    ensures played { IsRun (one as_script (used R.Source script.old script.new)) (played_of log.now sites)
+    ensures final_sites { IsRun (one script_spec (transition_of R.Source script.old script.new)) (played_of log.now sites)
         text_of_sites W.Sink output.old output.new result }
     // The lines stand whole before they are written.
     ensures memory { result ≡ Err ToolFault.Memory → output.new ≡ output.old }
 {
-    match played(alloc, log, sites, script) {
+    match final_sites(alloc, log, sites, script) {
         Ok(left) => write_lines(alloc, left.as_slice(), output),
         Err(fault) => Err(fault),
     }

@@ -5,8 +5,8 @@ use crate::words::Words;
 use cadf_event::Name;
 use cadf_json::{MemorySink, MemorySource};
 use cadf_tool::{
-    Metered, ToolFault, run_check, run_inventory, run_join, run_missing, run_missing_by,
-    run_rehearse, run_rule, run_show, status,
+    CountingSink, ToolFault, exit_status, run_check, run_inventory, run_join, run_missing,
+    run_missing_by, run_rehearse, run_rule, run_show,
 };
 use calls::{push, push_number, refused};
 use std::alloc::{AllocError as Memory, Global};
@@ -15,7 +15,7 @@ use std::alloc::{AllocError as Memory, Global};
 type Ran = Option<Result<(), ToolFault>>;
 
 /// What an engine writes to: its bytes are counted, as the command counts them.
-type Output = Metered<MemorySink>;
+type Output = CountingSink<MemorySink>;
 
 /// `run_join`: a log, empty for none, and readers.
 fn join(alloc: Global, words: Words<'_>, sink: &mut Output) -> Ran {
@@ -78,7 +78,7 @@ fn run(alloc: Global, words: Words<'_>, sink: &mut Output) -> Ran {
 
 /// Makes the writer of an engine.
 fn output(alloc: Global, words: Words<'_>) -> Output {
-    Metered::new(words.sink(alloc, 1))
+    CountingSink::new(words.sink(alloc, 1))
 }
 
 /// Makes the answer of an engine: what is told of it, and what it wrote.
@@ -100,7 +100,7 @@ pub(crate) fn answered(alloc: Global, words: Words<'_>) -> Result<Answer, Memory
 
 /// The status and the text of a fault.
 fn status_and_text(alloc: Global, fault: &ToolFault) -> Result<String, Memory> {
-    let (status, text) = (status(fault), format!(in alloc; "{fault}")?);
+    let (status, text) = (exit_status(fault), format!(in alloc; "{fault}")?);
     calls::answer(
         alloc,
         format!(in alloc; "{status}")?.as_str(),
@@ -121,11 +121,11 @@ pub(crate) fn faulted(alloc: Global, words: Words<'_>) -> Result<Answer, Memory>
 /// Answers how many bytes were written, and the report if they are more than the limit.
 fn count_and_warning(alloc: Global, sink: &Output, limit: u64) -> Result<String, Memory> {
     let mut line = calls::answer(alloc, "ok", &[])?;
-    push_number(alloc, &mut line, i128::from(sink.taken()))?;
-    match sink.oversized(limit) {
-        Some(oversized) => {
+    push_number(alloc, &mut line, i128::from(sink.bytes_written()))?;
+    match sink.check_limit(limit) {
+        Some(check_limit) => {
             push(&mut line, "some")?;
-            push(&mut line, format!(in alloc; "{oversized}")?.as_str())?;
+            push(&mut line, format!(in alloc; "{check_limit}")?.as_str())?;
         }
         None => push(&mut line, "none")?,
     }

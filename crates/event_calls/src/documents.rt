@@ -37,7 +37,7 @@ fn push_properties(line: &mut String, document: &Document) -> Result<(), Memory>
 
 /// Answers the document's log, events, entities and properties.
 fn told(alloc: Global, document: &Document) -> Result<String, Memory> {
-    document.known();
+    document.type_invariant();
     let mut line = calls::answer(alloc, "ok", &[])?;
     match document.log() {
         Some(log) => events::push_named(&mut line, "log", log.as_str())?,
@@ -62,7 +62,7 @@ pub(crate) fn document(alloc: Global, text: &str) -> Result<String, Memory> {
 
 /// Answers what the text is read as an event at a time, or why it is no document.
 pub(crate) fn plain(alloc: Global, text: &str) -> Result<String, Memory> {
-    match Document::read_plain(alloc, text) {
+    match Document::read_streaming(alloc, text) {
         Ok(Ok(document)) => told(alloc, &document),
         Ok(Err(fault)) => calls::refused(alloc, &fault),
         Err(unread) => calls::refused(alloc, &unread),

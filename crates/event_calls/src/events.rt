@@ -45,7 +45,7 @@ fn push_attachments(line: &mut String, seen: &Sighting) -> Result<(), Memory> {
 
 /// Adds the event's identifier, instant and body, its chains, tags and attachments.
 pub(crate) fn push(alloc: Global, line: &mut String, seen: &Sighting) -> Result<(), Memory> {
-    seen.known();
+    seen.type_invariant();
     calls::push(line, seen.id().as_str())?;
     calls::push_number(alloc, line, seen.body().instant())?;
     calls::push(line, seen.body().text())?;

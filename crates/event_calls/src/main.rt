@@ -19,7 +19,7 @@ fn answer(alloc: Global, line: &str) -> Result<String, Memory> {
     let text = call.text(1);
     match call.name() {
         "name" => words::name(alloc, text),
-        "is_named" => words::named(alloc, text),
+        "is_valid_name" => words::named(alloc, text),
         "is_reserved" => words::reserved(alloc, text),
         "event_type" => words::event_type(alloc, text),
         "outcome" => words::outcome(alloc, text),

@@ -8,7 +8,7 @@ use std::fmt::Debug;
 pub(crate) fn name(alloc: Global, text: &str) -> Result<String, Memory> {
     match Name::read(alloc, text) {
         Ok(name) => {
-            let copy = name.copied(alloc)?;
+            let copy = name.copy(alloc)?;
             calls::answer(alloc, "ok", &[copy.as_str()])
         }
         Err(fault) => calls::refused(alloc, &fault),
@@ -17,7 +17,7 @@ pub(crate) fn name(alloc: Global, text: &str) -> Result<String, Memory> {
 
 /// Tells whether the text is a name.
 pub(crate) fn named(alloc: Global, text: &str) -> Result<String, Memory> {
-    format!(in alloc; "{}", cadf_event::is_named(text))
+    format!(in alloc; "{}", cadf_event::is_valid_name(text))
 }
 
 /// Tells whether the name is reserved.

@@ -39,8 +39,8 @@ fn seen(alloc: Global, call: &Call, view: &View<'_, '_>) -> Result<String, Memor
         "name" => name(alloc, view.name_at(call.number(3))),
         "members" => members(alloc, view),
         "within" => within(alloc, view, call),
-        "rewritten" => rewritten(alloc, view, call),
-        "again" => shown(alloc, "ok", &view.again()),
+        "rewritten_text" => rewritten_text(alloc, view, call),
+        "reborrow" => shown(alloc, "ok", &view.reborrow()),
         _ => shown(alloc, "ok", view),
     }
 }
@@ -100,13 +100,13 @@ fn push_member(alloc: Global, line: &mut String, member: &Member<'_, '_>) -> Res
 fn within(alloc: Global, view: &View<'_, '_>, call: &Call) -> Result<String, Memory> {
     let limit = u8::try_from(call.number(4)).unwrap_or(0);
     let others = u8::try_from(call.number(5)).unwrap_or(0);
-    let fits = view.members_within(&[(call.text(3), limit)], others);
+    let fits = view.members_nest_within(&[(call.text(3), limit)], others);
     format!(in alloc; "{fits}")
 }
 
 /// Answers the object with another text at a name, without two members.
-fn rewritten(alloc: Global, view: &View<'_, '_>, call: &Call) -> Result<String, Memory> {
+fn rewritten_text(alloc: Global, view: &View<'_, '_>, call: &Call) -> Result<String, Memory> {
     let left_out = [call.text(5), call.text(6)];
-    let text = view.rewritten(alloc, &left_out, call.text(3), call.text(4))?;
+    let text = view.rewritten_text(alloc, &left_out, call.text(3), call.text(4))?;
     calls::answer(alloc, "ok", &[text.as_str()])
 }

@@ -24,11 +24,11 @@ fn answer(alloc: Global, line: &str) -> Result<String, Memory> {
         "quoted" => quotes::quoted(alloc, call.text(1)),
         "split" => splits::split(alloc, call.text(1), call.text(2)),
         "check_list" => passes::list(alloc, call.text(1)),
-        "may_be_json" => passes::may_be_json(alloc, call.text(1)),
-        "read_whole" => streams::whole(alloc, &call),
+        "has_json_syntax" => passes::has_json_syntax(alloc, call.text(1)),
+        "read_to_limit" => streams::whole(alloc, &call),
         "read_rest" => streams::rest(alloc, &call),
         "read_by_std" => streams::by_std(alloc, &call),
-        "write_whole" => writers::whole(alloc, &call),
+        "write_all" => writers::whole(alloc, &call),
         "write_by_std" => writers::by_std(alloc, &call),
         "time" => times::read(alloc, call.text(1)),
         _ => calls::answer(alloc, "no such call", &[]),
@@ -38,13 +38,13 @@ fn answer(alloc: Global, line: &str) -> Result<String, Memory> {
 /// Calls the laws of values, of their canonical texts and of times.
 fn laws() {
     cadf_json::bytes_spell_values();
-    cadf_json::text_tells_values_apart();
+    cadf_json::text_is_injective();
     cadf_json::text_spells_its_value();
     cadf_json::text_is_one_line();
     cadf_time::laws::one_reading();
     cadf_time::laws::one_time();
     cadf_time::laws::canonical_spells();
-    cadf_time::laws::canonical_tells_apart();
+    cadf_time::laws::spelling_is_injective();
 }
 
 fn main(rt: HostRuntime) -> io::Result<()> {

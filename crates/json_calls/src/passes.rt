@@ -11,7 +11,7 @@ pub(crate) fn list(alloc: Global, text: &str) -> Result<String, Memory> {
 }
 
 /// Tells whether the text may be JSON at all.
-pub(crate) fn may_be_json(alloc: Global, text: &str) -> Result<String, Memory> {
-    let may = cadf_json::may_be_json(alloc, text)?;
+pub(crate) fn has_json_syntax(alloc: Global, text: &str) -> Result<String, Memory> {
+    let may = cadf_json::has_json_syntax(alloc, text)?;
     format!(in alloc; "{may}")
 }

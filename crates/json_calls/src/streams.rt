@@ -2,13 +2,13 @@
 
 ghost use Rattle.std.specs.Prelude.{◌<◌, ◌^◌};
 
-use cadf_json::{FromStd, MemorySource, WholeFault, read_rest, read_whole};
+use cadf_json::{MemorySource, ReadAllFault, StdStream, read_rest, read_to_limit};
 use calls::Call;
 use std::alloc::{AllocError as Memory, Global};
 use std::io;
 
 /// Answers the bytes that were read, or why they weren't.
-fn told(alloc: Global, bytes: Result<Vec<u8>, WholeFault>) -> Result<String, Memory> {
+fn told(alloc: Global, bytes: Result<Vec<u8>, ReadAllFault>) -> Result<String, Memory> {
     match bytes {
         Ok(bytes) => {
             let mut line = calls::answer(alloc, "ok", &[])?;
@@ -35,7 +35,7 @@ fn source<'b>(bytes: &'b [u8], call: &Call) -> MemorySource<'b> {
 /// Answers the whole of the first word's bytes, read in pieces up to a limit; a read may fail.
 pub(crate) fn whole(alloc: Global, call: &Call) -> Result<String, Memory> {
     let mut source = source(call.bytes(1), call);
-    let bytes = read_whole(alloc, &mut source, limit(call, 4));
+    let bytes = read_to_limit(alloc, &mut source, limit(call, 4));
     told(alloc, bytes)
 }
 
@@ -75,12 +75,12 @@ impl<'b> io::Read for FailsOnce<'b> {
 
 /// Answers the whole of the first word's bytes by a reader of std, and how many calls that took.
 pub(crate) fn by_std(alloc: Global, call: &Call) -> Result<String, Memory> {
-    let mut source = FromStd::new(FailsOnce {
+    let mut source = StdStream::new(FailsOnce {
         left: call.bytes(1),
         failing: u64::try_from(call.number(2)).unwrap_or(0),
         calls: 0,
     });
-    let bytes = read_whole(alloc, &mut source, limit(call, 3));
+    let bytes = read_to_limit(alloc, &mut source, limit(call, 3));
     let mut line = told(alloc, bytes)?;
     calls::push_number(alloc, &mut line, i128::from(source.into_inner().calls))?;
     Ok(line)

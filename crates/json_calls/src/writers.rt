@@ -1,6 +1,6 @@
 //! Sinks that take bytes in pieces and fail where they are told to.
 
-use cadf_json::{Failed, FailingWrite, FromStd, MemorySink, OutFault, write_whole};
+use cadf_json::{Failed, FailingWrite, MemorySink, OutputFault, StdStream, write_all};
 use calls::Call;
 use std::alloc::{AllocError as Memory, Global};
 use std::io;
@@ -9,7 +9,7 @@ use std::io;
 fn told(alloc: Global, done: Result<(), Failed>, written: &[u8]) -> Result<String, Memory> {
     let mut line = match done {
         Ok(()) => calls::answer(alloc, "ok", &[])?,
-        Err(failed) => calls::refused(alloc, &OutFault::from(failed))?,
+        Err(failed) => calls::refused(alloc, &OutputFault::from(failed))?,
     };
     calls::push_bytes(&mut line, written)?;
     Ok(line)
@@ -28,7 +28,7 @@ fn failing(call: &Call) -> FailingWrite {
 /// Writes the first word's bytes in pieces; a write may fail.
 pub(crate) fn whole(alloc: Global, call: &Call) -> Result<String, Memory> {
     let mut sink = MemorySink::new(alloc, call.number(2).max(1), failing(call));
-    let done = write_whole(&mut sink, call.bytes(1));
+    let done = write_all(&mut sink, call.bytes(1));
     told(alloc, done, sink.bytes())
 }
 
@@ -58,10 +58,10 @@ impl io::Write for Full {
 
 /// Writes the first word's bytes to a writer of std that has room for so many.
 pub(crate) fn by_std(alloc: Global, call: &Call) -> Result<String, Memory> {
-    let mut sink = FromStd::new(Full {
+    let mut sink = StdStream::new(Full {
         bytes: Vec::new(alloc),
         room: call.number(2),
     });
-    let done = write_whole(&mut sink, call.bytes(1));
+    let done = write_all(&mut sink, call.bytes(1));
     told(alloc, done, &sink.into_inner().bytes)
 }

@@ -33,9 +33,9 @@ fn told_of_kind(
 ) -> Result<String, Memory> {
     match name {
         "keys" => told::texts(alloc, &ours.keys(kind)?),
-        "contested" => told::texts(alloc, &ours.contested(kind)?),
+        "conflicted_keys" => told::texts(alloc, &ours.conflicted_keys(kind)?),
         "shown" => told::text(alloc, ours.shown(kind, key)?),
-        "is_contested" => told::found_true(alloc, ours.is_contested(kind, key)?),
+        "is_conflicted" => told::found_true(alloc, ours.is_conflicted(kind, key)?),
         _ => answer(alloc, "no such call", &[]),
     }
 }

@@ -9,11 +9,11 @@ pub(crate) fn hold() {
     replicas::missing_is_minimal();
     replicas::replica_is_what_it_took();
     replicas::same_contributions_same_set();
-    replicas::retries_change_nothing();
+    replicas::retries_are_idempotent();
     replicas::every_atom_is_shown_once();
     replicas::one_value_is_shown();
-    replicas::shown_again_is_the_same();
-    replicas::texts_tell_the_set();
+    replicas::show_is_idempotent();
+    replicas::texts_determine_set();
     replicas::a_path_has_one_kind();
     replicas::replicas_converge();
     replicas::nothing_disappears();

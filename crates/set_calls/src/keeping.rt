@@ -2,7 +2,7 @@
 ghost use Rattle.std.specs.Prelude.{⊤};
 
 use crate::told;
-use cadf_paths::{Memory, Paths, Visitor, Walk};
+use cadf_pathset::{Memory, PathSet, Visitor, Walk};
 use std::alloc::Global;
 
 /// The lists that were shown.
@@ -47,7 +47,7 @@ fn kept(alloc: Global, list: &[&str]) -> Result<Vec<String>, Memory> {
 /// Answers the lists that a walk of the set shows after a path.
 pub(crate) fn walked<'a>(
     alloc: Global,
-    set: &'a Paths,
+    set: &'a PathSet,
     path: &mut Vec<&'a str>,
 ) -> Result<String, Memory> {
     let mut keeping = Keeping {

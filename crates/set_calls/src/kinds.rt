@@ -2,7 +2,7 @@
 
 use crate::lists::{lent, lists};
 use cadf_join::{ChainTree, Join, JoinMap, Memory, TextSet};
-use cadf_paths::Paths;
+use cadf_pathset::PathSet;
 use std::alloc::Global;
 
 /// A value that is made of lists.
@@ -55,9 +55,9 @@ impl Made for ChainTree {
     }
 }
 
-impl Made for Paths {
-    fn empty(alloc: Global) -> Paths {
-        Paths::new(alloc)
+impl Made for PathSet {
+    fn empty(alloc: Global) -> PathSet {
+        PathSet::new(alloc)
     }
 
     fn add(&mut self, alloc: Global, list: &[String]) -> Result<(), Memory> {

@@ -1,6 +1,6 @@
 //! Lists of texts as words, and prefixes of lists.
 
-use cadf_join::prefix::copied;
+use cadf_join::prefix::copy_texts;
 use cadf_json::{Json, Memory, View, quoted};
 use calls::{Call, answer};
 use std::alloc::Global;
@@ -110,6 +110,6 @@ pub(crate) fn all_spelled(alloc: Global, lists: &[Vec<String>]) -> Result<String
 
 /// Answers a copy of the prefix.
 pub(crate) fn answered(alloc: Global, call: &Call) -> Result<String, Memory> {
-    let copy = copied(alloc, &list(alloc, call.text(1))?)?;
+    let copy = copy_texts(alloc, &list(alloc, call.text(1))?)?;
     answer(alloc, "ok", &[spelled(alloc, &copy)?.as_str()])
 }

@@ -13,7 +13,7 @@ mod trees;
 mod values;
 
 use cadf_join::Memory;
-use cadf_join::laws::{longest_chain, membership, order_tells_set, union_laws};
+use cadf_join::laws::{longest_chain, membership, order_determines_set, union_laws};
 use calls::{Call, answer};
 use std::alloc::Global;
 use std::io;
@@ -35,7 +35,7 @@ fn answered(alloc: Global, line: &str) -> Result<String, Memory> {
 
 fn main(rt: HostRuntime) -> io::Result<()> {
     union_laws();
-    order_tells_set();
+    order_determines_set();
     longest_chain();
     membership();
     for line in rt.lines(rt.alloc()) {

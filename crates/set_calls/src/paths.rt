@@ -6,14 +6,14 @@ use crate::kinds::value_of;
 use crate::lists::{lent, list, lists};
 use crate::told;
 use cadf_join::Memory;
-use cadf_paths::{Carrier, Gathered, Paths};
+use cadf_pathset::{Carrier, PathSet, PathSetBuilder};
 use calls::{Call, answer};
 use std::alloc::Global;
 
 /// Answers the call of that name.
 pub(crate) fn answered(alloc: Global, name: &str, call: &Call) -> Result<String, Memory> {
     match name {
-        "unite" => united(
+        "union_with" => united(
             alloc,
             value_of(alloc, call.text(1))?,
             &value_of(alloc, call.text(2))?,
@@ -36,7 +36,7 @@ pub(crate) fn answered(alloc: Global, name: &str, call: &Call) -> Result<String,
 
 /// Answers the lists that a walk of a set shows after a path.
 fn shown(alloc: Global, call: &Call) -> Result<String, Memory> {
-    let ours: Paths = value_of(alloc, call.text(1))?;
+    let ours: PathSet = value_of(alloc, call.text(1))?;
     let given = list(alloc, call.text(2))?;
     let mut path = lent(alloc, &given)?;
     walked(alloc, &ours, &mut path)
@@ -44,7 +44,7 @@ fn shown(alloc: Global, call: &Call) -> Result<String, Memory> {
 
 /// Answers a call about a set and a list.
 fn told_of_list(alloc: Global, name: &str, call: &Call) -> Result<String, Memory> {
-    let ours: Paths = value_of(alloc, call.text(1))?;
+    let ours: PathSet = value_of(alloc, call.text(1))?;
     let given = list(alloc, call.text(2))?;
     match name {
         "holds" => told::truth(alloc, ours.holds(&given)),
@@ -59,7 +59,7 @@ fn told_of_list(alloc: Global, name: &str, call: &Call) -> Result<String, Memory
 fn told_of_lent(
     alloc: Global,
     name: &str,
-    ours: Paths,
+    ours: PathSet,
     given: &[&str],
     text: &str,
 ) -> Result<String, Memory> {
@@ -72,19 +72,19 @@ fn told_of_lent(
         "least_text" => told::text(alloc, ours.next_text(given, None)),
         "next_text" => told::text(alloc, ours.next_text(given, Some(text))),
         "texts_behind" => told::texts(alloc, &ours.texts_behind(given)?),
-        "several_behind" => told::number(alloc, ours.several_behind(given)),
+        "multi_valued_count_at" => told::number(alloc, ours.multi_valued_count_at(given)),
         "longest_behind" => told::found(alloc, ours.longest_behind(given)?),
         _ => answer(alloc, "no such call", &[]),
     }
 }
 
-fn inserted(alloc: Global, mut ours: Paths, list: &[&str]) -> Result<String, Memory> {
+fn inserted(alloc: Global, mut ours: PathSet, list: &[&str]) -> Result<String, Memory> {
     ours.insert(list)?;
     told::held(alloc, &ours)
 }
 
 /// Pushes the list; one that is not above all that are there is no word of this call.
-fn pushed(alloc: Global, mut ours: Paths, list: &[&str]) -> Result<String, Memory> {
+fn pushed(alloc: Global, mut ours: PathSet, list: &[&str]) -> Result<String, Memory> {
     if !ours.is_above(list) {
         return answer(alloc, "not above", &[]);
     }
@@ -92,12 +92,12 @@ fn pushed(alloc: Global, mut ours: Paths, list: &[&str]) -> Result<String, Memor
     told::held(alloc, &ours)
 }
 
-fn united(alloc: Global, mut ours: Paths, theirs: &Paths) -> Result<String, Memory> {
-    ours.unite(theirs)?;
+fn united(alloc: Global, mut ours: PathSet, theirs: &PathSet) -> Result<String, Memory> {
+    ours.union_with(theirs)?;
     told::held(alloc, &ours)
 }
 
-fn taken(alloc: Global, mut ours: Paths, theirs: Paths) -> Result<String, Memory> {
+fn taken(alloc: Global, mut ours: PathSet, theirs: PathSet) -> Result<String, Memory> {
     ours.take(theirs)?;
     told::held(alloc, &ours)
 }
@@ -116,15 +116,15 @@ impl Carrier for ByNothing {
 }
 
 /// Answers what the first has and the second lacks, with its carriers.
-fn missing(alloc: Global, ours: &Paths, theirs: &Paths) -> Result<String, Memory> {
+fn missing(alloc: Global, ours: &PathSet, theirs: &PathSet) -> Result<String, Memory> {
     told::held(alloc, &ours.missing_with_carriers::<ByNothing>(theirs)?)
 }
 
 /// Answers the set of the lists, gathered in the order in which they stand.
 fn gathered(alloc: Global, word: &str) -> Result<String, Memory> {
-    let mut gathered = Gathered::new(alloc);
+    let mut gathered = PathSetBuilder::new(alloc);
     for list in lists(alloc, word)? {
         gathered.push(&lent(alloc, &list)?)?;
     }
-    told::held(alloc, &gathered.into_paths()?)
+    told::held(alloc, &gathered.build()?)
 }

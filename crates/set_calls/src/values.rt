@@ -4,7 +4,7 @@ use crate::kinds::{Made, value_of};
 use crate::lists::list;
 use crate::told;
 use cadf_join::{ChainTree, JoinMap, Memory, TextSet};
-use cadf_paths::Paths;
+use cadf_pathset::PathSet;
 use calls::{Call, answer};
 use std::alloc::Global;
 
@@ -16,7 +16,7 @@ pub(crate) fn answered(alloc: Global, name: &str, call: &Call) -> Result<String,
         "map of maps" => told_of::<JoinMap<JoinMap<TextSet>>>(alloc, name, call),
         "map of trees" => told_of::<JoinMap<ChainTree>>(alloc, name, call),
         "tree" => told_of::<ChainTree>(alloc, name, call),
-        "paths" => told_of::<Paths>(alloc, name, call),
+        "paths" => told_of::<PathSet>(alloc, name, call),
         _ => answer(alloc, "no such kind", &[]),
     }
 }

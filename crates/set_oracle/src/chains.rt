@@ -1,14 +1,14 @@
 //! Flat sets of long chains of one step, which share all but their ends.
 
 use cadf_join::Memory;
-use cadf_paths::{Join, Paths};
+use cadf_pathset::{Join, PathSet};
 use std::alloc::Global;
 
 /// How many chains there are, and one more than the longest has steps.
 const CHAINS: usize = 300;
 
 /// Adds the chain, which is above all that are there.
-fn add(paths: &mut Paths, chain: &[&str]) -> Result<(), Memory> {
+fn add(paths: &mut PathSet, chain: &[&str]) -> Result<(), Memory> {
     if paths.is_above(chain) {
         paths.push(chain)?;
     }
@@ -16,8 +16,8 @@ fn add(paths: &mut Paths, chain: &[&str]) -> Result<(), Memory> {
 }
 
 /// Answers the chains of even or of odd lengths, or all of them.
-fn chains(alloc: Global, even: bool, odd: bool) -> Result<Paths, Memory> {
-    let mut paths = Paths::new(alloc);
+fn chains(alloc: Global, even: bool, odd: bool) -> Result<PathSet, Memory> {
+    let mut paths = PathSet::new(alloc);
     let mut chain = Vec::new(alloc);
     for length in 0..CHAINS {
         if (length % 2 == 0 && even) || (length % 2 == 1 && odd) {
@@ -29,7 +29,7 @@ fn chains(alloc: Global, even: bool, odd: bool) -> Result<Paths, Memory> {
 }
 
 /// Tells whether the even chains lack the odd ones, and with them are all.
-fn make_all(alloc: Global, odd: &Paths) -> Result<bool, Memory> {
+fn make_all(alloc: Global, odd: &PathSet) -> Result<bool, Memory> {
     let mut even = chains(alloc, true, false)?;
     let all = chains(alloc, true, true)?;
     let lacking = all.missing_from(&even)?;

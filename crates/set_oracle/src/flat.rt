@@ -2,13 +2,13 @@
 
 use crate::plain::{holds, lent, value_of};
 use cadf_join::Memory;
-use cadf_paths::Paths;
+use cadf_pathset::PathSet;
 use std::alloc::Global;
 
 /// Tells whether each of the lists is held if the plain set has it, and is above all if that has none from it on.
 fn finds_each(
     alloc: Global,
-    paths: &Paths,
+    paths: &PathSet,
     all: &[Vec<String>],
     set: usize,
 ) -> Result<bool, Memory> {
@@ -24,7 +24,12 @@ fn finds_each(
 }
 
 /// Tells whether the set holds and finds as the plain set does.
-fn looks_as(alloc: Global, paths: &Paths, all: &[Vec<String>], set: usize) -> Result<bool, Memory> {
+fn looks_as(
+    alloc: Global,
+    paths: &PathSet,
+    all: &[Vec<String>],
+    set: usize,
+) -> Result<bool, Memory> {
     Ok(holds(alloc, paths, all, set)? && finds_each(alloc, paths, all, set)?)
 }
 
@@ -33,15 +38,15 @@ pub(crate) fn look(alloc: Global, all: &[Vec<String>], sets: usize) -> Result<us
     let mut count: usize = 0;
     for number in 0..sets {
         let set = number.wrapping_mul(31);
-        let paths: Paths = value_of(alloc, all, set)?;
+        let paths: PathSet = value_of(alloc, all, set)?;
         count = count.saturating_add(usize::from(looks_as(alloc, &paths, all, set)?));
     }
     Ok(count)
 }
 
 /// Answers the set of a plain set of seven lists, put from the last to the first, each twice.
-fn put_backwards(alloc: Global, all: &[Vec<String>], set: usize) -> Result<Paths, Memory> {
-    let mut paths = Paths::new(alloc);
+fn put_backwards(alloc: Global, all: &[Vec<String>], set: usize) -> Result<PathSet, Memory> {
+    let mut paths = PathSet::new(alloc);
     let mut bit: usize = 64;
     for list in all.iter().rev() {
         if set & bit != 0 {

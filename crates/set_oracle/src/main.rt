@@ -8,7 +8,7 @@ mod plain;
 mod trees;
 
 use cadf_join::{ChainTree, Memory};
-use cadf_paths::Paths;
+use cadf_pathset::PathSet;
 use std::alloc::Global;
 use std::io;
 
@@ -37,8 +37,8 @@ fn count(alloc: Global, name: &str) -> Result<usize, Memory> {
         "pairs of trees" => plain::pairs::<ChainTree>(alloc, &chains, 64),
         "flat sets look" => flat::look(alloc, &long, LOOKS),
         "flat sets put backwards" => flat::backwards(alloc, &short, 128),
-        "pairs of flat sets" => plain::pairs::<Paths>(alloc, &short, 128),
-        "pairs of long flat sets" => plain::some_pairs::<Paths>(alloc, &long, PAIRS),
+        "pairs of flat sets" => plain::pairs::<PathSet>(alloc, &short, 128),
+        "pairs of long flat sets" => plain::some_pairs::<PathSet>(alloc, &long, PAIRS),
         "chains that share their beginnings" => chains::found(alloc),
         _ => Ok(usize::from(example::two_sites_join(alloc)?)),
     }

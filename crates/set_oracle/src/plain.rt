@@ -3,7 +3,7 @@
 //! A plain set of some lists in order is a number: its lowest bit says whether it has the first of them, and so on.
 
 use cadf_join::{ChainTree, Join, Memory};
-use cadf_paths::Paths;
+use cadf_pathset::PathSet;
 use std::alloc::Global;
 
 /// Answers the list that is written with a stroke between its texts, or a dash where it is empty.
@@ -58,9 +58,9 @@ impl Made for ChainTree {
     }
 }
 
-impl Made for Paths {
-    fn empty(alloc: Global) -> Paths {
-        Paths::new(alloc)
+impl Made for PathSet {
+    fn empty(alloc: Global) -> PathSet {
+        PathSet::new(alloc)
     }
 
     fn add(&mut self, alloc: Global, list: &[String]) -> Result<(), Memory> {

@@ -2,7 +2,7 @@ use Rattle.std.proofs.Common.{◌+◌, ◌<◌, ◌≤◌, length, ap, sym, ◌�
 use Rattle.std.proofs.lemmas.Result.{err_from_is_err_and}
 use Rattle.std.proofs.lemmas.List.{take_all}
 use Rattle.cadf_line.specs.Digest.{atom_digest}
-use Rattle.cadf_rehearsal.specs.Schedule.{after, turned}
+use Rattle.cadf_rehearsal.specs.Schedule.{after, world_after_turn}
 use Rattle.cadf_rehearsal.specs.Federation.{world_of, IsFaultDue}
 use Rattle.cadf_rehearsal.proofs.Played.{after_more, after_refused}
 use Rattle.cadf_rehearsal.proofs.Seen.{left_is}
@@ -23,7 +23,7 @@ loop-i-preserved c =
       count = later.count ∙ kept.count;
       one_log = later.one_log c.args.log.now kept.one_log;
       so_far = after_more atom_digest c.args.log.now c.args.sites c.args.turns.now i t (world_of f) _ lt c.index-turns-i.is kept.so_far
-          ((λ k. turned atom_digest c.args.log.now (sym kept.count k) (i + 1) (world_of f) t) ∙ c.in_ok-take.ensures.ok c.args.log.now kept.one_log);
+          ((λ k. world_after_turn atom_digest c.args.log.now (sym kept.count k) (i + 1) (world_of f) t) ∙ c.in_ok-take.ensures.ok c.args.log.now kept.one_log);
     }
 
 pub returns-in_err-take-clause-err : goal.returns-in_err-take-clause-err
@@ -37,7 +37,7 @@ returns-in_err-take-clause-err c =
     elim (c.in_err-take.ensures.err c.args.log.now kept.one_log) [
       | inl memory ↦ inl memory
       | inr is ↦ inr (after_refused atom_digest c.args.log.now c.args.sites c.args.turns.now i t (world_of f) _ lt c.index-turns-i.is kept.so_far
-          ((λ k. turned atom_digest c.args.log.now (sym kept.count k) (i + 1) (world_of f) t) ∙ is))
+          ((λ k. world_after_turn atom_digest c.args.log.now (sym kept.count k) (i + 1) (world_of f) t) ∙ is))
     ] in
     let p = err_from_is_err_and c.from_residual-in_err-take.result c.from_residual-in_err-take.ensures.1 in
     rw (p.1, p.2) due

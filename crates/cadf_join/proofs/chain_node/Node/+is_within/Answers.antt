@@ -3,7 +3,7 @@ use Rattle.std.specs.Prelude.{not}
 use mathlib.Core.Bool.{true≢false}
 use Rattle.std.specs.FinMap as fin
 use Rattle.cadf_join.specs.Sets as set
-use Rattle.cadf_join.specs.Contents.{Text, IsWithin, section}
+use Rattle.cadf_join.specs.Contents.{Text, IsWithin, suffixes_of}
 use Rattle.cadf_join.specs.laws.Contents as laws
 use Rattle.cadf_join.specs.laws.Sets as sets
 use Rattle.cadf_join.specs.Maps.{held, map_of}
@@ -29,8 +29,8 @@ pub loop-text-init : goal.loop-text-init
 loop-text-init t c =
     let es = c.self.inside.next.entries in
     let starts = c.into_iter-text-iterator.ensures.into_iter_gives.0 in
-    let is_section : (k : Text) → section c.args.self.now k ≡ held (λ s. s) (fin.get (map_of es) k) =
-    λ k. ap (λ s. section s k) (sym c.self.view_is) ∙ prefixes.section-chains_from c.self.inside.ends (map_of es) k in
+    let is_section : (k : Text) → suffixes_of c.args.self.now k ≡ held (λ s. s) (fin.get (map_of es) k) =
+    λ k. ap (λ s. suffixes_of s k) (sym c.self.view_is) ∙ prefixes.section-chains_from c.self.inside.ends (map_of es) k in
     record {
       rest = record { map = map_of es; sections = is_section; rest = entries.rest_start c.self.inside.next (map_of es) _ starts refl c.self.invariant.rising };
       below = subst (AreBelow c.args.self.now) (sym starts)
@@ -47,9 +47,9 @@ returns-in_default t c =
     let child = c.in-Some.child.now in
     let o = c.other.inside.next in
     let r = subst (IsRestOf c.args.self.now) c.in-Some.ensures.steps c.loop-text.invariant.rest in
-    let here : section c.args.self.now k ≡ child = r.sections k ∙ ap (held (λ s. s)) (entries.head_is_held r.map _ _ r.rest) in
+    let here : suffixes_of c.args.self.now k ≡ child = r.sections k ∙ ap (held (λ s. s)) (entries.head_is_held r.map _ _ r.rest) in
     let looked = c.in_default.ensures.value ∙ entries.looked_up o (map_of o.entries) c.as_str.result.now k c.as_str.ensures.value refl in
-    let there : section c.args.other.now k ≡ set.empty = ap (λ s. section s k) (sym c.other.view_is)
+    let there : suffixes_of c.args.other.now k ≡ set.empty = ap (λ s. suffixes_of s k) (sym c.other.view_is)
     ∙ prefixes.section-chains_from c.other.inside.ends (map_of o.entries) k ∙ ap (held (λ s. s)) (sym looked) in (
       λ f. absurd (true≢false (sym f)),
       λ w. absurd ((subst (AreBelow c.args.self.now) c.in-Some.ensures.steps c.loop-text.invariant.below).0.0
@@ -63,9 +63,9 @@ returns-then-not-is_within t c =
     let child = c.in-Some.child.now in
     let o = c.other.inside.next in
     let r = subst (IsRestOf c.args.self.now) c.in-Some.ensures.steps c.loop-text.invariant.rest in
-    let here : section c.args.self.now k ≡ child = r.sections k ∙ ap (held (λ s. s)) (entries.head_is_held r.map _ _ r.rest) in
+    let here : suffixes_of c.args.self.now k ≡ child = r.sections k ∙ ap (held (λ s. s)) (entries.head_is_held r.map _ _ r.rest) in
     let looked = c.in-Some-get.ensures.value ∙ entries.looked_up o (map_of o.entries) c.as_str.result.now k c.as_str.ensures.value refl in
-    let there : section c.args.other.now k ≡ c.in-Some-get.theirs.now = ap (λ s. section s k) (sym c.other.view_is)
+    let there : suffixes_of c.args.other.now k ≡ c.in-Some-get.theirs.now = ap (λ s. suffixes_of s k) (sym c.other.view_is)
     ∙ prefixes.section-chains_from c.other.inside.ends (map_of o.entries) k ∙ ap (held (λ s. s)) (sym looked) in (
       λ f. absurd (true≢false (sym f)),
       λ w. sym c.if-not-is_within.true
@@ -79,19 +79,19 @@ loop-text-preserved t c =
     let child = c.in-Some.child.now in
     let o = c.other.inside.next in
     let r = subst (IsRestOf c.args.self.now) c.in-Some.ensures.steps c.loop-text.invariant.rest in
-    let here : section c.args.self.now k ≡ child = r.sections k ∙ ap (held (λ s. s)) (entries.head_is_held r.map _ _ r.rest) in
+    let here : suffixes_of c.args.self.now k ≡ child = r.sections k ∙ ap (held (λ s. s)) (entries.head_is_held r.map _ _ r.rest) in
     let looked = c.in-Some-get.ensures.value ∙ entries.looked_up o (map_of o.entries) c.as_str.result.now k c.as_str.ensures.value refl in
-    let there : section c.args.other.now k ≡ c.in-Some-get.theirs.now = ap (λ s. section s k) (sym c.other.view_is)
+    let there : suffixes_of c.args.other.now k ≡ c.in-Some-get.theirs.now = ap (λ s. suffixes_of s k) (sym c.other.view_is)
     ∙ prefixes.section-chains_from c.other.inside.ends (map_of o.entries) k ∙ ap (held (λ s. s)) (sym looked) in
-    let one : IsWithin (section c.args.self.now k) (section c.args.other.now k) =
+    let one : IsWithin (suffixes_of c.args.self.now k) (suffixes_of c.args.other.now k) =
     sets.IsWithin-trans _ _ _ (sets.IsWithin-same here) (sets.IsWithin-trans _ _ _ (c.is_within.ensures.0 c.if-not-is_within.false)
     (sets.IsWithin-same (sym there))) in
     record {
       rest = record { map = r.map; sections = r.sections; rest = entries.rest_of_tail r.map _ _ r.rest };
       below = (subst (AreBelow c.args.self.now) c.in-Some.ensures.steps c.loop-text.invariant.below).1;
-      agree = λ q gone. entries.passed {P = IsWithin (section c.args.self.now q) (section c.args.other.now q)} (c.in-Some.text.now, child) c.next.new.self q
+      agree = λ q gone. entries.passed {P = IsWithin (suffixes_of c.args.self.now q) (suffixes_of c.args.other.now q)} (c.in-Some.text.now, child) c.next.new.self q
           gone
-          (λ same. subst (λ x. IsWithin (section c.args.self.now x) (section c.args.other.now x)) same one)
+          (λ same. subst (λ x. IsWithin (suffixes_of c.args.self.now x) (suffixes_of c.args.other.now x)) same one)
           (λ before. c.loop-text.invariant.agree q (ap (λ es. entries.is_ahead es q) c.in-Some.ensures.steps ∙ before));
     }
 

@@ -1,5 +1,5 @@
 use Rattle.std.proofs.Common.{◌≡◌, false}
-use Rattle.cadf_join.specs.Contents.{Text, IsWithin, section}
+use Rattle.cadf_join.specs.Contents.{Text, IsWithin, suffixes_of}
 use Rattle.cadf_join.specs.Prefixes.{height}
 use Rattle.cadf_join.proofs.Entries.{is_ahead, IsRestOf}
 use Rattle.cadf_join.proofs.Nodes.{AreBelow}
@@ -12,5 +12,5 @@ abbrev pub invariant-loop-text : goal.invariant-loop-text
 invariant-loop-text l = record {
   rest : IsRestOf l.self l.text-iterator;
   below : AreBelow l.self l.text-iterator;
-  agree : (k : Text) → is_ahead l.text-iterator k ≡ false → IsWithin (section l.self k) (section l.other k);
+  agree : (k : Text) → is_ahead l.text-iterator k ≡ false → IsWithin (suffixes_of l.self k) (suffixes_of l.other k);
 }

@@ -1,0 +1,144 @@
+//! An object that is read a member at a time, of which one list is let go item by item.
+ghost use Rattle.std.specs.Prelude.{◌≡◌, ◌<◌, ◌≤◌, ◌++◌, ◌∷◌, [], List, length, Some, IfOk, OnOk};
+ghost use Rattle.json.specs.Json.{value, members};
+ghost use Rattle.json.specs.Value.{members_view};
+ghost use Rattle.serde_json.specs.Data.{Data, Items, array, no_members, put};
+ghost use Rattle.serde_json.specs.Read.{of_members, converted};
+ghost use Rattle.cadf_json.specs.Tree.{named_in, AreMembersWithin};
+ghost use Rattle.cadf_json.specs.StreamedObjects.{PassesItems, PassesList, AreAround, IsSplit};
+
+use crate::read::{TreeFault, put_member, read};
+use crate::tree::Tree;
+use crate::view::View;
+use json::{Reader, Scratch, Token, Value};
+use std::alloc::Global;
+
+const MEMBER_DEPTH: usize = 126;
+
+/// What takes the items of a list in turn.
+pub trait ItemVisitor {
+    /// It has taken these items.
+    ghost took: { Self → List Data → Type 0 };
+
+    /// Takes a further item, or refuses to judge it.
+    fn take(&mut self, item: &View<'_, '_>) -> Result<(), TreeFault>
+        ensures { OnOk result ((ds : List Data) → took self.old ds → took self.new (ds ++ item.now ∷ [])) };
+}
+
+// The items up to the closing bracket.
+fn pass_items<'a, T: ItemVisitor>(
+    alloc: Global,
+    reader: &mut Reader<'a>,
+    depth: usize,
+    taker: &mut T,
+) -> Result<(), TreeFault>
+    requires { depth ≤ 127 }
+    ensures ok { OnOk result
+        (PassesItems T.took taker.old taker.new depth reader.old reader.new) }
+    ensures shorter { OnOk result (length reader.new < length reader.old) }
+{
+    'items: while !reader.take_end_array() {
+        let item = Tree::read(alloc, reader, depth)?;
+        taker.take(&item.view())?;
+    }
+    Ok(())
+}
+
+// The list that comes next.
+fn pass_list<'a, T: ItemVisitor>(
+    alloc: Global,
+    reader: &mut Reader<'a>,
+    depth: usize,
+    taker: &mut T,
+) -> Result<(), TreeFault>
+    requires { depth ≤ 127 }
+    ensures ok { OnOk result
+        (PassesList T.took taker.old taker.new depth reader.old reader.new) }
+    ensures shorter { OnOk result (length reader.new < length reader.old) }
+{
+    let Some(Token::BeginArray) = reader.next() else {
+        return Err(TreeFault::NeedsFullParse);
+    };
+    if depth == 0 {
+        return Err(TreeFault::NeedsFullParse);
+    }
+    pass_items(alloc, reader, depth - 1, taker)?;
+    Ok(())
+}
+
+/// Members of an object, and whether a list was taken that stands among them as an empty one.
+#[derive(Drop)]
+struct MembersAround<'a> {
+    members: Vec<(&'a str, Value<'a>)>,
+    taken: bool,
+}
+
+// The members up to the closing brace, with an empty list in the place of the one that is let go.
+fn read_around<'a, T: ItemVisitor>(
+    alloc: Global,
+    reader: &mut Reader<'a>,
+    depth: usize,
+    name: &str,
+    taker: &mut T,
+) -> Result<MembersAround<'a>, TreeFault>
+    requires { (1 ≤ depth) × (depth ≤ 127) }
+    ensures ok { IfOk result (λ a. AreAround T.took taker.old taker.new name.now a.taken
+        (named_in (members_view a.members.items)) depth reader.old reader.new) }
+    ensures within { IfOk result (λ a. AreMembersWithin depth (members_view a.members.items)) }
+{
+    let mut members = Vec::new(alloc);
+    let mut taken = false;
+    'members: loop {
+        let Ok(key) = reader.next_key() else {
+            return Err(TreeFault::NeedsFullParse);
+        };
+        let Some(key) = key else {
+            return Ok(MembersAround { members, taken });
+        };
+        if key != name {
+            let member = read(alloc, reader, depth)?;
+            put_member(&mut members, key, member, depth)?;
+        } else if taken {
+            return Err(TreeFault::NeedsFullParse);
+        } else {
+            pass_list(alloc, reader, depth, taker)?;
+            put_member(&mut members, key, Value::Array(Vec::new(alloc)), depth)?;
+            taken = true;
+        }
+    }
+}
+
+/// An object of which one list may have been taken.
+#[derive(Drop)]
+pub enum StreamedObject<'a> {
+    /// The object with an empty list in the place of the one whose items were taken in turn.
+    Around(Tree<'a>),
+    /// The whole object, which has no member of that name.
+    Whole(Tree<'a>),
+}
+
+/// The object that the text spells. Where it has a member of that name, this is a list, whose items are
+/// taken in turn.
+pub fn read_object_streaming<'a, T: ItemVisitor>(
+    alloc: Global,
+    text: &'a str,
+    scratch: &'a mut Scratch,
+    name: &str,
+    taker: &mut T,
+) -> Result<StreamedObject<'a>, TreeFault>
+    ensures ok { IfOk result (λ s. IsSplit T.took taker.old taker.new text.now name.now s) }
+{
+    let mut reader = Reader::new(text, scratch)?;
+    let Some(Token::BeginObject) = reader.next() else {
+        return Err(TreeFault::NeedsFullParse);
+    };
+    let around = read_around(alloc, &mut reader, MEMBER_DEPTH, name, taker)?;
+    if reader.next().is_some() {
+        return Err(TreeFault::NeedsFullParse);
+    }
+    let tree = Tree::of_members(around.members);
+    if around.taken {
+        return Ok(StreamedObject::Around(tree));
+    }
+    Ok(StreamedObject::Whole(tree))
+}

@@ -1,5 +1,0 @@
-use Rattle.std.proofs.Common.{length}
-use Rattle.cadf_paths.proofs.sort.+sorted.Given as goal
-
-abbrev pub decreases-sorted : goal.decreases-sorted
-decreases-sorted l = length l.numbers.now

@@ -1,8 +1,0 @@
-pub mod Block
-pub mod Carriers
-pub mod Kept
-pub mod Lists
-pub mod Merge
-pub mod Nodes
-pub mod Sections
-pub mod Walks

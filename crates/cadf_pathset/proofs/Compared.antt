@@ -1,0 +1,71 @@
+-- A line's list and a path, compared at one text.
+use Rattle.std.proofs.Common.{◌≡◌, ℕ, ◌+◌, ◌<◌, ◌≤◌, min, List, [], sym, ap, ◌∙◌, length, take, get_or, arith}
+use Rattle.std.specs.Borrow.{Bor}
+use Rattle.std.proofs.lemmas.List.{length-map, length-take, take-map}
+use Rattle.std.specs.declared.cmp.Ordering.{Ordering}
+use Rattle.std.specs.declared.cmp.Ordering.TheVariants.{Less, Equal, Greater}
+use Rattle.std.specs.Ordering.{nat_cmp}
+use Rattle.cadf_join.specs.Contents.{Text, Texts, text_cmp, texts_cmp}
+use Rattle.cadf_join.specs.Prefixes.{texts_at}
+use Rattle.cadf_pathset.specs.Nodes.{Agree, IsLine, last_text, list_at, place, shared}
+use Rattle.cadf_pathset.proofs.Agreement.{agree_more, parted, ended}
+use Rattle.cadf_pathset.proofs.Threads.{text_on_line}
+
+pub less_is_not : Less ≡ Equal → ⊥
+less_is_not e = cc
+
+pub greater_is_not : Greater ≡ Equal → ⊥
+greater_is_not e = cc
+
+module _ (ls : List Texts) (ns : List ℕ) (path : List (Bor (List ℕ))) (i : ℕ) (h : IsLine ls ns (place ls ns)) (k : Agree i (place ls ns) (texts_at path)) where
+  module _ (b : i < length ns) (d : i < length path) (t u : Text) (r : Ordering) (ours : t ≡ last_text (list_at ls (get_or ns i 0)))
+      (theirs : u ≡ get_or (texts_at path) i []) (is : r ≡ text_cmp t u) where
+    at_text : text_cmp (get_or (place ls ns) i []) (get_or (texts_at path) i []) ≡ r
+    at_text = sym (is ∙ (λ j. text_cmp ((ours ∙ text_on_line ls ns (place ls ns) h i b) j) (theirs j)))
+
+    fits : i < length (place ls ns)
+    fits = let m = h.long in omega (arith, m, b)
+
+    reaches : i < length (texts_at path)
+    reaches = let m = length-map path (λ t. t.now) in omega (arith, m, d)
+
+    pub part_here : (r ≡ Equal → ⊥) → (texts_cmp (place ls ns) (texts_at path) ≡ r) × (shared (place ls ns) (texts_at path) ≡ i)
+    part_here n = parted i (place ls ns) (texts_at path) r k fits reaches at_text n
+
+    pub agree_here : r ≡ Equal → Agree (i + 1) (place ls ns) (texts_at path)
+    agree_here e = agree_more i (place ls ns) (texts_at path) k fits reaches (at_text ∙ e)
+
+  pub end_here : min (length ns) (length path) ≤ i → (texts_cmp (place ls ns) (texts_at path) ≡ nat_cmp (length ns) (length path)) × (shared (place ls ns) (texts_at path) ≡ i)
+  end_here b =
+      let m = h.long in
+      let n : length (texts_at path) ≡ length path = length-map path (λ t. t.now) in
+      let e = ended i (place ls ns) (texts_at path) k (omega (arith, m, n, b)) in
+      (e.0 ∙ (λ j. nat_cmp (sym m j) (n j)), e.1)
+
+-- what is left of a path that is cut
+pub cut_path : (p q : List (Bor (List ℕ))) (n : ℕ) (l : Texts) → q ≡ take n p → Agree n (texts_at p) l → texts_at q ≡ take (length q) l
+cut_path p q n l e h =
+    let a = ap length e in
+    let b = length-take n p in
+    let m = length-map p (λ t. t.now) in
+    let f = h.ours in
+    let k : n ≡ length q = omega (arith, a, b, m, f) in
+    ap texts_at e ∙ sym (take-map (λ t. t.now) n p) ∙ h.same ∙ ap (λ j. take j l) k
+
+-- the same of two lists, of which one tells its length
+module _ (l q : Texts) (len : ℕ) (long : length q ≡ len) (i : ℕ) (k : Agree i l q) where
+  module _ (b : i < length l) (d : i < len) (t u : Text) (r : Ordering) (ours : t ≡ get_or l i []) (theirs : u ≡ get_or q i []) (is : r ≡ text_cmp t u) where
+    text_here : text_cmp (get_or l i []) (get_or q i []) ≡ r
+    text_here = sym (is ∙ (λ j. text_cmp (ours j) (theirs j)))
+
+    list_reaches : i < length q
+    list_reaches = omega (arith, long, d)
+
+    pub list_parts : (r ≡ Equal → ⊥) → texts_cmp l q ≡ r
+    list_parts n = (parted i l q r k b list_reaches text_here n).0
+
+    pub list_agrees : r ≡ Equal → Agree (i + 1) l q
+    list_agrees e = agree_more i l q k b list_reaches (text_here ∙ e)
+
+  pub list_ends : (has : ℕ) → has ≡ length l → min has len ≤ i → texts_cmp l q ≡ nat_cmp has len
+  list_ends has e b = (ended i l q k (omega (arith, e, long, b))).0 ∙ (λ j. nat_cmp (sym e j) (long j))

@@ -1,0 +1,260 @@
+-- What halving over rising lists finds.
+use Rattle.std.proofs.Common.{◌≡◌, ℕ, ◌+◌, ◌-◌, ◌≤◌, ◌<◌, Bool, true, false, List, [], ◌∷◌, ◌++◌}
+use Rattle.std.proofs.Common.{refl, sym, ap, ◌∙◌, subst, suc, zero, length, take, drop, get_or, ◌||◌, arith, Some}
+use Rattle.std.proofs.Math.Numerals.{add-one}
+use Rattle.std.proofs.Math.Seq.{take-suc}
+use mathlib.Core.Bool.{true≢false}
+use Rattle.std.specs.declared.cmp.Ordering.{Ordering}
+use Rattle.std.specs.declared.cmp.Ordering.TheVariants.{Less, Equal, Greater}
+use Rattle.std.specs.Ordering.{match_ordering, ordering_then, ordering_reverse, eq_by_cmp, is_eq, is_lt}
+use Rattle.std.specs.Bool.{Decides}
+use Rattle.std.specs.Cmp.{Equal-is, tied_itself}
+use Rattle.std.specs.Cmp.Lexicographic.{pointwise, pointwise_decides}
+use Rattle.std.specs.List.{AllByRecursion, list_any}
+use Rattle.std.specs.List.Sorted.{IsStrictlySortedBy}
+use Rattle.cadf_join.specs.laws.Sets as sets
+use Rattle.cadf_join.specs.Contents.{Texts, is_after, text_cmp, texts_cmp}
+use Rattle.cadf_join.specs.laws.Contents.{text_total, text_same, texts_total, texts_same, contents_same}
+use Rattle.cadf_join.specs.Sets as set
+use Rattle.cadf_join.specs.Sets.{contains-from_list, contains-insert}
+use Rattle.cadf_pathset.proofs.Spans.{all_more, all_turned}
+use Rattle.cadf_pathset.proofs.Inserts.{all_put}
+use Rattle.cadf_pathset.specs.Lists.{prefix_cmp, is_before, last_of, ends_behind, ends_below}
+
+-- what is below a list that is before the bound is before it
+pub before_below : (p : Texts) (more : Bool) (a b : Texts) → texts_cmp a b ≡ Less → is_before p more b ≡ true → is_before p more a ≡ true
+before_below [] more a b less h = h
+before_below (t ∷ p) more [] b less h = refl
+before_below (t ∷ p) more (u ∷ a) [] less h = absurd (greater_is_not_less less)
+  where
+    greater_is_not_less : Greater ≡ Less → ⊥
+    greater_is_not_less e = cc
+before_below (t ∷ p) more (u ∷ a) (v ∷ b) less h = by (text_cmp u v) refl (text_cmp v t) refl less h (λ l k. before_below p more a b l k)
+  where
+    with_less : text_cmp u t ≡ Less → is_before (t ∷ p) more (u ∷ a) ≡ true
+    with_less e = ap (λ r. match_ordering (match_ordering r Less (prefix_cmp a p) Greater) true more false) e
+
+    by : (r : Ordering) → text_cmp u v ≡ r → (s : Ordering) → text_cmp v t ≡ s → ordering_then r (texts_cmp a b) ≡ Less
+        → match_ordering (match_ordering s Less (prefix_cmp b p) Greater) true more false ≡ true
+        → (texts_cmp a b ≡ Less → is_before p more b ≡ true → is_before p more a ≡ true) → is_before (t ∷ p) more (u ∷ a) ≡ true
+    by Less e Less f l k on = with_less (text_total.trans u v t e f)
+    by Less e Equal f l k on = with_less (sym (ap (text_cmp u) (text_same v t f)) ∙ e)
+    by Equal e Less f l k on = with_less (ap (λ z. text_cmp z t) (text_same u v e) ∙ f)
+    by Equal e Equal f l k on =
+        ap (λ r. match_ordering (match_ordering r Less (prefix_cmp a p) Greater) true more false) (ap (λ z. text_cmp z t) (text_same u v e) ∙ f)
+        ∙ on l k
+    by r e Greater f l k on = absurd (true≢false (sym k))
+    by Greater e s f l k on = absurd (never l)
+      where
+        never : Greater ≡ Less → ⊥
+        never q = cc
+
+rising_from : (x : Texts) (xs : List Texts) (j : ℕ) → AllByRecursion (λ y. texts_cmp x y ≡ Less) xs → j < length xs → texts_cmp x (get_or xs j []) ≡ Less
+rising_from x [] j h l = absurd (omega (arith, l))
+rising_from x (y ∷ xs) zero h l = h.0
+rising_from x (y ∷ xs) (suc j) h l = rising_from x xs j h.1 (omega (arith, l))
+
+pub rising_at : (xs : List Texts) (i j : ℕ) → IsStrictlySortedBy texts_cmp xs → i < j → j < length xs → texts_cmp (get_or xs i []) (get_or xs j []) ≡ Less
+unfolding IsStrictlySortedBy
+rising_at [] i j s b l = absurd (omega (arith, l))
+rising_at (x ∷ xs) i zero s b l = absurd (omega (arith, b))
+rising_at (x ∷ xs) zero (suc j) s b l = rising_from x xs j s.0 (omega (arith, l))
+rising_at (x ∷ xs) (suc i) (suc j) s b l = rising_at xs i j s.1 (omega (arith, b)) (omega (arith, l))
+
+at_or_below : {P : Type 0} (i j : ℕ) → i < j + 1 → (i ≡ j → P) → (i < j → P) → P
+at_or_below zero zero h same lower = same refl
+at_or_below zero (suc j) h same lower = lower (omega arith)
+at_or_below (suc i) zero h same lower = absurd (omega (arith, h))
+at_or_below (suc i) (suc j) h same lower = at_or_below i j (omega (arith, h)) (λ e. same (ap suc e)) (λ b. lower (omega (arith, b)))
+
+module _ (xs : List Texts) (s : IsStrictlySortedBy texts_cmp xs) (p : Texts) (more : Bool) (j : ℕ) (l : j < length xs) where
+  pub all_before : is_before p more (get_or xs j []) ≡ true → (i : ℕ) → i < j + 1 → is_before p more (get_or xs i []) ≡ true
+  all_before h i b = at_or_below i j b
+      (λ same. ap (λ k. is_before p more (get_or xs k [])) same ∙ h)
+      (λ lower. before_below p more (get_or xs i []) (get_or xs j []) (rising_at xs i j s lower l) h)
+
+  pub none_before : is_before p more (get_or xs j []) ≡ false → (i : ℕ) → j ≤ i → i < length xs → is_before p more (get_or xs i []) ≡ false
+  none_before h i b m = at_or_below j i (omega (arith, b))
+      (λ same. ap (λ k. is_before p more (get_or xs k [])) (sym same) ∙ h)
+      (λ higher. sets.false_from (is_before p more (get_or xs i [])) (λ yes. true≢false (
+      sym (before_below p more (get_or xs j []) (get_or xs i []) (rising_at xs j i s higher m) yes) ∙ h)))
+
+pub all_taken : (P : Texts → Type 0) (xs : List Texts) (n : ℕ) → n ≤ length xs → ((i : ℕ) → i < n → P (get_or xs i [])) → AllByRecursion P (take n xs)
+all_taken P xs zero l h = tt
+all_taken P [] (suc n) l h = tt
+all_taken P (x ∷ xs) (suc n) l h = (h 0 (omega arith), all_taken P xs n (omega (arith, l)) (λ i b. h (suc i) (omega (arith, b))))
+
+pub all_dropped : (P : Texts → Type 0) (xs : List Texts) (n : ℕ) → ((i : ℕ) → n ≤ i → i < length xs → P (get_or xs i [])) → AllByRecursion P (drop n xs)
+all_dropped P [] zero h = tt
+all_dropped P [] (suc n) h = tt
+all_dropped P (x ∷ xs) zero h = (h 0 (omega arith) (omega arith), all_dropped P xs zero (λ i b l. h (suc i) (omega arith) (omega (arith, l))))
+all_dropped P (x ∷ xs) (suc n) h = all_dropped P xs n (λ i b l. h (suc i) (omega (arith, b)) (omega (arith, l)))
+
+last_at : (l : Texts) (ls : List Texts) → get_or (l ∷ ls) (length ls) [] ≡ last_of l ls
+last_at l [] = refl
+last_at l (k ∷ ls) = last_at k ls
+
+pub ends_below_at : (ls : List Texts) (q : Texts) → (ls ≡ [] → ⊥) → is_lt (texts_cmp (get_or ls (length ls - 1) []) q) ≡ ends_below ls q
+ends_below_at [] q some = absurd (some refl)
+ends_below_at (l ∷ ls) q some =
+    let n : length (l ∷ ls) - 1 ≡ length ls = omega arith in
+    ap (λ k. is_lt (texts_cmp (get_or (l ∷ ls) k []) q)) n ∙ ap (λ z. is_lt (texts_cmp z q)) (last_at l ls)
+
+pub ends_behind_at : (ls : List Texts) (p : Texts) → (ls ≡ [] → ⊥) → is_eq (prefix_cmp (get_or ls (length ls - 1) []) p) ≡ ends_behind ls p
+ends_behind_at [] p some = absurd (some refl)
+ends_behind_at (l ∷ ls) p some =
+    let n : length (l ∷ ls) - 1 ≡ length ls = omega arith in
+    ap (λ k. is_eq (prefix_cmp (get_or (l ∷ ls) k []) p)) n ∙ ap (λ z. is_eq (prefix_cmp z p)) (last_at l ls)
+
+pub less_is_before : (a q : Texts) → texts_cmp a q ≡ Less → is_before q false a ≡ true
+less_is_before [] [] h = absurd (never h)
+  where
+    never : Equal ≡ Less → ⊥
+    never e = cc
+less_is_before [] (t ∷ q) h = refl
+less_is_before (u ∷ a) [] h = absurd (never h)
+  where
+    never : Greater ≡ Less → ⊥
+    never e = cc
+less_is_before (u ∷ a) (t ∷ q) h = by (text_cmp u t) h (less_is_before a q)
+  where
+    by : (r : Ordering) → ordering_then r (texts_cmp a q) ≡ Less → (texts_cmp a q ≡ Less → is_before q false a ≡ true)
+        → match_ordering (match_ordering r Less (prefix_cmp a q) Greater) true false false ≡ true
+    by Less k on = refl
+    by Equal k on = on k
+    by Greater k on = absurd (never k)
+      where
+        never : Greater ≡ Less → ⊥
+        never e = cc
+
+pub before_is_less : (a q : Texts) → is_before q false a ≡ true → texts_cmp a q ≡ Less
+before_is_less a [] h = absurd (true≢false (sym h))
+before_is_less [] (t ∷ q) h = refl
+before_is_less (u ∷ a) (t ∷ q) h = by (text_cmp u t) h (before_is_less a q)
+  where
+    by : (r : Ordering) → match_ordering (match_ordering r Less (prefix_cmp a q) Greater) true false false ≡ true
+        → (is_before q false a ≡ true → texts_cmp a q ≡ Less) → ordering_then r (texts_cmp a q) ≡ Less
+    by Less k on = refl
+    by Equal k on = on k
+    by Greater k on = absurd (true≢false (sym k))
+
+pub turned : (a q : Texts) → texts_cmp a q ≡ Greater → texts_cmp q a ≡ Less
+turned a q h = texts_total.antisymm q a ∙ ap ordering_reverse h
+
+-- what stands from the bound on is above the list, where the first of it is another
+above_bound : (q : Texts) (xs : List Texts) → IsStrictlySortedBy texts_cmp xs → AllByRecursion (λ l. is_before q false l ≡ false) xs
+    → (texts_cmp (get_or xs 0 []) q ≡ Equal → 0 < length xs → ⊥) → AllByRecursion (λ l. texts_cmp q l ≡ Less) xs
+unfolding IsStrictlySortedBy
+above_bound q [] s h other = tt
+above_bound q (x ∷ xs) s h other = by (texts_cmp x q) refl
+  where
+    first : texts_cmp q x ≡ Less → AllByRecursion (λ l. texts_cmp q l ≡ Less) (x ∷ xs)
+    first less = (less, all_turned (λ y. texts_cmp x y ≡ Less) (λ l. texts_cmp q l ≡ Less) xs (λ y below. texts_total.trans q x y less below) s.0)
+
+    by : (r : Ordering) → texts_cmp x q ≡ r → AllByRecursion (λ l. texts_cmp q l ≡ Less) (x ∷ xs)
+    by Less e = absurd (true≢false (sym (less_is_before x q e) ∙ h.0))
+    by Equal e = absurd (other e (omega arith))
+    by Greater e = first (turned x q e)
+
+pub drop_sorted : (xs : List Texts) (n : ℕ) → IsStrictlySortedBy texts_cmp xs → IsStrictlySortedBy texts_cmp (drop n xs)
+unfolding IsStrictlySortedBy
+drop_sorted xs zero s = s
+drop_sorted [] (suc n) s = tt
+drop_sorted (x ∷ xs) (suc n) s = drop_sorted xs n s.1
+
+pub first_dropped : (xs : List Texts) (n : ℕ) → get_or (drop n xs) 0 [] ≡ get_or xs n []
+first_dropped [] zero = refl
+first_dropped (x ∷ xs) zero = refl
+first_dropped [] (suc n) = refl
+first_dropped (x ∷ xs) (suc n) = first_dropped xs n
+
+some_dropped : (xs : List Texts) (n : ℕ) → 0 < length (drop n xs) → n < length xs
+some_dropped xs zero h = h
+some_dropped [] (suc n) h = absurd (omega (arith, h))
+some_dropped (x ∷ xs) (suc n) h = let rest = some_dropped xs n h in omega (arith, rest)
+
+pub below_place : (q : Texts) (xs : List Texts) → AllByRecursion (λ l. is_before q false l ≡ true) xs → AllByRecursion (λ l. texts_cmp l q ≡ Less) xs
+below_place q xs h = all_turned (λ l. is_before q false l ≡ true) (λ l. texts_cmp l q ≡ Less) xs (λ x k. before_is_less x q k) h
+
+pub above_place : (q : Texts) (xs : List Texts) (n : ℕ) → IsStrictlySortedBy texts_cmp xs → AllByRecursion (λ l. is_before q false l ≡ false) (drop n xs)
+    → (n < length xs → eq_by_cmp texts_cmp (get_or xs n []) q ≡ true → ⊥) → AllByRecursion (λ l. texts_cmp q l ≡ Less) (drop n xs)
+above_place q xs n s h other =
+    above_bound q (drop n xs) (drop_sorted xs n s) h
+    (λ e some. other (some_dropped xs n some) (ap is_eq (sym (ap (λ z. texts_cmp z q) (first_dropped xs n)) ∙ e)))
+
+pub found_at : (q : Texts) (xs : List Texts) (n : ℕ) → n < length xs → eq_by_cmp texts_cmp (get_or xs n []) q ≡ true
+    → list_any (eq_by_cmp texts_cmp q) xs ≡ true
+found_at q [] n l e = absurd (omega (arith, l))
+found_at q (x ∷ xs) zero l e =
+    let same : x ≡ q = texts_same x q ((Equal-is (texts_cmp x q)).0 e) in
+    sets.or_left (eq_by_cmp texts_cmp q x) _ (ap (λ z. eq_by_cmp texts_cmp q z) same ∙ ap is_eq (tied_itself texts_total q))
+found_at q (x ∷ xs) (suc n) l e = sets.or_right (eq_by_cmp texts_cmp q x) _ (found_at q xs n (omega (arith, l)) e)
+
+pub not_there : (q : Texts) (xs : List Texts) (n : ℕ) → AllByRecursion (λ l. texts_cmp l q ≡ Less) (take n xs)
+    → AllByRecursion (λ l. texts_cmp q l ≡ Less) (drop n xs)
+    → list_any (eq_by_cmp texts_cmp q) xs ≡ false
+not_there q [] n below above = refl
+not_there q (x ∷ xs) zero below above =
+    ap (λ r. is_eq r || list_any (eq_by_cmp texts_cmp q) xs) above.0 ∙ not_there q xs zero tt above.1
+not_there q (x ∷ xs) (suc n) below above =
+    ap (λ r. is_eq r || list_any (eq_by_cmp texts_cmp q) xs) (texts_total.antisymm q x ∙ ap ordering_reverse below.0) ∙ not_there q xs n below.1 above
+
+pub put_rises : (q : Texts) (xs : List Texts) (n : ℕ) → IsStrictlySortedBy texts_cmp xs
+    → AllByRecursion (λ l. texts_cmp l q ≡ Less) (take n xs) → AllByRecursion (λ l. texts_cmp q l ≡ Less) (drop n xs)
+    → IsStrictlySortedBy texts_cmp (take n xs ++ q ∷ drop n xs)
+unfolding IsStrictlySortedBy
+put_rises q xs zero s below above = (above, s)
+put_rises q [] (suc n) s below above = (tt, tt)
+put_rises q (x ∷ xs) (suc n) s below above = (all_put (λ y. texts_cmp x y ≡ Less) xs n q s.0 below.0, put_rises q xs n s.1 below.1 above)
+
+any_put : (f : Texts → Bool) (xs : List Texts) (n : ℕ) (x : Texts) → list_any f (take n xs ++ x ∷ drop n xs) ≡ (f x || list_any f xs)
+any_put f xs zero x = refl
+any_put f [] (suc n) x = refl
+any_put f (y ∷ xs) (suc n) x = ap (λ b. f y || b) (any_put f xs n x) ∙ swapped (f y) (f x) (list_any f xs)
+  where
+    swapped : (a b c : Bool) → (a || (b || c)) ≡ (b || (a || c))
+    swapped true true c = refl
+    swapped true false c = refl
+    swapped false b c = refl
+
+pub put_is_insert : (xs : List Texts) (n : ℕ) (q : Texts) → set.from_list {R = texts_cmp} (take n xs ++ q ∷ drop n xs) ≡ set.insert (set.from_list xs) q
+put_is_insert xs n q = contents_same _ _ (λ x.
+    contains-from_list texts_total (take n xs ++ q ∷ drop n xs) x ∙ any_put (eq_by_cmp texts_cmp x) xs n q
+    ∙ ap (λ b. eq_by_cmp texts_cmp x q || b) (sym (contains-from_list texts_total xs x)) ∙ sym (contains-insert texts_total (set.from_list xs) q x))
+
+pub lists_decide : (xs ys : List Texts) → Decides (pointwise (eq_by_cmp texts_cmp) xs ys) (xs ≡ ys)
+lists_decide = pointwise_decides (λ x y. (
+  λ h. texts_same x y ((Equal-is (texts_cmp x y)).0 h),
+  λ e. subst (λ z. eq_by_cmp texts_cmp x z ≡ true) e (ap is_eq (tied_itself texts_total x)),
+))
+
+-- where the lists above one begin: at its place, or behind it where it is there
+pub not_after : (q : Texts) (xs : List Texts) → AllByRecursion (λ l. is_before q false l ≡ true) xs
+    → AllByRecursion (λ l. is_after texts_cmp (Some q) l ≡ false) xs
+not_after q xs h = all_turned (λ l. is_before q false l ≡ true) (λ l. is_after texts_cmp (Some q) l ≡ false) xs
+    (λ x k. ap is_lt (texts_total.antisymm q x ∙ ap ordering_reverse (before_is_less x q k))) h
+
+module _ (q : Texts) (xs : List Texts) (n : ℕ) (s : IsStrictlySortedBy texts_cmp xs) where
+  pub after_place : AllByRecursion (λ l. is_before q false l ≡ false) (drop n xs) → (n < length xs → eq_by_cmp texts_cmp (get_or xs n []) q ≡ true → ⊥)
+      → AllByRecursion (λ l. is_after texts_cmp (Some q) l ≡ true) (drop n xs)
+  after_place h other = all_turned (λ l. texts_cmp q l ≡ Less) (λ l. is_after texts_cmp (Some q) l ≡ true) (drop n xs) (λ x k. ap is_lt k)
+      (above_place q xs n s h other)
+
+  module _ (l : n < length xs) (e : eq_by_cmp texts_cmp (get_or xs n []) q ≡ true) where
+    same : get_or xs n [] ≡ q
+    same = texts_same (get_or xs n []) q ((Equal-is (texts_cmp (get_or xs n []) q)).0 e)
+
+    pub not_after_it : AllByRecursion (λ x. is_before q false x ≡ true) (take n xs) → AllByRecursion (λ x. is_after texts_cmp (Some q) x ≡ false)
+        (take (n + 1) xs)
+    not_after_it h =
+        subst (AllByRecursion (λ x. is_after texts_cmp (Some q) x ≡ false)) (sym (ap (λ k. take k xs) (add-one n) ∙ take-suc xs n [] l))
+        (all_more (λ x. is_after texts_cmp (Some q) x ≡ false) (take n xs) (get_or xs n []) (not_after q (take n xs) h)
+        (ap (λ z. is_lt (texts_cmp q z)) same ∙ ap is_lt (tied_itself texts_total q)))
+
+    pub after_it : AllByRecursion (λ x. is_after texts_cmp (Some q) x ≡ true) (drop (n + 1) xs)
+    after_it = all_dropped (λ x. is_after texts_cmp (Some q) x ≡ true) xs (n + 1)
+        (λ i b m. ap is_lt (sym (ap (λ z. texts_cmp z (get_or xs i [])) same) ∙ rising_at xs n i s (omega (arith, b)) m))
+
+pub each_passes : {A : Type 0} (P : A → Type 0) (xs : List A) → ((x : A) → P x) → AllByRecursion P xs
+each_passes P [] h = tt
+each_passes P (x ∷ xs) h = (h x, each_passes P xs h)

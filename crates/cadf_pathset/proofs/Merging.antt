@@ -1,0 +1,252 @@
+-- Steps of a merge of two orders, and what is kept between them.
+use Rattle.std.proofs.Common.{
+  ◌≡◌,
+  ℕ,
+  Bool,
+  true,
+  false,
+  ◌+◌,
+  ◌-◌,
+  ◌<◌,
+  ◌≤◌,
+  List,
+  [],
+  ◌∷◌,
+  ◌++◌,
+  refl,
+  sym,
+  ap,
+  ◌∙◌,
+  subst,
+  suc,
+  zero,
+  length,
+  take,
+  drop,
+  get_or,
+  arith,
+}
+use Rattle.std.proofs.lemmas.List.{append_assoc, drop-drop, drop-map, length-take, take-take, take_all, map-append, drop_more, drop_all}
+use Rattle.cadf_pathset.proofs.Merges.{alone, merge_skip}
+use Rattle.cadf_pathset.proofs.Spans.{map_more}
+use Rattle.std.specs.List.{AllByRecursion}
+use Rattle.std.specs.declared.cmp.Ordering.{Ordering}
+use Rattle.std.specs.declared.cmp.Ordering.TheVariants.{Less, Equal, Greater}
+use Rattle.std.specs.Ordering.{match_ordering}
+use Rattle.cadf_join.specs.Contents.{Texts, text_cmp, texts_cmp}
+use Rattle.cadf_join.specs.laws.Contents.{text_same, texts_same, texts_total}
+use Rattle.cadf_pathset.specs.Merge.{sorted_merge}
+use Rattle.cadf_pathset.specs.Nodes.{Agree, AreThere, IsLine, list_at, lists_at, place, shared}
+use Rattle.cadf_pathset.specs.Walks.{Entered, IsLinePrefix, Place, ahead}
+use Rattle.cadf_pathset.proofs.Agreement.{agree_less, agree_through, agree_turned}
+use Rattle.cadf_pathset.proofs.Threads.{agree_none, at_kept, line_cut, line_kept, lists_kept, nodes_fit, place_kept, self_line}
+
+abbrev both : List Texts → List Texts → List Texts
+both xs ys = sorted_merge texts_cmp true xs ys
+
+module _ (acc : List Texts) (x y : Texts) (xs ys total : List Texts) (h : acc ++ both (x ∷ xs) (y ∷ ys) ≡ total) where
+  step : (r : Ordering) → texts_cmp x y ≡ r → acc ++ match_ordering r (x ∷ both xs (y ∷ ys)) (x ∷ both xs ys) (y ∷ both (x ∷ xs) ys) ≡ total
+  step r e = sym (ap (λ z. acc ++ match_ordering z (x ∷ both xs (y ∷ ys)) (x ∷ both xs ys) (y ∷ both (x ∷ xs) ys)) e) ∙ h
+
+  pub step_less : texts_cmp x y ≡ Less → (acc ++ x ∷ []) ++ both xs (y ∷ ys) ≡ total
+  step_less e = append_assoc acc (x ∷ []) (both xs (y ∷ ys)) ∙ step Less e
+
+  pub step_equal : texts_cmp x y ≡ Equal → (acc ++ x ∷ []) ++ both xs ys ≡ total
+  step_equal e = append_assoc acc (x ∷ []) (both xs ys) ∙ step Equal e
+
+  pub step_greater : texts_cmp x y ≡ Greater → (acc ++ y ∷ []) ++ both (x ∷ xs) ys ≡ total
+  step_greater e = append_assoc acc (y ∷ []) (both (x ∷ xs) ys) ∙ step Greater e
+
+pub step_alone : (acc : List Texts) (y : Texts) (ys total : List Texts) → acc ++ both [] (y ∷ ys) ≡ total → (acc ++ y ∷ []) ++ both [] ys ≡ total
+step_alone acc y ys total h = append_assoc acc (y ∷ []) ys ∙ h
+
+pub entered_ahead : (more : Bool) (a b : Place) (ns ms : List ℕ) (n m : ℕ) → Entered more a b ns ms n m → ahead more b ≡ a.1
+entered_ahead true a b ns ms n m h = sym h.0
+entered_ahead false a b ns ms n m h = sym h.0
+
+pub agree_shared : (a b : Texts) → Agree (shared a b) a b
+agree_shared [] b = agree_none [] b
+agree_shared (t ∷ a) [] = agree_none (t ∷ a) []
+agree_shared (t ∷ a) (u ∷ b) = by (agree_shared a b) (text_cmp t u) refl
+  where
+    by : Agree (shared a b) a b → (r : Ordering) → text_cmp t u ≡ r → Agree (match_ordering r 0 (shared a b + 1) 0) (t ∷ a) (u ∷ b)
+    by rest Less e = agree_none (t ∷ a) (u ∷ b)
+    by rest Greater e = agree_none (t ∷ a) (u ∷ b)
+    by rest Equal e =
+        let x = rest.ours in
+        let y = rest.theirs in
+        let one : shared a b + 1 ≡ suc (shared a b) = omega arith in
+        record {
+          ours = omega (arith, x);
+          theirs = omega (arith, y);
+          same = ap (λ k. take k (t ∷ a)) one ∙ (λ i. text_same t u e i ∷ rest.same i) ∙ ap (λ k. take k (u ∷ b)) (sym one);
+        }
+
+-- a line of the first texts of one list, cut to those that another shares
+pub line_shared : (ls : List Texts) (ns : List ℕ) (a b : Texts) (s : ℕ) → IsLine ls ns (take (length ns) a) → Agree s a b
+    → IsLine ls (take s ns) (take (length (take s ns)) b)
+line_shared ls ns a b s h g =
+    let m = length-take s ns in
+    let k = h.long in
+    let x = length-take (length ns) a in
+    let y = length-take s (take (length ns) a) in
+    subst (IsLine ls (take s ns))
+    (sym (take_all (length (take s ns)) (take s (take (length ns) a)) (omega (arith, m, k, x, y)))
+    ∙ take-take (length (take s ns)) s (take (length ns) a) (omega (arith, m))
+    ∙ take-take (length (take s ns)) (length ns) a (omega (arith, m))
+    ∙ (agree_less s (length (take s ns)) a b (omega (arith, m)) g).same)
+    (line_cut ls ns (take (length ns) a) h s)
+
+pub front_entered : (ls : List Texts) (ns ms ks : List ℕ) (n k : ℕ) (a b : Place) → IsLinePrefix ls ns ms n a.0 → Entered true a b ms ks n k → IsLinePrefix ls ns ks k b.0
+front_entered ls ns ms ks n k a b f e =
+    let s = shared b.0 a.0 in
+    let g = agree_turned s b.0 a.0 (agree_shared b.0 a.0) in
+    record {
+      line = f.line;
+      agrees = subst (λ j. Agree j (place ls ns) b.0) (sym e.2) (agree_through n s (place ls ns) a.0 b.0 f.agrees g);
+      out = subst (λ z. IsLine ls z (take (length z) b.0)) (sym e.1) (line_shared ls ms a.0 b.0 s f.out g);
+    }
+
+pub front_stays : (ls : List Texts) (ns ms ks : List ℕ) (n k : ℕ) (a b : Place) → IsLinePrefix ls ns ms n a.0 → Entered false a b ms ks n k → IsLinePrefix ls ns ks k b.0
+front_stays ls ns ms ks n k a b f e =
+    subst (λ z. IsLinePrefix ls ns z k b.0) (sym e.2) (subst (λ j. IsLinePrefix ls ns ms j b.0) (sym e.3) (subst (λ p. IsLinePrefix ls ns ms n p.0) (sym e.1) f))
+
+pub front_after : (more : Bool) (ls : List Texts) (ns ms ks : List ℕ) (n k : ℕ) (a b : Place) → IsLinePrefix ls ns ms n a.0 → Entered more a b ms ks n k
+    → IsLinePrefix ls ns ks k b.0
+front_after true ls ns ms ks n k a b f e = front_entered ls ns ms ks n k a b f e
+front_after false ls ns ms ks n k a b f e = front_stays ls ns ms ks n k a b f e
+
+pub front_put : (ls us : List Texts) (kept : take (length ls) us ≡ ls) (ns ms ks : List ℕ) (n : ℕ) (theirs : Texts) → IsLinePrefix ls ns ms n theirs
+    → IsLine us ks theirs → IsLinePrefix us ns ks n theirs
+front_put ls us kept ns ms ks n theirs f h =
+    let m = h.long in
+    record {
+      line = self_line us ns (place ls ns) (line_kept ls us kept ns (place ls ns) f.line);
+      agrees = subst (λ z. Agree n z theirs) (sym (place_kept ls us kept ns (place ls ns) f.line)) f.agrees;
+      out = subst (IsLine us ks) (sym (take_all (length ks) theirs (omega (arith, m)))) h;
+    }
+
+pub there_at : (ls : List Texts) (ns : List ℕ) (i : ℕ) → AreThere ls ns → i < length ns → get_or ns i 0 ≤ length ls
+there_at ls [] i h b = absurd (omega (arith, b))
+there_at ls (n ∷ ns) zero h b = h.0
+there_at ls (n ∷ ns) (suc i) h b = there_at ls ns i h.1 (omega (arith, b))
+
+pub there_drop : (ls : List Texts) (ns : List ℕ) (i : ℕ) → AreThere ls ns → AreThere ls (drop i ns)
+there_drop ls ns zero h = h
+there_drop ls [] (suc i) h = h
+there_drop ls (n ∷ ns) (suc i) h = there_drop ls ns i h.1
+
+pub there_both : (ls : List Texts) (ns ms : List ℕ) → AreThere ls ns → AreThere ls ms → AreThere ls (ns ++ ms)
+there_both ls [] ms h k = k
+there_both ls (n ∷ ns) ms h k = (h.0, there_both ls ns ms h.1 k)
+
+-- the turns of a merge
+module _ (first : List Texts) (numbers : List ℕ) (at : ℕ) (acc total : List Texts) (more : Bool) (a : Place) (is : more ≡ true)
+    (h : acc ++ both (lists_at first (drop at numbers)) (ahead more a) ≡ total) where
+  module _ (lt : at < length numbers) (n : ℕ) (read : n ≡ get_or numbers at 0) where
+    here : acc ++ both (list_at first n ∷ lists_at first (drop (at + 1) numbers)) (a.0 ∷ a.1) ≡ total
+    here =
+        (λ i. acc ++ both (list_at first (read i) ∷ lists_at first (drop (at + 1) numbers)) (a.0 ∷ a.1))
+        ∙ (λ i. acc ++ both (lists_at first (sym (drop_more numbers at 0 lt) i)) (ahead (sym is i) a)) ∙ h
+
+    pub turn_less : (now : List Texts) → now ≡ acc ++ list_at first n ∷ [] → texts_cmp (list_at first n) a.0 ≡ Less
+        → now ++ both (lists_at first (drop (at + 1) numbers)) (ahead more a) ≡ total
+    turn_less now e o =
+        (λ i. e i ++ both (lists_at first (drop (at + 1) numbers)) (ahead (is i) a))
+        ∙ step_less acc (list_at first n) a.0 (lists_at first (drop (at + 1) numbers)) a.1 total here o
+
+    pub turn_equal : (now : List Texts) (on : Bool) (b : Place) → now ≡ acc ++ list_at first n ∷ [] → texts_cmp (list_at first n) a.0 ≡ Equal → ahead on b ≡ a.1
+        → now ++ both (lists_at first (drop (at + 1) numbers)) (ahead on b) ≡ total
+    turn_equal now on b e o f =
+        (λ i. e i ++ both (lists_at first (drop (at + 1) numbers)) (f i))
+        ∙ step_equal acc (list_at first n) a.0 (lists_at first (drop (at + 1) numbers)) a.1 total here o
+
+    pub turn_greater : (now : List Texts) (on : Bool) (b : Place) → now ≡ acc ++ a.0 ∷ [] → texts_cmp (list_at first n) a.0 ≡ Greater → ahead on b ≡ a.1
+        → now ++ both (lists_at first (drop at numbers)) (ahead on b) ≡ total
+    turn_greater now on b e o f =
+        (λ i. e i ++ both (lists_at first (drop_more numbers at 0 lt i)) (f i))
+        ∙ (λ i. (acc ++ a.0 ∷ []) ++ both (list_at first (sym read i) ∷ lists_at first (drop (at + 1) numbers)) a.1)
+        ∙ step_greater acc (list_at first n) a.0 (lists_at first (drop (at + 1) numbers)) a.1 total here o
+
+  pub turn_alone : length numbers ≤ at → (now : List Texts) (on : Bool) (b : Place) → now ≡ acc ++ a.0 ∷ [] → ahead on b ≡ a.1
+      → now ++ both (lists_at first (drop at numbers)) (ahead on b) ≡ total
+  turn_alone past now on b e f =
+      (λ i. e i ++ both (lists_at first (drop_all at numbers past i)) (f i))
+      ∙ step_alone acc a.0 a.1 total ((λ i. acc ++ both (lists_at first (sym (drop_all at numbers past) i)) (ahead (sym is i) a)) ∙ h)
+
+-- one of ours behind those that were put
+pub ours_put : (ls first : List Texts) (kept : take (length first) ls ≡ first) (ns ms : List ℕ) (n : ℕ) → ms ≡ ns ++ n ∷ [] → n ≤ length first
+    → lists_at ls ms ≡ lists_at ls ns ++ list_at first n ∷ []
+ours_put ls first kept ns ms n more there =
+    ap (lists_at ls) more ∙ map_more (list_at ls) ns n ∙ ap (λ z. lists_at ls ns ++ z ∷ []) (at_kept first ls kept n there)
+
+-- and all of ours that are left
+pub rest_put : (ls first : List Texts) (kept : take (length first) ls ≡ first) (ns ms rest : List ℕ) (more : Bool) (a : Place) (total : List Texts)
+    → ms ≡ ns ++ rest → AreThere first rest → more ≡ false → lists_at ls ns ++ both (lists_at first rest) (ahead more a) ≡ total → lists_at ls ms ≡ total
+rest_put ls first kept ns ms rest more a total put there is h =
+    ap (lists_at ls) put ∙ map-append (list_at ls) ns rest ∙ ap (λ z. lists_at ls ns ++ z) (lists_kept first ls kept rest there)
+    ∙ ap (λ z. lists_at ls ns ++ z) (sym (alone texts_cmp (lists_at first rest)))
+    ∙ ap (λ z. lists_at ls ns ++ both (lists_at first rest) (ahead z a)) (sym is) ∙ h
+
+-- what is kept once one of ours was compared
+pub front_compared : (ls : List Texts) (ns ms : List ℕ) (n : ℕ) (theirs here : Texts) → theirs ≡ here → IsLinePrefix ls ns ms n theirs → IsLinePrefix ls ns ms n here
+front_compared ls ns ms n theirs same e f = subst (IsLinePrefix ls ns ms n) e f
+
+-- ours for as many first texts of theirs as are shared
+pub front_out : (ls : List Texts) (ns ms : List ℕ) (k : ℕ) (l b : Texts) → IsLine ls ns l → ms ≡ take k ns → Agree k l b → IsLine ls ms (take (length ms) b)
+front_out ls ns ms k l b h e g =
+    let x = ap length e in
+    let y = length-take k ns in
+    let z = h.long in
+    let w = g.ours in
+    let m : k ≡ length ms = omega (arith, x, y, z, w) in
+    subst (IsLine ls ms) (g.same ∙ ap (λ j. take j b) m) (subst (λ v. IsLine ls v (take k l)) (sym e) (line_cut ls ns l h k))
+
+pub ours_there : (ls first : List Texts) (kept : take (length first) ls ≡ first) (ns ms : List ℕ) (n : ℕ) → ms ≡ ns ++ n ∷ [] → AreThere ls ns → n ≤ length first
+    → AreThere ls ms
+ours_there ls first kept ns ms n more h there =
+    let fits = nodes_fit first ls kept in
+    subst (AreThere ls) (sym more) (there_both ls ns (n ∷ []) h (omega (arith, fits, there), tt))
+
+-- all that is kept, once the turn was taken, of a merge's front
+pub front_ours : (more : Bool) (ls : List Texts) (ns ms ks : List ℕ) (n k : ℕ) (a b : Place) (theirs : Texts) → theirs ≡ a.0 → IsLinePrefix ls ns ms n theirs
+    → Entered more a b ms ks n k → IsLinePrefix ls ns ks k b.0
+front_ours more ls ns ms ks n k a b theirs e f m = front_after more ls ns ms ks n k a b (subst (IsLinePrefix ls ns ms n) e f) m
+
+pub front_theirs : (more : Bool) (ls us : List Texts) (kept : take (length ls) us ≡ ls) (ns ms js ks : List ℕ) (n k : ℕ) (a b : Place) (theirs path : Texts)
+    → theirs ≡ a.0 → path ≡ a.0 → IsLinePrefix ls ns ms n theirs → IsLine us js path → Entered more a b js ks n k → IsLinePrefix us ns ks k b.0
+front_theirs more ls us kept ns ms js ks n k a b theirs path e p f l m =
+    front_after more us ns js ks n k a b (front_put ls us kept ns ms js n a.0 (subst (IsLinePrefix ls ns ms n) e f) (subst (IsLine us js) p l)) m
+
+pub theirs_put : (acc now : List Texts) (path b : Texts) → now ≡ acc ++ path ∷ [] → path ≡ b → now ≡ acc ++ b ∷ []
+theirs_put acc now path b e p = e ∙ ap (λ z. acc ++ z ∷ []) p
+
+pub order_is : (ls first : List Texts) (kept : take (length first) ls ≡ first) (n : ℕ) (path b : Texts) (r s : Ordering) → n ≤ length first → path ≡ b
+    → r ≡ texts_cmp (list_at ls n) path → r ≡ s → texts_cmp (list_at first n) b ≡ s
+order_is ls first kept n path b r s there p e f = (λ i. texts_cmp (sym (at_kept first ls kept n there) i) (sym p i)) ∙ sym e ∙ f
+
+-- some of ours passed over
+pub turn_skip : (first : List Texts) (numbers : List ℕ) (at to : ℕ) (acc total : List Texts) (more : Bool) (a : Place) → more ≡ true
+    → acc ++ both (lists_at first (drop at numbers)) (ahead more a) ≡ total → at ≤ to → (now : List Texts)
+    → now ≡ acc ++ take (to - at) (drop at (lists_at first numbers))
+    → AllByRecursion (λ l. texts_cmp l a.0 ≡ Less) (take (to - at) (drop at (lists_at first numbers)))
+    → now ++ both (lists_at first (drop to numbers)) (ahead more a) ≡ total
+turn_skip first numbers at to acc total more a is h l now put below =
+    (λ i. (put ∙ ap (λ z. acc ++ take n z) behind) i ++ both (sym rest i) (ahead (is i) a))
+    ∙ append_assoc acc (take n x) (both (drop n x) (a.0 ∷ a.1))
+    ∙ ap (λ z. acc ++ z) (sym (merge_skip texts_total texts_same x a.0 a.1 n (subst (λ z. AllByRecursion (λ l. texts_cmp l a.0 ≡ Less) (take n z)) behind below)))
+    ∙ ap (λ z. acc ++ both x (ahead z a)) (sym is) ∙ h
+  where
+    n : ℕ
+    n = to - at
+
+    x : List Texts
+    x = lists_at first (drop at numbers)
+
+    behind : drop at (lists_at first numbers) ≡ x
+    behind = drop-map (list_at first) at numbers
+
+    rest : drop n x ≡ lists_at first (drop to numbers)
+    rest =
+        drop-map (list_at first) n (drop at numbers)
+        ∙ ap (lists_at first) (drop-drop n at numbers ∙ ap (λ k. drop k numbers) (omega (arith, l)))

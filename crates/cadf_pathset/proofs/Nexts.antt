@@ -1,0 +1,37 @@
+-- The list that goes on from the front of another by one text.
+use Rattle.std.proofs.Common.{◌≡◌, ℕ, true, ◌+◌, ◌<◌, ◌≤◌, [], ◌∷◌, ◌++◌, refl, sym, ap, ◌∙◌, length, take, drop, get_or}
+use Rattle.std.proofs.lemmas.List.{append-nil, drop_more, take-append-drop, take_all}
+use Rattle.std.specs.declared.cmp.Ordering.{Ordering}
+use Rattle.std.specs.declared.cmp.Ordering.TheVariants.{Less, Equal, Greater}
+use Rattle.std.specs.Ordering.{is_lt, ordering_then}
+use Rattle.std.specs.Cmp.{tied_itself}
+use Rattle.cadf_join.specs.Contents.{Text, Texts, text_cmp, texts_cmp}
+use Rattle.cadf_join.specs.laws.Contents.{texts_total}
+use Rattle.cadf_pathset.proofs.Orders.{cmp_parts}
+
+behind_front : (a c d : Texts) → texts_cmp (a ++ c) (a ++ d) ≡ texts_cmp c d
+behind_front a c d = cmp_parts a a c d refl ∙ ap (λ r. ordering_then r (texts_cmp c d)) (tied_itself texts_total a)
+
+one_text : (u t : Text) (rest : Texts) → is_lt (texts_cmp (u ∷ rest) (t ∷ [])) ≡ is_lt (text_cmp u t)
+one_text u t [] = by (text_cmp u t)
+  where
+    by : (r : Ordering) → is_lt (ordering_then r Equal) ≡ is_lt r
+    by Less = refl
+    by Equal = refl
+    by Greater = refl
+one_text u t (v ∷ rest) = by (text_cmp u t)
+  where
+    by : (r : Ordering) → is_lt (ordering_then r Greater) ≡ is_lt r
+    by Less = refl
+    by Equal = refl
+    by Greater = refl
+
+pub next_within : (a : Texts) (n : ℕ) (t : Text) → n < length a → is_lt (text_cmp (get_or a n []) t) ≡ is_lt (texts_cmp a (take n a ++ t ∷ []))
+next_within a n t l =
+    sym (ap (λ z. is_lt (texts_cmp z (take n a ++ t ∷ []))) (sym (take-append-drop n a)) ∙ ap is_lt (behind_front (take n a) (drop n a) (t ∷ []))
+    ∙ ap (λ z. is_lt (texts_cmp z (t ∷ []))) (drop_more a n [] l) ∙ one_text (get_or a n []) t (drop (n + 1) a))
+
+pub next_behind : (a : Texts) (n : ℕ) (t : Text) → length a ≤ n → true ≡ is_lt (texts_cmp a (take n a ++ t ∷ []))
+next_behind a n t l =
+    sym (ap (λ z. is_lt (texts_cmp a (z ++ t ∷ []))) (take_all n a l) ∙ ap (λ z. is_lt (texts_cmp z (a ++ t ∷ []))) (sym (append-nil a))
+    ∙ ap is_lt (behind_front a [] (t ∷ [])))

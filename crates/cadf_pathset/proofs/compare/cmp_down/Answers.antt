@@ -1,0 +1,46 @@
+use Rattle.std.proofs.Common.{◌≤◌, ◌<◌, min, length, map, arith, refl, sym, ◌∙◌}
+use Rattle.std.proofs.lemmas.List.{length-map}
+use Rattle.cadf_join.specs.Contents.{Texts}
+use Rattle.cadf_pathset.specs.Nodes.{list_at}
+use Rattle.cadf_pathset.proofs.Climbs.{text_up}
+use Rattle.cadf_pathset.proofs.Compared.{less_is_not, greater_is_not, list_agrees, list_ends, list_parts}
+use Rattle.cadf_pathset.proofs.compare.cmp_down.Goals.{then-loop-agreed-test+else-agreed-list, else-loop-agreed-test}
+use Rattle.cadf_pathset.proofs.compare.cmp_down.Goals as goal
+
+pub returns-in-Less-clause-order : goal.returns-in-Less-clause-order
+returns-in-Less-clause-order g c =
+    let l : Texts = list_at c.args.nodes.now c.args.node in
+    let t = c.loop-agreed-test.true in
+    let has = c.requires.has in
+    let fits : c.loop-agreed.agreed < length l = omega (arith, t, has) in
+    sym (list_parts l (map g.W.AsText.bytes c.args.list.now) (length c.args.list.now) (length-map c.args.list.now g.W.AsText.bytes) c.loop-agreed.agreed c.loop-agreed.invariant fits c.if-agreed-list.true c.text.result.now c.text_at.result.now _
+    (c.text.ensures ∙ text_up l (list_at c.args.nodes.now c.ancestor-at.result) c.loop-agreed.agreed fits c.ancestor-at.ensures.list) c.text_at.ensures
+    c.in-Less.ensures less_is_not)
+
+pub returns-in-Greater-clause-order : goal.returns-in-Greater-clause-order
+returns-in-Greater-clause-order g c =
+    let l : Texts = list_at c.args.nodes.now c.args.node in
+    let t = c.loop-agreed-test.true in
+    let has = c.requires.has in
+    let fits : c.loop-agreed.agreed < length l = omega (arith, t, has) in
+    sym (list_parts l (map g.W.AsText.bytes c.args.list.now) (length c.args.list.now) (length-map c.args.list.now g.W.AsText.bytes) c.loop-agreed.agreed c.loop-agreed.invariant fits c.if-agreed-list.true c.text.result.now c.text_at.result.now _
+    (c.text.ensures ∙ text_up l (list_at c.args.nodes.now c.ancestor-at.result) c.loop-agreed.agreed fits c.ancestor-at.ensures.list) c.text_at.ensures
+    c.in-Greater.ensures greater_is_not)
+
+pub loop-agreed-preserved : goal.loop-agreed-preserved
+loop-agreed-preserved g c =
+    let l : Texts = list_at c.args.nodes.now c.args.node in
+    let t = c.loop-agreed-test.true in
+    let has = c.requires.has in
+    let fits : c.loop-agreed.agreed < length l = omega (arith, t, has) in
+    list_agrees l (map g.W.AsText.bytes c.args.list.now) (length c.args.list.now) (length-map c.args.list.now g.W.AsText.bytes) c.loop-agreed.agreed c.loop-agreed.invariant fits c.if-agreed-list.true c.text.result.now c.text_at.result.now _
+    (c.text.ensures ∙ text_up l (list_at c.args.nodes.now c.ancestor-at.result) c.loop-agreed.agreed fits c.ancestor-at.ensures.list) c.text_at.ensures
+    c.in-Equal.ensures refl
+
+pub returns-clause-order : goal.returns-clause-order
+returns-clause-order g c =
+    let over : min c.args.has (length c.args.list.now) ≤ c.loop-agreed.agreed =
+    elim c.loop-agreed-test.branch [ then-loop-agreed-test+else-agreed-list w ↦ omega arith | else-loop-agreed-test w ↦ omega arith ] in
+    c.cmp-2.ensures
+    ∙ sym (list_ends (list_at c.args.nodes.now c.args.node) (map g.W.AsText.bytes c.args.list.now) (length c.args.list.now)
+    (length-map c.args.list.now g.W.AsText.bytes) c.loop-agreed.agreed c.loop-agreed.invariant c.args.has c.requires.has over)

@@ -1,0 +1,60 @@
+use Rattle.std.proofs.Common.{◌≡◌, length, take, arith, ap, sym, ◌∙◌}
+use Rattle.std.specs.Ordering.{ordering_then}
+use Rattle.std.proofs.lemmas.List.{length-take}
+use Rattle.cadf_join.specs.Contents.{Texts, text_cmp}
+use Rattle.cadf_pathset.specs.Nodes.{list_at, last_text}
+use Rattle.cadf_pathset.proofs.Arena.{one_longer}
+use Rattle.cadf_pathset.proofs.Orders.{cmp_lengths, cmp_up, cmp_same}
+use Rattle.cadf_pathset.proofs.compare.node_cmp.Goals as goal
+
+pub loop-a-init : goal.loop-a-init
+loop-a-init c =
+    let ls = c.args.nodes.now in
+    let a : Texts = list_at ls c.args.node in
+    let b : Texts = list_at ls c.args.other in
+    let has = c.depth-has.ensures in
+    let its = c.depth-its.ensures in
+    let ours = c.ancestor-a.ensures.list in
+    let theirs = c.ancestor-b.ensures.list in
+    let m = ap length ours in
+    let n = ap length theirs in
+    let x = length-take c.depth-its.result a in
+    let y = length-take c.depth-has.result b in
+    record {
+      ours = c.ancestor-a.ensures.there;
+      theirs = c.ancestor-b.ensures.there;
+      long = omega (arith, has, its, m, n, x, y);
+      order = cmp_lengths a b
+          ∙ (λ i. ordering_then (Rattle.cadf_join.specs.Contents.texts_cmp (take (sym its i) a) (take (sym has i) b))
+          (Rattle.std.specs.Ordering.nat_cmp (sym has i) (sym its i)))
+          ∙ (λ i. ordering_then (Rattle.cadf_join.specs.Contents.texts_cmp (sym ours i) (sym theirs i)) (sym c.cmp-found.ensures i));
+    }
+
+pub loop-a-preserved : goal.loop-a-preserved
+loop-a-preserved c =
+    let h = c.loop-a.invariant in
+    let ls = c.args.nodes.now in
+    let x : Texts = list_at ls c.loop-a.a in
+    let y : Texts = list_at ls c.loop-a.b in
+    let one = one_longer x (list_at ls c.parent-a.result) (last_text x) c.parent-a.ensures.list in
+    let two = one_longer y (list_at ls c.parent-b.result) (last_text y) c.parent-b.ensures.list in
+    let before = c.parent-a.ensures.before in
+    let lower = c.parent-b.ensures.before in
+    let there = h.ours in
+    let held = h.theirs in
+    let same = h.long in
+    let long : length (list_at ls c.parent-a.result) ≡ length (list_at ls c.parent-b.result) = omega (arith, one, two, same) in
+    record {
+      ours = omega (arith, before, there);
+      theirs = omega (arith, lower, held);
+      long = long;
+      order = cmp_up _ c.loop-a.found c.then-found.result x y (list_at ls c.parent-a.result) (list_at ls c.parent-b.result) (last_text x) (last_text y)
+          c.parent-a.ensures.list c.parent-b.ensures.list long
+          (c.then-found.ensures ∙ ap (λ z. ordering_then z c.loop-a.found) (c.cmp.ensures ∙ (λ i. text_cmp (c.text.ensures i) (c.text-in-loop-a.ensures i))))
+          h.order;
+    }
+
+pub returns-after-loop-a : goal.returns-after-loop-a
+returns-after-loop-a c =
+    let ls = c.args.nodes.now in
+    sym (cmp_same _ c.loop-a.found (list_at ls c.loop-a.a) (list_at ls c.loop-a.b) (ap (list_at ls) c.loop-a-test.false) c.loop-a.invariant.order)

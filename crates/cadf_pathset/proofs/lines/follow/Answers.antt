@@ -1,0 +1,17 @@
+use Rattle.std.proofs.Common.{length, take, subst, sym}
+use Rattle.cadf_pathset.specs.Nodes.{IsClimb, IsLine, list_at}
+use Rattle.cadf_pathset.proofs.Threads.{climb_less, climb_line}
+use Rattle.cadf_pathset.proofs.lines.follow.Goals as goal
+
+pub loop-next-preserved : goal.loop-next-preserved
+loop-next-preserved c =
+    let h = c.loop-next.invariant in
+    let ls = c.args.nodes.now in
+    let l = list_at c.args.nodes.now c.args.node in
+    let more = c.in_ok-push.ensures.items in
+    record {
+      climbed = subst (λ z. IsClimb ls c.pop.new.self.items l (length z)) (sym more)
+          (climb_less ls c.loop-next.up.items c.pop.new.self.items c.loop-next.line.items l c.in-Some.next h.climbed h.line c.in-Some.ensures.items);
+      line = subst (λ z. IsLine ls z (take (length z) l)) (sym more)
+          (climb_line ls c.loop-next.up.items c.pop.new.self.items c.loop-next.line.items l c.in-Some.next h.climbed h.line c.in-Some.ensures.items);
+    }

@@ -1,0 +1,15 @@
+use Rattle.std.proofs.Common.{take, ap, ◌++◌, ◌∙◌}
+use Rattle.cadf_join.specs.Prefixes.{texts_at}
+use Rattle.cadf_pathset.proofs.Replaced.{front_stays, path_replaced}
+use Rattle.cadf_pathset.proofs.path_set.replace_after.Goals as goal
+
+pub returns-clause-kept : goal.returns-clause-kept
+returns-clause-kept c =
+    ap (take c.args.before) (c.in_ok-extend_from_slice.ensures.items ∙ ap (λ z. z ++ c.split_at.result.1.now) c.truncate.ensures.items)
+    ∙ front_stays c.args.path.now.items c.split_at.result.1.now c.args.before c.args.shared c.requires.there
+
+pub returns-clause-list : goal.returns-clause-list
+returns-clause-list c =
+    path_replaced c.args.path.now.items c.extend_from_slice.new.self.items c.args.list.now c.split_at.result.1.now c.args.before c.args.shared
+    (take c.args.before (texts_at c.args.path.now.items))
+    (c.in_ok-extend_from_slice.ensures.items ∙ ap (λ z. z ++ c.split_at.result.1.now) c.truncate.ensures.items) c.split_at.ensures.back c.requires.same

@@ -1,0 +1,17 @@
+use Rattle.std.proofs.Common.{◌≡◌, ◌≤◌, ◌<◌, ◌-◌, ℕ, true, false, [], length, get_or, map}
+use Rattle.cadf_pathset.specs.Lists.{is_before}
+use Rattle.cadf_pathset.specs.Nodes.{Agree}
+use Rattle.cadf_pathset.proofs.path_vec.PathVec.seek.Given as goal
+
+abbrev pub invariant-loop-low : goal.invariant-loop-low
+invariant-loop-low g l = record {
+  within : l.low ≤ l.high;
+  ends : l.high ≤ length l.self;
+  below : (k : ℕ) → k < l.low → is_before (map g.W.AsText.bytes l.list) false (get_or l.self k []) ≡ true;
+  above : (k : ℕ) → l.high ≤ k → k < length l.self → is_before (map g.W.AsText.bytes l.list) false (get_or l.self k []) ≡ false;
+  front : 0 < l.front → (0 < l.low) × Agree l.front (get_or l.self (l.low - 1) []) (map g.W.AsText.bytes l.list);
+  back : 0 < l.back → (l.high < length l.self) × Agree l.back (get_or l.self l.high []) (map g.W.AsText.bytes l.list);
+}
+
+abbrev pub decreases-loop-low : goal.decreases-loop-low
+decreases-loop-low g l = l.high - l.low

@@ -1,0 +1,14 @@
+use Rattle.std.proofs.Common.{◌≡◌, length}
+use Rattle.cadf_pathset.specs.Nodes.{AreThere, lists_at}
+use Rattle.cadf_pathset.proofs.path_vec.same_lists.Given as goal
+
+abbrev pub invariant-loop-left : goal.invariant-loop-left
+invariant-loop-left l = record {
+  same : lists_at l.nodes l.left ≡ lists_at l.others l.rest → lists_at l.nodes l.numbers ≡ lists_at l.others l.its;
+  back : lists_at l.nodes l.numbers ≡ lists_at l.others l.its → lists_at l.nodes l.left ≡ lists_at l.others l.rest;
+  ours : AreThere l.nodes l.left;
+  theirs : AreThere l.others l.rest;
+}
+
+abbrev pub decreases-loop-left : goal.decreases-loop-left
+decreases-loop-left l = length l.left

@@ -1,0 +1,24 @@
+use Rattle.std.proofs.Common.{ap, sym, subst, ◌∙◌, arith, length}
+use Rattle.std.proofs.lemmas.List.{length-drop}
+use Rattle.std.specs.List.{AllByRecursion}
+use Rattle.cadf_pathset.specs.Nodes.{IsThere, list_at}
+use Rattle.cadf_pathset.proofs.Narrowed.{all_of_last}
+use Rattle.cadf_pathset.proofs.Sorts.{first_rises, one_rises}
+use Rattle.cadf_pathset.proofs.sort.is_rising.Goals as goal
+
+pub loop-rest-preserved : goal.loop-rest-preserved
+loop-rest-preserved c =
+    let rest = c.loop-rest.rest.now in
+    let within = c.loop-rest.invariant.within in
+    let shorter = ap length c.split_at.ensures.back ∙ length-drop 1 rest in
+    record {
+      rises = λ s. c.loop-rest.invariant.rises (first_rises (list_at c.args.nodes.now) rest c.split_at.result.1.now _ _ c.split_at.ensures.back
+          c.loop-rest-test.true (sym c.node_cmp.ensures ∙ c.in-Less.is) s);
+      there = subst (AllByRecursion (IsThere c.args.nodes.now)) (sym c.split_at.ensures.back)
+          (all_of_last (IsThere c.args.nodes.now) rest 1 c.loop-rest.invariant.there);
+      within = omega (arith, within, shorter);
+    }
+
+pub returns-clause-rises : goal.returns-clause-rises
+returns-clause-rises c = λ _. c.loop-rest.invariant.rises
+    (one_rises (list_at c.args.nodes.now) c.loop-rest.rest.now (let t = c.loop-rest-test.false in omega (arith, t)))

@@ -1,0 +1,18 @@
+use Rattle.std.proofs.Common.{◌≡◌, ◌++◌, ◌+◌, length, map, true}
+use Rattle.std.specs.List.{AllByRecursion}
+use Rattle.cadf_join.specs.Contents.{texts_cmp}
+use Rattle.cadf_pathset.specs.Nodes.{IsThere, list_at}
+use Rattle.cadf_pathset.specs.Merge.{sorted_merge}
+use Rattle.cadf_pathset.proofs.sort.merged.Given as goal
+
+abbrev pub invariant-loop-ours : goal.invariant-loop-ours
+invariant-loop-ours l = record {
+  merged : map (list_at l.nodes) l.all.items ++ sorted_merge texts_cmp true (map (list_at l.nodes) l.ours) (map (list_at l.nodes) l.theirs)
+      ≡ sorted_merge texts_cmp true (map (list_at l.nodes) l.a) (map (list_at l.nodes) l.b);
+  there : AllByRecursion (IsThere l.nodes) l.all.items;
+  ours : AllByRecursion (IsThere l.nodes) l.ours;
+  theirs : AllByRecursion (IsThere l.nodes) l.theirs;
+}
+
+abbrev pub decreases-loop-ours : goal.decreases-loop-ours
+decreases-loop-ours l = length l.ours + length l.theirs

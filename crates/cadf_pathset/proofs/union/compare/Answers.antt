@@ -1,0 +1,38 @@
+use Rattle.std.proofs.Common.{◌≡◌, ◌++◌, min, take, arith, sym, ap, subst, ◌∙◌}
+use Rattle.cadf_join.specs.Contents.{Texts}
+use Rattle.cadf_join.specs.Prefixes.{texts_at}
+use Rattle.cadf_pathset.specs.Nodes.{Agree, IsLine, list_at, place}
+use Rattle.cadf_pathset.proofs.Threads.{place_of, self_line}
+use Rattle.cadf_pathset.proofs.Agreement.{agree_less, agree_through, agree_turned}
+use Rattle.cadf_pathset.proofs.Merging.{front_out}
+use Rattle.cadf_pathset.proofs.union.compare.Goals as goal
+
+pub cmp_from-order-requires-clause-known : goal.cmp_from-order-requires-clause-known
+cmp_from-order-requires-clause-known c =
+    let ls = c.args.nodes.now in
+    let l : Texts = list_at c.args.nodes.now c.args.number in
+    let b : Texts = texts_at c.args.path.now in
+    let old : Texts = place c.args.nodes.now c.args.line.now.items in
+    let here : place ls c.as_slice.result.now ≡ l = ap (place ls) c.as_slice.ensures.value ∙ place_of ls c.follow.new.line.items l c.in_ok-common.ensures.line in
+    let least = c.min-known.ensures in
+    let both = agree_through c.in_ok-common.common c.args.agreed.now l old b (agree_turned c.in_ok-common.common old l c.in_ok-common.ensures.common)
+    c.requires.front.agrees in
+    subst (λ z. Agree c.min-known.result z b) (sym here)
+    (agree_less (min c.in_ok-common.common c.args.agreed.now) c.min-known.result l b (omega (arith, least)) both)
+
+pub returns-in_ok-extend_from_slice-clause-front : goal.returns-in_ok-extend_from_slice-clause-front
+returns-in_ok-extend_from_slice-clause-front c =
+    let ls = c.args.nodes.now in
+    let l : Texts = list_at c.args.nodes.now c.args.number in
+    let b : Texts = texts_at c.args.path.now in
+    let here : place ls c.as_slice.result.now ≡ l = ap (place ls) c.as_slice.ensures.value ∙ place_of ls c.follow.new.line.items l c.in_ok-common.ensures.line in
+    let both : Agree c.cmp_from-order.result.1 l b = subst (λ z. Agree c.cmp_from-order.result.1 z b) here c.cmp_from-order.ensures.agreed in
+    let line : IsLine ls c.follow.new.line.items l = c.in_ok-common.ensures.line in
+    let cut : c.extend_from_slice.new.self.items ≡ take c.cmp_from-order.result.1 c.follow.new.line.items =
+    c.in_ok-extend_from_slice.ensures.items ∙ (λ i. c.clear.ensures.items i ++ c.split_at.ensures.front i)
+    ∙ ap (take c.cmp_from-order.result.1) c.as_slice-then-both-len.ensures.value in
+    record {
+      line = self_line ls c.follow.new.line.items l line;
+      agrees = subst (λ z. Agree c.cmp_from-order.result.1 z b) (sym (place_of ls c.follow.new.line.items l line)) both;
+      out = front_out ls c.follow.new.line.items c.extend_from_slice.new.self.items c.cmp_from-order.result.1 l b line cut both;
+    }

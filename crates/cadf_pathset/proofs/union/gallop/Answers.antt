@@ -1,0 +1,29 @@
+use Rattle.std.proofs.Common.{◌+◌, ◌-◌, ◌<◌, ℕ, [], length, arith, ap, sym, ◌∙◌}
+use Rattle.std.proofs.lemmas.List.{get_or-map, length-map}
+use Rattle.cadf_join.specs.Contents.{texts_cmp}
+use Rattle.cadf_join.specs.Prefixes.{texts_at}
+use Rattle.cadf_pathset.specs.Nodes.{list_at, lists_at}
+use Rattle.cadf_pathset.proofs.Bounds.{up_to_here}
+use Rattle.cadf_pathset.proofs.union.gallop.Goals as goal
+
+pub loop-step-preserved : goal.loop-step-preserved
+loop-step-preserved c =
+    let h = c.loop-step.invariant in
+    let ls = c.args.nodes.now in
+    let ns = c.args.numbers.now in
+    let q = texts_at c.args.path.now in
+    let j : ℕ = c.loop-step.low + (c.loop-step.step - 1) in
+    let b = h.behind in
+    let w = h.within in
+    let s = h.some in
+    let t = c.loop-step-test.true in
+    let m = length-map ns (list_at ls) in
+    let x = c.saturating_mul-step.ensures in
+    let fits : j < length ns = omega (arith, w, s, t) in
+    record {
+      behind = omega (arith, b);
+      within = omega (arith, fits);
+      some = omega (arith, x, s);
+      below = λ k f g. up_to_here q (lists_at ls ns) c.requires.rises 0 j c.list_cmp-order.result.0 c.is_lt.result (omega (arith, fits, m)) c.is_lt.ensures
+          (c.list_cmp-order.ensures.order ∙ ap (λ z. texts_cmp z q) (sym (get_or-map (list_at ls) ns j 0 [] fits))) c.if-not-is_lt.false k g;
+    }

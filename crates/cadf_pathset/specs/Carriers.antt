@@ -1,0 +1,14 @@
+-- What lists need with them: their carriers.
+--     with_carriers carrier s         the set with the carriers of its members
+--     carriers_in carrier found ls    the carriers found, and then those of the lists that are above the last one
+use Rattle.std.specs.Prelude.{List, [], ◌∷◌, ◌++◌, cond, map}
+use Rattle.cadf_join.specs.Sets as set
+use Rattle.cadf_join.specs.Contents.{Texts, Contents}
+use Rattle.cadf_pathset.specs.Lists.{ends_below}
+
+abbrev pub with_carriers : (Texts → Texts) → Contents → Contents
+with_carriers carrier s = set.union s (set.from_list (map carrier (set.items s)))
+
+abbrev pub carriers_in : (Texts → Texts) → List Texts → List Texts → List Texts
+carriers_in carrier found [] = found
+carriers_in carrier found (l ∷ ls) = carriers_in carrier (cond (ends_below found (carrier l)) (found ++ carrier l ∷ []) found) ls

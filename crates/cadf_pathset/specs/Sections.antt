@@ -1,0 +1,13 @@
+-- What stands behind a list of texts in a set.
+--     suffixes_after s p     the rests of the lists of s that begin with p
+--     behind p ls      the same of lists
+use Rattle.std.specs.Prelude.{List, [], ◌∷◌}
+use Rattle.cadf_join.specs.Contents.{Texts, Contents, suffixes_of, tails_of}
+
+abbrev pub sections : Contents → Texts → Contents
+suffixes_after s [] = s
+suffixes_after s (t ∷ p) = suffixes_after (suffixes_of s t) p
+
+abbrev pub behind : Texts → List Texts → List Texts
+behind [] ls = ls
+behind (t ∷ p) ls = behind p (tails_of t ls)

@@ -1,0 +1,35 @@
+-- Going over lists.
+--     Place                a list that a cursor is at, and the lists ahead of it
+--     Advances found a b   a cursor moved to the next list, which shares so many texts with the one before, or there is none
+--     Moves more a b       the same, without the number
+--     ahead more a         the list that a cursor is at, if it is at one, and those ahead
+--     Entered, IsLinePrefix     what a merge keeps, below
+use Rattle.std.specs.Prelude.{◌≡◌, ℕ, Bool, true, false, List, [], ◌∷◌, length, take, min, Option, Some, None}
+use Rattle.cadf_join.specs.Contents.{Texts}
+use Rattle.cadf_pathset.specs.Nodes.{Agree, IsLine, place, shared}
+
+abbrev pub Place : Type 0
+Place = Texts × List Texts
+
+abbrev pub Advances : Option ℕ → Place → Place → Type 0
+Advances (Some n) old new = (old.1 ≡ new.0 ∷ new.1) × (n ≡ shared new.0 old.0)
+Advances None old new = (old.1 ≡ []) × (new ≡ old)
+
+abbrev pub Moves : Bool → Place → Place → Type 0
+Moves true old new = old.1 ≡ new.0 ∷ new.1
+Moves false old new = old.1 ≡ []
+
+abbrev pub ahead : Bool → Place → List Texts
+ahead true a = a.0 ∷ a.1
+ahead false a = []
+
+-- a cursor moved to the next list, or there is none: of some nodes and of a number as much is left as the two lists share
+abbrev pub Entered : Bool → Place → Place → List ℕ → List ℕ → ℕ → ℕ → Type 0
+Entered true old new ns ms n m = (old.1 ≡ new.0 ∷ new.1) × (ms ≡ take (shared new.0 old.0) ns) × (m ≡ min n (shared new.0 old.0))
+Entered false old new ns ms n m = (old.1 ≡ []) × (new ≡ old) × (ms ≡ ns) × (m ≡ n)
+
+-- the line of the list of ours that was compared last, which shares n texts with theirs, and the line of ours of some first texts of theirs
+pub record IsLinePrefix (ls : List Texts) (ns ms : List ℕ) (n : ℕ) (theirs : Texts) : Type 0 where
+  pub line : IsLine ls ns (place ls ns)
+  pub agrees : Agree n (place ls ns) theirs
+  pub out : IsLine ls ms (take (length ms) theirs)

@@ -1,0 +1,95 @@
+//! What is asked of a set of lists of texts.
+ghost use Rattle.std.specs.Prelude.{◌≡◌, IfOk, length, map, string_bytes};
+ghost use Rattle.std.specs.List.{filter_map};
+ghost use Rattle.std.specs.Option.{option_copied, option_map};
+ghost use Rattle.cadf_join.specs.Sets as set;
+ghost use Rattle.cadf_join.specs.Contents.{next_after};
+ghost use Rattle.cadf_join.specs.Longest.{longest_of};
+ghost use Rattle.cadf_join.specs.Maps.{heads};
+ghost use Rattle.cadf_join.specs.Prefixes.{chain_texts, saturated, texts_at, texts_found};
+ghost use Rattle.cadf_join.specs.MultiValued.{multi_valued_keys};
+ghost use Rattle.cadf_pathset.specs.Lists.{ends_behind, strip};
+ghost use Rattle.cadf_pathset.specs.Sections.{suffixes_after};
+
+use crate::Memory;
+use crate::order::continued;
+use crate::path_set::PathSet;
+
+impl PathSet {
+    /// Whether the list is a member.
+    pub fn holds(&self, list: &[String]) -> bool
+        ensures { result ≡ set.contains self.now (chain_texts list.now) }
+    {
+        match self.rows.place(list) {
+            Some(_) => false,
+            None => true,
+        }
+    }
+
+    /// Whether the last of the lists in order begins with the prefix. Nothing is searched.
+    pub fn ends_behind(&self, prefix: &[String]) -> bool
+        ensures { result ≡ ends_behind (set.rising self.now) (chain_texts prefix.now) }
+    {
+        self.rows.ends_behind(prefix)
+    }
+
+    /// The least list above the given one, or the least of all for `None`.
+    pub fn list_after(&self, given: Option<&[String]>) -> Result<Option<Vec<String>>, Memory>
+        ensures { IfOk result (λ found. texts_found found ≡ next_after self.now (option_map chain_texts (option_copied given.entry))) }
+    {
+        let at = self.rows.after(given);
+        let mut cursor = self.rows.cursor_from(at);
+        if cursor.next()? {
+            return Ok(Some(continued(self.alloc, &[], cursor.path())?));
+        }
+        Ok(None)
+    }
+
+    /// The least text next behind the prefix that is above the given one, or the least of all for `None`. Found by halving.
+    pub fn next_text(&self, prefix: &[&str], text: Option<&str>) -> Option<&str>
+        ensures { option_copied result ≡ next_after (heads (suffixes_after self.now (texts_at prefix.now))) (option_copied text.entry) }
+    {
+        self.rows.suffixes(prefix).next_text(text)
+    }
+
+    /// The texts next behind the prefix, in order.
+    pub fn texts_behind(&self, prefix: &[&str]) -> Result<Vec<String>, Memory>
+        ensures { IfOk result (λ found. map string_bytes found.items ≡ set.rising (heads (suffixes_after self.now (texts_at prefix.now)))) }
+    {
+        let range = self.rows.suffixes(prefix);
+        let mut texts = Vec::new(self.alloc);
+        let mut last = None;
+        while let Some(text) = range.next_text(last) {
+            texts.push(String::from_str(self.alloc, text)?)?;
+            last = Some(text);
+        }
+        Ok(texts)
+    }
+
+    /// The number of texts next behind the prefix that have two or more texts next behind them, or `u64::MAX` where there are more.
+    pub fn multi_valued_count_at(&self, prefix: &[&str]) -> u64
+        ensures { result ≡ saturated (length (multi_valued_keys (suffixes_after self.now (texts_at prefix.now)))) }
+    {
+        let range = self.rows.suffixes(prefix);
+        let mut count: u64 = 0;
+        let mut last = None;
+        while let Some(text) = range.next_text(last) {
+            if range.section(text).has_multiple() {
+                count = count.saturating_add(1);
+            }
+            last = Some(text);
+        }
+        count
+    }
+
+    /// The longest of the lists that go on behind the prefix, without it; the least of the longest.
+    pub fn longest_behind(&self, prefix: &[&str]) -> Result<Option<Vec<String>>, Memory>
+        ensures { IfOk result (λ found. texts_found found ≡ longest_of (filter_map (strip (texts_at prefix.now)) (set.rising self.now))) }
+    {
+        let range = self.rows.suffixes(prefix);
+        match range.longest() {
+            Some(number) => Ok(Some(range.copied(self.alloc, number)?)),
+            None => Ok(None),
+        }
+    }
+}

@@ -1,0 +1,61 @@
+//! Lists of texts as they come.
+ghost use Rattle.std.specs.Prelude.{◌≡◌, OnOk, OnErr, IfOk};
+ghost use Rattle.cadf_join.specs.Sets as set;
+ghost use Rattle.cadf_join.specs.Prefixes.{texts_at};
+
+use crate::Memory;
+use crate::path_set::PathSet;
+use crate::path_vec::PathVec;
+use std::alloc::Global;
+use std::marker::Model;
+
+/// Lists gathered in any order, not yet a set in order.
+#[derive(Drop)]
+pub struct PathSetBuilder {
+    rows: PathVec,
+    alloc: Global,
+}
+
+impl Model for PathSetBuilder {
+    ghost use Rattle.cadf_join.specs.Contents.{Contents};
+    ghost use Rattle.cadf_join.specs.Prefixes.{contents_code};
+    ghost use Rattle.cadf_join.specs.Sets as set;
+
+    ghost Value = { Contents };
+
+    ghost coded = { contents_code };
+
+    ghost view = { λ g. set.from_list g.rows };
+}
+
+impl PathSetBuilder {
+    /// No lists. Takes no memory.
+    pub fn new(alloc: Global) -> PathSetBuilder
+        ensures { result ≡ set.empty }
+    {
+        PathSetBuilder {
+            rows: PathVec::new(alloc),
+            alloc,
+        }
+    }
+
+    /// Adds the list. After a refused growth the lists are as before.
+    pub fn push(&mut self, path: &[&str]) -> Result<(), Memory>
+        ensures ok { OnOk result (self.new ≡ set.insert self.old (texts_at path.now)) }
+        ensures err { OnErr result (self.new ≡ self.old) }
+    {
+        self.rows.push(path)
+    }
+
+    /// The set of the lists. Their texts are not copied.
+    pub fn build(self) -> Result<PathSet, Memory>
+        ensures { IfOk result (λ paths. paths ≡ self) }
+    {
+        let mut rows = self.rows;
+        rows.sort()?;
+        Ok(PathSet {
+            rows,
+            alloc: self.alloc,
+        })
+    }
+}

@@ -1,0 +1,42 @@
+//! What lists need with them: their carriers.
+ghost use Rattle.std.specs.Prelude.{◌≡◌, ◌≤◌, [], IfOk, length, take};
+ghost use Rattle.std.specs.declared.cmp.Ordering.TheVariants.{Less, Greater};
+ghost use Rattle.cadf_join.specs.Contents.{Texts, texts_cmp};
+ghost use Rattle.cadf_join.specs.Prefixes.{texts_at};
+ghost use Rattle.cadf_pathset.specs.Carriers.{carriers_in};
+
+use crate::Memory;
+use crate::path_vec::PathVec;
+use std::alloc::Global;
+
+/// Which list each list needs with it, its carrier: the first texts of the list, or all of them.
+pub trait Carrier {
+    /// The carrier of a list.
+    ghost carrier: { Texts → Texts };
+
+    /// How many texts the carrier of the list has.
+    fn length(list: &[&str]) -> usize
+        ensures within { result ≤ length list.now }
+        ensures first { take result (texts_at list.now) ≡ carrier (texts_at list.now) };
+
+    /// Carriers stand in the order of their lists.
+    ghost in_order: { (x y : Texts) → texts_cmp x y ≡ Less → texts_cmp (carrier x) (carrier y) ≡ Greater → ⊥ };
+}
+
+/// The carriers of the lists, each once, in order.
+pub(crate) fn carriers_of<C: Carrier>(alloc: Global, rows: &PathVec) -> Result<PathVec, Memory>
+    ensures { IfOk result (λ all. all ≡ carriers_in C.carrier [] rows.now) }
+{
+    let mut all = PathVec::new(alloc);
+    let mut cursor = rows.cursor();
+    let mut more = cursor.next()?;
+    while more {
+        let list = cursor.path();
+        let (carrier, _) = list.split_at(C::length(list));
+        if all.ends_below(carrier) {
+            all.push(carrier)?;
+        }
+        more = cursor.next()?;
+    }
+    Ok(all)
+}

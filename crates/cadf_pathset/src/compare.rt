@@ -1,0 +1,145 @@
+//! The order of the lists of nodes, without memory and without recursion.
+ghost use Rattle.std.specs.Prelude.{◌≡◌, ◌≤◌, ◌↔◌, IsTrue, length, map};
+ghost use Rattle.cadf_join.specs.Contents.{texts_cmp};
+ghost use Rattle.std.specs.Ordering.{is_eq};
+ghost use Rattle.cadf_pathset.specs.Lists.{prefix_cmp};
+ghost use Rattle.cadf_pathset.specs.Nodes.{Agree, list_at};
+
+use crate::as_text::{AsText, text_at};
+use crate::nodes::{Nodes, ancestor, depth};
+use std::cmp::Ordering;
+
+/// Up to so many texts are compared from the front, each by a climb of its own; more of them in one climb.
+const NEAR: usize = 8;
+
+/// Compares the node's list with another, if they are known to share `type_invariant` texts. Returns their order, and a number of texts
+/// that they share.
+pub(crate) fn list_cmp<W: AsText>(
+    nodes: &Nodes,
+    node: u32,
+    list: &[W],
+    known: usize,
+) -> (Ordering, usize)
+    requires there { node ≤ length nodes.now }
+    requires known { Agree known (list_at nodes.now node) (map W.bytes list.now) }
+    ensures order { result.0 ≡ texts_cmp (list_at nodes.now node) (map W.bytes list.now) }
+    ensures agreed { Agree result.1 (list_at nodes.now node) (map W.bytes list.now) }
+{
+    let has = depth(nodes, node);
+    if has.min(list.len()) - known > NEAR {
+        return cmp_up(nodes, node, has, list, known);
+    }
+    cmp_down(nodes, node, has, list, known)
+}
+
+/// Compares from the front: the first difference decides.
+fn cmp_down<W: AsText>(
+    nodes: &Nodes,
+    node: u32,
+    has: usize,
+    list: &[W],
+    known: usize,
+) -> (Ordering, usize)
+    requires there { node ≤ length nodes.now }
+    requires has { has ≡ length (list_at nodes.now node) }
+    requires known { Agree known (list_at nodes.now node) (map W.bytes list.now) }
+    ensures order { result.0 ≡ texts_cmp (list_at nodes.now node) (map W.bytes list.now) }
+    ensures agreed { Agree result.1 (list_at nodes.now node) (map W.bytes list.now) }
+{
+    let mut agreed = known;
+    while agreed < has && agreed < list.len() {
+        let at = ancestor(nodes, node, has, agreed + 1);
+        match nodes.text(at).cmp(text_at(list, agreed)) {
+            Ordering::Less => return (Ordering::Less, agreed),
+            Ordering::Equal => agreed += 1,
+            Ordering::Greater => return (Ordering::Greater, agreed),
+        }
+    }
+    (has.cmp(&list.len()), agreed)
+}
+
+/// Returns how many texts two lists share: `here` if the texts after so many differ, else what was found `behind` them.
+fn parted(order: Ordering, here: usize, behind: usize) -> usize
+    ensures same { order ≡ Ordering.Equal → result ≡ behind }
+    ensures other { (order ≡ Ordering.Equal → ⊥) → result ≡ here }
+{
+    if order.is_eq() { behind } else { here }
+}
+
+/// Compares in one climb: the difference nearest to the root decides.
+fn cmp_up<W: AsText>(
+    nodes: &Nodes,
+    node: u32,
+    has: usize,
+    list: &[W],
+    known: usize,
+) -> (Ordering, usize)
+    requires there { node ≤ length nodes.now }
+    requires has { has ≡ length (list_at nodes.now node) }
+    requires known { Agree known (list_at nodes.now node) (map W.bytes list.now) }
+    ensures order { result.0 ≡ texts_cmp (list_at nodes.now node) (map W.bytes list.now) }
+    ensures agreed { Agree result.1 (list_at nodes.now node) (map W.bytes list.now) }
+{
+    let mut found = has.cmp(&list.len());
+    let mut at = ancestor(nodes, node, has, list.len());
+    let mut depth = has.min(list.len());
+    let mut agreed = depth;
+    while depth > known && at > 0 {
+        depth -= 1;
+        let order = nodes.text(at).cmp(text_at(list, depth));
+        agreed = parted(order, depth, agreed);
+        found = order.then(found);
+        at = nodes.parent(at);
+    }
+    (found, agreed)
+}
+
+/// Whether the node's list begins with the prefix.
+pub(crate) fn begins_with<W: AsText>(nodes: &Nodes, node: u32, prefix: &[W]) -> bool
+    requires { node ≤ length nodes.now }
+    ensures { result ≡ is_eq (prefix_cmp (list_at nodes.now node) (map W.bytes prefix.now)) }
+{
+    let front = ancestor(nodes, node, depth(nodes, node), prefix.len());
+    let (order, _) = list_cmp(nodes, front, prefix, 0);
+    order.is_eq()
+}
+
+/// Compares the lists of two nodes. Their nearest common ancestor ends it.
+pub(crate) fn node_cmp(nodes: &Nodes, node: u32, other: u32) -> Ordering
+    requires ours { node ≤ length nodes.now }
+    requires theirs { other ≤ length nodes.now }
+    ensures { result ≡ texts_cmp (list_at nodes.now node) (list_at nodes.now other) }
+{
+    let has = depth(nodes, node);
+    let its = depth(nodes, other);
+    let mut found = has.cmp(&its);
+    let mut a = ancestor(nodes, node, has, its);
+    let mut b = ancestor(nodes, other, its, has);
+    while a != b && a > 0 && b > 0 {
+        found = nodes.text(a).cmp(nodes.text(b)).then(found);
+        a = nodes.parent(a);
+        b = nodes.parent(b);
+    }
+    found
+}
+
+/// Whether nodes of two arenas have the same list.
+pub(crate) fn same_list(nodes: &Nodes, node: u32, others: &Nodes, other: u32) -> bool
+    requires ours { node ≤ length nodes.now }
+    requires theirs { other ≤ length others.now }
+    ensures { IsTrue result ↔ (list_at nodes.now node ≡ list_at others.now other) }
+{
+    if depth(nodes, node) != depth(others, other) {
+        return false;
+    }
+    let mut a = node;
+    let mut b = other;
+    while a > 0 && b > 0 {
+        if nodes.text(a) != others.text(b) {
+            return false;
+        }
+        a = nodes.parent(a);
+        b = others.parent(b);
+    }
+    true
+}

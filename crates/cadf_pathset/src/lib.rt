@@ -1,0 +1,24 @@
+//! Sets of lists of texts that share their beginnings.
+#![tactic(auto)]
+
+mod as_text;
+mod ask;
+mod builder;
+mod carriers;
+mod compare;
+mod cursor;
+mod lines;
+mod merge;
+mod nodes;
+mod order;
+mod path_set;
+mod path_vec;
+mod pool;
+mod sort;
+mod suffix_range;
+mod union;
+
+pub use builder::PathSetBuilder;
+pub use cadf_join::{Join, Memory, Visitor, Walk};
+pub use carriers::Carrier;
+pub use path_set::PathSet;

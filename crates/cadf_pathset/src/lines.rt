@@ -1,0 +1,168 @@
+//! Lines: the nodes of the first 1, 2, .. texts of a list.
+ghost use Rattle.std.specs.Prelude.{◌≡◌, ◌<◌, ◌≤◌, ◌+◌, ◌++◌, [], ◌∷◌, OnOk, OnErr, IfOk, length, take, get_or};
+ghost use Rattle.cadf_join.specs.Contents.{texts_cmp};
+ghost use Rattle.cadf_join.specs.Prefixes.{texts_at};
+ghost use Rattle.cadf_pathset.specs.Nodes.{Agree, IsClimb, IsLine, last_node, list_at, place, shared};
+
+use crate::Memory;
+use crate::as_text::text_at;
+use crate::nodes::Nodes;
+use std::cmp::Ordering;
+
+/// Returns the line's last node, or the root.
+pub(crate) fn end_of(line: &[u32]) -> u32
+    ensures { result ≡ last_node line.now }
+{
+    match line {
+        [] => 0,
+        [.., last] => *last,
+    }
+}
+
+/// Truncates the line to the ancestors that it shares with the node, and collects in `up` the nodes between, from the node upwards.
+/// Since parents have smaller numbers than their children, it steps back from whichever number is greater.
+fn climb(nodes: &Nodes, node: u32, line: &mut Vec<u32>, up: &mut Vec<u32>) -> Result<(), Memory>
+    requires there { node ≤ length nodes.now }
+    requires line { IsLine nodes.now line.old.items (place nodes.now line.old.items) }
+    requires empty { up.old.items ≡ [] }
+    ensures cut { line.new.items ≡ take (length line.new.items) line.old.items }
+    ensures climbed { OnOk result (IsClimb nodes.now up.new.items (list_at nodes.now node) (length line.new.items)) }
+    ensures common { OnOk result (Agree (length line.new.items) (place nodes.now line.old.items) (list_at nodes.now node)) }
+{
+    let mut at = node;
+    while at > 0 {
+        let top = end_of(line.as_slice());
+        if top == at {
+            return Ok(());
+        }
+        if top > at {
+            line.pop();
+        } else {
+            up.push(at)?;
+            at = nodes.parent(at);
+        }
+    }
+    line.clear();
+    Ok(())
+}
+
+/// Makes the line that of the node, and returns how many nodes of the line it kept. After an `Err` the line is that of no list.
+pub(crate) fn follow(
+    nodes: &Nodes,
+    node: u32,
+    line: &mut Vec<u32>,
+    up: &mut Vec<u32>,
+) -> Result<usize, Memory>
+    requires there { node ≤ length nodes.now }
+    requires line { IsLine nodes.now line.old.items (place nodes.now line.old.items) }
+    ensures line { OnOk result (IsLine nodes.now line.new.items (list_at nodes.now node)) }
+    ensures common { IfOk result (λ n. Agree n (place nodes.now line.old.items) (list_at nodes.now node)) }
+{
+    up.clear();
+    climb(nodes, node, line, up)?;
+    let common = line.len();
+    while let Some(next) = up.pop() {
+        line.push(next)?;
+    }
+    Ok(common)
+}
+
+/// Compares the line's list with the path, if they are known to share `type_invariant` texts. Returns their order, and how many texts they share.
+pub(crate) fn cmp_from(
+    nodes: &Nodes,
+    line: &[u32],
+    path: &[&str],
+    known: usize,
+) -> (Ordering, usize)
+    requires line { IsLine nodes.now line.now (place nodes.now line.now) }
+    requires known { Agree known (place nodes.now line.now) (texts_at path.now) }
+    ensures order { result.0 ≡ texts_cmp (place nodes.now line.now) (texts_at path.now) }
+    ensures agreed { Agree result.1 (place nodes.now line.now) (texts_at path.now) }
+    ensures most { result.1 ≡ shared (place nodes.now line.now) (texts_at path.now) }
+{
+    let mut agreed = known;
+    while agreed < line.len() && agreed < path.len() {
+        match nodes.text(line[agreed]).cmp(text_at(path, agreed)) {
+            Ordering::Less => return (Ordering::Less, agreed),
+            Ordering::Equal => agreed += 1,
+            Ordering::Greater => return (Ordering::Greater, agreed),
+        }
+    }
+    (line.len().cmp(&path.len()), agreed)
+}
+
+/// Appends to the path the texts that the line has after it.
+pub(crate) fn spell<'a>(
+    nodes: &'a Nodes,
+    line: &[u32],
+    path: &mut Vec<&'a str>,
+) -> Result<(), Memory>
+    requires line { IsLine nodes.now line.now (place nodes.now line.now) }
+    requires front { texts_at path.old.items ≡ take (length path.old.items) (place nodes.now line.now) }
+    ensures { OnOk result (texts_at path.new.items ≡ place nodes.now line.now) }
+{
+    while path.len() < line.len() {
+        path.push(nodes.text(line[path.len()]))?;
+    }
+    Ok(())
+}
+
+/// Appends a node after the line's last.
+pub(crate) fn grow(nodes: &mut Nodes, line: &mut Vec<u32>, text: &str) -> Result<(), Memory>
+    requires { IsLine nodes.old line.old.items (place nodes.old line.old.items) }
+    ensures kept { take (length nodes.old) nodes.new ≡ nodes.old }
+    ensures line { IsLine nodes.new line.new.items (place nodes.new line.new.items) }
+    ensures ok { OnOk result (place nodes.new line.new.items ≡ place nodes.old line.old.items ++ text.now ∷ []) }
+    ensures err { OnErr result (place nodes.new line.new.items ≡ place nodes.old line.old.items) }
+{
+    let number = nodes.push(end_of(line.as_slice()), text)?;
+    line.push(number)?;
+    Ok(())
+}
+
+/// Extends the line of a prefix of the path to the line of the whole path, by new nodes.
+pub(crate) fn extend(nodes: &mut Nodes, line: &mut Vec<u32>, path: &[&str]) -> Result<(), Memory>
+    requires line { IsLine nodes.old line.old.items (take (length line.old.items) (texts_at path.now)) }
+    ensures kept { take (length nodes.old) nodes.new ≡ nodes.old }
+    ensures line { IsLine nodes.new line.new.items (place nodes.new line.new.items) }
+    ensures ok { OnOk result (place nodes.new line.new.items ≡ texts_at path.now) }
+{
+    while line.len() < path.len() {
+        grow(nodes, line, text_at(path, line.len()))?;
+    }
+    Ok(())
+}
+
+/// Makes the line that of the node. After an `Err` it is the line of the empty list.
+pub(crate) fn lead(
+    nodes: &Nodes,
+    node: u32,
+    line: &mut Vec<u32>,
+    up: &mut Vec<u32>,
+) -> Result<(), Memory>
+    requires there { node ≤ length nodes.now }
+    requires line { IsLine nodes.now line.old.items (place nodes.now line.old.items) }
+    ensures { IsLine nodes.now line.new.items (place nodes.now line.new.items) }
+{
+    match follow(nodes, node, line, up) {
+        Ok(_) => Ok(()),
+        Err(fault) => {
+            line.clear();
+            Err(fault)
+        }
+    }
+}
+
+/// Makes the line that of the path, by new nodes after the texts that the two share, and returns the path's node.
+pub(crate) fn line_to(nodes: &mut Nodes, line: &mut Vec<u32>, path: &[&str]) -> Result<u32, Memory>
+    requires { IsLine nodes.old line.old.items (place nodes.old line.old.items) }
+    ensures kept { take (length nodes.old) nodes.new ≡ nodes.old }
+    ensures line { IsLine nodes.new line.new.items (place nodes.new line.new.items) }
+    ensures there { IfOk result (λ n. n ≤ length nodes.new) }
+    ensures list { IfOk result (λ n. list_at nodes.new n ≡ texts_at path.now) }
+{
+    let (_, agreed) = cmp_from(&*nodes, line.as_slice(), path, 0);
+    line.truncate(agreed);
+    extend(nodes, line, path)?;
+    Ok(end_of(line.as_slice()))
+}

@@ -1,0 +1,140 @@
+//! An arena of nodes: each is one text after its parent.
+ghost use Rattle.std.specs.Prelude.{◌≡◌, ◌<◌, ◌≤◌, ◌+◌, ◌++◌, [], ◌∷◌, ℕ, OnOk, OnErr, IfOk, length, take, drop};
+ghost use Rattle.std.specs.Option.{option_copied};
+ghost use Rattle.cadf_pathset.specs.Lists.{first_text};
+ghost use Rattle.cadf_pathset.specs.Nodes.{last_text, list_at, rest_of};
+
+use crate::Memory;
+use crate::pool::{Pool, narrow};
+use std::alloc::Global;
+use std::marker::Model;
+
+/// Nodes, numbered from 1. A node is one text after its parent, which comes before it, or after the root, 0.
+#[derive(Drop)]
+pub struct Nodes {
+    parents: Vec<u32>,
+    texts: Pool,
+}
+
+impl Model for Nodes {
+    ghost use Rattle.std.specs.Prelude.{◌≡◌, List, length};
+    ghost use Rattle.cadf_join.specs.Contents.{Texts};
+    ghost use Rattle.cadf_pathset.specs.Nodes.{AreNodes, lists};
+
+    ghost Value = { List Texts };
+
+    ghost view = { λ n. lists n.parents.items n.texts };
+
+    ghost invariant = { λ n. AreNodes n.parents.items n.texts };
+}
+
+impl Nodes {
+    /// Makes an empty arena. Allocates nothing.
+    pub fn new(alloc: Global) -> Nodes
+        ensures { result ≡ [] }
+    {
+        Nodes {
+            parents: Vec::new(alloc),
+            texts: Pool::new(alloc),
+        }
+    }
+
+    /// Returns one more than `depth`, or `depth` if no list has more texts.
+    pub fn deeper(&self, depth: usize) -> usize
+        ensures { (n : ℕ) → n ≤ length self.now → rest_of self.now result n ≡ drop 1 (rest_of self.now depth n) }
+    {
+        if depth < self.parents.len() {
+            return depth + 1;
+        }
+        depth
+    }
+
+    /// Appends a node and returns its number. After an `Err` the nodes are as before.
+    pub fn push(&mut self, parent: u32, text: &str) -> Result<u32, Memory>
+        requires { parent ≤ length self.old }
+        ensures ok { OnOk result (self.new ≡ self.old ++ (list_at self.old parent ++ text.now ∷ []) ∷ []) }
+        ensures number { IfOk result (λ n. n ≡ length self.old + 1) }
+        ensures err { OnErr result (self.new ≡ self.old) }
+    {
+        self.parents.push(parent)?;
+        match pushed(&mut self.texts, text, self.parents.len()) {
+            Ok(number) => Ok(number),
+            Err(fault) => {
+                self.parents.pop();
+                Err(fault)
+            }
+        }
+    }
+
+    /// Returns the node's parent.
+    pub fn parent(&self, node: u32) -> u32
+        requires behind { 0 < node }
+        requires there { node ≤ length self.now }
+        ensures before { result < node }
+        ensures list { list_at self.now node ≡ list_at self.now result ++ last_text (list_at self.now node) ∷ [] }
+    {
+        self.parents[node as usize - 1]
+    }
+
+    /// Returns the node's text.
+    pub fn text(&self, node: u32) -> &str
+        requires behind { 0 < node }
+        requires there { node ≤ length self.now }
+        ensures { result.now ≡ last_text (list_at self.now node) }
+    {
+        self.texts.text(node as usize - 1)
+    }
+}
+
+/// Appends the text and returns the number in 32 bits. After an `Err` the texts are as before.
+fn pushed(texts: &mut Pool, text: &str, number: usize) -> Result<u32, Memory>
+    ensures ok { OnOk result (texts.new ≡ texts.old ++ text.now ∷ []) }
+    ensures number { IfOk result (λ n. n ≡ number) }
+    ensures err { OnErr result (texts.new ≡ texts.old) }
+{
+    let number = narrow(number)?;
+    texts.push(text)?;
+    Ok(number)
+}
+
+/// Counts the texts of the node's list.
+pub(crate) fn depth(nodes: &Nodes, node: u32) -> usize
+    requires { node ≤ length nodes.now }
+    ensures { result ≡ length (list_at nodes.now node) }
+{
+    let mut at = node;
+    let mut depth: usize = 0;
+    while at > 0 {
+        at = nodes.parent(at);
+        depth += 1;
+    }
+    depth
+}
+
+/// Returns the node of the first `wanted` texts of the node's list, which has `has` texts, or the node itself if it has fewer.
+pub(crate) fn ancestor(nodes: &Nodes, node: u32, has: usize, wanted: usize) -> u32
+    requires there { node ≤ length nodes.now }
+    requires has { has ≡ length (list_at nodes.now node) }
+    ensures there { result ≤ length nodes.now }
+    ensures list { list_at nodes.now result ≡ take wanted (list_at nodes.now node) }
+{
+    let mut at = node;
+    let mut depth = has;
+    while depth > wanted && at > 0 {
+        at = nodes.parent(at);
+        depth -= 1;
+    }
+    at
+}
+
+/// Returns the text after the first `skipped` texts of the node's list. `None` if it has no more.
+pub(crate) fn text_after(nodes: &Nodes, node: u32, skipped: usize) -> Option<&str>
+    requires { node ≤ length nodes.now }
+    ensures { option_copied result ≡ first_text (rest_of nodes.now skipped node) }
+{
+    let has = depth(nodes, node);
+    if skipped < has {
+        return Some(nodes.text(ancestor(nodes, node, has, skipped + 1)));
+    }
+    None
+}

@@ -1,0 +1,361 @@
+//! Lists of texts, each reached by its number.
+ghost use Rattle.std.specs.Prelude.{◌≡◌, ◌≤◌, ◌+◌, ◌<◌, ◌++◌, [], ◌∷◌, ◌↔◌, OnOk, OnErr, IfOk, IfSome, IsTrue, None, Some, true, false};
+ghost use Rattle.std.specs.Prelude.{length, take, drop, get_or, map};
+ghost use Rattle.std.specs.Cmp.Lexicographic.{pointwise};
+ghost use Rattle.std.specs.List.{AllByRecursion, list_any};
+ghost use Rattle.std.specs.declared.cmp.Ordering.TheVariants.{Less};
+ghost use Rattle.std.specs.List.Sorted.{IsStrictlySortedBy};
+ghost use Rattle.std.specs.Option.{option_copied, option_map};
+ghost use Rattle.std.specs.Ordering.{eq_by_cmp, is_eq, is_lt};
+ghost use Rattle.cadf_join.specs.Contents.{is_after, texts_cmp};
+ghost use Rattle.cadf_join.specs.Prefixes.{chain_texts, texts_at};
+ghost use Rattle.cadf_pathset.specs.Lists.{ends_behind, ends_below, is_before, prefix_cmp};
+ghost use Rattle.cadf_pathset.specs.Nodes.{Agree, AreThere, lists_at};
+ghost use Rattle.cadf_pathset.specs.Walks.{ahead};
+ghost use Rattle.cadf_join.specs.Sets as set;
+ghost use Rattle.cadf_pathset.specs.Merge.{sorted_merge};
+ghost use Rattle.cadf_pathset.specs.Sections.{behind};
+
+use crate::Memory;
+use crate::as_text::AsText;
+use crate::compare::{begins_with, list_cmp, same_list};
+use crate::cursor::Cursor;
+use crate::lines::{lead, line_to};
+use crate::nodes::Nodes;
+use crate::sort::sorted;
+use crate::suffix_range::SuffixRange;
+use crate::union::merge_into;
+use std::alloc::Global;
+use std::cmp::Ordering;
+use std::marker::Model;
+
+/// Lists of texts, each the number of its last node. Lists that begin alike share nodes.
+#[derive(Drop)]
+pub struct PathVec {
+    nodes: Nodes,
+    numbers: Vec<u32>,
+    /// The line of the list that was added last, or of another list.
+    line: Vec<u32>,
+    alloc: Global,
+}
+
+impl Model for PathVec {
+    ghost use Rattle.std.specs.Prelude.{List};
+    ghost use Rattle.cadf_join.specs.Contents.{Texts};
+    ghost use Rattle.cadf_pathset.specs.Nodes.{AreThere, IsLine, lists_at, place};
+
+    ghost Value = { List Texts };
+
+    ghost view = { λ v. lists_at v.nodes v.numbers.items };
+
+    ghost invariant = { λ v. AreThere v.nodes v.numbers.items × IsLine v.nodes v.line.items (place v.nodes v.line.items) };
+}
+
+impl PathVec {
+    /// Makes an empty vector. Allocates nothing.
+    pub fn new(alloc: Global) -> PathVec
+        ensures { result ≡ [] }
+    {
+        PathVec {
+            nodes: Nodes::new(alloc),
+            numbers: Vec::new(alloc),
+            line: Vec::new(alloc),
+            alloc,
+        }
+    }
+
+    /// Appends the list. After an `Err` the lists are as before.
+    pub fn push(&mut self, path: &[&str]) -> Result<(), Memory>
+        ensures ok { OnOk result (self.new ≡ self.old ++ texts_at path.now ∷ []) }
+        ensures err { OnErr result (self.new ≡ self.old) }
+    {
+        let number = line_to(&mut self.nodes, &mut self.line, path)?;
+        self.numbers.push(number)?;
+        Ok(())
+    }
+
+    /// Inserts the list before the one of that number. After an `Err` the lists are as before.
+    pub fn insert(&mut self, at: usize, path: &[&str]) -> Result<(), Memory>
+        requires { at ≤ length self.old }
+        ensures ok { OnOk result (self.new ≡ take at self.old ++ texts_at path.now ∷ drop at self.old) }
+        ensures err { OnErr result (self.new ≡ self.old) }
+    {
+        let near = nearest(&self.nodes, self.numbers.as_slice(), at, path);
+        let mut up = Vec::new(self.alloc);
+        lead(&self.nodes, near, &mut self.line, &mut up)?;
+        let number = line_to(&mut self.nodes, &mut self.line, path)?;
+        self.numbers.insert(at, number)?;
+        Ok(())
+    }
+
+    /// Whether the list is above the last one, as each list is if there is none.
+    pub fn ends_below(&self, path: &[&str]) -> bool
+        ensures { result ≡ ends_below self.now (texts_at path.now) }
+    {
+        if self.is_empty() {
+            return true;
+        }
+        self.is_less(self.count() - 1, path)
+    }
+
+    /// Whether the last list begins with the prefix.
+    pub fn ends_behind<W: AsText>(&self, prefix: &[W]) -> bool
+        ensures { result ≡ ends_behind self.now (map W.bytes prefix.now) }
+    {
+        if self.is_empty() {
+            return false;
+        }
+        self.is_behind(self.count() - 1, prefix)
+    }
+
+    /// Whether the list of that number begins with the prefix.
+    fn is_behind<W: AsText>(&self, number: usize, prefix: &[W]) -> bool
+        requires { number < length self.now }
+        ensures { result ≡ is_eq (prefix_cmp (get_or self.now number []) (map W.bytes prefix.now)) }
+    {
+        begins_with(&self.nodes, self.numbers[number], prefix)
+    }
+
+    /// Whether the list of that number is below the other.
+    fn is_less(&self, number: usize, list: &[&str]) -> bool
+        requires { number < length self.now }
+        ensures { result ≡ is_lt (texts_cmp (get_or self.now number []) (texts_at list.now)) }
+    {
+        let (order, _) = self.cmp_at(number, list, 0);
+        order.is_lt()
+    }
+
+    /// Compares the list of that number with another, if they are known to share `type_invariant` texts. Returns their order, and a number of texts
+    /// that they share.
+    fn cmp_at<W: AsText>(&self, number: usize, list: &[W], known: usize) -> (Ordering, usize)
+        requires within { number < length self.now }
+        requires known { Agree known (get_or self.now number []) (map W.bytes list.now) }
+        ensures order { result.0 ≡ texts_cmp (get_or self.now number []) (map W.bytes list.now) }
+        ensures agreed { Agree result.1 (get_or self.now number []) (map W.bytes list.now) }
+    {
+        list_cmp(&self.nodes, self.numbers[number], list, known)
+    }
+
+    /// Appends the list that the cursor is at, if `at_list`, and those ahead.
+    pub fn push_rest(&mut self, at_list: bool, cursor: &mut Cursor<'_>) -> Result<(), Memory>
+        ensures { OnOk result (self.new ≡ self.old ++ ahead at_list cursor.old) }
+    {
+        let mut more = at_list;
+        while more {
+            self.push(cursor.path())?;
+            more = cursor.next()?;
+        }
+        Ok(())
+    }
+
+    /// Merges the lists of the other into these, each once. Copies no text of these. After an `Err` the lists are as before.
+    pub fn join(&mut self, other: &PathVec) -> Result<(), Memory>
+        requires ours { IsStrictlySortedBy texts_cmp self.old }
+        requires theirs { IsStrictlySortedBy texts_cmp other.now }
+        ensures ok { OnOk result (self.new ≡ sorted_merge texts_cmp true self.old other.now) }
+        ensures err { OnErr result (self.new ≡ self.old) }
+    {
+        let numbers = merge_into(self.alloc, &mut self.nodes, self.numbers.as_slice(), other)?;
+        self.numbers = numbers;
+        Ok(())
+    }
+
+    /// Sorts the lists, each once. Copies no text.
+    pub fn sort(&mut self) -> Result<(), Memory>
+        ensures rises { OnOk result (IsStrictlySortedBy texts_cmp self.new) }
+        ensures same { OnOk result (set.from_list {R = texts_cmp} self.new ≡ set.from_list self.old) }
+    {
+        let numbers = sorted(self.alloc, &self.nodes, self.numbers.as_slice())?;
+        self.numbers = numbers;
+        Ok(())
+    }
+
+    /// Returns a cursor before the first list.
+    pub fn cursor(&self) -> Cursor<'_>
+        ensures path { result.0 ≡ [] }
+        ensures ahead { result.1 ≡ self.now }
+    {
+        Cursor::new(self.alloc, &self.nodes, self.numbers.as_slice())
+    }
+
+    /// Returns a cursor before the list of that number.
+    pub fn cursor_from(&self, at: usize) -> Cursor<'_>
+        requires { at ≤ length self.now }
+        ensures { result.1 ≡ drop at self.now }
+    {
+        let (_, numbers) = self.numbers.as_slice().split_at(at);
+        Cursor::new(self.alloc, &self.nodes, numbers)
+    }
+
+    /// Returns all lists, whole.
+    pub fn whole(&self) -> SuffixRange<'_>
+        ensures { result ≡ self.now }
+    {
+        SuffixRange::new(&self.nodes, self.numbers.as_slice(), 0)
+    }
+
+    /// Returns the suffixes after the prefix.
+    pub fn suffixes(&self, prefix: &[&str]) -> SuffixRange<'_>
+        requires { IsStrictlySortedBy texts_cmp self.now }
+        ensures behind { result ≡ behind (texts_at prefix.now) self.now }
+        ensures rising { IsStrictlySortedBy texts_cmp result }
+    {
+        let mut range = self.whole();
+        for text in prefix {
+            range = range.section(*text);
+        }
+        range
+    }
+
+    /// Returns the number of the first list that is not below this one, and a number of texts that the two share.
+    /// Binary search, which skips the texts that the lists at both ends share with this one.
+    fn seek<W: AsText>(&self, list: &[W]) -> (usize, usize)
+        requires { IsStrictlySortedBy texts_cmp self.now }
+        ensures within { result.0 ≤ length self.now }
+        ensures below { AllByRecursion (λ l. is_before (map W.bytes list.now) false l ≡ true) (take result.0 self.now) }
+        ensures above { AllByRecursion (λ l. is_before (map W.bytes list.now) false l ≡ false) (drop result.0 self.now) }
+        ensures near { result.0 < length self.now → Agree result.1 (get_or self.now result.0 []) (map W.bytes list.now) }
+    {
+        let mut low: usize = 0;
+        let mut high = self.count();
+        let mut front: usize = 0;
+        let mut back: usize = 0;
+        while low < high {
+            let middle = low + (high - low) / 2;
+            let (order, agreed) = self.cmp_at(middle, list, front.min(back));
+            if order.is_lt() {
+                low = middle + 1;
+                front = agreed;
+            } else {
+                high = middle;
+                back = agreed;
+            }
+        }
+        (low, back)
+    }
+
+    /// Returns the number of the first list that begins with the prefix or is above those that do.
+    pub fn bound<W: AsText>(&self, prefix: &[W]) -> usize
+        requires { IsStrictlySortedBy texts_cmp self.now }
+        ensures within { result ≤ length self.now }
+        ensures below { AllByRecursion (λ l. is_before (map W.bytes prefix.now) false l ≡ true) (take result self.now) }
+        ensures above { AllByRecursion (λ l. is_before (map W.bytes prefix.now) false l ≡ false) (drop result self.now) }
+    {
+        let (at, _) = self.seek(prefix);
+        at
+    }
+
+    /// Whether the list of that number is this one, if they are known to share `type_invariant` texts.
+    fn is_at<W: AsText>(&self, number: usize, list: &[W], known: usize) -> bool
+        requires within { number < length self.now }
+        requires known { Agree known (get_or self.now number []) (map W.bytes list.now) }
+        ensures { result ≡ eq_by_cmp texts_cmp (get_or self.now number []) (map W.bytes list.now) }
+    {
+        let (order, _) = self.cmp_at(number, list, known);
+        order.is_eq()
+    }
+
+    /// Returns the number before which the list is to be inserted. `None` if it is there.
+    pub fn place<W: AsText>(&self, list: &[W]) -> Option<usize>
+        requires { IsStrictlySortedBy texts_cmp self.now }
+        ensures held { result ≡ None → list_any (eq_by_cmp texts_cmp (map W.bytes list.now)) self.now ≡ true }
+        ensures within { IfSome result (λ at. at ≤ length self.now) }
+        ensures below { IfSome result (λ at. AllByRecursion (λ l. texts_cmp l (map W.bytes list.now) ≡ Less) (take at self.now)) }
+        ensures above { IfSome result (λ at. AllByRecursion (λ l. texts_cmp (map W.bytes list.now) l ≡ Less) (drop at self.now)) }
+    {
+        let (at, near) = self.seek(list);
+        if at < self.count() && self.is_at(at, list, near) {
+            return None;
+        }
+        Some(at)
+    }
+
+    /// Returns the number of the first list above this one.
+    pub fn above<W: AsText>(&self, list: &[W]) -> usize
+        requires { IsStrictlySortedBy texts_cmp self.now }
+        ensures within { result ≤ length self.now }
+        ensures below { AllByRecursion (λ l. is_after texts_cmp (Some (map W.bytes list.now)) l ≡ false) (take result self.now) }
+        ensures above { AllByRecursion (λ l. is_after texts_cmp (Some (map W.bytes list.now)) l ≡ true) (drop result self.now) }
+    {
+        let (at, near) = self.seek(list);
+        if at < self.count() && self.is_at(at, list, near) {
+            return at + 1;
+        }
+        at
+    }
+
+    /// Returns the number of the first list above the given one. For `None`, that of the first list.
+    pub fn after(&self, given: Option<&[String]>) -> usize
+        requires { IsStrictlySortedBy texts_cmp self.now }
+        ensures within { result ≤ length self.now }
+        ensures below { AllByRecursion (λ l. is_after texts_cmp (option_map chain_texts (option_copied given.entry)) l ≡ false) (take result self.now) }
+        ensures above { AllByRecursion (λ l. is_after texts_cmp (option_map chain_texts (option_copied given.entry)) l ≡ true) (drop result self.now) }
+    {
+        match given {
+            Some(list) => self.above(list),
+            None => 0,
+        }
+    }
+
+    /// Whether there are no lists.
+    pub fn is_empty(&self) -> bool
+        ensures { IsTrue result ↔ (self.now ≡ []) }
+    {
+        self.numbers.is_empty()
+    }
+
+    /// Whether both have the same lists.
+    pub fn same(&self, other: &PathVec) -> bool
+        ensures { IsTrue result ↔ (self.now ≡ other.now) }
+    {
+        same_lists(
+            &self.nodes,
+            self.numbers.as_slice(),
+            &other.nodes,
+            other.numbers.as_slice(),
+        )
+    }
+
+    /// Counts the lists.
+    pub fn count(&self) -> usize
+        ensures { result ≡ length self.now }
+    {
+        self.numbers.len()
+    }
+}
+
+/// Whether the nodes of two arenas have the same lists, one by one.
+fn same_lists(nodes: &Nodes, numbers: &[u32], others: &Nodes, its: &[u32]) -> bool
+    requires ours { AreThere nodes.now numbers.now }
+    requires theirs { AreThere others.now its.now }
+    ensures { IsTrue result ↔ (lists_at nodes.now numbers.now ≡ lists_at others.now its.now) }
+{
+    let mut left = numbers;
+    let mut rest = its;
+    while let [number, numbers @ ..] = left {
+        match rest {
+            [it, its @ ..] => {
+                if !same_list(nodes, *number, others, *it) {
+                    return false;
+                }
+                left = numbers;
+                rest = its;
+            }
+            [] => return false,
+        }
+    }
+    rest.is_empty()
+}
+
+/// Returns that node of the lists beside that place whose list shares more texts with the path, or the root.
+fn nearest(nodes: &Nodes, numbers: &[u32], at: usize, path: &[&str]) -> u32
+    requires there { AreThere nodes.now numbers.now }
+    requires within { at ≤ length numbers.now }
+    ensures { result ≤ length nodes.now }
+{
+    let lower = if at > 0 { numbers[at - 1] } else { 0 };
+    let upper = if at < numbers.len() { numbers[at] } else { 0 };
+    let (_, below) = list_cmp(nodes, lower, path, 0);
+    let (_, above) = list_cmp(nodes, upper, path, 0);
+    if above > below { upper } else { lower }
+}

@@ -1,0 +1,244 @@
+//! Suffixes: lists of a range, each without its first texts.
+ghost use Rattle.std.specs.Prelude.{◌≡◌, ◌≤◌, ◌<◌, ℕ, [], ◌∷◌, IfOk, IfSome, None, true, false, length, take, drop, get_or, map, nat_le};
+ghost use Rattle.std.specs.List.{AllByRecursion, find};
+ghost use Rattle.std.specs.List.Sorted.{IsStrictlySortedBy};
+ghost use Rattle.std.specs.Option.{option_copied, option_map};
+ghost use Rattle.std.specs.Ordering.{eq_by_cmp};
+ghost use Rattle.std.specs.declared.cmp.Ordering.TheVariants.{Less};
+ghost use Rattle.cadf_join.specs.Contents.{is_after, next_after, tails_of, text_cmp, texts_cmp};
+ghost use Rattle.cadf_join.specs.Longest.{longer_than, longest_of};
+ghost use Rattle.cadf_join.specs.Maps.{firsts, heads};
+ghost use Rattle.cadf_join.specs.Prefixes.{chain_texts};
+ghost use Rattle.cadf_join.specs.Sets as set;
+ghost use Rattle.cadf_pathset.specs.Lists.{first_text, is_before};
+ghost use Rattle.cadf_pathset.specs.Nodes.{AreThere, rest_of};
+
+use crate::Memory;
+use crate::cursor::Cursor;
+use crate::nodes::{Nodes, depth, text_after};
+use crate::order::copied_after;
+use std::alloc::Global;
+use std::cmp::Ordering;
+use std::marker::Model;
+
+/// Lists of a range, each without its first texts.
+#[derive(Drop)]
+pub struct SuffixRange<'a> {
+    nodes: &'a Nodes,
+    numbers: &'a [u32],
+    depth: usize,
+}
+
+impl<'a> Model for SuffixRange<'a> {
+    ghost use Rattle.std.specs.Prelude.{List, map};
+    ghost use Rattle.cadf_join.specs.Contents.{Texts};
+    ghost use Rattle.cadf_pathset.specs.Nodes.{AreThere, rest_of};
+
+    ghost Value = { List Texts };
+
+    ghost view = { λ p. map (rest_of p.nodes.now p.depth) p.numbers.now };
+
+    ghost invariant = { λ p. AreThere p.nodes.now p.numbers.now };
+}
+
+impl<'a> SuffixRange<'a> {
+    /// Takes the nodes' lists, each without its first `depth` texts.
+    pub fn new(nodes: &'a Nodes, numbers: &'a [u32], depth: usize) -> SuffixRange<'a>
+        requires { AreThere nodes.now numbers.now }
+        ensures { result ≡ map (rest_of nodes.now depth) numbers.now }
+    {
+        SuffixRange {
+            nodes,
+            numbers,
+            depth,
+        }
+    }
+
+    /// Counts the suffixes.
+    pub fn count(&self) -> usize
+        ensures { result ≡ length self.now }
+    {
+        self.numbers.len()
+    }
+
+    /// Returns the number of the first suffix that begins with the text, or, if `passed`, of the first above those.
+    /// Checks the last suffix first, then uses binary search.
+    pub fn bound(&self, text: &str, passed: bool) -> usize
+        requires { IsStrictlySortedBy texts_cmp self.now }
+        ensures within { result ≤ length self.now }
+        ensures below { AllByRecursion (λ l. is_before (text.now ∷ []) passed l ≡ true) (take result self.now) }
+        ensures above { AllByRecursion (λ l. is_before (text.now ∷ []) passed l ≡ false) (drop result self.now) }
+    {
+        let count = self.count();
+        if count > 0 && self.is_before(count - 1, text, passed) {
+            return self.binary_search(text, passed, count, count);
+        }
+        self.binary_search(text, passed, 0, count)
+    }
+
+    /// Finds that number between `low` and `high`.
+    fn binary_search(&self, text: &str, passed: bool, low: usize, high: usize) -> usize
+        requires rising { IsStrictlySortedBy texts_cmp self.now }
+        requires order { low ≤ high }
+        requires ends { high ≤ length self.now }
+        requires below { (k : ℕ) → k < low → is_before (text.now ∷ []) passed (get_or self.now k []) ≡ true }
+        requires above { (k : ℕ) → high ≤ k → k < length self.now → is_before (text.now ∷ []) passed (get_or self.now k []) ≡ false }
+        ensures within { result ≤ length self.now }
+        ensures below { AllByRecursion (λ l. is_before (text.now ∷ []) passed l ≡ true) (take result self.now) }
+        ensures above { AllByRecursion (λ l. is_before (text.now ∷ []) passed l ≡ false) (drop result self.now) }
+    {
+        let mut low = low;
+        let mut high = high;
+        while low < high {
+            let middle = low + (high - low) / 2;
+            if self.is_before(middle, text, passed) {
+                low = middle + 1;
+            } else {
+                high = middle;
+            }
+        }
+        low
+    }
+
+    /// Returns the number of the first suffix that begins with the text or is above those that do. Checks the first suffix first,
+    /// then uses galloping search from the end: fast if all begin with it, or few.
+    fn gallop_back(&self, text: &str) -> usize
+        requires { IsStrictlySortedBy texts_cmp self.now }
+        ensures within { result ≤ length self.now }
+        ensures below { AllByRecursion (λ l. is_before (text.now ∷ []) false l ≡ true) (take result self.now) }
+        ensures above { AllByRecursion (λ l. is_before (text.now ∷ []) false l ≡ false) (drop result self.now) }
+    {
+        let mut high = self.count();
+        if high > 0 && !self.is_before(0, text, false) {
+            return self.binary_search(text, false, 0, 0);
+        }
+        let mut step: usize = 1;
+        while step <= high {
+            let probe = high - step;
+            if self.is_before(probe, text, false) {
+                return self.binary_search(text, false, probe + 1, high);
+            }
+            high = probe;
+            step = step.saturating_mul(2);
+        }
+        self.binary_search(text, false, 0, high)
+    }
+
+    /// Whether the suffix of that number is below those that begin with the text, or begins with it, if `passed`.
+    fn is_before(&self, number: usize, text: &str, passed: bool) -> bool
+        ensures { result ≡ is_before (text.now ∷ []) passed (get_or self.now number []) }
+    {
+        match self.text(number) {
+            Some(first) => match first.cmp(text) {
+                Ordering::Less => true,
+                Ordering::Equal => passed,
+                Ordering::Greater => false,
+            },
+            None => true,
+        }
+    }
+
+    /// Returns the first text of the suffix of that number. `None` if it has none, or if there is no such suffix.
+    fn text(&self, number: usize) -> Option<&'a str>
+        ensures { option_copied result ≡ first_text (get_or self.now number []) }
+    {
+        match self.numbers.get(number) {
+            Some(node) => text_after(self.nodes, *node, self.depth),
+            None => None,
+        }
+    }
+
+    /// Returns what follows the text in the suffixes that begin with it.
+    pub fn section(&self, text: &str) -> SuffixRange<'a>
+        requires { IsStrictlySortedBy texts_cmp self.now }
+        ensures { result ≡ tails_of text.now self.now }
+    {
+        let high = self.bound(text, true);
+        let (front, _) = self.numbers.split_at(high);
+        let low = SuffixRange::new(self.nodes, front, self.depth).gallop_back(text);
+        let (_, numbers) = front.split_at(low);
+        SuffixRange::new(self.nodes, numbers, self.nodes.deeper(self.depth))
+    }
+
+    /// Returns the least first text above the given one. For `None`, the least of all. Binary search.
+    pub fn next_text(&self, text: Option<&str>) -> Option<&'a str>
+        requires { IsStrictlySortedBy texts_cmp self.now }
+        ensures { option_copied result ≡ next_after (heads (set.from_list self.now)) (option_copied text.entry) }
+    {
+        match text {
+            Some(text) => self.text(self.bound(text, true)),
+            None => self.least_text(),
+        }
+    }
+
+    /// Returns the least first text.
+    fn least_text(&self) -> Option<&'a str>
+        requires { IsStrictlySortedBy texts_cmp self.now }
+        ensures { option_copied result ≡ find (is_after text_cmp None) (firsts self.now) }
+    {
+        match self.text(0) {
+            Some(text) => Some(text),
+            None => self.text(1),
+        }
+    }
+
+    /// Whether there are two or more first texts.
+    pub fn has_multiple(&self) -> bool
+        requires { IsStrictlySortedBy texts_cmp self.now }
+        ensures { result ≡ nat_le 2 (length (set.rising (heads (set.from_list self.now)))) }
+    {
+        match self.next_text(None) {
+            Some(first) => self.next_text(Some(first)).is_some(),
+            None => false,
+        }
+    }
+
+    /// Returns the number of the first of the longest suffixes. `None` if there are none.
+    pub fn longest(&self) -> Option<usize>
+        ensures within { IfSome result (λ n. n < length self.now) }
+        ensures longest { option_map (λ n. get_or self.now n []) result ≡ longest_of self.now }
+    {
+        let mut best = None;
+        let mut number = 0;
+        while number < self.numbers.len() {
+            if self.is_longer(number, best) {
+                best = Some(number);
+            }
+            number += 1;
+        }
+        best
+    }
+
+    /// Whether the suffix of that number is longer than the best so far, if there is one.
+    fn is_longer(&self, number: usize, best: Option<usize>) -> bool
+        requires within { number < length self.now }
+        requires found { IfSome best (λ n. n < length self.now) }
+        ensures { result ≡ longer_than (option_map (λ n. get_or self.now n []) best) (get_or self.now number []) }
+    {
+        match best {
+            Some(best) => self.length(best) < self.length(number),
+            None => true,
+        }
+    }
+
+    /// Counts the texts of the suffix of that number.
+    fn length(&self, number: usize) -> usize
+        ensures { result ≡ length (get_or self.now number []) }
+    {
+        match self.numbers.get(number) {
+            Some(node) => depth(self.nodes, *node).saturating_sub(self.depth),
+            None => 0,
+        }
+    }
+
+    /// Copies the suffix of that number.
+    pub fn copied(&self, alloc: Global, number: usize) -> Result<Vec<String>, Memory>
+        requires { number < length self.now }
+        ensures { IfOk result (λ list. chain_texts list.items ≡ get_or self.now number []) }
+    {
+        let (_, numbers) = self.numbers.split_at(number);
+        let mut cursor = Cursor::new(alloc, self.nodes, numbers);
+        cursor.next()?;
+        copied_after(alloc, cursor.path(), self.depth)
+    }
+}

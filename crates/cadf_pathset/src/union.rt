@@ -1,0 +1,200 @@
+//! The union of two sets of lists, within the nodes of the first.
+ghost use Rattle.std.specs.Prelude.{◌≡◌, ◌≤◌, ◌<◌, ◌-◌, ◌++◌, [], ◌∷◌, ℕ, OnOk, IfOk, length, take, drop, get_or, true, false};
+ghost use Rattle.std.specs.List.{AllByRecursion};
+ghost use Rattle.std.specs.List.Sorted.{IsStrictlySortedBy};
+ghost use Rattle.std.specs.declared.cmp.Ordering.TheVariants.{Less};
+ghost use Rattle.cadf_pathset.specs.Lists.{is_before};
+ghost use Rattle.cadf_join.specs.Contents.{texts_cmp};
+ghost use Rattle.cadf_join.specs.Prefixes.{texts_at};
+ghost use Rattle.cadf_pathset.specs.Merge.{sorted_merge};
+ghost use Rattle.cadf_pathset.specs.Nodes.{AreThere, IsLine, list_at, lists_at};
+ghost use Rattle.cadf_pathset.specs.Walks.{Entered, IsLinePrefix};
+
+use crate::Memory;
+use crate::compare::list_cmp;
+use crate::cursor::Cursor;
+use crate::lines::{cmp_from, end_of, extend, follow};
+use crate::nodes::Nodes;
+use crate::path_vec::PathVec;
+use std::alloc::Global;
+use std::cmp::Ordering;
+
+/// Compares one of our lists with theirs. Skips the texts that they are known to share.
+fn compare(
+    nodes: &Nodes,
+    number: u32,
+    line: &mut Vec<u32>,
+    up: &mut Vec<u32>,
+    out: &mut Vec<u32>,
+    agreed: &mut usize,
+    path: &[&str],
+) -> Result<Ordering, Memory>
+    requires there { number ≤ length nodes.now }
+    requires front { IsLinePrefix nodes.now line.old.items out.old.items agreed.old (texts_at path.now) }
+    ensures front { OnOk result (IsLinePrefix nodes.now line.new.items out.new.items agreed.new (texts_at path.now)) }
+    ensures order { IfOk result (λ r. r ≡ texts_cmp (list_at nodes.now number) (texts_at path.now)) }
+{
+    let common = follow(nodes, number, line, up)?;
+    let known = (*agreed).min(common);
+    let (order, both) = cmp_from(nodes, line.as_slice(), path, known);
+    *agreed = both;
+    if both > out.len() {
+        let (front, _) = line.as_slice().split_at(both);
+        out.clear();
+        out.extend_from_slice(front)?;
+    }
+    Ok(order)
+}
+
+/// Goes to their next list, and returns whether there is one.
+fn enter(cursor: &mut Cursor<'_>, out: &mut Vec<u32>, agreed: &mut usize) -> Result<bool, Memory>
+    ensures { IfOk result (λ more. Entered more cursor.old cursor.new out.old.items out.new.items agreed.old agreed.new) }
+{
+    match cursor.advance()? {
+        Some(shared) => {
+            out.truncate(shared);
+            *agreed = (*agreed).min(shared);
+            Ok(true)
+        }
+        None => Ok(false),
+    }
+}
+
+/// Appends their list, by new nodes for the texts that our nodes lack.
+fn append(
+    nodes: &mut Nodes,
+    out: &mut Vec<u32>,
+    path: &[&str],
+    all: &mut Vec<u32>,
+) -> Result<(), Memory>
+    requires line { IsLine nodes.old out.old.items (take (length out.old.items) (texts_at path.now)) }
+    requires there { AreThere nodes.old all.old.items }
+    ensures kept { take (length nodes.old) nodes.new ≡ nodes.old }
+    ensures line { OnOk result (IsLine nodes.new out.new.items (texts_at path.now)) }
+    ensures there { OnOk result (AreThere nodes.new all.new.items) }
+    ensures lists { OnOk result (lists_at nodes.new all.new.items ≡ lists_at nodes.old all.old.items ++ texts_at path.now ∷ []) }
+{
+    extend(nodes, out, path)?;
+    all.push(end_of(out.as_slice()))?;
+    Ok(())
+}
+
+/// Returns a number of ours from `from` on, all lists between being below theirs. Galloping search.
+fn gallop(nodes: &Nodes, numbers: &[u32], from: usize, path: &[&str]) -> usize
+    requires there { AreThere nodes.now numbers.now }
+    requires rises { IsStrictlySortedBy texts_cmp (lists_at nodes.now numbers.now) }
+    requires within { from ≤ length numbers.now }
+    ensures from { from ≤ result }
+    ensures within { result ≤ length numbers.now }
+    ensures below { (k : ℕ) → from ≤ k → k < result
+        → is_before (texts_at path.now) false (get_or (lists_at nodes.now numbers.now) k []) ≡ true }
+{
+    let mut low = from;
+    let mut step: usize = 1;
+    while step <= numbers.len() - low {
+        let probe = low + (step - 1);
+        let (order, _) = list_cmp(nodes, numbers[probe], path, 0);
+        if !order.is_lt() {
+            return low;
+        }
+        low = probe + 1;
+        step = step.saturating_mul(2);
+    }
+    low
+}
+
+/// Appends those of ours that a galloping search finds below theirs, except the last of them. Returns the number of the next of ours.
+fn skip(
+    nodes: &Nodes,
+    numbers: &[u32],
+    at: usize,
+    path: &[&str],
+    all: &mut Vec<u32>,
+) -> Result<usize, Memory>
+    requires ours { AreThere nodes.now numbers.now }
+    requires rises { IsStrictlySortedBy texts_cmp (lists_at nodes.now numbers.now) }
+    requires within { at ≤ length numbers.now }
+    requires there { AreThere nodes.now all.old.items }
+    ensures from { IfOk result (λ to. at ≤ to) }
+    ensures within { IfOk result (λ to. to ≤ length numbers.now) }
+    ensures there { OnOk result (AreThere nodes.now all.new.items) }
+    ensures lists { IfOk result (λ to. lists_at nodes.now all.new.items
+        ≡ lists_at nodes.now all.old.items ++ take (to - at) (drop at (lists_at nodes.now numbers.now))) }
+    ensures below { IfOk result (λ to. AllByRecursion (λ l. texts_cmp l (texts_at path.now) ≡ Less)
+        (take (to - at) (drop at (lists_at nodes.now numbers.now)))) }
+{
+    let last = gallop(nodes, numbers, at, path).saturating_sub(1).max(at);
+    let (front, _) = numbers.split_at(last);
+    let (_, part) = front.split_at(at);
+    all.extend_from_slice(part)?;
+    Ok(last)
+}
+
+/// So many of ours in a row are compared one by one before a galloping search.
+const LONG: usize = 8;
+
+/// Returns the lists of both, each once, in order. Copies no text of ours, and appends no node for a text that our lists beside have.
+pub(crate) fn merge_into(
+    alloc: Global,
+    nodes: &mut Nodes,
+    numbers: &[u32],
+    other: &PathVec,
+) -> Result<Vec<u32>, Memory>
+    requires there { AreThere nodes.old numbers.now }
+    requires rises { IsStrictlySortedBy texts_cmp (lists_at nodes.old numbers.now) }
+    ensures kept { take (length nodes.old) nodes.new ≡ nodes.old }
+    ensures there { IfOk result (λ all. AreThere nodes.new all.items) }
+    ensures merged { IfOk result (λ all. lists_at nodes.new all.items
+        ≡ sorted_merge texts_cmp true (lists_at nodes.old numbers.now) other.now) }
+{
+    let mut all = Vec::new(alloc);
+    let mut line = Vec::new(alloc);
+    let mut up = Vec::new(alloc);
+    let mut out = Vec::new(alloc);
+    let mut agreed: usize = 0;
+    let mut at: usize = 0;
+    let mut run: usize = 0;
+    let mut cursor = other.cursor();
+    let mut more = enter(&mut cursor, &mut out, &mut agreed)?;
+    while more {
+        if run == LONG {
+            at = skip(&*nodes, numbers, at, cursor.path(), &mut all)?;
+            run = 0;
+        } else if at < numbers.len() {
+            let number = numbers[at];
+            let order = compare(
+                &*nodes,
+                number,
+                &mut line,
+                &mut up,
+                &mut out,
+                &mut agreed,
+                cursor.path(),
+            )?;
+            match order {
+                Ordering::Less => {
+                    all.push(number)?;
+                    at += 1;
+                    run += 1;
+                }
+                Ordering::Equal => {
+                    all.push(number)?;
+                    at += 1;
+                    run = 0;
+                    more = enter(&mut cursor, &mut out, &mut agreed)?;
+                }
+                Ordering::Greater => {
+                    run = 0;
+                    append(nodes, &mut out, cursor.path(), &mut all)?;
+                    more = enter(&mut cursor, &mut out, &mut agreed)?;
+                }
+            }
+        } else {
+            append(nodes, &mut out, cursor.path(), &mut all)?;
+            more = enter(&mut cursor, &mut out, &mut agreed)?;
+        }
+    }
+    let (_, rest) = numbers.split_at(at);
+    all.extend_from_slice(rest)?;
+    Ok(all)
+}

@@ -1,0 +1,86 @@
+//! Counts what a sink takes, and reports an output that is larger than an input may be.
+ghost use Rattle.std.specs.Prelude.{◌≡◌};
+ghost use Rattle.std.specs.Io.{WritesAtMost};
+ghost use Rattle.std.specs.Io.KnownBytes.{WriteAppends};
+ghost use Rattle.cadf_json.specs.Streams.{one_more, counted, write_fails};
+
+use cadf_json::{Failed, Sink};
+use thiserror::Error;
+
+/// More bytes were written than an input may have.
+#[derive(Clone, Copy, Debug, Drop, PartialEq, Eq, Error)]
+#[error("{written} bytes were written, and no input above {limit} is read")]
+pub struct Oversized {
+    written: u64,
+    limit: u64,
+}
+
+/// A sink, and how many bytes it has taken.
+#[derive(Drop)]
+pub struct CountingSink<W> {
+    sink: W,
+    taken: u64,
+}
+
+impl<W> CountingSink<W> {
+    ghost use Rattle.cadf_tool.specs.CountingSink.{metered_sink, metered_taken, report_of};
+
+    /// Wraps a sink, and starts to count at 0.
+    pub fn new(sink: W) -> CountingSink<W>
+        ensures sink { metered_sink result ≡ sink }
+        ensures taken { metered_taken result ≡ 0 }
+    {
+        CountingSink { sink, taken: 0 }
+    }
+
+    /// Returns how many bytes the sink took; the count stays at 2^64-1.
+    pub fn bytes_written(&self) -> u64
+        ensures { result ≡ metered_taken self.now }
+    {
+        self.taken
+    }
+
+    /// Reports the bytes if they are more than `limit`. `None` if they are not.
+    pub fn check_limit(&self, limit: u64) -> Option<Oversized>
+        ensures { result ≡ report_of (metered_taken self.now) limit }
+    {
+        if self.taken > limit {
+            return Some(Oversized {
+                written: self.taken,
+                limit,
+            });
+        }
+        None
+    }
+
+    /// Returns the sink.
+    pub fn into_inner(self) -> W
+        ensures { result ≡ metered_sink self }
+    {
+        self.sink
+    }
+}
+
+impl<W: Sink> Sink for CountingSink<W> {
+    ghost use Rattle.cadf_tool.specs.CountingSink.{metered_sink, metered_taken, with_taken};
+
+    ghost written = { λ m. W.written m.sink };
+
+    ghost writes = { λ m. W.writes m.sink };
+
+    ghost failures = { λ m. W.failures m.sink };
+
+    fn write(&mut self, bytes: &[u8]) -> Result<usize, Failed>
+        ensures bound { WritesAtMost result bytes.now }
+        ensures bytes { WriteAppends (W.written (metered_sink self.old)) (W.written (metered_sink self.new))
+            result bytes.now }
+        ensures writes { W.writes (metered_sink self.new) ≡ one_more (W.writes (metered_sink self.old)) }
+        ensures failures { W.failures (metered_sink self.new)
+            ≡ counted (write_fails result bytes.now) (W.failures (metered_sink self.old)) }
+        ensures taken { metered_taken self.new ≡ with_taken (metered_taken self.old) result }
+    {
+        let count = self.sink.write(bytes)?;
+        self.taken = self.taken.saturating_add(count as u64);
+        Ok(count)
+    }
+}
