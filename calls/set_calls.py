@@ -36,19 +36,19 @@ CALLS = {
     "paths.gathered": ["PathSetBuilder::new", "PathSetBuilder::push", "PathSetBuilder::build"],
     "paths.holds": ["PathSet::holds"],
     "paths.contains": ["PathSet::contains"],
-    "paths.ends_behind": ["PathSet::ends_behind"],
+    "paths.last_starts_with": ["PathSet::last_starts_with"],
     "paths.walk": ["Walk::walk", "Visitor::visit"],
     "paths.least": ["PathSet::list_after"],
     "paths.list_after": ["PathSet::list_after"],
     "paths.is_above": ["PathSet::is_above"],
     "paths.insert": ["PathSet::new", "PathSet::insert"],
     "paths.push": ["PathSet::push"],
-    "paths.behind": ["PathSet::behind"],
-    "paths.least_text": ["PathSet::next_text"],
-    "paths.next_text": ["PathSet::next_text"],
-    "paths.texts_behind": ["PathSet::texts_behind"],
+    "paths.suffixes": ["PathSet::suffixes"],
+    "paths.least_text": ["PathSet::next_child"],
+    "paths.next_child": ["PathSet::next_child"],
+    "paths.child_texts": ["PathSet::child_texts"],
     "paths.multi_valued_count_at": ["PathSet::multi_valued_count_at"],
-    "paths.longest_behind": ["PathSet::longest_behind"],
+    "paths.longest_suffix": ["PathSet::longest_suffix"],
     "prefix.copied": ["copy_texts"],
 }
 
@@ -230,7 +230,7 @@ for given in ["b/b/b/b", "a/c", "c", "a/b/a/b"]:
     row("paths.contains", [lists(ALL), lst(given)], False)
 for written, front, ends in [
         (SIX, "-", True), (SIX, "c", True), (SIX, "c/b", True), (SIX, "c/b/a", False), (SIX, "a", False), ("", "-", False)]:
-    row("paths.ends_behind", [lists(written), lst(front)], ends)
+    row("paths.last_starts_with", [lists(written), lst(front)], ends)
 row("paths.least", [lists(SIX)], "ok", *option("-"))
 row("paths.least", [lists("c b/a")], "ok", *option("b/a"))
 row("paths.least", [lists("")], "ok", "none")
@@ -246,20 +246,20 @@ for written, given, after in [("", "-", "-"), ("-", "a", "- a"), ("a a/b", "a/b/
     row("paths.push", [lists(written), lst(given)], "ok", lists(after))
 for prefix, found in [
         ("-", FIVE), ("a", "- a b b/a"), ("a/b", "- a"), ("a/b/a", "-"), ("a/b/b", ""), ("b", ""), ("c", "-"), ("d", "")]:
-    row("paths.behind", [lists(FIVE), lst(prefix)], "ok", lists(found))
+    row("paths.suffixes", [lists(FIVE), lst(prefix)], "ok", lists(found))
 for written, path, shown in [("", "-", ""), ("-", "-", "-"), ("b a/b a -", "-", "- a a/b b"), ("a -", "p", "p p/a")]:
     row("paths.walk", [lists(written), lst(path)], "ok", lists(shown))
 for prefix, found in [("-", "a"), ("a", "a"), ("a/b", "a"), ("c", "b"), ("c/b", ""), ("d", "")]:
     row("paths.least_text", [lists(SIX), lst(prefix)], *(["some", found] if found else ["none"]))
 for prefix, text, found in [
         ("-", "a", "c"), ("-", "b", "c"), ("-", "c", ""), ("a", "a", "b"), ("a", "b", ""), ("a/b", "a", "b"), ("c", "a", "b")]:
-    row("paths.next_text", [lists(SIX), lst(prefix), text], *(["some", found] if found else ["none"]))
+    row("paths.next_child", [lists(SIX), lst(prefix), text], *(["some", found] if found else ["none"]))
 for prefix, found in [("-", ["a", "c"]), ("a", ["a", "b"]), ("a/b", ["a", "b"]), ("c/b", []), ("d", [])]:
-    row("paths.texts_behind", [lists(SIX), lst(prefix)], "ok", *found)
+    row("paths.child_texts", [lists(SIX), lst(prefix)], "ok", *found)
 for prefix, count in [("-", 1), ("a", 1), ("a/b", 0), ("c", 0), ("d", 0)]:
     row("paths.multi_valued_count_at", [lists(SIX), lst(prefix)], count)
 for prefix, found in [("-", "a/b/a"), ("a", "b/a"), ("a/b", "a"), ("c", "b"), ("c/b", "-"), ("d", "")]:
-    row("paths.longest_behind", [lists(SIX), lst(prefix)], "ok", *option(found))
+    row("paths.longest_suffix", [lists(SIX), lst(prefix)], "ok", *option(found))
 
 # Prefixes of lists.
 row("prefix.copied", [lst("a/b")], "ok", lst("a/b"))

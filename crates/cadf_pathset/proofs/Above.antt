@@ -10,7 +10,7 @@ use Rattle.cadf_join.specs.Sets.{Listed, contains-from_list}
 use Rattle.cadf_join.specs.laws.Rising.{AllByRecursion-listed, any_listed, listed_any}
 use Rattle.cadf_join.specs.Contents.{Texts, texts_cmp}
 use Rattle.cadf_join.specs.laws.Contents.{texts_total, texts_same}
-use Rattle.cadf_pathset.specs.Lists.{last_of, ends_below}
+use Rattle.cadf_pathset.specs.Lists.{last_of, is_above_last}
 
 is_less : (r : Ordering) → is_lt r ≡ true → r ≡ Less
 is_less Less h = refl
@@ -31,19 +31,19 @@ all_below l (k ∷ ls) q s h y (inl e) =
     (texts_total.trans l (last_of k ls) q (AllByRecursion-listed (λ z. texts_cmp l z ≡ Less) (k ∷ ls) s.0 (last_of k ls) (last_listed k ls)) h)
 all_below l (k ∷ ls) q s h y (inr m) = all_below k ls q s.1 h y m
 
-pub above_last : (ls : List Texts) (q : Texts) → IsStrictlySortedBy texts_cmp ls → ends_below ls q ≡ true → (y : Texts)
+pub above_last : (ls : List Texts) (q : Texts) → IsStrictlySortedBy texts_cmp ls → is_above_last ls q ≡ true → (y : Texts)
     → set.contains (set.from_list {R = texts_cmp} ls) y ≡ true → texts_cmp y q ≡ Less
 above_last [] q s h y there = absurd (listed_any texts_total texts_same [] y (sym (contains-from_list texts_total [] y) ∙ there))
 above_last (l ∷ ls) q s h y there =
     all_below l ls q s (is_less _ h) y (listed_any texts_total texts_same (l ∷ ls) y (sym (contains-from_list texts_total (l ∷ ls) y) ∙ there))
 
 pub above_all : (ls : List Texts) (q : Texts) → ((y : Texts) → set.contains (set.from_list {R = texts_cmp} ls) y ≡ true → texts_cmp y q ≡ Less)
-    → ends_below ls q ≡ true
+    → is_above_last ls q ≡ true
 above_all [] q h = refl
 above_all (l ∷ ls) q h =
     ap is_lt (h (last_of l ls)
     (contains-from_list texts_total (l ∷ ls) (last_of l ls) ∙ any_listed texts_total texts_same (l ∷ ls) (last_of l ls) (last_listed l ls)))
 
-pub ends_below-last : (ls : List Texts) (q : Texts) → (ls ≡ [] → ⊥) → ends_below ls q ≡ is_lt (texts_cmp (last_of [] ls) q)
-ends_below-last [] q h = absurd (h refl)
-ends_below-last (l ∷ ls) q h = refl
+pub is_above_last-last : (ls : List Texts) (q : Texts) → (ls ≡ [] → ⊥) → is_above_last ls q ≡ is_lt (texts_cmp (last_of [] ls) q)
+is_above_last-last [] q h = absurd (h refl)
+is_above_last-last (l ∷ ls) q h = refl

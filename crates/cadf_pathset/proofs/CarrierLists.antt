@@ -13,7 +13,7 @@ use Rattle.cadf_join.specs.laws.Contents.{texts_total, texts_same}
 use Rattle.cadf_join.proofs.Members as members
 use Rattle.cadf_join.specs.laws.Sets as sets
 use Rattle.cadf_pathset.specs.Carriers.{carriers_in, with_carriers}
-use Rattle.cadf_pathset.specs.Lists.{last_of, ends_below}
+use Rattle.cadf_pathset.specs.Lists.{last_of, is_above_last}
 use Rattle.cadf_pathset.specs.Merge.{sorted_merge}
 use Rattle.cadf_pathset.proofs.Above.{above_last, last_listed}
 use Rattle.cadf_pathset.proofs.Merges.{pushed_rises, merged_is_union}
@@ -41,7 +41,7 @@ last-more p (y ∷ xs) x = last-more y xs x
 abbrev pub IsNotBelow : (Texts → Texts) → List Texts → List Texts → Type 0
 IsNotBelow carrier found ls = AllByRecursion (λ x. texts_cmp (last_of [] found) (carrier x) ≡ Greater → ⊥) ls
 
-is_found : (found : List Texts) (c : Texts) → (texts_cmp (last_of [] found) c ≡ Greater → ⊥) → ends_below found c ≡ false → Listed c found
+is_found : (found : List Texts) (c : Texts) → (texts_cmp (last_of [] found) c ≡ Greater → ⊥) → is_above_last found c ≡ false → Listed c found
 is_found [] c never e = absurd (true≢false e)
 is_found (l ∷ ls) c never e = by (texts_cmp (last_of l ls) c) refl e never
   where
@@ -53,7 +53,7 @@ is_found (l ∷ ls) c never e = by (texts_cmp (last_of l ls) c) refl e never
 module _ (carrier : Texts → Texts) where
   keeps : (q : Texts) (ls found : List Texts) → Listed q found → Listed q (carriers_in carrier found ls)
   keeps q [] found m = m
-  keeps q (l ∷ ls) found m = keeps q ls (cond (ends_below found (carrier l)) (found ++ carrier l ∷ []) found) (by (ends_below found (carrier l)))
+  keeps q (l ∷ ls) found m = keeps q ls (cond (is_above_last found (carrier l)) (found ++ carrier l ∷ []) found) (by (is_above_last found (carrier l)))
     where
       by : (b : Bool) → Listed q (cond b (found ++ carrier l ∷ []) found)
       by true = listed_before q found (carrier l) m
@@ -62,8 +62,8 @@ module _ (carrier : Texts → Texts) where
   pub only : (q : Texts) (ls found : List Texts) → Listed q (carriers_in carrier found ls) → Listed q found ⊎ Listed q (map carrier ls)
   only q [] found m = inl m
   only q (l ∷ ls) found m =
-      elim (only q ls (cond (ends_below found (carrier l)) (found ++ carrier l ∷ []) found) m) as (λ _. Listed q found ⊎ Listed q (map carrier (l ∷ ls))) [
-        | inl k ↦ by (ends_below found (carrier l)) k
+      elim (only q ls (cond (is_above_last found (carrier l)) (found ++ carrier l ∷ []) found) m) as (λ _. Listed q found ⊎ Listed q (map carrier (l ∷ ls))) [
+        | inl k ↦ by (is_above_last found (carrier l)) k
         | inr k ↦ inr (inr k)
       ]
     where
@@ -73,9 +73,9 @@ module _ (carrier : Texts → Texts) where
 
   pub rises : (ls found : List Texts) → IsStrictlySortedBy texts_cmp found → IsStrictlySortedBy texts_cmp (carriers_in carrier found ls)
   rises [] found s = s
-  rises (l ∷ ls) found s = rises ls (cond (ends_below found (carrier l)) (found ++ carrier l ∷ []) found) (by (ends_below found (carrier l)) refl)
+  rises (l ∷ ls) found s = rises ls (cond (is_above_last found (carrier l)) (found ++ carrier l ∷ []) found) (by (is_above_last found (carrier l)) refl)
     where
-      by : (b : Bool) → ends_below found (carrier l) ≡ b → IsStrictlySortedBy texts_cmp (cond b (found ++ carrier l ∷ []) found)
+      by : (b : Bool) → is_above_last found (carrier l) ≡ b → IsStrictlySortedBy texts_cmp (cond b (found ++ carrier l ∷ []) found)
       by true e = pushed_rises texts_total texts_same found (carrier l) s (above_last found (carrier l) s e)
       by false e = s
 
@@ -90,13 +90,13 @@ module _ (carrier : Texts → Texts) where
     unfolding IsStrictlySortedBy
     each q [] found s n m = absurd m
     each q (l ∷ ls) found s n (inl e) =
-        keeps q ls (cond (ends_below found (carrier l)) (found ++ carrier l ∷ []) found) (by (ends_below found (carrier l)) refl)
+        keeps q ls (cond (is_above_last found (carrier l)) (found ++ carrier l ∷ []) found) (by (is_above_last found (carrier l)) refl)
       where
-        by : (b : Bool) → ends_below found (carrier l) ≡ b → Listed q (cond b (found ++ carrier l ∷ []) found)
+        by : (b : Bool) → is_above_last found (carrier l) ≡ b → Listed q (cond b (found ++ carrier l ∷ []) found)
         by true h = subst (λ z. Listed z (found ++ carrier l ∷ [])) (sym e) (listed_last found (carrier l))
         by false h = subst (λ z. Listed z found) (sym e) (is_found found (carrier l) n.0 h)
     each q (l ∷ ls) found s n (inr m) =
-        each q ls (cond (ends_below found (carrier l)) (found ++ carrier l ∷ []) found) s.1 (by (ends_below found (carrier l))) m
+        each q ls (cond (is_above_last found (carrier l)) (found ++ carrier l ∷ []) found) s.1 (by (is_above_last found (carrier l))) m
       where
         by : (b : Bool) → IsNotBelow carrier (cond b (found ++ carrier l ∷ []) found) ls
         by true = subst (λ z. AllByRecursion (λ x. texts_cmp z (carrier x) ≡ Greater → ⊥) ls) (sym (last-more [] found (carrier l))) (not_below l ls s.0)

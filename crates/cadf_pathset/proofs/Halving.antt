@@ -19,7 +19,7 @@ use Rattle.cadf_join.specs.Sets as set
 use Rattle.cadf_join.specs.Sets.{contains-from_list, contains-insert}
 use Rattle.cadf_pathset.proofs.Spans.{all_more, all_turned}
 use Rattle.cadf_pathset.proofs.Inserts.{all_put}
-use Rattle.cadf_pathset.specs.Lists.{prefix_cmp, is_before, last_of, ends_behind, ends_below}
+use Rattle.cadf_pathset.specs.Lists.{prefix_cmp, is_before, last_of, last_starts_with, is_above_last}
 
 -- what is below a list that is before the bound is before it
 pub before_below : (p : Texts) (more : Bool) (a b : Texts) → texts_cmp a b ≡ Less → is_before p more b ≡ true → is_before p more a ≡ true
@@ -94,13 +94,13 @@ last_at : (l : Texts) (ls : List Texts) → get_or (l ∷ ls) (length ls) [] ≡
 last_at l [] = refl
 last_at l (k ∷ ls) = last_at k ls
 
-pub ends_below_at : (ls : List Texts) (q : Texts) → (ls ≡ [] → ⊥) → is_lt (texts_cmp (get_or ls (length ls - 1) []) q) ≡ ends_below ls q
+pub ends_below_at : (ls : List Texts) (q : Texts) → (ls ≡ [] → ⊥) → is_lt (texts_cmp (get_or ls (length ls - 1) []) q) ≡ is_above_last ls q
 ends_below_at [] q some = absurd (some refl)
 ends_below_at (l ∷ ls) q some =
     let n : length (l ∷ ls) - 1 ≡ length ls = omega arith in
     ap (λ k. is_lt (texts_cmp (get_or (l ∷ ls) k []) q)) n ∙ ap (λ z. is_lt (texts_cmp z q)) (last_at l ls)
 
-pub ends_behind_at : (ls : List Texts) (p : Texts) → (ls ≡ [] → ⊥) → is_eq (prefix_cmp (get_or ls (length ls - 1) []) p) ≡ ends_behind ls p
+pub ends_behind_at : (ls : List Texts) (p : Texts) → (ls ≡ [] → ⊥) → is_eq (prefix_cmp (get_or ls (length ls - 1) []) p) ≡ last_starts_with ls p
 ends_behind_at [] p some = absurd (some refl)
 ends_behind_at (l ∷ ls) p some =
     let n : length (l ∷ ls) - 1 ≡ length ls = omega arith in

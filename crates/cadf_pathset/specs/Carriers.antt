@@ -4,11 +4,11 @@
 use Rattle.std.specs.Prelude.{List, [], ◌∷◌, ◌++◌, cond, map}
 use Rattle.cadf_join.specs.Sets as set
 use Rattle.cadf_join.specs.Contents.{Texts, Contents}
-use Rattle.cadf_pathset.specs.Lists.{ends_below}
+use Rattle.cadf_pathset.specs.Lists.{is_above_last}
 
 abbrev pub with_carriers : (Texts → Texts) → Contents → Contents
 with_carriers carrier s = set.union s (set.from_list (map carrier (set.items s)))
 
 abbrev pub carriers_in : (Texts → Texts) → List Texts → List Texts → List Texts
 carriers_in carrier found [] = found
-carriers_in carrier found (l ∷ ls) = carriers_in carrier (cond (ends_below found (carrier l)) (found ++ carrier l ∷ []) found) ls
+carriers_in carrier found (l ∷ ls) = carriers_in carrier (cond (is_above_last found (carrier l)) (found ++ carrier l ∷ []) found) ls

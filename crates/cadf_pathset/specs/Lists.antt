@@ -4,8 +4,8 @@
 --     is_before p more l     whether it is below them, or one of them if they count too
 --     strip p l              the suffix after the prefix, if the list begins with it
 --     last_of p ls           the last of the lists, or p
---     ends_below ls q        whether q is above the last of the lists, as it is if there is none
---     ends_behind ls p       whether the last of the lists begins with p
+--     is_above_last ls q        whether q is above the last of the lists, as it is if there is none
+--     last_starts_with ls p       whether the last of the lists begins with p
 use Rattle.std.specs.Prelude.{Bool, true, false, List, [], ◌∷◌, Option, Some, None}
 use Rattle.std.specs.declared.cmp.Ordering.{Ordering}
 use Rattle.std.specs.declared.cmp.Ordering.TheVariants.{Less, Equal, Greater}
@@ -33,10 +33,10 @@ abbrev pub last_of : Texts → List Texts → Texts
 last_of p [] = p
 last_of p (l ∷ ls) = last_of l ls
 
-abbrev pub ends_below : List Texts → Texts → Bool
-ends_below [] q = true
-ends_below (l ∷ ls) q = is_lt (texts_cmp (last_of l ls) q)
+abbrev pub is_above_last : List Texts → Texts → Bool
+is_above_last [] q = true
+is_above_last (l ∷ ls) q = is_lt (texts_cmp (last_of l ls) q)
 
-abbrev pub ends_behind : List Texts → Texts → Bool
-ends_behind [] p = false
-ends_behind (l ∷ ls) p = is_eq (prefix_cmp (last_of l ls) p)
+abbrev pub last_starts_with : List Texts → Texts → Bool
+last_starts_with [] p = false
+last_starts_with (l ∷ ls) p = is_eq (prefix_cmp (last_of l ls) p)

@@ -8,7 +8,7 @@ ghost use Rattle.cadf_join.specs.Longest.{longest_of};
 ghost use Rattle.cadf_join.specs.Maps.{heads};
 ghost use Rattle.cadf_join.specs.Prefixes.{chain_texts, saturated, texts_at, texts_found};
 ghost use Rattle.cadf_join.specs.MultiValued.{multi_valued_keys};
-ghost use Rattle.cadf_pathset.specs.Lists.{ends_behind, strip};
+ghost use Rattle.cadf_pathset.specs.Lists.{last_starts_with, strip};
 ghost use Rattle.cadf_pathset.specs.Sections.{suffixes_after};
 
 use crate::Memory;
@@ -27,10 +27,10 @@ impl PathSet {
     }
 
     /// Whether the last of the lists in order begins with the prefix. Nothing is searched.
-    pub fn ends_behind(&self, prefix: &[String]) -> bool
-        ensures { result ≡ ends_behind (set.rising self.now) (chain_texts prefix.now) }
+    pub fn last_starts_with(&self, prefix: &[String]) -> bool
+        ensures { result ≡ last_starts_with (set.rising self.now) (chain_texts prefix.now) }
     {
-        self.rows.ends_behind(prefix)
+        self.rows.last_starts_with(prefix)
     }
 
     /// The least list above the given one, or the least of all for `None`.
@@ -46,20 +46,20 @@ impl PathSet {
     }
 
     /// The least text next behind the prefix that is above the given one, or the least of all for `None`. Found by halving.
-    pub fn next_text(&self, prefix: &[&str], text: Option<&str>) -> Option<&str>
+    pub fn next_child(&self, prefix: &[&str], text: Option<&str>) -> Option<&str>
         ensures { option_copied result ≡ next_after (heads (suffixes_after self.now (texts_at prefix.now))) (option_copied text.entry) }
     {
-        self.rows.suffixes(prefix).next_text(text)
+        self.rows.suffixes(prefix).next_child(text)
     }
 
     /// The texts next behind the prefix, in order.
-    pub fn texts_behind(&self, prefix: &[&str]) -> Result<Vec<String>, Memory>
+    pub fn child_texts(&self, prefix: &[&str]) -> Result<Vec<String>, Memory>
         ensures { IfOk result (λ found. map string_bytes found.items ≡ set.rising (heads (suffixes_after self.now (texts_at prefix.now)))) }
     {
         let range = self.rows.suffixes(prefix);
         let mut texts = Vec::new(self.alloc);
         let mut last = None;
-        while let Some(text) = range.next_text(last) {
+        while let Some(text) = range.next_child(last) {
             texts.push(String::from_str(self.alloc, text)?)?;
             last = Some(text);
         }
@@ -73,7 +73,7 @@ impl PathSet {
         let range = self.rows.suffixes(prefix);
         let mut count: u64 = 0;
         let mut last = None;
-        while let Some(text) = range.next_text(last) {
+        while let Some(text) = range.next_child(last) {
             if range.section(text).has_multiple() {
                 count = count.saturating_add(1);
             }
@@ -83,7 +83,7 @@ impl PathSet {
     }
 
     /// The longest of the lists that go on behind the prefix, without it; the least of the longest.
-    pub fn longest_behind(&self, prefix: &[&str]) -> Result<Option<Vec<String>>, Memory>
+    pub fn longest_suffix(&self, prefix: &[&str]) -> Result<Option<Vec<String>>, Memory>
         ensures { IfOk result (λ found. texts_found found ≡ longest_of (filter_map (strip (texts_at prefix.now)) (set.rising self.now))) }
     {
         let range = self.rows.suffixes(prefix);

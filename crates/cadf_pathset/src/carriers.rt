@@ -33,7 +33,7 @@ pub(crate) fn carriers_of<C: Carrier>(alloc: Global, rows: &PathVec) -> Result<P
     while more {
         let list = cursor.path();
         let (carrier, _) = list.split_at(C::length(list));
-        if all.ends_below(carrier) {
+        if all.is_above_last(carrier) {
             all.push(carrier)?;
         }
         more = cursor.next()?;

@@ -9,7 +9,7 @@ ghost use Rattle.std.specs.Option.{option_copied, option_map};
 ghost use Rattle.std.specs.Ordering.{eq_by_cmp, is_eq, is_lt};
 ghost use Rattle.cadf_join.specs.Contents.{is_after, texts_cmp};
 ghost use Rattle.cadf_join.specs.Prefixes.{chain_texts, texts_at};
-ghost use Rattle.cadf_pathset.specs.Lists.{ends_behind, ends_below, is_before, prefix_cmp};
+ghost use Rattle.cadf_pathset.specs.Lists.{last_starts_with, is_above_last, is_before, prefix_cmp};
 ghost use Rattle.cadf_pathset.specs.Nodes.{Agree, AreThere, lists_at};
 ghost use Rattle.cadf_pathset.specs.Walks.{ahead};
 ghost use Rattle.cadf_join.specs.Sets as set;
@@ -89,8 +89,8 @@ impl PathVec {
     }
 
     /// Whether the list is above the last one, as each list is if there is none.
-    pub fn ends_below(&self, path: &[&str]) -> bool
-        ensures { result ≡ ends_below self.now (texts_at path.now) }
+    pub fn is_above_last(&self, path: &[&str]) -> bool
+        ensures { result ≡ is_above_last self.now (texts_at path.now) }
     {
         if self.is_empty() {
             return true;
@@ -99,8 +99,8 @@ impl PathVec {
     }
 
     /// Whether the last list begins with the prefix.
-    pub fn ends_behind<W: AsText>(&self, prefix: &[W]) -> bool
-        ensures { result ≡ ends_behind self.now (map W.bytes prefix.now) }
+    pub fn last_starts_with<W: AsText>(&self, prefix: &[W]) -> bool
+        ensures { result ≡ last_starts_with self.now (map W.bytes prefix.now) }
     {
         if self.is_empty() {
             return false;

@@ -161,7 +161,7 @@ impl<'a> SuffixRange<'a> {
     }
 
     /// Returns the least first text above the given one. For `None`, the least of all. Binary search.
-    pub fn next_text(&self, text: Option<&str>) -> Option<&'a str>
+    pub fn next_child(&self, text: Option<&str>) -> Option<&'a str>
         requires { IsStrictlySortedBy texts_cmp self.now }
         ensures { option_copied result ≡ next_after (heads (set.from_list self.now)) (option_copied text.entry) }
     {
@@ -187,8 +187,8 @@ impl<'a> SuffixRange<'a> {
         requires { IsStrictlySortedBy texts_cmp self.now }
         ensures { result ≡ nat_le 2 (length (set.rising (heads (set.from_list self.now)))) }
     {
-        match self.next_text(None) {
-            Some(first) => self.next_text(Some(first)).is_some(),
+        match self.next_child(None) {
+            Some(first) => self.next_child(Some(first)).is_some(),
             None => false,
         }
     }

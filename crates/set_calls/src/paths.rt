@@ -48,7 +48,7 @@ fn told_of_list(alloc: Global, name: &str, call: &Call) -> Result<String, Memory
     let given = list(alloc, call.text(2))?;
     match name {
         "holds" => told::truth(alloc, ours.holds(&given)),
-        "ends_behind" => told::truth(alloc, ours.ends_behind(&given)),
+        "last_starts_with" => told::truth(alloc, ours.last_starts_with(&given)),
         "least" => told::found(alloc, ours.list_after(None)?),
         "list_after" => told::found(alloc, ours.list_after(Some(given.as_slice()))?),
         _ => told_of_lent(alloc, name, ours, &lent(alloc, &given)?, call.text(3)),
@@ -68,12 +68,12 @@ fn told_of_lent(
         "is_above" => told::truth(alloc, ours.is_above(given)),
         "insert" => inserted(alloc, ours, given),
         "push" => pushed(alloc, ours, given),
-        "behind" => told::lists(alloc, &ours.behind(given)?),
-        "least_text" => told::text(alloc, ours.next_text(given, None)),
-        "next_text" => told::text(alloc, ours.next_text(given, Some(text))),
-        "texts_behind" => told::texts(alloc, &ours.texts_behind(given)?),
+        "suffixes" => told::lists(alloc, &ours.suffixes(given)?),
+        "least_text" => told::text(alloc, ours.next_child(given, None)),
+        "next_child" => told::text(alloc, ours.next_child(given, Some(text))),
+        "child_texts" => told::texts(alloc, &ours.child_texts(given)?),
         "multi_valued_count_at" => told::number(alloc, ours.multi_valued_count_at(given)),
-        "longest_behind" => told::found(alloc, ours.longest_behind(given)?),
+        "longest_suffix" => told::found(alloc, ours.longest_suffix(given)?),
         _ => answer(alloc, "no such call", &[]),
     }
 }

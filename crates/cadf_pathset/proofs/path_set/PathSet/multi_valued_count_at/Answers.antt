@@ -33,7 +33,7 @@ pub loop-text-smaller : goal.loop-text-smaller
 loop-text-smaller c =
     let h = heads (set.from_list c.suffixes-range.result) in
     let step = ap length (next_one text_total text_same (option_copied c.loop-text.last) (set.rising h) (rising_is_sorted text_total text_same h)
-    c.in-Some.text.now (sym c.next_text.ensures ∙ ap option_copied c.in-Some.is)) in
+    c.in-Some.text.now (sym c.next_child.ensures ∙ ap option_copied c.in-Some.is)) in
     omega (arith, step)
 
 pub loop-text-preserved : goal.loop-text-preserved
@@ -42,7 +42,7 @@ loop-text-preserved c =
     let t = c.in-Some.text.now in
     let left = filter (is_after text_cmp (Some t)) (set.rising (heads s)) in
     let step = ap (λ ks. length (filter (has_two s) ks)) (next_one text_total text_same (option_copied c.loop-text.last) (set.rising (heads s))
-    (rising_is_sorted text_total text_same (heads s)) t (sym c.next_text.ensures ∙ ap option_copied c.in-Some.is)) in
+    (rising_is_sorted text_total text_same (heads s)) t (sym c.next_child.ensures ∙ ap option_copied c.in-Some.is)) in
     let told : has_two s t ≡ c.has_multiple.result =
     ap (λ z. nat_le 2 (length (set.rising (heads z)))) (section_of t c.suffixes-range.result c.suffixes-range.ensures.rising ∙ ap set.from_list (sym c.section.ensures))
     ∙ sym c.has_multiple.ensures in
@@ -70,7 +70,7 @@ returns c =
     let s = set.from_list c.suffixes-range.result in
     let none = ap (λ ks. length (filter (has_two s) ks)) (next_none text_total text_same (is_after text_cmp (option_copied c.loop-text.last))
     (set.rising (heads s))
-    (sym c.next_text.ensures ∙ ap option_copied c.in_default.is)) in
+    (sym c.next_child.ensures ∙ ap option_copied c.in_default.is)) in
     let before = c.loop-text.invariant.to_come in
     let small = c.loop-text.invariant.small in
     let all : c.loop-text.count ≡ saturated (length (multi_valued_keys s)) = omega (arith, none, before, small) in

@@ -12,11 +12,11 @@ pub returns-in-Some : goal.returns-in-Some
 returns-in-Some c =
     let h = heads (set.from_list c.args.self.now) in
     let first = c.in-Some.first.now in
-    c.is_some.ensures ∙ copied_some c.next_text-in-Some.result ∙ ap is_some c.next_text-in-Some.ensures
+    c.is_some.ensures ∙ copied_some c.next_child-in-Some.result ∙ ap is_some c.next_child-in-Some.ensures
     ∙ several_found text_total text_same (set.rising h) (rising_is_sorted text_total text_same h) first
-    (sym c.next_text.ensures ∙ ap option_copied c.in-Some.is)
+    (sym c.next_child.ensures ∙ ap option_copied c.in-Some.is)
 
 pub returns-in-None : goal.returns-in-None
 returns-in-None c =
     let h = heads (set.from_list c.args.self.now) in
-    sym (none_found text_total text_same (set.rising h) (sym c.next_text.ensures ∙ ap option_copied c.in-None.is))
+    sym (none_found text_total text_same (set.rising h) (sym c.next_child.ensures ∙ ap option_copied c.in-None.is))
