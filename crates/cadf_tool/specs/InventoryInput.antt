@@ -1,6 +1,6 @@
 -- A source that is read as an inventory file, whatever it begins with.
---     RefusesInventory old new f    the source is refused for what its bytes are as such a file
---     inventory_spec                  how it is read
+--     RefusesInventory old new f  the source is refused for what its bytes are as such a file
+--     inventory_spec              how it is read
 use Rattle.std.specs.Prelude.{◌≡◌, ◌≢◌, ◌⊎◌, ℕ, List, Bool, true, false, None, Err}
 use Rattle.std.specs.Io.KnownBytes.{Consumes, IsAtEnd}
 use Rattle.cadf_json.specs.Streams.{counted}

@@ -1,8 +1,8 @@
 -- What an inventory notes of an input, and what an input has that an inventory doesn't note.
---     inventory_model_of loaded                the log of an input, and the digests of its atoms; or why there are none
---     missing_by_of from noted       the atoms of FROM whose digest isn't noted, under their log, or why there is no such part
---     part_by both                   the same of both
---     IsInventoryInput limit b n     the bytes are the file of this inventory, within the limit
+--     inventory_model_of loaded   the log of an input, and the digests of its atoms; or why there are none
+--     missing_by_of from noted    the atoms of FROM whose digest isn't noted, under their log, or why there is no such part
+--     part_by both                the same of both
+--     IsInventoryInput limit b n  the bytes are the file of this inventory, within the limit
 use Rattle.std.specs.Prelude.{◌≡◌, ◌≤◌, ℕ, List, length, Option, Some, None, Result, Ok, Err}
 use Rattle.cadf_join.specs.Contents.{Text}
 use Rattle.cadf_line.specs.Digest.{atom_digest}

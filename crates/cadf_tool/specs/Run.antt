@@ -1,8 +1,8 @@
 -- THE RUN of an engine: its sources are read in turn, one thing is made of them, and the text of that is written.
---     one, two, all                     what came of one source, of two, of a list of them
---     IsExpected sources work expected            what is made of the sources, or the fault that comes first
---     IsWritten sink old new text r     the text was written whole, or a front of it
---     IsRun sources work tell sink old new r     the run, and its answer
+--     one, two, all                           what came of one source, of two, of a list of them
+--     IsExpected sources work expected        what is made of the sources, or the fault that comes first
+--     IsWritten sink old new text r           the text was written whole, or a front of it
+--     IsRun sources work tell sink old new r  the run, and its answer
 -- A source is refused before the work is begun, and what is written begins when the work is done.
 use Rattle.std.specs.Prelude.{◌≡◌, ◌≤◌, ◌+◌, ◌⊎◌, ℕ, List, [], ◌∷◌, map, length, take, drop, Result, Ok, Err, OnOk, OnErr, IfErr}
 use Rattle.std.specs.Io.KnownBytes.{Appends}
