@@ -58,7 +58,7 @@ pub(crate) fn continued(
 ) -> Result<Vec<String>, Memory>
     ensures { IfOk result (λ list. chain_texts list.items ≡ chain_texts prefix.now ++ texts_at path.now) }
 {
-    let mut list = copied(alloc, prefix)?;
+    let mut list = copy_texts(alloc, prefix)?;
     for text in path {
         list.push(String::from_str(alloc, *text)?)?;
     }
