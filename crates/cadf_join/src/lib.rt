@@ -45,7 +45,7 @@ pub trait Join: Drop {
         ensures least { IfOk result (λ part. IfSome part (λ v. IsLeastWith is_contents
             (set.difference (contents self.now) (contents other.now)) (contents v))) };
 
-    /// A value that holds the same.
+    /// Copies the value.
     fn copy(&self) -> Result<Self, Memory>
         ensures { IfOk result (λ v. contents v ≡ contents self.now) };
 

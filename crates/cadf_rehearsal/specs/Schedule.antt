@@ -1,5 +1,5 @@
 -- Sites that learn documents and exchange messages, as a machine over any schedule. A list of turns has the newest first.
---     Message, World      what was sent, and where all stands
+--     Message, World      what was sent, and the state of all sites
 --     after turns         the world after the turns, or the first fault
 --     plain turns j       what site j holds if each answer and each send carried the sender's whole set
 --     learnt_atoms turns  the atoms of all documents

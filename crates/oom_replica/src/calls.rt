@@ -78,7 +78,7 @@ fn missing(held: &Held) -> Option<Report> {
     }
 }
 
-/// A copy holds the same.
+/// Copies the replica. The copy has to hold the same.
 fn copy(replica: &Replica) -> Option<Report> {
     match replica.copy() {
         Ok(copied) => seen(Some(copied.same(replica))),

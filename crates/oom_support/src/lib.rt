@@ -1,4 +1,4 @@
-//! What the programs share whose growths `.ci/oom` refuses one by one.
+//! What the programs share whose allocations `.ci/oom` makes fail one by one.
 #![tactic(auto)]
 
 ghost use Rattle.std.specs.Prelude.{◌≡◌, ◌↔◌, true, false};
@@ -8,7 +8,7 @@ use std::io;
 /// What was seen of a call.
 #[derive(Clone, Copy, Debug, Drop, PartialEq, Eq)]
 pub enum Report {
-    /// No growth of the call was refused.
+    /// No allocation of the call failed.
     Whole,
     /// The call was refused, and all that must hold afterwards does.
     Refused,
