@@ -51,7 +51,7 @@ abbrev pub left_in : Text → ℕ → Result World RehearseFault → Result (Lis
 left_in log sites (Ok world) = Ok (left_by log sites world)
 left_in log sites (Err fault) = Err (Rehearse fault)
 
--- the fault of a schedule is the engine's, and want of memory too
+-- the fault of a schedule is the engine's, and so is `Memory`
 abbrev pub of_rehearsal : RehearseFault → ToolFault
 of_rehearsal (NoSite turn) = Rehearse (NoSite turn)
 of_rehearsal (NoMessage turn) = Rehearse (NoMessage turn)

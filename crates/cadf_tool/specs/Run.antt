@@ -122,7 +122,7 @@ all source old new = record {
 -- ---- the expected result
 
 -- the fault comes first: of a source, or of the work where all were read.
--- Want of memory may come at any time, but not for a read that failed
+-- `Memory` may come at any time, but not for a read that failed
 abbrev pub IsFirstFault : {A M : Type 0} → Sources A → (A → Result M ToolFault) → ToolFault → FaultStage → Type 0
 IsFirstFault sources work fault (Reading n f) = (fault ≡ of_load n f) × sources.refused n f
 IsFirstFault {A} sources work fault Working = (a : A) × sources.are a × (work a ≡ Err fault)

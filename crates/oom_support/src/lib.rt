@@ -16,7 +16,7 @@ pub enum Report {
     Fails,
 }
 
-/// What is told of a call.
+/// The report of a call.
 pub fn told(refused: bool, holds: bool) -> Report
     ensures fails { (result ≡ Report.Fails) ↔ (holds ≡ false) }
     ensures refused { result ≡ Report.Refused → refused ≡ true }
@@ -31,7 +31,7 @@ pub fn told(refused: bool, holds: bool) -> Report
     }
 }
 
-/// What is told of a call that wasn't refused, where it could be looked at.
+/// Reports a call that wasn't refused, if what it left could be checked.
 pub fn seen(holds: Option<bool>) -> Option<Report> {
     match holds {
         Some(holds) => Some(told(false, holds)),
@@ -39,7 +39,7 @@ pub fn seen(holds: Option<bool>) -> Option<Report> {
     }
 }
 
-/// What is told of a call that was refused, or of which a growth outside was, by what was seen when all was done again.
+/// Reports a call that was refused, or outside of which an allocation failed, by what a retry of all of it left.
 pub fn again(first: Option<Report>, second: Option<Report>) -> Report {
     match (first, second) {
         (Some(first), Some(Report::Whole)) => first,

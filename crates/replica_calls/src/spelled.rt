@@ -7,7 +7,7 @@ use calls::Call;
 use hex::FromHex;
 use std::alloc::Global;
 
-/// Answers the name that the word is. A word that is none is answered as want of memory.
+/// Answers the name that the word is. A word that is none is answered as `Memory`.
 pub(crate) fn name(alloc: Global, word: &str) -> Result<Name, Memory> {
     match Name::read(alloc, word) {
         Ok(name) => Ok(name),
