@@ -52,7 +52,7 @@ CALLS = {
     "document.take_entities": ["Replica::take_entity"],
     "document.take_properties": ["Replica::take_property"],
     "ruling.read": ["Ruling::read", "Ruling::letter", "Ruling::key", "Ruling::digest"],
-    "ruling.of": ["Ruling::for_value"],
+    "ruling.of": ["Ruling::of"],
     "ruling.take": ["Replica::take_ruling"],
     "ruling.rulings": ["Replica::rulings", "Ruling::kind"],
     "inventory.has": ["Inventory::has"],

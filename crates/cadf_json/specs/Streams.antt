@@ -26,8 +26,8 @@ use Rattle.std.specs.Prelude.{
 use Rattle.std.specs.Io.KnownBytes.{Appends, Consumes}
 use Rattle.cadf_json.specs.declared.transfer.ReadAllFault.{ReadAllFault}
 use Rattle.cadf_json.specs.declared.transfer.ReadAllFault.TheVariants.{TooLarge, ReadFault, Memory}
-use Rattle.cadf_json.specs.declared.transfer.OutputFault.{OutputFault}
-use Rattle.cadf_json.specs.declared.transfer.OutputFault.TheVariants.{WriteFault, Memory as OutOfMemory}
+use Rattle.cadf_json.specs.declared.transfer.OutFault.{OutFault}
+use Rattle.cadf_json.specs.declared.transfer.OutFault.TheVariants.{WriteFault, Memory as OutOfMemory}
 
 -- a count of 64 bits, which stays at its greatest value
 abbrev pub one_more : ℕ → ℕ
@@ -70,7 +70,7 @@ is_read_fault (Err ReadFault) = true
 is_read_fault (Err Memory) = false
 
 -- the text was not written whole, since a write failed
-abbrev pub is_write_fault : {T : Type 0} → Result T OutputFault → Bool
+abbrev pub is_write_fault : {T : Type 0} → Result T OutFault → Bool
 is_write_fault (Ok v) = false
 is_write_fault (Err WriteFault) = true
 is_write_fault (Err OutOfMemory) = false

@@ -27,7 +27,7 @@ pub enum ReadAllFault {
 
 /// Says why not all of a text was written.
 #[derive(Clone, Copy, Debug, Drop, PartialEq, Eq, Error)]
-pub enum OutputFault {
+pub enum OutFault {
     /// A write failed.
     #[error("write fault")]
     WriteFault,
@@ -36,25 +36,25 @@ pub enum OutputFault {
     Memory,
 }
 
-impl From<Failed> for OutputFault {
+impl From<Failed> for OutFault {
     ghost use Rattle.std.specs.Prelude.{◌≡◌};
-    ghost use Rattle.cadf_json.specs.declared.transfer.OutputFault.TheVariants.{WriteFault};
+    ghost use Rattle.cadf_json.specs.declared.transfer.OutFault.TheVariants.{WriteFault};
 
     ghost from_gives = { λ _ e. e ≡ WriteFault };
 
-    fn from(_failed: Failed) -> OutputFault {
-        OutputFault::WriteFault
+    fn from(_failed: Failed) -> OutFault {
+        OutFault::WriteFault
     }
 }
 
-impl From<Memory> for OutputFault {
+impl From<Memory> for OutFault {
     ghost use Rattle.std.specs.Prelude.{◌≡◌};
-    ghost use Rattle.cadf_json.specs.declared.transfer.OutputFault.TheVariants.{Memory as OutOfMemory};
+    ghost use Rattle.cadf_json.specs.declared.transfer.OutFault.TheVariants.{Memory as OutOfMemory};
 
     ghost from_gives = { λ _ e. e ≡ OutOfMemory };
 
-    fn from(_refused: Memory) -> OutputFault {
-        OutputFault::Memory
+    fn from(_refused: Memory) -> OutFault {
+        OutFault::Memory
     }
 }
 

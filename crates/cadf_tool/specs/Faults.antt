@@ -1,7 +1,7 @@
 -- How the faults of the engines come of other faults, and which exit status each has.
 use Rattle.std.specs.Prelude.{ℕ, Bool, true, false, Result, Ok, Err}
-use Rattle.cadf_json.specs.declared.transfer.OutputFault.{OutputFault}
-use Rattle.cadf_json.specs.declared.transfer.OutputFault.TheVariants.{WriteFault as OutWriteFault, Memory as OutMemory}
+use Rattle.cadf_json.specs.declared.transfer.OutFault.{OutFault}
+use Rattle.cadf_json.specs.declared.transfer.OutFault.TheVariants.{WriteFault as OutWriteFault, Memory as OutMemory}
 use Rattle.cadf_tool.specs.declared.input.LoadFault.{LoadFault}
 use Rattle.cadf_tool.specs.declared.input.LoadFault.TheVariants.{File, TooLarge, ReadFault, Json, Document, Memory}
 use Rattle.cadf_tool.specs.declared.fault.ToolFault.{ToolFault}
@@ -27,7 +27,7 @@ of_load n (Document f) = Input n (Document f)
 of_load n Memory = OutOfMemory
 
 -- of a text that was written
-abbrev pub of_out : {T : Type 0} → Result T OutputFault → Result T ToolFault
+abbrev pub of_out : {T : Type 0} → Result T OutFault → Result T ToolFault
 of_out (Ok v) = Ok v
 of_out (Err OutWriteFault) = Err WriteFault
 of_out (Err OutMemory) = Err OutOfMemory
