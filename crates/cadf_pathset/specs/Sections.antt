@@ -4,7 +4,7 @@
 use Rattle.std.specs.Prelude.{List, [], ◌∷◌}
 use Rattle.cadf_join.specs.Contents.{Texts, Contents, suffixes_of, tails_of}
 
-abbrev pub sections : Contents → Texts → Contents
+abbrev pub suffixes_after : Contents → Texts → Contents
 suffixes_after s [] = s
 suffixes_after s (t ∷ p) = suffixes_after (suffixes_of s t) p
 
