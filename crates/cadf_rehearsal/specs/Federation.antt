@@ -67,7 +67,7 @@ pub record IsLater (old new : Federation) : Type 0 where
 
 -- what the turn of that number leaves of a federation of that log
 abbrev pub turned_from : Text → Federation → ℕ → Turn → Result schedule.World RehearseFault
-turned_from log f turn t = schedule.turned atom_digest log (length f.sites.items) turn (world_of f) t
+turned_from log f turn t = schedule.world_after_turn atom_digest log (length f.sites.items) turn (world_of f) t
 
 abbrev pub IsFaultDue : {A : Type 0} → RehearseFault → Result A RehearseFault → Type 0
 IsFaultDue fault r = (fault ≡ Memory) ⊎ (r ≡ Err fault)
