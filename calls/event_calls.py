@@ -290,15 +290,17 @@ def events():
 
 def parts():
     """Bodies, steps and attachments by their texts; entities and properties."""
-    for call in ("body", "body_with"):
-        yield call, [B1], ["ok", NOON, B1], EVENTS
-        yield call, [body("x", nested(99))], ["ok", NOON, body("x", nested(99))], EVENTS
-        for text, fault in NO_BODIES:
-            yield call, [text], ["err", fault], EVENTS
-    for call in ("step", "step_with"):
-        yield call, [S1], ["ok", S1], EVENTS
-        for text, fault in NO_STEPS:
-            yield call, [text], ["err", fault], EVENTS
+    for text in B1, body("x", nested(99)):
+        yield "body", [text], ["ok", NOON, text], EVENTS
+        yield "body_with", [text], ["some", NOON, text], EVENTS
+    for text, fault in NO_BODIES:
+        yield "body", [text], ["err", fault], EVENTS
+        yield "body_with", [text], ["none"], EVENTS
+    yield "step", [S1], ["ok", S1], EVENTS
+    yield "step_with", [S1], ["some", S1], EVENTS
+    for text, fault in NO_STEPS:
+        yield "step", [text], ["err", fault], EVENTS
+        yield "step_with", [text], ["none"], EVENTS
     yield "attachment", ['{"a":1}'], ["ok", '{"a":1}'], EVENTS
     for text, fault in (("[]", "NotThis"), ('{ "a":1}', "NotCanonical"), ('{"a":%s}' % nested(100), "NotThis")):
         yield "attachment", [text], ["err", fault], EVENTS
