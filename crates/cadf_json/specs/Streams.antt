@@ -58,7 +58,7 @@ ConsumesAfter old new start whole = (bytes : List ℕ) × Consumes old new bytes
 abbrev pub ConsumesWithin : Option (List ℕ) → Option (List ℕ) → ℕ → ℕ → Type 0
 ConsumesWithin old new start n = (bytes : List ℕ) × Consumes old new bytes × (start + length bytes ≤ n)
 
--- a front of the bytes was written
+-- a prefix of the bytes was written
 abbrev pub AppendsPrefix : Option (List ℕ) → Option (List ℕ) → List ℕ → Type 0
 AppendsPrefix old new bytes = (n : ℕ) × Appends old new (take n bytes)
 

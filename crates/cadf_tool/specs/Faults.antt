@@ -17,7 +17,7 @@ use Rattle.cadf_tool.specs.declared.fault.ToolFault.TheVariants.{
   Memory as OutOfMemory,
 }
 
--- a failed read and want of memory are the engine's own
+-- `ReadFault` and `Memory` are the engine's own
 abbrev pub of_load : ℕ → LoadFault → ToolFault
 of_load n (File f) = Input n (File f)
 of_load n TooLarge = Input n TooLarge
@@ -32,7 +32,7 @@ of_out (Ok v) = Ok v
 of_out (Err OutWriteFault) = Err WriteFault
 of_out (Err OutMemory) = Err OutOfMemory
 
--- 1 where the input is refused, 3 where a read or a write failed, 4 for want of memory
+-- 1 where the input is refused, 3 where a read or a write failed, 4 if out of memory
 abbrev pub status_of : ToolFault → ℕ
 status_of (Input n f) = 1
 status_of NoLog = 1

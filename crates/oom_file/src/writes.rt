@@ -6,7 +6,7 @@ use cadf_log::{write_conflicts, write_log};
 use oom_support::{Report, told};
 use std::alloc::Global;
 
-/// A writing writes the file, or a front of it.
+/// A write writes the file, or a prefix of it.
 pub fn file(alloc: Global, file: &str) -> Option<Report> {
     let replica = replica(alloc, file)?;
     let mut sink = sink(alloc);
