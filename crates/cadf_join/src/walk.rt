@@ -1,5 +1,5 @@
 //! A value's lists in order, each shown in its place without being made.
-ghost use Rattle.std.specs.Prelude.{◌≡◌, ◌++◌, ◌∷◌, [], List, OnOk, IfErr};
+ghost use Rattle.std.specs.Prelude.{◌≡◌, ◌≤◌, ◌++◌, ◌∷◌, [], ℕ, List, OnOk, IfErr, length, take};
 ghost use Rattle.std.specs.declared.alloc.AllocError.{AllocError};
 ghost use Rattle.cadf_join.specs.Contents.{Texts};
 ghost use Rattle.cadf_join.specs.Prefixes.{rising_behind, texts_at};
@@ -17,10 +17,23 @@ pub trait Visitor {
     /// Stopping for that reason, while those lists were to be shown, leads from the one state to the other.
     ghost stops: { Self → List Texts → Self.Fault → Self → Type 0 };
 
-    /// Takes the list.
-    fn visit(&mut self, list: &[&str]) -> Result<(), Self::Fault>
+    /// What it has kept of the list before is true of the first texts of this list, so many of them.
+    ghost keeps: { Self → ℕ → Texts → Type 0 };
+
+    /// Takes the list, whose first `shared` texts are those of the list before; 0 for the first list of a walk.
+    fn visit(&mut self, list: &[&str], shared: usize) -> Result<(), Self::Fault>
+        requires within { shared ≤ length list.now }
+        requires keeps { keeps self.old shared (texts_at list.now) }
         ensures ok { OnOk result (takes self.old (texts_at list.now ∷ []) self.new) }
-        ensures err { IfErr result (λ f. stops self.old (texts_at list.now ∷ []) f self.new) };
+        ensures err { IfErr result (λ f. stops self.old (texts_at list.now ∷ []) f self.new) }
+        ensures keeps { OnOk result (keeps self.new (length list.now) (texts_at list.now)) };
+
+    /// It need have kept nothing of a list that shares nothing.
+    ghost keeps_none: { (v : Self) (list : Texts) → keeps v 0 list };
+
+    /// What is true of a list is true of the first texts that another shares with it.
+    ghost keeps_shared: { (v : Self) (before list : Texts) (n : ℕ) → keeps v (length before) before → n ≤ length before → n ≤ length list
+        → take n before ≡ take n list → keeps v n list };
 
     /// Where no list is shown the state stays.
     ghost takes_none: { (v : Self) → takes v [] v };
@@ -40,7 +53,8 @@ pub trait Visitor {
 
 /// A value of `Join` that shows its lists.
 pub trait Walk: Join {
-    /// Shows each list, behind the path, in order, until the visitor stops. No text is copied.
+    /// Shows each list, behind the path, in order, with how many texts it shares with the list before, until the visitor stops.
+    /// No text is copied.
     fn walk<'a, S: Visitor>(
         &'a self,
         path: &mut Vec<&'a str>,

@@ -1,6 +1,6 @@
 -- A path whose end is replaced by a list that shares first texts with it.
-use Rattle.std.proofs.Common.{◌≡◌, ℕ, ◌+◌, ◌≤◌, List, [], ◌∷◌, ◌++◌, refl, sym, ap, subst, Some, ◌∙◌, suc, zero, append_assoc, length, take, drop, map, arith}
-use Rattle.std.proofs.lemmas.List.{length-append, length-take-le, map-append, take-append-drop, take-append-le, take-take, take-map, drop-map, take_at}
+use Rattle.std.proofs.Common.{◌≡◌, ℕ, ◌+◌, ◌≤◌, List, [], ◌∷◌, ◌++◌, sym, ap, subst, Some, ◌∙◌, suc, zero, append_assoc, length, take, drop, arith}
+use Rattle.std.proofs.lemmas.List.{length-append, length-map, length-take-le, map-append, take-append-drop, take-append-le, take-take, take-map, drop-map, take_at}
 use Rattle.std.specs.Borrow.{Bor}
 use Rattle.cadf_join.specs.Contents.{Texts}
 use Rattle.cadf_join.specs.Prefixes.{texts_at}
@@ -46,3 +46,39 @@ agrees_next n a b m = subst (λ k. Agree k b.0 a.0) (sym m.1) (agree_shared b.0 
 
 pub front_is : (all p c : Texts) (n : ℕ) → n ≡ length p → all ≡ p ++ c → take n all ≡ p
 front_is all p c n e is = ap (take n) is ∙ take_at p c n (sym e)
+
+-- what is true of the path is true of what it shares with the path to the next list
+pub keeps_behind : (K : ℕ → Texts → Type 0) (p c : Texts) (b : ℕ) → b ≡ length p
+    → ((list : Texts) (n : ℕ) → K (length (p ++ c)) (p ++ c) → n ≤ length (p ++ c) → n ≤ length list → take n (p ++ c) ≡ take n list → K n list)
+    → K (length (p ++ c)) (p ++ c) → (list : Texts) (n : ℕ) → Agree n list c → K (b + n) (p ++ list)
+keeps_behind K p c b e shared whole list n g =
+    let long = length-append p c in
+    let long_list = length-append p list in
+    let ours = g.ours in
+    let theirs = g.theirs in
+    shared (p ++ list) (b + n) whole (omega (arith, e, long, theirs)) (omega (arith, e, long_list, ours))
+    (front_both p c b n e ∙ ap (λ z. p ++ z) (sym g.same) ∙ sym (front_both p list b n e))
+
+-- nothing is shared with a list before the first
+pub keeps_first : (K : ℕ → Texts → Type 0) → ((list : Texts) → K 0 list) → (p c list : Texts) (b n : ℕ) → b ≡ 0 → c ≡ [] → Agree n list c → K (b + n) (p ++ list)
+keeps_first K none p c list b n zero_b empty g =
+    let theirs = g.theirs in
+    let long = ap length empty in
+    let same : 0 ≡ b + n = omega (arith, theirs, long, zero_b) in
+    subst (λ k. K k (p ++ list)) same (none (p ++ list))
+
+-- what is kept of all texts, counted where they stand
+pub keeps_whole : (K : ℕ → Texts → Type 0) (list : List (Bor (List ℕ))) (path : Texts) → texts_at list ≡ path → K (length list) (texts_at list) → K (length path) path
+keeps_whole K list path is whole =
+    let long = length-map list (λ t. t.now) in
+    subst (λ z. K (length z) z) is (subst (λ k. K k (texts_at list)) (sym long) whole)
+
+-- a list shares no more texts with the one before than it has
+pub fits_path : (list : List (Bor (List ℕ))) (p l c : Texts) (b common n : ℕ) → b ≡ length p → common ≤ b → texts_at list ≡ p ++ l → Agree n l c
+    → common + n ≤ length list
+fits_path list p l c b common n e low is g =
+    let long = length-map list (λ t. t.now) in
+    let whole = ap length is in
+    let parts = length-append p l in
+    let ours = g.ours in
+    omega (arith, e, low, long, whole, parts, ours)

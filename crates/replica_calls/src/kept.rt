@@ -19,10 +19,16 @@ impl Visitor for Kept {
 
     ghost stops = { λ _ _ _ _. ⊤ };
 
-    fn visit(&mut self, list: &[&str]) -> Result<(), Memory> {
+    ghost keeps = { λ _ _ _. ⊤ };
+
+    fn visit(&mut self, list: &[&str], _shared: usize) -> Result<(), Memory> {
         self.lists.push(copied(self.alloc, list)?)?;
         Ok(())
     }
+
+    ghost keeps_none = { λ _ _. tt };
+
+    ghost keeps_shared = { λ _ _ _ _ _ _ _ _. tt };
 
     ghost takes_none = { λ _. tt };
 
