@@ -7,6 +7,7 @@ mod builder;
 mod carriers;
 mod compare;
 mod cursor;
+mod fork;
 mod lines;
 mod merge;
 mod nodes;
