@@ -17,9 +17,11 @@ mod path_vec;
 mod pool;
 mod sort;
 mod suffix_range;
+mod suffix_set;
 mod union;
 
 pub use builder::PathSetBuilder;
 pub use cadf_join::{Join, Memory, Visitor, Walk};
 pub use carriers::Carrier;
 pub use path_set::PathSet;
+pub use suffix_set::SuffixSet;
