@@ -27,9 +27,9 @@ CALLS = {
     "has_json_syntax": ["has_json_syntax"],
     "read_to_limit": ["read_to_limit", "MemorySource::new", "Source::read"],
     "read_rest": ["cadf_json::read_rest"],
-    "read_by_std": ["StdStream::new", "StdStream::into_inner"],
+    "read_by_std": ["FromStd::new", "FromStd::into_inner"],
     "write_all": ["write_all", "MemorySink::new", "MemorySink::bytes", "Sink::write"],
-    "write_by_std": ["StdStream::new", "StdStream::into_inner"],
+    "write_by_std": ["FromStd::new", "FromStd::into_inner"],
     "time": ["Stamp::read", "Stamp::instant", "Stamp::offset", "Stamp::text"],
 }
 

@@ -10,7 +10,6 @@ CALLS = {
     "atom.digest": ["Atom::digest"],
     "atom.compare": ["Atom::compare"],
     "atom.new": ["Atom::new", "Atom::into_parts"],
-    "atom.path_atom": ["path_atom"],
     "atom.letter": ["Letter::text", "Letter::char"],
     "atom.kind": ["KeyKind::of", "KeyKind::letter"],
     "atom.kind_of_text": ["KeyKind::read"],
@@ -18,10 +17,9 @@ CALLS = {
     "path.kind_with": ["path_kind_with"],
     "path.may_follow": ["may_follow"],
     "path.log_name": ["log_name"],
-    "replica.copy": ["Replica::new", "Replica::log", "Replica::copy", "Replica::atom_lists"],
+    "replica.copy": ["Replica::new", "Replica::log", "Replica::copy"],
     "replica.atom_count": ["Replica::atom_count"],
     "replica.conflict_count": ["Replica::conflict_count"],
-    "replica.atom_lists": ["Replica::atom_lists"],
     "replica.walk": ["Replica::walk"],
     "replica.inventory": ["Replica::inventory", "Inventory::log", "Inventory::digests"],
     "replica.least_atom": ["Replica::atom_after"],
@@ -41,7 +39,6 @@ CALLS = {
     "key.values": ["Replica::values"],
     "key.ruled": ["Replica::ruled"],
     "key.shown": ["Replica::shown"],
-    "key.is_conflicted": ["Replica::is_conflicted"],
     "key.conflicted_keys": ["Replica::conflicted_keys"],
     "body.chains": ["Replica::chains"],
     "body.longest_chain": ["Replica::longest_chain"],
@@ -52,7 +49,7 @@ CALLS = {
     "document.take_entities": ["Replica::take_entity"],
     "document.take_properties": ["Replica::take_property"],
     "ruling.read": ["Ruling::read", "Ruling::letter", "Ruling::key", "Ruling::digest"],
-    "ruling.of": ["Ruling::for_value"],
+    "ruling.of": ["Ruling::of"],
     "ruling.take": ["Replica::take_ruling"],
     "ruling.rulings": ["Replica::rulings", "Ruling::kind"],
     "inventory.has": ["Inventory::has"],
@@ -104,7 +101,6 @@ for atom in ATOMS:
     row("Atoms", "atom.read", [text], "ok", *atom)
     row("Format 1: a line for each atom", "atom.line", [text], "ok", text)
 row("Atoms", "atom.new", [L12], "ok", *K12)
-row("Atoms", "atom.path_atom", [L12], "ok", *K12)
 for atom in [["P", "n", "18446744073709551615"], ["P", "n", "-9223372036854775808"], ["P", "n", "null"], ["P", "n", '"1.5"'],
              ["E", "e1", B1, "C"] + [S1] * 256, ["P", "n", nested(100)], ["R", "r1", '{"id":"r1","x":%s}' % nested(99)],
              ["E", "a\\b", B1.replace("read", "/"), "T", "é\u2028"], ["U", "P", "id", "0" * 64], ["E", "e1", B1, "A", "{}"]]:
@@ -236,10 +232,9 @@ for replica, atoms, conflicts in [
     row("Check line", "replica.conflict_count", [replica], conflicts)
 for lines in [(), (C1,), (CF, KF, C1, LA, K1, L12, LT, C2, G1, M1, NORTH, SOUTH, R1, UB)]:
     row(REPLICA, "replica.copy", [held(*lines)], "ok", held(*lines))
-    row(REPLICA, "replica.atom_lists", [held(*lines)], "ok", *lines)
     row(REPLICA, "replica.walk", [held(*lines)], "ok", *lines)
 row(REPLICA, "replica.copy", [held(C1, log="openstack:audit")], "ok", held(C1, log="openstack:audit"))
-row(REPLICA, "replica.atom_lists", [held(R1, C1, LT, K1)], "ok", C1, K1, LT, R1)
+row(REPLICA, "replica.walk", [held(R1, C1, LT, K1)], "ok", C1, K1, LT, R1)
 for text, is_held in [(C1, True), (K1, True), (SOUTH, True), (CF, False), (L12, False), (LT, False), (NORTH, False), (G1, False)]:
     row(REPLICA, "replica.holds", [held(C1, K1, SOUTH), text], is_held)
 row(REPLICA, "replica.holds", [held(C1, UB), UB], True)
@@ -358,22 +353,21 @@ row("Conflict text", "ruling.rulings", [held(UB, line("U", "P", "a", LOW))], "ok
 # What is shown of a key, and what settles it.
 OTHER = line("U", "E", "e1", digits("{}"))
 SOUTHERN = line("U", "P", "name", digits('"south"'))
-for replica, letter, key, shown, ruled, contested in [
-        (BOTH, "E", "e1", None, None, True),
-        (held(CF, C1, LT, UB), "E", "e1", B1, B1, True),
-        (held(CF, C1, LT, UF), "E", "e1", BF, BF, True),
-        (held(CF, C1, LT, UB, UF), "E", "e1", None, None, True),
-        (held(CF, C1, OTHER), "E", "e1", None, None, True),
-        (held(CF, C1, OTHER, UB), "E", "e1", B1, B1, True),
-        (held(CF, C1, UB), "E", "e3", None, None, False),
-        (held(C1, UF), "E", "e1", B1, None, False),
-        (held(C1, UB), "E", "e1", B1, None, False),
-        (held(NORTH, SOUTHERN), "P", "name", '"north"', None, False),
-        (held(NORTH, SOUTH, SOUTHERN), "P", "name", '"south"', '"south"', True),
-        (held(NORTH, SOUTH), "R", "name", None, None, False)]:
+for replica, letter, key, shown, ruled in [
+        (BOTH, "E", "e1", None, None),
+        (held(CF, C1, LT, UB), "E", "e1", B1, B1),
+        (held(CF, C1, LT, UF), "E", "e1", BF, BF),
+        (held(CF, C1, LT, UB, UF), "E", "e1", None, None),
+        (held(CF, C1, OTHER), "E", "e1", None, None),
+        (held(CF, C1, OTHER, UB), "E", "e1", B1, B1),
+        (held(CF, C1, UB), "E", "e3", None, None),
+        (held(C1, UF), "E", "e1", B1, None),
+        (held(C1, UB), "E", "e1", B1, None),
+        (held(NORTH, SOUTHERN), "P", "name", '"north"', None),
+        (held(NORTH, SOUTH, SOUTHERN), "P", "name", '"south"', '"south"'),
+        (held(NORTH, SOUTH), "R", "name", None, None)]:
     row("Atoms", "key.shown", [replica, letter, key], "ok", *option(shown))
     row("Atoms", "key.ruled", [replica, letter, key], "ok", *option(ruled))
-    row("Atoms", "key.is_conflicted", [replica, letter, key], "ok", contested)
 row("Atoms", "key.ruled", [held(C1, UB), "U", "E"], "ok", "none")
 for replica, letter, keys in [
         (CONFLICT, "E", ["e1"]), (held(CF, C1, UB), "E", ["e1"]), (held(C1, C2), "E", []), (held(NORTH, SOUTH), "P", ["name"]),

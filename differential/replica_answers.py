@@ -267,7 +267,7 @@ def kind(make, answered):
 CALLS = [
     (lambda chance: [words.odd_line(chance)], {"atom.read": read_atom}),
     (lambda chance: [line_of(words.some_atom(chance))], {
-        "atom.new": read_atom, "atom.path_atom": read_atom, "atom.line": lambda line: ["ok", line],
+        "atom.new": read_atom, "atom.line": lambda line: ["ok", line],
         "atom.digest": lambda line: ["ok", digest_of(atom_of(line.encode()))]}),
     (words.two_lines, {"atom.compare": compared}),
     (words.some_path, {"path.kind": path_kind, "path.kind_with": path_kind}),
@@ -282,8 +282,8 @@ CALLS = [
         "replica.atom_after": lambda word, line: atom_found(least_above(replica_of(word)[1], atom_of(line.encode())))}),
     (words.last_words, {"replica.put_last": put_last}),
     (words.replica_words, {
-        "replica.copy": of_itself(lambda log, atoms: ["ok", held(log, atoms)]), "replica.atom_lists": of_itself(atom_lists),
-        "replica.walk": of_itself(atom_lists), "replica.atom_count": of_itself(lambda log, atoms: [len(atoms)]),
+        "replica.copy": of_itself(lambda log, atoms: ["ok", held(log, atoms)]), "replica.walk": of_itself(atom_lists),
+        "replica.atom_count": of_itself(lambda log, atoms: [len(atoms)]),
         "replica.conflict_count": of_itself(lambda log, atoms: [conflict_count(atoms)]), "replica.inventory": of_itself(inventory),
         "replica.least_atom": of_itself(lambda log, atoms: atom_found(min(atoms, default=None))),
         "ruling.rulings": of_itself(rulings_told)}),
@@ -294,8 +294,7 @@ CALLS = [
     (words.key_words, {
         "key.key_after": lambda word, letter, name: ["ok", *option(least_above(keys_of(word, letter), name))],
         "key.values": lambda word, letter, name: ["ok", *values_of(word, letter, name)],
-        "key.ruled": ruled, "key.shown": of_kind(shown),
-        "key.is_conflicted": of_kind(lambda word, letter, name: ["ok", len(values_of(word, letter, name)) > 1])}),
+        "key.ruled": ruled, "key.shown": of_kind(shown)}),
     (words.body_words, {
         "body.chains": lambda word, name, body: ["ok", *map(line_of, parts_of(word, "C", name, body))],
         "body.longest_chain": longest_chain,

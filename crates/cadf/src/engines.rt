@@ -1,7 +1,7 @@
 //! Opens the files of a request, and runs its engine on them.
 use crate::given::{key_given, letter_given, log_given, log_named, place_given, sites_given};
 use crate::stop::Stop;
-use cadf_json::{Sink, StdStream};
+use cadf_json::{FromStd, Sink};
 use cadf_tool::{
     ToolFault, run_check, run_inventory, run_join, run_missing, run_missing_by, run_rehearse,
     run_rule, run_show,
@@ -12,9 +12,9 @@ use std::fs;
 use std::fs::Files;
 
 /// The file of that path, open: the input of that number.
-fn open<R: Files>(rt: &R, path: &str, number: usize) -> Result<StdStream<R::File>, ToolFault> {
+fn open<R: Files>(rt: &R, path: &str, number: usize) -> Result<FromStd<R::File>, ToolFault> {
     match fs::open(rt, path) {
-        Ok(file) => Ok(StdStream::new(file)),
+        Ok(file) => Ok(FromStd::new(file)),
         Err(_) => Err(ToolFault::ReadFault(number)),
     }
 }
@@ -24,7 +24,7 @@ fn open_all<R: Files>(
     rt: &R,
     alloc: Global,
     paths: &[&str],
-) -> Result<Vec<StdStream<R::File>>, ToolFault> {
+) -> Result<Vec<FromStd<R::File>>, ToolFault> {
     let mut files = Vec::new(alloc);
     for path in paths {
         let file = open(rt, *path, files.len() + 1)?;

@@ -5,10 +5,10 @@ use cadf_replica::KeyKind;
 use cadf_tool::ToolFault;
 use std::alloc::Global;
 
-/// The most sites of a rehearsal.
+/// Bounds the number of sites of a rehearsal.
 const MAX_SITES: u64 = 64;
 
-/// The greatest place of a value that can be ruled.
+/// Bounds the place of a value that can be ruled. Places count from 1.
 const MAX_PLACE: u64 = 999_999_999;
 
 /// The name that the word is, or why the command stops where it is none.

@@ -7,7 +7,7 @@ mod stop;
 
 use crate::engines::run_engine;
 use crate::stop::{REFUSED, Stop, report};
-use cadf_json::StdStream;
+use cadf_json::FromStd;
 use cadf_tool::{CountingSink, FILE_LIMIT, Oversized, ToolFault};
 use cadf_words::{Reply, Request, parse};
 use std::io::{BufWriter, Write};
@@ -16,7 +16,7 @@ use std::{env, io};
 
 /// Flushes the buffer, and reports an output that is larger than an input may be.
 fn flushed<W: Write + Drop>(
-    output: CountingSink<StdStream<W>>,
+    output: CountingSink<FromStd<W>>,
 ) -> Result<Option<Oversized>, ToolFault> {
     let check_limit = output.check_limit(FILE_LIMIT);
     match output.into_inner().into_inner().flush() {
@@ -30,7 +30,7 @@ fn run_out(rt: &HostRuntime, request: &Request<'_>) -> Result<Option<Oversized>,
     let Ok(buffer) = BufWriter::new(rt.alloc(), io::writer(rt)) else {
         return Err(Stop::Tool(ToolFault::Memory));
     };
-    let mut output = CountingSink::new(StdStream::new(buffer));
+    let mut output = CountingSink::new(FromStd::new(buffer));
     run_engine(rt, request, &mut output)?;
     Ok(flushed(output)?)
 }

@@ -1,5 +1,5 @@
--- Which first texts have several texts behind them.
---     multi_valued_keys s       the first texts behind which lists go on with two or more texts, rising
+-- The first texts that have two or more next texts.
+--     multi_valued_keys s       the first texts that two or more different texts follow, ascending
 use Rattle.std.specs.Prelude.{List, length, nat_le}
 use Rattle.std.specs.List.{filter}
 use Rattle.cadf_join.specs.Sets as set

@@ -128,7 +128,7 @@ impl Node {
         self.put_below(alloc, text, fresh)
     }
 
-    /// A tree with the same chains.
+    /// Copies the tree.
     pub(crate) fn copy(&self, alloc: Global) -> Result<Node, Memory>
         ensures { IfOk result (λ n. n ≡ self.now) }
     {

@@ -55,7 +55,7 @@ impl<V: Join> JoinMap<V> {
     }
 
     /// Joins a value into that of the key. An empty value changes nothing.
-    /// After a refused growth the other keys are as before and this one lies between.
+    /// After an `Err` the other keys are as before and this one lies between.
     pub fn join_at(&mut self, key: &str, value: &V) -> Result<(), Memory>
         ensures ok { OnOk result (contents_at V.contents self.new ≡ set.union (contents_at V.contents self.old) (under key.now (V.contents value.now))) }
         ensures err { OnErr result (IsBetween (contents_at V.contents self.old) (contents_at V.contents self.new)

@@ -20,12 +20,12 @@ use std::alloc::AllocError;
 pub use text_set::TextSet;
 pub use walk::{Visitor, Walk};
 
-/// The allocator refused a growth.
+/// The allocator refused to allocate.
 pub type Memory = AllocError;
 
 /// A set of lists of texts that only grows. Values join in any order, grouping and repetition with the same outcome.
 ///
-/// A call that answers `Memory` was refused a growth: what it was to change lies between what it was and what it was to be,
+/// In a call that answers `Memory` an allocation failed: what it was to change lies between what it was and what it was to be,
 /// and the same call again may succeed.
 pub trait Join: Drop {
     /// The lists that a value holds.
@@ -45,7 +45,7 @@ pub trait Join: Drop {
         ensures least { IfOk result (λ part. IfSome part (λ v. IsLeastWith is_contents
             (set.difference (contents self.now) (contents other.now)) (contents v))) };
 
-    /// A value that holds the same.
+    /// Copies the value.
     fn copy(&self) -> Result<Self, Memory>
         ensures { IfOk result (λ v. contents v ≡ contents self.now) };
 

@@ -41,7 +41,7 @@ impl TextSet {
         }
     }
 
-    /// Adds the text, and tells whether it is new. After a refused growth the set is as before.
+    /// Adds the text, and returns whether it is new. After an `Err` the set is as before.
     pub fn insert(&mut self, text: &str) -> Result<bool, Memory>
         ensures added { IfOk result (λ new. new ≡ not (set.contains self.old text.now)) }
         ensures ok { OnOk result (self.new ≡ set.insert self.old text.now) }

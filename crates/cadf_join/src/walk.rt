@@ -28,7 +28,7 @@ pub trait Visitor {
     /// What is shown in two turns is shown in one.
     ghost takes_more: { (u v w : Self) (xs ys : List Texts) → takes u xs v → takes v ys w → takes u (xs ++ ys) w };
 
-    /// Any list may be refused for want of memory before it is shown.
+    /// Any list may be refused with `Memory` before it is shown.
     ghost stops_at_once: { (v : Self) (xs : List Texts) (m : AllocError) (f : Self.Fault) → Self.Fault.from_gives m f → stops v xs f v };
 
     /// What stops after some lists were shown stops while all were to be shown.

@@ -1,4 +1,4 @@
--- An object that is read a member at a time, of which one list is let go item by item.
+-- An object that is parsed member by member, and one list of it item by item.
 use Rattle.std.specs.Prelude.{◌≡◌, ℕ, List, ◌++◌, length, Bool, true, false, Some, None}
 use Rattle.json.specs.Token.{Token}
 use Rattle.json.specs.Json.{value, items, members}

@@ -26,8 +26,8 @@ use Rattle.std.specs.Prelude.{
 use Rattle.std.specs.Io.KnownBytes.{Appends, Consumes}
 use Rattle.cadf_json.specs.declared.transfer.ReadAllFault.{ReadAllFault}
 use Rattle.cadf_json.specs.declared.transfer.ReadAllFault.TheVariants.{TooLarge, ReadFault, Memory}
-use Rattle.cadf_json.specs.declared.transfer.OutputFault.{OutputFault}
-use Rattle.cadf_json.specs.declared.transfer.OutputFault.TheVariants.{WriteFault, Memory as OutOfMemory}
+use Rattle.cadf_json.specs.declared.transfer.OutFault.{OutFault}
+use Rattle.cadf_json.specs.declared.transfer.OutFault.TheVariants.{WriteFault, Memory as OutOfMemory}
 
 -- a count of 64 bits, which stays at its greatest value
 abbrev pub one_more : ℕ → ℕ
@@ -58,7 +58,7 @@ ConsumesAfter old new start whole = (bytes : List ℕ) × Consumes old new bytes
 abbrev pub ConsumesWithin : Option (List ℕ) → Option (List ℕ) → ℕ → ℕ → Type 0
 ConsumesWithin old new start n = (bytes : List ℕ) × Consumes old new bytes × (start + length bytes ≤ n)
 
--- a front of the bytes was written
+-- a prefix of the bytes was written
 abbrev pub AppendsPrefix : Option (List ℕ) → Option (List ℕ) → List ℕ → Type 0
 AppendsPrefix old new bytes = (n : ℕ) × Appends old new (take n bytes)
 
@@ -70,7 +70,7 @@ is_read_fault (Err ReadFault) = true
 is_read_fault (Err Memory) = false
 
 -- the text was not written whole, since a write failed
-abbrev pub is_write_fault : {T : Type 0} → Result T OutputFault → Bool
+abbrev pub is_write_fault : {T : Type 0} → Result T OutFault → Bool
 is_write_fault (Ok v) = false
 is_write_fault (Err WriteFault) = true
 is_write_fault (Err OutOfMemory) = false

@@ -68,7 +68,7 @@ abbrev mutual
   MembersAreNormalized json.no_members = ⊤
   MembersAreNormalized (json.member k j ms) = IsUtf8 k × IsNormalized j × MembersAreNormalized ms
 
--- it is settled, and nests no deeper than this
+-- it is normalized, and nests no deeper than this
 abbrev pub IsNormalizedWithin : ℕ → json.Json → Type 0
 IsNormalizedWithin n j = IsNormalized j × (depth (data_in j) ≤ n)
 

@@ -158,7 +158,7 @@ pub(crate) fn name_in(value: &Value, index: usize) -> Option<&str>
     }
 }
 
-/// Whether each member nests at most as deep as its name allows.
+/// Returns whether each member nests at most as deep as the limit of its name, or as `others`.
 pub(crate) fn members_nest_within(value: &Value, limits: &[(&str, u8)], others: u8) -> bool
     requires { nesting (data_of value.now) ≤ 127 }
     ensures { result

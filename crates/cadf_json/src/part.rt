@@ -43,7 +43,7 @@ impl<'v, 'a> Model for Part<'v, 'a> {
 }
 
 impl<'v, 'a> Part<'v, 'a> {
-    /// The whole of a settled tree.
+    /// Borrows the whole of a normalized tree.
     pub(crate) fn of(value: &'v Value<'a>) -> Part<'v, 'a>
         requires { IsNormalizedWithin 127 (value_view value.now) }
         ensures whole { result ≡ data_in (value_view value.now) }
@@ -124,7 +124,7 @@ impl<'v, 'a> Part<'v, 'a> {
         }
     }
 
-    /// Whether each member nests at most as deep as its name allows.
+    /// Returns whether each member nests at most as deep as the limit of its name, or as `others`.
     pub(crate) fn members_nest_within(&self, limits: &[(&str, u8)], others: u8) -> bool
         ensures { result
             ≡ all_members (λ k d. nat_le (nesting d) (limit_for (limits_of limits.now) others k)) (members_in self.now) }
@@ -146,8 +146,8 @@ impl<'v, 'a> Part<'v, 'a> {
         }
     }
 
-    /// The canonical text of an object without the members of these names, and with this text at
-    /// that name where it has one.
+    /// Encodes the canonical text of an object without the members of these names, and with this text at
+    /// that name if the object has it. Anything else counts as an object without members.
     pub(crate) fn rewritten_text(
         &self,
         alloc: Global,
@@ -163,14 +163,14 @@ impl<'v, 'a> Part<'v, 'a> {
         String::from_str(alloc, finished(writer).as_str())
     }
 
-    /// Every part is a value: an empty call that tells so.
+    /// States the type invariant of a part: it is a value. Does nothing.
     pub(crate) fn type_invariant(&self)
         ensures { IsValue self.now }
     {
         let _value = &self.value;
     }
 
-    /// The same part once more.
+    /// Returns a further borrow of the same part.
     pub(crate) fn reborrow(&self) -> Part<'v, 'a>
         ensures { result ≡ self.now }
     {

@@ -16,10 +16,10 @@ use thiserror::Error;
 /// A vector that has grown keeps room for four at least.
 const FEW: usize = 2;
 
-/// Why there is no tree.
+/// Says why a text has no tree.
 #[derive(Clone, Copy, Debug, Drop, PartialEq, Eq, Error)]
 pub enum TreeFault {
-    /// The text is not plain: what it is has to be judged in another way.
+    /// The streaming parser can't decide what the text is; use the full parser.
     #[error("not plain")]
     NeedsFullParse,
     /// An allocation was refused.

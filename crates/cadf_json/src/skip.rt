@@ -1,4 +1,4 @@
-//! Values that are passed over, of which nothing is kept.
+//! Skips values, and keeps nothing of them.
 ghost use Rattle.std.specs.Prelude.{◌≡◌, ◌<◌, length, false, IfOk, OnOk};
 ghost use Rattle.cadf_json.specs.Passed.{IsPassed, AreItemsPassed, AreMembersPassed, SpellsList};
 ghost use Rattle.cadf_json.specs.Value.{IsNoJson};
@@ -10,7 +10,7 @@ use crate::tree::MAX_DEPTH;
 use json::{Reader, Scratch, Token};
 use std::alloc::Global;
 
-// The next value. Lists and objects may nest `depth` deep.
+// Skips the next value. Lists and objects may nest `depth` deep.
 #[cycle(skip_any)]
 fn skip_any(reader: &mut Reader<'_>, depth: usize) -> Result<(), TreeFault>
     ensures ok { OnOk result (IsPassed depth reader.old reader.new) }
@@ -77,8 +77,8 @@ fn skip_members(reader: &mut Reader<'_>, depth: usize) -> Result<(), TreeFault>
     }
 }
 
-/// Finds that the whole text spells a list, of which nothing is kept. Any other text is not plain, and
-/// so is a list with a number that isn't written as a whole one.
+/// Checks that the whole text is a list, and keeps nothing of it. `NeedsFullParse` for any other text, and for
+/// a list with a number that isn't written as a whole one.
 pub fn check_list(alloc: Global, text: &str) -> Result<(), TreeFault>
     ensures { OnOk result (SpellsList text.now) }
 {
@@ -94,8 +94,8 @@ pub fn check_list(alloc: Global, text: &str) -> Result<(), TreeFault>
     Ok(())
 }
 
-/// Whether the text keeps to the grammar of JSON, nesting at most 127 deep. One that does may still be
-/// no value, by a number that is too large.
+/// Returns whether the text has JSON's syntax, nesting at most 127 deep. Such a text may still be
+/// no value: a number may be too large.
 pub fn has_json_syntax(alloc: Global, text: &str) -> Result<bool, Memory>
     ensures { IfOk result (λ may. may ≡ false → IsNoJson text.now) }
 {

@@ -1,4 +1,4 @@
-//! An object that is read a member at a time, of which one list is let go item by item.
+//! Streaming parser of an object: a visitor takes the items of one list, and each is dropped.
 ghost use Rattle.std.specs.Prelude.{◌≡◌, ◌<◌, ◌≤◌, ◌++◌, ◌∷◌, [], List, length, Some, IfOk, OnOk};
 ghost use Rattle.json.specs.Json.{value, members};
 ghost use Rattle.json.specs.Value.{members_view};
@@ -15,12 +15,12 @@ use std::alloc::Global;
 
 const MEMBER_DEPTH: usize = 126;
 
-/// What takes the items of a list in turn.
+/// Takes the items of a list in turn.
 pub trait ItemVisitor {
-    /// It has taken these items.
+    /// It took these items.
     ghost took: { Self → List Data → Type 0 };
 
-    /// Takes a further item, or refuses to judge it.
+    /// Takes a further item. `NeedsFullParse`: it can't decide what the item is.
     fn take(&mut self, item: &View<'_, '_>) -> Result<(), TreeFault>
         ensures { OnOk result ((ds : List Data) → took self.old ds → took self.new (ds ++ item.now ∷ [])) };
 }
@@ -108,17 +108,17 @@ fn read_around<'a, T: ItemVisitor>(
     }
 }
 
-/// An object of which one list may have been taken.
+/// The object that was read, with or without the list that the visitor took.
 #[derive(Drop)]
 pub enum StreamedObject<'a> {
-    /// The object with an empty list in the place of the one whose items were taken in turn.
+    /// The object with an empty list in place of the one whose items the visitor took.
     Around(Tree<'a>),
     /// The whole object, which has no member of that name.
     Whole(Tree<'a>),
 }
 
-/// The object that the text spells. Where it has a member of that name, this is a list, whose items are
-/// taken in turn.
+/// Reads the object that the text encodes. If it has a member of that name, this is a list, and the visitor
+/// takes its items in turn. `NeedsFullParse` for any other text.
 pub fn read_object_streaming<'a, T: ItemVisitor>(
     alloc: Global,
     text: &'a str,

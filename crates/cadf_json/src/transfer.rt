@@ -1,4 +1,4 @@
-//! Reads a source whole, and writes a text whole.
+//! Reads a source to its end, and writes all of a text.
 ghost use Rattle.std.specs.Prelude.{◌≡◌, ◌≤◌, ◌+◌, ◌-◌, ◌<◌, ◌^◌, length, IfOk, OnOk, OnErr, is_err};
 ghost use Rattle.std.specs.Io.KnownBytes.{Consumes, Appends, IsAtEnd};
 ghost use Rattle.cadf_json.specs.Streams.{counted, ConsumesAtMost, ConsumesExactly, ConsumesAfter, ConsumesWithin, AppendsPrefix, is_read_fault};
@@ -11,7 +11,7 @@ use thiserror::Error;
 // How many bytes one read asks for.
 const PIECE: usize = 4096;
 
-/// Why a source was not read whole.
+/// Says why a source was not read to its end.
 #[derive(Clone, Copy, Debug, Drop, PartialEq, Eq, Error)]
 pub enum ReadAllFault {
     /// There are more bytes than the limit.
@@ -25,9 +25,9 @@ pub enum ReadAllFault {
     Memory,
 }
 
-/// Why a text was not written whole.
+/// Says why not all of a text was written.
 #[derive(Clone, Copy, Debug, Drop, PartialEq, Eq, Error)]
-pub enum OutputFault {
+pub enum OutFault {
     /// A write failed.
     #[error("write fault")]
     WriteFault,
@@ -36,29 +36,29 @@ pub enum OutputFault {
     Memory,
 }
 
-impl From<Failed> for OutputFault {
+impl From<Failed> for OutFault {
     ghost use Rattle.std.specs.Prelude.{◌≡◌};
-    ghost use Rattle.cadf_json.specs.declared.transfer.OutputFault.TheVariants.{WriteFault};
+    ghost use Rattle.cadf_json.specs.declared.transfer.OutFault.TheVariants.{WriteFault};
 
     ghost from_gives = { λ _ e. e ≡ WriteFault };
 
-    fn from(_failed: Failed) -> OutputFault {
-        OutputFault::WriteFault
+    fn from(_failed: Failed) -> OutFault {
+        OutFault::WriteFault
     }
 }
 
-impl From<Memory> for OutputFault {
+impl From<Memory> for OutFault {
     ghost use Rattle.std.specs.Prelude.{◌≡◌};
-    ghost use Rattle.cadf_json.specs.declared.transfer.OutputFault.TheVariants.{Memory as OutOfMemory};
+    ghost use Rattle.cadf_json.specs.declared.transfer.OutFault.TheVariants.{Memory as OutOfMemory};
 
     ghost from_gives = { λ _ e. e ≡ OutOfMemory };
 
-    fn from(_refused: Memory) -> OutputFault {
-        OutputFault::Memory
+    fn from(_refused: Memory) -> OutFault {
+        OutFault::Memory
     }
 }
 
-/// Reads all bytes of the source, up to the limit.
+/// Reads the source to its end. `TooLarge`: it has more than `limit` bytes. `ReadFault`: a read failed before.
 pub fn read_to_limit<S: Source>(
     alloc: Global,
     source: &mut S,
@@ -119,7 +119,7 @@ pub fn read_rest<S: Source>(
     Err(ReadAllFault::TooLarge)
 }
 
-/// Writes all the bytes, or a front of them.
+/// Writes all the bytes. `Err`: a write failed or took nothing, and a prefix was written.
 pub fn write_all<S: Sink>(sink: &mut S, bytes: &[u8]) -> Result<(), Failed>
     ensures bytes { OnOk result (Appends (S.written sink.old) (S.written sink.new) bytes.now) }
     ensures front { OnErr result

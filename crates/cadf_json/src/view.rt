@@ -160,7 +160,7 @@ impl<'v, 'a> View<'v, 'a> {
         }
     }
 
-    /// Whether each member nests at most as deep as its name allows.
+    /// Returns whether each member nests at most as deep as the limit of its name, or as `others`.
     pub fn members_nest_within(&self, limits: &[(&str, u8)], others: u8) -> bool
         ensures { result
             ≡ all_members (λ k d. nat_le (nesting d) (limit_for (limits_of limits.now) others k)) (members_in self.now) }
@@ -171,8 +171,8 @@ impl<'v, 'a> View<'v, 'a> {
         }
     }
 
-    /// The canonical text of an object without the members of these names, and with this text at
-    /// that name where it has one.
+    /// Encodes the canonical text of an object without the members of these names, and with this text at
+    /// that name if the object has it. Anything else counts as an object without members.
     pub fn rewritten_text(
         &self,
         alloc: Global,
@@ -189,14 +189,14 @@ impl<'v, 'a> View<'v, 'a> {
         }
     }
 
-    /// Every part is a value: an empty call that tells so.
+    /// States the type invariant of a part: it is a value. Does nothing.
     pub fn type_invariant(&self)
         ensures { IsValue self.now }
     {
         let _basis = &self.basis;
     }
 
-    /// The same part once more.
+    /// Returns a further borrow of the same part.
     pub fn reborrow(&self) -> View<'v, 'a>
         ensures { result ≡ self.now }
     {

@@ -97,7 +97,8 @@ line_shared ls ns a b s h g =
     ∙ (agree_less s (length (take s ns)) a b (omega (arith, m)) g).same)
     (line_cut ls ns (take (length ns) a) h s)
 
-pub front_entered : (ls : List Texts) (ns ms ks : List ℕ) (n k : ℕ) (a b : Place) → IsLinePrefix ls ns ms n a.0 → Entered true a b ms ks n k → IsLinePrefix ls ns ks k b.0
+pub front_entered : (ls : List Texts) (ns ms ks : List ℕ) (n k : ℕ) (a b : Place) → IsLinePrefix ls ns ms n a.0 → Entered true a b ms ks n k
+    → IsLinePrefix ls ns ks k b.0
 front_entered ls ns ms ks n k a b f e =
     let s = shared b.0 a.0 in
     let g = agree_turned s b.0 a.0 (agree_shared b.0 a.0) in
@@ -107,9 +108,11 @@ front_entered ls ns ms ks n k a b f e =
       out = subst (λ z. IsLine ls z (take (length z) b.0)) (sym e.1) (line_shared ls ms a.0 b.0 s f.out g);
     }
 
-pub front_stays : (ls : List Texts) (ns ms ks : List ℕ) (n k : ℕ) (a b : Place) → IsLinePrefix ls ns ms n a.0 → Entered false a b ms ks n k → IsLinePrefix ls ns ks k b.0
+pub front_stays : (ls : List Texts) (ns ms ks : List ℕ) (n k : ℕ) (a b : Place) → IsLinePrefix ls ns ms n a.0 → Entered false a b ms ks n k
+    → IsLinePrefix ls ns ks k b.0
 front_stays ls ns ms ks n k a b f e =
-    subst (λ z. IsLinePrefix ls ns z k b.0) (sym e.2) (subst (λ j. IsLinePrefix ls ns ms j b.0) (sym e.3) (subst (λ p. IsLinePrefix ls ns ms n p.0) (sym e.1) f))
+    subst (λ z. IsLinePrefix ls ns z k b.0) (sym e.2) (subst (λ j. IsLinePrefix ls ns ms j b.0) (sym e.3)
+    (subst (λ p. IsLinePrefix ls ns ms n p.0) (sym e.1) f))
 
 pub front_after : (more : Bool) (ls : List Texts) (ns ms ks : List ℕ) (n k : ℕ) (a b : Place) → IsLinePrefix ls ns ms n a.0 → Entered more a b ms ks n k
     → IsLinePrefix ls ns ks k b.0
@@ -189,7 +192,8 @@ rest_put ls first kept ns ms rest more a total put there is h =
     ∙ ap (λ z. lists_at ls ns ++ both (lists_at first rest) (ahead z a)) (sym is) ∙ h
 
 -- what is kept once one of ours was compared
-pub front_compared : (ls : List Texts) (ns ms : List ℕ) (n : ℕ) (theirs here : Texts) → theirs ≡ here → IsLinePrefix ls ns ms n theirs → IsLinePrefix ls ns ms n here
+pub front_compared : (ls : List Texts) (ns ms : List ℕ) (n : ℕ) (theirs here : Texts) → theirs ≡ here → IsLinePrefix ls ns ms n theirs
+    → IsLinePrefix ls ns ms n here
 front_compared ls ns ms n theirs same e f = subst (IsLinePrefix ls ns ms n) e f
 
 -- ours for as many first texts of theirs as are shared

@@ -4,8 +4,8 @@
 --     is_before p more l     whether it is below them, or one of them if they count too
 --     strip p l              the suffix after the prefix, if the list begins with it
 --     last_of p ls           the last of the lists, or p
---     is_above_last ls q        whether q is above the last of the lists, as it is if there is none
---     last_starts_with ls p       whether the last of the lists begins with p
+--     is_above_last ls q     whether q is above the last of the lists, as it is if there is none
+--     last_starts_with ls p  whether the last of the lists begins with p
 use Rattle.std.specs.Prelude.{Bool, true, false, List, [], ◌∷◌, Option, Some, None}
 use Rattle.std.specs.declared.cmp.Ordering.{Ordering}
 use Rattle.std.specs.declared.cmp.Ordering.TheVariants.{Less, Equal, Greater}

@@ -1,9 +1,9 @@
 -- Going over lists.
---     Place                a list that a cursor is at, and the lists ahead of it
---     Advances found a b   a cursor moved to the next list, which shares so many texts with the one before, or there is none
---     Moves more a b       the same, without the number
---     ahead more a         the list that a cursor is at, if it is at one, and those ahead
---     Entered, IsLinePrefix     what a merge keeps, below
+--     Place                  a list that a cursor is at, and the lists ahead of it
+--     Advances found a b     a cursor moved to the next list, which shares so many texts with the one before, or there is none
+--     Moves more a b         the same, without the number
+--     ahead more a           the list that a cursor is at, if it is at one, and those ahead
+--     Entered, IsLinePrefix  the invariants of a merge, below
 use Rattle.std.specs.Prelude.{◌≡◌, ℕ, Bool, true, false, List, [], ◌∷◌, length, take, min, Option, Some, None}
 use Rattle.cadf_join.specs.Contents.{Texts}
 use Rattle.cadf_pathset.specs.Nodes.{Agree, IsLine, place, shared}

@@ -1,4 +1,4 @@
-//! What is asked of a set of lists of texts.
+//! Queries of a set of lists of texts.
 ghost use Rattle.std.specs.Prelude.{◌≡◌, IfOk, length, map, string_bytes};
 ghost use Rattle.std.specs.List.{filter_map};
 ghost use Rattle.std.specs.Option.{option_copied, option_map};
@@ -16,7 +16,7 @@ use crate::order::continued;
 use crate::path_set::PathSet;
 
 impl PathSet {
-    /// Whether the list is a member.
+    /// Returns whether the list is a member.
     pub fn holds(&self, list: &[String]) -> bool
         ensures { result ≡ set.contains self.now (chain_texts list.now) }
     {
@@ -26,14 +26,14 @@ impl PathSet {
         }
     }
 
-    /// Whether the last of the lists in order begins with the prefix. Nothing is searched.
+    /// Returns whether the last of the lists in order begins with the prefix. Searches nothing.
     pub fn last_starts_with(&self, prefix: &[String]) -> bool
         ensures { result ≡ last_starts_with (set.rising self.now) (chain_texts prefix.now) }
     {
         self.rows.last_starts_with(prefix)
     }
 
-    /// The least list above the given one, or the least of all for `None`.
+    /// Returns the least list above the given one. For `None`, the least of all.
     pub fn list_after(&self, given: Option<&[String]>) -> Result<Option<Vec<String>>, Memory>
         ensures { IfOk result (λ found. texts_found found ≡ next_after self.now (option_map chain_texts (option_copied given.entry))) }
     {
@@ -45,21 +45,21 @@ impl PathSet {
         Ok(None)
     }
 
-    /// The least text next behind the prefix that is above the given one, or the least of all for `None`. Found by halving.
+    /// Returns the least of the prefix's next texts above the given one. For `None`, the least of all. Binary search.
     pub fn next_child(&self, prefix: &[&str], text: Option<&str>) -> Option<&str>
         ensures { option_copied result ≡ next_after (heads (suffixes_after self.now (texts_at prefix.now))) (option_copied text.entry) }
     {
         self.suffix_set(prefix).next_child(text)
     }
 
-    /// The texts next behind the prefix, in order.
+    /// Returns the texts that follow the prefix directly, ascending.
     pub fn child_texts(&self, prefix: &[&str]) -> Result<Vec<String>, Memory>
         ensures { IfOk result (λ found. map string_bytes found.items ≡ set.rising (heads (suffixes_after self.now (texts_at prefix.now)))) }
     {
         self.suffix_set(prefix).child_texts()
     }
 
-    /// The number of texts next behind the prefix that have two or more texts next behind them, or `u64::MAX` where there are more.
+    /// Counts the next texts of the prefix that have two or more next texts themselves. `u64::MAX` if there are more.
     pub fn multi_valued_count_at(&self, prefix: &[&str]) -> u64
         ensures { result ≡ saturated (length (multi_valued_keys (suffixes_after self.now (texts_at prefix.now)))) }
     {
@@ -75,7 +75,7 @@ impl PathSet {
         count
     }
 
-    /// The longest of the lists that go on behind the prefix, without it; the least of the longest.
+    /// Returns the longest suffix after the prefix, the least of the longest. `None` if no list begins with the prefix.
     pub fn longest_suffix(&self, prefix: &[&str]) -> Result<Option<Vec<String>>, Memory>
         ensures { IfOk result (λ found. texts_found found ≡ longest_of (filter_map (strip (texts_at prefix.now)) (set.rising self.now))) }
     {

@@ -1,4 +1,4 @@
-//! Lists of texts as they come.
+//! Builds a set from lists in any order.
 ghost use Rattle.std.specs.Prelude.{◌≡◌, OnOk, OnErr, IfOk};
 ghost use Rattle.cadf_join.specs.Sets as set;
 ghost use Rattle.cadf_join.specs.Prefixes.{texts_at};
@@ -9,7 +9,7 @@ use crate::path_vec::PathVec;
 use std::alloc::Global;
 use std::marker::Model;
 
-/// Lists gathered in any order, not yet a set in order.
+/// Collects lists in any order, to sort them once.
 #[derive(Drop)]
 pub struct PathSetBuilder {
     rows: PathVec,
@@ -29,7 +29,7 @@ impl Model for PathSetBuilder {
 }
 
 impl PathSetBuilder {
-    /// No lists. Takes no memory.
+    /// Makes an empty builder. Allocates nothing.
     pub fn new(alloc: Global) -> PathSetBuilder
         ensures { result ≡ set.empty }
     {
@@ -39,7 +39,7 @@ impl PathSetBuilder {
         }
     }
 
-    /// Adds the list. After a refused growth the lists are as before.
+    /// Appends the list. After an `Err` the lists are as before.
     pub fn push(&mut self, path: &[&str]) -> Result<(), Memory>
         ensures ok { OnOk result (self.new ≡ set.insert self.old (texts_at path.now)) }
         ensures err { OnErr result (self.new ≡ self.old) }
@@ -47,7 +47,7 @@ impl PathSetBuilder {
         self.rows.push(path)
     }
 
-    /// The set of the lists. Their texts are not copied.
+    /// Sorts the lists into a set, each once. Copies no text.
     pub fn build(self) -> Result<PathSet, Memory>
         ensures { IfOk result (λ paths. paths ≡ self) }
     {

@@ -12,7 +12,7 @@ use std::cmp::Ordering;
 /// Up to so many texts are compared from the front, each by a climb of its own; more of them in one climb.
 const NEAR: usize = 8;
 
-/// Compares the node's list with another, if they are known to share `type_invariant` texts. Returns their order, and a number of texts
+/// Compares the node's list with another, if they are known to share `known` texts. Returns their order, and a number of texts
 /// that they share.
 pub(crate) fn list_cmp<W: AsText>(
     nodes: &Nodes,

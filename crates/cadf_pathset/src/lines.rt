@@ -67,7 +67,7 @@ pub(crate) fn follow(
     Ok(common)
 }
 
-/// Compares the line's list with the path, if they are known to share `type_invariant` texts. Returns their order, and how many texts they share.
+/// Compares the line's list with the path, if they are known to share `known` texts. Returns their order, and how many texts they share.
 pub(crate) fn cmp_from(
     nodes: &Nodes,
     line: &[u32],

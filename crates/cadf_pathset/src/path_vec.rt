@@ -88,7 +88,7 @@ impl PathVec {
         Ok(())
     }
 
-    /// Whether the list is above the last one, as each list is if there is none.
+    /// Returns whether the list is above the last one. True if there is none.
     pub fn is_above_last(&self, path: &[&str]) -> bool
         ensures { result ≡ is_above_last self.now (texts_at path.now) }
     {
@@ -98,7 +98,7 @@ impl PathVec {
         self.is_less(self.count() - 1, path)
     }
 
-    /// Whether the last list begins with the prefix.
+    /// Returns whether the last list begins with the prefix.
     pub fn last_starts_with<W: AsText>(&self, prefix: &[W]) -> bool
         ensures { result ≡ last_starts_with self.now (map W.bytes prefix.now) }
     {
@@ -125,7 +125,7 @@ impl PathVec {
         order.is_lt()
     }
 
-    /// Compares the list of that number with another, if they are known to share `type_invariant` texts. Returns their order, and a number of texts
+    /// Compares the list of that number with another, if they are known to share `known` texts. Returns their order, and a number of texts
     /// that they share.
     fn cmp_at<W: AsText>(&self, number: usize, list: &[W], known: usize) -> (Ordering, usize)
         requires within { number < length self.now }
@@ -234,7 +234,7 @@ impl PathVec {
         (low, back)
     }
 
-    /// Whether the list of that number is this one, if they are known to share `type_invariant` texts.
+    /// Whether the list of that number is this one, if they are known to share `known` texts.
     fn is_at<W: AsText>(&self, number: usize, list: &[W], known: usize) -> bool
         requires within { number < length self.now }
         requires known { Agree known (get_or self.now number []) (map W.bytes list.now) }

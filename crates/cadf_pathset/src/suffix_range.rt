@@ -182,7 +182,7 @@ impl<'a> SuffixRange<'a> {
         }
     }
 
-    /// Whether there are two or more first texts.
+    /// Returns whether there are two or more first texts.
     pub fn has_multiple(&self) -> bool
         requires { IsStrictlySortedBy texts_cmp self.now }
         ensures { result ≡ nat_le 2 (length (set.rising (heads (set.from_list self.now)))) }

@@ -1,9 +1,9 @@
 -- Sites that learn documents and exchange messages, as a machine over any schedule. A list of turns has the newest first.
---     Message, World         what was sent, and where all stands
---     after turns            the world after the turns, or the first fault
---     plain turns j          what site j holds if each answer and each send carried the sender's whole set
---     learnt_atoms turns           the atoms of all documents
---     Means turns m x        what the message of that number is worth, where no two atoms share a digest
+--     Message, World      what was sent, and the state of all sites
+--     after turns         the world after the turns, or the first fault
+--     plain turns j       what site j holds if each answer and each send carried the sender's whole set
+--     learnt_atoms turns  the atoms of all documents
+--     Means turns m x     what the message of that number is worth, where no two atoms share a digest
 use Rattle.std.specs.Prelude.{◌≡◌, ◌⊎◌, ℕ, suc, ◌+◌, Bool, true, cond, ◌&&◌, List, [], ◌∷◌, length, Option, Some, None, Result, Ok, Err, nat_eq, nat_lt, nat_le}
 use Rattle.cadf_join.specs.Sets as set
 use Rattle.cadf_join.specs.Contents.{Text, Texts, Contents, Has, IsWithin}

@@ -80,7 +80,7 @@ IsFirstBad [] n = ⊥
 IsFirstBad (l ∷ ls) n =
     ((n ≡ 1) × IsNoTurn l) ⊎ ((m : ℕ) × (n ≡ suc m) × ((t : Turn) × IsTurn l t) × IsFirstBad ls m)
 
--- why the bytes are no script; want of memory says nothing of them
+-- why the bytes are no script; `Memory` says nothing of them
 abbrev pub IsScriptFault : List ℕ → ScriptFault → Type 0
 IsScriptFault bytes (Line n) = IsFirstBad (lines_of bytes) n
 IsScriptFault bytes Memory = Unit {0}

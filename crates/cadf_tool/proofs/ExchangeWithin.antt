@@ -109,7 +109,8 @@ part_by_read from to l f (bytes, (one, noted, r, s, (h, e, is)), input) =
 
 first_within : (m : Derivation) (cs : List Contribution) (l : Loaded) (ls : List Loaded) → IsReadWithin m l → IsWithin (union_of ls) (brought_by cs)
     → IsWithin (union_of (l ∷ ls)) (brought_by (external_inputs m ++ cs))
-first_within m cs l ls r low = more_within l ls _ (λ q k. left_brought (external_inputs m) cs q (r.atoms q k)) (λ q k. right_brought (external_inputs m) cs q (low q k))
+first_within m cs l ls r low = more_within l ls _ (λ q k. left_brought (external_inputs m) cs q (r.atoms q k))
+    (λ q k. right_brought (external_inputs m) cs q (low q k))
 
 mutual
   pub read_within : (m : Derivation) (l : Loaded) → IsReadOf (λ b. IsDerived m b) l → IsReadWithin m l
@@ -149,7 +150,8 @@ mutual
       first_within from (external_inputs_of operands) l ls (part_read from (λ b. IsDerived to b) l (read_within from) read.0) (inputs_within operands ls read.1)
   inputs_within (PartBy from to operands) [] read = absurd read
   inputs_within (PartBy from to operands) (l ∷ ls) read =
-      first_within from (external_inputs_of operands) l ls (part_by_read from (λ b. IsDerived to b) l (read_within from) read.0) (inputs_within operands ls read.1)
+      first_within from (external_inputs_of operands) l ls (part_by_read from (λ b. IsDerived to b) l (read_within from) read.0)
+      (inputs_within operands ls read.1)
 
 pub held_within : (m : Derivation) (bytes : List ℕ) (h : ReplicaModel) → IsDerived m bytes → IsHeld bytes h → HoldsAtMost m h
 held_within m bytes h made held =

@@ -79,7 +79,8 @@ pub record IsPartBy (from : Loaded) (noted : InventoryModel) (part : ReplicaMode
 abbrev held_under : Text → Contents → ReplicaModel
 held_under log atoms = record { log = log; atoms = atoms }
 
-held_same : (log : Text) (atoms : Contents) (h : ReplicaModel) → ◌≡◌ {A = Result ReplicaModel ToolFault} (Ok (held_under log atoms)) (Ok h) → (log ≡ h.log) × (h.atoms ≡ atoms)
+held_same : (log : Text) (atoms : Contents) (h : ReplicaModel) → ◌≡◌ {A = Result ReplicaModel ToolFault} (Ok (held_under log atoms)) (Ok h)
+    → (log ≡ h.log) × (h.atoms ≡ atoms)
 held_same log atoms h e =
     let same : held_under log atoms ≡ h = cc in
     (ap (λ (k : ReplicaModel). k.log) same, sym (ap (λ (k : ReplicaModel). k.atoms) same))
@@ -105,15 +106,16 @@ part_by_within bytes from noted part is p =
     subst (λ s. IsWithin s (atoms_loaded from)) (sym p.atoms)
     (with_carriers_least _ (atoms_loaded from) (input_grounded bytes from is, unknown_has atom_digest (atoms_loaded from) noted.digests))
 
-pub part_by_kept : (bytes : List ℕ) (from : Loaded) (noted : InventoryModel) (part : ReplicaModel) → IsInput bytes from → IsPartBy from noted part → IsReplicaSet part.atoms
+pub part_by_kept : (bytes : List ℕ) (from : Loaded) (noted : InventoryModel) (part : ReplicaModel) → IsInput bytes from → IsPartBy from noted part
+    → IsReplicaSet part.atoms
 part_by_kept bytes from noted part is p = record {
   grounded = subst IsGrounded (sym p.atoms) (with_carriers_grounded (unknown atom_digest (atoms_loaded from) noted.digests));
   are_atoms = λ q h. (input_kept bytes from is).are_atoms q (part_by_within bytes from noted part is p q h);
 }
 
 -- where no two different atoms share a digest, it is the missing part
-pub part_by_part : (from to : Loaded) (noted : InventoryModel) (part : ReplicaModel) → NoCollision atom_digest (set.union (atoms_loaded from) (atoms_loaded to)) → Notes to noted
-    → IsPartBy from noted part → IsPart from to part
+pub part_by_part : (from to : Loaded) (noted : InventoryModel) (part : ReplicaModel) → NoCollision atom_digest (set.union (atoms_loaded from) (atoms_loaded to))
+    → Notes to noted → IsPartBy from noted part → IsPart from to part
 part_by_part from to noted part apart i p = record {
   log = p.log;
   atoms = p.atoms ∙ ap (missing_by atom_digest (atoms_loaded from)) i.digests ∙ missing_by_is atom_digest (atoms_loaded from) (atoms_loaded to) apart;

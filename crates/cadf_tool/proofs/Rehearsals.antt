@@ -11,7 +11,8 @@ use Rattle.cadf_linefile.specs.declared.file_feed.TheConstants.{FILE_LIMIT}
 use Rattle.cadf_tool.proofs.Runs.{worked}
 
 -- what was read of a source is a script, if its bytes are
-pub judged : (t : SourceTransition) (v : List ℕ) (script : Result (List Step) ℕ) → IsReadAs bytes_spec t v → IsScriptJudged v script → IsReadAs script_spec t script
+pub judged : (t : SourceTransition) (v : List ℕ) (script : Result (List Step) ℕ) → IsReadAs bytes_spec t v → IsScriptJudged v script
+    → IsReadAs script_spec t script
 judged t v script ((bytes, (consumed, end, (same, short))), unfailed) h =
     ((bytes, (consumed, end, (short, subst (λ b. IsScriptJudged b script) (sym same) h))), unfailed)
 
@@ -23,7 +24,8 @@ module _ (t : SourceTransition) (bounded : IsReadWithin FILE_LIMIT t) (v : List 
   line_refused line h = record { is = (Err line, judged t v (Err line) read h, refl); bounded = bounded }
 
 module _ (t : SourceTransition) (log : Text) (sites : ℕ) where
-  refused_at : (fault : ToolFault) (s : FaultStage) → IsFirstFault (one script_spec t) turns_of fault s → IsFirstFault (one script_spec t) (final_sites log sites) fault s
+  refused_at : (fault : ToolFault) (s : FaultStage) → IsFirstFault (one script_spec t) turns_of fault s
+      → IsFirstFault (one script_spec t) (final_sites log sites) fault s
   refused_at fault (Reading n f) h = h
   refused_at fault Working (a, read, e) = (a, read, stops (turns_of a) fault e)
     where
@@ -33,7 +35,8 @@ module _ (t : SourceTransition) (log : Text) (sites : ℕ) where
   refused_at fault OutOfMemoryStage h = h
 
   -- a script that is refused isn't played
-  pub script_refused : (fault : ToolFault) → IsExpected (one script_spec t) turns_of (Err fault) → IsExpected (one script_spec t) (final_sites log sites) (Err fault)
+  pub script_refused : (fault : ToolFault) → IsExpected (one script_spec t) turns_of (Err fault)
+      → IsExpected (one script_spec t) (final_sites log sites) (Err fault)
   script_refused fault h = record { is = refused_at fault (fault_stage fault) h.is; bounded = h.bounded }
 
   -- the turns of a script are played

@@ -1,7 +1,7 @@
 -- How the faults of the engines come of other faults, and which exit status each has.
 use Rattle.std.specs.Prelude.{ℕ, Bool, true, false, Result, Ok, Err}
-use Rattle.cadf_json.specs.declared.transfer.OutputFault.{OutputFault}
-use Rattle.cadf_json.specs.declared.transfer.OutputFault.TheVariants.{WriteFault as OutWriteFault, Memory as OutMemory}
+use Rattle.cadf_json.specs.declared.transfer.OutFault.{OutFault}
+use Rattle.cadf_json.specs.declared.transfer.OutFault.TheVariants.{WriteFault as OutWriteFault, Memory as OutMemory}
 use Rattle.cadf_tool.specs.declared.input.LoadFault.{LoadFault}
 use Rattle.cadf_tool.specs.declared.input.LoadFault.TheVariants.{File, TooLarge, ReadFault, Json, Document, Memory}
 use Rattle.cadf_tool.specs.declared.fault.ToolFault.{ToolFault}
@@ -17,7 +17,7 @@ use Rattle.cadf_tool.specs.declared.fault.ToolFault.TheVariants.{
   Memory as OutOfMemory,
 }
 
--- a failed read and want of memory are the engine's own
+-- `ReadFault` and `Memory` are the engine's own
 abbrev pub of_load : ℕ → LoadFault → ToolFault
 of_load n (File f) = Input n (File f)
 of_load n TooLarge = Input n TooLarge
@@ -27,12 +27,12 @@ of_load n (Document f) = Input n (Document f)
 of_load n Memory = OutOfMemory
 
 -- of a text that was written
-abbrev pub of_out : {T : Type 0} → Result T OutputFault → Result T ToolFault
+abbrev pub of_out : {T : Type 0} → Result T OutFault → Result T ToolFault
 of_out (Ok v) = Ok v
 of_out (Err OutWriteFault) = Err WriteFault
 of_out (Err OutMemory) = Err OutOfMemory
 
--- 1 where the input is refused, 3 where a read or a write failed, 4 for want of memory
+-- 1 where the input is refused, 3 where a read or a write failed, 4 if out of memory
 abbrev pub status_of : ToolFault → ℕ
 status_of (Input n f) = 1
 status_of NoLog = 1

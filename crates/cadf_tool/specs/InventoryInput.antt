@@ -1,6 +1,6 @@
 -- A source that is read as an inventory file, whatever it begins with.
---     RefusesInventory old new f    the source is refused for what its bytes are as such a file
---     inventory_spec                  how it is read
+--     RefusesInventory old new f  the source is refused for what its bytes are as such a file
+--     inventory_spec              how it is read
 use Rattle.std.specs.Prelude.{◌≡◌, ◌≢◌, ◌⊎◌, ℕ, List, Bool, true, false, None, Err}
 use Rattle.std.specs.Io.KnownBytes.{Consumes, IsAtEnd}
 use Rattle.cadf_json.specs.Streams.{counted}
@@ -25,7 +25,7 @@ pub record RefusesInventory (old new : SourceState) (fault : FileFault) : Type 0
   pub failure : failed ≡ true → (fault ≡ ReadFault) ⊎ (fault ≡ Trailing)
   pub end : failed ≡ false → inventory_decided FILE_LIMIT bytes ≡ None → IsAtEnd new.left
 
--- a fault of a file is the input's; want of memory says nothing of the bytes
+-- a fault of a file is the input's; `Memory` says nothing of the bytes
 abbrev pub IsInventoryRefusal : SourceState → SourceState → LoadFault → Type 0
 IsInventoryRefusal old new f = (fault : FileFault) × (fault ≢ Memory) × (f ≡ of_file fault) × RefusesInventory old new fault
 

@@ -1,8 +1,8 @@
--- What an inventory notes of an input, and what an input has that an inventory doesn't note.
---     inventory_model_of loaded                the log of an input, and the digests of its atoms; or why there are none
---     missing_by_of from noted       the atoms of FROM whose digest isn't noted, under their log, or why there is no such part
---     part_by both                   the same of both
---     IsInventoryInput limit b n     the bytes are the file of this inventory, within the limit
+-- The inventory of an input, and what an input has whose digest an inventory lacks.
+--     inventory_model_of loaded   the log of an input, and the digests of its atoms; or why there are none
+--     missing_by_of from noted    the atoms of FROM whose digest isn't in it, under their log, or why there is no such part
+--     part_by both                the same of both
+--     IsInventoryInput limit b n  the bytes are the file of this inventory, within the limit
 use Rattle.std.specs.Prelude.{◌≡◌, ◌≤◌, ℕ, List, length, Option, Some, None, Result, Ok, Err}
 use Rattle.cadf_join.specs.Contents.{Text}
 use Rattle.cadf_line.specs.Digest.{atom_digest}
@@ -25,7 +25,7 @@ inventory_model_under (Some log) digests = Ok (record { log = log; digests = dig
 abbrev pub inventory_model_of : Loaded → Result InventoryModel ToolFault
 inventory_model_of loaded = inventory_model_under (log_named loaded) (digests_of atom_digest (atoms_loaded loaded))
 
--- THE MISSING PART BY AN INVENTORY: the least grounded set that contains the atoms of FROM whose digest isn't noted
+-- THE MISSING PART BY AN INVENTORY: the least grounded set that contains the atoms of FROM whose digest isn't in it
 abbrev pub missing_by_of : Loaded → InventoryModel → Result ReplicaModel ToolFault
 missing_by_of from noted = under_one_log (log_named from) (Some noted.log) (missing_by atom_digest (atoms_loaded from) noted.digests)
 

@@ -1,7 +1,7 @@
 -- A script that is read whole, and what its schedule leaves.
---     script_spec                     how a source is read as a script: its turns, or the first line that spells none
+--     script_spec                   how a source is read as a script: its turns, or the first line that spells none
 --     left_of log sites turns       the replicas that the turns leave, or the first that can't be taken
---     final_sites log sites script       the same of a script, or its first line that spells no turn
+--     final_sites log sites script  the same of a script, or its first line that spells no turn
 use Rattle.std.specs.Prelude.{◌≡◌, ◌≤◌, ◌+◌, ℕ, List, length, reverse, true, false, Result, Ok, Err}
 use Rattle.cadf_json.specs.Streams.{counted, ConsumesAtMost, ConsumesExactly}
 use Rattle.cadf_join.specs.Contents.{Text}
@@ -51,7 +51,7 @@ abbrev pub left_in : Text → ℕ → Result World RehearseFault → Result (Lis
 left_in log sites (Ok world) = Ok (left_by log sites world)
 left_in log sites (Err fault) = Err (Rehearse fault)
 
--- the fault of a schedule is the engine's, and want of memory too
+-- the fault of a schedule is the engine's, and so is `Memory`
 abbrev pub of_rehearsal : RehearseFault → ToolFault
 of_rehearsal (NoSite turn) = Rehearse (NoSite turn)
 of_rehearsal (NoMessage turn) = Rehearse (NoMessage turn)

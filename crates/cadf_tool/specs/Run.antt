@@ -1,8 +1,8 @@
 -- THE RUN of an engine: its sources are read in turn, one thing is made of them, and the text of that is written.
---     one, two, all                     what came of one source, of two, of a list of them
---     IsExpected sources work expected            what is made of the sources, or the fault that comes first
---     IsWritten sink old new text r     the text was written whole, or a front of it
---     IsRun sources work tell sink old new r     the run, and its answer
+--     one, two, all                           what came of one source, of two, of a list of them
+--     IsExpected sources work expected        the expected result: the work on the sources, or the first fault
+--     IsWritten sink old new text r           all of the text was written, or a prefix of it
+--     IsRun sources work tell sink old new r  the run, and its answer
 -- A source is refused before the work is begun, and what is written begins when the work is done.
 use Rattle.std.specs.Prelude.{◌≡◌, ◌≤◌, ◌+◌, ◌⊎◌, ℕ, List, [], ◌∷◌, map, length, take, drop, Result, Ok, Err, OnOk, OnErr, IfErr}
 use Rattle.std.specs.Io.KnownBytes.{Appends}
@@ -119,10 +119,10 @@ all source old new = record {
   bounded = AreReadWithin (map source.reads old) (map source.reads new);
 }
 
--- ---- what is due
+-- ---- the expected result
 
 -- the fault comes first: of a source, or of the work where all were read.
--- Want of memory may come at any time, but not for a read that failed
+-- `Memory` may come at any time, but not for a read that failed
 abbrev pub IsFirstFault : {A M : Type 0} → Sources A → (A → Result M ToolFault) → ToolFault → FaultStage → Type 0
 IsFirstFault sources work fault (Reading n f) = (fault ≡ of_load n f) × sources.refused n f
 IsFirstFault {A} sources work fault Working = (a : A) × sources.are a × (work a ≡ Err fault)

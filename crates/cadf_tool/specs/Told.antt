@@ -1,6 +1,6 @@
 -- What an engine with one input writes, as one function of the bytes of its input.
---     log_named loaded, atoms_loaded loaded     the log that an input names, and the atoms that it contributes
---     IsHeld bytes h                        the bytes are an input that names a log, and h is this log and the input's atoms
+--     log_named loaded, atoms_loaded loaded  the log that an input names, and the atoms that it contributes
+--     IsHeld bytes h                         the bytes are an input that names a log, and h is this log and the input's atoms
 use Rattle.std.specs.Prelude.{◌≡◌, List, ℕ, Option, Some, None, Result, Ok, Err}
 use Rattle.cadf_join.specs.Contents.{Text, Contents}
 use Rattle.cadf_atom.specs.Contributions.{document_atoms}

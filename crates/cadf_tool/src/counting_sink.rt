@@ -15,7 +15,7 @@ pub struct Oversized {
     limit: u64,
 }
 
-/// A sink, and how many bytes it has taken.
+/// Counts the bytes that a sink takes.
 #[derive(Drop)]
 pub struct CountingSink<W> {
     sink: W,

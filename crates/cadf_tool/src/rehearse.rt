@@ -61,7 +61,7 @@ fn left(alloc: Global, log: &Name, sites: usize, turns: &[Turn]) -> Result<Vec<R
     }
 }
 
-/// The replicas that a script leaves at the sites.
+/// Returns the replicas that a script leaves at the sites.
 fn final_sites<R: Source>(
     alloc: Global,
     log: &Name,

@@ -81,7 +81,7 @@ fn output(alloc: Global, words: Words<'_>) -> Output {
     CountingSink::new(words.sink(alloc, 1))
 }
 
-/// Makes the answer of an engine: what is told of it, and what it wrote.
+/// Makes the answer of an engine: its outcome, and what it wrote.
 fn answer(alloc: Global, told: String, sink: Output) -> Result<Answer, Memory> {
     let written = Vec::from_slice(alloc, sink.into_inner().bytes())?;
     Ok(Answer { told, written })

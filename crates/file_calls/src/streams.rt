@@ -1,6 +1,6 @@
 //! Readers and writers as words.
 
-use cadf_json::{FailingWrite, Memory, MemorySink, OutputFault};
+use cadf_json::{FailingWrite, Memory, MemorySink, OutFault};
 use calls::{Call, answer, push_bytes, refused};
 use std::alloc::Global;
 
@@ -19,7 +19,7 @@ pub(crate) fn sink_of(alloc: Global, call: &Call, place: usize) -> MemorySink {
 /// Answers a call that writes: how it ended, and all that was written.
 pub(crate) fn written(
     alloc: Global,
-    done: Result<(), OutputFault>,
+    done: Result<(), OutFault>,
     sink: &MemorySink,
 ) -> Result<String, Memory> {
     let mut line = match done {

@@ -10,7 +10,7 @@ pub(crate) fn list(alloc: Global, text: &str) -> Result<String, Memory> {
     }
 }
 
-/// Tells whether the text may be JSON at all.
+/// Answers whether the text has JSON's syntax.
 pub(crate) fn has_json_syntax(alloc: Global, text: &str) -> Result<String, Memory> {
     let may = cadf_json::has_json_syntax(alloc, text)?;
     format!(in alloc; "{may}")

@@ -2,7 +2,7 @@
 
 ghost use Rattle.std.specs.Prelude.{◌<◌, ◌^◌};
 
-use cadf_json::{MemorySource, ReadAllFault, StdStream, read_rest, read_to_limit};
+use cadf_json::{FromStd, MemorySource, ReadAllFault, read_rest, read_to_limit};
 use calls::Call;
 use std::alloc::{AllocError as Memory, Global};
 use std::io;
@@ -75,7 +75,7 @@ impl<'b> io::Read for FailsOnce<'b> {
 
 /// Answers the whole of the first word's bytes by a reader of std, and how many calls that took.
 pub(crate) fn by_std(alloc: Global, call: &Call) -> Result<String, Memory> {
-    let mut source = StdStream::new(FailsOnce {
+    let mut source = FromStd::new(FailsOnce {
         left: call.bytes(1),
         failing: u64::try_from(call.number(2)).unwrap_or(0),
         calls: 0,

@@ -1,6 +1,6 @@
 //! Sinks that take bytes in pieces and fail where they are told to.
 
-use cadf_json::{Failed, FailingWrite, MemorySink, OutputFault, StdStream, write_all};
+use cadf_json::{Failed, FailingWrite, FromStd, MemorySink, OutFault, write_all};
 use calls::Call;
 use std::alloc::{AllocError as Memory, Global};
 use std::io;
@@ -9,7 +9,7 @@ use std::io;
 fn told(alloc: Global, done: Result<(), Failed>, written: &[u8]) -> Result<String, Memory> {
     let mut line = match done {
         Ok(()) => calls::answer(alloc, "ok", &[])?,
-        Err(failed) => calls::refused(alloc, &OutputFault::from(failed))?,
+        Err(failed) => calls::refused(alloc, &OutFault::from(failed))?,
     };
     calls::push_bytes(&mut line, written)?;
     Ok(line)
@@ -58,7 +58,7 @@ impl io::Write for Full {
 
 /// Writes the first word's bytes to a writer of std that has room for so many.
 pub(crate) fn by_std(alloc: Global, call: &Call) -> Result<String, Memory> {
-    let mut sink = StdStream::new(Full {
+    let mut sink = FromStd::new(Full {
         bytes: Vec::new(alloc),
         room: call.number(2),
     });

@@ -1,6 +1,6 @@
-//! Calls of sets of texts, maps and trees of chains, whose growths `.ci/oom` refuses one by one, and
+//! Calls of sets of texts, maps and trees of chains, whose allocations `.ci/oom` makes fail one by one, and
 //! what must hold afterwards. Standard input names a call and a kind of value; all are run where it is empty. What is written
-//! to standard output is the same in every run; standard error tells of a call that was refused.
+//! to standard output is the same in every run; standard error names a call that was refused.
 #![tactic(auto)]
 
 mod inserts;

@@ -47,7 +47,7 @@ impl Step {
     }
 }
 
-/// Runs the step, once more where a growth outside its call was refused.
+/// Runs the step, once more if an allocation outside its call failed.
 pub fn run(alloc: Global, step: Step) -> Report {
     match tried(alloc, step) {
         Ok(report) => report,

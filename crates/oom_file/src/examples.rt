@@ -124,7 +124,7 @@ pub fn sink(alloc: Global) -> MemorySink {
     MemorySink::new(alloc, 4096, FailingWrite::Never)
 }
 
-/// What is told of a writing: it wrote the text, or where it was refused a front of it.
+/// Reports a write: it wrote the text, or a prefix of it if it was refused.
 pub fn front(is_refused: bool, sink: &MemorySink, text: &str) -> Report {
     if is_refused {
         told(true, text.as_bytes().starts_with(sink.bytes()))

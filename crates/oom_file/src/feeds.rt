@@ -20,7 +20,7 @@ fn ended(alloc: Global, feed: ReplicaFeed, file: &str) -> Option<Report> {
     }
 }
 
-/// Whether want of memory is answered to all that comes, and nothing is pending.
+/// Returns whether each further call answers `Memory`, and nothing is pending.
 fn is_closed(mut feed: ReplicaFeed) -> bool {
     let kept = feed.pending();
     let refused = feed.feed(b"Z") == Err(FileFault::Memory);

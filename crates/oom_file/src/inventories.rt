@@ -17,7 +17,7 @@ e3c7c4b821fba7aefa60dc6e052a2a547b9a1778e825109f2261cd3246cb12f8
 Z 57afd6e3afdb13c5b0678cbee9e830cea007ce35c6c1eeb0464b48bb4d17a8f4
 "#;
 
-/// A reading reads the inventory, or answers want of memory.
+/// A reading reads the inventory, or answers `Memory`.
 pub fn read(alloc: Global) -> Option<Report> {
     match read_inventory(alloc, &mut in_pieces(INVENTORY, 7), LIMIT) {
         Ok(inventory) => written(alloc, &inventory),
@@ -25,7 +25,7 @@ pub fn read(alloc: Global) -> Option<Report> {
     }
 }
 
-/// A writing writes the file, or a front of it.
+/// A write writes the file, or a prefix of it.
 pub fn write(alloc: Global) -> Option<Report> {
     let replica = replica(alloc, FILE)?;
     let inventory = replica.inventory().ok()?;

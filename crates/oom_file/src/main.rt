@@ -1,6 +1,6 @@
-//! Readers and writers of files, documents and texts, whose growths `.ci/oom` refuses one by one, and
+//! Readers and writers of files, documents and texts, whose allocations `.ci/oom` makes fail one by one, and
 //! what must hold afterwards. Standard input names a call and a case; all are run where it is empty. What
-//! is written to standard output is the same in every run; standard error tells of a call that was refused.
+//! is written to standard output is the same in every run; standard error names a call that was refused.
 #![tactic(auto)]
 
 mod examples;

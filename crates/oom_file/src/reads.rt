@@ -6,7 +6,7 @@ use cadf_json::{Json, JsonFault};
 use oom_support::{Report, seen, told};
 use std::alloc::Global;
 
-/// A reading reads the file's replica, or answers want of memory.
+/// A reading reads the file's replica, or answers `Memory`.
 pub fn file(alloc: Global, file: &str, piece: usize) -> Option<Report> {
     match read_replica(alloc, &mut in_pieces(file, piece), LIMIT) {
         Ok(replica) => seen(is_file(alloc, &replica, file)),
@@ -14,7 +14,7 @@ pub fn file(alloc: Global, file: &str, piece: usize) -> Option<Report> {
     }
 }
 
-/// A reading reads the value, or answers want of memory.
+/// A reading reads the value, or answers `Memory`.
 pub fn json(alloc: Global) -> Option<Report> {
     match Json::read(alloc, DOCUMENT.as_bytes()) {
         Ok(json) => seen(spells_document(alloc, &json)),
@@ -28,7 +28,7 @@ fn spells_document(alloc: Global, json: &Json) -> Option<bool> {
     Some(text.as_str() == DOCUMENT)
 }
 
-/// A reading reads the document, or answers want of memory.
+/// A reading reads the document, or answers `Memory`.
 pub fn document(alloc: Global) -> Option<Report> {
     let json = Json::read(alloc, DOCUMENT.as_bytes()).ok()?;
     document_of(alloc, &json)

@@ -70,7 +70,7 @@ impl Step {
     }
 }
 
-/// Runs the step, once more where a growth was refused.
+/// Runs the step, once more if an allocation failed.
 pub fn run(alloc: Global, step: Step) -> Report {
     match tried(alloc, step) {
         Some(Report::Whole) => Report::Whole,
@@ -78,7 +78,7 @@ pub fn run(alloc: Global, step: Step) -> Report {
     }
 }
 
-/// What was seen, or `None` where a growth outside the call was refused.
+/// Returns what was seen. `None` if an allocation outside the call failed.
 fn tried(alloc: Global, step: Step) -> Option<Report> {
     match step {
         Step::Feed => feeds::feed(alloc, FILE),

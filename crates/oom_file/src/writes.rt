@@ -1,12 +1,12 @@
 //! Files and texts that are written.
 use crate::examples::{BOTH, CONFLICTS, FILE, LOG, format_of, front, replica, sink};
 use cadf_file::write_replica;
-use cadf_json::{MemorySink, OutputFault};
+use cadf_json::{MemorySink, OutFault};
 use cadf_log::{write_conflicts, write_log};
 use oom_support::{Report, told};
 use std::alloc::Global;
 
-/// A writing writes the file, or a front of it.
+/// A write writes the file, or a prefix of it.
 pub fn file(alloc: Global, file: &str) -> Option<Report> {
     let replica = replica(alloc, file)?;
     let mut sink = sink(alloc);
@@ -31,9 +31,9 @@ pub fn conflicts(alloc: Global) -> Option<Report> {
 }
 
 /// A text that memory does not suffice for is not begun; a write that fails leaves a front.
-fn shown(answer: Result<(), OutputFault>, sink: &MemorySink, text: &str) -> Report {
+fn shown(answer: Result<(), OutFault>, sink: &MemorySink, text: &str) -> Report {
     match answer {
-        Err(OutputFault::Memory) => told(true, sink.bytes().is_empty()),
+        Err(OutFault::Memory) => told(true, sink.bytes().is_empty()),
         _ => front(answer.is_err(), sink, text),
     }
 }

@@ -43,7 +43,7 @@ impl Call {
     }
 }
 
-/// Runs the call, once more where a growth was refused.
+/// Runs the call, once more if an allocation failed.
 pub fn run(alloc: Global, call: Call, case: &Case) -> Report {
     match tried(alloc, call, case) {
         Some(Report::Whole) => Report::Whole,
@@ -51,7 +51,7 @@ pub fn run(alloc: Global, call: Call, case: &Case) -> Report {
     }
 }
 
-/// What was seen, or `None` where a growth outside the call was refused.
+/// Returns what was seen. `None` if an allocation outside the call failed.
 fn tried(alloc: Global, call: Call, case: &Case) -> Option<Report> {
     let held = Held::new(alloc, case)?;
     match call {
@@ -78,7 +78,7 @@ fn missing(held: &Held) -> Option<Report> {
     }
 }
 
-/// A copy holds the same.
+/// Copies the replica. The copy has to hold the same.
 fn copy(replica: &Replica) -> Option<Report> {
     match replica.copy() {
         Ok(copied) => seen(Some(copied.same(replica))),

@@ -34,7 +34,7 @@ fn watched(held: &Held, by: Change<'_>, now: &mut Replica) -> Option<Report> {
     Some(told(true, between && now.same(&held.union)))
 }
 
-/// A join that is tried twice leaves the union where one growth is refused.
+/// A join that is tried twice leaves the union if one allocation fails.
 pub fn joined_twice(held: &Held) -> Option<Report> {
     let mut now = held.before.copy().ok()?;
     let is_done = now.join_twice(&held.coming).is_ok();

@@ -24,7 +24,7 @@ impl Step {
     }
 }
 
-/// Runs the step, once more where a growth was refused.
+/// Runs the step, once more if an allocation failed.
 pub fn run(alloc: Global, step: Step) -> Report {
     match tried(alloc, step) {
         Some(Report::Whole) => Report::Whole,

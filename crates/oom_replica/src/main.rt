@@ -1,6 +1,6 @@
-//! Calls of a replica, whose growths `.ci/oom` refuses one by one, and what must hold afterwards.
+//! Calls of a replica, whose allocations `.ci/oom` makes fail one by one, and what must hold afterwards.
 //! Standard input names a call and a case; all are run where it is empty. What is written to standard
-//! output is the same in every run; standard error tells of a call that was refused.
+//! output is the same in every run; standard error names a call that was refused.
 #![tactic(auto)]
 
 mod calls;

@@ -1,4 +1,4 @@
-//! What the programs share whose growths `.ci/oom` refuses one by one.
+//! What the programs share whose allocations `.ci/oom` makes fail one by one.
 #![tactic(auto)]
 
 ghost use Rattle.std.specs.Prelude.{◌≡◌, ◌↔◌, true, false};
@@ -8,7 +8,7 @@ use std::io;
 /// What was seen of a call.
 #[derive(Clone, Copy, Debug, Drop, PartialEq, Eq)]
 pub enum Report {
-    /// No growth of the call was refused.
+    /// No allocation of the call failed.
     Whole,
     /// The call was refused, and all that must hold afterwards does.
     Refused,
@@ -16,7 +16,7 @@ pub enum Report {
     Fails,
 }
 
-/// What is told of a call.
+/// The report of a call.
 pub fn told(refused: bool, holds: bool) -> Report
     ensures fails { (result ≡ Report.Fails) ↔ (holds ≡ false) }
     ensures refused { result ≡ Report.Refused → refused ≡ true }
@@ -31,7 +31,7 @@ pub fn told(refused: bool, holds: bool) -> Report
     }
 }
 
-/// What is told of a call that wasn't refused, where it could be looked at.
+/// Reports a call that wasn't refused, if what it left could be checked.
 pub fn seen(holds: Option<bool>) -> Option<Report> {
     match holds {
         Some(holds) => Some(told(false, holds)),
@@ -39,7 +39,7 @@ pub fn seen(holds: Option<bool>) -> Option<Report> {
     }
 }
 
-/// What is told of a call that was refused, or of which a growth outside was, by what was seen when all was done again.
+/// Reports a call that was refused, or outside of which an allocation failed, by what a retry of all of it left.
 pub fn again(first: Option<Report>, second: Option<Report>) -> Report {
     match (first, second) {
         (Some(first), Some(Report::Whole)) => first,

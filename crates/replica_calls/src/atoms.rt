@@ -3,7 +3,7 @@
 use crate::spelled::{atom, letter_at};
 use crate::told;
 use cadf_json::Memory;
-use cadf_replica::{Atom, KeyKind, Letter, path_atom};
+use cadf_replica::{Atom, KeyKind, Letter};
 use calls::{Call, answer, refused};
 use std::alloc::Global;
 use std::cmp::Ordering;
@@ -35,7 +35,6 @@ fn told_of(alloc: Global, name: &str, atom: Atom, call: &Call) -> Result<String,
         "line" => answer(alloc, "ok", &[atom.line(alloc)?.as_str()]),
         "digest" => digest(alloc, &atom),
         "compare" => compared(alloc, &atom, call.text(2)),
-        "path_atom" => told::texts(alloc, path_atom(alloc, atom.parts())?.parts()),
         "new" => told::texts(alloc, Atom::new(atom.into_parts()).parts()),
         _ => answer(alloc, "no such call", &[]),
     }

@@ -1,7 +1,6 @@
 //! A visitor that keeps what it is shown.
 ghost use Rattle.std.specs.Prelude.{⊤};
 
-use crate::told;
 use cadf_join::{Memory, Visitor};
 use cadf_replica::Replica;
 use std::alloc::Global;
@@ -45,12 +44,12 @@ fn copied(alloc: Global, list: &[&str]) -> Result<Vec<String>, Memory> {
     Ok(texts)
 }
 
-/// Answers the atoms that a walk of the replica shows, each the JSON list of its texts.
-pub(crate) fn walked(alloc: Global, replica: &Replica) -> Result<String, Memory> {
+/// Lists the atoms that a walk of the replica shows, each as its texts.
+pub(crate) fn lists(alloc: Global, replica: &Replica) -> Result<Vec<Vec<String>>, Memory> {
     let mut kept = Kept {
         lists: Vec::new(alloc),
         alloc,
     };
     replica.walk(&mut kept)?;
-    told::lists(alloc, &kept.lists)
+    Ok(kept.lists)
 }

@@ -35,7 +35,6 @@ fn told_of_kind(
         "keys" => told::texts(alloc, &ours.keys(kind)?),
         "conflicted_keys" => told::texts(alloc, &ours.conflicted_keys(kind)?),
         "shown" => told::text(alloc, ours.shown(kind, key)?),
-        "is_conflicted" => told::found_true(alloc, ours.is_conflicted(kind, key)?),
         _ => answer(alloc, "no such call", &[]),
     }
 }

@@ -1,6 +1,6 @@
 //! Calls of one replica, which is the first word. The second is the line of an atom.
 
-use crate::kept::walked;
+use crate::kept::lists;
 use crate::spelled::{atom, of_inventory, replica};
 use crate::told;
 use cadf_json::Memory;
@@ -15,8 +15,7 @@ pub(crate) fn answered(alloc: Global, name: &str, call: &Call) -> Result<String,
         "atom_count" => told::number(alloc, ours.atom_count()),
         "conflict_count" => told::number(alloc, ours.conflict_count()),
         "copy" => told::replica(alloc, &ours.copy()?),
-        "atom_lists" => told::lists(alloc, &ours.atom_lists()?),
-        "walk" => walked(alloc, &ours),
+        "walk" => told::lists(alloc, &lists(alloc, &ours)?),
         "inventory" => noted(alloc, &ours),
         "least_atom" => found(alloc, ours.atom_after(None)?),
         _ => match atom(alloc, call.text(2))? {

@@ -13,7 +13,7 @@ pub(crate) fn answered(alloc: Global, name: &str, call: &Call) -> Result<String,
         "read" => told_of(alloc, read(alloc, call, 1)),
         "of" => told_of(
             alloc,
-            Ruling::for_value(alloc, letter_at(call, 1), call.text(2), call.text(3)),
+            Ruling::of(alloc, letter_at(call, 1), call.text(2), call.text(3)),
         ),
         "take" => taken(alloc, replica(alloc, call.text(1))?, read(alloc, call, 2)),
         "rulings" => listed(alloc, &replica(alloc, call.text(1))?),

@@ -1,5 +1,6 @@
 //! Values as words: what a word spells, and how a value is spelled.
 
+use crate::kept::lists;
 use cadf_event::Name;
 use cadf_json::{Memory, quoted};
 use cadf_replica::{Atom, AtomFault, Inventory, Replica, ReplicaFault};
@@ -7,7 +8,7 @@ use calls::Call;
 use hex::FromHex;
 use std::alloc::Global;
 
-/// Answers the name that the word is. A word that is none is answered as want of memory.
+/// Answers the name that the word is. A word that is none is answered as `Memory`.
 pub(crate) fn name(alloc: Global, word: &str) -> Result<Name, Memory> {
     match Name::read(alloc, word) {
         Ok(name) => Ok(name),
@@ -75,7 +76,7 @@ pub(crate) fn of_list(alloc: Global, list: &[String]) -> Result<String, Memory> 
 /// Answers the lines of the replica.
 pub(crate) fn of_replica(alloc: Global, replica: &Replica) -> Result<String, Memory> {
     let mut spelled = String::from_str(alloc, replica.log().as_str())?;
-    for list in replica.atom_lists()? {
+    for list in lists(alloc, replica)? {
         spelled.push('\n')?;
         push_list(alloc, &mut spelled, &list)?;
     }

@@ -2,7 +2,7 @@ use Rattle.std.proofs.Common.{◌≡◌, ◌≤◌, ◌+◌, ◌-◌, take, leng
 use Rattle.std.specs.Io.KnownBytes.{Appends}
 use Rattle.cadf_json.proofs.transfer.write_all.Given as goal
 
--- a front of the bytes was written, and no write failed
+-- a prefix of the bytes was written, and no write failed
 abbrev pub invariant-loop-done : goal.invariant-loop-done
 invariant-loop-done g l =
     (l.done ≤ length l.bytes)

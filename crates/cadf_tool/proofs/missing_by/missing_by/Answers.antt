@@ -7,8 +7,8 @@ use Rattle.cadf_tool.proofs.missing_by.missing_by.Goals as goal
 
 pub returns : goal.returns
 returns g c =
-    both_worked input_spec (transition_of g.R.Source c.args.from.now c.load_one.new.input) inventory_spec (transition_of g.R.Source c.args.inventory.now c.load_inventory.new.input)
-    part_by
+    both_worked input_spec (transition_of g.R.Source c.args.from.now c.load_one.new.input) inventory_spec
+    (transition_of g.R.Source c.args.inventory.now c.load_inventory.new.input) part_by
     c.in_ok-first.ensures.reads c.in_ok-first.first c.in_ok-second.second c.part.result c.in_ok-first.ensures.ok c.in_ok-second.ensures.ok
     c.in_ok-second.ensures.reads c.part.ensures
 

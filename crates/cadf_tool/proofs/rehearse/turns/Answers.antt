@@ -9,5 +9,5 @@ returns-in-Ok-clause-ok g c =
 
 pub returns-in-Err-Line-clause-err : goal.returns-in-Err-Line-clause-err
 returns-in-Err-Line-clause-err g c =
-    line_refused (transition_of g.R.Source c.args.script.now c.bytes_of.new.script) c.in_ok-bytes.ensures.reads c.in_ok-bytes.bytes.items c.in_ok-bytes.ensures.ok
-    c.in-Err-Line.line (rw (c.deref.ensures.value, c.in-Err-Line.field-0-is) at c.in-Err-Line.ensures.err)
+    line_refused (transition_of g.R.Source c.args.script.now c.bytes_of.new.script) c.in_ok-bytes.ensures.reads c.in_ok-bytes.bytes.items
+    c.in_ok-bytes.ensures.ok c.in-Err-Line.line (rw (c.deref.ensures.value, c.in-Err-Line.field-0-is) at c.in-Err-Line.ensures.err)

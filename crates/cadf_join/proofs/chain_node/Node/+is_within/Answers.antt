@@ -89,8 +89,8 @@ loop-text-preserved t c =
     record {
       rest = record { map = r.map; sections = r.sections; rest = entries.rest_of_tail r.map _ _ r.rest };
       below = (subst (AreBelow c.args.self.now) c.in-Some.ensures.steps c.loop-text.invariant.below).1;
-      agree = λ q gone. entries.passed {P = IsWithin (suffixes_of c.args.self.now q) (suffixes_of c.args.other.now q)} (c.in-Some.text.now, child) c.next.new.self q
-          gone
+      agree = λ q gone. entries.passed {P = IsWithin (suffixes_of c.args.self.now q) (suffixes_of c.args.other.now q)} (c.in-Some.text.now, child)
+          c.next.new.self q gone
           (λ same. subst (λ x. IsWithin (suffixes_of c.args.self.now x) (suffixes_of c.args.other.now x)) same one)
           (λ before. c.loop-text.invariant.agree q (ap (λ es. entries.is_ahead es q) c.in-Some.ensures.steps ∙ before));
     }

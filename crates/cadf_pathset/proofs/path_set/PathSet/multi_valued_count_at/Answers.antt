@@ -49,16 +49,17 @@ loop-text-preserved c =
     let before = c.loop-text.invariant.to_come in
     let small = c.loop-text.invariant.small in
     record {
-      to_come = elim c.if-has_multiple.branch as (λ _. saturated (c.if-has_multiple.count + length (filter (has_two s) left)) ≡ saturated (length (multi_valued_keys s))) [
-        | then-has_multiple w ↦
-            let here = step ∙ one_more (has_two s) t left (told ∙ w.if-has_multiple.true) in
-            let added = w.saturating_add-count.ensures in let is = w.count-is in
-            omega (arith, here, before, added, is)
-        | else-has_multiple w ↦
-            let here = step ∙ no_more (has_two s) t left (told ∙ w.if-has_multiple.false) in
-            let is = w.count-is in
-            omega (arith, here, before, is)
-      ];
+      to_come = elim c.if-has_multiple.branch as (λ _. saturated (c.if-has_multiple.count + length (filter (has_two s) left))
+          ≡ saturated (length (multi_valued_keys s))) [
+            | then-has_multiple w ↦
+                let here = step ∙ one_more (has_two s) t left (told ∙ w.if-has_multiple.true) in
+                let added = w.saturating_add-count.ensures in let is = w.count-is in
+                omega (arith, here, before, added, is)
+            | else-has_multiple w ↦
+                let here = step ∙ no_more (has_two s) t left (told ∙ w.if-has_multiple.false) in
+                let is = w.count-is in
+                omega (arith, here, before, is)
+          ];
       small = elim c.if-has_multiple.branch as (λ _. c.if-has_multiple.count ≤ 18446744073709551615) [
         | then-has_multiple w ↦ let added = w.saturating_add-count.ensures in let is = w.count-is in omega (arith, added, is)
         | else-has_multiple w ↦ let is = w.count-is in omega (arith, small, is)
