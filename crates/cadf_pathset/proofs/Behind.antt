@@ -39,7 +39,7 @@ use Rattle.cadf_join.specs.laws.Contents.{text_total, text_same, texts_total, te
 use Rattle.cadf_join.specs.Maps.{firsts, heads}
 use Rattle.cadf_join.specs.Prefixes.{texts_at}
 use Rattle.cadf_join.specs.Sets as set
-use Rattle.cadf_join.specs.laws.Rising.{rising-from_list, rising_is_sorted}
+use Rattle.cadf_join.specs.laws.Rising.{from_list-rising, rising-from_list, rising_is_sorted}
 use Rattle.cadf_join.proofs.Risings.{rising-section}
 use Rattle.cadf_pathset.specs.Lists.{first_text, is_before, strip}
 use Rattle.cadf_pathset.specs.Sections.{behind, suffixes_after}
@@ -224,6 +224,13 @@ filter_all (l ∷ ls) = ap (λ z. l ∷ z) (filter_all ls)
 pub behind_strip : (p : Texts) (ls : List Texts) → behind p ls ≡ filter_map (strip p) ls
 behind_strip [] ls = sym (filter_all ls)
 behind_strip (t ∷ p) ls = behind_strip p (tails_of t ls) ∙ strip_rests t p ls
+
+pub rising_strip : (p : Texts) (s : Contents) → set.rising (suffixes_after s p) ≡ filter_map (strip p) (set.rising s)
+rising_strip p s =
+    let ls = set.rising s in
+    let sorted = rising_is_sorted texts_total texts_same s in
+    ap (λ z. set.rising (suffixes_after z p)) (sym (from_list-rising texts_total texts_same s)) ∙ ap set.rising (sections_of p ls sorted)
+    ∙ rising-from_list texts_total texts_same (behind p ls) (behind_rises p ls sorted) ∙ behind_strip p ls
 
 pub part_is : (p : Texts) (ls : List Texts) → IsStrictlySortedBy texts_cmp ls → (part : List Texts) (s : Contents) → part ≡ behind p ls → set.from_list ls ≡ s
     → set.from_list part ≡ suffixes_after s p

@@ -8,6 +8,7 @@ pub mod Climbs
 pub mod Compared
 pub mod Ends
 pub mod Firsts
+pub mod Forks
 pub mod Halving
 pub mod Inserts
 pub mod Merges

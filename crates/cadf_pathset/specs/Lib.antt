@@ -1,6 +1,7 @@
 pub mod Block
 pub mod Carriers
 pub mod Above
+pub mod Fork
 pub mod Lists
 pub mod Merge
 pub mod Nodes

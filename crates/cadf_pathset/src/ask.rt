@@ -49,21 +49,14 @@ impl PathSet {
     pub fn next_child(&self, prefix: &[&str], text: Option<&str>) -> Option<&str>
         ensures { option_copied result ≡ next_after (heads (suffixes_after self.now (texts_at prefix.now))) (option_copied text.entry) }
     {
-        self.rows.suffixes(prefix).next_child(text)
+        self.suffix_set(prefix).next_child(text)
     }
 
     /// Returns the texts that follow the prefix directly, ascending.
     pub fn child_texts(&self, prefix: &[&str]) -> Result<Vec<String>, Memory>
         ensures { IfOk result (λ found. map string_bytes found.items ≡ set.rising (heads (suffixes_after self.now (texts_at prefix.now)))) }
     {
-        let range = self.rows.suffixes(prefix);
-        let mut texts = Vec::new(self.alloc);
-        let mut last = None;
-        while let Some(text) = range.next_child(last) {
-            texts.push(String::from_str(self.alloc, text)?)?;
-            last = Some(text);
-        }
-        Ok(texts)
+        self.suffix_set(prefix).child_texts()
     }
 
     /// Counts the next texts of the prefix that have two or more next texts themselves. `u64::MAX` if there are more.

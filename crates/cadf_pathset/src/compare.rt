@@ -104,25 +104,6 @@ pub(crate) fn begins_with<W: AsText>(nodes: &Nodes, node: u32, prefix: &[W]) -> 
     order.is_eq()
 }
 
-/// Compares the lists of two nodes. Their nearest common ancestor ends it.
-pub(crate) fn node_cmp(nodes: &Nodes, node: u32, other: u32) -> Ordering
-    requires ours { node ≤ length nodes.now }
-    requires theirs { other ≤ length nodes.now }
-    ensures { result ≡ texts_cmp (list_at nodes.now node) (list_at nodes.now other) }
-{
-    let has = depth(nodes, node);
-    let its = depth(nodes, other);
-    let mut found = has.cmp(&its);
-    let mut a = ancestor(nodes, node, has, its);
-    let mut b = ancestor(nodes, other, its, has);
-    while a != b && a > 0 && b > 0 {
-        found = nodes.text(a).cmp(nodes.text(b)).then(found);
-        a = nodes.parent(a);
-        b = nodes.parent(b);
-    }
-    found
-}
-
 /// Whether nodes of two arenas have the same list.
 pub(crate) fn same_list(nodes: &Nodes, node: u32, others: &Nodes, other: u32) -> bool
     requires ours { node ≤ length nodes.now }

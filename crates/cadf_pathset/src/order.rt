@@ -1,9 +1,7 @@
 //! The order of lists of texts, and their prefixes.
 ghost use Rattle.std.specs.Prelude.{◌≡◌, ◌++◌, IfOk, drop};
-ghost use Rattle.std.specs.Option.{option_copied, option_map};
 ghost use Rattle.cadf_join.specs.Contents.{texts_cmp};
 ghost use Rattle.cadf_join.specs.Prefixes.{chain_texts, texts_at};
-ghost use Rattle.cadf_pathset.specs.Lists.{strip};
 
 use crate::Memory;
 use cadf_join::prefix::copy_texts;
@@ -28,23 +26,6 @@ pub(crate) fn texts_cmp(a: &[&str], b: &[&str]) -> Ordering
                 Ordering::Less => Ordering::Less,
                 Ordering::Equal => texts_cmp(rest, others),
                 Ordering::Greater => Ordering::Greater,
-            },
-        },
-    }
-}
-
-/// Returns the suffix after the prefix. `None` if the list does not begin with it.
-pub(crate) fn strip<'l, 'a>(list: &'l [&'a str], prefix: &[&str]) -> Option<&'l [&'a str]>
-    ensures { option_map texts_at (option_copied result) ≡ strip (texts_at prefix.now) (texts_at list.now) }
-{
-    match prefix {
-        [] => Some(list),
-        [text, prefix @ ..] => match list {
-            [] => None,
-            [first, list @ ..] => match (*first).cmp(*text) {
-                Ordering::Less => None,
-                Ordering::Equal => strip(list, prefix),
-                Ordering::Greater => None,
             },
         },
     }

@@ -234,17 +234,6 @@ impl PathVec {
         (low, back)
     }
 
-    /// Returns the number of the first list that begins with the prefix or is above those that do.
-    pub fn bound<W: AsText>(&self, prefix: &[W]) -> usize
-        requires { IsStrictlySortedBy texts_cmp self.now }
-        ensures within { result ≤ length self.now }
-        ensures below { AllByRecursion (λ l. is_before (map W.bytes prefix.now) false l ≡ true) (take result self.now) }
-        ensures above { AllByRecursion (λ l. is_before (map W.bytes prefix.now) false l ≡ false) (drop result self.now) }
-    {
-        let (at, _) = self.seek(prefix);
-        at
-    }
-
     /// Whether the list of that number is this one, if they are known to share `known` texts.
     fn is_at<W: AsText>(&self, number: usize, list: &[W], known: usize) -> bool
         requires within { number < length self.now }

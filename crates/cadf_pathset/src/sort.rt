@@ -7,7 +7,7 @@ ghost use Rattle.cadf_pathset.specs.Nodes.{AreThere, lists_at};
 ghost use Rattle.cadf_pathset.specs.Merge.{sorted_merge};
 
 use crate::Memory;
-use crate::compare::node_cmp;
+use crate::fork::{Fork, next_cmp, node_cmp};
 use crate::nodes::Nodes;
 use std::alloc::Global;
 use std::cmp::Ordering;
@@ -38,12 +38,13 @@ fn merged(alloc: Global, nodes: &Nodes, a: &[u32], b: &[u32]) -> Result<Vec<u32>
     ensures merged { IfOk result (λ all. lists_at nodes.now all.items
         ≡ sorted_merge texts_cmp true (lists_at nodes.now a.now) (lists_at nodes.now b.now)) }
 {
-    let mut all = Vec::new(alloc);
+    let mut all = Vec::with_capacity(alloc, a.len().saturating_add(b.len()))?;
     let mut ours = a;
     let mut theirs = b;
+    let mut fork = Fork::unknown();
     while let [number, numbers @ ..] = ours {
         match theirs {
-            [other, others @ ..] => match node_cmp(nodes, *number, *other) {
+            [other, others @ ..] => match next_cmp(nodes, *number, *other, &mut fork) {
                 Ordering::Less => {
                     all.push(*number)?;
                     ours = numbers;

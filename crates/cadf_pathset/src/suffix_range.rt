@@ -8,7 +8,7 @@ ghost use Rattle.std.specs.declared.cmp.Ordering.TheVariants.{Less};
 ghost use Rattle.cadf_join.specs.Contents.{is_after, next_after, tails_of, text_cmp, texts_cmp};
 ghost use Rattle.cadf_join.specs.Longest.{longer_than, longest_of};
 ghost use Rattle.cadf_join.specs.Maps.{firsts, heads};
-ghost use Rattle.cadf_join.specs.Prefixes.{chain_texts};
+ghost use Rattle.cadf_join.specs.Prefixes.{all_texts, chain_texts};
 ghost use Rattle.cadf_join.specs.Sets as set;
 ghost use Rattle.cadf_pathset.specs.Lists.{first_text, is_before};
 ghost use Rattle.cadf_pathset.specs.Nodes.{AreThere, rest_of};
@@ -229,6 +229,18 @@ impl<'a> SuffixRange<'a> {
             Some(node) => depth(self.nodes, *node).saturating_sub(self.depth),
             None => 0,
         }
+    }
+
+    /// Copies the suffixes, in order.
+    pub fn copy_all(&self, alloc: Global) -> Result<Vec<Vec<String>>, Memory>
+        ensures { IfOk result (λ lists. all_texts lists.items ≡ self.now) }
+    {
+        let mut lists = Vec::with_capacity(alloc, self.count())?;
+        let mut cursor = Cursor::new(alloc, self.nodes, self.numbers);
+        while cursor.next()? {
+            lists.push(copied_after(alloc, cursor.path(), self.depth)?)?;
+        }
+        Ok(lists)
     }
 
     /// Copies the suffix of that number.

@@ -1,6 +1,7 @@
 use Rattle.std.proofs.Common.{◌≡◌, ◌++◌, ◌+◌, length, map, true}
 use Rattle.std.specs.List.{AllByRecursion}
 use Rattle.cadf_join.specs.Contents.{texts_cmp}
+use Rattle.cadf_pathset.specs.Fork.{IsFork}
 use Rattle.cadf_pathset.specs.Nodes.{IsThere, list_at}
 use Rattle.cadf_pathset.specs.Merge.{sorted_merge}
 use Rattle.cadf_pathset.proofs.sort.merged.Given as goal
@@ -12,6 +13,7 @@ invariant-loop-ours l = record {
   there : AllByRecursion (IsThere l.nodes) l.all.items;
   ours : AllByRecursion (IsThere l.nodes) l.ours;
   theirs : AllByRecursion (IsThere l.nodes) l.theirs;
+  known : IsFork l.nodes l.fork;
 }
 
 abbrev pub decreases-loop-ours : goal.decreases-loop-ours

@@ -4,8 +4,9 @@ use Rattle.std.proofs.lemmas.List.{length-take}
 use Rattle.cadf_join.specs.Contents.{Texts, text_cmp}
 use Rattle.cadf_pathset.specs.Nodes.{list_at, last_text}
 use Rattle.cadf_pathset.proofs.Arena.{one_longer}
+use Rattle.cadf_pathset.proofs.Forks.{fork_found, fork_up, no_fork}
 use Rattle.cadf_pathset.proofs.Orders.{cmp_lengths, cmp_up, cmp_same}
-use Rattle.cadf_pathset.proofs.compare.node_cmp.Goals as goal
+use Rattle.cadf_pathset.proofs.fork.parting_cmp.Goals as goal
 
 pub loop-a-init : goal.loop-a-init
 loop-a-init c =
@@ -28,6 +29,7 @@ loop-a-init c =
           ∙ (λ i. ordering_then (Rattle.cadf_join.specs.Contents.texts_cmp (take (sym its i) a) (take (sym has i) b))
           (Rattle.std.specs.Ordering.nat_cmp (sym has i) (sym its i)))
           ∙ (λ i. ordering_then (Rattle.cadf_join.specs.Contents.texts_cmp (sym ours i) (sym theirs i)) (sym c.cmp-found.ensures i));
+      near = no_fork ls c.unknown-near.result c.ancestor-a.result c.ancestor-b.result c.unknown-near.ensures;
     }
 
 pub loop-a-preserved : goal.loop-a-preserved
@@ -50,11 +52,18 @@ loop-a-preserved c =
       long = long;
       order = cmp_up _ c.loop-a.found c.then-found.result x y (list_at ls c.parent-a.result) (list_at ls c.parent-b.result) (last_text x) (last_text y)
           c.parent-a.ensures.list c.parent-b.ensures.list long
-          (c.then-found.ensures ∙ ap (λ z. ordering_then z c.loop-a.found) (c.cmp.ensures ∙ (λ i. text_cmp (c.text.ensures i) (c.text-in-loop-a.ensures i))))
+          (c.then-found.ensures ∙ ap (λ z. ordering_then z c.loop-a.found) (c.cmp-order.ensures ∙ (λ i. text_cmp (c.text.ensures i) (c.text-in-loop-a.ensures i))))
           h.order;
+      near = fork_up ls c.loop-a.near c.or_nearer-near.result c.loop-a.a c.loop-a.b c.parent-a.result c.parent-b.result (last_text x) (last_text y)
+          c.cmp-order.result c.parent-a.ensures.list c.parent-b.ensures.list long (c.cmp-order.ensures ∙ (λ i. text_cmp (c.text.ensures i) (c.text-in-loop-a.ensures i)))
+          c.or_nearer-near.ensures.same c.or_nearer-near.ensures.other h.near;
     }
 
 pub returns-after-loop-a : goal.returns-after-loop-a
 returns-after-loop-a c =
     let ls = c.args.nodes.now in
-    sym (cmp_same _ c.loop-a.found (list_at ls c.loop-a.a) (list_at ls c.loop-a.b) (ap (list_at ls) c.loop-a-test.false) c.loop-a.invariant.order)
+    let same = ap (list_at ls) c.loop-a-test.false in
+    record {
+      order = sym (cmp_same _ c.loop-a.found (list_at ls c.loop-a.a) (list_at ls c.loop-a.b) same c.loop-a.invariant.order);
+      known = fork_found ls c.loop-a.near c.loop-a.a c.loop-a.b same c.loop-a.invariant.near;
+    }

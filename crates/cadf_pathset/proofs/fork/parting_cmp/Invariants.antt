@@ -1,8 +1,9 @@
 use Rattle.std.proofs.Common.{◌≡◌, ◌≤◌, length}
 use Rattle.std.specs.Ordering.{ordering_then}
 use Rattle.cadf_join.specs.Contents.{texts_cmp}
+use Rattle.cadf_pathset.specs.Fork.{IsForkAt}
 use Rattle.cadf_pathset.specs.Nodes.{list_at}
-use Rattle.cadf_pathset.proofs.compare.node_cmp.Given as goal
+use Rattle.cadf_pathset.proofs.fork.parting_cmp.Given as goal
 
 abbrev pub invariant-loop-a : goal.invariant-loop-a
 invariant-loop-a l = record {
@@ -11,6 +12,7 @@ invariant-loop-a l = record {
   long : length (list_at l.nodes l.a) ≡ length (list_at l.nodes l.b);
   order : texts_cmp (list_at l.nodes l.node) (list_at l.nodes l.other)
       ≡ ordering_then (texts_cmp (list_at l.nodes l.a) (list_at l.nodes l.b)) l.found;
+  near : IsForkAt l.nodes l.near l.a l.b;
 }
 
 abbrev pub decreases-loop-a : goal.decreases-loop-a

@@ -5,29 +5,27 @@ use Rattle.std.specs.Option.{option_copied}
 use Rattle.cadf_join.specs.Contents.{is_after, text_cmp}
 use Rattle.cadf_join.specs.laws.Contents.{text_total, text_same}
 use Rattle.cadf_join.specs.Maps.{heads}
-use Rattle.cadf_join.specs.Prefixes.{texts_at}
 use Rattle.cadf_join.specs.Sets as set
 use Rattle.cadf_join.specs.laws.Rising.{rising_is_sorted}
-use Rattle.cadf_pathset.proofs.Behind.{part_is}
 use Rattle.cadf_pathset.proofs.Firsts.{all_after, next_one, next_none}
 use Rattle.cadf_pathset.proofs.Spans.{map_more}
-use Rattle.cadf_pathset.proofs.path_set.PathSet.child_texts.Goals as goal
+use Rattle.cadf_pathset.proofs.suffix_set.SuffixSet.child_texts.Goals as goal
 
 pub loop-text-init : goal.loop-text-init
 loop-text-init c =
-    let ks = set.rising (heads (set.from_list c.suffixes-range.result)) in
+    let ks = set.rising (heads c.args.self.now) in
     (λ i. map string_bytes (c.new-texts.ensures.items i) ++ all_after text_total text_same ks i)
 
 pub loop-text-smaller : goal.loop-text-smaller
 loop-text-smaller c =
-    let h = heads (set.from_list c.suffixes-range.result) in
+    let h = heads c.args.self.now in
     let step = ap length (next_one text_total text_same (option_copied c.loop-text.last) (set.rising h) (rising_is_sorted text_total text_same h)
     c.in-Some.text.now (sym c.next_child.ensures ∙ ap option_copied c.in-Some.is)) in
     omega (arith, step)
 
 pub loop-text-preserved : goal.loop-text-preserved
 loop-text-preserved c =
-    let h = heads (set.from_list c.suffixes-range.result) in
+    let h = heads c.args.self.now in
     let t = c.in-Some.text.now in
     let left = filter (is_after text_cmp (Some t)) (set.rising h) in
     let done = map string_bytes c.loop-text.texts.items in
@@ -41,11 +39,9 @@ loop-text-preserved c =
 
 pub returns : goal.returns
 returns c =
-    let h = heads (set.from_list c.suffixes-range.result) in
+    let h = heads c.args.self.now in
     let done = map string_bytes c.loop-text.texts.items in
     sym (append-nil done)
     ∙ ap (λ ts. done ++ ts) (sym (next_none text_total text_same (is_after text_cmp (option_copied c.loop-text.last)) (set.rising h)
     (sym c.next_child.ensures ∙ ap option_copied c.in_default.is)))
     ∙ c.loop-text.invariant
-    ∙ ap (λ s. set.rising (heads s))
-    (part_is (texts_at c.args.prefix.now) c.self.inside.rows c.self.invariant c.suffixes-range.result c.args.self.now c.suffixes-range.ensures.behind c.self.view_is)

@@ -1,0 +1,113 @@
+//! The order of the lists of two nodes, and where they part: lists that go on from there have the same order.
+ghost use Rattle.std.specs.Prelude.{◌≡◌, ◌≤◌, ◌++◌, true, length};
+ghost use Rattle.std.specs.declared.cmp.Ordering.TheVariants.{Equal};
+ghost use Rattle.cadf_join.specs.Contents.{Texts, texts_cmp};
+ghost use Rattle.cadf_pathset.specs.Fork.{IsFork};
+ghost use Rattle.cadf_pathset.specs.Nodes.{list_at};
+
+use crate::nodes::{Nodes, ancestor, depth};
+use std::cmp::Ordering;
+
+/// Two nodes whose lists part at their last texts, and the order of these; `Equal` if none are known.
+#[derive(Clone, Copy, Drop)]
+pub(crate) struct Fork {
+    a: u32,
+    b: u32,
+    order: Ordering,
+}
+
+impl Fork {
+    /// None are known.
+    pub fn unknown() -> Fork
+        ensures { result.order ≡ Equal }
+    {
+        Fork {
+            a: 0,
+            b: 0,
+            order: Ordering::Equal,
+        }
+    }
+
+    /// These nodes, if their texts differ, else the ones before.
+    fn or_nearer(self, a: u32, b: u32, order: Ordering) -> Fork
+        ensures same { order ≡ Equal → result ≡ self }
+        ensures other { (order ≡ Equal → ⊥) → result ≡ record { a = a; b = b; order = order } }
+    {
+        if order.is_eq() {
+            self
+        } else {
+            Fork { a, b, order }
+        }
+    }
+
+    /// Whether the lists of the two nodes go on from these.
+    fn decides(self, nodes: &Nodes, node: u32, other: u32) -> bool
+        requires ours { node ≤ length nodes.now }
+        requires theirs { other ≤ length nodes.now }
+        requires known { IsFork nodes.now self }
+        ensures { result ≡ true → self.order ≡ texts_cmp (list_at nodes.now node) (list_at nodes.now other) }
+    {
+        !self.order.is_eq() && goes_on(nodes, node, self.a) && goes_on(nodes, other, self.b)
+    }
+}
+
+/// Whether the climb from the node comes to the other one, with which its list then begins.
+fn goes_on(nodes: &Nodes, node: u32, front: u32) -> bool
+    requires { node ≤ length nodes.now }
+    ensures { result ≡ true → (rest : Texts) × (list_at nodes.now node ≡ list_at nodes.now front ++ rest) }
+{
+    let mut at = node;
+    while at > front {
+        at = nodes.parent(at);
+    }
+    at == front
+}
+
+/// Compares the lists of two nodes. Their nearest common ancestor ends it.
+pub(crate) fn node_cmp(nodes: &Nodes, node: u32, other: u32) -> Ordering
+    requires ours { node ≤ length nodes.now }
+    requires theirs { other ≤ length nodes.now }
+    ensures { result ≡ texts_cmp (list_at nodes.now node) (list_at nodes.now other) }
+{
+    let mut fork = Fork::unknown();
+    parting_cmp(nodes, node, other, &mut fork)
+}
+
+/// Does so at once where the lists go on from nodes that are known, and else finds those where they part.
+pub(crate) fn next_cmp(nodes: &Nodes, node: u32, other: u32, fork: &mut Fork) -> Ordering
+    requires ours { node ≤ length nodes.now }
+    requires theirs { other ≤ length nodes.now }
+    requires known { IsFork nodes.now fork.old }
+    ensures order { result ≡ texts_cmp (list_at nodes.now node) (list_at nodes.now other) }
+    ensures known { IsFork nodes.now fork.new }
+{
+    let known = *fork;
+    if known.decides(nodes, node, other) {
+        return known.order;
+    }
+    parting_cmp(nodes, node, other, fork)
+}
+
+/// Compares the lists of two nodes, and finds the nodes where they part. The difference nearest to the root decides.
+fn parting_cmp(nodes: &Nodes, node: u32, other: u32, fork: &mut Fork) -> Ordering
+    requires ours { node ≤ length nodes.now }
+    requires theirs { other ≤ length nodes.now }
+    ensures order { result ≡ texts_cmp (list_at nodes.now node) (list_at nodes.now other) }
+    ensures known { IsFork nodes.now fork.new }
+{
+    let has = depth(nodes, node);
+    let its = depth(nodes, other);
+    let mut found = has.cmp(&its);
+    let mut a = ancestor(nodes, node, has, its);
+    let mut b = ancestor(nodes, other, its, has);
+    let mut near = Fork::unknown();
+    while a != b && a > 0 && b > 0 {
+        let order = nodes.text(a).cmp(nodes.text(b));
+        found = order.then(found);
+        near = near.or_nearer(a, b, order);
+        a = nodes.parent(a);
+        b = nodes.parent(b);
+    }
+    *fork = near;
+    found
+}

@@ -1,0 +1,79 @@
+//! The suffixes after a prefix in a set, as they stand there.
+ghost use Rattle.std.specs.Prelude.{◌≡◌, IfOk, map, string_bytes};
+ghost use Rattle.std.specs.List.Sorted.{IsStrictlySortedBy};
+ghost use Rattle.std.specs.Option.{option_copied};
+ghost use Rattle.cadf_join.specs.Contents.{next_after, suffixes_of, texts_cmp};
+ghost use Rattle.cadf_join.specs.Maps.{heads};
+ghost use Rattle.cadf_join.specs.Prefixes.{all_texts};
+ghost use Rattle.cadf_join.specs.Sets as set;
+
+use crate::Memory;
+use crate::suffix_range::SuffixRange;
+use std::alloc::Global;
+use std::marker::Model;
+
+/// The suffixes after a prefix in a set, as they stand there: no text is copied.
+#[derive(Drop)]
+pub struct SuffixSet<'a> {
+    range: SuffixRange<'a>,
+    alloc: Global,
+}
+
+impl<'a> Model for SuffixSet<'a> {
+    ghost use Rattle.cadf_join.specs.Contents.{Contents, texts_cmp};
+    ghost use Rattle.cadf_join.specs.Prefixes.{contents_code};
+    ghost use Rattle.cadf_join.specs.Sets as set;
+    ghost use Rattle.std.specs.List.Sorted.{IsStrictlySortedBy};
+
+    ghost Value = { Contents };
+
+    ghost coded = { contents_code };
+
+    ghost view = { λ s. set.from_list s.range };
+
+    ghost invariant = { λ s. IsStrictlySortedBy texts_cmp s.range };
+}
+
+impl<'a> SuffixSet<'a> {
+    /// Takes the suffixes of the range.
+    pub(crate) fn new(alloc: Global, range: SuffixRange<'a>) -> SuffixSet<'a>
+        requires { IsStrictlySortedBy texts_cmp range }
+        ensures { result ≡ set.from_list range.entry }
+    {
+        SuffixSet { range, alloc }
+    }
+
+    /// Returns what follows the text in the suffixes that begin with it. Binary search.
+    pub fn section(&self, text: &str) -> SuffixSet<'a>
+        ensures { result ≡ suffixes_of self.now text.now }
+    {
+        SuffixSet::new(self.alloc, self.range.section(text))
+    }
+
+    /// Returns the least first text above the given one. For `None`, the least of all. Binary search.
+    pub fn next_child(&self, text: Option<&str>) -> Option<&'a str>
+        ensures { option_copied result ≡ next_after (heads self.now) (option_copied text.entry) }
+    {
+        self.range.next_child(text)
+    }
+
+    /// Copies the first texts, each once, in order.
+    pub fn child_texts(&self) -> Result<Vec<String>, Memory>
+        ensures { IfOk result (λ found. map string_bytes found.items ≡ set.rising (heads self.now)) }
+    {
+        let mut texts = Vec::new(self.alloc);
+        let mut last = None;
+        while let Some(text) = self.next_child(last) {
+            texts.push(String::from_str(self.alloc, text)?)?;
+            last = Some(text);
+        }
+        Ok(texts)
+    }
+
+    /// Copies the suffixes, in order.
+    pub fn lists(&self) -> Result<Vec<Vec<String>>, Memory>
+        ensures { IfOk result (λ lists. all_texts lists.items ≡ set.rising self.now) }
+    {
+        self.range.copy_all(self.alloc)
+    }
+}
