@@ -21,9 +21,9 @@ CALLS = {
     "entity": ["Entity::read", "Entity::kind", "Entity::key", "Entity::text"],
     "property": ["Property::read", "Property::name", "Property::text"],
     "document": ["Document::read", "Document::log", "Document::sightings", "Document::entities", "Document::properties"],
-    "plain": ["Document::read_streaming"],
+    "document_bytes": ["Document::read_bytes"],
     # What the fault of a reading is shown as.
-    "fault document": ["DocumentFault::fmt", "EventFault::fmt", "EntityFault::fmt", "JsonFault::fmt"],
+    "fault document": ["DocumentBytesFault::fmt", "DocumentFault::fmt", "EventFault::fmt", "EntityFault::fmt", "JsonFault::fmt"],
     "fault property": ["PropertyFault::fmt"],
     "fault name": ["NameFault::fmt"],
     "fault time": ["StampFault::fmt"],
@@ -31,9 +31,8 @@ CALLS = {
     "fault body": ["TextFault::fmt"],
 }
 
-NAMES, EVENTS, DOCUMENTS, CANONICAL, PLAIN, FAULTS = (
-    "Names", "Events", "Documents", "Canonical JSON text", "ARCHITECTURE: The way of a document",
-    "ARCHITECTURE: What faults are shown as")
+NAMES, EVENTS, DOCUMENTS, CANONICAL, FAULTS = (
+    "Names", "Events", "Documents", "Canonical JSON text", "ARCHITECTURE: What faults are shown as")
 NOON = 1709294400 * 10**9
 
 # An event as OpenStack's audit middleware writes it, and its parts.
@@ -172,9 +171,10 @@ PARTS = [
      ["log", "g", "event", *seen()]),
     (event("tags", "[]"), ["no log", "event", *seen()]),
     (event("tags", '["x"]'), ["no log", "event", *seen(B1, "tag", "x")]),
+    ('{"id":"g","events":[],"events":[]}', ["log", "g"]),
 ]
 
-# Texts that are refused, in whichever way they are read. What is judged first is told first.
+# Texts of values that are no documents. What is judged first is told first.
 NO_DOCUMENTS = [
     ('{"events":[{}]}', ["LogId"]),
     ('{"id":"g","events":[{}],"metrics":1}', ["NotList", "Metrics"]),
@@ -192,26 +192,28 @@ NO_DOCUMENTS = [
     ("[]", ["Event", 0, "NotObject"]),
     (' [ {"a":1} , {"a":1} ] ', ["Event", 0, "NotObject"]),
     ('[{"id":"g","events":[]},{"a":1,"a":2}]', ["Event", 0, "NotObject"]),
+    ('{"id":"g","events":{}}', ["NotList", "Events"]),
+    ('{"id":"g","events":null}', ["NotList", "Events"]),
+    ("7", ["Event", 0, "NotObject"]),
+    ('{"id":"g","id":"g"}', ["Event", 0, "EventType"]),
     ("{}", ["Event", 0, "Id"]),
     ('{"typeURI":7,"id":"e1"}', ["Event", 0, "TypeUri"]),
     ('{"id":"e1","eventType":"activity","eventTime":"2024"}', ["Event", 0, "EventTime"]),
     (event("action", ""), ["Event", 0, "Action"]),
 ]
 
-# Texts that are judged by the reading of the whole alone, and what that answers.
-NOT_PLAIN = [
-    ('{"id":"g","events":{}}', ["err", "NotList", "Events"]),
-    ('{"id":"g","events":null}', ["err", "NotList", "Events"]),
-    ("", ["err", "NotJson"]),
-    ("7", ["err", "Event", 0, "NotObject"]),
-    ("[1.5]", ["err", "NotWhole"]),
-    ('[{"a":1},{"a":1}', ["err", "NotJson"]),
-    ('{"id":"g","id":"g"}', ["err", "Event", 0, "EventType"]),
-    ('{"id":"g","a":[{"b":0.5}]}', ["err", "NotWhole"]),
-    ('{"id":"g","events":[]', ["err", "NotJson"]),
-    ('{"id":"g","events":[{}]} {}', ["err", "NotJson"]),
-    ('{"id":"g","events":[],"events":[]}', ["ok", "log", "g"]),
-    ('{"id":"g","events":[{}],"a":1.0}', ["err", "NotWhole"]),
+# Texts that spell no value. What is no JSON is told before a number that is not whole, wherever the two stand.
+NO_VALUES = [
+    ("", "NotJson"),
+    ("[1.5]", "NotWhole"),
+    ('[{"a":1},{"a":1}', "NotJson"),
+    ('{"id":"g","a":[{"b":0.5}]}', "NotWhole"),
+    ('{"id":"g","events":[]', "NotJson"),
+    ('{"id":"g","events":[{}]} {}', "NotJson"),
+    ('{"id":"g","events":[{}],"a":1.0}', "NotWhole"),
+    ('{"a":1.5,"id":"g","events":[', "NotJson"),
+    ("[1.5,{]", "NotJson"),
+    ("CADF-REPLICA 1\n", "NotJson"),
 ]
 
 # Documents, and what the fault of each is shown as.
@@ -288,15 +290,17 @@ def events():
 
 def parts():
     """Bodies, steps and attachments by their texts; entities and properties."""
-    for call in ("body", "body_with"):
-        yield call, [B1], ["ok", NOON, B1], EVENTS
-        yield call, [body("x", nested(99))], ["ok", NOON, body("x", nested(99))], EVENTS
-        for text, fault in NO_BODIES:
-            yield call, [text], ["err", fault], EVENTS
-    for call in ("step", "step_with"):
-        yield call, [S1], ["ok", S1], EVENTS
-        for text, fault in NO_STEPS:
-            yield call, [text], ["err", fault], EVENTS
+    for text in B1, body("x", nested(99)):
+        yield "body", [text], ["ok", NOON, text], EVENTS
+        yield "body_with", [text], ["some", NOON, text], EVENTS
+    for text, fault in NO_BODIES:
+        yield "body", [text], ["err", fault], EVENTS
+        yield "body_with", [text], ["none"], EVENTS
+    yield "step", [S1], ["ok", S1], EVENTS
+    yield "step_with", [S1], ["some", S1], EVENTS
+    for text, fault in NO_STEPS:
+        yield "step", [text], ["err", fault], EVENTS
+        yield "step_with", [text], ["none"], EVENTS
     yield "attachment", ['{"a":1}'], ["ok", '{"a":1}'], EVENTS
     for text, fault in (("[]", "NotThis"), ('{ "a":1}', "NotCanonical"), ('{"a":%s}' % nested(100), "NotThis")):
         yield "attachment", [text], ["err", fault], EVENTS
@@ -311,15 +315,17 @@ def parts():
 
 
 def documents():
-    """Documents, by a value and an event at a time."""
-    for call, heading in (("document", DOCUMENTS), ("plain", PLAIN)):
-        for text, found in PARTS:
-            yield call, [text], ["ok", *found], heading
-        for text, fault in NO_DOCUMENTS:
-            yield call, [text], ["err", *fault], heading
-    for text, answer in NOT_PLAIN:
-        yield "document", [text], answer, DOCUMENTS
-        yield "plain", [text], ["err", "NeedsFullParse"], PLAIN
+    """Documents, by their value and by their bytes."""
+    for text, found in PARTS:
+        yield "document", [text], ["ok", *found], DOCUMENTS
+        yield "document_bytes", [text], ["ok", *found], DOCUMENTS
+    for text, fault in NO_DOCUMENTS:
+        yield "document", [text], ["err", *fault], DOCUMENTS
+        yield "document_bytes", [text], ["err", "Document", *fault], DOCUMENTS
+    for text, fault in NO_VALUES:
+        yield "document", [text], ["err", fault], DOCUMENTS
+        yield "document_bytes", [text], ["err", "Json", fault], DOCUMENTS
+    yield "document_bytes", [b'{"id":"\xff"}'], ["err", "Json", "NotJson"], DOCUMENTS
 
 
 def faults():

@@ -107,7 +107,7 @@ def documents(chance):
         return "event_calls", ["fault", "document", text], ["some", "a number is not whole"]
     except Fault as fault:
         return "event_calls", ["fault", "document", text], ["some", fault.said]
-    return "event_calls", [chance.choice(["document", "plain"]), text], parts
+    return "event_calls", [chance.choice(["document", "document_bytes"]), text], parts
 
 
 def run_of(fields, place):

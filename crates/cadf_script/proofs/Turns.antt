@@ -25,11 +25,6 @@ use Rattle.std.proofs.Common.{
 }
 use Rattle.std.specs.Prelude.{MatchOption, IfOk, decimal}
 use Rattle.std.specs.declared.alloc.AllocError.{AllocError}
-use Rattle.serde_json.specs.Data.{Data}
-use Rattle.serde_json.specs.Read.{read}
-use Rattle.serde_json.specs.Written.{has_float}
-use Rattle.cadf_json.specs.Value.{SpellsValue, IsNoJson, IsNotWhole}
-use Rattle.cadf_event.specs.Document.{DocumentParts, IsDocument}
 use Rattle.cadf_rehearsal.specs.declared.turn.Turn.{Turn}
 use Rattle.cadf_rehearsal.specs.declared.turn.Turn.TheVariants.{Learn as Learns, Ask as Asks, Answer as Answers, Send as Sends, Deliver as Delivers}
 use Rattle.cadf_script.specs.declared.line.Command.TheVariants.{Learn, Ask, Answer, Send, Deliver}
@@ -115,25 +110,3 @@ no_learn_text words text site at none (Delivers m s) e h = other_command e
   where
     other_command : Deliver ≡ Learn → ⊥
     other_command e = cc
-
--- ---- documents
-
-pub no_json : (text : List ℕ) → IsNoJson text → SpellsNoDocument text
-no_json text none doc (d, (spells, h)) = clash (read text) d (none spells.0) spells.1
-  where
-    clash : (r : Option Data) (d : Data) → r ≡ None → r ≡ Some d → ⊥
-    clash r d a b = cc
-
-one_value : (text : List ℕ) (d e : Data) → read text ≡ Some d → read text ≡ Some e → d ≡ e
-one_value text d e h k = cc
-
-pub not_whole : (text : List ℕ) → IsNotWhole text → SpellsNoDocument text
-not_whole text (e, utf8, found, floats) doc (d, (spells, h)) =
-    true≢false (sym floats ∙ ap has_float (one_value text e d found spells.1) ∙ spells.2)
-
-pub document_of_json : (text : List ℕ) (json : Data) → SpellsValue text json → (r : Result (Option DocumentParts) AllocError)
-    → IfOk r (λ found. MatchOption found ((d : DocumentParts) → ¬ IsDocument json d) (IsDocument json))
-    → IfOk r (λ found. MatchOption found (SpellsNoDocument text) (IsDocumentOf text))
-document_of_json text json spells (Ok (Some doc)) h = (json, (spells, h))
-document_of_json text json spells (Ok None) h = λ doc k. h doc (subst (λ x. IsDocument x doc) (one_value text k.0 json k.1.0.1 spells.1) k.1.1)
-document_of_json text json spells (Err f) h = tt

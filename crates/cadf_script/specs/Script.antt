@@ -4,7 +4,7 @@
 --     IsScript bytes turns     the bytes spell these turns
 --     IsFirstBad lines n       the line of that number, from 1, is the first that spells none
 use Rattle.std.specs.Prelude.{◌≡◌, ◌<◌, ◌^◌, ◌==◌, ◌⊎◌, ℕ, suc, List, [], ◌∷◌, ◌++◌, if◌then◌else◌, codes, decimal}
-pub use Rattle.cadf_event.specs.EventsRead.{IsDocumentOf}
+pub use Rattle.cadf_event.specs.DocumentBytes.{IsDocumentOf}
 use Rattle.cadf_event.specs.Parts.{EachPair}
 use Rattle.cadf_rehearsal.specs.declared.turn.Turn.{Turn}
 use Rattle.cadf_rehearsal.specs.declared.turn.Turn.TheVariants.{Learn, Ask, Answer, Send, Deliver}

@@ -1,12 +1,10 @@
 //! A line, and the turn that it spells.
 ghost use Rattle.std.specs.Prelude.{◌≡◌, ◌≢◌, MatchOption, IfOk};
-ghost use Rattle.cadf_event.specs.Document.{DocumentParts, IsDocument};
 ghost use Rattle.cadf_script.specs.Script.{Command as CommandOf, word_of, IsDocumentOf, IsTurn, IsNoTurn};
 ghost use Rattle.cadf_script.specs.Words.{SpellsNoDocument, HasArguments};
 
 use crate::words::{cut_at_blank, number, site_and_text, two_numbers};
-use cadf_event::{Document, DocumentFault};
-use cadf_json::{Json, JsonFault, Memory};
+use cadf_event::{Document, DocumentBytesFault, Memory};
 use cadf_rehearsal::Turn;
 use std::alloc::Global;
 
@@ -42,26 +40,13 @@ fn command_named(word: &[u8]) -> Option<Command>
     None
 }
 
-/// The document that the value of a text is.
-fn document(alloc: Global, json: &Json) -> Result<Option<Document>, Memory>
-    ensures { IfOk result (λ found. MatchOption found ((d : DocumentParts) → ¬ IsDocument json.now d) (IsDocument json.now)) }
-{
-    match Document::read(alloc, &json.view()) {
-        Ok(document) => Ok(Some(document)),
-        Err(fault) => match fault {
-            DocumentFault::Memory => Err(Memory),
-            _ => Ok(None),
-        },
-    }
-}
-
 /// The document that the text spells.
 fn document_of(alloc: Global, text: &[u8]) -> Result<Option<Document>, Memory>
     ensures { IfOk result (λ found. MatchOption found (SpellsNoDocument text.now) (IsDocumentOf text.now)) }
 {
-    match Json::read(alloc, text) {
-        Ok(json) => document(alloc, &json),
-        Err(JsonFault::Memory) => Err(Memory),
+    match Document::read_bytes(alloc, text) {
+        Ok(document) => Ok(Some(document)),
+        Err(DocumentBytesFault::Memory) => Err(Memory),
         Err(_) => Ok(None),
     }
 }

@@ -4,7 +4,7 @@ ghost use Rattle.cadf_script.specs.Script.{IsScript, IsScriptFault};
 
 use crate::line::read_turn;
 use crate::words::place_of;
-use cadf_json::Memory;
+use cadf_event::Memory;
 use cadf_rehearsal::Turn;
 use std::alloc::Global;
 use thiserror::Error;

@@ -49,7 +49,7 @@ fn told(alloc: Global, document: &Document) -> Result<String, Memory> {
     Ok(line)
 }
 
-/// Answers what the text is read as, or why it is no document.
+/// Answers the document that the text's value is, or why it is none.
 pub(crate) fn document(alloc: Global, text: &str) -> Result<String, Memory> {
     match Json::read(alloc, text.as_bytes()) {
         Ok(json) => match Document::read(alloc, &json.view()) {
@@ -60,11 +60,10 @@ pub(crate) fn document(alloc: Global, text: &str) -> Result<String, Memory> {
     }
 }
 
-/// Answers what the text is read as an event at a time, or why it is no document.
-pub(crate) fn plain(alloc: Global, text: &str) -> Result<String, Memory> {
-    match Document::read_streaming(alloc, text) {
-        Ok(Ok(document)) => told(alloc, &document),
-        Ok(Err(fault)) => calls::refused(alloc, &fault),
-        Err(unread) => calls::refused(alloc, &unread),
+/// Answers the document that the bytes are, or why they are none.
+pub(crate) fn of_bytes(alloc: Global, bytes: &[u8]) -> Result<String, Memory> {
+    match Document::read_bytes(alloc, bytes) {
+        Ok(document) => told(alloc, &document),
+        Err(fault) => calls::refused(alloc, &fault),
     }
 }

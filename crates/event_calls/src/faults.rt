@@ -14,14 +14,6 @@ fn told(alloc: Global, fault: Option<impl Display + Drop>) -> Result<String, Mem
     }
 }
 
-/// Answers the fault of the document that the text is.
-fn document(alloc: Global, text: &str) -> Result<String, Memory> {
-    match Json::read(alloc, text.as_bytes()) {
-        Ok(json) => told(alloc, Document::read(alloc, &json.view()).err()),
-        Err(fault) => told(alloc, Some(fault)),
-    }
-}
-
 /// Answers the fault of the property of that name.
 fn property(alloc: Global, name: &str, text: &str) -> Result<String, Memory> {
     match Json::read(alloc, text.as_bytes()) {
@@ -38,7 +30,7 @@ pub(crate) fn shown(alloc: Global, call: &Call) -> Result<String, Memory> {
         "name" => told(alloc, Name::read(alloc, text).err()),
         "canonical" => told(alloc, Json::read_canonical(alloc, text).err()),
         "body" => told(alloc, Body::read(alloc, text).err()),
-        "document" => document(alloc, text),
+        "document" => told(alloc, Document::read_bytes(alloc, text.as_bytes()).err()),
         _ => property(alloc, text, call.text(3)),
     }
 }

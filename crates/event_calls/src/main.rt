@@ -33,7 +33,7 @@ fn answer(alloc: Global, line: &str) -> Result<String, Memory> {
         "entity" => parts::entity(alloc, text, call.text(2)),
         "property" => parts::property(alloc, text, call.text(2)),
         "document" => documents::document(alloc, text),
-        "plain" => documents::plain(alloc, text),
+        "document_bytes" => documents::of_bytes(alloc, call.bytes(1)),
         "fault" => faults::shown(alloc, &call),
         _ => calls::answer(alloc, "no such call", &[]),
     }
@@ -50,6 +50,7 @@ fn known() {
     laws::one_entity_fault();
     laws::one_property_fault();
     laws::one_document_fault();
+    laws::one_document_bytes_fault();
 }
 
 fn main(rt: HostRuntime) -> io::Result<()> {

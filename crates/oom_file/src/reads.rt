@@ -1,6 +1,6 @@
 //! Files, documents and values that are read.
 use crate::examples::{DOCUMENT, FILE, LIMIT, in_pieces, is_file, replica_of};
-use cadf_event::{Document, DocumentFault};
+use cadf_event::{Document, DocumentBytesFault};
 use cadf_file::{FileFault, read_replica};
 use cadf_json::{Json, JsonFault};
 use oom_support::{Report, seen, told};
@@ -30,14 +30,9 @@ fn spells_document(alloc: Global, json: &Json) -> Option<bool> {
 
 /// A reading reads the document, or answers `Memory`.
 pub fn document(alloc: Global) -> Option<Report> {
-    let json = Json::read(alloc, DOCUMENT.as_bytes()).ok()?;
-    document_of(alloc, &json)
-}
-
-fn document_of(alloc: Global, json: &Json) -> Option<Report> {
-    match Document::read(alloc, &json.view()) {
+    match Document::read_bytes(alloc, DOCUMENT.as_bytes()) {
         Ok(document) => seen(contributes(alloc, &document)),
-        Err(fault) => Some(told(true, fault == DocumentFault::Memory)),
+        Err(fault) => Some(told(true, fault == DocumentBytesFault::Memory)),
     }
 }
 

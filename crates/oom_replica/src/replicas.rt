@@ -1,7 +1,6 @@
 //! Replicas that are made, and compared.
 use crate::cases::Case;
 use cadf_event::{Document, Name};
-use cadf_json::Json;
 use cadf_set::Replica;
 use std::alloc::Global;
 
@@ -46,8 +45,7 @@ impl Held {
 
 /// The document of that text.
 pub fn document(alloc: Global, text: &str) -> Option<Document> {
-    let json = Json::read(alloc, text.as_bytes()).ok()?;
-    Document::read(alloc, &json.view()).ok()
+    Document::read_bytes(alloc, text.as_bytes()).ok()
 }
 
 /// A replica that took the document.

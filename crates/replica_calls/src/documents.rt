@@ -3,7 +3,7 @@
 use crate::spelled::replica;
 use crate::told;
 use cadf_event::Document;
-use cadf_json::{Json, Memory};
+use cadf_json::Memory;
 use cadf_replica::Replica;
 use calls::{Call, answer, refused};
 use std::alloc::Global;
@@ -11,14 +11,7 @@ use std::alloc::Global;
 /// Answers the call of that name.
 pub(crate) fn answered(alloc: Global, name: &str, call: &Call) -> Result<String, Memory> {
     let ours = replica(alloc, call.text(1))?;
-    match Json::read(alloc, call.text(2).as_bytes()) {
-        Ok(json) => of_json(alloc, name, ours, &json),
-        Err(fault) => refused(alloc, &fault),
-    }
-}
-
-fn of_json(alloc: Global, name: &str, ours: Replica, json: &Json) -> Result<String, Memory> {
-    match Document::read(alloc, &json.view()) {
+    match Document::read_bytes(alloc, call.bytes(2)) {
         Ok(document) => of_document(alloc, name, ours, &document),
         Err(fault) => refused(alloc, &fault),
     }

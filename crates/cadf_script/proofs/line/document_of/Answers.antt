@@ -1,5 +1,6 @@
-use Rattle.cadf_script.proofs.Turns.{document_of_json}
+use Rattle.cadf_event.proofs.BytesFaults.{no_bytes_fault_each}
 use Rattle.cadf_script.proofs.line.document_of.Goals as goal
 
-pub returns-in-Ok : goal.returns-in-Ok
-returns-in-Ok c = document_of_json c.args.text.now c.in-Ok.json c.in-Ok.ensures.ok c.document.result c.document.ensures
+pub returns-in_default : goal.returns-in_default
+returns-in_default c doc h =
+    no_bytes_fault_each c.args.text.now doc c.in-Err.fault c.in_default.not-Memory h c.in-Err.ensures
