@@ -46,8 +46,10 @@ fn document_of(alloc: Global, text: &[u8]) -> Result<Option<Document>, Memory>
 {
     match Document::read_bytes(alloc, text) {
         Ok(document) => Ok(Some(document)),
-        Err(DocumentBytesFault::Memory) => Err(Memory),
-        Err(_) => Ok(None),
+        Err(fault) => match fault {
+            DocumentBytesFault::Memory => Err(Memory),
+            _ => Ok(None),
+        },
     }
 }
 
