@@ -32,12 +32,17 @@ fn read(alloc: Global, line: &str) -> Result<String, Memory> {
 
 fn told_of(alloc: Global, name: &str, atom: Atom, call: &Call) -> Result<String, Memory> {
     match name {
-        "line" => answer(alloc, "ok", &[atom.line(alloc)?.as_str()]),
+        "line" => line(alloc, &atom),
         "digest" => digest(alloc, &atom),
         "compare" => compared(alloc, &atom, call.text(2)),
         "new" => told::texts(alloc, Atom::new(atom.into_parts()).parts()),
         _ => answer(alloc, "no such call", &[]),
     }
+}
+
+/// Answers the line of the atom.
+fn line(alloc: Global, atom: &Atom) -> Result<String, Memory> {
+    answer(alloc, "ok", &[atom.line(alloc)?.as_str()])
 }
 
 /// Answers the digits of the atom's digest.

@@ -11,17 +11,17 @@ pub(crate) fn answered(alloc: Global, name: &str, call: &Call) -> Result<String,
     let ours = replica(alloc, call.text(1))?;
     let (id, body) = (call.text(2), call.text(3));
     match name {
-        "chains" => told::lists(alloc, &ours.chains(id, body)?),
-        "longest_chain" => longest(alloc, ours.longest_chain(id, body)?),
-        "tags" => told::texts(alloc, &ours.tags(id, body)?),
-        "attachments" => told::texts(alloc, &ours.attachments(id, body)?),
+        "chains" => told::found_lists(alloc, ours.chains(id, body)),
+        "longest_chain" => longest(alloc, ours.longest_chain(id, body)),
+        "tags" => told::found_texts(alloc, ours.tags(id, body)),
+        "attachments" => told::found_texts(alloc, ours.attachments(id, body)),
         _ => answer(alloc, "no such call", &[]),
     }
 }
 
 /// Answers the JSON list of the chain's steps, if there is one.
-fn longest(alloc: Global, chain: Option<Vec<String>>) -> Result<String, Memory> {
-    match chain {
+fn longest(alloc: Global, chain: Result<Option<Vec<String>>, Memory>) -> Result<String, Memory> {
+    match chain? {
         Some(chain) => told::text(alloc, Some(of_list(alloc, &chain)?)),
         None => told::text(alloc, None),
     }

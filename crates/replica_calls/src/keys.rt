@@ -13,10 +13,10 @@ pub(crate) fn answered(alloc: Global, name: &str, call: &Call) -> Result<String,
     let letter = letter_at(call, 2);
     let key = call.text(3);
     match name {
-        "least_key" => told::text(alloc, ours.key_after(letter, None)?),
-        "key_after" => told::text(alloc, ours.key_after(letter, Some(key))?),
-        "values" => told::texts(alloc, &ours.values(letter, key)?),
-        "ruled" => told::text(alloc, ours.ruled(letter, key)?),
+        "least_key" => told::found_text(alloc, ours.key_after(letter, None)),
+        "key_after" => told::found_text(alloc, ours.key_after(letter, Some(key))),
+        "values" => told::found_texts(alloc, ours.values(letter, key)),
+        "ruled" => told::found_text(alloc, ours.ruled(letter, key)),
         _ => match KeyKind::of(letter) {
             Some(kind) => told_of_kind(alloc, name, &ours, kind, key),
             None => answer(alloc, "no such kind", &[]),
@@ -32,9 +32,9 @@ fn told_of_kind(
     key: &str,
 ) -> Result<String, Memory> {
     match name {
-        "keys" => told::texts(alloc, &ours.keys(kind)?),
-        "conflicted_keys" => told::texts(alloc, &ours.conflicted_keys(kind)?),
-        "shown" => told::text(alloc, ours.shown(kind, key)?),
+        "keys" => told::found_texts(alloc, ours.keys(kind)),
+        "conflicted_keys" => told::found_texts(alloc, ours.conflicted_keys(kind)),
+        "shown" => told::found_text(alloc, ours.shown(kind, key)),
         _ => answer(alloc, "no such call", &[]),
     }
 }

@@ -10,10 +10,22 @@ use std::alloc::Global;
 /// Answers the call of that name.
 pub(crate) fn answered(alloc: Global, name: &str, call: &Call) -> Result<String, Memory> {
     let ours = replica(alloc, call.text(1))?;
-    if name == "missing_by" {
-        return told::part(alloc, ours.missing_by(&inventory(alloc, call.text(2))?));
+    match name {
+        "missing_by" => missing_by(alloc, &ours, call.text(2)),
+        _ => told_with(alloc, name, ours, call.text(2)),
     }
-    told_of_both(alloc, name, ours, &replica(alloc, call.text(2))?)
+}
+
+/// Answers the part that the inventory of the word lacks.
+fn missing_by(alloc: Global, ours: &Replica, word: &str) -> Result<String, Memory> {
+    let theirs = inventory(alloc, word)?;
+    told::part(alloc, ours.missing_by(&theirs))
+}
+
+/// Answers a call about a replica and that of the word.
+fn told_with(alloc: Global, name: &str, ours: Replica, word: &str) -> Result<String, Memory> {
+    let theirs = replica(alloc, word)?;
+    told_of_both(alloc, name, ours, &theirs)
 }
 
 fn told_of_both(

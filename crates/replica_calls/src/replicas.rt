@@ -14,14 +14,19 @@ pub(crate) fn answered(alloc: Global, name: &str, call: &Call) -> Result<String,
     match name {
         "atom_count" => told::number(alloc, ours.atom_count()),
         "conflict_count" => told::number(alloc, ours.conflict_count()),
-        "copy" => told::replica(alloc, &ours.copy()?),
-        "walk" => told::lists(alloc, &lists(alloc, &ours)?),
+        "copy" => told::made(alloc, ours.copy()),
+        "walk" => told::found_lists(alloc, lists(alloc, &ours)),
         "inventory" => noted(alloc, &ours),
-        "least_atom" => found(alloc, ours.atom_after(None)?),
-        _ => match atom(alloc, call.text(2))? {
-            Some(atom) => told_of_atom(alloc, name, ours, &atom),
-            None => answer(alloc, "no atom", &[]),
-        },
+        "least_atom" => found(alloc, ours.atom_after(None)),
+        _ => told_with(alloc, name, ours, call.text(2)),
+    }
+}
+
+/// Answers a call about a replica and the atom of the line.
+fn told_with(alloc: Global, name: &str, ours: Replica, line: &str) -> Result<String, Memory> {
+    match atom(alloc, line)? {
+        Some(atom) => told_of_atom(alloc, name, ours, &atom),
+        None => answer(alloc, "no atom", &[]),
     }
 }
 
@@ -29,7 +34,7 @@ pub(crate) fn answered(alloc: Global, name: &str, call: &Call) -> Result<String,
 fn told_of_atom(alloc: Global, name: &str, ours: Replica, atom: &Atom) -> Result<String, Memory> {
     match name {
         "holds" => told::truth(alloc, ours.holds(atom)),
-        "atom_after" => found(alloc, ours.atom_after(Some(atom))?),
+        "atom_after" => found(alloc, ours.atom_after(Some(atom))),
         "put" => put(alloc, ours, atom),
         "put_texts" => put_texts(alloc, ours, atom),
         "put_last" => put_last(alloc, ours, atom),
@@ -38,8 +43,8 @@ fn told_of_atom(alloc: Global, name: &str, ours: Replica, atom: &Atom) -> Result
 }
 
 /// Answers the line of the atom, if there is one.
-fn found(alloc: Global, atom: Option<Atom>) -> Result<String, Memory> {
-    match atom {
+fn found(alloc: Global, atom: Result<Option<Atom>, Memory>) -> Result<String, Memory> {
+    match atom? {
         Some(atom) => told::text(alloc, Some(atom.line(alloc)?)),
         None => told::text(alloc, None),
     }

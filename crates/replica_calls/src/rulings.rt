@@ -15,8 +15,8 @@ pub(crate) fn answered(alloc: Global, name: &str, call: &Call) -> Result<String,
             alloc,
             Ruling::of(alloc, letter_at(call, 1), call.text(2), call.text(3)),
         ),
-        "take" => taken(alloc, replica(alloc, call.text(1))?, read(alloc, call, 2)),
-        "rulings" => listed(alloc, &replica(alloc, call.text(1))?),
+        "take" => taken(alloc, replica(alloc, call.text(1)), read(alloc, call, 2)),
+        "rulings" => listed(alloc, replica(alloc, call.text(1))),
         _ => answer(alloc, "no such call", &[]),
     }
 }
@@ -49,23 +49,31 @@ fn spelled(alloc: Global, ruling: &Ruling) -> Result<String, Memory> {
 /// Answers what the replica is with the ruling.
 fn taken(
     alloc: Global,
-    mut ours: Replica,
+    ours: Result<Replica, Memory>,
     read: Result<Ruling, RulingFault>,
 ) -> Result<String, Memory> {
+    let ours = ours?;
     match read {
-        Ok(ruling) => {
-            ours.take_ruling(&ruling)?;
-            told::replica(alloc, &ours)
-        }
+        Ok(ruling) => with_ruling(alloc, ours, &ruling),
         Err(fault) => refused(alloc, &fault),
     }
 }
 
+fn with_ruling(alloc: Global, mut ours: Replica, ruling: &Ruling) -> Result<String, Memory> {
+    ours.take_ruling(ruling)?;
+    told::replica(alloc, &ours)
+}
+
 /// Answers the rulings of the replica, each its letter, key and digest, as fields.
-fn listed(alloc: Global, ours: &Replica) -> Result<String, Memory> {
+fn listed(alloc: Global, ours: Result<Replica, Memory>) -> Result<String, Memory> {
+    let rulings = ours?.rulings()?;
+    spelled_all(alloc, rulings.as_slice())
+}
+
+fn spelled_all(alloc: Global, rulings: &[Ruling]) -> Result<String, Memory> {
     let mut line = answer(alloc, "ok", &[])?;
-    for ruling in ours.rulings()? {
-        push_ruling(&mut line, &ruling)?;
+    for ruling in rulings {
+        push_ruling(&mut line, ruling)?;
     }
     Ok(line)
 }

@@ -29,6 +29,14 @@ pub(crate) fn text(alloc: Global, found: Option<String>) -> Result<String, Memor
     }
 }
 
+/// Answers `ok` with the text that was found, or with none.
+pub(crate) fn found_text(
+    alloc: Global,
+    found: Result<Option<String>, Memory>,
+) -> Result<String, Memory> {
+    text(alloc, found?)
+}
+
 /// Answers `ok` with these texts, each a field.
 pub(crate) fn texts(alloc: Global, texts: &[String]) -> Result<String, Memory> {
     let mut line = answer(alloc, "ok", &[])?;
@@ -38,8 +46,16 @@ pub(crate) fn texts(alloc: Global, texts: &[String]) -> Result<String, Memory> {
     Ok(line)
 }
 
+/// Answers `ok` with the texts that were found, each a field.
+pub(crate) fn found_texts(
+    alloc: Global,
+    found: Result<Vec<String>, Memory>,
+) -> Result<String, Memory> {
+    texts(alloc, &found?)
+}
+
 /// Answers `ok` with these lists, each a field.
-pub(crate) fn lists(alloc: Global, lists: &[Vec<String>]) -> Result<String, Memory> {
+fn lists(alloc: Global, lists: &[Vec<String>]) -> Result<String, Memory> {
     let mut line = answer(alloc, "ok", &[])?;
     for list in lists {
         push(&mut line, of_list(alloc, list)?.as_str())?;
@@ -47,10 +63,23 @@ pub(crate) fn lists(alloc: Global, lists: &[Vec<String>]) -> Result<String, Memo
     Ok(line)
 }
 
+/// Answers `ok` with the lists that were found, each a field.
+pub(crate) fn found_lists(
+    alloc: Global,
+    found: Result<Vec<Vec<String>>, Memory>,
+) -> Result<String, Memory> {
+    lists(alloc, &found?)
+}
+
 /// Answers `ok` with the replica.
 pub(crate) fn replica(alloc: Global, replica: &Replica) -> Result<String, Memory> {
     let lines = of_replica(alloc, replica)?;
     answer(alloc, "ok", &[lines.as_str()])
+}
+
+/// Answers `ok` with the replica that was made.
+pub(crate) fn made(alloc: Global, made: Result<Replica, Memory>) -> Result<String, Memory> {
+    replica(alloc, &made?)
 }
 
 /// Answers how a change came out, and what the replica then is.
