@@ -1,6 +1,6 @@
 """What can be named from outside a crate: its public items, those of its public modules, what it exports, and methods.
 
-A name is a path behind the crate: `Replica`, `laws::rules_law`, `Replica::join`. A method has its type's or trait's name.
+A name is a path behind the crate: `Replica`, `laws::atom_rules_match_documents`, `Replica::join`. A method has its type's or trait's name.
 """
 import collections
 import functools

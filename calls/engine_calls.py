@@ -18,7 +18,7 @@ from texts import C1, K1, V1, V2, digits, document, inventory, replica
 
 CALLS = {
     "each": [],
-    "load": ["load", "Loaded::log", "ReplicaFeed::after_mark"],
+    "load": ["load", "Loaded::log", "ReplicaFeed::after_magic"],
     "load_within": ["load_within"],
     "run_join": ["run_join"],
     "run_missing": ["run_missing"],
@@ -29,7 +29,7 @@ CALLS = {
     "run_show": ["run_show"],
     "run_check": ["run_check"],
     "fault": ["exit_status"],
-    "metered": ["CountingSink::new", "CountingSink::bytes_written", "CountingSink::check_limit", "CountingSink::into_inner"],
+    "metered": ["CountingSink::new", "CountingSink::bytes_written", "CountingSink::over_limit", "CountingSink::into_inner"],
 }
 
 COMMANDS, FAULTS, STREAMS = "What the commands write", "Fault lines", "ARCHITECTURE: Inputs and outputs"

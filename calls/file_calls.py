@@ -11,7 +11,7 @@ from texts import (
     B1, B3, BF, C1, C2, CF, E3, K1, KF, S0, S1, S2, T3, digits, inventory, line, nested, quoted, replica, tree)
 
 CALLS = {
-    "read": ["read_replica", "read_file", "LineDecoder::start", "LineDecoder::new", "LineDecoder::accept", "LineDecoder::unended_cause", "Either::into_side",
+    "read": ["read_replica", "read_file", "LineDecoder::start", "LineDecoder::new", "LineDecoder::accept", "LineDecoder::cause_of_previous", "EitherDecoder::into_chosen",
              "next_path_kind"],
     "each_failing_read": ["read_replica"],
     "each_prefix": ["read_replica"],

@@ -15,7 +15,7 @@ CALLS = {
     "atom.kind_of_text": ["KeyKind::read"],
     "path.kind": ["path_kind"],
     "path.kind_with": ["path_kind_with"],
-    "path.may_follow": ["may_follow"],
+    "path.can_extend_atom": ["can_extend_atom"],
     "path.log_name": ["log_name"],
     "replica.copy": ["Replica::new", "Replica::log", "Replica::copy"],
     "replica.atom_count": ["Replica::atom_count"],
@@ -26,8 +26,8 @@ CALLS = {
     "replica.atom_after": ["Replica::atom_after"],
     "replica.holds": ["Replica::holds"],
     "replica.put": ["Replica::put"],
-    "replica.put_texts": ["Replica::put_texts"],
-    "replica.put_last": ["Replica::put_last"],
+    "replica.put_parts": ["Replica::put_parts"],
+    "replica.push_if_last": ["Replica::push_if_last"],
     "pair.same": ["Replica::same"],
     "pair.join": ["Replica::join"],
     "pair.join_twice": ["Replica::join_twice"],
@@ -167,7 +167,7 @@ for letter, more, may in [
         ("E", ["T", "x"], True), ("E", ["C", S1], True), ("E", ["C", S1, S2], True), ("E", ["A", "{}"], True), ("E", [], False), ("E", ["C"], False),
         ("E", ["T", ""], False), ("E", ["T", "x", "y"], False), ("E", ["A", "1"], False), ("E", ["A", "{ }"], False), ("E", ["C", "{}"], False),
         ("E", ["X", "x"], False), ("P", ["T", "x"], False), ("R", ["C", S1], False), ("U", ["T", "x"], False)]:
-    row("Atoms", "path.may_follow", [letter, *more], "ok", may)
+    row("Atoms", "path.can_extend_atom", [letter, *more], "ok", may)
 
 for text, name in [('"g"', "g"), ('"openstack:audit"', "openstack:audit"), ('"a\\\\b"', "a\\b"), ("g", None), ('""', None), ("7", None),
                    (' "g"', None), ('"\\u0067"', None), ('"\x7f"', None)]:
@@ -209,7 +209,7 @@ row("Atoms", "document.take_entities", [held(), ENTITIES], "ok", held(G1, M1, R1
 row("Atoms", "document.take_properties", [held(), ENTITIES], "ok", held(NORTH))
 
 # ---- Atoms that are put.
-for call in ["replica.put", "replica.put_texts"]:
+for call in ["replica.put", "replica.put_parts"]:
     row(REPLICA, call, [held(), C1], "ok", held(C1))
     row(REPLICA, call, [held(C1), K1], "ok", held(C1, K1))
     row(REPLICA, call, [held(C1, K1), C1], "ok", held(C1, K1))
@@ -218,10 +218,10 @@ for call in ["replica.put", "replica.put_texts"]:
     row(REPLICA, call, [held(C2), LT], "err", "Ungrounded", held(C2))
     row(REPLICA, call, [held(C1), UF], "ok", held(C1, UF))
 for before, text, after in [(held(C1), K1, held(C1, K1)), (held(C1, K1), C2, held(C1, K1, C2)), (held(), R1, held(R1))]:
-    row(REPLICA, "replica.put_last", [before, text], "ok", after)
+    row(REPLICA, "replica.push_if_last", [before, text], "ok", after)
 for before, text in [(held(C1, K1), CF), (held(C1), C1), (held(C1, LT), K1)]:
-    row(REPLICA, "replica.put_last", [before, text], "not above")
-row(REPLICA, "replica.put_last", [held(CF), K1], "err", "Ungrounded", held(CF))
+    row(REPLICA, "replica.push_if_last", [before, text], "not above")
+row(REPLICA, "replica.push_if_last", [held(CF), K1], "err", "Ungrounded", held(CF))
 
 # ---- What a replica says of itself.
 CONFLICT = held(CF, KF, C1, K1)

@@ -73,7 +73,7 @@ def path_kind(*texts):
     return ["ok", "Whole" if is_atom(texts) else "Prefix" if is_front(texts) else "Not"]
 
 
-def may_follow(letter, *texts):
+def can_extend_atom(letter, *texts):
     """Whether the texts may stand behind an atom of three with that letter."""
     try:
         return ["ok", letter == "E" and len(texts) > 1 and is_part(texts[0], texts[1:])]
@@ -117,7 +117,7 @@ def put(before, line):
     return ["ok", held(log, atoms | {atom})]
 
 
-def put_last(before, line):
+def push_if_last(before, line):
     """The fields of an atom that is put where it is above all others."""
     _, atoms = replica_of(before)
     return put(before, line) if not atoms or max(atoms) < atom_of(line.encode()) else ["not above"]
@@ -271,16 +271,16 @@ CALLS = [
         "atom.digest": lambda line: ["ok", digest_of(atom_of(line.encode()))]}),
     (words.two_lines, {"atom.compare": compared}),
     (words.some_path, {"path.kind": path_kind, "path.kind_with": path_kind}),
-    (words.rest_words, {"path.may_follow": may_follow}),
+    (words.rest_words, {"path.can_extend_atom": can_extend_atom}),
     (words.name_words, {"path.log_name": log_name}),
     (words.document_words, {
         "document.take": take_document, "document.take_sightings": taking("E"), "document.take_entities": taking("RGM"),
         "document.take_properties": taking("P")}),
     (words.atom_words, {
-        "replica.put": put, "replica.put_texts": put,
+        "replica.put": put, "replica.put_parts": put,
         "replica.holds": lambda word, line: [atom_of(line.encode()) in replica_of(word)[1]],
         "replica.atom_after": lambda word, line: atom_found(least_above(replica_of(word)[1], atom_of(line.encode())))}),
-    (words.last_words, {"replica.put_last": put_last}),
+    (words.last_words, {"replica.push_if_last": push_if_last}),
     (words.replica_words, {
         "replica.copy": of_itself(lambda log, atoms: ["ok", held(log, atoms)]), "replica.walk": of_itself(atom_lists),
         "replica.atom_count": of_itself(lambda log, atoms: [len(atoms)]),

@@ -8,7 +8,7 @@ mod stop;
 use crate::engines::run_engine;
 use crate::stop::{REFUSED, Stop, report};
 use cadf_json::FromStd;
-use cadf_tool::{CountingSink, FILE_LIMIT, Oversized, ToolFault};
+use cadf_tool::{CountingSink, FILE_LIMIT, OverLimit, ToolFault};
 use cadf_words::{Reply, Request, parse};
 use std::io::{BufWriter, Write};
 use std::process::ExitCode;
@@ -17,16 +17,16 @@ use std::{env, io};
 /// Flushes the buffer, and reports an output that is larger than an input may be.
 fn flushed<W: Write + Drop>(
     output: CountingSink<FromStd<W>>,
-) -> Result<Option<Oversized>, ToolFault> {
-    let check_limit = output.check_limit(FILE_LIMIT);
+) -> Result<Option<OverLimit>, ToolFault> {
+    let over_limit = output.over_limit(FILE_LIMIT);
     match output.into_inner().into_inner().flush() {
-        Ok(()) => Ok(check_limit),
+        Ok(()) => Ok(over_limit),
         Err(_) => Err(ToolFault::WriteFault),
     }
 }
 
 /// Runs the request's engine on standard output, and reports an output that is larger than an input may be.
-fn run_out(rt: &HostRuntime, request: &Request<'_>) -> Result<Option<Oversized>, Stop> {
+fn run_out(rt: &HostRuntime, request: &Request<'_>) -> Result<Option<OverLimit>, Stop> {
     let Ok(buffer) = BufWriter::new(rt.alloc(), io::writer(rt)) else {
         return Err(Stop::Tool(ToolFault::Memory));
     };
@@ -38,8 +38,8 @@ fn run_out(rt: &HostRuntime, request: &Request<'_>) -> Result<Option<Oversized>,
 /// Runs the request, and says what it ended with.
 fn run(rt: &HostRuntime, request: &Request<'_>) -> ExitCode {
     match run_out(rt, request) {
-        Ok(Some(check_limit)) => {
-            let _ = eprintln!(rt; "cadf: {check_limit}");
+        Ok(Some(over_limit)) => {
+            let _ = eprintln!(rt; "cadf: {over_limit}");
             ExitCode::SUCCESS
         }
         Ok(None) => ExitCode::SUCCESS,

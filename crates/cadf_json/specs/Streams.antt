@@ -24,8 +24,8 @@ use Rattle.std.specs.Prelude.{
   Err,
 }
 use Rattle.std.specs.Io.KnownBytes.{Appends, Consumes}
-use Rattle.cadf_json.specs.declared.transfer.ReadAllFault.{ReadAllFault}
-use Rattle.cadf_json.specs.declared.transfer.ReadAllFault.TheVariants.{TooLarge, ReadFault, Memory}
+use Rattle.cadf_json.specs.declared.transfer.ReadLimitFault.{ReadLimitFault}
+use Rattle.cadf_json.specs.declared.transfer.ReadLimitFault.TheVariants.{TooLarge, ReadFault, Memory}
 use Rattle.cadf_json.specs.declared.transfer.OutFault.{OutFault}
 use Rattle.cadf_json.specs.declared.transfer.OutFault.TheVariants.{WriteFault, Memory as OutOfMemory}
 
@@ -63,7 +63,7 @@ abbrev pub AppendsPrefix : Option (List ℕ) → Option (List ℕ) → List ℕ 
 AppendsPrefix old new bytes = (n : ℕ) × Appends old new (take n bytes)
 
 -- the source was not read whole, since a read failed
-abbrev pub is_read_fault : {T : Type 0} → Result T ReadAllFault → Bool
+abbrev pub is_read_fault : {T : Type 0} → Result T ReadLimitFault → Bool
 is_read_fault (Ok v) = false
 is_read_fault (Err TooLarge) = false
 is_read_fault (Err ReadFault) = true

@@ -29,7 +29,7 @@ pub use crate::read::TreeFault;
 pub use crate::skip::{check_list, has_json_syntax};
 pub use crate::stream::{Failed, FromStd, Sink, Source};
 pub use crate::streamed_object::{ItemVisitor, StreamedObject, read_object_streaming};
-pub use crate::transfer::{OutFault, ReadAllFault, read_rest, read_to_limit, write_all};
+pub use crate::transfer::{OutFault, ReadLimitFault, read_rest, read_to_limit, write_all};
 pub use crate::tree::Tree;
 pub use crate::value::{Json, JsonFault, quoted};
 pub use crate::view::View;

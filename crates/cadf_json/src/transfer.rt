@@ -13,7 +13,7 @@ const PIECE: usize = 4096;
 
 /// Says why a source was not read to its end.
 #[derive(Clone, Copy, Debug, Drop, PartialEq, Eq, Error)]
-pub enum ReadAllFault {
+pub enum ReadLimitFault {
     /// There are more bytes than the limit.
     #[error("too large")]
     TooLarge,
@@ -63,16 +63,16 @@ pub fn read_to_limit<S: Source>(
     alloc: Global,
     source: &mut S,
     limit: usize,
-) -> Result<Vec<u8>, ReadAllFault>
+) -> Result<Vec<u8>, ReadLimitFault>
     requires { limit < 2 ^ 63 }
     ensures bytes { IfOk result (λ v. Consumes (S.left source.old) (S.left source.new) v.items) }
     ensures end { OnOk result (IsAtEnd (S.left source.new)) }
     ensures limit { IfOk result (λ v. length v.items ≤ limit) }
-    ensures too_large { result ≡ Err ReadAllFault.TooLarge
+    ensures too_large { result ≡ Err ReadLimitFault.TooLarge
         → ConsumesExactly (S.left source.old) (S.left source.new) (limit + 1) }
-    ensures read_fault { result ≡ Err ReadAllFault.ReadFault
+    ensures read_fault { result ≡ Err ReadLimitFault.ReadFault
         → ConsumesAtMost (S.left source.old) (S.left source.new) limit }
-    ensures memory { result ≡ Err ReadAllFault.Memory
+    ensures memory { result ≡ Err ReadLimitFault.Memory
         → ConsumesAtMost (S.left source.old) (S.left source.new) (limit + 1) }
     ensures failures { S.failures source.new
         ≡ counted (is_read_fault result) (S.failures source.old) }
@@ -86,17 +86,17 @@ pub fn read_rest<S: Source>(
     source: &mut S,
     start: Vec<u8>,
     limit: usize,
-) -> Result<Vec<u8>, ReadAllFault>
+) -> Result<Vec<u8>, ReadLimitFault>
     requires { limit < 2 ^ 63 }
     ensures bytes { IfOk result (λ v. ConsumesAfter (S.left source.old) (S.left source.new)
         start.items v.items) }
     ensures end { OnOk result (IsAtEnd (S.left source.new)) }
     ensures limit { IfOk result (λ v. length v.items ≤ limit) }
-    ensures too_large { result ≡ Err ReadAllFault.TooLarge → ConsumesExactly
+    ensures too_large { result ≡ Err ReadLimitFault.TooLarge → ConsumesExactly
         (S.left source.old) (S.left source.new) (limit + 1 - length start.items) }
-    ensures read_fault { result ≡ Err ReadAllFault.ReadFault
+    ensures read_fault { result ≡ Err ReadLimitFault.ReadFault
         → ConsumesWithin (S.left source.old) (S.left source.new) (length start.items) limit }
-    ensures memory { result ≡ Err ReadAllFault.Memory
+    ensures memory { result ≡ Err ReadLimitFault.Memory
         → ConsumesWithin (S.left source.old) (S.left source.new) (length start.items) (limit + 1) }
     ensures failures { S.failures source.new
         ≡ counted (is_read_fault result) (S.failures source.old) }
@@ -110,13 +110,13 @@ pub fn read_rest<S: Source>(
         let count = match source.read(buffer) {
             Ok(0) => return Ok(bytes),
             Ok(count) => count,
-            Err(_) => return Err(ReadAllFault::ReadFault),
+            Err(_) => return Err(ReadLimitFault::ReadFault),
         };
         if bytes.extend_from_slice(&buffer[..count]).is_err() {
-            return Err(ReadAllFault::Memory);
+            return Err(ReadLimitFault::Memory);
         }
     }
-    Err(ReadAllFault::TooLarge)
+    Err(ReadLimitFault::TooLarge)
 }
 
 /// Writes all the bytes. `Err`: a write failed or took nothing, and a prefix was written.

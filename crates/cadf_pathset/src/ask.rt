@@ -81,7 +81,7 @@ impl PathSet {
     {
         let range = self.rows.suffixes(prefix);
         match range.longest() {
-            Some(number) => Ok(Some(range.copied(self.alloc, number)?)),
+            Some(number) => Ok(Some(range.to_strings(self.alloc, number)?)),
             None => Ok(None),
         }
     }

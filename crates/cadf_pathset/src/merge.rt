@@ -35,8 +35,8 @@ pub(crate) fn joined(alloc: Global, a: &PathVec, b: &PathVec) -> Result<PathVec,
             }
         }
     }
-    all.push_rest(more, &mut ours)?;
-    all.push_rest(others, &mut theirs)?;
+    all.extend_from_cursor(more, &mut ours)?;
+    all.extend_from_cursor(others, &mut theirs)?;
     Ok(all)
 }
 
@@ -64,6 +64,6 @@ pub(crate) fn without(alloc: Global, a: &PathVec, b: &PathVec) -> Result<PathVec
             }
         }
     }
-    left.push_rest(more, &mut ours)?;
+    left.extend_from_cursor(more, &mut ours)?;
     Ok(left)
 }

@@ -40,7 +40,7 @@ impl Nodes {
     }
 
     /// Returns one more than `depth`, or `depth` if no list has more texts.
-    pub fn deeper(&self, depth: usize) -> usize
+    pub fn next_depth(&self, depth: usize) -> usize
         ensures { (n : ℕ) → n ≤ length self.now → rest_of self.now result n ≡ drop 1 (rest_of self.now depth n) }
     {
         if depth < self.parents.len() {

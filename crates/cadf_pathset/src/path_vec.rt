@@ -137,7 +137,11 @@ impl PathVec {
     }
 
     /// Appends the list that the cursor is at, if `at_list`, and those ahead.
-    pub fn push_rest(&mut self, at_list: bool, cursor: &mut Cursor<'_>) -> Result<(), Memory>
+    pub fn extend_from_cursor(
+        &mut self,
+        at_list: bool,
+        cursor: &mut Cursor<'_>,
+    ) -> Result<(), Memory>
         ensures { OnOk result (self.new ≡ self.old ++ ahead at_list cursor.old) }
     {
         let mut more = at_list;

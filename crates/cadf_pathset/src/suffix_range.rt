@@ -157,7 +157,7 @@ impl<'a> SuffixRange<'a> {
         let (front, _) = self.numbers.split_at(high);
         let low = SuffixRange::new(self.nodes, front, self.depth).gallop_back(text);
         let (_, numbers) = front.split_at(low);
-        SuffixRange::new(self.nodes, numbers, self.nodes.deeper(self.depth))
+        SuffixRange::new(self.nodes, numbers, self.nodes.next_depth(self.depth))
     }
 
     /// Returns the least first text above the given one. For `None`, the least of all. Binary search.
@@ -244,7 +244,7 @@ impl<'a> SuffixRange<'a> {
     }
 
     /// Copies the suffix of that number.
-    pub fn copied(&self, alloc: Global, number: usize) -> Result<Vec<String>, Memory>
+    pub fn to_strings(&self, alloc: Global, number: usize) -> Result<Vec<String>, Memory>
         requires { number < length self.now }
         ensures { IfOk result (λ list. chain_texts list.items ≡ get_or self.now number []) }
     {

@@ -7,7 +7,7 @@ ghost use Rattle.cadf_rehearsal.specs.declared.turn.Turn.{Turn};
 ghost use Rattle.cadf_rehearsal.specs.Schedule.{World, after, plain, learnt_atoms, Means};
 
 /// A part with the inventory that it answers covers what its sender held, and what that inventory notes its asker holds from then on.
-pub fn answers_cover_their_senders()
+pub fn answer_with_inventory_covers_sender()
     ensures part { (digest : Texts → Text) (sender noted : Contents) → NoCollision digest (set.union sender noted)
         → IsWithin sender (set.union noted (missing_by digest sender (digests_of digest noted))) }
     ensures messages { (digest : Texts → Text) (log : Text) (sites : ℕ) (turns : List Turn) (world : World)
@@ -16,7 +16,7 @@ pub fn answers_cover_their_senders()
 {}
 
 /// Whatever is stale, lost, repeated or reordered: a site holds what it would if each answer carried the sender's whole set.
-pub fn schedules_are_plain()
+pub fn rehearsal_equals_full_exchange()
     ensures exact { (digest : Texts → Text) (log : Text) (sites : ℕ) (turns : List Turn) (world : World)
         → NoCollision digest (learnt_atoms turns) → after digest log sites turns ≡ Ok world
         → (j : ℕ) → world.sites j ≡ plain turns j }

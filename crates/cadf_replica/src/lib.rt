@@ -3,7 +3,7 @@
 
 pub mod laws;
 
-pub use cadf_atom::{Atom, AtomFault, KeyKind, PathKind, Ruling, RulingFault, may_follow};
+pub use cadf_atom::{Atom, AtomFault, KeyKind, PathKind, Ruling, RulingFault, can_extend_atom};
 pub use cadf_event::{Document, Entity, Name, Property, Sighting};
 pub use cadf_join::{Memory, Visitor};
 pub use cadf_line::Letter;

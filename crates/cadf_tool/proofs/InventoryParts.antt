@@ -19,7 +19,7 @@ use Rattle.cadf_tool.specs.Missing.{under_one_log}
 use Rattle.cadf_line.specs.Digest.{atom_digest}
 use Rattle.cadf_set.specs.Inventory.{InventoryModel, AreDigests}
 use Rattle.cadf_tool.specs.MissingBy.{inventory_model_under, inventory_model_of, missing_by_of}
-use Rattle.cadf_tool.specs.Exchange.{IsReadOf, IsInventoryModelOf}
+use Rattle.cadf_tool.specs.Exchange.{IsReadOf, IsInventoryReadOf}
 use Rattle.cadf_tool.proofs.DigestBytes.{are_digests}
 use Rattle.cadf_tool.proofs.KeptInputs.{input_kept, input_grounded}
 use Rattle.cadf_tool.proofs.HeldReplicas.{held_replica}
@@ -64,7 +64,7 @@ notes_inventory bytes loaded noted input n =
     }
 
 -- what was read of an inventory's file is what was noted of the input
-pub noted_by : (to : List ℕ → Type 0) (noted : InventoryModel) → IsInventoryModelOf to noted → (other : Loaded) × IsReadOf to other × Notes other noted
+pub noted_by : (to : List ℕ → Type 0) (noted : InventoryModel) → IsInventoryReadOf to noted → (other : Loaded) × IsReadOf to other × Notes other noted
 noted_by to noted (bytes, (other, written, read, made, is), input) =
     let n : Notes other written = notes other written made in
     let same : written ≡ noted = inventory-file-tells written noted (notes_inventory read.0 other written read.2 n) input.inventory (sym is ∙ input.is) in
@@ -76,13 +76,13 @@ pub record IsPartBy (from : Loaded) (noted : InventoryModel) (part : ReplicaMode
   pub log : log_named from ≡ Some part.log
   pub atoms : part.atoms ≡ missing_by atom_digest (atoms_loaded from) noted.digests
 
-abbrev held_under : Text → Contents → ReplicaModel
-held_under log atoms = record { log = log; atoms = atoms }
+abbrev replica_model_under : Text → Contents → ReplicaModel
+replica_model_under log atoms = record { log = log; atoms = atoms }
 
-held_same : (log : Text) (atoms : Contents) (h : ReplicaModel) → ◌≡◌ {A = Result ReplicaModel ToolFault} (Ok (held_under log atoms)) (Ok h)
+held_same : (log : Text) (atoms : Contents) (h : ReplicaModel) → ◌≡◌ {A = Result ReplicaModel ToolFault} (Ok (replica_model_under log atoms)) (Ok h)
     → (log ≡ h.log) × (h.atoms ≡ atoms)
 held_same log atoms h e =
-    let same : held_under log atoms ≡ h = cc in
+    let same : replica_model_under log atoms ≡ h = cc in
     (ap (λ (k : ReplicaModel). k.log) same, sym (ap (λ (k : ReplicaModel). k.atoms) same))
 
 pub part_by_is : (from : Loaded) (noted : InventoryModel) (part : ReplicaModel) → missing_by_of from noted ≡ Ok part → IsPartBy from noted part
@@ -91,7 +91,7 @@ part_by_is from noted part e = by (log_named from) refl e
     atoms : Contents
     atoms = missing_by atom_digest (atoms_loaded from) noted.digests
 
-    one_log : (name : Text) (b : Bool) → log_named from ≡ Some name → cond b (Err (OtherLog 2)) (Ok (held_under name atoms)) ≡ Ok part
+    one_log : (name : Text) (b : Bool) → log_named from ≡ Some name → cond b (Err (OtherLog 2)) (Ok (replica_model_under name atoms)) ≡ Ok part
         → IsPartBy from noted part
     one_log name true is k = absurd (cc)
     one_log name false is k = let same = held_same name atoms part k in record { log = is ∙ ap Some same.0; atoms = same.1 }

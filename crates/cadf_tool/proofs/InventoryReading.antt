@@ -8,7 +8,7 @@ use Rattle.cadf_linefile.specs.declared.fault.FileFault.{FileFault}
 use Rattle.cadf_linefile.specs.declared.fault.FileFault.TheVariants.{Version, LogLine, Line, Digest, Truncated, Trailing, TooLarge, ReadFault, Memory}
 use Rattle.cadf_linefile.proofs.ReadingLemmas as reading
 use Rattle.cadf_file.specs.InventoryReads.{ReadsInventory}
-use Rattle.cadf_file.specs.InventoryVerdict.{inventory_form, inventory_model_or_fault, inventory_decided, inventory_verdict}
+use Rattle.cadf_file.specs.InventoryVerdict.{inventory_grammar, inventory_model_or_fault, inventory_decided, inventory_verdict}
 use Rattle.cadf_file.proofs.InventoryVerdictLemmas.{accepts-inventories}
 use Rattle.cadf_linefile.specs.declared.file_feed.TheConstants.{FILE_LIMIT}
 use Rattle.cadf_tool.specs.InputFault.{of_file}
@@ -28,7 +28,7 @@ same_fault e f is = cc
 
 refused_verdict : (limit : ℕ) (failed : Bool) (bytes : List ℕ) (f : FileFault) → inventory_decided limit bytes ≡ Some f
     → inventory_verdict limit failed bytes ≡ Err f
-refused_verdict limit failed bytes f d = ap inventory_model_or_fault (reading.refused_verdict inventory_form limit failed bytes f d)
+refused_verdict limit failed bytes f d = ap inventory_model_or_fault (reading.refused_verdict inventory_grammar limit failed bytes f d)
 
 module _ (t : SourceTransition) where
   abbrev Reads : Result InventoryModel FileFault → Type 0

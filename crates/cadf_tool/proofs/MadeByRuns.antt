@@ -11,7 +11,7 @@ use Rattle.cadf_file.specs.InventoryFile.{inventory_file}
 use Rattle.cadf_tool.specs.WrittenFile.{file}
 use Rattle.cadf_linefile.specs.declared.file_feed.TheConstants.{FILE_LIMIT}
 use Rattle.cadf_tool.specs.declared.fault.ToolFault.{ToolFault}
-use Rattle.cadf_tool.specs.Told.{log_named, atoms_loaded, under_log, held_of}
+use Rattle.cadf_tool.specs.Told.{log_named, atoms_loaded, under_log, replica_model_of}
 use Rattle.cadf_tool.specs.Inputs.{SourceState, source_state}
 use Rattle.cadf_tool.specs.Run.{transition_of, Sources, one, two, all, input_spec, IsReadAs, IsExpectedOf, IsAnswer, IsRun}
 use Rattle.cadf_tool.specs.InventoryInput.{inventory_spec}
@@ -28,7 +28,7 @@ use Rattle.cadf_tool.specs.Exchange.{
   IsDerived,
   IsPartOf,
   IsInventoryOf,
-  IsInventoryModelOf,
+  IsInventoryReadOf,
   IsPartByOf,
   GivesFile,
   AreSources,
@@ -135,7 +135,7 @@ module _ {S W T : Type 0} (source : Source S) (sink : Sink W) (old new : W) (t :
           )
 
   noted_of_file : (to : List ℕ → Type 0) (by by_after : SourceState) (noted : InventoryModel) → GivesFile (IsInventoryOf to) by
-      → IsReadAs inventory_spec (record { old = by; new = by_after }) noted → IsInventoryModelOf to noted
+      → IsReadAs inventory_spec (record { old = by; new = by_after }) noted → IsInventoryReadOf to noted
   noted_of_file to by by_after noted (bytes, left, made) ((given, (consumed, at_end, input)), failures) =
       let of_given = Consumes-whole by.left by_after.left given (λ b. IsInventoryInput FILE_LIMIT b noted) consumed at_end input in
       (bytes, made, subst (λ o. IfSome o (λ b. IsInventoryInput FILE_LIMIT b noted)) left of_given)
@@ -172,11 +172,11 @@ held_named (Some log) atoms h e =
 module _ {S W T : Type 0} (source : Source S) (sink : Sink W) (old new : W) (t : T) (before : List ℕ)
     (begun : sink.written old ≡ Some before) (tell : ReplicaModel → Text) where
   pub text_makes : (m : Derivation) (input after : S) → GivesFile (λ b. IsDerived m b) (source_state source input)
-      → IsRun (one input_spec (transition_of source input after)) held_of tell sink old new (Ok t)
+      → IsRun (one input_spec (transition_of source input after)) replica_model_of tell sink old new (Ok t)
       → (text : Text) × (sink.written new ≡ Some (before ++ text)) × IsTextOf tell m text
-  text_makes m input after s run = by (run_ok (one input_spec (transition_of source input after)) held_of tell sink old new t run)
+  text_makes m input after s run = by (run_ok (one input_spec (transition_of source input after)) replica_model_of tell sink old new t run)
     where
-      by : HasRun (one input_spec (transition_of source input after)) held_of tell sink old new t
+      by : HasRun (one input_spec (transition_of source input after)) replica_model_of tell sink old new t
           → (text : Text) × (sink.written new ≡ Some (before ++ text)) × IsTextOf tell m text
       by (loaded, h, r, made, w) =
           let file_read = read_of (λ b. IsDerived m b) (source_state source input) (source_state source after) loaded s r in

@@ -1,13 +1,13 @@
 -- A sink whose bytes are counted, and the report of too many of them.
 use Rattle.std.specs.Prelude.{ℕ, ◌+◌, ◌-◌, ◌^◌, min, nat_lt, if◌then◌else◌, Option, Some, None, Result, Ok, Err}
 use Rattle.cadf_tool.specs.declared.counting_sink.CountingSink.{CountingSink}
-use Rattle.cadf_tool.specs.declared.counting_sink.Oversized.{Oversized}
+use Rattle.cadf_tool.specs.declared.counting_sink.OverLimit.{OverLimit}
 
-abbrev pub metered_sink : {W : Type 0} → CountingSink W → W
-metered_sink m = m.sink
+abbrev pub counting_sink_inner : {W : Type 0} → CountingSink W → W
+counting_sink_inner m = m.sink
 
-abbrev pub metered_taken : {W : Type 0} → CountingSink W → ℕ
-metered_taken m = m.taken
+abbrev pub counting_sink_taken : {W : Type 0} → CountingSink W → ℕ
+counting_sink_taken m = m.taken
 
 -- a count of bytes after a write, of 64 bits, which stays at its greatest value
 abbrev pub with_taken : {E : Type 0} → ℕ → Result ℕ E → ℕ
@@ -15,5 +15,5 @@ with_taken taken (Ok n) = min (taken + n) (2 ^ 64 - 1)
 with_taken taken (Err e) = taken
 
 -- the report of so many bytes that were written: none, up to the limit
-abbrev pub report_of : ℕ → ℕ → Option Oversized
+abbrev pub report_of : ℕ → ℕ → Option OverLimit
 report_of written limit = if nat_lt limit written then Some (record { written = written; limit = limit }) else None

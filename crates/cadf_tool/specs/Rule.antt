@@ -12,7 +12,7 @@ use Rattle.cadf_atom.specs.Shown.{values}
 use Rattle.cadf_tool.specs.declared.input.Loaded.{Loaded}
 use Rattle.cadf_tool.specs.declared.fault.ToolFault.{ToolFault}
 use Rattle.cadf_tool.specs.declared.fault.ToolFault.TheVariants.{NoValue}
-use Rattle.cadf_tool.specs.Told.{held_of}
+use Rattle.cadf_tool.specs.Told.{replica_model_of}
 
 abbrev pub value_at : List Text → ℕ → Option Text
 value_at vs zero = None
@@ -40,4 +40,4 @@ ruled_in letter key place (Err fault) = Err fault
 
 -- THE RULED SET of an input
 abbrev pub ruled_of : (letter key : Text) → ℕ → Loaded → Result ReplicaModel ToolFault
-ruled_of letter key place loaded = ruled_in letter key place (held_of loaded)
+ruled_of letter key place loaded = ruled_in letter key place (replica_model_of loaded)

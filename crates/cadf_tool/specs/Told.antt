@@ -26,8 +26,8 @@ under_log None atoms = Err NoLog
 under_log (Some log) atoms = Ok (record { log = log; atoms = atoms })
 
 -- THE REPLICA that an input is
-abbrev pub held_of : Loaded → Result ReplicaModel ToolFault
-held_of loaded = under_log (log_named loaded) (atoms_loaded loaded)
+abbrev pub replica_model_of : Loaded → Result ReplicaModel ToolFault
+replica_model_of loaded = under_log (log_named loaded) (atoms_loaded loaded)
 
 pub record IsHeld (bytes : List ℕ) (h : ReplicaModel) : Type 0 where
   pub loaded : Loaded

@@ -10,7 +10,7 @@ use thiserror::Error;
 /// More bytes were written than an input may have.
 #[derive(Clone, Copy, Debug, Drop, PartialEq, Eq, Error)]
 #[error("{written} bytes were written, and no input above {limit} is read")]
-pub struct Oversized {
+pub struct OverLimit {
     written: u64,
     limit: u64,
 }
@@ -23,29 +23,29 @@ pub struct CountingSink<W> {
 }
 
 impl<W> CountingSink<W> {
-    ghost use Rattle.cadf_tool.specs.CountingSink.{metered_sink, metered_taken, report_of};
+    ghost use Rattle.cadf_tool.specs.CountingSink.{counting_sink_inner, counting_sink_taken, report_of};
 
     /// Wraps a sink, and starts to count at 0.
     pub fn new(sink: W) -> CountingSink<W>
-        ensures sink { metered_sink result ≡ sink }
-        ensures taken { metered_taken result ≡ 0 }
+        ensures sink { counting_sink_inner result ≡ sink }
+        ensures taken { counting_sink_taken result ≡ 0 }
     {
         CountingSink { sink, taken: 0 }
     }
 
     /// Returns how many bytes the sink took; the count stays at 2^64-1.
     pub fn bytes_written(&self) -> u64
-        ensures { result ≡ metered_taken self.now }
+        ensures { result ≡ counting_sink_taken self.now }
     {
         self.taken
     }
 
     /// Reports the bytes if they are more than `limit`. `None` if they are not.
-    pub fn check_limit(&self, limit: u64) -> Option<Oversized>
-        ensures { result ≡ report_of (metered_taken self.now) limit }
+    pub fn over_limit(&self, limit: u64) -> Option<OverLimit>
+        ensures { result ≡ report_of (counting_sink_taken self.now) limit }
     {
         if self.taken > limit {
-            return Some(Oversized {
+            return Some(OverLimit {
                 written: self.taken,
                 limit,
             });
@@ -55,14 +55,14 @@ impl<W> CountingSink<W> {
 
     /// Returns the sink.
     pub fn into_inner(self) -> W
-        ensures { result ≡ metered_sink self }
+        ensures { result ≡ counting_sink_inner self }
     {
         self.sink
     }
 }
 
 impl<W: Sink> Sink for CountingSink<W> {
-    ghost use Rattle.cadf_tool.specs.CountingSink.{metered_sink, metered_taken, with_taken};
+    ghost use Rattle.cadf_tool.specs.CountingSink.{counting_sink_inner, counting_sink_taken, with_taken};
 
     ghost written = { λ m. W.written m.sink };
 
@@ -72,12 +72,12 @@ impl<W: Sink> Sink for CountingSink<W> {
 
     fn write(&mut self, bytes: &[u8]) -> Result<usize, Failed>
         ensures bound { WritesAtMost result bytes.now }
-        ensures bytes { WriteAppends (W.written (metered_sink self.old)) (W.written (metered_sink self.new))
+        ensures bytes { WriteAppends (W.written (counting_sink_inner self.old)) (W.written (counting_sink_inner self.new))
             result bytes.now }
-        ensures writes { W.writes (metered_sink self.new) ≡ one_more (W.writes (metered_sink self.old)) }
-        ensures failures { W.failures (metered_sink self.new)
-            ≡ counted (write_fails result bytes.now) (W.failures (metered_sink self.old)) }
-        ensures taken { metered_taken self.new ≡ with_taken (metered_taken self.old) result }
+        ensures writes { W.writes (counting_sink_inner self.new) ≡ one_more (W.writes (counting_sink_inner self.old)) }
+        ensures failures { W.failures (counting_sink_inner self.new)
+            ≡ counted (write_fails result bytes.now) (W.failures (counting_sink_inner self.old)) }
+        ensures taken { counting_sink_taken self.new ≡ with_taken (counting_sink_taken self.old) result }
     {
         let count = self.sink.write(bytes)?;
         self.taken = self.taken.saturating_add(count as u64);

@@ -19,7 +19,7 @@ mod show;
 mod told;
 
 pub use crate::check::run_check;
-pub use crate::counting_sink::{CountingSink, Oversized};
+pub use crate::counting_sink::{CountingSink, OverLimit};
 pub use crate::fault::{ToolFault, exit_status};
 pub use crate::input::{LoadFault, Loaded, load, load_within};
 pub use crate::inventory::run_inventory;

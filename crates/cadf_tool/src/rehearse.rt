@@ -8,7 +8,7 @@ use crate::FILE_LIMIT;
 use crate::fault::ToolFault;
 use crate::input::LoadFault;
 use cadf_event::Name;
-use cadf_json::{Memory, ReadAllFault, Sink, Source, read_to_limit, write_all};
+use cadf_json::{Memory, ReadLimitFault, Sink, Source, read_to_limit, write_all};
 use cadf_replica::{RehearseFault, Replica, Turn, rehearse};
 use cadf_script::{ScriptFault, read_script};
 use std::alloc::Global;
@@ -21,9 +21,9 @@ fn bytes_of<R: Source>(alloc: Global, script: &mut R) -> Result<Vec<u8>, ToolFau
 {
     match read_to_limit(alloc, script, FILE_LIMIT as usize) {
         Ok(bytes) => Ok(bytes),
-        Err(ReadAllFault::TooLarge) => Err(ToolFault::Input(1, LoadFault::TooLarge)),
-        Err(ReadAllFault::ReadFault) => Err(ToolFault::ReadFault(1)),
-        Err(ReadAllFault::Memory) => Err(ToolFault::Memory),
+        Err(ReadLimitFault::TooLarge) => Err(ToolFault::Input(1, LoadFault::TooLarge)),
+        Err(ReadLimitFault::ReadFault) => Err(ToolFault::ReadFault(1)),
+        Err(ReadLimitFault::Memory) => Err(ToolFault::Memory),
     }
 }
 

@@ -122,10 +122,10 @@ pub(crate) fn faulted(alloc: Global, words: Words<'_>) -> Result<Answer, Memory>
 fn count_and_warning(alloc: Global, sink: &Output, limit: u64) -> Result<String, Memory> {
     let mut line = calls::answer(alloc, "ok", &[])?;
     push_number(alloc, &mut line, i128::from(sink.bytes_written()))?;
-    match sink.check_limit(limit) {
-        Some(check_limit) => {
+    match sink.over_limit(limit) {
+        Some(over_limit) => {
             push(&mut line, "some")?;
-            push(&mut line, format!(in alloc; "{check_limit}")?.as_str())?;
+            push(&mut line, format!(in alloc; "{over_limit}")?.as_str())?;
         }
         None => push(&mut line, "none")?,
     }

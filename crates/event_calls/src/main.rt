@@ -44,13 +44,13 @@ fn known() {
     laws::bodies_are_of_events();
     laws::steps_are_of_events();
     laws::attachments_are_of_events();
-    laws::bodies_have_nothing_apart();
-    laws::name_law();
-    laws::one_event_fault();
-    laws::one_entity_fault();
-    laws::one_property_fault();
-    laws::one_document_fault();
-    laws::one_document_bytes_fault();
+    laws::bodies_exclude_separate_parts();
+    laws::name_text_is_read_back();
+    laws::event_fault_is_unique();
+    laws::entity_fault_is_unique();
+    laws::property_fault_is_unique();
+    laws::document_fault_is_unique();
+    laws::document_bytes_fault_is_unique();
 }
 
 fn main(rt: HostRuntime) -> io::Result<()> {

@@ -41,8 +41,8 @@ fn laws() {
     cadf_json::text_is_injective();
     cadf_json::text_spells_its_value();
     cadf_json::text_is_one_line();
-    cadf_time::laws::one_reading();
-    cadf_time::laws::one_time();
+    cadf_time::laws::time_fields_are_unique();
+    cadf_time::laws::time_is_unique();
     cadf_time::laws::canonical_spells();
     cadf_time::laws::spelling_is_injective();
 }

@@ -2,13 +2,13 @@
 
 ghost use Rattle.std.specs.Prelude.{◌<◌, ◌^◌};
 
-use cadf_json::{FromStd, MemorySource, ReadAllFault, read_rest, read_to_limit};
+use cadf_json::{FromStd, MemorySource, ReadLimitFault, read_rest, read_to_limit};
 use calls::Call;
 use std::alloc::{AllocError as Memory, Global};
 use std::io;
 
 /// Answers the bytes that were read, or why they weren't.
-fn told(alloc: Global, bytes: Result<Vec<u8>, ReadAllFault>) -> Result<String, Memory> {
+fn told(alloc: Global, bytes: Result<Vec<u8>, ReadLimitFault>) -> Result<String, Memory> {
     match bytes {
         Ok(bytes) => {
             let mut line = calls::answer(alloc, "ok", &[])?;

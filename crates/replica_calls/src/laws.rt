@@ -5,8 +5,8 @@ use cadf_replica::laws as replicas;
 /// Calls each law; it does nothing.
 pub(crate) fn hold() {
     replicas::missing_is_least();
-    replicas::missing_part_suffices();
-    replicas::missing_is_minimal();
+    replicas::joining_missing_equals_joining_all();
+    replicas::missing_is_smallest_sufficient();
     replicas::replica_is_what_it_took();
     replicas::same_contributions_same_set();
     replicas::retries_are_idempotent();
@@ -17,9 +17,9 @@ pub(crate) fn hold() {
     replicas::a_path_has_one_kind();
     replicas::replicas_converge();
     replicas::nothing_disappears();
-    replicas::line_law();
-    replicas::rules_law();
+    replicas::atom_line_is_read_back();
+    replicas::atom_rules_match_documents();
     replicas::contributions_are_grounded();
-    replicas::answers_cover_their_senders();
-    replicas::schedules_are_plain();
+    replicas::answer_with_inventory_covers_sender();
+    replicas::rehearsal_equals_full_exchange();
 }

@@ -3,7 +3,7 @@
 use crate::told;
 use cadf_event::log_name;
 use cadf_json::Memory;
-use cadf_replica::{PathKind, may_follow, path_kind, path_kind_with};
+use cadf_replica::{PathKind, can_extend_atom, path_kind, path_kind_with};
 use calls::{Call, answer};
 use json::Scratch;
 use std::alloc::Global;
@@ -22,7 +22,7 @@ pub(crate) fn answered(alloc: Global, name: &str, call: &Call) -> Result<String,
     match name {
         "kind" => kind(alloc, path_kind(alloc, &texts_from(alloc, call, 1)?)?),
         "kind_with" => kind_with(alloc, &texts_from(alloc, call, 1)?),
-        "may_follow" => follows(alloc, call.text(1), &texts_from(alloc, call, 2)?),
+        "can_extend_atom" => follows(alloc, call.text(1), &texts_from(alloc, call, 2)?),
         "log_name" => log(alloc, call.text(1)),
         _ => answer(alloc, "no such call", &[]),
     }
@@ -45,7 +45,7 @@ fn kind(alloc: Global, kind: PathKind) -> Result<String, Memory> {
 /// Tells whether the texts may stand behind an atom of three with that letter.
 fn follows(alloc: Global, letter: &str, more: &[String]) -> Result<String, Memory> {
     let mut scratch = Scratch::new(alloc);
-    told::found_true(alloc, may_follow(alloc, &mut scratch, letter, more)?)
+    told::found_true(alloc, can_extend_atom(alloc, &mut scratch, letter, more)?)
 }
 
 /// Answers the name whose canonical text this is.

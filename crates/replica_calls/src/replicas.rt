@@ -36,8 +36,8 @@ fn told_of_atom(alloc: Global, name: &str, ours: Replica, atom: &Atom) -> Result
         "holds" => told::truth(alloc, ours.holds(atom)),
         "atom_after" => found(alloc, ours.atom_after(Some(atom))),
         "put" => put(alloc, ours, atom),
-        "put_texts" => put_texts(alloc, ours, atom),
-        "put_last" => put_last(alloc, ours, atom),
+        "put_parts" => put_parts(alloc, ours, atom),
+        "push_if_last" => push_if_last(alloc, ours, atom),
         _ => answer(alloc, "no such call", &[]),
     }
 }
@@ -62,14 +62,14 @@ fn put(alloc: Global, mut ours: Replica, atom: &Atom) -> Result<String, Memory> 
     told::changed(alloc, outcome, &ours)
 }
 
-fn put_texts(alloc: Global, mut ours: Replica, atom: &Atom) -> Result<String, Memory> {
-    let outcome = ours.put_texts(atom.parts());
+fn put_parts(alloc: Global, mut ours: Replica, atom: &Atom) -> Result<String, Memory> {
+    let outcome = ours.put_parts(atom.parts());
     told::changed(alloc, outcome, &ours)
 }
 
 /// Tells whether the atom was put last, or why not, and what the replica then is.
-fn put_last(alloc: Global, mut ours: Replica, atom: &Atom) -> Result<String, Memory> {
-    match ours.put_last(atom.parts()) {
+fn push_if_last(alloc: Global, mut ours: Replica, atom: &Atom) -> Result<String, Memory> {
+    match ours.push_if_last(atom.parts()) {
         Ok(true) => told::replica(alloc, &ours),
         Ok(false) => answer(alloc, "not above", &[]),
         Err(fault) => told::kept(alloc, fault, &ours),

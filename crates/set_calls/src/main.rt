@@ -13,7 +13,9 @@ mod trees;
 mod values;
 
 use cadf_join::Memory;
-use cadf_join::laws::{longest_chain, membership, order_determines_set, union_laws};
+use cadf_join::laws::{
+    longest_is_a_longest_chain, membership_laws, order_determines_set, union_laws,
+};
 use calls::{Call, answer};
 use std::alloc::Global;
 use std::io;
@@ -36,8 +38,8 @@ fn answered(alloc: Global, line: &str) -> Result<String, Memory> {
 fn main(rt: HostRuntime) -> io::Result<()> {
     union_laws();
     order_determines_set();
-    longest_chain();
-    membership();
+    longest_is_a_longest_chain();
+    membership_laws();
     for line in rt.lines(rt.alloc()) {
         let line = line?;
         match answered(rt.alloc(), line.as_str()) {

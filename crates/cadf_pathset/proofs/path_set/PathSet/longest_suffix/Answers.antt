@@ -9,11 +9,11 @@ use Rattle.cadf_pathset.specs.Lists.{strip}
 use Rattle.cadf_pathset.proofs.Behind.{behind_strip}
 use Rattle.cadf_pathset.proofs.path_set.PathSet.longest_suffix.Goals as goal
 
-pub returns-in_ok-copied-in-Some : goal.returns-in_ok-copied-in-Some
-returns-in_ok-copied-in-Some c =
+pub returns-in_ok-to_strings-in-Some : goal.returns-in_ok-to_strings-in-Some
+returns-in_ok-to_strings-in-Some c =
     let p = texts_at c.args.prefix.now in
     let rows = c.self.inside.rows in
-    ap Some c.in_ok-copied-in-Some.ensures ∙ c.in-Some.ensures.longest
+    ap Some c.in_ok-to_strings-in-Some.ensures ∙ c.in-Some.ensures.longest
     ∙ ap longest_of (c.suffixes-range.ensures.behind ∙ behind_strip p rows
     ∙ ap (filter_map (strip p)) (sym (rising-from_list texts_total texts_same rows c.self.invariant) ∙ ap set.rising c.self.view_is))
 

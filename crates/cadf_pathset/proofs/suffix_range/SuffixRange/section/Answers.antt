@@ -21,7 +21,7 @@ returns c =
     let low = c.gallop_back-low.result in
     let front = c.new.ensures ∙ front_view s.nodes.now s.depth s.numbers.now ls c.self.view_is high _ c.split_at.ensures.front in
     c.new-2.ensures
-    ∙ section_view s.nodes.now s.depth s.numbers.now ls c.self.view_is high _ c.split_at.ensures.front c.self.invariant c.deeper.result low _
-    c.split_at-2.ensures.back c.deeper.ensures c.args.text.now c.bound-high.ensures.below c.bound-high.ensures.above
+    ∙ section_view s.nodes.now s.depth s.numbers.now ls c.self.view_is high _ c.split_at.ensures.front c.self.invariant c.next_depth.result low _
+    c.split_at-2.ensures.back c.next_depth.ensures c.args.text.now c.bound-high.ensures.below c.bound-high.ensures.above
     (subst (λ xs. AllByRecursion (λ l. is_before (c.args.text.now ∷ []) false l ≡ true) (take low xs)) front c.gallop_back-low.ensures.below)
     (subst (λ xs. AllByRecursion (λ l. is_before (c.args.text.now ∷ []) false l ≡ false) (drop low xs)) front c.gallop_back-low.ensures.above)

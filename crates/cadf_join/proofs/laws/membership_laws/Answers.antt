@@ -1,0 +1,11 @@
+use Rattle.cadf_join.proofs.Membership.{in_under, in_section, in_singles, in_heads, in_joined}
+use Rattle.cadf_join.proofs.laws.membership_laws.Goals as goal
+
+pub returns : goal.returns
+returns c = record {
+  under = in_under;
+  section = in_section;
+  singles = in_singles;
+  heads = in_heads;
+  joined = in_joined;
+}

@@ -1,5 +1,0 @@
-use Rattle.cadf_rehearsal.proofs.Schedule.{sites_are_plain, sites_within_plain}
-use Rattle.cadf_rehearsal.proofs.laws.schedules_are_plain.Goals as goal
-
-pub returns : goal.returns
-returns c = record { exact = sites_are_plain; within = sites_within_plain }
