@@ -28,7 +28,7 @@ CALLS = {
     "run_rehearse": ["run_rehearse"],
     "run_show": ["run_show"],
     "run_check": ["run_check"],
-    "fault": ["exit_status"],
+    "fault": ["status"],
     "metered": ["CountingSink::new", "CountingSink::bytes_written", "CountingSink::over_limit", "CountingSink::into_inner"],
 }
 

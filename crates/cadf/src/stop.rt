@@ -1,5 +1,5 @@
 //! Why a command didn't do its work, and what is reported of it.
-use cadf_tool::{ToolFault, exit_status};
+use cadf_tool::{ToolFault, status};
 use std::process::ExitCode;
 
 /// The exit status where the command line is refused.
@@ -40,7 +40,7 @@ pub(crate) fn report(rt: &HostRuntime, stop: &Stop) -> ExitCode {
     match stop {
         Stop::Tool(fault) => {
             let _ = eprintln!(rt; "cadf: {fault}");
-            ExitCode::from(exit_status(fault))
+            ExitCode::from(status(fault))
         }
         Stop::LogName => refuse(rt, "log name"),
         Stop::Sites => refuse(rt, "sites"),

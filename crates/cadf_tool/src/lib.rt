@@ -20,7 +20,7 @@ mod told;
 
 pub use crate::check::run_check;
 pub use crate::counting_sink::{CountingSink, OverLimit};
-pub use crate::fault::{ToolFault, exit_status};
+pub use crate::fault::{ToolFault, status};
 pub use crate::input::{LoadFault, Loaded, load, load_within};
 pub use crate::inventory::run_inventory;
 pub use crate::join::run_join;

@@ -5,8 +5,8 @@ use crate::words::Words;
 use cadf_event::Name;
 use cadf_json::{MemorySink, MemorySource};
 use cadf_tool::{
-    CountingSink, ToolFault, exit_status, run_check, run_inventory, run_join, run_missing,
-    run_missing_by, run_rehearse, run_rule, run_show,
+    CountingSink, ToolFault, run_check, run_inventory, run_join, run_missing, run_missing_by,
+    run_rehearse, run_rule, run_show, status,
 };
 use calls::{push, push_number, refused};
 use std::alloc::{AllocError as Memory, Global};
@@ -100,7 +100,7 @@ pub(crate) fn answered(alloc: Global, words: Words<'_>) -> Result<Answer, Memory
 
 /// The status and the text of a fault.
 fn status_and_text(alloc: Global, fault: &ToolFault) -> Result<String, Memory> {
-    let (status, text) = (exit_status(fault), format!(in alloc; "{fault}")?);
+    let (status, text) = (status(fault), format!(in alloc; "{fault}")?);
     calls::answer(
         alloc,
         format!(in alloc; "{status}")?.as_str(),
