@@ -1,7 +1,5 @@
 """Calls of the engines over memory: readers that cut and fail, writers that take few bytes and fail, limits.
 
-    calls/make engine_calls
-
 The worked calls of differential/rows.py are made here too, with each reader in pieces of 1 to 7 bytes. A row `each` makes
 its call for each number of a range, where `N` stands for the number; an answer tells what differs from the one before.
 """

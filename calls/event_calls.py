@@ -1,7 +1,4 @@
-"""Calls of names, words, events and their parts, entities, properties and documents, with what they answer.
-
-    calls/make event_calls
-"""
+"""Calls of names, words, events and their parts, entities, properties and documents, with what they answer."""
 from texts import B1, S1, S2, V1, V2, body, document, event, nested
 
 CALLS = {

@@ -1,8 +1,6 @@
 """Calls of replica files and inventory files: whole and damaged ones, in pieces, within limits, with failing readers
 and writers; and of the two texts, whose rows are in log_rows.py.
 
-    calls/make file_calls
-
 Words: a reading is a limit, the bytes of a read and the number of the read that fails (0 is none); a writer is the
 bytes of a write, what it does (`never`, `refuses` or `takes-nothing`) and at which write.
 """

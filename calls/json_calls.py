@@ -1,7 +1,4 @@
-"""Calls of JSON values, of sources and sinks, and of times, with what they answer.
-
-    calls/make json_calls
-"""
+"""Calls of JSON values, of sources and sinks, and of times, with what they answer."""
 from texts import nested
 
 # What is asked of a value that is held, or of a tree.

@@ -1,4 +1,4 @@
-"""Rows of file_calls: the log text and the conflict text, what is written of a set of atoms.
+"""Rows of the driver of files: the log text and the conflict text, what is written of a set of atoms.
 
 Words: a writer (the bytes of a write, what it does, which is `never`, `refuses` or `takes-nothing`, and at which write),
 the log's identifier and the lines of its atoms, each behind its carrier.

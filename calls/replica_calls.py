@@ -1,7 +1,4 @@
-"""Calls of atoms, replicas, inventories, rulings, scripts and schedules, with what they answer.
-
-    calls/make replica_calls
-"""
+"""Calls of atoms, replicas, inventories, rulings, scripts and schedules, with what they answer."""
 from texts import B1, BF, C1, C2, CF, K1, KF, S1, S2, S3, V1, V2, VF, digits, document, event, line, nested
 
 CALLS = {

@@ -1,7 +1,5 @@
 """Calls of sets of lists of texts, with what they answer.
 
-    calls/make set_calls
-
 In this table a stroke stands between the texts of a list, a blank between the lists of a set, and `-` is the empty list.
 The driver is given the JSON lists.
 """

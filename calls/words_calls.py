@@ -1,7 +1,5 @@
 """The command line: which words are taken, and what is told of them.
 
-    calls/make words_calls
-
 How help and refusals are worded is clap's, and no page fixes it. Their texts stand here as the command of version 0.1.0
 printed them, so that a change of one is seen.
 """

@@ -1,4 +1,4 @@
-"""What the program engine_calls answers: generated command lines as calls of engines over memory, with readers and writers
+"""What the driver of engines answers: generated command lines as calls of engines over memory, with readers and writers
 that cut, and their answers by the second implementation.
 
 Each of `KINDS` makes a driver's name, a call with its words and the fields of its answer.
@@ -49,7 +49,7 @@ def engines(chance):
     made = None
     while made is None:
         made = called(Case(KINDS_WITH_REHEARSALS, chance.randrange(2 ** 32), 0), pieces)
-    return ("engine_calls", *made)
+    return ("engine", *made)
 
 
 KINDS = [engines]

@@ -1,4 +1,4 @@
-"""What the program file_calls answers: calls by chance, and their answers by the second implementation.
+"""What the driver of files answers: calls by chance, and their answers by the second implementation.
 
 A word of a call or a field of an answer is a text, bytes or a number. Each of `KINDS` makes a driver's name, a call with
 its words and the fields of its answer.
@@ -224,12 +224,12 @@ def kind(driver, name, words, answered):
 
 
 KINDS = [
-    kind("file_calls", "read", reading_words(any_file), read_replica),
-    kind("file_calls", "read_rest", rest_words, read_rest),
-    kind("file_calls", "feed", feed_words, feed),
-    kind("file_calls", "write", file_words, write_replica),
-    kind("file_calls", "read_inventory", reading_words(any_inventory), read_digests),
-    kind("file_calls", "write_inventory", digest_words, write_digests),
-    kind("file_calls", "write_log", text_words, write_log),
-    kind("file_calls", "write_conflicts", text_words, write_conflicts),
+    kind("file", "read", reading_words(any_file), read_replica),
+    kind("file", "read_rest", rest_words, read_rest),
+    kind("file", "feed", feed_words, feed),
+    kind("file", "write", file_words, write_replica),
+    kind("file", "read_inventory", reading_words(any_inventory), read_digests),
+    kind("file", "write_inventory", digest_words, write_digests),
+    kind("file", "write_log", text_words, write_log),
+    kind("file", "write_conflicts", text_words, write_conflicts),
 ]

@@ -1,4 +1,4 @@
-"""What the program replica_calls answers, by the second implementation.
+"""What the driver of replicas answers, by the second implementation.
 
 A word of a call or a field of an answer is a text, bytes or a number; replica_words.py makes the words. Each of `KINDS` makes
 a driver's name, a call with its words and the fields of its answer.
@@ -259,7 +259,7 @@ def kind(make, answered):
     """What makes calls of these names, by what makes the words of any of them and what answers each."""
     def made(chance):
         name, given = chance.choice(sorted(answered)), make(chance)
-        return "replica_calls", [name, *given], answered[name](*given)
+        return "replica", [name, *given], answered[name](*given)
     return made
 
 

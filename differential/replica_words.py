@@ -1,4 +1,4 @@
-"""Words by chance of the calls that the program replica_calls makes.
+"""Words by chance of the calls that the driver of replicas makes.
 
 A replica, or an inventory, is one word: its log, and behind it a line for each atom, or the digits of each digest. Each
 function makes the words of one call or of several that take the same.

@@ -1,4 +1,4 @@
-//! What the programs share whose allocations `.ci/oom` makes fail one by one.
+//! What is reported of a call whose allocations fail one by one.
 #![tactic(auto)]
 
 ghost use Rattle.std.specs.Prelude.{◌≡◌, ◌↔◌, true, false};

@@ -1,5 +1,4 @@
-//! Calls of replica files, of inventory files and of the two texts. Each line of standard input is a call's name and its words between
-//! tabs; what the call answers is a line of standard output.
+//! Calls of replica files, of inventory files and of the two texts.
 #![tactic(auto)]
 
 mod faults;
@@ -15,10 +14,9 @@ mod writes;
 use cadf_json::Memory;
 use calls::Call;
 use std::alloc::Global;
-use std::io;
 
-/// Makes the call, and answers its line.
-fn answered(alloc: Global, call: &Call) -> Result<String, Memory> {
+/// Makes the call, and returns the line of its answer. An `Err` is a refused allocation.
+pub fn answered(alloc: Global, call: &Call) -> Result<String, Memory> {
     match call.name() {
         "read" => reads::read(alloc, call),
         "each_failing_read" => sweeps::each_failing_read(alloc, call),
@@ -33,21 +31,4 @@ fn answered(alloc: Global, call: &Call) -> Result<String, Memory> {
         "fault_text" => faults::fault_text(alloc, call),
         _ => calls::answer(alloc, "no such call", &[]),
     }
-}
-
-/// Makes the call that the line spells, and answers its line.
-fn line_answered(alloc: Global, line: &str) -> Result<String, Memory> {
-    let call = Call::read(alloc, line)?;
-    answered(alloc, &call)
-}
-
-fn main(rt: HostRuntime) -> io::Result<()> {
-    for line in rt.lines(rt.alloc()) {
-        let line = line?;
-        match line_answered(rt.alloc(), line.as_str()) {
-            Ok(answer) => println!(rt; "{answer}")?,
-            Err(_) => println!(rt; "err\tMemory")?,
-        }
-    }
-    Ok(())
 }

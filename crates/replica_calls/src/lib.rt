@@ -1,5 +1,4 @@
-//! Calls of atoms, replicas, inventories, rulings, scripts and schedules: a line of standard input is a call with its words,
-//! and a line of standard output is its answer.
+//! Calls of atoms, replicas, inventories, rulings, scripts and schedules.
 //!
 //! A replica is written as lines: its log's name, and behind it the line of each atom. An inventory likewise: its log's name,
 //! and behind it the digits of each digest.
@@ -24,11 +23,9 @@ mod told;
 use cadf_json::Memory;
 use calls::{Call, answer};
 use std::alloc::Global;
-use std::io;
 
-/// Answers the call on the line.
-fn answered(alloc: Global, line: &str) -> Result<String, Memory> {
-    let call = &Call::read(alloc, line)?;
+/// Makes the call, and returns the line of its answer. An `Err` is a refused allocation.
+pub fn answered(alloc: Global, call: &Call) -> Result<String, Memory> {
     let (family, name) = call.name().split_once('.').unwrap_or_default();
     match family {
         "atom" => atoms::answered(alloc, name, call),
@@ -46,14 +43,7 @@ fn answered(alloc: Global, line: &str) -> Result<String, Memory> {
     }
 }
 
-fn main(rt: HostRuntime) -> io::Result<()> {
+/// Calls the laws of replicas and of schedules.
+pub fn laws() {
     laws::hold();
-    for line in rt.lines(rt.alloc()) {
-        let line = line?;
-        match answered(rt.alloc(), line.as_str()) {
-            Ok(text) => println!(rt; "{text}")?,
-            Err(_) => println!(rt; "err\tMemory")?,
-        }
-    }
-    Ok(())
 }

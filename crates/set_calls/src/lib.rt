@@ -1,5 +1,4 @@
-//! Calls of sets of lists of texts: a line of standard input is a call with its words, and a line of standard output is its
-//! answer. A list is written as the JSON list of its texts, and a set as the JSON list of its lists.
+//! Calls of sets of lists of texts. A list is written as the JSON list of its texts, and a set as the JSON list of its lists.
 #![tactic(auto)]
 
 mod keeping;
@@ -18,11 +17,9 @@ use cadf_join::laws::{
 };
 use calls::{Call, answer};
 use std::alloc::Global;
-use std::io;
 
-/// Answers the call on the line.
-fn answered(alloc: Global, line: &str) -> Result<String, Memory> {
-    let call = &Call::read(alloc, line)?;
+/// Makes the call, and returns the line of its answer. An `Err` is a refused allocation.
+pub fn answered(alloc: Global, call: &Call) -> Result<String, Memory> {
     let (family, name) = call.name().split_once('.').unwrap_or_default();
     match family {
         "value" => values::answered(alloc, name, call),
@@ -35,17 +32,10 @@ fn answered(alloc: Global, line: &str) -> Result<String, Memory> {
     }
 }
 
-fn main(rt: HostRuntime) -> io::Result<()> {
+/// Calls the laws of sets.
+pub fn laws() {
     union_laws();
     order_determines_set();
     longest_is_a_longest_chain();
     membership_laws();
-    for line in rt.lines(rt.alloc()) {
-        let line = line?;
-        match answered(rt.alloc(), line.as_str()) {
-            Ok(text) => println!(rt; "{text}")?,
-            Err(_) => println!(rt; "err\tMemory")?,
-        }
-    }
-    Ok(())
 }

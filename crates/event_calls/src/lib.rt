@@ -1,5 +1,4 @@
-//! Calls of names, words, events and their parts, entities, properties and documents: each line of standard input is a
-//! call's name and its words, and what the call answers is a line of standard output.
+//! Calls of names, words, events and their parts, entities, properties and documents.
 #![tactic(auto)]
 
 mod documents;
@@ -8,14 +7,12 @@ mod faults;
 mod parts;
 mod words;
 
-use cadf_event::laws;
+use cadf_event::laws as held;
 use calls::Call;
 use std::alloc::{AllocError as Memory, Global};
-use std::io;
 
-/// Answers what the call on the line answers.
-fn answer(alloc: Global, line: &str) -> Result<String, Memory> {
-    let call = Call::read(alloc, line)?;
+/// Makes the call, and returns the line of its answer. An `Err` is a refused allocation.
+pub fn answered(alloc: Global, call: &Call) -> Result<String, Memory> {
     let text = call.text(1);
     match call.name() {
         "name" => words::name(alloc, text),
@@ -34,33 +31,21 @@ fn answer(alloc: Global, line: &str) -> Result<String, Memory> {
         "property" => parts::property(alloc, text, call.text(2)),
         "document" => documents::document(alloc, text),
         "document_bytes" => documents::of_bytes(alloc, call.bytes(1)),
-        "fault" => faults::shown(alloc, &call),
+        "fault" => faults::shown(alloc, call),
         _ => calls::answer(alloc, "no such call", &[]),
     }
 }
 
 /// Calls the laws of events, entities, properties and documents.
-fn known() {
-    laws::bodies_are_of_events();
-    laws::steps_are_of_events();
-    laws::attachments_are_of_events();
-    laws::bodies_exclude_separate_parts();
-    laws::name_text_is_read_back();
-    laws::event_fault_is_unique();
-    laws::entity_fault_is_unique();
-    laws::property_fault_is_unique();
-    laws::document_fault_is_unique();
-    laws::document_bytes_fault_is_unique();
-}
-
-fn main(rt: HostRuntime) -> io::Result<()> {
-    known();
-    for line in rt.lines(rt.alloc()) {
-        let line = line?;
-        match answer(rt.alloc(), line.as_str()) {
-            Ok(text) => println!(rt; "{text}")?,
-            Err(_) => println!(rt; "err\tMemory")?,
-        }
-    }
-    Ok(())
+pub fn laws() {
+    held::bodies_are_of_events();
+    held::steps_are_of_events();
+    held::attachments_are_of_events();
+    held::bodies_exclude_separate_parts();
+    held::name_text_is_read_back();
+    held::event_fault_is_unique();
+    held::entity_fault_is_unique();
+    held::property_fault_is_unique();
+    held::document_fault_is_unique();
+    held::document_bytes_fault_is_unique();
 }

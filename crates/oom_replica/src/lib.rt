@@ -1,6 +1,4 @@
-//! Calls of a replica, whose allocations `.ci/oom` makes fail one by one, and what must hold afterwards.
-//! Standard input names a call and a case; all are run where it is empty. What is written to standard
-//! output is the same in every run; standard error names a call that was refused.
+//! Calls of a replica whose allocations fail one by one, and what must hold afterwards.
 #![tactic(auto)]
 
 mod calls;
@@ -25,16 +23,14 @@ fn run_case(rt: &(impl Print + Eprint), alloc: Global, asked: &str, case: &Case)
     Ok(())
 }
 
-fn main(rt: HostRuntime) -> io::Result<()> {
-    let alloc = rt.alloc();
-    let mut asked = String::new(alloc);
-    let _ = rt.read_line(&mut asked);
+/// Runs the calls that the line asks for, all of them if it is empty, and tells what was seen of each.
+pub fn run_asked(rt: &(impl Print + Eprint), alloc: Global, asked: &str) -> io::Result<()> {
     for case in CASES {
-        run_case(&rt, alloc, &asked, &case)?;
+        run_case(rt, alloc, asked, &case)?;
     }
     for step in [deep::Step::Make, deep::Step::Join] {
-        if is_asked(&asked, step.name(), "deep") {
-            tell(&rt, step.name(), "deep", deep::run(alloc, step))?;
+        if is_asked(asked, step.name(), "deep") {
+            tell(rt, step.name(), "deep", deep::run(alloc, step))?;
         }
     }
     Ok(())

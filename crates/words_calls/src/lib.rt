@@ -1,11 +1,9 @@
-//! Calls of the command line: each line of standard input is a call's name and its words, and what the call answers
-//! is a line of standard output.
+//! Calls of the command line.
 #![tactic(auto)]
 
 use cadf_words::{Message, Reply, Request, parse};
 use calls::Call;
 use std::alloc::{AllocError as Memory, Global};
-use std::io;
 
 /// The command line, of which each word is a word of the call.
 fn words_of(alloc: Global, call: &Call) -> Result<Vec<String>, Memory> {
@@ -71,10 +69,9 @@ fn told(alloc: Global, word: &str, message: &Message) -> Result<String, Memory> 
     calls::answer(alloc, word, &[text.as_str()])
 }
 
-/// What the call on the line answers.
-fn answer(alloc: Global, line: &str) -> Result<String, Memory> {
-    let call = Call::read(alloc, line)?;
-    let words = words_of(alloc, &call)?;
+/// Makes the call, and returns the line of its answer. An `Err` is a refused allocation.
+pub fn answered(alloc: Global, call: &Call) -> Result<String, Memory> {
+    let words = words_of(alloc, call)?;
     match parse(alloc, words.as_slice()) {
         Ok(request) => asked(alloc, &request),
         Err(Reply::Memory) => calls::answer(alloc, "err", &["Memory"]),
@@ -82,15 +79,4 @@ fn answer(alloc: Global, line: &str) -> Result<String, Memory> {
         Err(Reply::Refused(message)) => told(alloc, "refused", &message),
         Err(Reply::Unnamed) => calls::answer(alloc, "err", &["Unnamed"]),
     }
-}
-
-fn main(rt: HostRuntime) -> io::Result<()> {
-    for line in rt.lines(rt.alloc()) {
-        let line = line?;
-        match answer(rt.alloc(), line.as_str()) {
-            Ok(text) => println!(rt; "{text}")?,
-            Err(_) => println!(rt; "err\tMemory")?,
-        }
-    }
-    Ok(())
 }

@@ -1,6 +1,4 @@
-//! Calls of sets of texts, maps and trees of chains, whose allocations `.ci/oom` makes fail one by one, and
-//! what must hold afterwards. Standard input names a call and a kind of value; all are run where it is empty. What is written
-//! to standard output is the same in every run; standard error names a call that was refused.
+//! Calls of sets of texts, maps and trees of chains whose allocations fail one by one, and what must hold afterwards.
 #![tactic(auto)]
 
 mod inserts;
@@ -10,6 +8,7 @@ mod watched;
 
 use crate::steps::{Step, run};
 use oom_support::{is_asked, tell};
+use std::alloc::Global;
 use std::io;
 
 const STEPS: [Step; 13] = [
@@ -28,13 +27,12 @@ const STEPS: [Step; 13] = [
     Step::LookIntoMap,
 ];
 
-fn main(rt: HostRuntime) -> io::Result<()> {
-    let mut asked = String::new(rt.alloc());
-    let _ = rt.read_line(&mut asked);
+/// Runs the calls that the line asks for, all of them if it is empty, and tells what was seen of each.
+pub fn run_asked(rt: &(impl Print + Eprint), alloc: Global, asked: &str) -> io::Result<()> {
     for step in STEPS {
         let (call, case) = step.name();
-        if is_asked(&asked, call, case) {
-            tell(&rt, call, case, run(rt.alloc(), step))?;
+        if is_asked(asked, call, case) {
+            tell(rt, call, case, run(alloc, step))?;
         }
     }
     Ok(())

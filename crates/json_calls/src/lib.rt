@@ -1,0 +1,45 @@
+//! Calls of JSON values, of sources and sinks, and of times.
+#![tactic(auto)]
+
+mod looks;
+mod passes;
+mod quotes;
+mod splits;
+mod streams;
+mod times;
+mod writers;
+
+use calls::Call;
+use std::alloc::{AllocError as Memory, Global};
+
+/// Makes the call, and returns the line of its answer. An `Err` is a refused allocation.
+pub fn answered(alloc: Global, call: &Call) -> Result<String, Memory> {
+    match call.name() {
+        "value" => looks::value(alloc, call),
+        "tree" => looks::tree(alloc, call),
+        "canonical" => looks::canonical(alloc, call.text(1)),
+        "quoted" => quotes::quoted(alloc, call.text(1)),
+        "split" => splits::split(alloc, call.text(1), call.text(2)),
+        "check_list" => passes::list(alloc, call.text(1)),
+        "has_json_syntax" => passes::has_json_syntax(alloc, call.text(1)),
+        "read_to_limit" => streams::whole(alloc, call),
+        "read_rest" => streams::rest(alloc, call),
+        "read_by_std" => streams::by_std(alloc, call),
+        "write_all" => writers::whole(alloc, call),
+        "write_by_std" => writers::by_std(alloc, call),
+        "time" => times::read(alloc, call.text(1)),
+        _ => calls::answer(alloc, "no such call", &[]),
+    }
+}
+
+/// Calls the laws of values, of their canonical texts and of times.
+pub fn laws() {
+    cadf_json::bytes_spell_values();
+    cadf_json::text_is_injective();
+    cadf_json::text_spells_its_value();
+    cadf_json::text_is_one_line();
+    cadf_time::laws::time_fields_are_unique();
+    cadf_time::laws::time_is_unique();
+    cadf_time::laws::canonical_spells();
+    cadf_time::laws::spelling_is_injective();
+}
