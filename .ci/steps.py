@@ -31,7 +31,7 @@ STAGES = [
         "mutants": ".ci/mutants --placed",
         "old-names": ".ci/old-names",
         "pages": ".ci/pages",
-        "check-promises": ".ci/check-promises docs/PROMISES.md docs/ARCHITECTURE.md",
+        "check-promises": ".ci/check-promises docs/PROMISES.md docs/ARCHITECTURE.md docs/AUDIT.md",
     }),
     ("proofs", 1, {
         "rt ci": "rt ci",
