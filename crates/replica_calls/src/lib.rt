@@ -8,10 +8,10 @@ mod atoms;
 mod bodies;
 mod documents;
 mod faults;
+mod held;
 mod inventories;
 mod kept;
 mod keys;
-mod laws;
 mod pairs;
 mod paths;
 mod replicas;
@@ -20,6 +20,7 @@ mod schedules;
 mod spelled;
 mod told;
 
+pub use crate::held::laws;
 use cadf_json::Memory;
 use calls::{Call, answer};
 use std::alloc::Global;
@@ -41,9 +42,4 @@ pub fn answered(alloc: Global, call: &Call) -> Result<String, Memory> {
         "fault" => faults::answered(alloc, name, call),
         _ => answer(alloc, "no such call", &[]),
     }
-}
-
-/// Calls the laws of replicas and of schedules.
-pub fn laws() {
-    laws::hold();
 }

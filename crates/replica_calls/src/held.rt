@@ -2,8 +2,8 @@
 
 use cadf_replica::laws as replicas;
 
-/// Calls each law; it does nothing.
-pub(crate) fn hold() {
+/// Calls the laws of replicas and of schedules, which do nothing.
+pub fn laws() {
     replicas::missing_is_least();
     replicas::joining_missing_equals_joining_all();
     replicas::missing_is_smallest_sufficient();
