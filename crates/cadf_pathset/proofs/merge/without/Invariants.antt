@@ -2,10 +2,10 @@ use Rattle.std.proofs.Common.{◌≡◌, ◌++◌, ◌+◌, length}
 use Rattle.cadf_join.specs.Contents.{texts_cmp}
 use Rattle.cadf_pathset.specs.Walks.{ahead}
 use Rattle.cadf_pathset.specs.Merge.{sorted_without}
-use Rattle.cadf_pathset.proofs.merge.push_missing.Given as goal
+use Rattle.cadf_pathset.proofs.merge.without.Given as goal
 
 abbrev pub invariant-loop-more : goal.invariant-loop-more
-invariant-loop-more l = l.left ++ sorted_without texts_cmp (ahead l.more l.ours) (ahead l.others l.theirs) ≡ l.fn.left ++ sorted_without texts_cmp l.fn.ours.1 l.fn.theirs.1
+invariant-loop-more l = l.left ++ sorted_without texts_cmp (ahead l.more l.ours) (ahead l.others l.theirs) ≡ sorted_without texts_cmp l.a l.b
 
 abbrev pub decreases-loop-more : goal.decreases-loop-more
 decreases-loop-more l = length (ahead l.more l.ours) + length (ahead l.others l.theirs)
