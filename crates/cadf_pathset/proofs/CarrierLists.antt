@@ -33,7 +33,7 @@ of_more q [] x (inr m) = absurd m
 of_more q (y ∷ xs) x (inl e) = inl (inl e)
 of_more q (y ∷ xs) x (inr m) = elim (of_more q xs x m) as (λ _. Listed q (y ∷ xs) ⊎ (q ≡ x)) [ inl k ↦ inl (inr k) | inr e ↦ inr e ]
 
-last-more : (p : Texts) (xs : List Texts) (x : Texts) → last_of p (xs ++ x ∷ []) ≡ x
+pub last-more : (p : Texts) (xs : List Texts) (x : Texts) → last_of p (xs ++ x ∷ []) ≡ x
 last-more p [] x = refl
 last-more p (y ∷ xs) x = last-more y xs x
 

@@ -17,30 +17,29 @@ less_is_not e = cc
 pub greater_is_not : Greater ≡ Equal → ⊥
 greater_is_not e = cc
 
-module _ (ls : List Texts) (ns : List ℕ) (path : List (Bor (List ℕ))) (i : ℕ) (h : IsLine ls ns (place ls ns)) (k : Agree i (place ls ns) (texts_at path)) where
-  module _ (b : i < length ns) (d : i < length path) (t u : Text) (r : Ordering) (ours : t ≡ last_text (list_at ls (get_or ns i 0)))
-      (theirs : u ≡ get_or (texts_at path) i []) (is : r ≡ text_cmp t u) where
-    at_text : text_cmp (get_or (place ls ns) i []) (get_or (texts_at path) i []) ≡ r
+module _ (ls : List Texts) (ns : List ℕ) (q : Texts) (len : ℕ) (long : length q ≡ len) (i : ℕ) (h : IsLine ls ns (place ls ns)) (k : Agree i (place ls ns) q) where
+  module _ (b : i < length ns) (d : i < len) (t u : Text) (r : Ordering) (ours : t ≡ last_text (list_at ls (get_or ns i 0)))
+      (theirs : u ≡ get_or q i []) (is : r ≡ text_cmp t u) where
+    at_text : text_cmp (get_or (place ls ns) i []) (get_or q i []) ≡ r
     at_text = sym (is ∙ (λ j. text_cmp ((ours ∙ text_on_line ls ns (place ls ns) h i b) j) (theirs j)))
 
     fits : i < length (place ls ns)
     fits = let m = h.long in omega (arith, m, b)
 
-    reaches : i < length (texts_at path)
-    reaches = let m = length-map path (λ t. t.now) in omega (arith, m, d)
+    reaches : i < length q
+    reaches = omega (arith, long, d)
 
-    pub part_here : (r ≡ Equal → ⊥) → (texts_cmp (place ls ns) (texts_at path) ≡ r) × (shared (place ls ns) (texts_at path) ≡ i)
-    part_here n = parted i (place ls ns) (texts_at path) r k fits reaches at_text n
+    pub part_here : (r ≡ Equal → ⊥) → (texts_cmp (place ls ns) q ≡ r) × (shared (place ls ns) q ≡ i)
+    part_here n = parted i (place ls ns) q r k fits reaches at_text n
 
-    pub agree_here : r ≡ Equal → Agree (i + 1) (place ls ns) (texts_at path)
-    agree_here e = agree_more i (place ls ns) (texts_at path) k fits reaches (at_text ∙ e)
+    pub agree_here : r ≡ Equal → Agree (i + 1) (place ls ns) q
+    agree_here e = agree_more i (place ls ns) q k fits reaches (at_text ∙ e)
 
-  pub end_here : min (length ns) (length path) ≤ i → (texts_cmp (place ls ns) (texts_at path) ≡ nat_cmp (length ns) (length path)) × (shared (place ls ns) (texts_at path) ≡ i)
+  pub end_here : min (length ns) len ≤ i → (texts_cmp (place ls ns) q ≡ nat_cmp (length ns) len) × (shared (place ls ns) q ≡ i)
   end_here b =
       let m = h.long in
-      let n : length (texts_at path) ≡ length path = length-map path (λ t. t.now) in
-      let e = ended i (place ls ns) (texts_at path) k (omega (arith, m, n, b)) in
-      (e.0 ∙ (λ j. nat_cmp (sym m j) (n j)), e.1)
+      let e = ended i (place ls ns) q k (omega (arith, m, long, b)) in
+      (e.0 ∙ (λ j. nat_cmp (sym m j) (long j)), e.1)
 
 -- what is left of a path that is cut
 pub cut_path : (p q : List (Bor (List ℕ))) (n : ℕ) (l : Texts) → q ≡ take n p → Agree n (texts_at p) l → texts_at q ≡ take (length q) l

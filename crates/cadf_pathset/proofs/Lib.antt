@@ -6,6 +6,7 @@ pub mod Bounds
 pub mod CarrierLists
 pub mod Climbs
 pub mod Compared
+pub mod Copies
 pub mod Ends
 pub mod Firsts
 pub mod Forks

@@ -1,5 +1,5 @@
 -- The suffixes of lists, by their first texts.
-use Rattle.std.proofs.Common.{◌≡◌, ℕ, Bool, true, false, ◌+◌, ◌<◌, ◌≤◌, min, List, [], ◌∷◌, Option, Some, None, refl, sym, ap, ◌∙◌, suc, zero}
+use Rattle.std.proofs.Common.{◌≡◌, ℕ, Bool, true, false, ◌+◌, ◌<◌, ◌≤◌, min, List, [], ◌∷◌, Some, None, refl, sym, ap, ◌∙◌, suc, zero}
 use Rattle.std.proofs.Common.{length, take, drop, get_or, map, arith}
 use Rattle.std.proofs.lemmas.List.{drop-drop, drop_more, length-drop}
 use Rattle.std.specs.declared.cmp.Ordering.{Ordering}
@@ -7,7 +7,7 @@ use Rattle.std.specs.declared.cmp.Ordering.TheVariants.{Less, Equal, Greater}
 use Rattle.std.specs.Ordering.{match_ordering, ordering_then}
 use Rattle.cadf_join.specs.Contents.{Text, Texts, text_cmp, texts_cmp}
 use Rattle.cadf_pathset.specs.Lists.{first_text, is_before, prefix_cmp}
-use Rattle.cadf_pathset.specs.Nodes.{list_at, lists_at, rest_of}
+use Rattle.cadf_pathset.specs.Nodes.{lists_at, rest_of}
 use Rattle.cadf_pathset.specs.Walks.{Moves, Place}
 
 first_is : (l : Texts) (u : Text) → Some u ≡ first_text l → (d : Text) → get_or l 0 d ≡ u

@@ -6,11 +6,14 @@
 --     last_of p ls           the last of the lists, or p
 --     is_above_last ls q     whether q is above the last of the lists, as it is if there is none
 --     last_starts_with ls p  whether the last of the lists begins with p
-use Rattle.std.specs.Prelude.{Bool, true, false, List, [], ◌∷◌, Option, Some, None}
+--     last_list s            the last list of a set in order, or the empty one if there is none
+--     chosen_of flags ls     the lists whose flags are set
+use Rattle.std.specs.Prelude.{Bool, true, false, cond, List, [], ◌∷◌, Option, Some, None}
 use Rattle.std.specs.declared.cmp.Ordering.{Ordering}
 use Rattle.std.specs.declared.cmp.Ordering.TheVariants.{Less, Equal, Greater}
 use Rattle.std.specs.Ordering.{is_eq, is_lt, match_ordering}
-use Rattle.cadf_join.specs.Contents.{Text, Texts, text_cmp, texts_cmp}
+use Rattle.cadf_join.specs.Sets as set
+use Rattle.cadf_join.specs.Contents.{Text, Texts, Contents, text_cmp, texts_cmp}
 
 abbrev pub first_text : Texts → Option Text
 first_text [] = None
@@ -40,3 +43,11 @@ is_above_last (l ∷ ls) q = is_lt (texts_cmp (last_of l ls) q)
 abbrev pub last_starts_with : List Texts → Texts → Bool
 last_starts_with [] p = false
 last_starts_with (l ∷ ls) p = is_eq (prefix_cmp (last_of l ls) p)
+
+abbrev pub last_list : Contents → Texts
+last_list s = last_of [] (set.rising s)
+
+abbrev pub chosen_of : List Bool → List Texts → List Texts
+chosen_of [] ls = []
+chosen_of (b ∷ bs) [] = []
+chosen_of (b ∷ bs) (l ∷ ls) = cond b (l ∷ chosen_of bs ls) (chosen_of bs ls)

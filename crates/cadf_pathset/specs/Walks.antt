@@ -2,6 +2,7 @@
 --     Place                  a list that a cursor is at, and the lists ahead of it
 --     Advances found a b     a cursor moved to the next list, which shares so many texts with the one before, or there is none
 --     Moves more a b         the same, without the number
+--     Steps more a b n m     the same: as many of n first texts are left in m as the two lists share
 --     ahead more a           the list that a cursor is at, if it is at one, and those ahead
 --     Entered, IsLinePrefix  the invariants of a merge, below
 use Rattle.std.specs.Prelude.{◌≡◌, ℕ, Bool, true, false, List, [], ◌∷◌, length, take, min, Option, Some, None}
@@ -18,6 +19,10 @@ Advances None old new = (old.1 ≡ []) × (new ≡ old)
 abbrev pub Moves : Bool → Place → Place → Type 0
 Moves true old new = old.1 ≡ new.0 ∷ new.1
 Moves false old new = old.1 ≡ []
+
+abbrev pub Steps : Bool → Place → Place → ℕ → ℕ → Type 0
+Steps true old new n m = (old.1 ≡ new.0 ∷ new.1) × (m ≡ min n (shared new.0 old.0))
+Steps false old new n m = (old.1 ≡ []) × (new ≡ old) × (m ≡ n)
 
 abbrev pub ahead : Bool → Place → List Texts
 ahead true a = a.0 ∷ a.1

@@ -1,9 +1,11 @@
 //! What lists need with them: their carriers.
 ghost use Rattle.std.specs.Prelude.{◌≡◌, ◌≤◌, [], IfOk, length, take};
+ghost use Rattle.std.specs.List.Sorted.{IsStrictlySortedBy};
 ghost use Rattle.std.specs.declared.cmp.Ordering.TheVariants.{Less, Greater};
 ghost use Rattle.cadf_join.specs.Contents.{Texts, texts_cmp};
 ghost use Rattle.cadf_join.specs.Prefixes.{texts_at};
-ghost use Rattle.cadf_pathset.specs.Carriers.{carriers_in};
+ghost use Rattle.cadf_join.specs.Sets as set;
+ghost use Rattle.cadf_pathset.specs.Carriers.{carriers_in, with_carriers};
 
 use crate::Memory;
 use crate::path_vec::PathVec;
@@ -24,7 +26,7 @@ pub trait Carrier {
 }
 
 /// The carriers of the lists, each once, in order.
-pub(crate) fn carriers_of<C: Carrier>(alloc: Global, rows: &PathVec) -> Result<PathVec, Memory>
+fn carriers_of<C: Carrier>(alloc: Global, rows: &PathVec) -> Result<PathVec, Memory>
     ensures { IfOk result (λ all. all ≡ carriers_in C.carrier [] rows.now) }
 {
     let mut all = PathVec::new(alloc);
@@ -33,10 +35,22 @@ pub(crate) fn carriers_of<C: Carrier>(alloc: Global, rows: &PathVec) -> Result<P
     while more {
         let list = cursor.path();
         let (carrier, _) = list.split_at(C::length(list));
-        if all.is_above_last(carrier) {
+        if all.is_above_last(carrier, 0) {
             all.push(carrier)?;
         }
         more = cursor.next()?;
     }
+    Ok(all)
+}
+
+/// Returns the rising lists and their carriers, in order.
+pub(crate) fn with_carriers<C: Carrier>(alloc: Global, lists: PathVec) -> Result<PathVec, Memory>
+    requires { IsStrictlySortedBy texts_cmp lists }
+    ensures rising { IfOk result (λ all. IsStrictlySortedBy texts_cmp all) }
+    ensures set { IfOk result (λ all. set.from_list {R = texts_cmp} all ≡ with_carriers C.carrier (set.from_list lists)) }
+{
+    let carriers = carriers_of::<C>(alloc, &lists)?;
+    let mut all = lists;
+    all.join(&carriers)?;
     Ok(all)
 }

@@ -2,7 +2,7 @@
 ghost use Rattle.std.specs.Prelude.{◌≡◌, ◌≤◌, [], OnOk, IfOk, length};
 ghost use Rattle.cadf_join.specs.Prefixes.{texts_at};
 ghost use Rattle.cadf_pathset.specs.Nodes.{AreThere, IsLine, list_at, lists_at, shared};
-ghost use Rattle.cadf_pathset.specs.Walks.{Advances, Moves};
+ghost use Rattle.cadf_pathset.specs.Walks.{Advances, Moves, Steps};
 
 use crate::Memory;
 use crate::lines::{cmp_from, follow, spell};
@@ -90,6 +90,19 @@ impl<'a> Cursor<'a> {
     {
         match self.advance()? {
             Some(_) => Ok(true),
+            None => Ok(false),
+        }
+    }
+
+    /// Goes to the next list, and returns whether there is one. If the list before shared `agreed` texts with another, so does the next one then.
+    pub fn step(&mut self, agreed: &mut usize) -> Result<bool, Memory>
+        ensures { IfOk result (λ more. Steps more self.old self.new agreed.old agreed.new) }
+    {
+        match self.advance()? {
+            Some(shared) => {
+                *agreed = (*agreed).min(shared);
+                Ok(true)
+            }
             None => Ok(false),
         }
     }

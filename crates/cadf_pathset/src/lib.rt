@@ -6,6 +6,7 @@ mod ask;
 mod builder;
 mod carriers;
 mod compare;
+mod copier;
 mod cursor;
 mod fork;
 mod lines;

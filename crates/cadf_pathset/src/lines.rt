@@ -1,11 +1,13 @@
 //! Lines: the nodes of the first 1, 2, .. texts of a list.
-ghost use Rattle.std.specs.Prelude.{◌≡◌, ◌<◌, ◌≤◌, ◌+◌, ◌++◌, [], ◌∷◌, OnOk, OnErr, IfOk, length, take, get_or};
-ghost use Rattle.cadf_join.specs.Contents.{texts_cmp};
+ghost use Rattle.std.specs.Prelude.{◌≡◌, ◌<◌, ◌≤◌, ◌+◌, ◌++◌, [], ◌∷◌, List, OnOk, OnErr, IfOk, true, length, map, take, get_or};
+ghost use Rattle.std.specs.Ordering.{is_eq};
+ghost use Rattle.cadf_join.specs.Contents.{Texts, texts_cmp};
 ghost use Rattle.cadf_join.specs.Prefixes.{texts_at};
-ghost use Rattle.cadf_pathset.specs.Nodes.{Agree, IsClimb, IsLine, last_node, list_at, place, shared};
+ghost use Rattle.cadf_pathset.specs.Lists.{last_of, prefix_cmp};
+ghost use Rattle.cadf_pathset.specs.Nodes.{Agree, IsClimb, IsLine, last_node, list_at, lists_at, place, shared};
 
 use crate::Memory;
-use crate::as_text::text_at;
+use crate::as_text::{AsText, text_at};
 use crate::nodes::Nodes;
 use std::cmp::Ordering;
 
@@ -68,17 +70,17 @@ pub(crate) fn follow(
 }
 
 /// Compares the line's list with the path, if they are known to share `known` texts. Returns their order, and how many texts they share.
-pub(crate) fn cmp_from(
+pub(crate) fn cmp_from<W: AsText>(
     nodes: &Nodes,
     line: &[u32],
-    path: &[&str],
+    path: &[W],
     known: usize,
 ) -> (Ordering, usize)
     requires line { IsLine nodes.now line.now (place nodes.now line.now) }
-    requires known { Agree known (place nodes.now line.now) (texts_at path.now) }
-    ensures order { result.0 ≡ texts_cmp (place nodes.now line.now) (texts_at path.now) }
-    ensures agreed { Agree result.1 (place nodes.now line.now) (texts_at path.now) }
-    ensures most { result.1 ≡ shared (place nodes.now line.now) (texts_at path.now) }
+    requires known { Agree known (place nodes.now line.now) (map W.bytes path.now) }
+    ensures order { result.0 ≡ texts_cmp (place nodes.now line.now) (map W.bytes path.now) }
+    ensures agreed { Agree result.1 (place nodes.now line.now) (map W.bytes path.now) }
+    ensures most { result.1 ≡ shared (place nodes.now line.now) (map W.bytes path.now) }
 {
     let mut agreed = known;
     while agreed < line.len() && agreed < path.len() {
@@ -121,11 +123,15 @@ pub(crate) fn grow(nodes: &mut Nodes, line: &mut Vec<u32>, text: &str) -> Result
 }
 
 /// Extends the line of a prefix of the path to the line of the whole path, by new nodes.
-pub(crate) fn extend(nodes: &mut Nodes, line: &mut Vec<u32>, path: &[&str]) -> Result<(), Memory>
-    requires line { IsLine nodes.old line.old.items (take (length line.old.items) (texts_at path.now)) }
+pub(crate) fn extend<W: AsText>(
+    nodes: &mut Nodes,
+    line: &mut Vec<u32>,
+    path: &[W],
+) -> Result<(), Memory>
+    requires line { IsLine nodes.old line.old.items (take (length line.old.items) (map W.bytes path.now)) }
     ensures kept { take (length nodes.old) nodes.new ≡ nodes.old }
     ensures line { IsLine nodes.new line.new.items (place nodes.new line.new.items) }
-    ensures ok { OnOk result (place nodes.new line.new.items ≡ texts_at path.now) }
+    ensures ok { OnOk result (place nodes.new line.new.items ≡ map W.bytes path.now) }
 {
     while line.len() < path.len() {
         grow(nodes, line, text_at(path, line.len()))?;
@@ -153,16 +159,50 @@ pub(crate) fn lead(
     }
 }
 
-/// Makes the line that of the path, by new nodes after the texts that the two share, and returns the path's node.
-pub(crate) fn line_to(nodes: &mut Nodes, line: &mut Vec<u32>, path: &[&str]) -> Result<u32, Memory>
-    requires { IsLine nodes.old line.old.items (place nodes.old line.old.items) }
+/// Makes the line that of the path, by new nodes after the texts that the two share, and returns the path's node. They are known to share
+/// `known` texts.
+pub(crate) fn line_to<W: AsText>(
+    nodes: &mut Nodes,
+    line: &mut Vec<u32>,
+    path: &[W],
+    known: usize,
+) -> Result<u32, Memory>
+    requires line { IsLine nodes.old line.old.items (place nodes.old line.old.items) }
+    requires known { Agree known (place nodes.old line.old.items) (map W.bytes path.now) }
     ensures kept { take (length nodes.old) nodes.new ≡ nodes.old }
     ensures line { IsLine nodes.new line.new.items (place nodes.new line.new.items) }
     ensures there { IfOk result (λ n. n ≤ length nodes.new) }
-    ensures list { IfOk result (λ n. list_at nodes.new n ≡ texts_at path.now) }
+    ensures list { IfOk result (λ n. list_at nodes.new n ≡ map W.bytes path.now) }
 {
-    let (_, agreed) = cmp_from(&*nodes, line.as_slice(), path, 0);
+    let (_, agreed) = cmp_from(&*nodes, line.as_slice(), path, known);
     line.truncate(agreed);
     extend(nodes, line, path)?;
     Ok(end_of(line.as_slice()))
+}
+
+/// Returns whether the line is that of the last of the nodes.
+pub(crate) fn is_of_last(line: &[u32], numbers: &[u32]) -> bool
+    ensures { result ≡ true → (ls : List Texts) → place ls line.now ≡ last_of [] (lists_at ls numbers.now) }
+{
+    match numbers {
+        [] => line.is_empty(),
+        [.., last] => end_of(line) == *last,
+    }
+}
+
+/// Returns how many texts the line's list is known to share with a path that shares `shared` texts with the list of the last of the nodes.
+pub(crate) fn known_of(line: &[u32], numbers: &[u32], shared: usize) -> usize
+    ensures { (ls : List Texts) (p : Texts) → Agree shared (last_of [] (lists_at ls numbers.now)) p → Agree result (place ls line.now) p }
+{
+    if is_of_last(line, numbers) { shared } else { 0 }
+}
+
+/// Whether the line's list begins with the prefix.
+pub(crate) fn line_starts_with<W: AsText>(nodes: &Nodes, line: &[u32], prefix: &[W]) -> bool
+    requires { IsLine nodes.now line.now (place nodes.now line.now) }
+    ensures { result ≡ is_eq (prefix_cmp (place nodes.now line.now) (map W.bytes prefix.now)) }
+{
+    let (front, _) = line.split_at(line.len().min(prefix.len()));
+    let (order, _) = cmp_from(nodes, front, prefix, 0);
+    order.is_eq()
 }

@@ -1,69 +1,41 @@
-//! The union and the difference of two sets of lists, as a new set.
-ghost use Rattle.std.specs.Prelude.{◌≡◌, true, IfOk};
+//! The difference of two sets of lists, as a new set.
+ghost use Rattle.std.specs.Prelude.{◌≡◌, IfOk};
 ghost use Rattle.cadf_join.specs.Contents.{texts_cmp};
-ghost use Rattle.cadf_pathset.specs.Merge.{sorted_merge, sorted_without};
+ghost use Rattle.cadf_pathset.specs.Merge.{sorted_without};
 
 use crate::Memory;
+use crate::copier::Copier;
 use crate::order::texts_cmp;
 use crate::path_vec::PathVec;
 use std::alloc::Global;
 use std::cmp::Ordering;
 
-/// Returns the lists of both, each once, in order.
-pub(crate) fn joined(alloc: Global, a: &PathVec, b: &PathVec) -> Result<PathVec, Memory>
-    ensures { IfOk result (λ all. all ≡ sorted_merge texts_cmp true a.now b.now) }
-{
-    let mut all = PathVec::new(alloc);
-    let mut ours = a.cursor();
-    let mut theirs = b.cursor();
-    let mut more = ours.next()?;
-    let mut others = theirs.next()?;
-    while more && others {
-        match texts_cmp(ours.path(), theirs.path()) {
-            Ordering::Less => {
-                all.push(ours.path())?;
-                more = ours.next()?;
-            }
-            Ordering::Equal => {
-                all.push(ours.path())?;
-                more = ours.next()?;
-                others = theirs.next()?;
-            }
-            Ordering::Greater => {
-                all.push(theirs.path())?;
-                others = theirs.next()?;
-            }
-        }
-    }
-    all.extend_from_cursor(more, &mut ours)?;
-    all.extend_from_cursor(others, &mut theirs)?;
-    Ok(all)
-}
-
 /// Returns the lists of the first that the second lacks.
 pub(crate) fn without(alloc: Global, a: &PathVec, b: &PathVec) -> Result<PathVec, Memory>
     ensures { IfOk result (λ left. left ≡ sorted_without texts_cmp a.now b.now) }
 {
-    let mut left = PathVec::new(alloc);
-    let mut ours = a.cursor();
+    let mut ours = Copier::new(alloc, a.cursor());
     let mut theirs = b.cursor();
-    let mut more = ours.next()?;
-    let mut others = theirs.next()?;
+    let mut agreed: usize = 0;
+    let mut more = ours.step(&mut agreed)?;
+    let mut others = theirs.step(&mut agreed)?;
     while more && others {
-        match texts_cmp(ours.path(), theirs.path()) {
+        let (order, both) = texts_cmp(ours.path(), theirs.path(), agreed);
+        agreed = both;
+        match order {
             Ordering::Less => {
-                left.push(ours.path())?;
-                more = ours.next()?;
+                ours.copy()?;
+                more = ours.step(&mut agreed)?;
             }
             Ordering::Equal => {
-                more = ours.next()?;
-                others = theirs.next()?;
+                more = ours.step(&mut agreed)?;
+                others = theirs.step(&mut agreed)?;
             }
             Ordering::Greater => {
-                others = theirs.next()?;
+                others = theirs.step(&mut agreed)?;
             }
         }
     }
-    left.extend_from_cursor(more, &mut ours)?;
-    Ok(left)
+    ours.copy_rest(more)?;
+    Ok(ours.into_copies())
 }

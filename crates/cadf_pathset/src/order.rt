@@ -2,33 +2,30 @@
 ghost use Rattle.std.specs.Prelude.{◌≡◌, ◌++◌, IfOk, drop};
 ghost use Rattle.cadf_join.specs.Contents.{texts_cmp};
 ghost use Rattle.cadf_join.specs.Prefixes.{chain_texts, texts_at};
+ghost use Rattle.cadf_pathset.specs.Nodes.{Agree};
 
 use crate::Memory;
+use crate::as_text::text_at;
 use cadf_join::prefix::copy_texts;
 use std::alloc::Global;
 use std::cmp::Ordering;
 
-/// Compares two lists: text by text, by their bytes, a prefix first.
-pub(crate) fn texts_cmp(a: &[&str], b: &[&str]) -> Ordering
-    ensures { result ≡ texts_cmp (texts_at a.now) (texts_at b.now) }
+/// Compares two lists that are known to share `known` texts: text by text, by their bytes, a prefix first. Returns their order, and a
+/// number of texts that they share.
+pub(crate) fn texts_cmp(a: &[&str], b: &[&str], known: usize) -> (Ordering, usize)
+    requires { Agree known (texts_at a.now) (texts_at b.now) }
+    ensures order { result.0 ≡ texts_cmp (texts_at a.now) (texts_at b.now) }
+    ensures agreed { Agree result.1 (texts_at a.now) (texts_at b.now) }
 {
-    match a {
-        [] => {
-            if b.is_empty() {
-                Ordering::Equal
-            } else {
-                Ordering::Less
-            }
+    let mut agreed = known;
+    while agreed < a.len() && agreed < b.len() {
+        match text_at(a, agreed).cmp(text_at(b, agreed)) {
+            Ordering::Less => return (Ordering::Less, agreed),
+            Ordering::Equal => agreed += 1,
+            Ordering::Greater => return (Ordering::Greater, agreed),
         }
-        [first, rest @ ..] => match b {
-            [] => Ordering::Greater,
-            [other, others @ ..] => match (*first).cmp(*other) {
-                Ordering::Less => Ordering::Less,
-                Ordering::Equal => texts_cmp(rest, others),
-                Ordering::Greater => Ordering::Greater,
-            },
-        },
     }
+    (a.len().cmp(&b.len()), agreed)
 }
 
 /// Copies the prefix with the path after it.

@@ -9,9 +9,8 @@ ghost use Rattle.std.specs.Option.{option_copied, option_map};
 ghost use Rattle.std.specs.Ordering.{eq_by_cmp, is_eq, is_lt};
 ghost use Rattle.cadf_join.specs.Contents.{is_after, texts_cmp};
 ghost use Rattle.cadf_join.specs.Prefixes.{chain_texts, texts_at};
-ghost use Rattle.cadf_pathset.specs.Lists.{last_starts_with, is_above_last, is_before, prefix_cmp};
+ghost use Rattle.cadf_pathset.specs.Lists.{last_of, last_starts_with, is_above_last, is_before, prefix_cmp};
 ghost use Rattle.cadf_pathset.specs.Nodes.{Agree, AreThere, lists_at};
-ghost use Rattle.cadf_pathset.specs.Walks.{ahead};
 ghost use Rattle.cadf_join.specs.Sets as set;
 ghost use Rattle.cadf_pathset.specs.Merge.{sorted_merge};
 ghost use Rattle.cadf_pathset.specs.Sections.{behind};
@@ -20,7 +19,7 @@ use crate::Memory;
 use crate::as_text::AsText;
 use crate::compare::{begins_with, list_cmp, same_list};
 use crate::cursor::Cursor;
-use crate::lines::{lead, line_to};
+use crate::lines::{cmp_from, is_of_last, known_of, lead, line_starts_with, line_to};
 use crate::nodes::Nodes;
 use crate::sort::sorted;
 use crate::suffix_range::SuffixRange;
@@ -69,7 +68,17 @@ impl PathVec {
         ensures ok { OnOk result (self.new ≡ self.old ++ texts_at path.now ∷ []) }
         ensures err { OnErr result (self.new ≡ self.old) }
     {
-        let number = line_to(&mut self.nodes, &mut self.line, path)?;
+        self.push_after(path, 0)
+    }
+
+    /// Appends the list, whose first `shared` texts are those of the last one. After an `Err` the lists are as before.
+    pub fn push_after<W: AsText>(&mut self, path: &[W], shared: usize) -> Result<(), Memory>
+        requires { Agree shared (last_of [] self.old) (map W.bytes path.now) }
+        ensures ok { OnOk result (self.new ≡ self.old ++ map W.bytes path.now ∷ []) }
+        ensures err { OnErr result (self.new ≡ self.old) }
+    {
+        let known = known_of(self.line.as_slice(), self.numbers.as_slice(), shared);
+        let number = line_to(&mut self.nodes, &mut self.line, path, known)?;
         self.numbers.push(number)?;
         Ok(())
     }
@@ -83,19 +92,34 @@ impl PathVec {
         let near = nearest(&self.nodes, self.numbers.as_slice(), at, path);
         let mut up = Vec::new(self.alloc);
         lead(&self.nodes, near, &mut self.line, &mut up)?;
-        let number = line_to(&mut self.nodes, &mut self.line, path)?;
+        let number = line_to(&mut self.nodes, &mut self.line, path, 0)?;
         self.numbers.insert(at, number)?;
         Ok(())
     }
 
-    /// Returns whether the list is above the last one. True if there is none.
-    pub fn is_above_last(&self, path: &[&str]) -> bool
-        ensures { result ≡ is_above_last self.now (texts_at path.now) }
+    /// Returns whether the list, whose first `shared` texts are those of the last one, is above that one. True if there is none.
+    pub fn is_above_last<W: AsText>(&self, path: &[W], shared: usize) -> bool
+        requires { Agree shared (last_of [] self.now) (map W.bytes path.now) }
+        ensures { result ≡ is_above_last self.now (map W.bytes path.now) }
     {
         if self.is_empty() {
             return true;
         }
-        self.is_less(self.count() - 1, path)
+        self.last_cmp(path, shared).is_lt()
+    }
+
+    /// Compares the last list with another, if they are known to share `shared` texts.
+    fn last_cmp<W: AsText>(&self, path: &[W], shared: usize) -> Ordering
+        requires some { 0 < length self.now }
+        requires shared { Agree shared (last_of [] self.now) (map W.bytes path.now) }
+        ensures { result ≡ texts_cmp (last_of [] self.now) (map W.bytes path.now) }
+    {
+        if is_of_last(self.line.as_slice(), self.numbers.as_slice()) {
+            let (order, _) = cmp_from(&self.nodes, self.line.as_slice(), path, shared);
+            return order;
+        }
+        let (order, _) = self.cmp_at(self.count() - 1, path, shared);
+        order
     }
 
     /// Returns whether the last list begins with the prefix.
@@ -104,6 +128,9 @@ impl PathVec {
     {
         if self.is_empty() {
             return false;
+        }
+        if is_of_last(self.line.as_slice(), self.numbers.as_slice()) {
+            return line_starts_with(&self.nodes, self.line.as_slice(), prefix);
         }
         self.is_behind(self.count() - 1, prefix)
     }
@@ -116,15 +143,6 @@ impl PathVec {
         begins_with(&self.nodes, self.numbers[number], prefix)
     }
 
-    /// Whether the list of that number is below the other.
-    fn is_less(&self, number: usize, list: &[&str]) -> bool
-        requires { number < length self.now }
-        ensures { result ≡ is_lt (texts_cmp (get_or self.now number []) (texts_at list.now)) }
-    {
-        let (order, _) = self.cmp_at(number, list, 0);
-        order.is_lt()
-    }
-
     /// Compares the list of that number with another, if they are known to share `known` texts. Returns their order, and a number of texts
     /// that they share.
     fn cmp_at<W: AsText>(&self, number: usize, list: &[W], known: usize) -> (Ordering, usize)
@@ -134,22 +152,6 @@ impl PathVec {
         ensures agreed { Agree result.1 (get_or self.now number []) (map W.bytes list.now) }
     {
         list_cmp(&self.nodes, self.numbers[number], list, known)
-    }
-
-    /// Appends the list that the cursor is at, if `at_list`, and those ahead.
-    pub fn extend_from_cursor(
-        &mut self,
-        at_list: bool,
-        cursor: &mut Cursor<'_>,
-    ) -> Result<(), Memory>
-        ensures { OnOk result (self.new ≡ self.old ++ ahead at_list cursor.old) }
-    {
-        let mut more = at_list;
-        while more {
-            self.push(cursor.path())?;
-            more = cursor.next()?;
-        }
-        Ok(())
     }
 
     /// Merges the lists of the other into these, each once. Copies no text of these. After an `Err` the lists are as before.

@@ -1,4 +1,4 @@
-use Rattle.std.proofs.Common.{◌≡◌, ◌∙◌, ap, sym, arith}
+use Rattle.std.proofs.Common.{◌∙◌, sym, arith}
 use Rattle.cadf_join.specs.Contents.{Texts}
 use Rattle.cadf_pathset.specs.Nodes.{last_text, list_at}
 use Rattle.cadf_pathset.proofs.Arena.{one_longer}

@@ -1,6 +1,5 @@
-use Rattle.std.proofs.Common.{◌≡◌, [], ◌++◌, ap, sym, subst, ◌∙◌, arith}
+use Rattle.std.proofs.Common.{[], sym, arith}
 use Rattle.std.proofs.lemmas.List.{append-nil}
-use Rattle.cadf_join.specs.Contents.{Texts}
 use Rattle.cadf_pathset.specs.Nodes.{last_text, list_at}
 use Rattle.cadf_pathset.proofs.Forks.{goes_further}
 use Rattle.cadf_pathset.proofs.fork.goes_on.Goals as goal

@@ -1,17 +1,16 @@
-use Rattle.std.proofs.Common.{◌≡◌, [], length, take, get_or, arith, ap, ◌∙◌}
+use Rattle.std.proofs.Common.{◌≡◌, [], length, map, take, get_or, arith, ap, ◌∙◌}
 use Rattle.std.proofs.lemmas.List.{length-map}
-use Rattle.cadf_join.specs.Prefixes.{texts_at}
 use Rattle.cadf_pathset.specs.Nodes.{place}
 use Rattle.cadf_pathset.proofs.Threads.{kept_again, line_on, place_of, self_line}
 use Rattle.cadf_pathset.proofs.lines.extend.Goals as goal
 
 pub loop-nodes-preserved : goal.loop-nodes-preserved
-loop-nodes-preserved c =
+loop-nodes-preserved g c =
     let h = c.loop-nodes.invariant in
-    let p = texts_at c.args.path.now in
+    let p = map g.W.AsText.bytes c.args.path.now in
     let at = place_of c.loop-nodes.nodes c.loop-nodes.line.items (take (length c.loop-nodes.line.items) p) h.line in
     let self = self_line c.loop-nodes.nodes c.loop-nodes.line.items (take (length c.loop-nodes.line.items) p) h.line in
-    let n = length-map c.args.path.now (λ t. t.now) in
+    let n = length-map c.args.path.now g.W.AsText.bytes in
     let more = c.loop-nodes-test.true in
     let e = c.len.ensures in
     let f = c.len-in-loop-nodes.ensures in

@@ -1,13 +1,12 @@
-use Rattle.std.proofs.Common.{◌≡◌, ◌-◌, length, take}
-use Rattle.cadf_join.specs.Prefixes.{texts_at}
+use Rattle.std.proofs.Common.{◌≡◌, ◌-◌, length, map, take}
 use Rattle.cadf_pathset.specs.Nodes.{IsLine}
 use Rattle.cadf_pathset.proofs.lines.extend.Given as goal
 
 abbrev pub invariant-loop-nodes : goal.invariant-loop-nodes
-invariant-loop-nodes l = record {
+invariant-loop-nodes g l = record {
   kept : take (length l.fn.nodes) l.nodes ≡ l.fn.nodes;
-  line : IsLine l.nodes l.line.items (take (length l.line.items) (texts_at l.path));
+  line : IsLine l.nodes l.line.items (take (length l.line.items) (map g.W.AsText.bytes l.path));
 }
 
 abbrev pub decreases-loop-nodes : goal.decreases-loop-nodes
-decreases-loop-nodes l = length l.path - length l.line.items
+decreases-loop-nodes g l = length l.path - length l.line.items

@@ -1,4 +1,4 @@
-use Rattle.std.proofs.Common.{◌≡◌, ◌<◌, length, arith, ap, sym, Some, ◌∙◌}
+use Rattle.std.proofs.Common.{◌<◌, length, arith, ap, sym, Some, ◌∙◌}
 use Rattle.cadf_join.specs.Contents.{Texts}
 use Rattle.cadf_pathset.specs.Nodes.{list_at}
 use Rattle.cadf_pathset.proofs.Climbs.{text_up}

@@ -1,4 +1,4 @@
-use Rattle.std.proofs.Common.{◌≡◌, drop, ap, sym, ◌∙◌, length, arith}
+use Rattle.std.proofs.Common.{◌≡◌, drop, ap, sym, ◌∙◌, arith}
 use Rattle.std.proofs.lemmas.List.{drop-map, length-map}
 use Rattle.cadf_join.specs.Prefixes.{chain_texts, texts_at}
 use Rattle.cadf_join.proofs.Outcome.{if_ok_then}

@@ -1,4 +1,4 @@
-use Rattle.std.proofs.Common.{◌≡◌, drop, get_or, [], map, length, ap, sym, ◌∙◌, arith}
+use Rattle.std.proofs.Common.{◌≡◌, drop, get_or, [], length, ap, sym, ◌∙◌, arith}
 use Rattle.std.proofs.lemmas.List.{length-map}
 use Rattle.std.specs.List.{drop-map}
 use Rattle.cadf_join.specs.Prefixes.{chain_texts}

@@ -1,0 +1,137 @@
+-- What lists share that are gone over and copied.
+use Rattle.std.proofs.Common.{◌≡◌, ℕ, Bool, true, false, cond, ◌≤◌, ◌<◌, ◌-◌, nat_eq, get_or, List, [], ◌∷◌, ◌++◌, refl, sym, ap, ◌∙◌, subst, suc, zero, length, min, map, take, arith}
+use Rattle.std.proofs.lemmas.List.{append_assoc}
+use Rattle.std.proofs.lemmas.Bool.Decides.{nat_tests}
+use Rattle.std.specs.List.{AllByRecursion, filter}
+use Rattle.std.specs.List.Sorted.{IsStrictlySortedBy}
+use Rattle.std.specs.declared.cmp.Ordering.{Ordering}
+use Rattle.std.specs.declared.cmp.Ordering.TheVariants.{Less, Equal, Greater}
+use Rattle.std.specs.Ordering.{match_ordering}
+use Rattle.cadf_join.specs.Contents.{Texts, texts_cmp}
+use Rattle.cadf_pathset.specs.Lists.{chosen_of, last_of}
+use Rattle.cadf_pathset.specs.Merge.{sorted_without}
+use Rattle.cadf_pathset.specs.Nodes.{Agree, IsLine, last_node, list_at, lists_at, place, shared}
+use Rattle.cadf_pathset.specs.Walks.{Place, Steps, ahead}
+use Rattle.cadf_pathset.proofs.Agreement.{agree_less, agree_through, agree_turned}
+use Rattle.cadf_pathset.proofs.CarrierLists.{last-more}
+use Rattle.cadf_pathset.proofs.Merging.{agree_shared}
+use Rattle.cadf_pathset.proofs.Threads.{line_cut, place_of}
+
+pub stepped_ahead : (more : Bool) (a b : Place) (n m : ℕ) → Steps more a b n m → ahead more b ≡ a.1
+stepped_ahead true a b n m h = sym h.0
+stepped_ahead false a b n m h = sym h.0
+
+-- what a list shares with another, and the next list with it
+pub advanced_agrees : (n s m : ℕ) (q a b : Texts) → Agree n q a → s ≡ shared b a → m ≡ min n s → Agree m q b
+advanced_agrees n s m q a b h e f =
+    agree_less (min n (shared b a)) m q b (omega (arith, e, f))
+    (agree_through n (shared b a) q a b h (agree_turned (shared b a) b a (agree_shared b a)))
+
+pub stepped_agrees : (more : Bool) (a b : Place) (n m : ℕ) (q : Texts) → Steps more a b n m → Agree n a.0 q → Agree m b.0 q
+stepped_agrees true a b n m q h k = agree_turned m q b.0 (advanced_agrees n (shared b.0 a.0) m q a.0 b.0 (agree_turned n a.0 q k) refl h.1)
+stepped_agrees false a b n m q h k = subst (λ p. Agree m p.0 q) (sym h.1) (subst (λ j. Agree j a.0 q) (sym h.2) k)
+
+-- the last of some lists is the one that was put
+pub last_agrees : (xs now : List Texts) (p q : Texts) (n : ℕ) → now ≡ xs ++ p ∷ [] → q ≡ p → n ≡ length q → Agree n (last_of [] now) q
+last_agrees xs now p q n put same long =
+    subst (λ z. Agree n z q) (same ∙ sym (ap (last_of []) put ∙ last-more [] xs p))
+    (record { ours = omega (arith, long); theirs = omega (arith, long); same = refl })
+
+same_number : (a b : ℕ) → nat_eq a b ≡ true → a ≡ b
+same_number a b e = grind (arith, nat_tests)
+
+last_node_of : (ls : List Texts) (p : Texts) (n : ℕ) (ns : List ℕ) → last_of p (lists_at ls (n ∷ ns)) ≡ list_at ls (get_or (n ∷ ns) (length ns) 0)
+last_node_of ls p n [] = refl
+last_node_of ls p n (m ∷ ns) = last_node_of ls (list_at ls n) m ns
+
+-- a line that ends at the last of some nodes
+pub node_is_last : (ls : List Texts) (line ns : List ℕ) (e : ℕ) → e ≡ last_node line → 1 ≤ length ns → nat_eq e (get_or ns (length ns - 1) 0) ≡ true
+    → place ls line ≡ last_of [] (lists_at ls ns)
+node_is_last ls line [] e is some same = absurd (omega (arith, some))
+node_is_last ls line (n ∷ ns) e is some same =
+    let k : length (n ∷ ns) - 1 ≡ length ns = omega arith in
+    ap (list_at ls) (sym is ∙ same_number e (get_or (n ∷ ns) (length (n ∷ ns) - 1) 0) same ∙ ap (λ j. get_or (n ∷ ns) j 0) k)
+    ∙ sym (last_node_of ls [] n ns)
+
+last_from : (l : Texts) (ls : List Texts) → get_or (l ∷ ls) (length ls) [] ≡ last_of l ls
+last_from l [] = refl
+last_from l (k ∷ ls) = last_from k ls
+
+pub last_got : (ls : List Texts) → 0 < length ls → get_or ls (length ls - 1) [] ≡ last_of [] ls
+last_got [] h = absurd (omega (arith, h))
+last_got (l ∷ ls) h =
+    let n : length (l ∷ ls) - 1 ≡ length ls = omega arith in
+    ap (λ k. get_or (l ∷ ls) k []) n ∙ last_from l ls
+
+take_least : (k m : ℕ) (l : Texts) → k ≡ min (length l) m → take k l ≡ take m l
+take_least k zero l e = let z : k ≡ 0 = omega (arith, e) in ap (λ j. take j l) z
+take_least k (suc m) [] e = let z : k ≡ 0 = omega (arith, e) in ap (λ j. take j []) z
+take_least zero (suc m) (t ∷ l) e = absurd (omega (arith, e))
+take_least (suc k) (suc m) (t ∷ l) e = ap (λ z. t ∷ z) (take_least k m l (omega (arith, e)))
+
+-- the line of the first texts of a list, as many as another has
+pub front_place : (ls : List Texts) (ns ms : List ℕ) (k m : ℕ) → IsLine ls ns (place ls ns) → k ≡ min (length ns) m → ms ≡ take k ns
+    → place ls ms ≡ take m (place ls ns)
+front_place ls ns ms k m h e cut =
+    let long = h.long in
+    ap (place ls) cut ∙ place_of ls (take k ns) (take k (place ls ns)) (line_cut ls ns (place ls ns) h k)
+    ∙ take_least k m (place ls ns) (omega (arith, e, long))
+
+-- one flag more
+pub chosen_on : (acc : List Texts) (bs : List Bool) (b : Bool) (l : Texts) (ls total : List Texts) → acc ++ chosen_of (b ∷ bs) (l ∷ ls) ≡ total
+    → (b ≡ true → (acc ++ l ∷ []) ++ chosen_of bs ls ≡ total) × (b ≡ false → acc ++ chosen_of bs ls ≡ total)
+chosen_on acc bs b l ls total h = (
+  λ e. append_assoc acc (l ∷ []) (chosen_of bs ls) ∙ ap (λ z. acc ++ cond z (l ∷ chosen_of bs ls) (chosen_of bs ls)) (sym e) ∙ h,
+  λ e. ap (λ z. acc ++ cond z (l ∷ chosen_of bs ls) (chosen_of bs ls)) (sym e) ∙ h,
+)
+
+pub chosen_none : (bs : List Bool) → chosen_of bs [] ≡ []
+chosen_none [] = refl
+chosen_none (b ∷ bs) = refl
+
+-- flags that a test gives
+pub chosen_by : (test : Texts → Bool) (ls : List Texts) → chosen_of (map test ls) ls ≡ filter test ls
+chosen_by test [] = refl
+chosen_by test (l ∷ ls) = ap (λ z. cond (test l) (l ∷ z) z) (chosen_by test ls)
+
+all_chosen : (P : Texts → Type 0) (bs : List Bool) (ls : List Texts) → AllByRecursion P ls → AllByRecursion P (chosen_of bs ls)
+all_chosen P [] ls h = tt
+all_chosen P (b ∷ bs) [] h = tt
+all_chosen P (true ∷ bs) (l ∷ ls) h = (h.0, all_chosen P bs ls h.1)
+all_chosen P (false ∷ bs) (l ∷ ls) h = all_chosen P bs ls h.1
+
+pub chosen_rises : (bs : List Bool) (ls : List Texts) → IsStrictlySortedBy texts_cmp ls → IsStrictlySortedBy texts_cmp (chosen_of bs ls)
+unfolding IsStrictlySortedBy
+chosen_rises [] ls h = tt
+chosen_rises (b ∷ bs) [] h = tt
+chosen_rises (true ∷ bs) (l ∷ ls) h = (all_chosen (λ x. texts_cmp l x ≡ Less) bs ls h.0, chosen_rises bs ls h.1)
+chosen_rises (false ∷ bs) (l ∷ ls) h = chosen_rises bs ls h.1
+
+pub agree_at : (n : ℕ) (p q a b : Texts) → Agree n p q → p ≡ a → q ≡ b → Agree n a b
+agree_at n p q a b h e f = subst (λ z. Agree n a z) f (subst (λ z. Agree n z q) e h)
+
+pub order_at : (p q a b : Texts) (r s : Ordering) → p ≡ a → q ≡ b → r ≡ texts_cmp p q → r ≡ s → texts_cmp a b ≡ s
+order_at p q a b r s e f o is = (λ i. texts_cmp (sym e i) (sym f i)) ∙ sym o ∙ is
+
+-- the turns of a difference
+module _ (acc total : List Texts) (more others : Bool) (a b : Place) (is : more ≡ true) (are : others ≡ true)
+    (h : acc ++ sorted_without texts_cmp (ahead more a) (ahead others b) ≡ total) where
+  turn : (r : Ordering) → texts_cmp a.0 b.0 ≡ r → acc ++ match_ordering r (a.0 ∷ sorted_without texts_cmp a.1 (b.0 ∷ b.1)) (sorted_without texts_cmp a.1 b.1)
+      (sorted_without texts_cmp (a.0 ∷ a.1) b.1) ≡ total
+  turn r e =
+      sym (ap (λ z. acc ++ match_ordering z (a.0 ∷ sorted_without texts_cmp a.1 (b.0 ∷ b.1)) (sorted_without texts_cmp a.1 b.1)
+      (sorted_without texts_cmp (a.0 ∷ a.1) b.1)) e)
+      ∙ (λ i. acc ++ sorted_without texts_cmp (ahead (sym is i) a) (ahead (sym are i) b)) ∙ h
+
+  pub left_less : (on : Bool) (c : Place) (now : List Texts) → texts_cmp a.0 b.0 ≡ Less → now ≡ acc ++ a.0 ∷ [] → ahead on c ≡ a.1
+      → now ++ sorted_without texts_cmp (ahead on c) (ahead others b) ≡ total
+  left_less on c now o put next =
+      (λ i. put i ++ sorted_without texts_cmp (next i) (ahead (are i) b)) ∙ append_assoc acc (a.0 ∷ []) (sorted_without texts_cmp a.1 (b.0 ∷ b.1)) ∙ turn Less o
+
+  pub left_equal : (on other : Bool) (c d : Place) (now : List Texts) → texts_cmp a.0 b.0 ≡ Equal → now ≡ acc → ahead on c ≡ a.1 → ahead other d ≡ b.1
+      → now ++ sorted_without texts_cmp (ahead on c) (ahead other d) ≡ total
+  left_equal on other c d now o same next after = (λ i. same i ++ sorted_without texts_cmp (next i) (after i)) ∙ turn Equal o
+
+  pub left_greater : (other : Bool) (d : Place) → texts_cmp a.0 b.0 ≡ Greater → ahead other d ≡ b.1
+      → acc ++ sorted_without texts_cmp (ahead more a) (ahead other d) ≡ total
+  left_greater other d o after = (λ i. acc ++ sorted_without texts_cmp (ahead (is i) a) (after i)) ∙ turn Greater o

@@ -1,0 +1,21 @@
+use Rattle.std.proofs.Common.{ap, sym, subst, ◌∙◌}
+use Rattle.std.specs.List.Sorted.{IsStrictlySortedBy}
+use Rattle.cadf_join.specs.Sets as set
+use Rattle.cadf_join.specs.Contents.{texts_cmp}
+use Rattle.cadf_join.specs.laws.Contents.{texts_total, texts_same}
+use Rattle.cadf_join.specs.laws.Rising.{rising-from_list}
+use Rattle.cadf_pathset.specs.Carriers.{with_carriers}
+use Rattle.cadf_pathset.specs.Lists.{chosen_of}
+use Rattle.cadf_pathset.proofs.Copies.{chosen_rises}
+use Rattle.cadf_pathset.proofs.path_set.PathSet.chosen_with_carriers.Goals as goal
+
+pub with_carriers-requires : goal.with_carriers-requires
+with_carriers-requires g c =
+    subst (IsStrictlySortedBy texts_cmp) (sym c.in_ok-lists.ensures) (chosen_rises c.args.flags.now c.self.inside.rows c.self.invariant)
+
+pub returns : goal.returns
+returns g c =
+    c.in_ok-rows.ensures.set
+    ∙ ap (λ ls. with_carriers g.C.Carrier.carrier (set.from_list ls)) (c.in_ok-lists.ensures
+    ∙ ap (chosen_of c.args.flags.now)
+    (sym (rising-from_list texts_total texts_same c.self.inside.rows c.self.invariant) ∙ ap set.rising c.self.view_is))
