@@ -22,6 +22,9 @@ CALLS = {
     "split": ["read_object_streaming", "ItemVisitor::take"],
     "check_list": ["check_list"],
     "has_json_syntax": ["has_json_syntax"],
+    "is_canonical": ["is_canonical"],
+    "spells_object": ["spells_object"],
+    "has_text_at": ["has_text_at"],
     "read_to_limit": ["read_to_limit", "MemorySource::new", "Source::read"],
     "read_rest": ["cadf_json::read_rest"],
     "read_by_std": ["FromStd::new", "FromStd::into_inner"],
@@ -141,6 +144,15 @@ NOT_PASSED = ["", "{}", "7", "[", "[]]", "[] []", "[1,]", "[1.5]", '[{"a":[1e2]}
 # Texts that may be JSON, and texts that are none.
 MAY_BE = ["{}", "[1.5]", ' {"a":1,"a":2} ', '"\\u0041"', "7", nested(127)]
 MAY_NOT = ["", '{"a":[{"a":1},{"a"', "[1,]", "[] []", '{"a":01}', "nul", nested(128)]
+
+# Canonical texts that are judged with no tree, and how deep they nest.
+JUDGED = [("null", 0), ("[]", 1), ('"\\u0001\\t\\""', 0), ('{"":{"a":[-9223372036854775808,18446744073709551615,0]},"a":1}', 3),
+          ('{"type\\u0000":4,"type\\"x":1,"typeURI":2,"é":"\x7f"}', 1), (nested(100), 100), (nested(127), 127)]
+# Texts that are not canonical: by an escape, a number, a blank, the order of names, or since they are no JSON.
+NOT_JUDGED = ['"\\u0041"', '"\\/"', '"\\u001F"', '"\\u000a"', '"\\ud83d\\ude00"', '["a","\\u0009"]', "-0", "1.0", "1e2", "[1.5]",
+              "18446744073709551616", "-9223372036854775809", "[1, 2]", "1\n", '{"b":1,"a":2}', '{"a":1,"a":2}',
+              '{"a":1.5,"a":1}', "", "[", "[1,]", "{}{}", "nul", nested(128)]
+NAMED = '{"id":"r","name":{"id":"s"},"no":1}'
 
 BYTES = b"twenty-two bytes long!"
 LONG = b"\x07" * 10000
@@ -264,6 +276,19 @@ def passed():
         yield "has_json_syntax", [text], [True], VALUES
     for text in MAY_NOT:
         yield "has_json_syntax", [text], [False], VALUES
+    for text, depth in JUDGED:
+        yield "is_canonical", [text, depth], [True], CANONICAL
+        yield "is_canonical", [text, 255], [True], CANONICAL
+        yield "spells_object", [text], [text.startswith("{")], VALUES
+        if depth:
+            yield "is_canonical", [text, depth - 1], [False], CANONICAL
+    for text in NOT_JUDGED:
+        yield "is_canonical", [text, 255], [False], CANONICAL
+    for name, expected, has in [("id", "r", True), ("id", "s", False), ("name", "s", False), ("no", "1", False),
+                                ("other", "r", False)]:
+        yield "has_text_at", [NAMED, name, expected], [has], VALUES
+    yield "has_text_at", ['["id","r"]', "id", "r"], [False], VALUES
+    yield "has_text_at", ['{"\\u0001":"\\n"}', "\x01", "\n"], [True], VALUES
 
 
 def streams():

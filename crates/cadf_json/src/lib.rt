@@ -1,11 +1,13 @@
 //! Whole-number JSON values, held or read into small trees that borrow their text; their canonical text; and where bytes come from and go to.
 #![tactic(auto)]
 
+mod canonical;
 mod laws;
 mod look;
 mod members;
 mod memory;
 mod number;
+mod object_text;
 mod owned;
 mod part;
 mod part_rewrite;
@@ -20,11 +22,13 @@ mod tree;
 mod value;
 mod view;
 
+pub use crate::canonical::is_canonical;
 pub use crate::laws::{
     bytes_spell_values, text_is_injective, text_is_one_line, text_spells_its_value,
 };
 pub use crate::members::{Member, Members};
 pub use crate::memory::{FailingWrite, MemorySink, MemorySource};
+pub use crate::object_text::{has_text_at, spells_object};
 pub use crate::read::TreeFault;
 pub use crate::skip::{check_list, has_json_syntax};
 pub use crate::stream::{Failed, FromStd, Sink, Source};

@@ -15,3 +15,29 @@ pub(crate) fn has_json_syntax(alloc: Global, text: &str) -> Result<String, Memor
     let may = cadf_json::has_json_syntax(alloc, text)?;
     format!(in alloc; "{may}")
 }
+
+/// Answers whether the text is canonical, of a value that nests no deeper than the number.
+pub(crate) fn is_canonical(alloc: Global, text: &str, depth: &str) -> Result<String, Memory> {
+    let Ok(depth) = depth.parse::<u8>() else {
+        return calls::answer(alloc, "no such depth", &[]);
+    };
+    let is = cadf_json::is_canonical(alloc, text, depth)?;
+    format!(in alloc; "{is}")
+}
+
+/// Answers whether the value of a canonical text is an object.
+pub(crate) fn spells_object(alloc: Global, text: &str) -> Result<String, Memory> {
+    let is = cadf_json::spells_object(alloc, text)?;
+    format!(in alloc; "{is}")
+}
+
+/// Answers whether the object of a canonical text has that text at that name.
+pub(crate) fn has_text_at(
+    alloc: Global,
+    text: &str,
+    name: &str,
+    expected: &str,
+) -> Result<String, Memory> {
+    let has = cadf_json::has_text_at(alloc, text, name, expected)?;
+    format!(in alloc; "{has}")
+}

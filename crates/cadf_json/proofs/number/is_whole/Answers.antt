@@ -1,14 +1,22 @@
-use Rattle.std.proofs.Common.{◌^◌, ◌<◌, SFits, w64, to_z-of_z, ap, ◌∙◌, arith}
-use Rattle.std.specs.Fmt.{signed_decimal}
-use Rattle.cadf_json.proofs.Settled.{IsWholeText-unsigned, IsWholeText-signed}
+use Rattle.std.proofs.Common.{Some, None, arith}
+use Rattle.std.proofs.lemmas.Str.Pattern.{strip_prefix_char}
+use Rattle.cadf_json.proofs.WholeTexts.{negative_text, unsigned_text, minus_whole, plain_whole}
 use Rattle.cadf_json.proofs.number.is_whole.Goals as goal
 
-pub returns-in-Ok : goal.returns-in-Ok
-returns-in-Ok c h =
-    let fits : c.in-Ok.n < 2 ^ 64 = omega arith in
-    IsWholeText-unsigned c.args.text.now c.in-Ok.n fits (c.spells_unsigned.ensures h)
+pub returns-in-Some-clause-yes : goal.returns-in-Some-clause-yes
+returns-in-Some-clause-yes c h =
+    negative_text c.args.text.now c.in-Some.magnitude.now (strip_prefix_char 45 c.args.text.now (Some c.in-Some.magnitude) c.in-Some.ensures.cases (omega arith))
+    (c.is_magnitude.ensures.yes h)
 
-pub returns-then-n-lt0 : goal.returns-then-n-lt0
-returns-then-n-lt0 c h =
-    let fits : SFits w64 c.in-Ok-parse.n = grind arith in
-    IsWholeText-signed c.args.text.now c.in-Ok-parse.n (grind arith) fits (c.spells_signed.ensures h ∙ ap signed_decimal (to_z-of_z fits))
+pub returns-in-Some-clause-no : goal.returns-in-Some-clause-no
+returns-in-Some-clause-no c h whole =
+    c.is_magnitude.ensures.no h
+    (minus_whole c.args.text.now c.in-Some.magnitude.now
+    (strip_prefix_char 45 c.args.text.now (Some c.in-Some.magnitude) c.in-Some.ensures.cases (omega arith)) whole)
+
+pub returns-in-None-clause-yes : goal.returns-in-None-clause-yes
+returns-in-None-clause-yes c h = unsigned_text c.args.text.now (c.is_unsigned.ensures.yes h)
+
+pub returns-in-None-clause-no : goal.returns-in-None-clause-no
+returns-in-None-clause-no c h whole =
+    c.is_unsigned.ensures.no h (plain_whole c.args.text.now (strip_prefix_char 45 c.args.text.now None c.in-None.ensures.cases (omega arith)) whole)

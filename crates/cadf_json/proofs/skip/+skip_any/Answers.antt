@@ -19,7 +19,7 @@ pub skip_any-returns-then-is_whole-clause-ok : goal.skip_any-returns-then-is_who
 skip_any-returns-then-is_whole-clause-ok t c =
     let rest = c.next.new.self in
     let is = c.in-Some.ensures.value ∙ ap (λ k. token_of k ∷ rest) c.in-Number.is in
-    let whole = whole_number c.in-Number.text.now (c.is_whole.ensures c.if-is_whole.true) in (
+    let whole = whole_number c.in-Number.text.now (c.is_whole.ensures.yes c.if-is_whole.true) in (
       whole.0,
       (
         ap (converted of_json) (ap (value c.args.depth) is ∙ value_is c.args.depth _) ∙ ap (λ n. option_map (λ d. (d, rest)) n) whole.1.0,

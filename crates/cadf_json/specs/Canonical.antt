@@ -1,0 +1,102 @@
+-- Texts that are canonical, as a whole and token by token.
+use Rattle.std.specs.Prelude.{◌≡◌, ◌<◌, ◌≤◌, ◌^◌, ℕ, List, length, decimal, Bool, true, false, Option, Some, None, ◌++◌}
+use Rattle.std.specs.Ordering.{nat_cmp, is_lt}
+use Rattle.std.specs.Cmp.Lexicographic.{slice_cmp}
+use Rattle.json.specs.Token.{Token}
+use Rattle.json.specs.Json as json
+use Rattle.json.specs.Json.{value, items, members}
+use Rattle.json.specs.Tree.{members_tokens}
+use Rattle.std.specs.Str.{bytes_eq}
+use Rattle.serde_json.specs.Data.{Data, null, boolean, number, string, array, object, Members, depth, members_depth}
+use Rattle.serde_json.specs.Find.{get_member}
+use Rattle.serde_json.specs.Written.{members_outline}
+use Rattle.cadf_json.specs.Value.{IsValue, Rises, text}
+use Rattle.cadf_json.specs.Tree.{named_in, IsNormalized, ItemsAreNormalized, MembersAreNormalized}
+
+-- the text is the canonical text of a value that nests at most n deep
+abbrev pub IsCanonicalWithin : ℕ → List ℕ → Type 0
+IsCanonicalWithin n s = (d : Data) × IsValue d × (depth d ≤ n) × (s ≡ text d)
+
+-- the tokens begin with a value whose numbers are whole and in their one spelling, and the names of each object rise
+abbrev pub IsOrdered : ℕ → List Token → List Token → Type 0
+IsOrdered depth ts rest = (j : json.Json) × (value depth ts ≡ Some (j, rest)) × IsNormalized j
+
+-- they begin with no such value
+abbrev pub IsUnordered : ℕ → List Token → Type 0
+IsUnordered depth ts = (j : json.Json) (rest : List Token) → value depth ts ≡ Some (j, rest) → ¬ IsNormalized j
+
+-- they begin with such items, up to the closing bracket
+abbrev pub AreItemsOrdered : ℕ → List Token → List Token → Type 0
+AreItemsOrdered depth ts rest = (js : json.Items) × (items (value depth) (length ts) ts ≡ Some (js, rest)) × ItemsAreNormalized js
+
+abbrev pub AreItemsUnordered : ℕ → List Token → Type 0
+AreItemsUnordered depth ts = (js : json.Items) (rest : List Token) → items (value depth) (length ts) ts ≡ Some (js, rest) → ¬ ItemsAreNormalized js
+
+-- the values of members are such, and their names rise
+abbrev pub MembersRise : json.Members → Type 0
+MembersRise ms = MembersAreNormalized ms × Rises (named_in ms)
+
+-- they begin with such members, up to the closing brace
+abbrev pub AreMembersOrdered : ℕ → List Token → List Token → Type 0
+AreMembersOrdered depth ts rest = (ms : json.Members) × (members (value depth) (length ts) ts ≡ Some (ms, rest)) × MembersRise ms
+
+abbrev pub AreMembersUnordered : ℕ → List Token → Type 0
+AreMembersUnordered depth ts = (ms : json.Members) (rest : List Token) → members (value depth) (length ts) ts ≡ Some (ms, rest) → ¬ MembersRise ms
+
+-- the name is above the last one, if there is one
+abbrev pub is_name_above : Option (List ℕ) → List ℕ → Bool
+is_name_above None k = true
+is_name_above (Some l) k = is_lt (slice_cmp nat_cmp l k)
+
+-- the text is the one spelling of a whole number without a sign
+abbrev pub IsUnsignedText : List ℕ → Type 0
+IsUnsignedText s = (n : ℕ) × (n < 2 ^ 64) × (s ≡ decimal n)
+
+-- the text may follow a minus
+abbrev pub IsMagnitude : List ℕ → Type 0
+IsMagnitude s = (n : ℕ) × (0 < n) × (n ≤ 2 ^ 63) × (s ≡ decimal n)
+
+-- ---- what is found among the tokens of a canonical text
+
+-- the token opens an object
+abbrev pub begins_object : Option Token → Bool
+begins_object None = false
+begins_object (Some Token.begin_object) = true
+begins_object (Some Token.end_object) = false
+begins_object (Some Token.begin_array) = false
+begins_object (Some Token.end_array) = false
+begins_object (Some (Token.key t)) = false
+begins_object (Some (Token.string t)) = false
+begins_object (Some (Token.number t)) = false
+begins_object (Some (Token.boolean b)) = false
+begins_object (Some Token.null) = false
+begins_object (Some Token.bad) = false
+
+-- the token is this text
+abbrev pub is_string_token : List ℕ → Option Token → Bool
+is_string_token s None = false
+is_string_token s (Some Token.begin_object) = false
+is_string_token s (Some Token.end_object) = false
+is_string_token s (Some Token.begin_array) = false
+is_string_token s (Some Token.end_array) = false
+is_string_token s (Some (Token.key t)) = false
+is_string_token s (Some (Token.string t)) = bytes_eq t s
+is_string_token s (Some (Token.number t)) = false
+is_string_token s (Some (Token.boolean b)) = false
+is_string_token s (Some Token.null) = false
+is_string_token s (Some Token.bad) = false
+
+-- the member is this text
+abbrev pub is_text : List ℕ → Option Data → Bool
+is_text s None = false
+is_text s (Some null) = false
+is_text s (Some (boolean b)) = false
+is_text s (Some (number n)) = false
+is_text s (Some (string t)) = bytes_eq t s
+is_text s (Some (array ds)) = false
+is_text s (Some (object ms)) = false
+
+-- of members that nest at most 126 deep it is told whether they have this text at that name
+abbrev pub FindsText : List ℕ → List ℕ → List Token → Bool → Type 0
+FindsText expected name ts found =
+    (ms : Members) (rest : List Token) → members_depth ms ≤ 126 → ts ≡ members_tokens (members_outline ms) ++ rest → found ≡ is_text expected (get_member name ms)

@@ -1,0 +1,75 @@
+//! What a canonical text says of its value, found among its tokens with no tree of it.
+
+ghost use Rattle.std.specs.Prelude.{◌≡◌, IfOk, option_map};
+ghost use Rattle.json.specs.Reads.{token_of};
+ghost use Rattle.serde_json.specs.Data.{Data};
+ghost use Rattle.serde_json.specs.Find.{get};
+ghost use Rattle.cadf_json.specs.Parts.{is_object};
+ghost use Rattle.cadf_json.specs.Value.{IsValue, text as text_of};
+ghost use Rattle.cadf_json.specs.Canonical.{begins_object, is_string_token, is_text, FindsText};
+
+use crate::Memory;
+use crate::tree::MAX_DEPTH;
+use json::{Reader, Scratch, Token};
+use std::alloc::Global;
+
+/// Returns whether the value of a canonical text is an object.
+pub fn spells_object(alloc: Global, text: &str) -> Result<bool, Memory>
+    ensures { IfOk result (λ b. (d : Data) → IsValue d → text.now ≡ text_of d → b ≡ is_object d) }
+{
+    let mut scratch = Scratch::new(alloc);
+    let mut reader = Reader::new(text, &mut scratch)?;
+    Ok(is_opening(reader.next()))
+}
+
+/// Returns whether the object of a canonical text has this text at that name. `false` for any other value.
+pub fn has_text_at(alloc: Global, text: &str, name: &str, expected: &str) -> Result<bool, Memory>
+    ensures { IfOk result (λ b. (d : Data) → IsValue d → text.now ≡ text_of d → b ≡ is_text expected.now (get name.now d)) }
+{
+    let mut scratch = Scratch::new(alloc);
+    let mut reader = Reader::new(text, &mut scratch)?;
+    if !is_opening(reader.next()) {
+        return Ok(false);
+    }
+    Ok(finds_text(&mut reader, name, expected))
+}
+
+/// Returns whether the next members have this text at that name.
+fn finds_text(reader: &mut Reader<'_>, name: &str, expected: &str) -> bool
+    ensures { FindsText expected.now name.now reader.old result }
+{
+    'members: loop {
+        let Ok(key) = reader.next_key() else {
+            return false;
+        };
+        let Some(key) = key else {
+            return false;
+        };
+        if name == key {
+            return is_string(reader.next(), expected);
+        }
+        let Ok(()) = reader.skip_value(MAX_DEPTH) else {
+            return false;
+        };
+    }
+}
+
+/// Returns whether the token opens an object.
+fn is_opening(token: Option<Token<'_>>) -> bool
+    ensures { result ≡ begins_object (option_map token_of token.entry) }
+{
+    match token {
+        Some(Token::BeginObject) => true,
+        _ => false,
+    }
+}
+
+/// Returns whether the token is this text.
+fn is_string(token: Option<Token<'_>>, expected: &str) -> bool
+    ensures { result ≡ is_string_token expected.now (option_map token_of token.entry) }
+{
+    match token {
+        Some(Token::String(text)) => text == expected,
+        _ => false,
+    }
+}
