@@ -22,6 +22,7 @@ CALLS = {
     "split": ["read_object_streaming", "ItemVisitor::take"],
     "check_list": ["check_list"],
     "has_json_syntax": ["has_json_syntax"],
+    "find_fraction": ["find_fraction"],
     "is_canonical": ["is_canonical"],
     "spells_object": ["spells_object"],
     "has_text_at": ["has_text_at"],
@@ -144,6 +145,12 @@ NOT_PASSED = ["", "{}", "7", "[", "[]]", "[] []", "[1,]", "[1.5]", '[{"a":[1e2]}
 # Texts that may be JSON, and texts that are none.
 MAY_BE = ["{}", "[1.5]", ' {"a":1,"a":2} ', '"\\u0041"', "7", nested(127)]
 MAY_NOT = ["", '{"a":[{"a":1},{"a"', "[1,]", "[] []", '{"a":01}', "nul", nested(128)]
+
+# Texts whose value has a number that isn't whole, texts whose value has none, and texts of which it isn't told.
+FRACTIONS = ["1.5", "-0", "[1,[{\"a\":1e2}]]", '{"a":1,"a":1.5}', '{"a":1.5,"b":1}', '{"a":1.5,"a":2.5}', '{"a":{"b":1,"b":1e1},"c":[]}',
+             "18446744073709551616", "[-9223372036854775809,1]"]
+NO_FRACTIONS = ["0", "[1,[{\"a\":-7}]]", '{"a":1,"a":2}', '"1.5"', " {} ", nested(127)]
+NOT_TOLD = ['{"a":1.5,"a":1}', "1e400", "[1.5,1e400]", "[1.5", "1.5 1", "", nested(128)]
 
 # Canonical texts that are judged with no tree, and how deep they nest.
 JUDGED = [("null", 0), ("[]", 1), ('"\\u0001\\t\\""', 0), ('{"":{"a":[-9223372036854775808,18446744073709551615,0]},"a":1}', 3),
@@ -276,6 +283,11 @@ def passed():
         yield "has_json_syntax", [text], [True], VALUES
     for text in MAY_NOT:
         yield "has_json_syntax", [text], [False], VALUES
+    for fraction, texts in [(True, FRACTIONS), (False, NO_FRACTIONS)]:
+        for text in texts:
+            yield "find_fraction", [text], ["some", fraction], VALUES
+    for text in NOT_TOLD:
+        yield "find_fraction", [text], ["none"], VALUES
     for text, depth in JUDGED:
         yield "is_canonical", [text, depth], [True], CANONICAL
         yield "is_canonical", [text, 255], [True], CANONICAL

@@ -102,7 +102,8 @@ not_ordered m n s within h (d, v, deep, e) = h (outline d) [] (canonical_value m
 pub not_ended : (m n : ℕ) (s : List ℕ) (t : Token) (r : List Token) → ((d : Data) → IsValue d → depth d ≤ n → depth d ≤ m) → IsOrdered m (tokens s) (t ∷ r)
     → ¬ IsCanonicalWithin n s
 not_ended m n s t r within h (d, v, deep, e) =
-    let other : ◌≡◌ {A = Option (json.Json × List Token)} (Some (outline d, [])) (Some (h.0, t ∷ r)) = sym (canonical_value m s d v (within d v deep) e) ∙ h.1 in
+    let other : ◌≡◌ {A = Option (json.Json × List Token)} (Some (outline d, [])) (Some (h.0, t ∷ r)) =
+    sym (canonical_value m s d v (within d v deep) e) ∙ h.1 in
     let same : ◌≡◌ {A = json.Json × List Token} (outline d, []) (h.0, t ∷ r) = cc in
     let ends : [] ≡ t ∷ r = ap (λ x. x.1) same in
     absurd cc

@@ -1,5 +1,6 @@
 -- Items and members that are judged in order, a turn at a time.
-use Rattle.std.proofs.Common.{◌≡◌, ℕ, zero, suc, ◌-◌, ◌<◌, ◌≤◌, List, ◌∷◌, length, IsUtf8, true, false, Option, Some, None, nat_cmp, refl, sym, ap, ◌∙◌, subst, arith}
+use Rattle.std.proofs.Common.{◌≡◌, ℕ, zero, suc, ◌-◌, ◌<◌, ◌≤◌, List, ◌∷◌, length, IsUtf8}
+use Rattle.std.proofs.Common.{true, false, Option, Some, None, nat_cmp, refl, sym, ap, ◌∙◌, subst, arith}
 use Rattle.std.specs.Prelude.{option_and_then}
 use Rattle.std.specs.Ordering.{is_lt}
 use Rattle.std.specs.declared.cmp.Ordering.{Ordering}
@@ -64,7 +65,8 @@ followed-item : (js : Items) (j : Json) (rest : Items) → followed js (item j r
 followed-item no_items j rest = refl
 followed-item (item i js) j rest = ap (item i) (followed-item js j rest)
 
-further_item : (js : Items) (j : Json) (r : Option (Items × List Token)) → parse_map (followed js) (parse_map (item j) r) ≡ parse_map (followed (with_item js j)) r
+further_item : (js : Items) (j : Json) (r : Option (Items × List Token)) → parse_map (followed js) (parse_map (item j) r)
+    ≡ parse_map (followed (with_item js j)) r
 further_item js j None = refl
 further_item js j (Some p) = ap (λ is. Some (is, p.1)) (followed-item js j p.0)
 
@@ -293,7 +295,8 @@ module _ (p : Parse Json) (start : List Token) where
   pub no_key_here : (last : Option (List ℕ)) (now : List Token) → MembersInOrder p start now last → read_key now ≡ None
       → (ms : Members) (rest : List Token) → members p (length start) start ≡ Some (ms, rest) → ¬ MembersRise ms
   no_key_here last now h none ms rest e rise =
-      let empty : ◌≡◌ {A = Option (Members × List Token)} None (Some (ms, rest)) = sym (h.left ∙ ap (parse_map (joined h.got)) (members_no_key p h.bound now none)) ∙ e in
+      let empty : ◌≡◌ {A = Option (Members × List Token)} None (Some (ms, rest)) =
+      sym (h.left ∙ ap (parse_map (joined h.got)) (members_no_key p h.bound now none)) ∙ e in
       absurd cc
 
   pub no_name_here : (last : Option (List ℕ)) (k : List ℕ) (now s : List Token) → MembersInOrder p start now last → read_key now ≡ Some (Some k, s)

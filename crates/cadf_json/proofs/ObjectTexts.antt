@@ -3,7 +3,8 @@ use Rattle.std.specs.Prelude.{option_map, MatchOption}
 use Rattle.json.specs.declared.token.Token as Read
 use Rattle.json.specs.Reads.{token_of}
 use Rattle.cadf_json.proofs.InOrder.{first_of}
-use Rattle.std.proofs.Common.{◌≡◌, ℕ, ◌≤◌, List, [], ◌∷◌, ◌++◌, bytes_eq, Bool, true, false, Option, Some, None, refl, sym, ap, ◌∙◌, subst, arith, append_assoc, append-nil}
+use Rattle.std.proofs.Common.{◌≡◌, ℕ, ◌≤◌, List, [], ◌∷◌, ◌++◌, bytes_eq, Bool, true, false}
+use Rattle.std.proofs.Common.{Option, Some, None, refl, sym, ap, ◌∙◌, subst, arith, append_assoc, append-nil}
 use Rattle.json.specs.Token.{Token}
 use Rattle.json.specs.Lex.{tokens}
 use Rattle.json.specs.Json.{read_key, skip_value}
@@ -58,7 +59,8 @@ some_key : (ms : Members) (rest : List Token) → read_key (members_tokens (memb
 some_key no_members rest e = absurd cc
 some_key (member l d ns) rest e = absurd cc
 
-string_first : (s : List ℕ) (d : Data) (rest : List Token) (t : Token) (r : List Token) → json_tokens (outline d) ++ rest ≡ t ∷ r → is_string_token s (Some t) ≡ is_text s (Some d)
+string_first : (s : List ℕ) (d : Data) (rest : List Token) (t : Token) (r : List Token) → json_tokens (outline d) ++ rest ≡ t ∷ r
+    → is_string_token s (Some t) ≡ is_text s (Some d)
 string_first s null rest t r e = let same : Token.null ≡ t = cc in ap (λ x. is_string_token s (Some x)) (sym same)
 string_first s (boolean b) rest t r e = let same : Token.boolean b ≡ t = cc in ap (λ x. is_string_token s (Some x)) (sym same)
 string_first s (number n) rest t r e = let same : Token.number (number_text n) ≡ t = cc in ap (λ x. is_string_token s (Some x)) (sym same)
@@ -125,7 +127,8 @@ pub key_fails : (name : List ℕ) (start now : List Token) → IsAhead name star
     → (ms : Members) (rest : List Token) → members_depth ms ≤ 126 → start ≡ members_tokens (members_outline ms) ++ rest → ⊥
 key_fails name start now ahead key ms rest deep e = let left = ahead ms rest deep e in some_key left.0 rest (ap read_key (sym left.2) ∙ key)
 
-pub none_ahead : (expected name : List ℕ) (start now s : List Token) → IsAhead name start now → read_key now ≡ Some (None, s) → FindsText expected name start false
+pub none_ahead : (expected name : List ℕ) (start now s : List Token) → IsAhead name start now → read_key now ≡ Some (None, s)
+    → FindsText expected name start false
 none_ahead expected name start now s ahead key ms rest deep e =
     let left = ahead ms rest deep e in
     let none = ended left.0 rest s (ap read_key (sym left.2) ∙ key) in

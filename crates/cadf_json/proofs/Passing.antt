@@ -15,7 +15,7 @@ abbrev pub followed : Items → Items → Items
 followed no_items rest = rest
 followed (item d ds) rest = item d (followed ds rest)
 
-followed-none : (ds : Items) → followed ds no_items ≡ ds
+pub followed-none : (ds : Items) → followed ds no_items ≡ ds
 followed-none no_items = refl
 followed-none (item d ds) = ap (item d) (followed-none ds)
 
@@ -28,7 +28,8 @@ followed-last : (ds : Items) (d : Data) (rest : Items) → followed ds (item d r
 followed-last no_items d rest = refl
 followed-last (item e ds) d rest = ap (item e) (followed-last ds d rest)
 
-further : (ds : Items) (d : Data) (r : Option (Items × List Token)) → parse_map (followed ds) (parse_map (item d) r) ≡ parse_map (followed (with_last d ds)) r
+pub further : (ds : Items) (d : Data) (r : Option (Items × List Token)) → parse_map (followed ds) (parse_map (item d) r)
+    ≡ parse_map (followed (with_last d ds)) r
 further ds d None = refl
 further ds d (Some p) = ap (λ es. Some (es, p.1)) (followed-last ds d p.0)
 
@@ -42,7 +43,7 @@ float-last (item e ds) d h k =
     let both = or_parts (has_float e) (items_have_float ds) h in
     rw (both.0, float-last ds d both.1 k) refl
 
-parsed_none : (r : Option (Items × List Token)) → r ≡ parse_map (followed no_items) r
+pub parsed_none : (r : Option (Items × List Token)) → r ≡ parse_map (followed no_items) r
 parsed_none None = refl
 parsed_none (Some p) = refl
 

@@ -18,7 +18,7 @@ itself_at Less k is = absurd (let other = greater-from_less k k is in cc)
 itself_at Equal k is = is
 itself_at Greater k is = absurd (let other = less-from_greater k k is in cc)
 
-itself : (k : List ℕ) → slice_cmp nat_cmp k k ≡ Equal
+pub itself : (k : List ℕ) → slice_cmp nat_cmp k k ≡ Equal
 itself k = itself_at _ k refl
 
 -- ---- at one name the later one stays

@@ -1,7 +1,8 @@
 -- Which texts spell whole numbers: with a minus, and without.
 use Rattle.std.specs.Str.Parse.{ParsesUnsigned}
 use Rattle.std.proofs.lemmas.Slice.Eq.{bytes_eq-Decides}
-use Rattle.std.proofs.Common.{bytes_eq, true, false, Ok, Err, Result, ◌≡◌, ◌≢◌, ℕ, zero, suc, ◌^◌, ◌<◌, negsuc, pos, List, ◌∷◌, get_or, decimal, sym, ap, ◌∙◌, arith}
+use Rattle.std.proofs.Common.{bytes_eq, true, false, Ok, Err, Result, ◌≡◌, ◌≢◌, ℕ, zero, suc}
+use Rattle.std.proofs.Common.{◌^◌, ◌<◌, negsuc, pos, List, ◌∷◌, get_or, decimal, sym, ap, ◌∙◌, arith}
 use Rattle.std.proofs.lemmas.Fmt.{first_decimal, decimal_digit, parse-decimal}
 use Rattle.serde_json.specs.Data.{unsigned, negative, float}
 use Rattle.cadf_json.specs.Tree.{IsWholeText}

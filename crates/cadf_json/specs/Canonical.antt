@@ -99,4 +99,5 @@ is_text s (Some (object ms)) = false
 -- of members that nest at most 126 deep it is told whether they have this text at that name
 abbrev pub FindsText : List ℕ → List ℕ → List Token → Bool → Type 0
 FindsText expected name ts found =
-    (ms : Members) (rest : List Token) → members_depth ms ≤ 126 → ts ≡ members_tokens (members_outline ms) ++ rest → found ≡ is_text expected (get_member name ms)
+    (ms : Members) (rest : List Token) → members_depth ms ≤ 126 → ts ≡ members_tokens (members_outline ms) ++ rest
+    → found ≡ is_text expected (get_member name ms)

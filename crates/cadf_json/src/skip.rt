@@ -1,33 +1,35 @@
-//! Skips values, and keeps nothing of them.
-ghost use Rattle.std.specs.Prelude.{◌≡◌, ◌<◌, length, false, IfOk, OnOk};
-ghost use Rattle.cadf_json.specs.Passed.{IsPassed, AreItemsPassed, AreMembersPassed, SpellsList};
+//! Skips values, and keeps nothing of them but whether a number that counts has a fraction.
+ghost use Rattle.std.specs.Prelude.{◌≡◌, ◌<◌, length, true, false, IfOk, IfSome, OnOk, option_map};
+ghost use Rattle.json.specs.Print.{IsNumber};
+ghost use Rattle.serde_json.specs.Data.{Data, Members, put};
+ghost use Rattle.serde_json.specs.Written.{has_float};
+ghost use Rattle.cadf_json.specs.Passed.{IsPassed, AreItemsPassed, AreMembersPassed, IsNumberPassed, HasCounted, IsValueWith, SpellsList};
 ghost use Rattle.cadf_json.specs.Value.{IsNoJson};
 
 use crate::Memory;
 use crate::number::is_whole;
 use crate::read::TreeFault;
 use crate::tree::MAX_DEPTH;
+use crate::value::has_fraction;
 use json::{Reader, Scratch, Token};
+use serde_json::Value;
 use std::alloc::Global;
 
-// Skips the next value. Lists and objects may nest `depth` deep.
+// Skips the next value. Lists and objects may nest `depth` deep. Returns whether a number that counts has a fraction: of two
+// members of one name the later one counts.
 #[cycle(skip_any)]
-fn skip_any(reader: &mut Reader<'_>, depth: usize) -> Result<(), TreeFault>
-    ensures ok { OnOk result (IsPassed depth reader.old reader.new) }
+fn skip_any(alloc: Global, reader: &mut Reader<'_>, depth: usize) -> Result<bool, TreeFault>
+    ensures ok { IfOk result (IsPassed depth reader.old reader.new) }
     ensures shorter { OnOk result (length reader.new < length reader.old) }
 {
     let Some(token) = reader.next() else {
         return Err(TreeFault::NeedsFullParse);
     };
     match token {
-        Token::String(_) => Ok(()),
-        Token::Number(text) => if is_whole(text) {
-            Ok(())
-        } else {
-            Err(TreeFault::NeedsFullParse)
-        },
-        Token::Bool(_) => Ok(()),
-        Token::Null => Ok(()),
+        Token::String(_) => Ok(false),
+        Token::Number(text) => Ok(is_fraction(alloc, text)?),
+        Token::Bool(_) => Ok(false),
+        Token::Null => Ok(false),
         Token::EndObject | Token::EndArray | Token::Key(_) | Token::Bad => Err(
             TreeFault::NeedsFullParse,
         ),
@@ -35,45 +37,86 @@ fn skip_any(reader: &mut Reader<'_>, depth: usize) -> Result<(), TreeFault>
             if depth == 0 {
                 return Err(TreeFault::NeedsFullParse);
             }
-            skip_items(reader, depth - 1)?;
-            Ok(())
+            Ok(skip_items(alloc, reader, depth - 1)?)
         }
         Token::BeginObject => {
             if depth == 0 {
                 return Err(TreeFault::NeedsFullParse);
             }
-            skip_members(reader, depth - 1)?;
-            Ok(())
+            Ok(skip_members(alloc, reader, depth - 1)?)
         }
     }
 }
 
 #[cycle(skip_any)]
 #[inline(never)]
-fn skip_items(reader: &mut Reader<'_>, depth: usize) -> Result<(), TreeFault>
-    ensures ok { OnOk result (AreItemsPassed depth reader.old reader.new) }
+fn skip_items(alloc: Global, reader: &mut Reader<'_>, depth: usize) -> Result<bool, TreeFault>
+    ensures ok { IfOk result (AreItemsPassed depth reader.old reader.new) }
     ensures shorter { OnOk result (length reader.new < length reader.old) }
 {
+    let mut fraction = false;
     'items: while !reader.take_end_array() {
-        skip_any(reader, depth)?;
+        fraction |= skip_any(alloc, reader, depth)?;
     }
-    Ok(())
+    Ok(fraction)
 }
 
 #[cycle(skip_any)]
 #[inline(never)]
-fn skip_members(reader: &mut Reader<'_>, depth: usize) -> Result<(), TreeFault>
-    ensures ok { OnOk result (AreMembersPassed depth reader.old reader.new) }
+fn skip_members<'a>(alloc: Global, reader: &mut Reader<'a>, depth: usize) -> Result<bool, TreeFault>
+    ensures ok { IfOk result (AreMembersPassed depth reader.old reader.new) }
     ensures shorter { OnOk result (length reader.new < length reader.old) }
 {
+    let mut counted: Option<&'a str> = None;
     'members: loop {
         let Ok(key) = reader.next_key() else {
             return Err(TreeFault::NeedsFullParse);
         };
-        let Some(_) = key else {
-            return Ok(());
+        let Some(name) = key else {
+            return match counted {
+                Some(_) => Ok(true),
+                None => Ok(false),
+            };
         };
-        skip_any(reader, depth)?;
+        let fraction = skip_any(alloc, reader, depth)?;
+        counted = counted_with(counted, name, fraction)?;
+    }
+}
+
+// The name of a member with a fraction, once a further member is put among the others. It can't tell where that member
+// replaces the one of that name.
+fn counted_with<'a>(
+    counted: Option<&'a str>,
+    name: &'a str,
+    fraction: bool,
+) -> Result<Option<&'a str>, TreeFault>
+    ensures { IfOk result (λ after. (d : Data) (ms : Members) → has_float d ≡ fraction → HasCounted (option_map (λ s. s.now) counted.entry) ms
+        → HasCounted (option_map (λ s. s.now) after) (put name.now d ms)) }
+{
+    if fraction {
+        return Ok(Some(name));
+    }
+    let Some(other) = counted else {
+        return Ok(None);
+    };
+    if other == name {
+        return Err(TreeFault::NeedsFullParse);
+    }
+    Ok(Some(other))
+}
+
+// Whether the number has a fraction, or is out of range. It can't tell of one that has no value.
+fn is_fraction(alloc: Global, text: &str) -> Result<bool, TreeFault>
+    requires { IsNumber text.now }
+    ensures { IfOk result (IsNumberPassed text.now) }
+{
+    if is_whole(text) {
+        return Ok(false);
+    }
+    match Value::from_str(alloc, text) {
+        Ok(value) => Ok(has_fraction(&value)),
+        Err(error) if error.is_memory() => Err(TreeFault::Memory),
+        Err(_) => Err(TreeFault::NeedsFullParse),
     }
 }
 
@@ -87,11 +130,31 @@ pub fn check_list(alloc: Global, text: &str) -> Result<(), TreeFault>
     let Some(Token::BeginArray) = reader.next() else {
         return Err(TreeFault::NeedsFullParse);
     };
-    skip_items(&mut reader, MAX_DEPTH - 1)?;
+    if skip_items(alloc, &mut reader, MAX_DEPTH - 1)? {
+        return Err(TreeFault::NeedsFullParse);
+    }
     if reader.next().is_some() {
         return Err(TreeFault::NeedsFullParse);
     }
     Ok(())
+}
+
+/// Returns whether a number that counts isn't whole in the value that the text spells, and keeps nothing of it. `None`: it can't
+/// tell, or the text spells no value.
+pub fn find_fraction(alloc: Global, text: &str) -> Result<Option<bool>, Memory>
+    ensures { IfOk result (λ found. IfSome found (λ fraction. IsValueWith fraction text.now)) }
+{
+    let mut scratch = Scratch::new(alloc);
+    let mut reader = Reader::new(text, &mut scratch)?;
+    let fraction = match skip_any(alloc, &mut reader, MAX_DEPTH) {
+        Ok(fraction) => fraction,
+        Err(TreeFault::NeedsFullParse) => return Ok(None),
+        Err(TreeFault::Memory) => return Err(Memory),
+    };
+    if reader.next().is_some() {
+        return Ok(None);
+    }
+    Ok(Some(fraction))
 }
 
 /// Returns whether the text has JSON's syntax, nesting at most 127 deep. Such a text may still be

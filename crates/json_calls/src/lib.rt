@@ -22,6 +22,7 @@ pub fn answered(alloc: Global, call: &Call) -> Result<String, Memory> {
         "split" => splits::split(alloc, call.text(1), call.text(2)),
         "check_list" => passes::list(alloc, call.text(1)),
         "has_json_syntax" => passes::has_json_syntax(alloc, call.text(1)),
+        "find_fraction" => passes::find_fraction(alloc, call.text(1)),
         "is_canonical" => passes::is_canonical(alloc, call.text(1), call.text(2)),
         "spells_object" => passes::spells_object(alloc, call.text(1)),
         "has_text_at" => passes::has_text_at(alloc, call.text(1), call.text(2), call.text(3)),

@@ -41,3 +41,11 @@ pub(crate) fn has_text_at(
     let has = cadf_json::has_text_at(alloc, text, name, expected)?;
     format!(in alloc; "{has}")
 }
+
+/// Answers whether a number of the text that counts isn't whole, as far as that is told.
+pub(crate) fn find_fraction(alloc: Global, text: &str) -> Result<String, Memory> {
+    match cadf_json::find_fraction(alloc, text)? {
+        Some(fraction) => format!(in alloc; "some\t{fraction}"),
+        None => calls::answer(alloc, "none", &[]),
+    }
+}

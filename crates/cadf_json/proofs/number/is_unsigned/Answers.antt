@@ -10,7 +10,8 @@ returns-in-Ok-clause-yes c h =
 
 pub returns-in-Ok-clause-no : goal.returns-in-Ok-clause-no
 returns-in-Ok-clause-no c h (n, fits, is) =
-    not_spelled c.in-Ok.n n c.args.text.now (sym c.spells.ensures ∙ h) (parsed_as c.args.text.now c.parse.result c.in-Ok.n c.parse.ensures.value.0 c.in-Ok.is n fits is) is
+    not_spelled c.in-Ok.n n c.args.text.now (sym c.spells.ensures ∙ h)
+    (parsed_as c.args.text.now c.parse.result c.in-Ok.n c.parse.ensures.value.0 c.in-Ok.is n fits is) is
 
 pub returns-in-Err-clause-no : goal.returns-in-Err-clause-no
 returns-in-Err-clause-no c h (n, fits, is) = not_parsed c.args.text.now c.parse.result c.in-Err.field-0 c.parse.ensures.value.0 c.in-Err.is n fits is

@@ -5,7 +5,8 @@ use Rattle.cadf_json.proofs.number.is_whole.Goals as goal
 
 pub returns-in-Some-clause-yes : goal.returns-in-Some-clause-yes
 returns-in-Some-clause-yes c h =
-    negative_text c.args.text.now c.in-Some.magnitude.now (strip_prefix_char 45 c.args.text.now (Some c.in-Some.magnitude) c.in-Some.ensures.cases (omega arith))
+    negative_text c.args.text.now c.in-Some.magnitude.now
+    (strip_prefix_char 45 c.args.text.now (Some c.in-Some.magnitude) c.in-Some.ensures.cases (omega arith))
     (c.is_magnitude.ensures.yes h)
 
 pub returns-in-Some-clause-no : goal.returns-in-Some-clause-no

@@ -17,4 +17,4 @@ returns c =
     let opened = ap (converted of_json) (ap (value 127) begins ∙ value-begin_array 127 rest (omega arith))
     ∙ converted-array (items (value 126) (length rest) rest) in
     let whole = opened ∙ ap (parse_map array) passed.1.0 ∙ ap (λ r. Some (array passed.0, r)) none in
-    (passed.0, (c.utf8.text, whole_read (value 127 (tokens c.args.text.now)) _ whole, passed.1.1))
+    (passed.0, (c.utf8.text, whole_read (value 127 (tokens c.args.text.now)) _ whole, passed.1.1 ∙ c.if-branch.false))
