@@ -59,6 +59,7 @@ STAGES = [
         "join-many": ".ci/join-many",
         "many-sites": "examples/many-sites.py",
         "parcelled": "examples/parcelled.py",
+        "shapes": "bench/shapes.py --gate",
         "exit-codes": ".ci/exit-codes",
         "rows": "differential/rows.py " + CADF,
         "vectors": "differential/vectors.py " + CADF,

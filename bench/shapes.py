@@ -12,8 +12,9 @@ the last differs, of an eighth of the size.
 
 A line has the bytes that are read at the least size, the least processor seconds of the runs at each size, the factor of
 each doubling, the greatest memory, and the memory a byte. At the end each command's time on `chains-256` is compared with
-that on as many chains of `chains-64`, and the time a byte with that on `events`. These three, and the memory a byte, are
-taken between the two greatest sizes, so what any run takes doesn't count.
+that on as many chains of `chains-64`, and the time a byte with that on `events`; not that of `show`, which writes each
+chain whole. These three, and the memory a byte, are taken between the two greatest sizes, so what any run takes doesn't
+count.
 
 The aims: a doubling 2.3; 256 steps to 64 steps 1.3; a byte of deep chains to an ordinary one 4; memory a byte 12 for
 tiny objects and fractions. For other files of at least 50 MB it is 3, and 80 an atom more for `inventory` and
@@ -232,7 +233,7 @@ def compared(rows):
     """Compares deep chains with each other and with ordinary events. Returns how many ratios are above their aims."""
     found = {(row.name, row.command): row for row in rows if row.form == "file"}
     missed = 0
-    for command in dict.fromkeys(row.command for row in rows):
+    for command in dict.fromkeys(row.command for row in rows if row.command != "show"):
         deep, flat, plain = (found.get((name, command)) for name in ("chains-256", "chains-64", "events"))
         if deep and flat:
             missed += tell_ratio(command, "256 steps to 64", deep.rise("cost") / flat.rise("cost"), STEPS)
