@@ -1,0 +1,9 @@
+pub mod Cancelling
+pub mod CellLemmas
+pub mod CheckLemmas
+pub mod DigestLemmas
+pub mod EnoughLemmas
+pub mod FlipLemmas
+pub mod PeelLemmas
+pub mod PendingLemmas
+pub mod TallyLemmas

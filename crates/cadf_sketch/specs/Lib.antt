@@ -1,0 +1,10 @@
+pub mod Answers
+pub mod Cells
+pub mod Enough
+pub mod Flips
+pub mod Layouts
+pub mod Peeling
+pub mod Refusals
+pub mod Sketches
+pub mod Tallies
+pub mod Texts
