@@ -4,6 +4,12 @@ pub mod CheckLemmas
 pub mod DigestLemmas
 pub mod EnoughLemmas
 pub mod FlipLemmas
+pub mod LineLemmas
+pub mod NumberLemmas
 pub mod PeelLemmas
 pub mod PendingLemmas
+pub mod SketchFileLemmas
 pub mod TallyLemmas
+pub mod ToldLemmas
+pub mod WholeLemmas
+pub mod WriteLemmas

@@ -5,6 +5,11 @@ pub mod Flips
 pub mod Layouts
 pub mod Peeling
 pub mod Refusals
+pub mod SketchFile
+pub mod SketchLines
+pub mod SketchReads
+pub mod SketchVerdict
 pub mod Sketches
 pub mod Tallies
 pub mod Texts
+pub mod Words

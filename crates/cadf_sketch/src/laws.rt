@@ -1,5 +1,5 @@
 //! Laws over the definitions alone. Each function's contract is a theorem, and its body is empty.
-ghost use Rattle.std.specs.Prelude.{◌≡◌, ◌<◌, ◌*◌, ℕ, length};
+ghost use Rattle.std.specs.Prelude.{◌≡◌, ◌<◌, ◌≤◌, ◌*◌, ℕ, length, false, Ok};
 ghost use Rattle.std.specs.List.{filter};
 ghost use Rattle.cadf_join.specs.Sets as set;
 ghost use Rattle.cadf_join.specs.Sets.{rising};
@@ -17,6 +17,10 @@ ghost use Rattle.cadf_sketch.specs.Answers.{IsAnswer};
 ghost use Rattle.cadf_file.specs.InventoryFile.{IsInventory};
 ghost use Rattle.cadf_line.specs.Digest.{atom_digest};
 ghost use Rattle.cadf_set.specs.Replica.{ReplicaModel};
+ghost use Rattle.cadf_sketch.specs.SketchFile.{IsSketch, SketchFileIsInjective, sketch_file};
+ghost use Rattle.cadf_sketch.specs.SketchVerdict.{AcceptsSketches, sketch_verdict};
+
+use crate::sketch::Sketch;
 
 /// What is read from a sketch is the inventory that it was made of, where the files of the two, if they differ, share no digest.
 pub fn read_is_what_was_sketched()
@@ -44,3 +48,22 @@ pub fn enough_cells_are_read()
     ensures read { (own n : InventoryModel) (layout : LayoutModel) → 0 < layout.size → own.log ≡ n.log
         → AreDigests own.digests → AreDigests n.digests → IsEnough layout (apart n.digests own.digests) → HasTooFewCells own (sketch_of n layout) → ⊥ }
 {}
+
+/// States that a sketch's file is injective: equal bytes have the same sketch.
+pub fn sketch_file_is_injective()
+    ensures { SketchFileIsInjective }
+{}
+
+/// States that bytes are accepted if and only if they are the file of a sketch, within the limit.
+pub fn accepted_bytes_are_sketches()
+    ensures { AcceptsSketches }
+{}
+
+/// The file of a sketch is accepted if it is within the limit, and read as that sketch.
+pub fn sketch_is_read_back(sketch: &Sketch)
+    ensures sketch { IsSketch sketch.now }
+    ensures read { (limit : ℕ) → length (sketch_file sketch.now) ≤ limit
+        → sketch_verdict limit false (sketch_file sketch.now) ≡ Ok sketch.now }
+{
+    sketch.type_invariant();
+}

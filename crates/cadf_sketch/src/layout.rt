@@ -1,6 +1,6 @@
 //! How the cells of a sketch are laid out.
 ghost use Rattle.std.specs.Prelude.{◌≡◌, ◌<◌, ◌≤◌, ◌*◌, ◌^◌, IfSome};
-ghost use Rattle.cadf_sketch.specs.Layouts.{layout_of};
+ghost use Rattle.cadf_sketch.specs.Layouts.{layout_of, IsLayout};
 
 use std::marker::Model;
 
@@ -28,17 +28,25 @@ impl Model for Layout {
 impl Layout {
     /// Returns the layout of that many cells with that salt. `None` unless the cells are a multiple of 3, from 3 to
     /// 3 * 2^22, and the salt is odd.
-    pub fn of(cells: u32, salt: u64) -> Option<Layout>
+    pub fn of(cells: u64, salt: u64) -> Option<Layout>
         ensures { result ≡ layout_of cells salt }
     {
         if cells % 3 == 0 && 3 <= cells && cells <= 12_582_912 && salt % 2 == 1 {
             Some(Layout {
-                size: cells / 3,
+                size: (cells / 3) as u32,
                 salt,
             })
         } else {
             None
         }
+    }
+
+    /// States the type invariant of a layout. Does nothing.
+    pub fn type_invariant(self)
+        ensures layout { IsLayout self }
+        ensures salt { self.salt < 2 ^ 64 }
+    {
+        let _salt = self.salt;
     }
 
     /// Returns the number of cells of all three tables.

@@ -2,11 +2,15 @@
 ghost use Rattle.std.specs.Prelude.{◌≡◌, ◌*◌, IfOk, length, replicate};
 ghost use Rattle.cadf_join.specs.Sets.{rising};
 ghost use Rattle.cadf_sketch.specs.Cells.{nothing, turned_all};
+ghost use Rattle.cadf_event.specs.Known.{IsNameText};
+ghost use Rattle.cadf_sketch.specs.SketchFile.{HasParts};
 ghost use Rattle.cadf_sketch.specs.Sketches.{sketch_of};
+ghost use Rattle.cadf_sketch.specs.SketchVerdict.{sketch_of_parts};
 ghost use Rattle.cadf_sketch.specs.Tallies.{tally_of};
 
 use crate::cell::Cell;
 use crate::digest::inventory_digest;
+use crate::head::Head;
 use crate::layout::Layout;
 use crate::tally::Tally;
 use crate::turn::turn;
@@ -27,8 +31,8 @@ pub struct Sketch {
 }
 
 impl Model for Sketch {
-    ghost use Rattle.std.specs.Prelude.{◌≡◌, ◌*◌, length};
     ghost use Rattle.cadf_sketch.specs.Sketches.{SketchModel, coded_sketch};
+    ghost use Rattle.cadf_sketch.specs.SketchFile.{HasParts};
 
     ghost Value = { SketchModel };
 
@@ -36,7 +40,7 @@ impl Model for Sketch {
 
     ghost view = { λ s. record { log = s.log; layout = s.layout; digest = s.digest; tally = s.tally; cells = s.cells.items } };
 
-    ghost invariant = { λ s. length s.cells.items ≡ 3 * s.layout.size };
+    ghost invariant = { λ s. HasParts (record { log = s.log; layout = s.layout; digest = s.digest; tally = s.tally; cells = s.cells.items }) };
 }
 
 /// Makes cells without a digest.
@@ -74,15 +78,42 @@ impl Sketch {
     pub fn of(alloc: Global, inventory: &Inventory, layout: Layout) -> Result<Sketch, Memory>
         ensures { IfOk result (λ s. s ≡ sketch_of inventory.now layout) }
     {
+        inventory.type_invariant();
+        layout.type_invariant();
         let mut cells = empty_cells(alloc, layout.cells())?;
         turn_all(&mut cells, inventory, layout);
+        let digest = inventory_digest(alloc, inventory)?;
         Ok(Sketch {
             log: inventory.log().copy(alloc)?,
             layout,
-            digest: inventory_digest(alloc, inventory)?,
+            digest,
             tally: tally(inventory),
             cells,
         })
+    }
+
+    /// Makes the sketch of these parts.
+    pub(crate) fn from_parts(log: Name, head: Head, tally: Tally, cells: Vec<Cell>) -> Sketch
+        requires { HasParts (sketch_of_parts log head tally cells.items) }
+        ensures { result ≡ sketch_of_parts log head tally cells.items }
+    {
+        let Head { layout, digest } = head;
+        Sketch {
+            log,
+            layout,
+            digest,
+            tally,
+            cells,
+        }
+    }
+
+    /// States the type invariant of a sketch: what its file can hold. Does nothing.
+    pub fn type_invariant(&self)
+        ensures log { IsNameText self.now.log }
+        ensures parts { HasParts self.now }
+    {
+        self.log.type_invariant();
+        let _cells = &self.cells;
     }
 
     /// Returns the identifier of the log.
