@@ -1,0 +1,8 @@
+use Rattle.cadf_file.specs.InventoryFile.{inventory_file}
+use Rattle.cadf_tool.specs.MissingBy.{inventory_model_of}
+use Rattle.cadf_tool.specs.Run.{input_spec}
+use Rattle.cadf_c.proofs.Handed.{handed}
+use Rattle.cadf_c.proofs.cadf_inventory.Goals as goal
+
+pub returns : goal.returns
+returns c = λ zero. handed _ inventory_file _ _ _ input_spec inventory_model_of _ _ c.inventory.ensures.ok (c.answer.ensures zero)

@@ -1,0 +1,20 @@
+-- Sources in a list, of which each tells what it has left and no read fails.
+use Rattle.std.proofs.Common.{◌≡◌, ℕ, List, [], ◌∷◌, map, Option, Some, refl}
+use Rattle.cadf_json.specs.declared.stream.Source.{Ghosts as Source}
+use Rattle.cadf_tool.specs.Inputs.{SourceState, source_state}
+use Rattle.cadf_memory.specs.Refused.{NoReadFailed}
+
+same_lists : {T : Type 0} (x y : T) (xs ys : List T) → x ≡ y → xs ≡ ys → x ∷ xs ≡ y ∷ ys
+same_lists x y xs ys e f = cc
+
+module _ {S : Type 0} (source : Source S) where
+  pub lefts : (left : S → List ℕ) → ((s : S) → source.left s ≡ Some (left s)) → (ss : List S)
+      → map (λ (s : SourceState). s.left) (map (source_state source) ss) ≡ map Some (map left ss)
+  lefts left known [] = refl
+  lefts left known (s ∷ ss) =
+      same_lists (source.left s) (Some (left s)) (map (λ (s : SourceState). s.left) (map (source_state source) ss))
+      (map Some (map left ss)) (known s) (lefts left known ss)
+
+  pub none_has_failed : ((s : S) → source.failures s ≡ 0) → (ss : List S) → NoReadFailed (map (source_state source) ss)
+  none_has_failed never [] = tt
+  none_has_failed never (s ∷ ss) = (never s, none_has_failed never ss)
