@@ -1,11 +1,19 @@
 -- What an engine made is handed out.
-use Rattle.std.proofs.Common.{ℕ, List, Result, Ok, Err, IfOk, IsOkAnd}
+use Rattle.std.proofs.Common.{◌≡◌, ℕ, List, Result, Ok, Err, IfOk, IsOkAnd, sym, ◌∙◌}
+use Rattle.std.proofs.lemmas.Int.{to_z-of_z}
+use lib.IntN.{ℤ, pos}
+use mir.Syntax.{w32}
+use mir.Val.{SFits, to_z, of_z}
 use Rattle.cadf_join.specs.Contents.{Text}
 use Rattle.cadf_tool.specs.declared.input.Loaded.{Loaded}
 use Rattle.cadf_tool.specs.declared.fault.ToolFault.{ToolFault}
 use Rattle.cadf_tool.specs.Run.{InputSpec}
 use Rattle.cadf_memory.specs.Made.{IsMadeOf, IsMadeOfTwo, IsMadeOfAll}
 use Rattle.cadf_c.specs.Output.{IsHandedOut, IsMadeFrom, IsMadeFromTwo, IsMadeFromAll}
+
+-- a status that is 0 where it is passed on is 0
+pub kept : (status : ℤ) → SFits w32 status → to_z w32 (of_z w32 status) ≡ pos 0 → status ≡ pos 0
+kept status fits zero = sym (to_z-of_z w32 status fits) ∙ zero
 
 module _ {V M : Type 0} (items : V → List ℕ) (tell : M → Text) (old new : List ℕ) (told : ℕ) where
   pub handed : {T : Type 0} (reader : InputSpec T) (work : T → Result M ToolFault) (bytes : List ℕ) (made : Result V ToolFault)

@@ -1,5 +1,5 @@
 -- Why a run on bytes in memory gave up.
-use Rattle.std.proofs.Common.{◌≡◌, ℕ, List, map, Option, Some, Result, Ok, Err, ◌⊎◌, inl, inr, sym, ◌∙◌, subst}
+use Rattle.std.proofs.Common.{◌≡◌, ℕ, List, map, Some, Result, Ok, Err, ◌⊎◌, inl, inr, sym, subst}
 use Rattle.cadf_json.specs.declared.stream.Sink.{Ghosts as Sink}
 use Rattle.cadf_json.specs.declared.stream.Source.{Ghosts as Source}
 use Rattle.cadf_join.specs.Contents.{Text}
@@ -55,7 +55,7 @@ module _ {A M : Type 0} (sources : Sources A) (work : A → Result M ToolFault) 
   starved unfailed fault (inl e) = subst (λ (f : ToolFault). IsFirst (unwritten_of f)) (sym e) unfailed
   starved unfailed fault (inr e) = subst (λ (f : ToolFault). IsFirst (unwritten_of f)) (sym e) unfailed
 
-  module _ {W V : Type 0} (tell : M → Text) (sink : Sink W) (old new : W) (fault : ToolFault)
+  module _ (V : Type 0) {W : Type 0} (tell : M → Text) (sink : Sink W) (old new : W) (fault : ToolFault)
       (read : (a : A) → sources.are a → sources.unfailed) where
     same_fault : (f : ToolFault) → ◌≡◌ {A = Result V ToolFault} (Err fault) (Err f) → fault ≡ f
     same_fault f e = cc
@@ -88,7 +88,7 @@ module _ {M W V : Type 0} (tell : M → Text) (sink : Sink W) (old new : W) (fau
         source = t;
         left = given;
         unfailed = unfailed;
-        first = first_of (one reader t) work tell sink old new fault (λ a are. are.1) r;
+        first = first_of (one reader t) work V tell sink old new fault (λ a are. are.1) r;
       })
 
   pub run_refused_two : {T U : Type 0} (reader : InputSpec T) (other : InputSpec U) (work : T × U → Result M ToolFault)
@@ -104,7 +104,7 @@ module _ {M W V : Type 0} (tell : M → Text) (sink : Sink W) (old new : W) (fau
         following = u;
         following_left = given';
         following_unfailed = unfailed';
-        first = first_of (two reader t other u) work tell sink old new fault (λ a are. (are.0.1, are.1.1)) r;
+        first = first_of (two reader t other u) work V tell sink old new fault (λ a are. (are.0.1, are.1.1)) r;
       })
 
   pub run_refused_all : {S : Type 0} (source : Source S) (work : List Loaded → Result M ToolFault) (ss rs : List S)
@@ -120,6 +120,6 @@ module _ {M W V : Type 0} (tell : M → Text) (sink : Sink W) (old new : W) (fau
         before = before;
         after = after;
         first = seen_at source ss rs work (unwritten_of fault) (fault_stage (unwritten_of fault))
-            (first_of (all source ss rs) work tell sink old new fault
+            (first_of (all source ss rs) work V tell sink old new fault
             (λ ls are. none_failed (map (source_state source) ss) (map (source_state source) rs) ls are) r);
       })
