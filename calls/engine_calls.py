@@ -18,7 +18,7 @@ from texts import C1, K1, V1, V2, digits, document, inventory, replica
 
 CALLS = {
     "each": [],
-    "load": ["load", "Loaded::log", "ReplicaFeed::after_magic"],
+    "load": ["load", "Loaded::log", "read_after_magic", "read_after"],
     "load_within": ["load_within"],
     "run_join": ["run_join"],
     "run_missing": ["run_missing"],

@@ -13,6 +13,7 @@ from texts import (
 CALLS = {
     "read": ["read_replica", "read_file", "LineDecoder::start", "LineDecoder::new", "LineDecoder::accept", "LineDecoder::cause_of_previous", "EitherDecoder::into_chosen",
              "next_path_kind"],
+    "read_beside": ["read_replica_beside"],
     "each_failing_read": ["read_replica"],
     "each_prefix": ["read_replica"],
     "each_bit": ["read_replica"],
@@ -267,6 +268,20 @@ REFUSED_2 = [
     (two(E, E1, BODY) + "Z " + digits(two(E, E1, BODY)).upper() + "\n", "Digest"),
 ]
 
+# What is held, and files that differ from it in the last byte of a text.
+LAST_BYTES = [
+    ([C1], one(line("E", "e1", B1[:-1] + "]")), "Line 3 Shape"),
+    ([C1], two(E, E1, node(3, 1, B1[:-1] + "]")), "Line 5 Shape"),
+    ([C1], one(line("E", "e1", B1[:-1])), "Line 3 Shape"),
+    ([C1], two(E, E1, node(3, 1, B1 + " ")), "Line 5 Shape"),
+    ([C1, K1], one(C1, line("E", "e1", B1, "C", S1[:-1] + "]")), "Line 4 Shape"),
+    ([C1, K1], two(E, E1, BODY, CHAINS, node(5, 1, S1[:-1] + "]")), "Line 7 Shape"),
+    ([C1, K1], two(E, E1, BODY, node(4, 0, "D")), "Line 6 Shape"),
+    ([line("P", "n", "1")], one(line("P", "n", "x")), "Line 3 Shape"),
+    ([line("P", "n", "1")], two(P, NAME, node(3, 1, "x")), "Line 5 Shape"),
+    ([RULING], two(U, OF_E, OF_E1, node(4, 1, digits(BF)[:-1] + "x")), "Line 6 Shape"),
+]
+
 # Readings, and why they are refused: a limit, the bytes of a read, the read that fails.
 READINGS = [
     ((87, 7, 0), NOTHING, "TooLarge"),
@@ -367,6 +382,22 @@ for text in (X, X_2):
     ROWS.append(("each_prefix", [LIMIT, 7, 0, text], refused("Truncated") + [len(text)], REFUSAL))
 for text in (CHAINED, CHAINED_2):
     ROWS.append(("each_bit", [*WHOLE, text], ["ok", 8 * len(text)], REFUSAL))
+
+# Beside a replica that is held the answer is the same, whatever that is and in whichever format. Between the texts that are
+# held and those of the file may differ a last byte.
+HELD = [NOTHING, NOTHING_2] + [replica(*SETS[place][0]) for place in (3, 5, 8, 11)] + [tree(*SETS[5][1])]
+for held in HELD:
+    for atoms, nodes in SETS:
+        ROWS.append(("read_beside", [*WHOLE, held, replica(*atoms)], read(atoms), ONE))
+        ROWS.append(("read_beside", [*WHOLE, held, tree(*nodes)], read(atoms), TWO))
+for text, fault in DAMAGED:
+    ROWS.append(("read_beside", [*WHOLE, CHAINED, text], refused(fault), REFUSAL))
+MANY = [line("P", "n%02d" % number, "1") for number in range(60)]
+for few in (MANY[:1], MANY[30:32], MANY[59:], MANY[::7]):
+    ROWS.append(("read_beside", [*WHOLE, replica(*MANY), replica(*few)], read(few), ONE))
+    ROWS.append(("read_beside", [*WHOLE, replica(*few), replica(*MANY)], read(MANY), ONE))
+for held, other, fault in LAST_BYTES:
+    ROWS.append(("read_beside", [*WHOLE, replica(*held), other], refused(fault), REFUSAL))
 
 # Readers that fail: what was read before decides, or else the failed read does. A byte is read at a time.
 TWICE, LETTER_TWICE = one(C1, C1), two(E, E)

@@ -1,7 +1,7 @@
 //! Replica files that are read.
 
 use crate::replicas::shown;
-use cadf_file::{FileFault, read_replica};
+use cadf_file::{FileFault, read_replica, read_replica_beside};
 use cadf_json::{Memory, MemorySource};
 use cadf_replica::Replica;
 use calls::{Call, refused};
@@ -39,6 +39,17 @@ pub(crate) fn read_in(alloc: Global, reading: Reading, bytes: &[u8]) -> Result<R
     read_replica(alloc, &mut reading.source(bytes), reading.limit)
 }
 
+/// Reads the bytes as a replica file beside the replica of another file.
+fn read_beside_in(
+    alloc: Global,
+    reading: Reading,
+    held: &[u8],
+    bytes: &[u8],
+) -> Result<Replica, FileFault> {
+    let held = read_in(alloc, reading, held)?;
+    read_replica_beside(alloc, &mut reading.source(bytes), reading.limit, &held)
+}
+
 /// Answers a reading: the replica, or the fault.
 pub(crate) fn read_answer(
     alloc: Global,
@@ -53,4 +64,10 @@ pub(crate) fn read_answer(
 /// Answers `read`: a reading and a file.
 pub(crate) fn read(alloc: Global, call: &Call) -> Result<String, Memory> {
     read_answer(alloc, read_in(alloc, Reading::of(call), call.bytes(4)))
+}
+
+/// Answers `read_beside`: a reading, the file of what is held, and a file.
+pub(crate) fn read_beside(alloc: Global, call: &Call) -> Result<String, Memory> {
+    let read = read_beside_in(alloc, Reading::of(call), call.bytes(4), call.bytes(5));
+    read_answer(alloc, read)
 }
