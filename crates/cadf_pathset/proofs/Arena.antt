@@ -1,6 +1,6 @@
 -- What nodes stand for, one by one and when one is put.
-use Rattle.std.proofs.Common.{◌≡◌, ℕ, ◌+◌, ◌-◌, ◌<◌, ◌≤◌, List, [], ◌∷◌, ◌++◌, refl, sym, ap, ◌∙◌, suc, zero, length, get_or, arith}
-use Rattle.std.proofs.lemmas.List.{length_push, get_or_append_left, get_or_push, get_or_read}
+use Rattle.std.proofs.Common.{◌≡◌, ℕ, ◌+◌, ◌-◌, ◌<◌, ◌≤◌, List, [], ◌∷◌, ◌++◌, refl, sym, ap, ◌∙◌, suc, zero, length, take, get_or, arith}
+use Rattle.std.proofs.lemmas.List.{length_push, length-take, get_or_append_left, get_or_push, get_or_read, take-take, take_all, take_at}
 use Rattle.cadf_join.specs.Contents.{Text, Texts}
 use Rattle.cadf_pathset.specs.Nodes.{list_at, lists_from, lists, ParentsFirst, last_text, AreNodes}
 
@@ -22,6 +22,16 @@ from_kept known (p ∷ ps) (t ∷ ts) n h =
     let x : Texts = list_at known p ++ t ∷ [] in
     let one = length_push known x in
     from_kept (known ++ x ∷ []) ps ts n (omega (arith, one, h)) ∙ get_or_append_left known (x ∷ []) [] n h
+
+from_front : (known : List Texts) (ps : List ℕ) (ts : Texts) → take (length known) (lists_from known ps ts) ≡ known
+unfolding lists_from
+from_front known [] ts = take_all (length known) known (omega arith)
+from_front known (p ∷ ps) [] = take_all (length known) known (omega arith)
+from_front known (p ∷ ps) (t ∷ ts) =
+    let x : Texts = list_at known p ++ t ∷ [] in
+    let one = length_push known x in
+    sym (take-take (length known) (length (known ++ x ∷ [])) (lists_from (known ++ x ∷ []) ps ts) (omega (arith, one)))
+    ∙ ap (take (length known)) (from_front (known ++ x ∷ []) ps ts) ∙ take_at known (x ∷ []) (length known) refl
 
 pub from_at : (known : List Texts) (ps : List ℕ) (ts : Texts) (n : ℕ) → n ≤ length known → list_at (lists_from known ps ts) n ≡ list_at known n
 from_at known ps ts zero h = refl
@@ -154,3 +164,33 @@ list_small ps ts a ls view n h =
 
 pub one_longer : (l m : Texts) (t : Text) → l ≡ m ++ t ∷ [] → length l ≡ length m + 1
 one_longer l m t e = ap length e ∙ length_push m t
+
+-- the first of some nodes
+pub lists_cut : (known : List Texts) (ps : List ℕ) (ts : Texts) (n : ℕ) → length ps ≡ length ts
+    → lists_from known (take n ps) (take n ts) ≡ take (length known + n) (lists_from known ps ts)
+unfolding lists_from
+lists_cut known ps ts zero e = sym (ap (λ k. take k (lists_from known ps ts)) k) ∙ sym (from_front known ps ts)
+  where
+    k : length known + 0 ≡ length known
+    k = omega arith
+lists_cut known [] [] (suc n) e = sym (take_all (length known + suc n) known (omega arith))
+lists_cut known [] (t ∷ ts) (suc n) e = absurd (omega (arith, e))
+lists_cut known (p ∷ ps) [] (suc n) e = absurd (omega (arith, e))
+lists_cut known (p ∷ ps) (t ∷ ts) (suc n) e =
+    let x : Texts = list_at known p ++ t ∷ [] in
+    let one = length_push known x in
+    let k : length (known ++ x ∷ []) + n ≡ length known + suc n = omega (arith, one) in
+    lists_cut (known ++ x ∷ []) ps ts n (omega (arith, e)) ∙ ap (λ j. take j (lists_from (known ++ x ∷ []) ps ts)) k
+
+first_parents : (ps : List ℕ) (m n : ℕ) → ParentsFirst m ps → ParentsFirst m (take n ps)
+unfolding ParentsFirst
+first_parents ps m zero h = tt
+first_parents [] m (suc n) h = tt
+first_parents (p ∷ ps) m (suc n) h = (h.0, first_parents ps (m + 1) n h.1)
+
+pub nodes_cut : (ps : List ℕ) (ts : Texts) (n : ℕ) → AreNodes ps ts → AreNodes (take n ps) (take n ts)
+nodes_cut ps ts n h =
+    let a = h.as_many in
+    let x = length-take n ps in
+    let y = length-take n ts in
+    record { as_many = omega (arith, a, x, y); parents_first = first_parents ps 1 n h.parents_first }

@@ -5,8 +5,8 @@ ghost use Rattle.cadf_pathset.specs.Lists.{first_text};
 ghost use Rattle.cadf_pathset.specs.Nodes.{last_text, list_at, rest_of};
 
 use crate::Memory;
-use crate::pool::{Pool, narrow};
-use std::alloc::Global;
+use crate::pool::Pool;
+use std::alloc::{AllocError, Global};
 use std::marker::Model;
 
 /// Nodes, numbered from 1. A node is one text after its parent, which comes before it, or after the root, 0.
@@ -66,6 +66,21 @@ impl Nodes {
         }
     }
 
+    /// Counts the nodes.
+    pub fn count(&self) -> usize
+        ensures { result ≡ length self.now }
+    {
+        self.parents.len()
+    }
+
+    /// Drops all but the first `count` nodes.
+    pub fn truncate(&mut self, count: usize)
+        ensures { self.new ≡ take count self.old }
+    {
+        self.parents.truncate(count);
+        self.texts.truncate(count);
+    }
+
     /// Returns the node's parent.
     pub fn parent(&self, node: u32) -> u32
         requires behind { 0 < node }
@@ -83,6 +98,16 @@ impl Nodes {
         ensures { result.now ≡ last_text (list_at self.now node) }
     {
         self.texts.text(node as usize - 1)
+    }
+}
+
+/// Converts the number to 32 bits. `Err` if it has more.
+fn narrow(number: usize) -> Result<u32, Memory>
+    ensures { IfOk result (λ n. n ≡ number) }
+{
+    match u32::try_from(number) {
+        Ok(number) => Ok(number),
+        Err(_) => Err(AllocError),
     }
 }
 

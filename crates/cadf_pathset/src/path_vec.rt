@@ -24,7 +24,7 @@ use crate::nodes::Nodes;
 use crate::sort::sorted;
 use crate::suffix_range::SuffixRange;
 use crate::union::merge_into;
-use std::alloc::Global;
+use std::alloc::{AllocError, Global};
 use std::cmp::Ordering;
 use std::marker::Model;
 
@@ -78,9 +78,20 @@ impl PathVec {
         ensures err { OnErr result (self.new ≡ self.old) }
     {
         let known = known_of(self.line.as_slice(), self.numbers.as_slice(), shared);
-        let number = line_to(&mut self.nodes, &mut self.line, path, known)?;
-        self.numbers.push(number)?;
-        Ok(())
+        let count = self.nodes.count();
+        match line_to(&mut self.nodes, &mut self.line, path, known) {
+            Ok(number) => match self.numbers.push(number) {
+                Ok(()) => Ok(()),
+                Err(_) => {
+                    take_back(&mut self.nodes, &mut self.line, count);
+                    Err(AllocError)
+                }
+            },
+            Err(fault) => {
+                take_back(&mut self.nodes, &mut self.line, count);
+                Err(fault)
+            }
+        }
     }
 
     /// Inserts the list before the one of that number. After an `Err` the lists are as before.
@@ -92,9 +103,20 @@ impl PathVec {
         let near = nearest(&self.nodes, self.numbers.as_slice(), at, path);
         let mut up = Vec::new(self.alloc);
         lead(&self.nodes, near, &mut self.line, &mut up)?;
-        let number = line_to(&mut self.nodes, &mut self.line, path, 0)?;
-        self.numbers.insert(at, number)?;
-        Ok(())
+        let count = self.nodes.count();
+        match line_to(&mut self.nodes, &mut self.line, path, 0) {
+            Ok(number) => match self.numbers.insert(at, number) {
+                Ok(()) => Ok(()),
+                Err(_) => {
+                    take_back(&mut self.nodes, &mut self.line, count);
+                    Err(AllocError)
+                }
+            },
+            Err(fault) => {
+                take_back(&mut self.nodes, &mut self.line, count);
+                Err(fault)
+            }
+        }
     }
 
     /// Returns whether the list, whose first `shared` texts are those of the last one, is above that one. True if there is none.
@@ -161,9 +183,17 @@ impl PathVec {
         ensures ok { OnOk result (self.new ≡ sorted_merge texts_cmp true self.old other.now) }
         ensures err { OnErr result (self.new ≡ self.old) }
     {
-        let numbers = merge_into(self.alloc, &mut self.nodes, self.numbers.as_slice(), other)?;
-        self.numbers = numbers;
-        Ok(())
+        let count = self.nodes.count();
+        match merge_into(self.alloc, &mut self.nodes, self.numbers.as_slice(), other) {
+            Ok(numbers) => {
+                self.numbers = numbers;
+                Ok(())
+            }
+            Err(fault) => {
+                take_back(&mut self.nodes, &mut self.line, count);
+                Err(fault)
+            }
+        }
     }
 
     /// Sorts the lists, each once. Copies no text.
@@ -317,6 +347,15 @@ impl PathVec {
     {
         self.numbers.len()
     }
+}
+
+/// Drops all but the first `count` nodes, with their texts, and makes the line that of the empty list.
+fn take_back(nodes: &mut Nodes, line: &mut Vec<u32>, count: usize)
+    ensures nodes { nodes.new ≡ take count nodes.old }
+    ensures line { line.new.items ≡ [] }
+{
+    nodes.truncate(count);
+    line.clear();
 }
 
 /// Whether the nodes of two arenas have the same lists, one by one.
