@@ -1,20 +1,19 @@
 //! The inventory that differs from another in given digests.
-ghost use Rattle.std.specs.Prelude.{◌≡◌, OnOk, IfOk};
+ghost use Rattle.std.specs.Prelude.{◌≡◌, ◌++◌, OnOk, IfOk};
 ghost use Rattle.cadf_join.specs.Sets as set;
-ghost use Rattle.cadf_sketch.specs.Flips.{flipped, with_lacking};
+ghost use Rattle.cadf_sketch.specs.Flips.{flipped, lacking};
 
 use cadf_json::Memory;
 use cadf_set::Inventory;
 use std::alloc::Global;
 
 /// Adds each digest of one inventory that another lacks.
-fn put_lacking(to: &mut Inventory, from: &Inventory, known: &Inventory) -> Result<(), Memory>
-    ensures log { to.new.log ≡ to.old.log }
-    ensures ok { OnOk result (to.new.digests ≡ with_lacking to.old.digests (set.rising from.now.digests) known.now.digests) }
+fn push_lacking(to: &mut Vec<[u8; 32]>, from: &Inventory, known: &Inventory) -> Result<(), Memory>
+    ensures { OnOk result (to.new.items ≡ to.old.items ++ lacking (set.rising from.now.digests) known.now.digests) }
 {
     for digest in from.digests() {
         if !known.has(digest) {
-            to.put(digest)?;
+            to.push(*digest)?;
         }
     }
     Ok(())
@@ -36,8 +35,11 @@ pub(crate) fn flip(alloc: Global, own: &Inventory, taken: &[[u8; 32]]) -> Result
     ensures { IfOk result (λ i. i ≡ flipped own.now taken.now) }
 {
     let parted = of_taken(alloc, own, taken)?;
-    let mut theirs = Inventory::new(alloc, own.log().copy(alloc)?);
-    put_lacking(&mut theirs, own, &parted)?;
-    put_lacking(&mut theirs, &parted, own)?;
-    Ok(theirs)
+    let mut digests = Vec::new(alloc);
+    push_lacking(&mut digests, own, &parted)?;
+    push_lacking(&mut digests, &parted, own)?;
+    own.type_invariant();
+    parted.type_invariant();
+    let log = own.log().copy(alloc)?;
+    Ok(Inventory::of(alloc, log, digests)?)
 }
