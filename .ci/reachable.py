@@ -9,7 +9,7 @@ import os
 import re
 
 TOP = os.path.dirname(os.path.dirname(os.path.abspath(__file__)))
-ITEM = re.compile(r"(?m)^pub (?:const fn|fn|struct|enum|trait|type|const) (\w+)")
+ITEM = re.compile(r"(?m)^pub (?:const fn|extern \"C\" fn|fn|struct|enum|trait|type|const) (\w+)")
 MODULE = re.compile(r"(?m)^pub mod (\w+);")
 EXPORT = re.compile(r"(?m)^pub use ((?:\w+::)+)(?:\{([^}]*)\}|(\w+(?: as \w+)?));")
 BLOCK = re.compile(r"(?ms)^(?:impl(?:<[^\n]*?>)? ([^\n]*?)|pub trait (\w+)[^\n]*) \{\n(.*?)^\}")

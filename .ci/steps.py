@@ -32,12 +32,14 @@ STAGES = [
         "old-names": ".ci/old-names",
         "pages": ".ci/pages",
         "check-promises": ".ci/check-promises docs/PROMISES.md docs/ARCHITECTURE.md docs/AUDIT.md",
+        "declared": ".ci/bindings --declared",
     }),
     ("proofs", 1, {
         "rt ci": "rt ci",
     }),
     ("built programs", 0, {
         "bits": "differential/bits.py",
+        "bindings": ".ci/bindings",
         "check-install": ".ci/check-install",
         "package": ".ci/package",
         "sandbox": ".ci/sandbox",

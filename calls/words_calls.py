@@ -16,15 +16,17 @@ Keeps replicas of a CADF log and makes them converge
 Usage: cadf <COMMAND>
 
 Commands:
-  join        Writes the replica file of what all inputs tell
-  missing     Writes the replica file of what TO lacks of FROM
-  missing-by  Writes the replica file of what FROM has beyond INVENTORY
-  inventory   Writes the digests of all that a file tells
-  rule        Writes the replica file with a ruling on a conflict
-  rehearse    Plays a schedule, and tells what it leaves at each site
-  show        Prints what a file tells, as a log
-  check       Reads a file whole, and counts its atoms and its conflicts
-  help        Print this message or the help of the given subcommand(s)
+  join               Writes the replica file of what all inputs tell
+  missing            Writes the replica file of what TO lacks of FROM
+  missing-by         Writes the replica file of what FROM has beyond INVENTORY
+  inventory          Writes the digests of all that a file tells
+  sketch             Writes a short sketch of the digests of all that a file tells
+  missing-by-sketch  Writes the replica file of what FROM has beyond SKETCH
+  rule               Writes the replica file with a ruling on a conflict
+  rehearse           Plays a schedule, and tells what it leaves at each site
+  show               Prints what a file tells, as a log
+  check              Reads a file whole, and counts its atoms and its conflicts
+  help               Print this message or the help of the given subcommand(s)
 
 Options:
   -h, --help     Print help
@@ -73,6 +75,31 @@ Usage: cadf inventory <FILE>
 
 Arguments:
   <FILE>  A replica file or a log
+
+Options:
+  -h, --help  Print help
+""",
+    "sketch": """\
+Writes a short sketch of the digests of all that a file tells
+
+Usage: cadf sketch [OPTIONS] <FILE>
+
+Arguments:
+  <FILE>  A replica file or a log
+
+Options:
+      --cells <N>  How many cells, a multiple of 3 from 3 to 12582912, else 198
+      --salt <A>   An odd number below 2^64, else one that follows from the digests
+  -h, --help       Print help
+""",
+    "missing-by-sketch": """\
+Writes the replica file of what FROM has beyond SKETCH
+
+Usage: cadf missing-by-sketch <FROM> <SKETCH>
+
+Arguments:
+  <FROM>    The sender's file
+  <SKETCH>  The receiver's sketch, as it is or was
 
 Options:
   -h, --help  Print help
@@ -148,6 +175,10 @@ TAKEN = [
     (["missing", "--", "-a", "--help"], ["Missing", "-a", "--help"]),
     (["missing-by", "a", "b"], ["MissingBy", "a", "b"]),
     (["inventory", "a b\tc\u00fc\U0001f512"], ["Inventory", "a b\tc\u00fc\U0001f512"]),
+    (["sketch", "a"], ["Sketch", "none", "none", "a"]),
+    (["sketch", "a", "--salt", "5", "--cells=9"], ["Sketch", "some", "9", "some", "5", "a"]),
+    (["sketch", "--cells=", "--salt=-1", "--", "-a"], ["Sketch", "some", "", "some", "-1", "-a"]),
+    (["missing-by-sketch", "a", "b"], ["MissingBySketch", "a", "b"]),
     (["rule", "E", "e1", "2", "a"], ["Rule", "E", "e1", "2", "a"]),
     (["rule", "", "", "", ""], ["Rule", "", "", "", ""]),
     (["rehearse", "g", "3", "a"], ["Rehearse", "g", "3", "a"]),
@@ -160,7 +191,7 @@ TAKEN = [
 # Words that are refused: the fault, with a tip where there is one, and the usage behind it.
 REFUSED = [
     ([], "'cadf' requires a subcommand but one was not provided\n"
-         "  [subcommands: join, missing, missing-by, inventory, rule, rehearse, show, check, help]", "<COMMAND>"),
+         "  [subcommands: join, missing, missing-by, inventory, sketch, missing-by-sketch, rule, rehearse, show, check, help]", "<COMMAND>"),
     ([""], "unrecognized subcommand ''", "<COMMAND>"),
     (["nothing"], "unrecognized subcommand 'nothing'\n\n  tip: a similar subcommand exists: 'join'", "<COMMAND>"),
     (["shwo", "a"], "unrecognized subcommand 'shwo'\n\n  tip: a similar subcommand exists: 'show'", "<COMMAND>"),
@@ -178,6 +209,13 @@ REFUSED = [
     (["missing", "a"], "the following required arguments were not provided:\n  <TO>", "missing <FROM> <TO>"),
     (["missing-by", "a", "b", "c"], "unexpected argument 'c' found", "missing-by <FROM> <INVENTORY>"),
     (["inventory"], "the following required arguments were not provided:\n  <FILE>", "inventory <FILE>"),
+    (["sketch", "--cells", "9"], "the following required arguments were not provided:\n  <FILE>", "sketch --cells <N> <FILE>"),
+    (["sketch", "--salt", "1", "--salt", "3", "a"], "the argument '--salt <A>' cannot be used multiple times",
+     "sketch [OPTIONS] <FILE>"),
+    (["sketch", "--cell", "9", "a"], "unexpected argument '--cell' found\n\n  tip: a similar argument exists: '--cells'",
+     "sketch --cells <N> <FILE>"),
+    (["missing-by-sketch", "a"], "the following required arguments were not provided:\n  <SKETCH>",
+     "missing-by-sketch <FROM> <SKETCH>"),
     (["rule", "E"], "the following required arguments were not provided:\n  <KEY>\n  <PLACE>\n  <FILE>",
      "rule <LETTER> <KEY> <PLACE> <FILE>"),
     (["rehearse", "g", "2"], "the following required arguments were not provided:\n  <SCRIPT>",

@@ -7,11 +7,13 @@ from rehearsal import read_script, rehearsal_text, sites_of
 from replica_files import file_of, read_file
 from rulings import check_key, place_of, ruled
 from shown_texts import check_line, conflict_text, log_text
+from sketch_files import cells_of, missing_by_sketch, read_sketch, salt_of, sketch_of
 
 DIRECTORY = object()  # stands for the content of a folder
 # How many words a command wants beside its options; `join` wants one or more.
 WORDS_WANTED = {b"missing": 2, b"missing-by": 2, b"inventory": 1, b"show": 1, b"check": 1, b"rehearse": 3,
-                b"rule": 4}
+                b"rule": 4, b"sketch": 1, b"missing-by-sketch": 2}
+OPTIONS = {b"join": [b"--log"], b"sketch": [b"--cells", b"--salt"]}  # those with a value
 
 
 class Usage(Exception):
@@ -35,10 +37,11 @@ class Call:
             raise Usage
         if not words or words[0] not in (b"join", *WORDS_WANTED):
             raise Usage
-        self.command, self.log, self.conflicts, self.files = words[0], None, False, []
+        self.command, self.given, self.conflicts, self.files = words[0], {}, False, []
         self.rest = list(words[1:])
         while self.rest:
             self.take(self.rest.pop(0))
+        self.log = self.given.get(b"--log")
         if len(self.files) != WORDS_WANTED.get(self.command, max(1, len(self.files))):
             raise Usage
         if self.command == b"rehearse":
@@ -49,6 +52,7 @@ class Call:
 
     def take(self, word):
         """One word, and the one behind it where it is an option's value."""
+        option, is_joined, value = word.partition(b"=")
         if word == b"-" or not word.startswith(b"-"):
             self.files.append(word)
         elif word == b"--":
@@ -56,8 +60,8 @@ class Call:
             self.rest = []
         elif self.command == b"show" and word == b"--conflicts" and not self.conflicts:
             self.conflicts = True
-        elif self.command == b"join" and word.partition(b"=")[0] == b"--log" and self.log is None:
-            self.log = word[len(b"--log="):] if b"=" in word else self.value()
+        elif option in OPTIONS.get(self.command, []) and option not in self.given:
+            self.given[option] = value if is_joined else self.value()
         else:
             raise Usage
 
@@ -70,6 +74,10 @@ class Call:
 def read_input(data):
     """The log and the atoms of an input."""
     return read_file(data) if data.startswith(b"CADF-") else document(json_text.read(data))
+
+
+# What the second input of a command is read as, where it isn't read as any input.
+OF_A_KIND = {b"missing-by": read_inventory, b"missing-by-sketch": read_sketch}
 
 
 def loaded(number, data, read):
@@ -97,8 +105,7 @@ def opened(call, files):
 def inputs_of(call, files):
     """The log and the contents of each input."""
     reads = [read_input] * len(call.files)
-    if call.command == b"missing-by":
-        reads[1] = read_inventory
+    reads[1:] = [OF_A_KIND[call.command]] if call.command in OF_A_KIND else reads[1:]
     contents = opened(call, files)
     return [loaded(number, data, read) for number, (data, read) in enumerate(zip(contents, reads), 1)]
 
@@ -133,6 +140,7 @@ def written(call, files):
     if call.command == b"rule":
         check_key(*call.ruling[:2])
         call.ruling[2] = place_of(call.ruling[2])
+    cells, salt = cells_of(call.given.get(b"--cells")), salt_of(call.given.get(b"--salt"))
     inputs = inputs_of(call, files)
     log = log_written(call, [log for log, _ in inputs])
     sets = [contents for _, contents in inputs]
@@ -142,6 +150,10 @@ def written(call, files):
         return file_of(log, with_carriers(sets[0] - sets[1]))
     if call.command == b"missing-by":
         return file_of(log, missing_by(*sets))
+    if call.command == b"missing-by-sketch":
+        return file_of(log, missing_by_sketch(log, *sets))
+    if call.command == b"sketch":
+        return sketch_of(log, *sets, cells, salt)
     if call.command == b"rule":
         return file_of(log, ruled(*sets, *call.ruling))
     if call.command == b"inventory":

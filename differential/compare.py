@@ -5,13 +5,13 @@
 
 The second implementation, in this folder, is of what docs/FORMATS.md describes. It was written apart from crates/ and
 shares nothing with it, so that a misreading in the definitions there would show as a difference. Compared are the exit
-status, standard output and standard error of `join`, `missing`, `missing-by`, `inventory`, `rule`, `rehearse`, `show` and
-`check`. Not compared: the texts for words that are no call, which are clap's own, beyond that the status is 2 and that they go to
+status, standard output and standard error of `join`, `missing`, `missing-by`, `inventory`, `sketch`, `missing-by-sketch`,
+`rule`, `rehearse`, `show` and `check`. Not compared: the texts for words that are no call, which are clap's own, beyond that the status is 2 and that they go to
 standard error alone; words that aren't UTF-8 count as no call. Nor is anything reached that takes a large input, a
 failed write or want of memory.
 
 BINARY is crates/cadf/out/cadf unless given. A case depends on its seed and number alone, and on whether the help of
-BINARY lists `rehearse`, whose calls are compared too where it does. The status is 1 where a case differs; the first ten
+BINARY lists `rehearse`, and then `sketch`, whose calls are compared too if it does. The status is 1 where a case differs; the first ten
 that do are kept, made smaller, in folders of their own with the call to run there.
 """
 import argparse
@@ -27,7 +27,7 @@ import tempfile
 sys.dont_write_bytecode = True  # nothing is written beside the sources; so this stands before they are imported
 
 from command import DIRECTORY, Answer, answer
-from generate import KINDS, KINDS_WITH_REHEARSALS, Case
+from generate import KINDS, KINDS_WITH_REHEARSALS, KINDS_WITH_SKETCHES, Case
 from sealed_files import sealed
 
 TOP = os.path.dirname(os.path.dirname(os.path.abspath(__file__)))
@@ -65,10 +65,10 @@ def alike(wanted, got):
     return got.error != b"" if wanted.error is None else got.error == wanted.error
 
 
-def lists(binary, command):
-    """Whether the binary's help has the command."""
+def commands_of(binary):
+    """The words with which lines of the binary's help begin, its commands among them."""
     told = subprocess.run([binary, "--help"], stdin=subprocess.DEVNULL, capture_output=True).stdout.decode()
-    return any(line.split()[:1] == [command] for line in told.splitlines())
+    return {line.split()[0] for line in told.splitlines() if line.strip()}
 
 
 def compared(binary, kinds, seed, number):
@@ -138,7 +138,9 @@ def main():
     if not os.access(binary, os.X_OK):
         sys.exit("%s can't be run" % binary)
     sys.stdout.reconfigure(errors="surrogateescape")  # a word that isn't UTF-8 is printed as it is
-    kinds = KINDS_WITH_REHEARSALS if lists(binary, "rehearse") else KINDS
+    commands = commands_of(binary)
+    kinds = KINDS_WITH_REHEARSALS if "rehearse" in commands else KINDS
+    kinds = KINDS_WITH_SKETCHES if "sketch" in commands else kinds
     one = functools.partial(compared, binary, kinds, options.seed)
     with concurrent.futures.ThreadPoolExecutor(len(os.sched_getaffinity(0))) as pool:
         answers = list(pool.map(one, range(options.count)))

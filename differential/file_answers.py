@@ -11,9 +11,11 @@ from odd_files import (atoms_of, damaged, documents_told, file_with_odd_lines, o
                        with_rulings)
 from odd_inventories import odd_inventory, some_inventory
 from odd_nodes import odd_nodes_file
+from odd_sketches import odd_sketch, some_layout, some_sketch
 from odd_values import good_name
 from replica_files import file_of, read_file
 from shown_texts import conflict_text, log_text
+from sketch_files import CELLS, read_sketch, sketch_file, sketch_with
 
 LIMIT = 1 << 30
 PIECE = 4096  # no read of a file asks for more
@@ -83,6 +85,16 @@ def read_digests(limit, piece, failing, data):
     return answer(read_inventory, bytes, *limited(data, limit, piece, failing))
 
 
+def read_cells(limit, piece, failing, data):
+    """The fields of a sketch: its log, N, A, D, the numbers of line 4, and the digits of each cell."""
+    try:
+        log, sketch = judged(read_sketch, *limited(data, limit, piece, failing))
+    except Fault as fault:
+        return refused(fault)
+    layout = sketch.layout
+    return ["ok", log, layout.cells, layout.salt, sketch.digest, *sketch.counts, *("%080x" % cell for cell in sketch.cells)]
+
+
 def limited(data, limit, piece, failing):
     front, failed = given(data, piece, failing)
     return front, min(limit, LIMIT), failed
@@ -105,6 +117,10 @@ def write_replica(version, piece, how, number, log, *lines):
 
 def write_digests(piece, how, number, log, *digests):
     return written(inventory_with(log, {one.encode() for one in digests}), how, number)
+
+
+def write_cells(piece, how, number, log, cells, salt, *digests):
+    return written(sketch_file(log, sketch_with(log, {one.encode() for one in digests}, cells, salt)), how, number)
 
 
 def write_log(piece, how, number, log, *lines):
@@ -211,6 +227,17 @@ def digest_words(chance):
     return [*writer_words(chance, 300), chance.choice(["g", good_name(chance)]), *digests]
 
 
+def sketch_words(chance):
+    """The words of `write_inventory`, with a number of cells and a salt behind the log."""
+    cells, salt = some_layout(chance)
+    piece, how, number, log, *digests = digest_words(chance)
+    return [piece, how, number, log, cells or CELLS, salt or 1, *digests]
+
+
+def any_sketch(chance):
+    return chance.choice([some_sketch, odd_sketch, odd_sketch])(chance)
+
+
 def any_inventory(chance):
     return chance.choice([some_inventory, odd_inventory, odd_inventory])(chance)
 
@@ -232,4 +259,9 @@ KINDS = [
     kind("file", "write_inventory", digest_words, write_digests),
     kind("file", "write_log", text_words, write_log),
     kind("file", "write_conflicts", text_words, write_conflicts),
+]
+# Those of sketches, for a driver that has them: calls.py takes them in once one does.
+SKETCH_KINDS = [
+    kind("file", "read_sketch", reading_words(any_sketch), read_cells),
+    kind("file", "write_sketch", sketch_words, write_cells),
 ]

@@ -8,8 +8,9 @@ import odd_events
 import odd_files
 import odd_inventories
 import odd_nodes
+import odd_sketches
 import schedules
-from command import DIRECTORY
+from command import DIRECTORY, WORDS_WANTED
 from inventory_files import digest_of, inventory_of, inventory_with
 from json_text import quoted, read_canonical, spelled
 from odd_events import chain, event
@@ -18,6 +19,7 @@ from odd_files import (atoms_of, damaged, documents_told, file_with, grounded_pa
 from odd_values import any_value, good_name, good_time, nested, number, number_near_a_border, odd_name, odd_text, time
 from sealed_files import sealed
 from shown_texts import log_text
+from sketch_files import sketch_file, sketch_with
 from spelling import spelled_oddly
 
 TOP = os.path.dirname(os.path.dirname(os.path.abspath(__file__)))
@@ -333,6 +335,71 @@ def damaged_inventories(chance):
         {"a": source, "i": made}
 
 
+def of_nearly(chance, told):
+    """The atoms of most of the documents, with some of the others."""
+    return atoms_of([document for document in told if chance.random() < chance.choice([0.2, 0.7, 0.9, 1])])
+
+
+def sketches(chance):
+    """Calls of both commands, of which most are answered with a text: sites that differ in much, in little and in nothing."""
+    told = documents_told(chance, 1, 5)
+    atoms, there = of_nearly(chance, told), of_nearly(chance, told)
+    if chance.random() < 0.2:
+        there = chance.choice([set(), atoms, grounded_part(chance, atoms)])
+    if chance.random() < 0.1:
+        atoms = set()
+    files = {"folder": DIRECTORY, "from": some_file_of(chance, "g", atoms)}
+    if chance.random() < 0.15:
+        files["from"] = as_input(chance, chance.choice(told))
+    if chance.random() < 0.3:
+        file = "from" if chance.random() < 0.95 else chance.choice(["folder", "nothere", "by"])
+        words = ["sketch", *odd_sketches.option_words(chance), file] if chance.random() < 0.5 else ["sketch", file]
+        if chance.random() < 0.3:
+            words.append(words.pop(1))
+        return words, dict(files, by=odd_sketches.some_sketch(chance))
+    digests = {digest_of(atom) for atom in there} if chance.random() < 0.9 else some_digests(chance, there)
+    layout = odd_sketches.some_layout(chance, len(atoms ^ there))
+    log = "g" if chance.random() < 0.94 else chance.choice(["h", "g ", "G"])
+    files["by"] = sketch_file(log, sketch_with(log, digests, *layout))
+    operands = chance.choice([["from", "by"]] * 20 + [
+        ["by", "from"], ["by", "by"], ["from", "from"], ["from", "folder"], ["from", "nothere"], ["nothere", "by"],
+        ["folder", "by"], ["nothere", "folder"]])
+    return ["missing-by-sketch"] + operands, files
+
+
+def damaged_sketches(chance):
+    """A sketch with something odd in it, mostly where one is asked for."""
+    made = odd_sketches.odd_sketch(chance)
+    source = chance.choice([lambda: some_file(chance)] * 8 + [
+        lambda: some_file(chance, "h"), lambda: damaged(chance, some_file(chance), 1), lambda: made,
+        lambda: spelled_oddly(chance, event(chance))])()
+    return chance.choice([["missing-by-sketch", "a", "i"]] * 12 + [
+        ["missing-by-sketch", "i", "i"], ["sketch", "i"], ["check", "i"], ["join", "a", "i"], ["missing", "a", "i"],
+        ["missing-by", "a", "i"]]), {"a": source, "i": made}
+
+
+def misleading_sketches(chance):
+    """A sketch whose cells, counts or digest are not those of one set."""
+    told = documents_told(chance, 1, 4)
+    atoms, there = of_nearly(chance, told), of_nearly(chance, told)
+    files = {"a": some_file_of(chance, "g", atoms), "i": odd_sketches.misleading_sketch(chance, there)}
+    if chance.random() < 0.25:
+        files = {"a": some_file_of(chance, "g", set()), "i": odd_sketches.single_cells(chance)}
+    return ["missing-by-sketch", "a", "i"], files
+
+
+def sketch_words(chance):
+    """Words of the two commands, of which some are no call."""
+    files = {"a": some_file(chance), "i": odd_sketches.some_sketch(chance), "g": NO_DIGESTS, "folder": DIRECTORY,
+             "e": spelled_oddly(chance, event(chance))}
+    command = chance.choice(["sketch"] * 6 + ["missing-by-sketch"] * 4 + ["sketc", "missing-by-", "inventory", "missing-by"])
+    options = odd_sketches.option_words(chance) if command == "sketch" or chance.random() < 0.1 else []
+    wanted = WORDS_WANTED.get(command.encode(), 1)
+    count = wanted if chance.random() < 0.8 else chance.randint(0, 3)
+    likely = ["a", "a", "a", "i", "i", "g", "e", "nothere", "folder", "-", "--"]
+    return [command, *options, *(chance.choice(likely) for _ in range(count))], files
+
+
 def shows(chance):
     words = chance.choice([["show", "a"], ["show", "--conflicts", "a"], ["show", "--conflicts", "a"], ["show", "a", "--conflicts"],
                            ["check", "a"]])
@@ -525,6 +592,7 @@ KINDS = {
     doubled_names: 12, numbers_anywhere: 8, escapes_anywhere: 10, depths_anywhere: 10, near_names: 10, far_members: 10,
     bare_documents: 12, faults_in_turn: 12}
 KINDS_WITH_REHEARSALS = {**KINDS, rehearsals: 12}
+KINDS_WITH_SKETCHES = {**KINDS_WITH_REHEARSALS, sketches: 14, damaged_sketches: 16, misleading_sketches: 12, sketch_words: 5}
 
 
 class Case:

@@ -1,11 +1,12 @@
 #!/usr/bin/env python3
 """Worked rows of documents, of replica files in both formats, of rulings, inventories and rehearsals: what is written is
-told here, by hashlib or in full. Those of documents stand in document_rows.py, those of several inputs in exchange_rows.py.
+told here, by hashlib or in full. Those of documents stand in document_rows.py, those of several inputs in exchange_rows.py,
+those of sketches in sketch_rows.py.
 
     differential/rows.py [BINARY]
 
-Each row is answered by the second implementation, and by BINARY where it is given; those of `rehearse` where its help
-lists that command. The status is 1 where one differs.
+Each row is answered by the second implementation, and by BINARY if it is given and its help lists the row's command. The
+status is 1 where one differs.
 """
 import itertools
 import os
@@ -16,8 +17,9 @@ sys.path.append(os.path.join(os.path.dirname(os.path.dirname(os.path.abspath(__f
 
 import document_rows
 import exchange_rows
+import sketch_rows
 from command import Answer, answer
-from compare import alike, answered, lists
+from compare import alike, answered, commands_of
 from document_rows import conflicts, log
 from texts import B1, BF, C1, CF, K1, KF, S1, S2, digits, inventory, line, lined, replica, tree
 from worked_files import (
@@ -252,6 +254,22 @@ def exchange_rows_called():
         yield called(name, command, inputs, refusal(said))
 
 
+def sketch_rows_called():
+    """The rows of sketches."""
+    for name, command, file, output in sketch_rows.SKETCHED:
+        yield called(name, command, [file], Answer(0, output.encode(), b""))
+    for options, said in sketch_rows.OPTIONS_REFUSED:
+        yield called("sketch " + options, "sketch " + options, ["{"], refusal(said, 2))
+    for name, source, sketch, output in sketch_rows.ANSWERED + sketch_rows.MISLEADING:
+        yield called(name, "missing-by-sketch", [source, sketch], Answer(0, output.encode(), b""))
+    for name, source, sketch, said in sketch_rows.SKETCHES_REFUSED:
+        yield called(name, "missing-by-sketch", [source, sketch], refusal(said))
+    for name, sketch, said in sketch_rows.FILES_REFUSED:
+        yield called(name, "missing-by-sketch", [sketch_rows.NOTHING, sketch], refusal("input 2: " + said))
+    for name, command, files, said in sketch_rows.OF_FILES_REFUSED:
+        yield called(name, command, files, refusal(said))
+
+
 def file_rows():
     """Each row of this file: its name, words, files as text, and answer."""
     for name, command, source, by, output in WRITTEN:
@@ -293,10 +311,9 @@ def wrong_sizes():
 
 def main():
     wrong, count = wrong_sizes(), len(SIZES)
-    binaries = [os.path.abspath(binary) for binary in sys.argv[1:2]]
-    rehearsing = [binary for binary in binaries if lists(binary, "rehearse")]
-    for name, words, files, wanted in with_bytes(all_rows()):
-        asked = rehearsing if words[0] == b"rehearse" else binaries
+    listed = {binary: commands_of(binary) for binary in map(os.path.abspath, sys.argv[1:2])}
+    for name, words, files, wanted in with_bytes(itertools.chain(all_rows(), sketch_rows_called())):
+        asked = [binary for binary, commands in listed.items() if words[0].decode() in commands]
         got = [answer(words, files)] + [answered(binary, words, files) for binary in asked]
         if not all(alike(wanted, one) for one in got):
             wrong.append(name)

@@ -4,8 +4,9 @@
     differential/vectors.py BINARY      checks that the command, and the second implementation here, write and refuse them so
     differential/vectors.py --make      writes what the calls of examples/vectors/calls.txt write, by the second implementation
 
-A line of calls.txt is a call's words, ` -> `, and the file that it writes, or its line on standard error. Files that no call
-writes are made too: those of format 1, and those of format 2 with wrong nodes.
+A line of calls.txt is a call's words, ` -> `, and the file that it writes, or its line on standard error. A call of a command
+that the help of BINARY doesn't list is asked of the second implementation alone. Files that no call writes are made too: those
+of format 1, those of format 2 with wrong nodes, and sketches with wrong lines or cells.
 """
 import os
 import sys
@@ -13,10 +14,12 @@ import sys
 sys.dont_write_bytecode = True
 
 from command import Answer, answer
-from compare import alike, answered
+from compare import alike, answered, commands_of
+from inventory_files import digest_of
 from json_text import spelled
 from replica_files import FIRST_LINES, file_of, read_file
 from sealed_files import head, sealed
+from sketch_files import FIRST_LINE, read_sketch, sketch_file, sketch_with
 
 FOLDER = os.path.join(os.path.dirname(os.path.dirname(os.path.abspath(__file__))), "examples", "vectors")
 
@@ -45,6 +48,19 @@ WRONG = {
     "atom.cadf": [["E", "e1", BODY]],
     "ruling-letter.cadf": [[1, 0, "U"], [2, 0, "X"], [3, 0, "e1"], [4, 1, "0" * 64]],
     "ruling-digits.cadf": [[1, 0, "U"], [2, 0, "E"], [3, 0, "e1"], [4, 1, "A" * 64]],
+}
+
+# Sketches with wrong lines, made of one of three cells: what becomes of its lines from the third on.
+FEW, ODD = ["sketch", "--cells", "3", "--salt", "1", "south.json"], "f" * 80
+WRONG_SKETCHES = {
+    "four-cells.sketch": lambda lines: ["S 4" + lines[0][3:], lines[1], *lines[2:], ODD],
+    "even-salt.sketch": lambda lines: [" ".join(["S", "3", "2", lines[0].split()[3]]), *lines[1:]],
+    "counts.sketch": lambda lines: [lines[0], lines[1].rpartition(" ")[0], *lines[2:]],
+    "missing-cell.sketch": lambda lines: lines[:-1],
+    "further-cell.sketch": lambda lines: [*lines, ODD],
+    "digits.sketch": lambda lines: [*lines[:-1], lines[-1].upper()],
+    "no-lines.sketch": lambda lines: [],
+    "greatest.sketch": lambda lines: ["S 12582912" + lines[0][3:], *lines[1:]],
 }
 
 
@@ -84,6 +100,12 @@ def make():
     for name, lines in WRONG.items():
         texts = [line if isinstance(line, str) else spelled(line) for line in lines]
         put(name, sealed(head(FIRST_LINES[2], "g") + [text.encode() for text in texts]))
+    make_sketches()
+    make_calls()
+
+
+def make_calls():
+    """Writes the files that calls write."""
     for words, written in told():
         if not written.startswith("cadf: "):
             put(written, answer([word.encode() for word in words], named(words)).output)
@@ -91,11 +113,25 @@ def make():
                 put(name, file_of(*read_file(read(written)), version=1))
 
 
+def make_sketches():
+    """Writes the sketches that no call writes: wrong ones, one of another log, and one whose digest is in a single cell."""
+    few = answer([word.encode() for word in FEW], named(FEW)).output
+    for name, changed in WRONG_SKETCHES.items():
+        lines = changed(few.decode().split("\n")[2:-2])
+        put(name, sealed(head(FIRST_LINE, "g") + [line.encode() for line in lines]))
+    put("other-log.sketch", sketch_file("h", read_sketch(few)[1]))
+    digest = digest_of(("E", "e1", BODY))
+    sketch = sketch_with("g", {digest}, 6, 1)
+    sketch.cells[:-2] = [0] * 4
+    put("misleading.sketch", sketch_file("g", sketch))
+
+
 def check(binary):
     """Tries each call both ways; the number of calls."""
-    count = 0
+    count, commands = 0, commands_of(binary)
     for name, words, files, wanted in calls():
-        for got in (answer(words, files), answered(binary, words, files)):
+        got_by_binary = [answered(binary, words, files)] if words[0].decode() in commands else []
+        for got in (answer(words, files), *got_by_binary):
             if not alike(wanted, got):
                 sys.exit("vectors: %s: status %s, %r, %r" % (name, got.status, got.output, got.error))
         count += 1

@@ -5,13 +5,15 @@
 
 Ten documents are made of the events in this folder, with other outcomes, tags and relays, under one of two names. In
 each exchange two to five sites are told them in some order, some of them twice, and send each other parts, each made
-against some earlier state of its receiver, late, or again, until each has heard of all. Half of the parts are made from
-the receiver's whole file, half from an inventory with which it asked, then or earlier. Some are made against a file
-without atoms, which their receiver never joined. Sites that hold both names rule for one of them, and join parts that
+against some earlier state of its receiver, late, or again, until each has heard of all. A third of the parts are made
+from the receiver's whole file, a third from an inventory and a third from a sketch with which it asked, then or earlier. A
+sketch with too few cells is refused, and the receiver asks with as many as the refusal says; whoever was refused twice
+asks by an inventory. Some parts are made against a file without atoms, which their receiver never joined. Sites that hold both names rule for one of them, and join parts that
 were made before they ruled. In the end every site's file must be the file of one join of the ten documents with that
 ruling, and its log and conflict list those of that file.
 """
 import argparse
+import collections
 import copy
 import glob
 import json
@@ -22,6 +24,7 @@ import sys
 import tempfile
 
 HERE = os.path.dirname(os.path.abspath(__file__))
+TOO_FEW = b"cadf: input 2: too few cells: ask for "
 BINARY = os.path.join(HERE, "..", "crates", "cadf", "out", "cadf")
 
 
@@ -29,7 +32,7 @@ class Command:
     """The built command, and a folder for what it writes."""
 
     def __init__(self, binary, folder):
-        self.binary, self.folder, self.files, self.inventories = binary, folder, 0, {}
+        self.binary, self.folder, self.files, self.asked, self.letters = binary, folder, 0, {}, collections.Counter()
         self.empty = self.join(self.keep(b'{"id": "federation", "events": []}'))
 
     def keep(self, content):
@@ -53,10 +56,28 @@ class Command:
         return self.keep(self.written("join", "--log", "federation", *files))
 
     def missing(self, sender, receiver):
-        """What the receiver, as it was in that file, lacks of the sender: by its whole file or by an inventory."""
-        if random.random() < 0.5:
+        """What the receiver, as it was in that file, lacks of the sender: by its whole file, an inventory or a sketch."""
+        way = random.choice(["file", "inventory", "sketch"])
+        if way == "file":
             return self.keep(self.written("missing", sender, receiver))
-        return self.keep(self.written("missing-by", sender, self.inventory(receiver)))
+        return self.missing_by_sketch(sender, receiver) if way == "sketch" else self.missing_by(sender, receiver)
+
+    def missing_by(self, sender, receiver):
+        return self.keep(self.written("missing-by", sender, self.letter("inventory", receiver)))
+
+    def missing_by_sketch(self, sender, receiver):
+        """The same by sketches: one of some cells, and if these are too few another, as its refusal asks."""
+        options = ["--cells", random.choice(["12", "60", "198"])]
+        for letters in (1, 2):
+            done = self.run("missing-by-sketch", sender, self.letter("sketch", receiver, *options))
+            self.letters[letters] += 1
+            if done.returncode == 0:
+                return self.keep(done.stdout)
+            if done.returncode != 1 or not done.stderr.startswith(TOO_FEW):
+                sys.exit("cadf missing-by-sketch: %s" % done.stderr.decode())
+            options = ["--cells", done.stderr[len(TOO_FEW):].decode().strip(), "--salt", str(random.getrandbits(64) | 1)]
+        self.letters[3] += 1
+        return self.missing_by(sender, receiver)
 
     def ruled(self, file):
         """The file with a ruling for the second of two names, or the file itself where it hasn't two."""
@@ -67,11 +88,12 @@ class Command:
             sys.exit("cadf rule: %s" % done.stderr.decode())
         return self.keep(done.stdout)
 
-    def inventory(self, file):
-        """The file's inventory, made when it is first asked for."""
-        if file not in self.inventories:
-            self.inventories[file] = self.keep(self.written("inventory", file))
-        return self.inventories[file]
+    def letter(self, command, file, *options):
+        """The letter by which the holder of the file asks, made when it first asks so."""
+        words = (command, *options, file)
+        if words not in self.asked:
+            self.asked[words] = self.keep(self.written(*words))
+        return self.asked[words]
 
 
 def events():
@@ -155,7 +177,9 @@ def main():
                 sites += 1
                 if told(command, file) != wanted:
                     sys.exit("exchange %d ended with other bytes" % (number + 1))
-        print("%d exchanges, %d sites, %d files: %s" % (options.exchanges, sites, command.files, wanted[3].decode().strip()))
+        print("%d exchanges, %d sites, %d files; sketches: %d first letters, %d second, %d in vain: %s" % (
+            options.exchanges, sites, command.files, *(command.letters[letters] for letters in (1, 2, 3)),
+            wanted[3].decode().strip()))
 
 
 if __name__ == "__main__":

@@ -11,12 +11,22 @@ FIRST_SECONDS, LINES_A_SECOND = 50, 10
 SPEED = {1: 1.0, 2: 1.5, 3: 1.7, 4: 1.8}
 
 
-def crates_of(top):
-    """The crates of crates.txt by name, each with those of the repository that it depends on, in the order of the file."""
+def listed(top):
+    """The crates of crates.txt by name, each with all that its line says it depends on, in the order of the file."""
     with open(os.path.join(top, "crates.txt"), encoding="utf-8") as file:
         lines = [line.split("#")[0] for line in file]
-    listed = {line.split(":")[0].split()[0]: line.split(":")[1].split() for line in lines if ":" in line}
-    return {name: [other for other in uses if other in listed] for name, uses in listed.items()}
+    return {line.split(":")[0].split()[0]: line.split(":")[1].split() for line in lines if ":" in line}
+
+
+def uses_of(top, name):
+    """All that the crate's line says it depends on, of the repository and of the kit."""
+    return listed(top)[name]
+
+
+def crates_of(top):
+    """The crates of crates.txt by name, each with those of the repository that it depends on, in the order of the file."""
+    found = listed(top)
+    return {name: [other for other in uses if other in found] for name, uses in found.items()}
 
 
 def code_lines(folder):

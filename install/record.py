@@ -70,20 +70,30 @@ def digest_of_sources(top, names):
     return whole.hexdigest()
 
 
-def read(top):
-    """The record, empty where there is none."""
+def read_file(name):
+    """The record in that file, empty where there is none."""
     try:
-        with open(path(top), encoding="utf-8") as file:
+        with open(name, encoding="utf-8") as file:
             return dict(line.rstrip("\n").split(": ", 1) for line in file if ": " in line)
     except OSError:
         return {}
 
 
-def write(top, record):
+def write_file(name, record):
     """Puts the record in place at once: an earlier one stands until then."""
-    with open(path(top) + ".new", "w", encoding="utf-8") as file:
+    with open(name + ".new", "w", encoding="utf-8") as file:
         file.writelines("%s: %s\n" % line for line in record.items())
-    os.replace(path(top) + ".new", path(top))
+    os.replace(name + ".new", name)
+
+
+def read(top):
+    """The record of the command."""
+    return read_file(path(top))
+
+
+def write(top, record):
+    """Puts the record of the command in place."""
+    write_file(path(top), record)
 
 
 def is_object_kept(top):

@@ -1,6 +1,7 @@
 //! Opens the files of a request, and runs its engine on them.
-use crate::given::{key_given, letter_given, log_given, log_named, place_given, sites_given};
+use crate::given::{letter_given, log_given, place_given, sites_given};
 use crate::stop::Stop;
+use cadf_arguments::{read_key, read_log};
 use cadf_json::{FromStd, Sink};
 use cadf_tool::{
     ToolFault, run_check, run_inventory, run_join, run_missing, run_missing_by, run_rehearse,
@@ -80,7 +81,7 @@ fn rule<W: Sink>(
     output: &mut W,
 ) -> Result<(), Stop> {
     let letter = letter_given(ruling[0])?;
-    let key = key_given(rt.alloc(), ruling[1])?;
+    let key = read_key(rt.alloc(), ruling[1])?;
     let place = place_given(ruling[2])?;
     let mut input = open(rt, file, 1)?;
     Ok(run_rule(rt.alloc(), letter, &key, place, &mut input, output)?)
@@ -94,7 +95,7 @@ fn rehearse<W: Sink>(
     script: &str,
     output: &mut W,
 ) -> Result<(), Stop> {
-    let log = log_named(rt.alloc(), log)?;
+    let log = read_log(rt.alloc(), log)?;
     let sites = sites_given(sites)?;
     let mut script = open(rt, script, 1)?;
     Ok(run_rehearse(rt.alloc(), &log, sites, &mut script, output)?)

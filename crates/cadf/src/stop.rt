@@ -1,4 +1,5 @@
 //! Why a command didn't do its work, and what is reported of it.
+use cadf_arguments::ArgumentFault;
 use cadf_tool::{ToolFault, status};
 use std::process::ExitCode;
 
@@ -9,16 +10,8 @@ pub(crate) const REFUSED: u8 = 2;
 #[derive(Drop)]
 pub(crate) enum Stop {
     Tool(ToolFault),
-    /// The word behind `--log`, or the log of a rehearsal, is no name.
-    LogName,
-    /// The number of sites isn't 1 to 64 in decimal without a leading zero.
-    Sites,
-    /// No value has the letter.
-    Letter,
-    /// The key is no name.
-    Key,
-    /// The place isn't 1 to 999,999,999 in decimal without a leading zero.
-    Place,
+    /// A name, a number or a letter is refused.
+    Argument(ArgumentFault),
     /// The first word names no command.
     Command,
 }
@@ -29,10 +22,10 @@ impl From<ToolFault> for Stop {
     }
 }
 
-/// Says that the command line is refused, and for what.
-fn refuse(rt: &HostRuntime, what: &str) -> ExitCode {
-    let _ = eprintln!(rt; "cadf: {what}");
-    ExitCode::from(REFUSED)
+impl From<ArgumentFault> for Stop {
+    fn from(fault: ArgumentFault) -> Stop {
+        Stop::Argument(fault)
+    }
 }
 
 /// Says why the command gave up.
@@ -42,11 +35,13 @@ pub(crate) fn report(rt: &HostRuntime, stop: &Stop) -> ExitCode {
             let _ = eprintln!(rt; "cadf: {fault}");
             ExitCode::from(status(fault))
         }
-        Stop::LogName => refuse(rt, "log name"),
-        Stop::Sites => refuse(rt, "sites"),
-        Stop::Letter => refuse(rt, "letter"),
-        Stop::Key => refuse(rt, "key"),
-        Stop::Place => refuse(rt, "place"),
-        Stop::Command => refuse(rt, "command"),
+        Stop::Argument(fault) => {
+            let _ = eprintln!(rt; "cadf: {fault}");
+            ExitCode::from(fault.status())
+        }
+        Stop::Command => {
+            let _ = eprintln!(rt; "cadf: command");
+            ExitCode::from(REFUSED)
+        }
     }
 }

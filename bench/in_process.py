@@ -1,0 +1,107 @@
+#!/usr/bin/env python3
+"""Times calls of the library beside the command.
+
+    bench/in_process.py [--size 10] [--calls 1000] [--runs 3] PREFIX
+
+PREFIX is where install/install put the command and the library; gcc is needed. Prints
+
+- what a `check` of a small log takes from Python and by the command, over so many calls of each;
+- processor time and memory of `show` of a log document of SIZE MB, by the command and by a C program that reads the file and
+  calls the library with a buffer of the right size. It prints the ratio of each to the command's;
+- the memory that the same call takes from Python beyond its input, in lengths of the output.
+"""
+import argparse
+import os
+import subprocess
+import sys
+import tempfile
+import time
+
+from measure import TOP, best_of, run_apart
+from show import document
+
+LOG = '{"id":"g","events":[],"name":"a"}'
+# Reads the file, calls with as much room as the second word says, and writes nothing.
+PROGRAM = r"""
+#include <cadf.h>
+#include <stdio.h>
+#include <stdlib.h>
+int main(int count, char **words)
+{
+    size_t room = strtoull(words[2], NULL, 10), size, length;
+    FILE *file = fopen(words[1], "rb");
+    fseek(file, 0, SEEK_END);
+    size = ftell(file);
+    rewind(file);
+    uint8_t *input = malloc(size), *output = malloc(room);
+    struct cadf_bytes bytes = cadf_bytes_of(input, fread(input, 1, size, file));
+    return count != 3 || cadf_show(false, &bytes, output, room, &length) || length > room;
+}
+"""
+FROM_PYTHON = """
+import resource, sys, cadf
+with open(sys.argv[1], "rb") as file:
+    data = file.read()
+cadf.version()
+before = resource.getrusage(resource.RUSAGE_SELF).ru_maxrss
+length = len(cadf.show(data))
+print((resource.getrusage(resource.RUSAGE_SELF).ru_maxrss - before) * 1024 / length)
+"""
+
+
+def seconds_of(work, calls):
+    """The seconds that one call takes, over so many."""
+    start = time.monotonic()
+    for _ in range(calls):
+        work()
+    return (time.monotonic() - start) / calls
+
+
+def small_calls(prefix, folder, calls):
+    """Times checks of a small log, in the process and by the command."""
+    import cadf
+
+    path = os.path.join(folder, "small.json")
+    with open(path, "w", encoding="utf-8") as file:
+        file.write(LOG)
+    words = [os.path.join(prefix, "bin", "cadf"), "check", path]
+    here = seconds_of(lambda: cadf.check(LOG), calls)
+    there = seconds_of(lambda: subprocess.run(words, stdin=subprocess.DEVNULL, stdout=subprocess.DEVNULL, check=True), calls)
+    print("%d checks: %.1f us in process, %.0f us by the command" % (calls, here * 1e6, there * 1e6))
+
+
+def large_call(prefix, folder, size, runs):
+    """Times `show` of a large document by the command and by a C program, and weighs it from Python."""
+    path, text, program = (os.path.join(folder, name) for name in ("log.json", "shown.json", "show"))
+    document(path, size * 1000 * 1000, 1)
+    command = [os.path.join(prefix, "bin", "cadf"), "show", path]
+    run_apart(command, text)
+    words = ["gcc", "-O1", "-I" + os.path.join(prefix, "include"), "-x", "c", "-", "-x", "none", os.path.join(prefix, "lib", "libcadf.a")]
+    subprocess.run([*words, "-o", program], input=PROGRAM.encode(), check=True)
+    length = os.path.getsize(text)
+    there = best_of([run_apart(command) for _ in range(runs)])
+    here = best_of([run_apart([program, path, str(length)]) for _ in range(runs)])
+    print("show of %d MB: %.3f s and %.0f MB by the command, %.3f s (%.2f) and %.0f MB in process" % (
+        size, there.processors, there.memory, here.processors, here.processors / there.processors, here.memory))
+    print("beyond the command's memory: %.2f times input and output" % (
+        (here.memory - there.memory) * 2 ** 20 / (length + os.path.getsize(path))))
+    print("from Python: %s lengths of the output" % subprocess.check_output([sys.executable, "-c", FROM_PYTHON, path]).decode().strip()[:4])
+
+
+def main():
+    parser = argparse.ArgumentParser(description=__doc__, formatter_class=argparse.RawDescriptionHelpFormatter)
+    parser.add_argument("--size", type=int, default=10)
+    parser.add_argument("--calls", type=int, default=1000)
+    parser.add_argument("--runs", type=int, default=3)
+    parser.add_argument("prefix", metavar="PREFIX")
+    options = parser.parse_args()
+    prefix, package = os.path.abspath(options.prefix), os.path.join(TOP, "bindings", "python")
+    os.environ.update(CADF_LIBRARY=os.path.join(prefix, "lib", "libcadf.so.0"), PYTHONPATH=package)
+    sys.path.insert(0, package)
+    with tempfile.TemporaryDirectory(prefix="cadf-bench-") as folder:
+        small_calls(prefix, folder, options.calls)
+        large_call(prefix, folder, options.size, options.runs)
+
+
+if __name__ == "__main__":
+    main()

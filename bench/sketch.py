@@ -1,0 +1,270 @@
+#!/usr/bin/env python3
+"""Counts the bytes of an exchange by a sketch beside other ways, how often sketches are read, and what they cost.
+
+    bench/sketch.py [--atoms 100000,1000000] [--runs 3] [--salts 100] [--only bytes,reads,letters,times,odd] [BINARY]
+
+bytes    Two sites of so many facts differ in 0, 10, 100, 1,000 and 10 % of them, half at each, scattered. In one table, each
+         way round: what a site sends to ask and what it is answered, by an inventory, by sketches (all letters together) and
+         by rdiff (Debian: rdiff) with its default block and one of 1,024 bytes. The deltas must be the same bytes.
+reads    How many of so many salts read 1.5 and 2 cells a difference, by number; and 198 cells for 100 differences.
+letters  How many of so many pairs of sites need one letter, two and more, with the default size and then the hint.
+times    `sketch` beside `inventory` and `missing-by-sketch` beside `missing-by`, for the sites that differ in 100 facts.
+odd      Sketches of another log, of an empty one, of the same set, one side empty, both empty, and cells made to mislead.
+
+What both sites have cancels out, so the sites of `reads` and `letters` share only some thousand facts. Each aim is printed
+with what came of it. What is measured rests on the seed alone, but for times.
+"""
+import argparse
+import os
+import random
+import shutil
+import subprocess
+import sys
+import tempfile
+import time
+from typing import NamedTuple
+
+from measure import BINARY, atoms_of, check_same_bytes, measured_in_turn, run_apart, write_replica, written_apart
+
+from command import answer
+from odd_sketches import path
+from sketch_files import CELLS, CHECK_BITS, Layout, Sketch, check_of, counts_of, file_digest, sketch_file, turn
+
+LOG = "openstack:audit"
+TOO_FEW = b"cadf: input 2: too few cells: ask for "
+DIFFERENCES = (0, 10, 100, 1000, None)  # None: a tenth of the facts
+BLOCKS = {"rdiff": [], "rdiff -b 1024": ["-b", "1024"]}
+READ = (5, 10, 30, 100, 300, 1000, 3000, 10000)  # differences of which is asked how often they are read
+SHARED = 1000  # events of sites of which it doesn't matter how large they are
+BYTES_A_FACT = 100  # of memory, beside the cells
+MB = 1 << 20
+
+
+class Done(NamedTuple):
+    status: int
+    output: bytes
+    error: bytes
+
+
+class Trial:
+    """The command, a folder, and the chance by which facts and salts are chosen."""
+
+    def __init__(self, options, folder):
+        self.binary, self.runs, self.salts, self.folder = options.binary, options.runs, options.salts, folder
+        self.chance, self.files = random.Random(52), 0
+
+    def path(self):
+        self.files += 1
+        return os.path.join(self.folder, str(self.files))
+
+    def keep(self, content):
+        path = self.path()
+        with open(path, "wb") as out:
+            out.write(content)
+        return path
+
+    def run(self, *words):
+        done = subprocess.run([self.binary, *words], stdin=subprocess.DEVNULL, capture_output=True)
+        return Done(done.returncode, done.stdout, done.stderr)
+
+    def written(self, *words):
+        """A file of what the command writes, which it must."""
+        path = self.path()
+        run_apart([self.binary, *words], output=path)
+        return path
+
+    def site(self, atoms):
+        path = self.path()
+        written_apart(lambda: write_replica(path, LOG, atoms))
+        return path
+
+    def sites(self, facts, differences):
+        """Two sites of so many facts each, half of the differences at each: chains and tags, scattered, that the other lacks."""
+        union = facts + differences // 2
+        atoms = [atom for number in range(-(-union // 3)) for atom in atoms_of(number)][:union]
+        leaves = [place for place, atom in enumerate(atoms) if len(atom) > 3]
+        lacked = self.chance.sample(leaves, differences)
+        made = []
+        for dropped in (set(lacked[:differences // 2]), set(lacked[differences // 2:])):
+            made.append(self.site([atom for place, atom in enumerate(atoms) if place not in dropped]))
+        return made
+
+    def read(self, sender, receiver, cells, salt):
+        """Whether the sender reads the receiver's sketch."""
+        sketch = self.written("sketch", "--cells", str(cells), "--salt", str(salt), receiver)
+        done = self.run("missing-by-sketch", sender, sketch)
+        os.remove(sketch)
+        if done.status not in (0, 1) or done.status == 1 and not done.error.startswith(TOO_FEW):
+            sys.exit("missing-by-sketch: %r" % done.error)
+        return done.status == 0
+
+    def salt(self):
+        return self.chance.getrandbits(64) | 1
+
+    def letters(self, sender, receiver):
+        """The sketches with which the receiver asks until one is read: by the default first, then as a refusal says."""
+        options, asked = [], []
+        while True:
+            asked.append(self.written("sketch", *options, receiver))
+            done = self.run("missing-by-sketch", sender, asked[-1])
+            if done.status == 0:
+                return asked, self.keep(done.output)
+            if not done.error.startswith(TOO_FEW):
+                sys.exit("missing-by-sketch: %r" % done.error)
+            options = ["--cells", done.error[len(TOO_FEW):].decode().strip(), "--salt", str(self.salt())]
+
+
+def aim(what, reached):
+    print("    aim: %s: %s" % (what, "reached" if reached else "NOT REACHED"), flush=True)
+
+
+def size(*paths):
+    return sum(map(os.path.getsize, paths))
+
+
+def rdiff(trial, sender, receiver, block):
+    """The bytes of a signature and of a delta."""
+    signature, delta = trial.path(), trial.path()
+    subprocess.run(["rdiff", *block, "signature", receiver, signature], check=True)
+    subprocess.run(["rdiff", *block, "delta", signature, sender, delta], check=True)
+    return size(signature), size(delta)
+
+
+def ways(trial, sender, receiver):
+    """Each way's bytes to ask and to answer; of sketches also how many letters there were."""
+    inventory = trial.written("inventory", receiver)
+    delta = trial.written("missing-by", sender, inventory)
+    sketches, by_sketch = trial.letters(sender, receiver)
+    check_same_bytes([["cat", delta], ["cat", by_sketch]])
+    yield "inventory", size(inventory), size(delta), ""
+    yield "sketch", size(*sketches), size(by_sketch), "%d letter%s" % (len(sketches), "s" * (len(sketches) > 1))
+    if shutil.which("rdiff"):
+        for name, block in BLOCKS.items():
+            yield (name, *rdiff(trial, sender, receiver, block), "")
+
+
+def measure_bytes(trial, facts):
+    print("| Facts | Differences | Way | Asks | Answer | Asks back | Answer back | |\n|---|---|---|---|---|---|---|---|")
+    for differences in DIFFERENCES:
+        count = facts // 10 if differences is None else min(differences, facts // 2)
+        north, south = trial.sites(facts, count)
+        rows = list(zip(ways(trial, north, south), ways(trial, south, north)))
+        for (way, asks, answers, letters), (_, back, answers_back, letters_back) in rows:
+            said = "%s; %s" % (letters, letters_back) if letters else ""
+            print("| {:,} | {:,} | {} | {:,} | {:,} | {:,} | {:,} | {} |".format(
+                facts, count, way, asks, answers, back, answers_back, said), flush=True)
+        if differences is None:
+            aim("at 10 % at most a quarter of the inventory's bytes, in one letter of 2 cells a difference",
+                size(trial.written("sketch", "--cells", str(-(-2 * count // 3) * 3), south)) <= rows[0][0][1] / 4)
+        if differences == 100 and facts >= 10 ** 6:
+            aim("198 cells are at most 1/3,500 of the inventory's bytes",
+                3500 * size(trial.written("sketch", "--cells", "198", south)) <= rows[0][0][1])
+    if not shutil.which("rdiff"):
+        print("skipped: rdiff is not there (Debian: rdiff)")
+
+
+def measure_reads(trial):
+    print("| Differences | 1.5 cells each | 2 cells each |\n|---|---|---|")
+    for differences in READ:
+        north, south = trial.sites(max(3 * SHARED, 2 * differences), differences)
+        counts = []
+        for ratio in (1.5, 2):
+            cells = max(3, round(ratio * differences / 3) * 3)
+            counts.append(sum(trial.read(north, south, cells, trial.salt()) for _ in range(trial.salts)))
+        print("| {:,} | {} of {} | {} of {} |".format(differences, counts[0], trial.salts, counts[1], trial.salts), flush=True)
+    north, south = trial.sites(3 * SHARED, 100)
+    count = sum(trial.read(north, south, 198, trial.salt()) for _ in range(trial.salts))
+    print("198 cells, 100 differences: read for %d of %d salts" % (count, trial.salts))
+    aim("95 of 100", 100 * count >= 95 * trial.salts)
+
+
+def measure_letters(trial):
+    for differences in (1000, 10000):
+        letters = []
+        for _ in range(trial.salts):
+            north, south = trial.sites(max(3 * SHARED, 2 * differences), differences)
+            asked, part = trial.letters(north, south)
+            letters.append(len(asked))
+            for file in (north, south, part, *asked):
+                os.remove(file)
+        print("{:,} differences, by the default and then the hint: one letter {}, two {}, more {}, the most {}".format(
+            differences, letters.count(1), letters.count(2), sum(one > 2 for one in letters), max(letters)), flush=True)
+        aim("at most two letters for 95 of 100", 100 * sum(one <= 2 for one in letters) >= 95 * len(letters))
+
+
+def compared(trial, name, ours, theirs, most, facts, cells):
+    """Runs a command beside the one that it is compared with, and prints its ratios."""
+    took, beside = measured_in_turn([[trial.binary, *ours], [trial.binary, *theirs]], trial.runs)
+    room = beside.memory + cells * 40 / MB + BYTES_A_FACT * facts / MB
+    print("%s of %d facts: %.2f s, %.2f s of processors, %.0f MB; %s: %.2f s, %.2f s, %.0f MB" % (
+        name, facts, *took, theirs[0], *beside))
+    print("    to it: time %.2f, processors %.2f, memory %.2f" % tuple(a / b for a, b in zip(took, beside)))
+    aim("processors at most %.1f" % most, took.processors <= most * beside.processors)
+    aim("memory at most its own, the cells and %d bytes a fact (%.0f MB)" % (BYTES_A_FACT, room), took.memory <= room)
+
+
+def measure_times(trial, facts):
+    north, south = trial.sites(facts, min(100, facts // 2))
+    inventory, sketch = trial.written("inventory", south), trial.letters(north, south)[0][-1]
+    with open(sketch, "rb") as lines:
+        cells = int(lines.read(4096).split(b"\n")[2].split()[1])
+    compared(trial, "sketch", ["sketch", south], ["inventory", south], 1.2, facts, CELLS)
+    compared(trial, "missing-by-sketch", ["missing-by-sketch", north, sketch], ["missing-by", north, inventory], 1.3, facts, cells)
+
+
+def crafted(chance, name, cells):
+    """A sketch whose cells give a long chain, and the digests that its reader must find for an answer."""
+    layout, made = Layout(cells, chance.getrandbits(64) | 1), [0] * cells
+    if name == "a path":  # each digest is shown once the one before was taken out
+        digests = path(chance, layout, cells // 3)
+        for digest in digests:
+            turn(made, digest, layout)
+    else:  # a digest in one cell of its three: it is shown as often as there are cells
+        digests = [chance.getrandbits(256)]
+        made[layout.places(digests[0])[2]] = digests[0] << CHECK_BITS | check_of(digests[0])
+    digits = {b"%064x" % digest for digest in digests}
+    return sketch_file(LOG, Sketch(layout, file_digest(LOG, digits), counts_of(digits), made))
+
+
+def measure_odd(trial):
+    north, south = trial.sites(3 * SHARED, 60)
+    empty = trial.site([])
+    other = trial.keep(trial.run("join", "--log", "other", trial.keep(b'{"id":"other","events":[]}')).output)
+    sketch_of = {"the south": trial.written("sketch", south), "the same": trial.written("sketch", north),
+                 "nothing": trial.written("sketch", empty), "another log": trial.written("sketch", other)}
+    for cells in (600, 6000, 60000):
+        for name in ("a path", "a digest again and again"):
+            sketch_of["%s, %d cells" % (name, cells)] = trial.keep(crafted(trial.chance, name, cells))
+    for name, sketch in sketch_of.items():
+        for sender, file in (("the north", north), ("nothing", empty)):
+            start = time.monotonic()
+            done = trial.run("missing-by-sketch", file, sketch)
+            took = time.monotonic() - start
+            words = [b"missing-by-sketch", b"from", b"by"]
+            wanted = answer(words, {b"from": open(file, "rb").read(), b"by": open(sketch, "rb").read()})
+            if done != (wanted.status, wanted.output, wanted.error):
+                sys.exit("%s by a sketch of %s: %r, and not %r" % (sender, name, done, wanted.error))
+            said = done.error.decode().strip() or "%d bytes" % len(done.output)
+            print("%s, by a sketch of %s: %s, %.2f s" % (sender, name, said, took), flush=True)
+
+
+def main():
+    parser = argparse.ArgumentParser(description=__doc__, formatter_class=argparse.RawDescriptionHelpFormatter)
+    parser.add_argument("--atoms", default="100000,1000000", help="of each site")
+    parser.add_argument("--runs", type=int, default=3)
+    parser.add_argument("--salts", type=int, default=100)
+    parser.add_argument("--only", default="bytes,reads,letters,times,odd")
+    parser.add_argument("binary", nargs="?", default=BINARY)
+    options = parser.parse_args()
+    options.binary = os.path.abspath(options.binary)
+    sized, others = {"bytes": measure_bytes, "times": measure_times}, {
+        "reads": measure_reads, "letters": measure_letters, "odd": measure_odd}
+    for part in options.only.split(","):
+        for facts in map(int, options.atoms.split(",")) if part in sized else [None]:
+            with tempfile.TemporaryDirectory() as folder:
+                trial = Trial(options, folder)
+                sized[part](trial, facts) if part in sized else others[part](trial)
+
+
+if __name__ == "__main__":
+    main()

@@ -1,0 +1,110 @@
+/*
+ * The command, by the library: reads the files into memory, calls one function, and writes what it hands out.
+ *
+ *     call show FILE | conflicts FILE | check FILE | inventory FILE | missing FROM TO | missing-by FROM INVENTORY
+ *     call join LOG FILE.. | rule LETTER KEY PLACE FILE | rehearse LOG SITES SCRIPT
+ *
+ * An empty LOG is none. PLACE and SITES are decimal numbers. The exit status is that of the command; 3 where a file can't be read
+ * or the output not written, 2 where the words are none of these.
+ */
+#include "cadf.h"
+
+#include <stdio.h>
+#include <stdlib.h>
+#include <string.h>
+
+static _Noreturn void stop(int status, const char *why)
+{
+    fprintf(stderr, "cadf: %s\n", why);
+    exit(status);
+}
+
+/* The file of that name, in memory that is never freed. */
+static struct cadf_bytes file(const char *name)
+{
+    FILE *from = fopen(name, "rb");
+    size_t room = 4096, length = 0, count;
+    uint8_t *bytes = malloc(room);
+    if (!from)
+        stop(3, "read fault");
+    while (bytes && (count = fread(bytes + length, 1, room - length, from)) > 0)
+        if ((length += count) == room)
+            bytes = realloc(bytes, room *= 2);
+    if (!bytes)
+        stop(CADF_OUT_OF_MEMORY, "out of memory");
+    if (ferror(from))
+        stop(3, "read fault");
+    fclose(from);
+    return cadf_bytes_of(bytes, length);
+}
+
+static struct cadf_bytes word(const char *text)
+{
+    return cadf_bytes_of(text, strlen(text));
+}
+
+static int join(int count, char **words, uint8_t *output, size_t room, size_t *length)
+{
+    static struct cadf_bytes inputs[4096];
+    struct cadf_bytes log = word(words[1]);
+    for (int at = 2; at < count && at < 4098; at++)
+        if (!inputs[at - 2].bytes)
+            inputs[at - 2] = file(words[at]);
+    return cadf_join(inputs, count - 2, &log, output, room, length);
+}
+
+/* Calls the function that the words name. */
+static int call(int count, char **words, uint8_t *output, size_t room, size_t *length)
+{
+    static struct cadf_bytes first, second;
+    const char *name = words[0];
+    if (count >= 2 && count < 4098 && !strcmp(name, "join"))
+        return join(count, words, output, room, length);
+    if (!first.bytes && count > 1) {
+        first = file(words[count == 3 && strcmp(name, "rehearse") ? 1 : count - 1]);
+        second = count == 3 && strcmp(name, "rehearse") ? file(words[2]) : word("");
+    }
+    if (count == 2 && (!strcmp(name, "show") || !strcmp(name, "conflicts")))
+        return cadf_show(name[0] == 'c', &first, output, room, length);
+    if (count == 2 && !strcmp(name, "check"))
+        return cadf_check(&first, output, room, length);
+    if (count == 2 && !strcmp(name, "inventory"))
+        return cadf_inventory(&first, output, room, length);
+    if (count == 3 && !strcmp(name, "missing"))
+        return cadf_missing(&first, &second, output, room, length);
+    if (count == 3 && !strcmp(name, "missing-by"))
+        return cadf_missing_by(&first, &second, output, room, length);
+    if (count == 5 && !strcmp(name, "rule")) {
+        struct cadf_bytes key = word(words[2]);
+        uint8_t letter = strlen(words[1]) == 1 ? words[1][0] : 0;
+        return cadf_rule(letter, &key, strtoull(words[3], NULL, 10), &first, output, room, length);
+    }
+    if (count == 4 && !strcmp(name, "rehearse")) {
+        struct cadf_bytes log = word(words[1]);
+        return cadf_rehearse(&log, strtoull(words[2], NULL, 10), &first, output, room, length);
+    }
+    stop(CADF_ARGUMENT_REFUSED, "words");
+}
+
+int main(int count, char **words)
+{
+    size_t room = 1 << 16, length;
+    uint8_t *output = malloc(room);
+    int status;
+    if (count < 2)
+        stop(CADF_ARGUMENT_REFUSED, "words");
+    if (!output)
+        stop(CADF_OUT_OF_MEMORY, "out of memory");
+    while (status = call(count - 1, words + 1, output, room, &length), length > room) {
+        free(output);
+        output = malloc(room = length);
+        if (!output)
+            stop(CADF_OUT_OF_MEMORY, "out of memory");
+    }
+    if (status)
+        fprintf(stderr, "cadf: %.*s\n", (int)length, (char *)output);
+    else if (fwrite(output, 1, length, stdout) != length || fflush(stdout))
+        stop(3, "write fault");
+    free(output);
+    return status;
+}

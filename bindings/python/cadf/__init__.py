@@ -1,0 +1,170 @@
+"""The engines of cadf over bytes, in the process.
+
+    >>> import cadf
+    >>> a, b = '{"id":"g","events":[],"name":"a"}', '{"id":"g","events":[],"name":"b"}'
+    >>> both = cadf.join([a, b])
+    >>> cadf.check(both)
+    Check(log='g', atoms=2, conflicts=1)
+
+An input is a replica file, a log document or one event, as bytes or as a text. A `str` is always a text and never a path.
+Each function returns what the command of its name writes, and raises CadfError where the command refuses.
+
+A call releases the interpreter's lock while it works, and any number of threads may call. Don't call in the forked child of
+a process that has threads: start multiprocessing's workers by `spawn` or `forkserver`.
+"""
+import ctypes
+import json
+import re
+from typing import Any, Iterable, NamedTuple, Optional, Tuple, Union
+
+from . import _library
+
+__all__ = ["CadfError", "Check", "check", "inventory", "join", "missing", "missing_by", "rehearse", "rule", "show", "version"]
+
+Input = Union[bytes, bytearray, memoryview, str]
+
+_PLACED = re.compile(r"(?:input (\d+): )?(?:(.*): )?.*", re.DOTALL)
+_CHECKED = re.compile(rb"ok (.*) atoms (\d+) conflicts (\d+)\n", re.DOTALL)
+# What a call is given room for at first, beyond twice the size of its inputs.
+_ROOM = 4096
+_loaded: Optional[ctypes.CDLL] = None
+
+
+class CadfError(Exception):
+    """Why a call made nothing.
+
+    `status` is the exit status of the command: 1 an input is refused, 2 an argument is refused, 4 out of memory.
+    `text` is the command's line on standard error, without `cadf: `. `input` is the number of the refused input, from 1, and
+    `place` is where in it, as `line 5` or `event 2`; each is None if the text names none.
+    """
+
+    def __init__(self, status: int, text: str):
+        super().__init__(text)
+        self.status, self.text = status, text
+        number, self.place = _PLACED.fullmatch(text).groups()
+        self.input: Optional[int] = int(number) if number else None
+
+    def __reduce__(self) -> Tuple[Any, ...]:
+        return type(self), (self.status, self.text)
+
+
+class Check(NamedTuple):
+    """What an input holds: its log, the number of its facts, and the number of keys with several values."""
+
+    log: str
+    atoms: int
+    conflicts: int
+
+
+def _of(value: Input) -> bytes:
+    """The bytes of an input."""
+    if isinstance(value, str):
+        return value.encode("utf-8")
+    if isinstance(value, (bytes, bytearray, memoryview)):
+        return bytes(value)
+    raise TypeError("an input is bytes or a text, not %s" % type(value).__name__)
+
+
+def _given(value: bytes) -> _library.Bytes:
+    """The address and the length of bytes, which have to live as long."""
+    return _library.Bytes(value, len(value))
+
+
+def _whole(value: int, name: str) -> int:
+    """A number of 64 bits without a sign. One that is none is handed on as 0, which the library refuses."""
+    if isinstance(value, bool) or not isinstance(value, int):
+        raise TypeError("%s is a whole number, not %s" % (name, type(value).__name__))
+    return value if 0 <= value < 1 << 64 else 0
+
+
+def _functions() -> ctypes.CDLL:
+    """The library, loaded at the first call."""
+    global _loaded
+    if _loaded is None:
+        _loaded = _library.load()
+    return _loaded
+
+
+def _call(name: str, room: int, *arguments: Any) -> bytes:
+    """The text that a function hands out, in a buffer of so much room or, where that is too little, in one that fits."""
+    function, length = getattr(_functions(), "cadf_" + name), ctypes.c_size_t()
+    while True:
+        buffer = (ctypes.c_char * max(room, 1))()
+        status = function(*arguments, buffer, room, ctypes.byref(length))
+        if length.value <= room:
+            break
+        room = length.value
+    text = ctypes.string_at(buffer, length.value)
+    if status:
+        raise CadfError(status, text.decode("utf-8", "replace") or "out of memory")
+    return text
+
+
+def _room(*inputs: bytes) -> int:
+    return _ROOM + 2 * sum(map(len, inputs))
+
+
+def version() -> Tuple[int, int, int]:
+    """Returns the version of the library: major, minor, patch."""
+    number = _functions().cadf_version()
+    return number >> 16, number >> 8 & 255, number & 255
+
+
+def join(inputs: Iterable[Input], log: Optional[str] = None) -> bytes:
+    """Returns the replica file of all inputs, under `log` or the first that an input names."""
+    if isinstance(inputs, (str, bytes, bytearray, memoryview)):
+        raise TypeError("inputs is a list of inputs, not one input")
+    texts = [_of(value) for value in inputs]
+    name = b"" if log is None else _of(log)
+    if log is not None and not name:
+        raise CadfError(2, "log name")
+    array = (_library.Bytes * max(len(texts), 1))(*map(_given, texts or [b""]))
+    return _call("join", _room(*texts), array, len(texts), _given(name))
+
+
+def missing(source: Input, target: Input) -> bytes:
+    """Returns the delta: the replica file of what `target` lacks of `source`."""
+    texts = _of(source), _of(target)
+    return _call("missing", _room(texts[0]), *map(_given, texts))
+
+
+def missing_by(source: Input, inventory: Input) -> bytes:
+    """Returns the delta for the holder of an inventory."""
+    texts = _of(source), _of(inventory)
+    return _call("missing_by", _room(texts[0]), *map(_given, texts))
+
+
+def inventory(value: Input) -> bytes:
+    """Returns the inventory file of an input: the SHA-256 digests of all its facts."""
+    text = _of(value)
+    return _call("inventory", _room(text), _given(text))
+
+
+def show(value: Input, conflicts: bool = False) -> bytes:
+    """Returns the log, or with `conflicts` the list of conflicts and rulings, as canonical JSON."""
+    text = _of(value)
+    return _call("show", _room(text), bool(conflicts), _given(text))
+
+
+def check(value: Input) -> Check:
+    """Returns what an input holds."""
+    text = _of(value)
+    found = _CHECKED.fullmatch(_call("check", _ROOM, _given(text)))
+    assert found, "the library's line is another"
+    return Check(json.loads(found[1]), int(found[2]), int(found[3]))
+
+
+def rule(letter: str, key: str, place: int, value: Input) -> bytes:
+    """Returns the input's replica file with a ruling more: the value at `place`, from 1, of the key is to be shown.
+
+    `letter` is E for an event, R for a resource, G for a geolocation, M for a metric, P for a property.
+    """
+    texts = _of(key), _of(value)
+    number = ord(letter) if len(letter) == 1 and ord(letter) < 256 else 0
+    return _call("rule", _room(texts[1]), number, _given(texts[0]), _whole(place, "place"), _given(texts[1]))
+
+
+def rehearse(log: str, sites: int, script: Input) -> bytes:
+    """Returns a line for each site of the log after the schedule of a script."""
+    texts = _of(log), _of(script)
+    return _call("rehearse", _ROOM, _given(texts[0]), _whole(sites, "sites"), _given(texts[1]))

@@ -1,0 +1,62 @@
+"""Finds and loads the shared library, and declares its functions."""
+import ctypes
+import os
+from typing import Iterator, Optional
+
+NAME = "libcadf.so.0"
+VARIABLE = "CADF_LIBRARY"
+
+
+class Bytes(ctypes.Structure):
+    """An address and a length: `struct cadf_bytes`."""
+
+    _fields_ = [("bytes", ctypes.c_char_p), ("length", ctypes.c_size_t)]
+
+
+_INPUT = [ctypes.POINTER(Bytes)]
+OUTPUT = [ctypes.c_void_p, ctypes.c_size_t, ctypes.POINTER(ctypes.c_size_t)]
+
+# The arguments of each function, before those of the output.
+FUNCTIONS = {
+    "show": [ctypes.c_bool, *_INPUT],
+    "check": _INPUT,
+    "join": [*_INPUT, ctypes.c_size_t, *_INPUT],
+    "missing": _INPUT * 2,
+    "missing_by": _INPUT * 2,
+    "inventory": _INPUT,
+    "rule": [ctypes.c_uint8, *_INPUT, ctypes.c_uint64, *_INPUT],
+    "rehearse": [*_INPUT, ctypes.c_uint64, *_INPUT],
+}
+
+
+def places(package: str) -> Iterator[str]:
+    """Yields where the library may be: beside the package, and in the `lib` of each folder above that it may be installed under."""
+    yield os.path.join(package, NAME)
+    folder = package
+    while os.path.dirname(folder) != folder:
+        folder = os.path.dirname(folder)
+        yield os.path.join(folder, "lib", NAME)
+
+
+def find(package: Optional[str] = None) -> str:
+    """Returns the library to load: the one that CADF_LIBRARY names, one that is found, or its name for the loader to look for."""
+    named = os.environ.get(VARIABLE)
+    if named:
+        return named
+    found = places(package or os.path.dirname(os.path.abspath(__file__)))
+    return next((place for place in found if os.path.exists(place)), NAME)
+
+
+def load(path: Optional[str] = None) -> ctypes.CDLL:
+    """Loads the library and declares its functions. ImportError: there is none, in one line that says what to do."""
+    path = path or find()
+    try:
+        library = ctypes.CDLL(path)
+    except OSError as error:
+        raise ImportError("cadf: no library (%s): install it (install/library, install/install), or name it in the variable %s"
+                          % (error, VARIABLE)) from None
+    for name, arguments in FUNCTIONS.items():
+        function = getattr(library, "cadf_" + name)
+        function.argtypes, function.restype = [*arguments, *OUTPUT], ctypes.c_int
+    library.cadf_version.argtypes, library.cadf_version.restype = [], ctypes.c_uint32
+    return library

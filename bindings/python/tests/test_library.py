@@ -1,0 +1,89 @@
+"""Calls of the library itself, which CADF_LIBRARY names or which is found; left out where there is none."""
+import os
+import sys
+import threading
+import unittest
+
+HERE = os.path.dirname(os.path.abspath(__file__))
+sys.path.insert(0, os.path.dirname(HERE))
+
+import cadf
+from cadf import _library
+
+try:
+    _library.load()
+    ABSENT = ""
+except ImportError as error:
+    ABSENT = str(error)
+
+A, B = '{"id":"g","events":[],"name":"a"}', '{"id":"g","events":[],"name":"b"}'
+SCRIPT = "learn 0 %s\nsend 0\ndeliver 1 1\n" % A
+SITES = b"site 0 atoms 1 as 0\nsite 1 atoms 1 as 0\nsite 2 atoms 0 as 2\n"
+
+
+@unittest.skipIf(ABSENT, ABSENT)
+class Calls(unittest.TestCase):
+    def refuses(self, status, text, call, *arguments, **named):
+        with self.assertRaises(cadf.CadfError) as caught:
+            call(*arguments, **named)
+        self.assertEqual((caught.exception.status, caught.exception.text), (status, text))
+
+    def test_version(self):
+        self.assertEqual(len(cadf.version()), 3)
+
+    def test_join_is_the_same_in_any_order(self):
+        both = cadf.join([A, B])
+        self.assertEqual(both, cadf.join((text.encode() for text in (B, A, B))))
+        self.assertEqual(both, cadf.join([both, bytearray(both), memoryview(both)], log="g"))
+        self.assertEqual(cadf.check(both), cadf.Check("g", 2, 1))
+        self.refuses(1, "input 1: other log", cadf.join, [A], log="h")
+        self.refuses(1, "no log named", cadf.join, [])
+        self.refuses(2, "log name", cadf.join, [A], log="")
+        self.refuses(2, "log name", cadf.join, [A], log="\x01")
+
+    def test_a_delta_gives_what_the_whole_gives(self):
+        delta = cadf.missing(A, B)
+        self.assertEqual(cadf.join([B, delta]), cadf.join([A, B]))
+        self.assertEqual(cadf.missing_by(A, cadf.inventory(B)), delta)
+        self.refuses(1, "input 2: other log", cadf.missing, A, '{"id":"h","events":[]}')
+
+    def test_show_and_rule(self):
+        both = cadf.join([A, B])
+        self.assertNotIn(b'"name"', cadf.show(both))
+        self.assertIn(b'"values":["a","b"]', cadf.show(both, conflicts=True))
+        ruled = cadf.rule("P", "name", 2, both)
+        self.assertIn(b'"name":"b"', cadf.show(ruled))
+        self.refuses(1, "no such value", cadf.rule, "P", "name", 3, both)
+        for letter in ("X", "", "PP", "\u0150", "p"):
+            self.refuses(2, "letter", cadf.rule, letter, "name", 1, both)
+        for place in (0, -1, 10 ** 9, 1 << 64):
+            self.refuses(2, "place", cadf.rule, "P", "name", place, both)
+        self.refuses(2, "key", cadf.rule, "P", "", 1, both)
+
+    def test_rehearse(self):
+        self.assertEqual(cadf.rehearse("g", 3, SCRIPT), SITES)
+        for sites in (0, 65, -1, 1 << 64):
+            self.refuses(2, "sites", cadf.rehearse, "g", sites, SCRIPT)
+        self.refuses(1, "line 2: script", cadf.rehearse, "g", 3, "ask 0\nask 00\n")
+
+    def test_a_text_may_have_any_bytes(self):
+        self.refuses(1, "input 1: not JSON", cadf.show, b'{"id":"g\x00')
+        self.refuses(1, "input 1: not JSON", cadf.show, "")
+        self.assertEqual(cadf.check('{"id":"Zürich \\u0000\U0001f600","events":[]}'.replace("\\u0000", "")).log, "Zürich \U0001f600")
+
+    def test_a_text_larger_than_the_first_room(self):
+        many = '{"id":"g","events":[],%s}' % ",".join('"n%d":""' % number for number in range(2000))
+        self.assertEqual(cadf.check(cadf.join([many])), cadf.Check("g", 2000, 0))
+
+    def test_threads(self):
+        answers, expected = [], cadf.join([A, B])
+        threads = [threading.Thread(target=lambda: answers.append(cadf.join([A, B]))) for _ in range(8)]
+        for thread in threads:
+            thread.start()
+        for thread in threads:
+            thread.join()
+        self.assertEqual(answers, [expected] * 8)
+
+
+if __name__ == "__main__":
+    unittest.main()

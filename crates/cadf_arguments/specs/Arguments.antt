@@ -1,0 +1,21 @@
+-- Which numbers the engines take, and which exit status a refused argument has.
+--     is_site_count n          a rehearsal has 1 to 64 sites
+--     is_place n               a value has a place from 1 to 999,999,999
+--     argument_status_of f     2 if the command line is refused, 4 if out of memory
+use Rattle.std.specs.Prelude.{ℕ, nat_le, Bool, ◌&&◌}
+use Rattle.cadf_arguments.specs.declared.fault.ArgumentFault.{ArgumentFault}
+use Rattle.cadf_arguments.specs.declared.fault.ArgumentFault.TheVariants.{LogName, Sites, Letter, Key, Place, Memory}
+
+abbrev pub is_site_count : ℕ → Bool
+is_site_count n = nat_le 1 n && nat_le n 64
+
+abbrev pub is_place : ℕ → Bool
+is_place n = nat_le 1 n && nat_le n 999999999
+
+abbrev pub argument_status_of : ArgumentFault → ℕ
+argument_status_of LogName = 2
+argument_status_of Sites = 2
+argument_status_of Letter = 2
+argument_status_of Key = 2
+argument_status_of Place = 2
+argument_status_of Memory = 4

@@ -1,0 +1,10 @@
+//! The arguments of the engines that are no inputs: names, numbers and letters.
+#![tactic(auto)]
+
+mod fault;
+mod names;
+mod numbers;
+
+pub use crate::fault::ArgumentFault;
+pub use crate::names::{check_letter, read_key, read_log};
+pub use crate::numbers::{check_place, check_sites};

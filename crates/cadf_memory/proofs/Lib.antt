@@ -1,0 +1,4 @@
+pub mod Made
+pub mod Refused
+pub mod Lists
+pub mod States

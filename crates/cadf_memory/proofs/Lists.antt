@@ -1,0 +1,46 @@
+-- Sources in a list, of which each tells what it has left and no read fails.
+use Rattle.std.proofs.Common.{◌≡◌, ℕ, List, [], ◌∷◌, map, Option, Some, Result, refl, ap}
+use Rattle.cadf_json.specs.declared.stream.Source.{Ghosts as Source}
+use Rattle.cadf_tool.specs.declared.input.Loaded.{Loaded}
+use Rattle.cadf_tool.specs.declared.fault.ToolFault.{ToolFault}
+use Rattle.cadf_tool.specs.declared.fault.ToolFault.TheVariants.{Memory}
+use Rattle.cadf_tool.specs.Inputs.{SourceState, source_state}
+use Rattle.cadf_memory.specs.Refused.{NoReadFailed, IsFirstOfAll}
+
+same_lists : {T : Type 0} (x y : T) (xs ys : List T) → x ≡ y → xs ≡ ys → x ∷ xs ≡ y ∷ ys
+same_lists x y xs ys e f = cc
+
+module _ {S : Type 0} (source : Source S) where
+  pub lefts : (left : S → List ℕ) → ((s : S) → source.left s ≡ Some (left s)) → (ss : List S)
+      → map (λ (s : SourceState). s.left) (map (source_state source) ss) ≡ map Some (map left ss)
+  lefts left known [] = refl
+  lefts left known (s ∷ ss) =
+      same_lists (source.left s) (Some (left s)) (map (λ (s : SourceState). s.left) (map (source_state source) ss))
+      (map Some (map left ss)) (known s) (lefts left known ss)
+
+  pub none_has_failed : ((s : S) → source.failures s ≡ 0) → (ss : List S) → NoReadFailed (map (source_state source) ss)
+  none_has_failed never [] = tt
+  none_has_failed never (s ∷ ss) = (never s, none_has_failed never ss)
+
+-- ---- there was no memory before a source was read
+
+abbrev unread : List ℕ → SourceState
+unread bytes = record { left = Some bytes; failures = 0; reads = 0 }
+
+unread_lefts : (inputs : List (List ℕ)) → map (λ (s : SourceState). s.left) (map unread inputs) ≡ map Some inputs
+unread_lefts [] = refl
+unread_lefts (b ∷ bs) = ap (λ (xs : List (Option (List ℕ))). Some b ∷ xs) (unread_lefts bs)
+
+unread_unfailed : (inputs : List (List ℕ)) → NoReadFailed (map unread inputs)
+unread_unfailed [] = tt
+unread_unfailed (b ∷ bs) = (refl, unread_unfailed bs)
+
+pub refused_unread : {M : Type 0} (work : List Loaded → Result M ToolFault) (inputs : List (List ℕ)) → IsFirstOfAll work inputs Memory
+refused_unread work inputs = record {
+  old = map unread inputs;
+  new = map unread inputs;
+  left = unread_lefts inputs;
+  before = unread_unfailed inputs;
+  after = unread_unfailed inputs;
+  first = refl;
+}

@@ -1,0 +1,123 @@
+-- What a run on bytes in memory made of them.
+use Rattle.std.proofs.Common.{◌≡◌, ℕ, List, [], ◌∷◌, map, Option, Some, IfSome, Result, Ok, Err, subst}
+use Rattle.std.proofs.KnownBytes.{Consumes-whole}
+use Rattle.std.specs.Io.KnownBytes.{Appends}
+use Rattle.cadf_json.specs.declared.stream.Sink.{Ghosts as Sink}
+use Rattle.cadf_json.specs.declared.stream.Source.{Ghosts as Source}
+use Rattle.cadf_join.specs.Contents.{Text}
+use Rattle.cadf_tool.specs.declared.input.Loaded.{Loaded}
+use Rattle.cadf_tool.specs.declared.fault.ToolFault.{ToolFault}
+use Rattle.cadf_tool.specs.Inputs.{SourceState, source_state}
+use Rattle.cadf_tool.specs.Run.{
+  SourceTransition,
+  InputSpec,
+  one,
+  two,
+  all,
+  input_spec,
+  IsReadAs,
+  AreLoaded,
+  IsExpectedOf,
+  IsWritten,
+  IsAnswer,
+  IsRun,
+}
+use Rattle.cadf_memory.specs.Made.{IsMadeOf, IsMadeOfTwo, IsMadeOfAll, AreInputs}
+
+-- what was read of bytes that are known is what they are
+read_of : {T : Type 0} (reader : InputSpec T) (t : SourceTransition) (bytes : List ℕ) → t.old.left ≡ Some bytes
+    → (value : T) → IsReadAs reader t value → reader.is bytes value
+read_of reader t bytes given value (g, f) =
+    subst (λ (x : Option (List ℕ)). IfSome x (λ b. reader.is b value)) given
+    (Consumes-whole t.old.left t.new.left g.0 (λ b. reader.is b value) g.1.0 g.1.1 g.1.2)
+
+-- ---- inputs in a list
+
+head_same : {S : Type 0} (x y : S) (xs ys : List S) → x ∷ xs ≡ y ∷ ys → x ≡ y
+head_same x y xs ys e = cc
+
+tail_same : {S : Type 0} (x y : S) (xs ys : List S) → x ∷ xs ≡ y ∷ ys → xs ≡ ys
+tail_same x y xs ys e = cc
+
+no_tail : {S : Type 0} (x : S) (xs : List S) → [] ≡ x ∷ xs → ⊥
+no_tail x xs e = cc
+
+no_head : {S : Type 0} (x : S) (xs : List S) → x ∷ xs ≡ [] → ⊥
+no_head x xs e = cc
+
+abbrev left_of : SourceState → Option (List ℕ)
+left_of s = s.left
+
+are_inputs : (old new : List SourceState) (bytes : List (List ℕ)) (ls : List Loaded) → map left_of old ≡ map Some bytes
+    → AreLoaded old new ls → AreInputs bytes ls
+are_inputs [] [] [] [] e h = tt
+are_inputs [] [] [] (l ∷ ls) e h = absurd h
+are_inputs [] [] (b ∷ bs) ls e h = absurd (no_tail (Some b) (map Some bs) e)
+are_inputs [] (n ∷ ns) bytes ls e h = absurd h
+are_inputs (o ∷ os) [] bytes ls e h = absurd h
+are_inputs (o ∷ os) (n ∷ ns) bytes [] e h = absurd h
+are_inputs (o ∷ os) (n ∷ ns) [] (l ∷ ls) e h = absurd (no_head (left_of o) (map left_of os) e)
+are_inputs (o ∷ os) (n ∷ ns) (b ∷ bs) (l ∷ ls) e h = (
+  read_of input_spec (record { old = o; new = n }) b (head_same (left_of o) (Some b) (map left_of os) (map Some bs) e) l h.0,
+  are_inputs os ns bs ls (tail_same (left_of o) (Some b) (map left_of os) (map Some bs) e) h.1,
+)
+
+-- ---- runs
+
+module _ {M W V : Type 0} (tell : M → Text) (sink : Sink W) (old new : W) (text : List ℕ) (v : V)
+    (none : sink.written old ≡ Some []) (all_of_it : sink.written new ≡ Some text) where
+  told_of : (made : M) → IsWritten sink old new (tell made) (Ok v) → text ≡ tell made
+  told_of made w =
+      subst (λ (x : Option (List ℕ)). Appends x (Some text) (tell made)) none
+      (subst (λ (y : Option (List ℕ)). Appends (sink.written old) y (tell made)) all_of_it w.whole)
+
+  never : (fault : ToolFault) → ◌≡◌ {A = Result V ToolFault} (Ok v) (Err fault) → ⊥
+  never fault e = cc
+
+  module _ {T : Type 0} (reader : InputSpec T) (work : T → Result M ToolFault) (t : SourceTransition) (bytes : List ℕ)
+      (given : t.old.left ≡ Some bytes) where
+    of_expected : (expected : Result M ToolFault) → IsExpectedOf (one reader t) work expected
+        → IsAnswer tell sink old new expected (Ok v) → IsMadeOf reader work tell bytes text
+    of_expected (Ok made) (value, are, e) w =
+        record { value = value; input = read_of reader t bytes given value are; made = made; worked = e; told = told_of made w }
+    of_expected (Err fault) d w = absurd (never fault w.0)
+
+    pub run_made : IsRun (one reader t) work tell sink old new (Ok v) → IsMadeOf reader work tell bytes text
+    run_made r = of_expected r.expected r.first.is r.answer
+
+  module _ {T U : Type 0} (reader : InputSpec T) (other : InputSpec U) (work : T × U → Result M ToolFault)
+      (t u : SourceTransition) (from to : List ℕ) (given : t.old.left ≡ Some from) (given' : u.old.left ≡ Some to) where
+    of_expected_two : (expected : Result M ToolFault) → IsExpectedOf (two reader t other u) work expected
+        → IsAnswer tell sink old new expected (Ok v) → IsMadeOfTwo reader other work tell from to text
+    of_expected_two (Ok made) (a, are, e) w =
+        record {
+          first = a.0;
+          input = read_of reader t from given a.0 are.0;
+          second = a.1;
+          following = read_of other u to given' a.1 are.1;
+          made = made;
+          worked = e;
+          told = told_of made w;
+        }
+    of_expected_two (Err fault) d w = absurd (never fault w.0)
+
+    pub run_made_two : IsRun (two reader t other u) work tell sink old new (Ok v)
+        → IsMadeOfTwo reader other work tell from to text
+    run_made_two r = of_expected_two r.expected r.first.is r.answer
+
+  module _ {S : Type 0} (source : Source S) (work : List Loaded → Result M ToolFault) (ss rs : List S)
+      (inputs : List (List ℕ)) (given : map left_of (map (source_state source) ss) ≡ map Some inputs) where
+    of_expected_all : (expected : Result M ToolFault) → IsExpectedOf (all source ss rs) work expected
+        → IsAnswer tell sink old new expected (Ok v) → IsMadeOfAll work tell inputs text
+    of_expected_all (Ok made) (ls, are, e) w =
+        record {
+          loaded = ls;
+          are = are_inputs (map (source_state source) ss) (map (source_state source) rs) inputs ls given are;
+          made = made;
+          worked = e;
+          told = told_of made w;
+        }
+    of_expected_all (Err fault) d w = absurd (never fault w.0)
+
+    pub run_made_all : IsRun (all source ss rs) work tell sink old new (Ok v) → IsMadeOfAll work tell inputs text
+    run_made_all r = of_expected_all r.expected r.first.is r.answer

@@ -1,0 +1,125 @@
+-- Why a run on bytes in memory gave up.
+use Rattle.std.proofs.Common.{◌≡◌, ℕ, List, map, Some, Result, Ok, Err, ◌⊎◌, inl, inr, sym, subst}
+use Rattle.cadf_json.specs.declared.stream.Sink.{Ghosts as Sink}
+use Rattle.cadf_json.specs.declared.stream.Source.{Ghosts as Source}
+use Rattle.cadf_join.specs.Contents.{Text}
+use Rattle.cadf_tool.specs.declared.input.Loaded.{Loaded}
+use Rattle.cadf_tool.specs.declared.fault.ToolFault.{ToolFault}
+use Rattle.cadf_tool.specs.declared.fault.ToolFault.TheVariants.{
+  Input,
+  NoLog,
+  OtherLog,
+  Script,
+  Rehearse,
+  NoValue,
+  ReadFault,
+  WriteFault,
+  Memory,
+}
+use Rattle.cadf_tool.specs.Faults.{FaultStage, Reading, Working, Writing, OutOfMemoryStage, fault_stage}
+use Rattle.cadf_tool.specs.Inputs.{SourceState, source_state}
+use Rattle.cadf_tool.specs.Run.{
+  SourceTransition,
+  InputSpec,
+  Sources,
+  one,
+  two,
+  all,
+  IsUnfailed,
+  IsFirstFault,
+  IsExpectedOf,
+  IsAnswer,
+  IsRun,
+}
+use Rattle.cadf_tool.proofs.LoadedLists.{none_failed}
+use Rattle.cadf_memory.specs.Refused.{unwritten_of, seen_as, NoReadFailed, IsFirstOf, IsFirstOfTwo, IsFirstOfAll}
+
+module _ {A M : Type 0} (sources : Sources A) (work : A → Result M ToolFault) where
+  abbrev IsFirst : ToolFault → Type 0
+  IsFirst fault = IsFirstFault sources work fault (fault_stage fault)
+
+  -- what comes first is no failed write, and is answered as it is
+  kept : (fault : ToolFault) → IsFirst fault → IsFirst (unwritten_of fault)
+  kept (Input n f) h = h
+  kept NoLog h = h
+  kept (OtherLog n) h = h
+  kept (Script line) h = h
+  kept (Rehearse f) h = h
+  kept NoValue h = h
+  kept (ReadFault n) h = h
+  kept WriteFault h = absurd h
+  kept Memory h = h
+
+  -- the work was done, and there was no memory for its text
+  starved : sources.unfailed → (fault : ToolFault) → (fault ≡ WriteFault) ⊎ (fault ≡ Memory) → IsFirst (unwritten_of fault)
+  starved unfailed fault (inl e) = subst (λ (f : ToolFault). IsFirst (unwritten_of f)) (sym e) unfailed
+  starved unfailed fault (inr e) = subst (λ (f : ToolFault). IsFirst (unwritten_of f)) (sym e) unfailed
+
+  module _ (V : Type 0) {W : Type 0} (tell : M → Text) (sink : Sink W) (old new : W) (fault : ToolFault)
+      (read : (a : A) → sources.are a → sources.unfailed) where
+    same_fault : (f : ToolFault) → ◌≡◌ {A = Result V ToolFault} (Err fault) (Err f) → fault ≡ f
+    same_fault f e = cc
+
+    first_at : (expected : Result M ToolFault) → IsExpectedOf sources work expected
+        → IsAnswer {T = V} tell sink old new expected (Err fault) → IsFirst (unwritten_of fault)
+    first_at (Ok made) (a, are, e) w = starved (read a are) fault w.only
+    first_at (Err f) d w = subst (λ (f : ToolFault). IsFirst (unwritten_of f)) (sym (same_fault f w.0)) (kept f d)
+
+    pub first_of : IsRun {T = V} sources work tell sink old new (Err fault) → IsFirst (unwritten_of fault)
+    first_of r = first_at r.expected r.first.is r.answer
+
+-- however often the sources were read
+module _ {S M : Type 0} (source : Source S) (ss rs : List S) (work : List Loaded → Result M ToolFault) where
+  seen_at : (fault : ToolFault) (s : FaultStage) → IsFirstFault (all source ss rs) work fault s
+      → IsFirstFault (seen_as (map (source_state source) ss) (map (source_state source) rs)) work fault s
+  seen_at fault (Reading n f) h = h
+  seen_at fault Working h = h
+  seen_at fault Writing h = h
+  seen_at fault OutOfMemoryStage h = h
+
+module _ {M W V : Type 0} (tell : M → Text) (sink : Sink W) (old new : W) (fault result : ToolFault)
+    (answered : result ≡ unwritten_of fault) where
+  pub run_refused : {T : Type 0} (reader : InputSpec T) (work : T → Result M ToolFault) (t : SourceTransition) (bytes : List ℕ)
+      → t.old.left ≡ Some bytes → IsUnfailed t → IsRun {T = V} (one reader t) work tell sink old new (Err fault)
+      → IsFirstOf reader work bytes result
+  run_refused reader work t bytes given unfailed r =
+      subst (λ (f : ToolFault). IsFirstOf reader work bytes f) (sym answered)
+      (record {
+        source = t;
+        left = given;
+        unfailed = unfailed;
+        first = first_of (one reader t) work V tell sink old new fault (λ a are. are.1) r;
+      })
+
+  pub run_refused_two : {T U : Type 0} (reader : InputSpec T) (other : InputSpec U) (work : T × U → Result M ToolFault)
+      (t u : SourceTransition) (from to : List ℕ) → t.old.left ≡ Some from → u.old.left ≡ Some to → IsUnfailed t → IsUnfailed u
+      → IsRun {T = V} (two reader t other u) work tell sink old new (Err fault)
+      → IsFirstOfTwo reader other work from to result
+  run_refused_two reader other work t u from to given given' unfailed unfailed' r =
+      subst (λ (f : ToolFault). IsFirstOfTwo reader other work from to f) (sym answered)
+      (record {
+        source = t;
+        left = given;
+        unfailed = unfailed;
+        following = u;
+        following_left = given';
+        following_unfailed = unfailed';
+        first = first_of (two reader t other u) work V tell sink old new fault (λ a are. (are.0.1, are.1.1)) r;
+      })
+
+  pub run_refused_all : {S : Type 0} (source : Source S) (work : List Loaded → Result M ToolFault) (ss rs : List S)
+      (inputs : List (List ℕ)) → map (λ (s : SourceState). s.left) (map (source_state source) ss) ≡ map Some inputs
+      → NoReadFailed (map (source_state source) ss) → NoReadFailed (map (source_state source) rs)
+      → IsRun {T = V} (all source ss rs) work tell sink old new (Err fault) → IsFirstOfAll work inputs result
+  run_refused_all source work ss rs inputs given before after r =
+      subst (λ (f : ToolFault). IsFirstOfAll work inputs f) (sym answered)
+      (record {
+        old = map (source_state source) ss;
+        new = map (source_state source) rs;
+        left = given;
+        before = before;
+        after = after;
+        first = seen_at source ss rs work (unwritten_of fault) (fault_stage (unwritten_of fault))
+            (first_of (all source ss rs) work V tell sink old new fault
+            (λ ls are. none_failed (map (source_state source) ss) (map (source_state source) rs) ls are) r);
+      })

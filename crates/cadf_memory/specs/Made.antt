@@ -1,0 +1,43 @@
+-- What an engine makes of bytes in memory.
+--     IsMadeOf reader work tell bytes text              the bytes are what is read, and the text is what is told of the work on it
+--     IsMadeOfTwo reader other work tell from to text   the same of two inputs
+--     IsMadeOfAll work tell inputs text                 the same of a list of inputs
+use Rattle.std.specs.Prelude.{◌≡◌, ℕ, List, [], ◌∷◌, Result, Ok}
+use Rattle.cadf_join.specs.Contents.{Text}
+use Rattle.cadf_tool.specs.declared.input.Loaded.{Loaded}
+use Rattle.cadf_tool.specs.declared.fault.ToolFault.{ToolFault}
+use Rattle.cadf_tool.specs.Input.{IsInput}
+use Rattle.cadf_tool.specs.Run.{InputSpec}
+
+pub record IsMadeOf {T M : Type 0} (reader : InputSpec T) (work : T → Result M ToolFault) (tell : M → Text)
+    (bytes : List ℕ) (text : Text) : Type 0 where
+  pub value : T
+  pub input : reader.is bytes value
+  pub made : M
+  pub worked : work value ≡ Ok made
+  pub told : text ≡ tell made
+
+pub record IsMadeOfTwo {T U M : Type 0} (reader : InputSpec T) (other : InputSpec U) (work : T × U → Result M ToolFault)
+    (tell : M → Text) (from to : List ℕ) (text : Text) : Type 0 where
+  pub first : T
+  pub input : reader.is from first
+  pub second : U
+  pub following : other.is to second
+  pub made : M
+  pub worked : work (first, second) ≡ Ok made
+  pub told : text ≡ tell made
+
+-- the bytes in each place are the input in that place
+abbrev pub AreInputs : List (List ℕ) → List Loaded → Type 0
+AreInputs [] [] = Unit {0}
+AreInputs [] (l ∷ ls) = ⊥
+AreInputs (b ∷ bs) [] = ⊥
+AreInputs (b ∷ bs) (l ∷ ls) = IsInput b l × AreInputs bs ls
+
+pub record IsMadeOfAll {M : Type 0} (work : List Loaded → Result M ToolFault) (tell : M → Text)
+    (inputs : List (List ℕ)) (text : Text) : Type 0 where
+  pub loaded : List Loaded
+  pub are : AreInputs inputs loaded
+  pub made : M
+  pub worked : work loaded ≡ Ok made
+  pub told : text ≡ tell made

@@ -1,0 +1,74 @@
+-- Why an engine over bytes in memory gives up: the first refusal, or there is no memory.
+--     unwritten_of fault                         a write to memory fails only if there is no memory
+--     IsFirstOf reader work bytes fault          the fault comes first, of a source that has these bytes and of which no read failed
+--     IsFirstOfTwo reader other work from to f   the same of two inputs
+--     IsFirstOfAll work inputs fault             the same of a list of inputs
+-- Where `IsFirstFault` holds, the fault is no `WriteFault`. It is no `ReadFault` either: that is refused with a failed read.
+use Rattle.std.specs.Prelude.{◌≡◌, ℕ, List, [], ◌∷◌, map, Some, Result}
+use Rattle.cadf_tool.specs.declared.input.Loaded.{Loaded}
+use Rattle.cadf_tool.specs.declared.fault.ToolFault.{ToolFault}
+use Rattle.cadf_tool.specs.declared.fault.ToolFault.TheVariants.{
+  Input,
+  NoLog,
+  OtherLog,
+  Script,
+  Rehearse,
+  NoValue,
+  ReadFault,
+  WriteFault,
+  Memory,
+}
+use Rattle.cadf_tool.specs.Faults.{fault_stage}
+use Rattle.cadf_tool.specs.Inputs.{SourceState, NoneFailed}
+use Rattle.cadf_tool.specs.Run.{SourceTransition, InputSpec, Sources, one, two, AreLoaded, IsRefusedAt, IsUnfailed, IsFirstFault}
+
+abbrev pub unwritten_of : ToolFault → ToolFault
+unwritten_of (Input n f) = Input n f
+unwritten_of NoLog = NoLog
+unwritten_of (OtherLog n) = OtherLog n
+unwritten_of (Script line) = Script line
+unwritten_of (Rehearse f) = Rehearse f
+unwritten_of NoValue = NoValue
+unwritten_of (ReadFault n) = ReadFault n
+unwritten_of WriteFault = Memory
+unwritten_of Memory = Memory
+
+pub record IsFirstOf {T M : Type 0} (reader : InputSpec T) (work : T → Result M ToolFault) (bytes : List ℕ)
+    (fault : ToolFault) : Type 0 where
+  pub source : SourceTransition
+  pub left : source.old.left ≡ Some bytes
+  pub unfailed : IsUnfailed source
+  pub first : IsFirstFault (one reader source) work fault (fault_stage fault)
+
+pub record IsFirstOfTwo {T U M : Type 0} (reader : InputSpec T) (other : InputSpec U) (work : T × U → Result M ToolFault)
+    (from to : List ℕ) (fault : ToolFault) : Type 0 where
+  pub source : SourceTransition
+  pub left : source.old.left ≡ Some from
+  pub unfailed : IsUnfailed source
+  pub following : SourceTransition
+  pub following_left : following.old.left ≡ Some to
+  pub following_unfailed : IsUnfailed following
+  pub first : IsFirstFault (two reader source other following) work fault (fault_stage fault)
+
+-- what came of sources that are seen as these before and after, however often they were read
+abbrev pub seen_as : List SourceState → List SourceState → Sources (List Loaded)
+seen_as old new = record {
+  are = AreLoaded old new;
+  refused = IsRefusedAt old new;
+  unfailed = NoneFailed old new;
+  bounded = Unit {0};
+}
+
+-- no read of any of these failed
+abbrev pub NoReadFailed : List SourceState → Type 0
+NoReadFailed [] = Unit {0}
+NoReadFailed (s ∷ ss) = (s.failures ≡ 0) × NoReadFailed ss
+
+pub record IsFirstOfAll {M : Type 0} (work : List Loaded → Result M ToolFault) (inputs : List (List ℕ))
+    (fault : ToolFault) : Type 0 where
+  pub old : List SourceState
+  pub new : List SourceState
+  pub left : map (λ (s : SourceState). s.left) old ≡ map Some inputs
+  pub before : NoReadFailed old
+  pub after : NoReadFailed new
+  pub first : IsFirstFault (seen_as old new) work fault (fault_stage fault)

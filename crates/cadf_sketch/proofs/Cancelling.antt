@@ -1,0 +1,154 @@
+-- Digests that are put in cancel where they come twice, and come in any order.
+use Rattle.std.proofs.Common.{◌≡◌, ◌∙◌, ◌<◌, ℕ, suc, Bool, true, false, cond, List, [], ◌∷◌, length, replicate, refl, ap, sym, subst, arith, inl, inr}
+use Rattle.std.specs.Prelude.{bit_xor}
+use Rattle.std.specs.List.{AllByRecursion}
+use Rattle.std.specs.declared.cmp.Ordering.{Ordering}
+use Rattle.std.specs.declared.cmp.Ordering.TheVariants.{Less, Equal, Greater}
+use Rattle.std.specs.Ordering.{match_ordering}
+use Rattle.std.specs.BTreeSet.{insert_key}
+use Rattle.std.proofs.lemmas.List.{ext_get_or, length-replicate, get_or-replicate}
+use Rattle.std.proofs.lemmas.Nat.{xor_comm}
+use lib.Bits.{xor_assoc, xor_self, xor_zero_r}
+use Rattle.cadf_join.specs.Sets.{Listed}
+use Rattle.cadf_join.specs.laws.Contents.{text_same}
+use Rattle.cadf_join.specs.Contents.{Text, text_cmp}
+use Rattle.cadf_line.specs.Digest.{IsDigest}
+use Rattle.cadf_sketch.specs.Layouts.{LayoutModel}
+use Rattle.cadf_sketch.specs.Cells.{check, each_xor, mixed, cell_at, stands, turned, turned_all, nothing}
+use Rattle.cadf_sketch.specs.declared.cell.Cell.{Cell}
+use Rattle.cadf_sketch.proofs.CellLemmas.{length-turned, at_turned}
+
+-- ---- bytes
+
+bits_twice : (x y : ℕ) → bit_xor (bit_xor x y) y ≡ x
+bits_twice x y = xor_assoc x y y ∙ ap (bit_xor x) (xor_self y) ∙ xor_zero_r x
+
+bits_swap : (x y z : ℕ) → bit_xor (bit_xor x y) z ≡ bit_xor (bit_xor x z) y
+bits_swap x y z = xor_assoc x y z ∙ ap (bit_xor x) (xor_comm y z) ∙ sym (xor_assoc x z y)
+
+xor_twice : (a b : List ℕ) → length a ≡ length b → each_xor (each_xor a b) b ≡ a
+xor_twice [] b h = refl
+xor_twice (x ∷ a) [] h = absurd (omega arith)
+xor_twice (x ∷ a) (y ∷ b) h =
+    let shorter : length a ≡ length b = omega arith in
+    let rest = xor_twice a b shorter in
+    λ i. bits_twice x y i ∷ rest i
+
+xor_swap : (a b c : List ℕ) → each_xor (each_xor a b) c ≡ each_xor (each_xor a c) b
+xor_swap [] b c = refl
+xor_swap (x ∷ a) [] [] = refl
+xor_swap (x ∷ a) [] (z ∷ c) = refl
+xor_swap (x ∷ a) (y ∷ b) [] = refl
+xor_swap (x ∷ a) (y ∷ b) (z ∷ c) = let rest = xor_swap a b c in λ i. bits_swap x y z i ∷ rest i
+
+length-xor : (a b : List ℕ) → length a ≡ length b → length (each_xor a b) ≡ length a
+length-xor [] b h = refl
+length-xor (x ∷ a) [] h = absurd (omega arith)
+length-xor (x ∷ a) (y ∷ b) h =
+    let shorter : length a ≡ length b = omega arith in
+    ap (λ n. suc n) (length-xor a b shorter)
+
+-- ---- one cell
+
+mixed_swap : (cell : Cell) (d e : List ℕ) → mixed (mixed cell d) e ≡ mixed (mixed cell e) d
+mixed_swap cell d e = λ i. record { digest = xor_swap cell.digest d e i; check = bits_swap cell.check (check d) (check e) i }
+
+mixed_twice : (cell : Cell) (d : List ℕ) → length cell.digest ≡ length d → mixed (mixed cell d) d ≡ cell
+mixed_twice cell d h = λ i. record { digest = xor_twice cell.digest d h i; check = bits_twice cell.check (check d) i }
+
+swap_either : (a b : Bool) (cell : Cell) (d e : List ℕ)
+    → cond b (mixed (cond a (mixed cell d) cell) e) (cond a (mixed cell d) cell) ≡ cond a (mixed (cond b (mixed cell e) cell) d) (cond b (mixed cell e) cell)
+swap_either true true cell d e = mixed_swap cell d e
+swap_either true false cell d e = refl
+swap_either false true cell d e = refl
+swap_either false false cell d e = refl
+
+twice_either : (a : Bool) (cell : Cell) (d : List ℕ) → length cell.digest ≡ length d
+    → cond a (mixed (cond a (mixed cell d) cell) d) (cond a (mixed cell d) cell) ≡ cell
+twice_either true cell d h = mixed_twice cell d h
+twice_either false cell d h = refl
+
+-- ---- all cells
+
+at_two : (cells : List Cell) (d e : List ℕ) (layout : LayoutModel) (q : ℕ) → 0 < layout.size → q < length cells
+    → cell_at (turned (turned cells d layout) e layout) q
+    ≡ cond (stands e q layout) (mixed (cond (stands d q layout) (mixed (cell_at cells q) d) (cell_at cells q)) e)
+    (cond (stands d q layout) (mixed (cell_at cells q) d) (cell_at cells q))
+at_two cells d e layout q some within =
+    at_turned (turned cells d layout) e layout q some (subst (λ (n : ℕ). q < n) (sym (length-turned cells d layout)) within)
+    ∙ ap (λ (c : Cell). cond (stands e q layout) (mixed c e) c) (at_turned cells d layout q some within)
+
+length_two : (cells : List Cell) (d e : List ℕ) (layout : LayoutModel) → length (turned (turned cells d layout) e layout) ≡ length cells
+length_two cells d e layout = length-turned (turned cells d layout) e layout ∙ length-turned cells d layout
+
+turned_swap : (cells : List Cell) (d e : List ℕ) (layout : LayoutModel) → 0 < layout.size
+    → turned (turned cells d layout) e layout ≡ turned (turned cells e layout) d layout
+turned_swap cells d e layout some =
+    ext_get_or (record { digest = []; check = 0 }) (turned (turned cells d layout) e layout) (turned (turned cells e layout) d layout)
+    (length_two cells d e layout ∙ sym (length_two cells e d layout))
+    (λ q h.
+    let within : q < length cells = subst (λ (n : ℕ). q < n) (length_two cells d e layout) h in
+    at_two cells d e layout q some within ∙ swap_either (stands d q layout) (stands e q layout) (cell_at cells q) d e
+    ∙ sym (at_two cells e d layout q some within))
+
+-- each cell has 32 bytes
+abbrev pub AreWide : List Cell → Type 0
+AreWide cells = (q : ℕ) → q < length cells → length (cell_at cells q).digest ≡ 32
+
+pub turned_twice : (cells : List Cell) (d : List ℕ) (layout : LayoutModel) → 0 < layout.size → AreWide cells → length d ≡ 32
+    → turned (turned cells d layout) d layout ≡ cells
+turned_twice cells d layout some wide long =
+    ext_get_or (record { digest = []; check = 0 }) (turned (turned cells d layout) d layout) cells (length_two cells d d layout)
+    (λ q h.
+    let within : q < length cells = subst (λ (n : ℕ). q < n) (length_two cells d d layout) h in
+    at_two cells d d layout q some within ∙ twice_either (stands d q layout) (cell_at cells q) d (wide q within ∙ sym long))
+
+wide_either : (a : Bool) (cell : Cell) (d : List ℕ) → length cell.digest ≡ 32 → length d ≡ 32 → length (cond a (mixed cell d) cell).digest ≡ 32
+wide_either true cell d h long = length-xor cell.digest d (h ∙ sym long) ∙ h
+wide_either false cell d h long = h
+
+wide-turned : (cells : List Cell) (d : List ℕ) (layout : LayoutModel) → 0 < layout.size → AreWide cells → length d ≡ 32 → AreWide (turned cells d layout)
+wide-turned cells d layout some wide long q h =
+    let within : q < length cells = subst (λ (n : ℕ). q < n) (length-turned cells d layout) h in
+    ap (λ (c : Cell). length c.digest) (at_turned cells d layout q some within) ∙ wide_either (stands d q layout) (cell_at cells q) d (wide q within) long
+
+pub wide-turned_all : (cells : List Cell) (ds : List Text) (layout : LayoutModel) → 0 < layout.size → AreWide cells → AllByRecursion IsDigest ds
+    → AreWide (turned_all cells ds layout)
+wide-turned_all cells [] layout some wide each = wide
+wide-turned_all cells (d ∷ ds) layout some wide each =
+    wide-turned_all (turned cells d layout) ds layout some (wide-turned cells d layout some wide each.0.size) each.1
+
+pub wide-nothing : (count : ℕ) → AreWide (replicate count nothing)
+wide-nothing count q h =
+    let within : q < count = subst (λ (n : ℕ). q < n) (length-replicate count nothing) h in
+    ap (λ (c : Cell). length c.digest) (get_or-replicate count q nothing (record { digest = []; check = 0 }) within) ∙ length-replicate {A = ℕ} 32 0
+
+pub turned_all_push : (cells : List Cell) (d : Text) (ds : List Text) (layout : LayoutModel) → 0 < layout.size
+    → turned_all (turned cells d layout) ds layout ≡ turned (turned_all cells ds layout) d layout
+turned_all_push cells d [] layout some = refl
+turned_all_push cells d (e ∷ ds) layout some =
+    ap (λ (l : List Cell). turned_all l ds layout) (turned_swap cells d e layout some) ∙ turned_all_push (turned cells e layout) d ds layout some
+
+-- a digest among others, at its place in their order
+pub turned_all_insert : (cells : List Cell) (xs : List Text) (d : Text) (layout : LayoutModel) → 0 < layout.size → (Listed d xs → ⊥)
+    → turned_all cells (insert_key text_cmp xs d) layout ≡ turned (turned_all cells xs layout) d layout
+turned_all_insert cells [] d layout some new = refl
+turned_all_insert cells (x ∷ xs) d layout some new =
+    by (turned_all_insert (turned cells x layout) xs d layout some (λ l. new (inr l))) (text_cmp d x) refl
+  where
+    by : turned_all (turned cells x layout) (insert_key text_cmp xs d) layout ≡ turned (turned_all (turned cells x layout) xs layout) d layout
+        → (r : Ordering) → text_cmp d x ≡ r
+        → turned_all cells (match_ordering r (d ∷ x ∷ xs) (x ∷ xs) (x ∷ insert_key text_cmp xs d)) layout ≡ turned (turned_all cells (x ∷ xs) layout) d layout
+    by rest Less is = turned_all_push cells d (x ∷ xs) layout some
+    by rest Equal is = absurd (new (inl (text_same d x is)))
+    by rest Greater is = rest
+
+pub length-insert : (xs : List Text) (d : Text) → (Listed d xs → ⊥) → length (insert_key text_cmp xs d) ≡ suc (length xs)
+length-insert [] d new = refl
+length-insert (x ∷ xs) d new = by (length-insert xs d (λ l. new (inr l))) (text_cmp d x) refl
+  where
+    by : length (insert_key text_cmp xs d) ≡ suc (length xs) → (r : Ordering) → text_cmp d x ≡ r
+        → length (match_ordering r (d ∷ x ∷ xs) (x ∷ xs) (x ∷ insert_key text_cmp xs d)) ≡ suc (suc (length xs))
+    by rest Less is = refl
+    by rest Equal is = absurd (new (inl (text_same d x is)))
+    by rest Greater is = ap (λ n. suc n) rest

@@ -1,0 +1,15 @@
+pub mod Cancelling
+pub mod CellLemmas
+pub mod CheckLemmas
+pub mod DigestLemmas
+pub mod EnoughLemmas
+pub mod FlipLemmas
+pub mod LineLemmas
+pub mod NumberLemmas
+pub mod PeelLemmas
+pub mod PendingLemmas
+pub mod SketchFileLemmas
+pub mod TallyLemmas
+pub mod ToldLemmas
+pub mod WholeLemmas
+pub mod WriteLemmas

@@ -1,0 +1,393 @@
+-- The lines of a sketch's file are read as what they are of, and as nothing else.
+use Rattle.std.proofs.Common.{
+  ◌≡◌,
+  ℕ,
+  ◌+◌,
+  ◌*◌,
+  ◌/◌,
+  ◌%◌,
+  ◌<◌,
+  ◌≤◌,
+  ◌⊎◌,
+  inl,
+  inr,
+  zero,
+  suc,
+  List,
+  [],
+  ◌∷◌,
+  ◌++◌,
+  Bool,
+  true,
+  false,
+  cond,
+  length,
+  take,
+  drop,
+  Option,
+  Some,
+  None,
+  refl,
+  sym,
+  ap,
+  ◌∙◌,
+  subst,
+  arith,
+  true≢false,
+}
+use Rattle.std.specs.Prelude.{◌&&◌, ◌^◌, decimal, nat_eq, nat_le, codes, slice_index, option_map, is_some}
+use Rattle.std.specs.Int.{w64, to_be_bytes, from_be_bytes, byte_at, bytes_high_first}
+use Rattle.std.specs.List.{starts_with}
+use Rattle.std.proofs.lemmas.Bool.{eqb-true, leb-true}
+use Rattle.std.proofs.lemmas.Nat.{from_be_bytes-to_be_bytes_8, be_bytes_8, mod_below}
+use Rattle.std.proofs.lemmas.List.{take-append-drop, length-append, length-drop, length-take-le}
+use Rattle.std.proofs.Math.Seq.{take-append_seam, drop-append_seam}
+use Rattle.hex.specs.Hex.{encode_lower, decode_sized, lower_digits}
+use Rattle.hex.proofs.HexLemmas.{length-encode_with}
+use Rattle.cadf_join.specs.Contents.{Text}
+use Rattle.cadf_line.specs.Digest.{IsDigest}
+use Rattle.cadf_file.specs.InventoryVerdict.{if_spelled, digest_of}
+use Rattle.cadf_file.proofs.DigestLines.{digest-again, digest-only, spelled-again, spelled-only}
+use Rattle.cadf_sketch.specs.Layouts.{LayoutModel, IsLayout, is_layout, layout_of}
+use Rattle.cadf_sketch.specs.SketchFile.{spelled, head_line, counts_line, cell_line, AreWords64, IsHead, IsTally, IsCell}
+use Rattle.cadf_sketch.specs.SketchVerdict.{
+  number_in,
+  numbers_in,
+  first_word,
+  words_after,
+  laid_out,
+  headed,
+  head_in_words,
+  head_in,
+  counted,
+  counts_in_words,
+  tally_in,
+  cell_of_bytes,
+  cell_in,
+}
+use Rattle.cadf_sketch.specs.declared.cell.Cell.{Cell}
+use Rattle.cadf_sketch.specs.declared.head.Head.{Head}
+use Rattle.cadf_sketch.specs.declared.tally.Tally.{Tally}
+use Rattle.cadf_sketch.proofs.NumberLemmas.{
+  number-only,
+  number-again,
+  number_of_none,
+  numbers-again,
+  numbers-only,
+  decimal_unblank,
+  first_is,
+  after_is,
+  cut_cases,
+  AreNumbers,
+}
+
+-- ---- a line that begins with a letter and a blank
+
+pub begins_with : (x y : ℕ) (s : List ℕ) → starts_with nat_eq s (x ∷ y ∷ []) ≡ true → s ≡ x ∷ y ∷ drop 2 s
+begins_with x y [] h = absurd (true≢false (sym h))
+begins_with x y (a ∷ []) h = absurd (one (nat_eq x a) h)
+  where
+    one : (b : Bool) → (b && false) ≡ true → ⊥
+    one true e = true≢false (sym e)
+    one false e = true≢false (sym e)
+begins_with x y (a ∷ b ∷ s) h =
+    let p = two (nat_eq x a) (nat_eq y b) h in
+    (λ i. sym (eqb-true x a p.0) i ∷ sym (eqb-true y b p.1) i ∷ s)
+  where
+    two : (p q : Bool) → (p && (q && true)) ≡ true → (p ≡ true) × (q ≡ true)
+    two true true e = (refl, refl)
+    two true false e = absurd (true≢false (sym e))
+    two false q e = absurd (true≢false (sym e))
+
+module _ {A : Type 0} where
+  chosen : (b : Bool) (o : Option A) (a : A) → cond b o None ≡ Some a → (b ≡ true) × (o ≡ Some a)
+  chosen true o a e = (refl, e)
+  chosen false o a e = absurd (cc)
+
+-- ---- the line of a layout and a digest
+
+laid : (l : LayoutModel) → IsLayout l → layout_of (3 * l.size) l.salt ≡ Some l
+laid l h =
+    ap (λ b. cond b (Some (record { size = 3 * l.size / 3; salt = l.salt })) None) fits
+    ∙ ap (λ n. Some (record { size = n; salt = l.salt })) third
+  where
+    third : 3 * l.size / 3 ≡ l.size
+    third = omega arith
+
+    fits : is_layout (3 * l.size) l.salt ≡ true
+    fits = grind (arith, h.some, h.most, h.odd)
+
+pub head-again : (h : Head) → IsHead h → head_in (head_line h) ≡ Some h
+unfolding head_in_words
+head-again h is =
+    let cells = decimal (3 * h.layout.size) in
+    let salt = decimal h.layout.salt in
+    let hex = encode_lower h.digest in
+    let small : 3 * h.layout.size < 2 ^ 64 = omega (arith, is.layout.most) in
+    let u = decimal_unblank (3 * h.layout.size) small in
+    let v = decimal_unblank h.layout.salt is.salt in
+    let after = after_is cells (salt ++ 32 ∷ hex) u in
+    (λ i. headed (laid_out (number_in (first_is cells (salt ++ 32 ∷ hex) u i)) (number_in (first_word (after i)))) (digest_of (words_after (after i))))
+    ∙ (λ i. headed (laid_out (number-again (3 * h.layout.size) small i) (number_in (first_is salt hex v i))) (digest_of (after_is salt hex v i)))
+    ∙ (λ i. headed (laid_out (Some (3 * h.layout.size)) (number-again h.layout.salt is.salt i)) (digest-again h.digest is.digest i))
+    ∙ (λ i. headed (laid h.layout is.layout i) (Some h.digest))
+
+pub record HasLayout (cells salt : Option ℕ) (l : LayoutModel) : Type 0 where
+  pub layout : IsLayout l
+  pub cells_are : cells ≡ Some (3 * l.size)
+  pub salt_is : salt ≡ Some l.salt
+
+layout_parts : (n a : ℕ) (l : LayoutModel) → layout_of n a ≡ Some l → (is_layout n a ≡ true) × (n / 3 ≡ l.size) × (a ≡ l.salt)
+layout_parts n a l e = by (is_layout n a) refl e
+  where
+    by : (b : Bool) → is_layout n a ≡ b → cond b (Some (record { size = n / 3; salt = a })) None ≡ Some l
+        → (is_layout n a ≡ true) × (n / 3 ≡ l.size) × (a ≡ l.salt)
+    by true is k = let p : record { size = n / 3; salt = a } ≡ l = cc in (is, ap (λ m. m.size) p, ap (λ m. m.salt) p)
+    by false is k = absurd (cc)
+
+pub laid-only : (o p : Option ℕ) (l : LayoutModel) → laid_out o p ≡ Some l → HasLayout o p l
+laid-only None p l e = absurd (cc)
+laid-only (Some n) None l e = absurd (cc)
+laid-only (Some n) (Some a) l e =
+    let p = layout_parts n a l e in
+    let f = facts p.0 in
+    let whole : n ≡ 3 * l.size = omega (arith, f.0, p.1) in
+    record {
+      layout = record {
+        some = omega (arith, f.1, whole);
+        most = omega (arith, f.2, whole);
+        odd = subst (λ s. s % 2 ≡ 1) p.2 f.3;
+      };
+      cells_are = ap Some whole;
+      salt_is = ap Some p.2;
+    }
+  where
+    facts : is_layout n a ≡ true → (n % 3 ≡ 0) × (3 ≤ n) × (n ≤ 3 * 2 ^ 22) × (a % 2 ≡ 1)
+    facts h = (grind (arith, h), grind (arith, h), grind (arith, h), grind (arith, h))
+
+headed-only : (o : Option LayoutModel) (d : Option Text) (h : Head) → headed o d ≡ Some h → (o ≡ Some h.layout) × (d ≡ Some h.digest)
+headed-only None d h e = absurd (cc)
+headed-only (Some l) None h e = absurd (cc)
+headed-only (Some l) (Some d) h e =
+    let p : record { layout = l; digest = d } ≡ h = cc in (ap (λ x. Some x.layout) p, ap (λ x. Some x.digest) p)
+
+pub head-only : (l : List ℕ) (h : Head) → head_in l ≡ Some h → (l ≡ head_line h) × IsHead h
+unfolding head_in_words
+head-only l h e =
+    let c = chosen (starts_with nat_eq l (codes "S ")) (head_in_words (drop 2 l)) h e in
+    let t = drop 2 l in
+    let p = headed-only (laid_out (number_in (first_word t)) (number_in (first_word (words_after t)))) (digest_of (words_after (words_after t))) h c.1 in
+    let y = laid-only (number_in (first_word t)) (number_in (first_word (words_after t))) h.layout p.0 in
+    let n = number-only (first_word t) (3 * h.layout.size) y.cells_are in
+    let a = number-only (first_word (words_after t)) h.layout.salt y.salt_is in
+    let d = digest-only (words_after (words_after t)) h.digest p.1 in
+    let inner = two (words_after t) (cut_cases (words_after t)) a.0 d.0 d.1 in
+    let outer = one t (cut_cases t) n.0 inner y.salt_is in (
+      begins_with 83 32 l c.0 ∙ ap (λ r. 83 ∷ 32 ∷ r) outer,
+      record { layout = y.layout; salt = a.1; digest = d.1 },
+    )
+  where
+    never : (a : ℕ) → number_in [] ≡ Some a → ⊥
+    never a some = none_some (sym number_of_none ∙ some)
+      where
+        none_some : None ≡ Some a → ⊥
+        none_some q = cc
+
+    one : (t : List ℕ) → (t ≡ first_word t ++ 32 ∷ words_after t) ⊎ (words_after t ≡ []) → first_word t ≡ decimal (3 * h.layout.size)
+        → words_after t ≡ decimal h.layout.salt ++ 32 ∷ encode_lower h.digest → number_in (first_word (words_after t)) ≡ Some h.layout.salt
+        → t ≡ decimal (3 * h.layout.size) ++ 32 ∷ (decimal h.layout.salt ++ 32 ∷ encode_lower h.digest)
+    one t (inl cut) word rest some = cut ∙ (λ i. word i ++ 32 ∷ rest i)
+    one t (inr none) word rest some = absurd (never h.layout.salt (ap (λ w. number_in (first_word w)) (sym none) ∙ some))
+
+    two : (t : List ℕ) → (t ≡ first_word t ++ 32 ∷ words_after t) ⊎ (words_after t ≡ []) → first_word t ≡ decimal h.layout.salt
+        → words_after t ≡ encode_lower h.digest → IsDigest h.digest → t ≡ decimal h.layout.salt ++ 32 ∷ encode_lower h.digest
+    two t (inl cut) word rest is = cut ∙ (λ i. word i ++ 32 ∷ rest i)
+    two t (inr none) word rest is =
+        let some : length (encode_lower h.digest) ≡ 2 * length h.digest = length-encode_with lower_digits h.digest in
+        absurd (empty (ap length (sym none ∙ rest)) some is.size)
+      where
+        empty : 0 ≡ length (encode_lower h.digest) → length (encode_lower h.digest) ≡ 2 * length h.digest → length h.digest ≡ 32 → ⊥
+        empty p q r = omega (arith, p, q, r)
+
+-- ---- the line of the counts
+
+pub tally-again : (t : Tally) → IsTally t → tally_in (counts_line t) ≡ Some t
+unfolding counts_in_words
+tally-again t is =
+    ap (λ k. counted (numbers_in k (spelled t.digests t.ones))) (sym is.size) ∙ ap counted (numbers-again t.digests t.ones is.digests is.ones)
+
+counted-only : (o : Option (List ℕ)) (t : Tally) → counted o ≡ Some t → o ≡ Some (t.digests ∷ t.ones)
+counted-only None t e = absurd (cc)
+counted-only (Some []) t e = absurd (cc)
+counted-only (Some (n ∷ ns)) t e = let p : record { digests = n; ones = ns } ≡ t = cc in ap (λ x. Some (x.digests ∷ x.ones)) p
+
+pub tally-only : (l : List ℕ) (t : Tally) → tally_in l ≡ Some t → (l ≡ counts_line t) × IsTally t
+unfolding counts_in_words
+tally-only l t e =
+    let c = chosen (starts_with nat_eq l (codes "C ")) (counts_in_words (drop 2 l)) t e in
+    let n = numbers-only 64 (drop 2 l) (t.digests ∷ t.ones) (counted-only (numbers_in 64 (drop 2 l)) t c.1) in
+    let first : n.first ≡ t.digests = first_of n.all in
+    let more : n.more ≡ t.ones = more_of n.all in (
+      begins_with 67 32 l c.0 ∙ ap (λ r. 67 ∷ 32 ∷ r) (n.text_is ∙ (λ i. spelled (first i) (more i))),
+      record {
+        digests = subst (λ m. m < 2 ^ 64) first n.first_fits;
+        size = ap length (sym more) ∙ n.size;
+        ones = subst AreWords64 more n.more_fit;
+      },
+    )
+  where
+    first_of : {a b : ℕ} {xs ys : List ℕ} → a ∷ xs ≡ b ∷ ys → b ≡ a
+    first_of q = cc
+
+    more_of : {a b : ℕ} {xs ys : List ℕ} → a ∷ xs ≡ b ∷ ys → ys ≡ xs
+    more_of q = cc
+
+-- ---- the line of a cell
+
+abbrev cell_bytes : Cell → List ℕ
+cell_bytes c = c.digest ++ to_be_bytes w64 c.check
+
+be_size : (n : ℕ) → length (to_be_bytes w64 n) ≡ 8
+be_size n = refl
+
+byte_fits : (k n : ℕ) → byte_at k n < 256
+byte_fits zero n = mod_below n 256 (omega arith)
+byte_fits (suc k) n = mod_below (n / 256 ^ suc k) 256 (omega arith)
+
+pub high_fits : (k n i : ℕ) → slice_index (bytes_high_first k n) i < 256
+high_fits zero n i = omega arith
+high_fits (suc k) n zero = byte_fits k n
+high_fits (suc k) n (suc i) = high_fits k n i
+
+be_fits : (n i : ℕ) → slice_index (to_be_bytes w64 n) i < 256
+be_fits n i = high_fits 8 n i
+
+eight : (a b c d e f g h : ℕ) → a < 256 → b < 256 → c < 256 → d < 256 → e < 256 → f < 256 → g < 256 → h < 256
+    → a * 72057594037927936 + b * 281474976710656 + c * 1099511627776 + d * 4294967296 + e * 16777216 + f * 65536 + g * 256 + h < 18446744073709551616
+eight a b c d e f g h at_0 at_1 at_2 at_3 at_4 at_5 at_6 at_7 = omega arith
+
+pub from_fits : (bytes : List ℕ) → ((i : ℕ) → slice_index bytes i < 256) → from_be_bytes w64 bytes < 2 ^ 64
+from_fits bytes small = eight _ _ _ _ _ _ _ _ (small 0) (small 1) (small 2) (small 3) (small 4) (small 5) (small 6) (small 7)
+
+pub append_fits : (xs ys : List ℕ) → ((i : ℕ) → slice_index xs i < 256) → ((i : ℕ) → slice_index ys i < 256) → (i : ℕ) → slice_index (xs ++ ys) i < 256
+append_fits [] ys f g i = g i
+append_fits (x ∷ xs) ys f g zero = f zero
+append_fits (x ∷ xs) ys f g (suc i) = append_fits xs ys (λ k. f (suc k)) g i
+
+take_back : (k : ℕ) (xs ys : List ℕ) → length xs ≡ k → take k (xs ++ ys) ≡ xs
+take_back k xs ys e = ap (λ n. take n (xs ++ ys)) (sym e) ∙ take-append_seam xs ys
+
+drop_back : (k : ℕ) (xs ys : List ℕ) → length xs ≡ k → drop k (xs ++ ys) ≡ ys
+drop_back k xs ys e = ap (λ n. drop n (xs ++ ys)) (sym e) ∙ drop-append_seam xs ys
+
+pub cell-again : (c : Cell) → IsCell c → cell_in (cell_line c) ≡ Some c
+unfolding cell_in
+cell-again c is =
+    let check = to_be_bytes w64 c.check in
+    let size : length (cell_bytes c) ≡ 40 = length-append c.digest check ∙ (λ i. is.digest.size i + be_size c.check i) in
+    ap (option_map cell_of_bytes) (spelled-again 40 (cell_bytes c) size (append_fits c.digest check is.digest.bytes (be_fits c.check)))
+    ∙ (λ i. Some (record {
+      digest = take_back 32 c.digest check is.digest.size i;
+      check = (ap (from_be_bytes w64) (drop_back 32 c.digest check is.digest.size) ∙ from_be_bytes-to_be_bytes_8 c.check is.check) i;
+    }))
+
+take_fits : (k : ℕ) (xs : List ℕ) → ((i : ℕ) → slice_index xs i < 256) → (i : ℕ) → slice_index (take k xs) i < 256
+take_fits zero xs f i = omega arith
+take_fits (suc k) [] f i = f i
+take_fits (suc k) (x ∷ xs) f zero = f zero
+take_fits (suc k) (x ∷ xs) f (suc i) = take_fits k xs (λ j. f (suc j)) i
+
+drop_fits : (k : ℕ) (xs : List ℕ) → ((i : ℕ) → slice_index xs i < 256) → (i : ℕ) → slice_index (drop k xs) i < 256
+drop_fits zero xs f i = f i
+drop_fits (suc k) [] f i = f i
+drop_fits (suc k) (x ∷ xs) f i = drop_fits k xs (λ j. f (suc j)) i
+
+mapped-only : (o : Option Text) (c : Cell) → option_map cell_of_bytes o ≡ Some c → (bytes : Text) × (o ≡ Some bytes) × (cell_of_bytes bytes ≡ c)
+mapped-only None c e = absurd (cc)
+mapped-only (Some bytes) c e = (bytes, refl, cc)
+
+pub cell-only : (l : List ℕ) (c : Cell) → cell_in l ≡ Some c → (l ≡ cell_line c) × IsCell c
+unfolding cell_in
+cell-only l c e =
+    let m = mapped-only (if_spelled l (decode_sized l 40)) c e in
+    let bytes = m.0 in
+    let s = spelled-only 40 l bytes m.1 in
+    let front : length (take 32 bytes) ≡ 32 = length-take-le 32 bytes (omega (arith, s.1)) in
+    let back : length (drop 32 bytes) ≡ 8 = omega (arith, length-drop 32 bytes, s.1) in
+    let each = drop_fits 32 bytes s.2 in
+    let check : to_be_bytes w64 (from_be_bytes w64 (drop 32 bytes)) ≡ drop 32 bytes = be_bytes_8 (drop 32 bytes) (from_be_bytes w64 (drop 32 bytes)) back each refl in (
+      s.0
+          ∙ ap encode_lower (sym (ap (λ t. take 32 bytes ++ t) check ∙ take-append-drop 32 bytes))
+          ∙ ap cell_line m.2,
+      subst IsCell m.2 (record {
+        digest = record { size = front; bytes = take_fits 32 bytes s.2 };
+        check = from_fits (drop 32 bytes) each;
+      }),
+    )
+
+-- ---- what the code finds on its way
+
+pub head_uncut : (t : List ℕ) → words_after t ≡ [] → head_in_words t ≡ None
+unfolding head_in_words
+head_uncut t e = ap (λ w. headed (laid_out (number_in (first_word t)) (number_in (first_word w))) (digest_of (words_after w))) e
+    ∙ ap (λ o. headed (laid_out (number_in (first_word t)) o) (digest_of [])) number_of_none ∙ unlaid (number_in (first_word t))
+  where
+    unlaid : (o : Option ℕ) → headed (laid_out o None) (digest_of []) ≡ None
+    unlaid None = refl
+    unlaid (Some n) = refl
+
+no_digest : digest_of [] ≡ None
+no_digest = by (digest_of []) refl
+  where
+    empty : (d : Text) → 0 ≡ length (encode_lower d) → length (encode_lower d) ≡ 2 * length d → length d ≡ 32 → ⊥
+    empty d p q r = omega (arith, p, q, r)
+
+    by : (o : Option Text) → digest_of [] ≡ o → o ≡ None
+    by None e = refl
+    by (Some d) e = let p = digest-only [] d e in absurd (empty d (ap length p.0) (length-encode_with lower_digits d) p.1.size)
+
+unheaded : (o : Option LayoutModel) → headed o None ≡ None
+unheaded None = refl
+unheaded (Some l) = refl
+
+pub head_uncut_twice : (t : List ℕ) → words_after (words_after t) ≡ [] → head_in_words t ≡ None
+unfolding head_in_words
+head_uncut_twice t e =
+    let layout = laid_out (number_in (first_word t)) (number_in (first_word (words_after t))) in
+    ap (λ w. headed layout (digest_of w)) e ∙ ap (headed layout) no_digest ∙ unheaded layout
+
+module _ (t first rest second last : List ℕ) (a : first ≡ first_word t) (b : rest ≡ words_after t) (c : second ≡ first_word rest) (d : last ≡ words_after rest) where
+  words : headed (laid_out (number_in first) (number_in second)) (digest_of last) ≡ head_in_words t
+  unfolding head_in_words
+  words =
+      let e = c ∙ ap first_word b in
+      let f = d ∙ ap words_after b in
+      λ i. headed (laid_out (number_in (a i)) (number_in (e i))) (digest_of (f i))
+
+  pub no_layout : None ≡ laid_out (number_in first) (number_in second) → None ≡ head_in_words t
+  no_layout e = ap (λ l. headed l (digest_of last)) e ∙ words
+
+  pub no_last : None ≡ digest_of last → None ≡ head_in_words t
+  no_last e = sym (unheaded (laid_out (number_in first) (number_in second))) ∙ ap (headed (laid_out (number_in first) (number_in second))) e ∙ words
+
+  pub head_read : (l : LayoutModel) (x : Text) → Some l ≡ laid_out (number_in first) (number_in second) → Some x ≡ digest_of last
+      → Some (record { layout = l; digest = x }) ≡ head_in_words t
+  head_read l x e f = (λ i. headed (e i) (f i)) ∙ words
+
+module _ {V : Type 0} (items : V → List ℕ) (t : List ℕ) (o : Option V) (all : option_map items o ≡ numbers_in 64 t) where
+  pub tally_missing : o ≡ None → None ≡ counts_in_words t
+  unfolding counts_in_words
+  tally_missing e = ap counted (sym (ap (option_map items) e) ∙ all)
+
+  pub tally_read : (v : V) (tally : Tally) → o ≡ Some v → items v ≡ tally.digests ∷ tally.ones → Some tally ≡ counts_in_words t
+  unfolding counts_in_words
+  tally_read v tally e f = ap counted (ap Some (sym f) ∙ sym (ap (option_map items) e) ∙ all)
+
+  pub counts_size : (v : V) → o ≡ Some v → length (items v) ≡ 65
+  counts_size v e =
+      let n = numbers-only 64 t (items v) (sym all ∙ ap (option_map items) e) in
+      ap length n.all ∙ ap suc n.size
+
+pub cell_other : (l : List ℕ) → if_spelled l (decode_sized l 40) ≡ None → None ≡ cell_in l
+unfolding cell_in
+cell_other l e = ap (option_map cell_of_bytes) (sym e)

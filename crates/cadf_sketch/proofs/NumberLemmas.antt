@@ -1,0 +1,311 @@
+-- Numbers and the words that spell them.
+use Rattle.std.proofs.Common.{
+  ◌≡◌,
+  ℕ,
+  zero,
+  suc,
+  ◌+◌,
+  ◌<◌,
+  List,
+  [],
+  ◌∷◌,
+  ◌++◌,
+  Bool,
+  true,
+  false,
+  cond,
+  length,
+  take,
+  drop,
+  get_or,
+  ◌≤◌,
+  ◌⊎◌,
+  inl,
+  inr,
+  Option,
+  Some,
+  None,
+  Result,
+  Ok,
+  Err,
+  refl,
+  sym,
+  ap,
+  ◌∙◌,
+  subst,
+  arith,
+  append-nil,
+  append_assoc,
+  length-drop,
+  ◌-◌,
+  true≢false,
+}
+use Rattle.std.specs.Prelude.{◌==◌, ◌&&◌, ◌||◌, ◌^◌, not, decimal, nat_lt, flat_map, option_map, IsUtf8}
+use Rattle.std.specs.Int.{IsInRange}
+use Rattle.std.specs.List.{position_or_len, list_any, AllByRecursion}
+use Rattle.std.specs.Str.{bytes_eq}
+use Rattle.std.specs.Str.Parse.{AllDigits, digits_value, ParsesUnsigned}
+use Rattle.std.proofs.lemmas.Slice.Eq.{bytes_eq-Decides}
+use Rattle.std.proofs.lemmas.Str.Parse.{IsNumeralModel, numerals_by_value, tells_digits}
+use Rattle.std.proofs.lemmas.Fmt.{digits_decimal, digits_value-decimal, parse-decimal, IsAscii-decimal, decimal_nonempty}
+use Rattle.std.proofs.lemmas.Str.{IsUtf8-from_ascii}
+use Rattle.std.proofs.lemmas.Bool.{ltb-true, lt-ltb, ltb-false}
+use Rattle.std.proofs.lemmas.Bool.Decides.{nat_tests}
+use Rattle.std.proofs.lemmas.List.Sums.{split_at_first, passes_at_first, position_or_len_is}
+use Rattle.std.proofs.Math.ListN.{drop_of_length-le}
+use Rattle.std.proofs.Math.Seq.{take-append_seam, drop-append-add}
+use Rattle.std.proofs.lemmas.List.{take_all}
+use Rattle.memchr.specs.Find.{IsFirstByte, is_byte}
+use Rattle.cadf_join.specs.laws.Sets.{false_from}
+use Rattle.cadf_sketch.specs.SketchFile.{spelled, AreWords64}
+use Rattle.cadf_sketch.specs.SketchVerdict.{number_if, number_in, first_word, words_after, put_before, numbers_in}
+
+pub own : IsNumeralModel (AllDigits 10) (digits_value 10)
+own = numerals_by_value _ tells_digits
+
+-- ---- one number
+
+both : (a b : Bool) (n m : ℕ) → cond (a && b) (Some n) None ≡ Some m → (a ≡ true) × (b ≡ true) × (n ≡ m)
+both true true n m e = (refl, refl, cc)
+both true false n m e = absurd (cc)
+both false b n m e = absurd (cc)
+
+pub number-only : (w : List ℕ) (n : ℕ) → number_in w ≡ Some n → (w ≡ decimal n) × (n < 2 ^ 64)
+unfolding number_in
+number-only w n e =
+    let v = digits_value 10 w in
+    let p = both (bytes_eq w (decimal v)) (nat_lt v (2 ^ 64)) v n e in
+    ((bytes_eq-Decides w (decimal v)).0 p.0 ∙ ap decimal p.2, subst (λ (m : ℕ). m < 2 ^ 64) p.2 (ltb-true v (2 ^ 64) p.1))
+
+pub number-again : (n : ℕ) → n < 2 ^ 64 → number_in (decimal n) ≡ Some n
+unfolding number_in
+number-again n small =
+    ap (number_if (decimal n)) (digits_value-decimal own n small)
+    ∙ (λ i. cond ((bytes_eq-Decides (decimal n) (decimal n)).1 refl i && lt-ltb n (2 ^ 64) small i) (Some n) None)
+
+-- a word that is another number's, or no text, spells none
+pub number_none : (w : List ℕ) → ((n : ℕ) → n < 2 ^ 64 → w ≡ decimal n → ⊥) → number_in w ≡ None
+number_none w none = by (number_in w) refl
+  where
+    by : (o : Option ℕ) → number_in w ≡ o → o ≡ None
+    by None e = refl
+    by (Some n) e = let p = number-only w n e in absurd (none n p.1 p.0)
+
+pub number_not_text : (w : List ℕ) → ¬ IsUtf8 w → number_in w ≡ None
+number_not_text w none = number_none w (λ n small e. none (subst IsUtf8 (sym e) (IsUtf8-from_ascii (decimal n) (IsAscii-decimal n small))))
+
+module _ {E : Type 0} (w : List ℕ) (r : Result ℕ E) (parsed : ParsesUnsigned 64 10 w r) where
+  parsed_is : (n : ℕ) → n < 2 ^ 64 → w ≡ decimal n → r ≡ Ok n
+  parsed_is n small e = parse-decimal 64 n w r small small e parsed
+
+  never : (s : Result ℕ E) (n : ℕ) (e : E) → s ≡ Ok n → s ≡ Err e → ⊥
+  never s n e ok err = cc
+
+  pub number_not_parsed : (e : E) → r ≡ Err e → number_in w ≡ None
+  number_not_parsed e err = number_none w (λ n small is. never r n e (parsed_is n small is) err)
+
+  same : (s : Result ℕ E) (n m : ℕ) → s ≡ Ok n → s ≡ Ok m → n ≡ m
+  same s n m p q = cc
+
+  pub number_not_plain : (m : ℕ) → r ≡ Ok m → (decimal m ≡ w → ⊥) → number_in w ≡ None
+  number_not_plain m ok other = number_none w (λ n small is. other (ap decimal (same r m n ok (parsed_is n small is)) ∙ sym is))
+
+-- ---- the first word
+
+abbrev pub has_blank : List ℕ → Bool
+has_blank w = list_any (λ x. x == 32) w
+
+digits_unblank : (ds : List ℕ) → AllDigits 10 ds → has_blank ds ≡ false
+digits_unblank [] p = refl
+digits_unblank (x ∷ xs) p =
+    let q = tells_digits.parts x xs p in
+    neither_of (x == 32) (has_blank xs) (no_blank x q.0) (digits_unblank xs q.1)
+  where
+    no_blank : (x : ℕ) → IsInRange 48 57 x → (x == 32) ≡ false
+    no_blank x r = grind arith
+
+    neither_of : (p q : Bool) → p ≡ false → q ≡ false → (p || q) ≡ false
+    neither_of p q e f = (λ i. e i || q) ∙ f
+
+pub decimal_unblank : (n : ℕ) → n < 2 ^ 64 → has_blank (decimal n) ≡ false
+decimal_unblank n small = digits_unblank (decimal n) (digits_decimal own n small)
+
+neither : (a b : Bool) → (a || b) ≡ false → (a ≡ false) × (b ≡ false)
+neither true b e = absurd (true≢false e)
+neither false b e = (refl, e)
+
+blank_after : (w t : List ℕ) → has_blank w ≡ false → position_or_len (λ x. x == 32) (w ++ 32 ∷ t) ≡ length w
+blank_after [] t h = refl
+blank_after (x ∷ w) t h =
+    let p = neither (x == 32) (has_blank w) h in
+    ap (λ b. cond (not b) (1 + position_or_len (λ x. x == 32) (w ++ 32 ∷ t)) 0) p.0 ∙ ap (λ n. 1 + n) (blank_after w t p.1) ∙ omega arith
+
+pub first_is : (w t : List ℕ) → has_blank w ≡ false → first_word (w ++ 32 ∷ t) ≡ w
+first_is w t h = ap (λ n. take n (w ++ 32 ∷ t)) (blank_after w t h) ∙ take-append_seam w (32 ∷ t)
+
+pub after_is : (w t : List ℕ) → has_blank w ≡ false → words_after (w ++ 32 ∷ t) ≡ t
+after_is w t h = ap (λ n. drop (n + 1) (w ++ 32 ∷ t)) (blank_after w t h) ∙ drop-append-add w (32 ∷ t) 1
+
+-- ---- numbers
+
+pub numbers-again : (n : ℕ) (ns : List ℕ) → n < 2 ^ 64 → AreWords64 ns → numbers_in (length ns) (spelled n ns) ≡ Some (n ∷ ns)
+numbers-again n [] small all = ap (λ w. put_before (number_in w) (Some [])) (append-nil (decimal n)) ∙ ap (λ o. put_before o (Some [])) (number-again n small)
+numbers-again n (m ∷ ms) small all =
+    let unblank = decimal_unblank n small in
+    (λ i. put_before (number_in (first_is (decimal n) (spelled m ms) unblank i)) (numbers_in (length ms) (after_is (decimal n) (spelled m ms) unblank i)))
+    ∙ (λ i. put_before (number-again n small i) (numbers-again m ms all.0 all.1 i))
+
+put_some : (o : Option ℕ) (p : Option (List ℕ)) (ns : List ℕ) → put_before o p ≡ Some ns
+    → (n : ℕ) × (ms : List ℕ) × (o ≡ Some n) × (p ≡ Some ms) × (ns ≡ n ∷ ms)
+put_some None p ns e = absurd (cc)
+put_some (Some n) None ns e = absurd (cc)
+put_some (Some n) (Some ms) ns e = (n, ms, refl, refl, cc)
+
+pub number_of_none : number_in [] ≡ None
+number_of_none = number_none [] (λ n small e. never n (decimal_nonempty n small) (ap length e))
+  where
+    never : (n : ℕ) → 0 < length (decimal n) → 0 ≡ length (decimal n) → ⊥
+    never n some none = omega (arith, some, none)
+
+pub numbers_of_none : (k : ℕ) → numbers_in k [] ≡ None
+numbers_of_none zero = ap (λ o. put_before o (Some [])) number_of_none
+numbers_of_none (suc k) = ap (λ o. put_before o (numbers_in k [])) number_of_none
+
+-- a text is its first word, a blank and the words after it, or nothing stands behind its first word
+pub cut_cases : (text : List ℕ) → (text ≡ first_word text ++ 32 ∷ words_after text) ⊎ (words_after text ≡ [])
+cut_cases text = by (nat_lt at (length text)) refl
+  where
+    at : ℕ
+    at = position_or_len (λ x. x == 32) text
+
+    blank_is : (x : ℕ) → (x == 32) ≡ true → x ≡ 32
+    blank_is x e = grind (arith, nat_tests)
+
+    by : (b : Bool) → nat_lt at (length text) ≡ b → (text ≡ first_word text ++ 32 ∷ words_after text) ⊎ (words_after text ≡ [])
+    by true e =
+        let within : at < length text = ltb-true at (length text) e in
+        inl
+        (split_at_first (λ x. x == 32) text 0 within
+        ∙ ap (λ y. take at text ++ y ∷ drop (at + 1) text) (blank_is (get_or text at 0) (passes_at_first (λ x. x == 32) text 0 within)))
+    by false e = let past : length text ≤ at = ltb-false at (length text) e in inr (drop_of_length-le text (omega (arith, past)))
+
+pub numbers_uncut : (k : ℕ) (text : List ℕ) → words_after text ≡ [] → numbers_in (suc k) text ≡ None
+numbers_uncut k text e = ap (λ w. put_before (number_in (first_word text)) (numbers_in k w)) e
+    ∙ ap (put_before (number_in (first_word text))) (numbers_of_none k) ∙ nothing_put (number_in (first_word text))
+  where
+    nothing_put : (o : Option ℕ) → put_before o None ≡ None
+    nothing_put None = refl
+    nothing_put (Some n) = refl
+
+-- numbers that were read are spelled by the text
+pub record AreNumbers (k : ℕ) (text ns : List ℕ) : Type 0 where
+  pub first : ℕ
+  pub more : List ℕ
+  pub all : ns ≡ first ∷ more
+  pub size : length more ≡ k
+  pub first_fits : first < 2 ^ 64
+  pub more_fit : AreWords64 more
+  pub text_is : text ≡ spelled first more
+
+pub numbers-only : (k : ℕ) (text ns : List ℕ) → numbers_in k text ≡ Some ns → AreNumbers k text ns
+numbers-only zero text ns e =
+    let p = put_some (number_in text) (Some []) ns e in
+    let n = number-only text p.0 p.2 in
+    let none : [] ≡ p.1 = some_same p.3 in
+    record {
+      first = p.0;
+      more = [];
+      all = p.4 ∙ ap (λ ms. p.0 ∷ ms) (sym none);
+      size = refl;
+      first_fits = n.1;
+      more_fit = tt;
+      text_is = n.0 ∙ sym (append-nil (decimal p.0));
+    }
+  where
+    some_same : {ms : List ℕ} → Some [] ≡ Some ms → [] ≡ ms
+    some_same q = cc
+numbers-only (suc k) text ns e =
+    let p = put_some (number_in (first_word text)) (numbers_in k (words_after text)) ns e in
+    let n = number-only (first_word text) p.0 p.2 in
+    let r = numbers-only k (words_after text) p.1 p.3 in
+    record {
+      first = p.0;
+      more = p.1;
+      all = p.4;
+      size = ap length r.all ∙ ap suc r.size;
+      first_fits = n.1;
+      more_fit = subst AreWords64 (sym r.all) (r.first_fits, r.more_fit);
+      text_is = whole p.0 r.first p.1 r.more (cut_cases text) r.all n.0 r.text_is p.3;
+    }
+  where
+    never : (ms : List ℕ) → numbers_in k (words_after text) ≡ Some ms → words_after text ≡ [] → ⊥
+    never ms some none = none_some (sym (ap (numbers_in k) none ∙ numbers_of_none k) ∙ some)
+      where
+        none_some : None ≡ Some ms → ⊥
+        none_some q = cc
+
+    whole : (n m : ℕ) (ms os : List ℕ) → (text ≡ first_word text ++ 32 ∷ words_after text) ⊎ (words_after text ≡ []) → ms ≡ m ∷ os → first_word text ≡ decimal n
+        → words_after text ≡ spelled m os → numbers_in k (words_after text) ≡ Some ms → text ≡ spelled n ms
+    whole n m ms os (inl cut) is word rest some =
+        cut ∙ (λ i. word i ++ 32 ∷ rest i) ∙ ap (λ l. decimal n ++ flat_map (λ m. 32 ∷ decimal m) l) (sym is)
+    whole n m ms os (inr none) is word rest some = absurd (never ms some none)
+
+-- ---- the first blank, as it is found
+
+blank_at : (text : List ℕ) (k : ℕ) → IsFirstByte (is_byte 32) text (Some k) → position_or_len (λ x. x == 32) text ≡ k
+blank_at text k h =
+    let b = h.0.high in
+    position_or_len_is (λ x. x == 32) text k 0 (omega (arith, b)) (λ j l. false_from _ (h.0.before j (omega arith) l)) (λ l. h.1)
+
+pub cut_of : (text : List ℕ) (k : ℕ) → IsFirstByte (is_byte 32) text (Some k)
+    → (take k text ≡ first_word text) × (take (length text - (k + 1)) (drop (k + 1) text) ≡ words_after text)
+cut_of text k h =
+    let e = sym (blank_at text k h) in (
+      ap (λ n. take n text) e,
+      take_all (length text - (k + 1)) (drop (k + 1) text) (omega (arith, length-drop (k + 1) text)) ∙ ap (λ n. drop (n + 1) text) e,
+    )
+
+pub none_after : (text : List ℕ) → IsFirstByte (is_byte 32) text None → words_after text ≡ []
+none_after text h =
+    let e = position_or_len_is (λ x. x == 32) text (length text) 0 (omega arith) (λ k b. false_from _ (h k (omega arith) b)) (λ l. absurd (omega (arith, l))) in
+    drop_of_length-le text (omega (arith, e))
+
+-- ---- numbers, one after another
+
+abbrev pub put_all : List ℕ → Option (List ℕ) → Option (List ℕ)
+put_all xs o = option_map (λ ns. xs ++ ns) o
+
+more_put : (xs : List ℕ) (n : ℕ) (o : Option (List ℕ)) → put_all xs (put_before (Some n) o) ≡ put_all (xs ++ n ∷ []) o
+more_put xs n None = refl
+more_put xs n (Some ns) = ap Some (sym (append_assoc xs (n ∷ []) ns))
+
+module _ (xs : List ℕ) (count len : ℕ) (rest word after : List ℕ) (more : len < count) (word_is : word ≡ first_word rest) (after_is : after ≡ words_after rest) where
+  left : count - len ≡ suc (count - suc (len))
+  left = omega (arith, more)
+
+  pub number_put : (n : ℕ) → Some n ≡ number_in word
+      → put_all xs (numbers_in (count - len) rest) ≡ put_all (xs ++ n ∷ []) (numbers_in (count - suc (len)) after)
+  number_put n read =
+      ap (λ k. put_all xs (numbers_in k rest)) left
+      ∙ (λ i. put_all xs (put_before ((ap number_in (sym word_is) ∙ sym read) i) (numbers_in (count - suc (len)) (sym after_is i))))
+      ∙ more_put xs n (numbers_in (count - suc (len)) after)
+
+  pub number_missing : None ≡ number_in word → put_all xs (numbers_in (count - len) rest) ≡ None
+  number_missing read =
+      ap (λ k. put_all xs (numbers_in k rest)) left
+      ∙ (λ i. put_all xs (put_before ((ap number_in (sym word_is) ∙ sym read) i) (numbers_in (count - suc (len)) (words_after rest))))
+
+pub blank_missing : (xs : List ℕ) (count len : ℕ) (rest : List ℕ) → len < count → words_after rest ≡ [] → put_all xs (numbers_in (count - len) rest) ≡ None
+blank_missing xs count len rest more none =
+    let left : count - len ≡ suc (count - suc (len)) = omega (arith, more) in
+    ap (λ k. put_all xs (numbers_in k rest)) left ∙ ap (put_all xs) (numbers_uncut (count - suc (len)) rest none)
+
+module _ (xs : List ℕ) (count len : ℕ) (rest : List ℕ) (most : len ≤ count) (all : count ≤ len) where
+  done : count - len ≡ 0
+  done = omega (arith, all)
+
+  pub last_put : (n : ℕ) → Some n ≡ number_in rest → put_all xs (numbers_in (count - len) rest) ≡ Some (xs ++ n ∷ [])
+  last_put n read = ap (λ k. put_all xs (numbers_in k rest)) done ∙ ap (λ o. put_all xs (put_before o (Some []))) (sym read)
+
+  pub last_missing : None ≡ number_in rest → put_all xs (numbers_in (count - len) rest) ≡ None
+  last_missing read = ap (λ k. put_all xs (numbers_in k rest)) done ∙ ap (λ o. put_all xs (put_before o (Some []))) (sym read)

@@ -1,0 +1,18 @@
+-- How a chain of takes begins and goes on.
+use Rattle.std.proofs.Common.{◌≡◌, ◌<◌, ℕ, List, [], ◌∷◌, ◌++◌, length, true, sym, subst}
+use Rattle.cadf_sketch.specs.Layouts.{LayoutModel}
+use Rattle.cadf_sketch.specs.Cells.{cell_at, is_lone, turned}
+use Rattle.cadf_sketch.specs.Peeling.{Peels, none, more}
+use Rattle.cadf_sketch.specs.declared.cell.Cell.{Cell}
+
+pub peels_none : (layout : LayoutModel) (start : List Cell) (taken : List (List ℕ)) → taken ≡ [] → Peels layout start taken start
+peels_none layout start taken e = subst (λ ds. Peels layout start ds start) (sym e) none
+
+pub peels_more : (layout : LayoutModel) (place : ℕ) (start cells cells' : List Cell) (taken taken' : List (List ℕ)) (cell : Cell)
+    → cell ≡ cell_at cells place → place < length cells → is_lone cell place layout ≡ true
+    → taken' ≡ taken ++ cell.digest ∷ [] → cells' ≡ turned cells cell.digest layout
+    → Peels layout start taken cells → Peels layout start taken' cells'
+peels_more layout place start cells cells' taken taken' cell at within lone t c chain =
+    subst (λ ds. Peels layout start ds cells') (sym t) (subst (Peels layout start (taken ++ cell.digest ∷ [])) (sym c)
+    (subst (λ (x : Cell). Peels layout start (taken ++ x.digest ∷ []) (turned cells x.digest layout)) (sym at)
+    (more place chain within (subst (λ (x : Cell). is_lone x place layout ≡ true) at lone))))

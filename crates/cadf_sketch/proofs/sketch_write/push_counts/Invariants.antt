@@ -1,0 +1,8 @@
+use Rattle.std.proofs.Common.{◌≡◌, ◌++◌, ◌∷◌, drop}
+use Rattle.std.specs.Prelude.{decimal, flat_map}
+use Rattle.cadf_sketch.proofs.sketch_write.push_counts.Given as goal
+
+-- the line so far and the counts that are left are the whole line
+abbrev pub invariant-loop-count : goal.invariant-loop-count
+invariant-loop-count l =
+    l.line.items ++ flat_map (λ m. 32 ∷ decimal m) (drop l.count-index l.counts) ≡ l.fn.line.items ++ flat_map (λ m. 32 ∷ decimal m) l.counts

@@ -1,0 +1,22 @@
+-- What the sender of a sketch lacks.
+--     inventory_of held            the digests of all that is held
+--     IsAnswer held sketch part    an inventory of the log has the sketch's digest, and part is what it lacks of what is held
+use Rattle.std.specs.Prelude.{◌≡◌}
+use Rattle.cadf_line.specs.Digest.{atom_digest}
+use Rattle.cadf_set.specs.Inventory.{InventoryModel}
+use Rattle.cadf_line.specs.Missing.{digests_of, missing_by}
+use Rattle.cadf_set.specs.Replica.{ReplicaModel}
+use Rattle.cadf_file.specs.InventoryFile.{IsInventory}
+use Rattle.cadf_sketch.specs.Sketches.{SketchModel}
+use Rattle.cadf_sketch.specs.Texts.{inventory_digest}
+
+abbrev pub inventory_of : ReplicaModel → InventoryModel
+inventory_of held = record { log = held.log; digests = digests_of atom_digest held.atoms }
+
+pub record IsAnswer (held : ReplicaModel) (sketch : SketchModel) (part : ReplicaModel) : Type 0 where
+  pub log : held.log ≡ sketch.log
+  pub theirs : InventoryModel
+  pub same_log : theirs.log ≡ sketch.log
+  pub inventory : IsInventory theirs
+  pub digest : inventory_digest theirs ≡ sketch.digest
+  pub missing : part ≡ record { log = held.log; atoms = missing_by atom_digest held.atoms theirs.digests }

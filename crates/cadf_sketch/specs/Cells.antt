@@ -1,0 +1,60 @@
+-- The cells of a sketch, in three tables of one l. A digest stands in one cell of each table.
+--     word d from          the number that eight bytes of the digest spell
+--     check d              the check of a digest
+--     place_in table d l    the digest's place in the table
+--     cell_at cells place  the cell at that place
+--     mixed cell d         the cell with the digest put in, or taken out
+--     turned cells d l  the cells with the digest put into its three cells, or taken out of them
+--     turned_all           the same with each of the digests in turn
+--     mixed_all cell ds    the cell with each of the digests put in
+--     stands d place l  the digest stands in the cell at that place
+--     is_lone cell place l  one digest alone stands in the cell at that place
+use Rattle.std.specs.Prelude.{ℕ, ◌+◌, ◌*◌, ◌%◌, ◌^◌, Bool, ◌&&◌, ◌||◌, nat_eq, ◌/◌, List, [], ◌∷◌, set, get_or, replicate, slice_range, bit_xor}
+use Rattle.std.specs.Int.{w64, from_be_bytes}
+use Rattle.std.specs.Simd.Lanes.{zip2}
+use Rattle.cadf_sketch.specs.Layouts.{LayoutModel}
+use Rattle.cadf_sketch.specs.declared.cell.Cell.{Cell}
+
+unfoldable pub word : List ℕ → ℕ → ℕ
+word d from = from_be_bytes w64 (slice_range d from (from + 8))
+
+-- the products of the words by two, and one
+unfoldable pub check : List ℕ → ℕ
+check d = (word d 0 * word d 8 + word d 16 * word d 24 + 1) % 2 ^ 64
+
+-- the upper half of a word by the salt, spread over the places of a table
+unfoldable pub place_in : ℕ → List ℕ → LayoutModel → ℕ
+place_in table d l = table * l.size + ((l.salt * word d (8 * table)) % 2 ^ 64 / 2 ^ 32 * l.size) / 2 ^ 32
+
+abbrev pub each_xor : List ℕ → List ℕ → List ℕ
+each_xor a b = zip2 bit_xor a b
+
+abbrev pub nothing : Cell
+nothing = record { digest = replicate 32 0; check = 0 }
+
+abbrev pub mixed : Cell → List ℕ → Cell
+mixed cell d = record { digest = each_xor cell.digest d; check = bit_xor cell.check (check d) }
+
+abbrev pub cell_at : List Cell → ℕ → Cell
+cell_at cells place = get_or cells place (record { digest = []; check = 0 })
+
+abbrev pub mixed_at : List Cell → ℕ → List ℕ → List Cell
+mixed_at cells place d = set cells place (mixed (cell_at cells place) d)
+
+unfoldable pub turned : List Cell → List ℕ → LayoutModel → List Cell
+turned cells d l = mixed_at (mixed_at (mixed_at cells (place_in 0 d l) d) (place_in 1 d l) d) (place_in 2 d l) d
+
+abbrev pub turned_all : List Cell → List (List ℕ) → LayoutModel → List Cell
+turned_all cells [] l = cells
+turned_all cells (d ∷ ds) l = turned_all (turned cells d l) ds l
+
+abbrev pub stands : List ℕ → ℕ → LayoutModel → Bool
+stands d place l = nat_eq place (place_in 0 d l) || nat_eq place (place_in 1 d l) || nat_eq place (place_in 2 d l)
+
+abbrev pub is_lone : Cell → ℕ → LayoutModel → Bool
+is_lone cell place l = nat_eq (check cell.digest) cell.check && stands cell.digest place l
+
+-- the cell with each of the digests put in
+abbrev pub mixed_all : Cell → List (List ℕ) → Cell
+mixed_all cell [] = cell
+mixed_all cell (d ∷ ds) = mixed_all (mixed cell d) ds

@@ -1,0 +1,23 @@
+-- How the cells of a sketch are laid out: the cells of each of three tables, and the salt.
+--     IsLayout l           from 1 to 2^22 cells a table, and an odd salt
+--     layout_of cells salt the layout of that many cells in all, if there is one
+use Rattle.std.specs.Prelude.{◌≡◌, ◌<◌, ◌≤◌, ◌*◌, ◌/◌, ◌%◌, ◌^◌, ◌&&◌, ℕ, Bool, nat_eq, nat_le, if◌then◌else◌, Option, Some, None, refl}
+use Rattle.std.specs.Coded.{Coded, coded_ℕ, coded×, code_by}
+
+pub record LayoutModel : Type 0 where
+  pub size : ℕ
+  pub salt : ℕ
+
+abbrev pub coded_layout : Coded LayoutModel
+coded_layout = code_by (ℕ × ℕ) (coded× coded_ℕ coded_ℕ) (λ l. (l.size, l.salt)) (λ p. record { size = p.0; salt = p.1 }) (λ _. refl)
+
+pub record IsLayout (l : LayoutModel) : Type 0 where
+  pub some : 0 < l.size
+  pub most : l.size ≤ 2 ^ 22
+  pub odd : l.salt % 2 ≡ 1
+
+abbrev pub is_layout : ℕ → ℕ → Bool
+is_layout cells salt = nat_eq (cells % 3) 0 && nat_le 3 cells && nat_le cells (3 * 2 ^ 22) && nat_eq (salt % 2) 1
+
+abbrev pub layout_of : ℕ → ℕ → Option LayoutModel
+layout_of cells salt = if is_layout cells salt then Some (record { size = cells / 3; salt = salt }) else None

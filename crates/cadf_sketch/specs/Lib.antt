@@ -1,0 +1,15 @@
+pub mod Answers
+pub mod Cells
+pub mod Enough
+pub mod Flips
+pub mod Layouts
+pub mod Peeling
+pub mod Refusals
+pub mod SketchFile
+pub mod SketchLines
+pub mod SketchReads
+pub mod SketchVerdict
+pub mod Sketches
+pub mod Tallies
+pub mod Texts
+pub mod Words

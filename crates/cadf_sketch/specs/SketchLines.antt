@@ -1,0 +1,56 @@
+-- What a contract sees of the lines of a sketch's file, as they come.
+--     told_lines told          the lines after the log line
+--     lines_so_far log told    all lines
+--     AreTold told             what they can have told so far
+--     IsMore told l more       one more line came
+--     IsSketchOfLines ls s     the lines are those of the sketch, before its digest line
+use Rattle.std.specs.Prelude.{◌≡◌, ◌≤◌, ◌<◌, ◌*◌, ℕ, List, [], ◌∷◌, ◌++◌, length, map, true, Some, None}
+use Rattle.std.specs.List.{AllByRecursion}
+use Rattle.cadf_join.specs.Contents.{Text}
+use Rattle.cadf_event.specs.LogName.{is_name_text}
+use Rattle.cadf_linefile.specs.Verdict.{log_line}
+use Rattle.cadf_sketch.specs.Sketches.{SketchModel}
+use Rattle.cadf_sketch.specs.SketchFile.{sketch_header, head_line, counts_line, cell_line, sketch_body, IsHead, IsTally, IsCell, IsSketch}
+use Rattle.cadf_sketch.specs.SketchVerdict.{cell_in, cause_after}
+use Rattle.cadf_sketch.specs.declared.head.Head.{Head}
+use Rattle.cadf_sketch.specs.declared.tally.Tally.{Tally}
+use Rattle.cadf_sketch.specs.declared.cell.Cell.{Cell}
+use Rattle.cadf_sketch.specs.declared.sketch_lines.Told.{Told}
+use Rattle.cadf_sketch.specs.declared.sketch_lines.Told.TheVariants.{Nothing, Beginning, Cells}
+
+abbrev pub told_lines : Told → List (List ℕ)
+told_lines Nothing = []
+told_lines (Beginning head) = head_line head ∷ []
+told_lines (Cells head tally cells) = head_line head ∷ counts_line tally ∷ map cell_line cells.items
+
+abbrev pub lines_so_far : Text → Told → List (List ℕ)
+lines_so_far log told = sketch_header ∷ log_line log ∷ told_lines told
+
+-- cells of a layout, at most as many as it has
+pub record AreCellsOf (h : Head) (t : Tally) (cs : List Cell) : Type 0 where
+  pub head : IsHead h
+  pub tally : IsTally t
+  pub cells : AllByRecursion IsCell cs
+  pub within : length cs ≤ 3 * h.layout.size
+
+abbrev pub AreTold : Told → Type 0
+AreTold Nothing = Unit {0}
+AreTold (Beginning head) = IsHead head
+AreTold (Cells head tally cells) = AreCellsOf head tally cells.items
+
+-- one more line came
+abbrev pub IsMore : Told → List ℕ → Told → Type 0
+IsMore told line more = (cause_after (told_lines told) line ≡ None) × (told_lines more ≡ told_lines told ++ line ∷ []) × AreTold more
+
+-- the cell of the line came, which was still to come
+pub record IsCellPut (head : Head) (old new : List Cell) (line : List ℕ) : Type 0 where
+  pub more : length old < 3 * head.layout.size
+  pub cell : Cell
+  pub read : cell_in line ≡ Some cell
+  pub put : new ≡ old ++ cell ∷ []
+
+abbrev pub AreSoFar : Text → Told → Type 0
+AreSoFar log told = (is_name_text log ≡ true) × AreTold told
+
+abbrev pub IsSketchOfLines : List (List ℕ) → SketchModel → Type 0
+IsSketchOfLines lines s = (lines ≡ sketch_body s) × IsSketch s

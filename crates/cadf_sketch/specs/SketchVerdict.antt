@@ -1,0 +1,159 @@
+-- What the reader of a sketch file answers, as a function of its bytes, of the limit and of how the reader ended.
+--     number_in word            the number whose decimal digits the word is
+--     numbers_in k text         so many numbers and one more, parted by one blank
+--     head_in, tally_in, cell_in   what a line is the line of
+--     cause_after before line   what is wrong with a line after the lines behind the log line
+--     is_whole lines            the lines behind the log line have all cells
+--     sketch_decided            the fault that the bytes decide by themselves, before the reader ends
+--     sketch_verdict            the sketch that the bytes are the file of, or the first fault
+use Rattle.std.specs.Prelude.{◌≡◌, ◌↔◌, ◌≤◌, ◌+◌, ◌*◌, ◌^◌, ◌==◌, ℕ, zero, suc, nat_eq, nat_lt, List, [], ◌∷◌, length, take, drop, codes, decimal}
+use Rattle.std.specs.Prelude.{Bool, true, false, ◌&&◌, not, is_some, if◌then◌else◌, Option, Some, None, option_map, unwrap_or, Result, Ok, Err}
+use Rattle.std.specs.Int.{w64, from_be_bytes}
+use Rattle.std.specs.List.{filter_map, starts_with, position_or_len}
+use Rattle.std.specs.Str.{bytes_eq}
+use Rattle.std.specs.Str.Parse.{digits_value}
+use Rattle.hex.specs.Hex.{decode_sized}
+use Rattle.cadf_join.specs.Contents.{Text}
+use Rattle.cadf_linefile.specs.declared.fault.Cause.{Cause}
+use Rattle.cadf_linefile.specs.declared.fault.Cause.TheVariants.{Shape, Unended}
+use Rattle.cadf_linefile.specs.declared.fault.FileFault.{FileFault}
+use Rattle.cadf_linefile.specs.LineGrammar.{LineGrammar}
+use Rattle.cadf_linefile.specs.Verdict as frame
+use Rattle.cadf_linefile.specs.Verdict.{log_in_line, begins_digest}
+use Rattle.cadf_file.specs.InventoryVerdict.{if_spelled, digest_of}
+use Rattle.cadf_sketch.specs.Layouts.{LayoutModel, layout_of}
+use Rattle.cadf_sketch.specs.Sketches.{SketchModel}
+use Rattle.cadf_sketch.specs.SketchFile.{sketch_header, sketch_file, IsSketch}
+use Rattle.cadf_sketch.specs.declared.cell.Cell.{Cell}
+use Rattle.cadf_sketch.specs.declared.head.Head.{Head}
+use Rattle.cadf_sketch.specs.declared.tally.Tally.{Tally}
+
+-- ---- numbers
+
+abbrev pub number_if : List ℕ → ℕ → Option ℕ
+number_if word n = if bytes_eq word (decimal n) && nat_lt n (2 ^ 64) then Some n else None
+
+unfoldable pub number_in : List ℕ → Option ℕ
+number_in word = number_if word (digits_value 10 word)
+
+-- what stands before the first blank, and what stands behind it
+abbrev pub first_word : List ℕ → List ℕ
+first_word text = take (position_or_len (λ x. x == 32) text) text
+
+abbrev pub words_after : List ℕ → List ℕ
+words_after text = drop (position_or_len (λ x. x == 32) text + 1) text
+
+abbrev pub put_before : Option ℕ → Option (List ℕ) → Option (List ℕ)
+put_before None ns = None
+put_before (Some n) None = None
+put_before (Some n) (Some ns) = Some (n ∷ ns)
+
+abbrev pub numbers_in : ℕ → List ℕ → Option (List ℕ)
+numbers_in zero text = put_before (number_in text) (Some [])
+numbers_in (suc k) text = put_before (number_in (first_word text)) (numbers_in k (words_after text))
+
+-- ---- lines
+
+abbrev pub laid_out : Option ℕ → Option ℕ → Option LayoutModel
+laid_out None salt = None
+laid_out (Some cells) None = None
+laid_out (Some cells) (Some salt) = layout_of cells salt
+
+abbrev pub headed : Option LayoutModel → Option Text → Option Head
+headed None digest = None
+headed (Some layout) None = None
+headed (Some layout) (Some digest) = Some (record { layout = layout; digest = digest })
+
+unfoldable pub head_in_words : List ℕ → Option Head
+head_in_words text = headed (laid_out (number_in (first_word text)) (number_in (first_word (words_after text)))) (digest_of (words_after (words_after text)))
+
+abbrev pub head_in : List ℕ → Option Head
+head_in line = if starts_with nat_eq line (codes "S ") then head_in_words (drop 2 line) else None
+
+abbrev pub counted : Option (List ℕ) → Option Tally
+counted None = None
+counted (Some []) = None
+counted (Some (n ∷ ns)) = Some (record { digests = n; ones = ns })
+
+unfoldable pub counts_in_words : List ℕ → Option Tally
+counts_in_words text = counted (numbers_in 64 text)
+
+abbrev pub tally_in : List ℕ → Option Tally
+tally_in line = if starts_with nat_eq line (codes "C ") then counts_in_words (drop 2 line) else None
+
+abbrev pub cell_of_bytes : List ℕ → Cell
+cell_of_bytes bytes = record { digest = take 32 bytes; check = from_be_bytes w64 (drop 32 bytes) }
+
+unfoldable pub cell_in : List ℕ → Option Cell
+cell_in line = option_map cell_of_bytes (if_spelled line (decode_sized line 40))
+
+-- ---- the grammar
+
+abbrev pub shape_unless : Bool → Option Cause
+shape_unless ok = if ok then None else Some Shape
+
+-- how many cells there are to be, by their line
+abbrev pub cells_of_head : Option Head → ℕ
+cells_of_head None = 0
+cells_of_head (Some h) = 3 * h.layout.size
+
+-- the line of a cell after so many of so many
+abbrev pub cause_of_cell : ℕ → ℕ → List ℕ → Option Cause
+cause_of_cell before all line = shape_unless (nat_lt before all && is_some (cell_in line))
+
+abbrev pub cause_after : List (List ℕ) → List ℕ → Option Cause
+cause_after [] line = shape_unless (is_some (head_in line))
+cause_after (head ∷ []) line = shape_unless (is_some (tally_in line))
+cause_after (head ∷ counts ∷ cells) line = cause_of_cell (length cells) (cells_of_head (head_in head)) line
+
+abbrev pub is_whole : List (List ℕ) → Bool
+is_whole [] = false
+is_whole (head ∷ []) = false
+is_whole (head ∷ counts ∷ cells) = nat_eq (length cells) (cells_of_head (head_in head))
+
+abbrev pub cause_of_end : Bool → Option Cause
+cause_of_end whole = if whole then None else Some Unended
+
+-- the digest line comes after the last cell
+abbrev pub sketch_grammar : LineGrammar
+sketch_grammar = record {
+  is_first = λ line. bytes_eq line sketch_header;
+  cause_of_previous = λ before line. if begins_digest line then cause_of_end (is_whole (drop 2 before)) else None;
+  cause_of = λ before line. cause_after (drop 2 before) line;
+}
+
+-- ---- the sketch of a file's lines
+
+abbrev pub no_head : Head
+no_head = record { layout = record { size = 0; salt = 0 }; digest = [] }
+
+abbrev pub no_tally : Tally
+no_tally = record { digests = 0; ones = [] }
+
+abbrev pub sketch_of_parts : Text → Head → Tally → List Cell → SketchModel
+sketch_of_parts log head tally cells = record { log = log; layout = head.layout; digest = head.digest; tally = tally; cells = cells }
+
+abbrev pub sketch_model_in : List (List ℕ) → SketchModel
+sketch_model_in [] = sketch_of_parts [] no_head no_tally []
+sketch_model_in (first ∷ []) = sketch_of_parts [] no_head no_tally []
+sketch_model_in (first ∷ second ∷ []) = sketch_of_parts [] no_head no_tally []
+sketch_model_in (first ∷ second ∷ head ∷ []) = sketch_of_parts [] no_head no_tally []
+sketch_model_in (first ∷ second ∷ head ∷ counts ∷ cells) =
+    sketch_of_parts (unwrap_or (log_in_line second) []) (unwrap_or (head_in head) no_head) (unwrap_or (tally_in counts) no_tally) (filter_map cell_in cells)
+
+-- ---- the verdict
+
+abbrev pub sketch_decided : ℕ → List ℕ → Option FileFault
+sketch_decided limit bytes = frame.decided sketch_grammar limit bytes
+
+abbrev pub sketch_model_or_fault : Result (List (List ℕ)) FileFault → Result SketchModel FileFault
+sketch_model_or_fault (Ok lines) = Ok (sketch_model_in lines)
+sketch_model_or_fault (Err fault) = Err fault
+
+abbrev pub sketch_verdict : ℕ → Bool → List ℕ → Result SketchModel FileFault
+sketch_verdict limit failed bytes = sketch_model_or_fault (frame.verdict sketch_grammar limit failed bytes)
+
+-- accepted is exactly the file of a sketch, within the limit
+abbrev pub AcceptsSketches : Type 0
+AcceptsSketches = (limit : ℕ) (bytes : List ℕ) (s : SketchModel) →
+    (sketch_verdict limit false bytes ≡ Ok s) ↔ ((bytes ≡ sketch_file s) × (length bytes ≤ limit) × IsSketch s)

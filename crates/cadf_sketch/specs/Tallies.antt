@@ -1,0 +1,40 @@
+-- Counts of a set's digests, by which another set guesses how far the two differ.
+--     tallied t d             the counts with one digest more
+--     tally_of ds             the counts of the digests
+--     cells_to_ask ours theirs    the cells to ask for: twice the guess, and 30, as a multiple of 3, within what a sketch may have
+use Rattle.std.specs.Prelude.{ℕ, zero, suc, ◌+◌, ◌-◌, ◌*◌, ◌/◌, ◌%◌, ◌^◌, min, List, [], ◌∷◌, length, get_or, replicate}
+use Rattle.cadf_sketch.specs.Cells.{word}
+use Rattle.cadf_sketch.specs.declared.tally.Tally.{Tally}
+
+-- each count with a bit of the word more, the highest bit first; a count has 64 bits
+abbrev pub with_bits : List ℕ → ℕ → List ℕ
+with_bits [] w = []
+with_bits (n ∷ ns) w = ((n + w / 2 ^ length ns % 2) % 2 ^ 64) ∷ with_bits ns w
+
+unfoldable pub tallied : Tally → List ℕ → Tally
+tallied t d = record { digests = (t.digests + 1) % 2 ^ 64; ones = with_bits t.ones (word d 0) }
+
+abbrev pub tallied_all : Tally → List (List ℕ) → Tally
+tallied_all t [] = t
+tallied_all t (d ∷ ds) = tallied_all (tallied t d) ds
+
+unfoldable pub tally_of : List (List ℕ) → Tally
+tally_of ds = tallied_all (record { digests = 0; ones = replicate 64 0 }) ds
+
+-- ---- the guess
+
+-- how far the bit's sum of +1 and -1 over the digests of one set is from that over the other, up to 2 ^ 24
+abbrev pub apart_at : Tally → Tally → ℕ → ℕ
+apart_at t u bit = min ((2 * get_or t.ones bit 0 + u.digests - (2 * get_or u.ones bit 0 + t.digests))
+    + (2 * get_or u.ones bit 0 + t.digests - (2 * get_or t.ones bit 0 + u.digests))) (2 ^ 24)
+
+abbrev pub squares : Tally → Tally → ℕ → ℕ
+squares t u zero = 0
+squares t u (suc bit) = squares t u bit + apart_at t u bit * apart_at t u bit
+
+-- the mean of the squares
+abbrev pub guess : Tally → Tally → ℕ
+guess t u = squares t u 64 / 64
+
+unfoldable pub cells_to_ask : Tally → Tally → ℕ
+cells_to_ask ours theirs = min ((2 * guess ours theirs + 32) / 3 * 3) (3 * 2 ^ 22)

@@ -1,0 +1,35 @@
+//! A short sketch of an inventory, from which someone who has most of it finds the rest.
+#![tactic(auto)]
+
+mod answer;
+mod cell;
+mod digest;
+mod flip;
+mod head;
+mod laws;
+mod layout;
+mod line_parts;
+mod numbers;
+mod peel;
+mod reading;
+mod sketch;
+mod sketch_lines;
+mod sketch_read;
+mod sketch_write;
+mod tally;
+mod turn;
+
+pub use answer::missing_by_sketch;
+pub use cell::Cell;
+pub use digest::inventory_digest;
+pub use head::Head;
+pub use laws::{
+    accepted_bytes_are_sketches, cells_are_what_stands_there, enough_cells_are_read,
+    read_is_what_was_sketched, sketch_file_is_injective, sketch_is_read_back,
+};
+pub use layout::Layout;
+pub use reading::{ReadFault, read};
+pub use sketch::Sketch;
+pub use sketch_read::read_sketch;
+pub use sketch_write::write_sketch;
+pub use tally::Tally;

@@ -1,0 +1,104 @@
+//! Finds the inventory that a sketch was made of.
+ghost use Rattle.std.specs.Prelude.{◌≡◌, ◌*◌, ◌↔◌, IfOk, IfErr, IsTrue, vec_len};
+ghost use Rattle.cadf_join.specs.Sets.{rising};
+ghost use Rattle.cadf_sketch.specs.Texts.{inventory_digest};
+ghost use Rattle.cadf_sketch.specs.Tallies.{tally_of, cells_to_ask};
+ghost use Rattle.cadf_sketch.specs.Refusals.{differing, IsPeeled, IsReadFault};
+
+use crate::cell::Cell;
+use crate::digest::inventory_digest;
+use crate::flip::flip;
+use crate::peel::peel;
+use crate::sketch::{Sketch, tally, turn_all};
+use cadf_json::Memory;
+use cadf_set::Inventory;
+use std::alloc::Global;
+use thiserror::Error;
+
+/// Why no inventory is read from a sketch.
+#[derive(Clone, Copy, Debug, PartialEq, Eq, Drop, Error)]
+pub enum ReadFault {
+    /// The sketch is of another log.
+    #[error("other log")]
+    OtherLog,
+    /// The sketch has too few cells for what differs, and how many to ask for, by a guess.
+    #[error("too few cells: ask for {0}")]
+    TooFewCells(u32),
+    /// An allocation failed.
+    #[error("out of memory")]
+    Memory,
+}
+
+impl From<Memory> for ReadFault {
+    ghost use Rattle.cadf_sketch.specs.declared.reading.ReadFault.TheVariants.{Memory as OutOfMemory};
+
+    ghost from_gives = { λ e f. f ≡ OutOfMemory };
+
+    fn from(_refused: Memory) -> Self {
+        ReadFault::Memory
+    }
+}
+
+/// Puts the own digests into the sketch's cells: those of both sides cancel.
+fn differing(alloc: Global, own: &Inventory, sketch: &Sketch) -> Result<Vec<Cell>, Memory>
+    ensures cells { IfOk result (λ cells. cells.items ≡ differing own.now sketch.now) }
+    ensures length { IfOk result (λ cells. vec_len cells ≡ 3 * sketch.now.layout.size) }
+{
+    let mut cells = Vec::from_slice(alloc, sketch.cells())?;
+    turn_all(&mut cells, own, sketch.layout());
+    Ok(cells)
+}
+
+/// Flips in the own inventory the digests that a peel finds.
+fn peeled(alloc: Global, own: &Inventory, sketch: &Sketch) -> Result<Inventory, Memory>
+    ensures { IfOk result (λ theirs. IsPeeled own.now sketch.now theirs) }
+{
+    let mut cells = differing(alloc, own, sketch)?;
+    let taken = peel(alloc, &mut cells, sketch.layout())?;
+    Ok(flip(alloc, own, taken.as_slice())?)
+}
+
+/// Returns whether the inventory is the sketched one, by its digest.
+fn is_of(alloc: Global, sketch: &Sketch, theirs: &Inventory) -> Result<bool, Memory>
+    ensures { IfOk result (λ is. IsTrue is ↔ (inventory_digest theirs.now ≡ sketch.now.digest)) }
+{
+    let digest = inventory_digest(alloc, theirs)?;
+    Ok(digest == *sketch.digest())
+}
+
+/// Returns whether both are of one log.
+fn is_log_of(own: &Inventory, sketch: &Sketch) -> bool
+    ensures { IsTrue result ↔ (own.now.log ≡ sketch.now.log) }
+{
+    own.log().as_str() == sketch.log().as_str()
+}
+
+/// Guesses how many cells are enough for what differs.
+fn cells_to_ask(own: &Inventory, sketch: &Sketch) -> u32
+    ensures { result ≡ cells_to_ask (tally_of (rising own.now.digests)) sketch.now.tally }
+{
+    tally(own).cells_to_ask(sketch.tally())
+}
+
+/// Finds the inventory that the sketch was made of, by one that has most of it.
+///
+/// # Errors
+///
+/// `OtherLog` if the sketch is of another log, `TooFewCells` if what a peel finds doesn't lead to the sketched
+/// inventory, `Memory` if an allocation fails.
+pub fn read(alloc: Global, own: &Inventory, sketch: &Sketch) -> Result<Inventory, ReadFault>
+    ensures log { IfOk result (λ theirs. (own.now.log ≡ sketch.now.log) × (theirs.log ≡ sketch.now.log)) }
+    ensures digest { IfOk result (λ theirs. inventory_digest theirs ≡ sketch.now.digest) }
+    ensures err { IfErr result (IsReadFault own.now sketch.now) }
+{
+    if !is_log_of(own, sketch) {
+        return Err(ReadFault::OtherLog);
+    }
+    let theirs = peeled(alloc, own, sketch)?;
+    let found = is_of(alloc, sketch, &theirs)?;
+    if found {
+        Ok(theirs)
+    } else {
+        Err(ReadFault::TooFewCells(cells_to_ask(own, sketch)))
+    }
+}

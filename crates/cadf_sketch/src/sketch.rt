@@ -1,0 +1,154 @@
+//! A sketch of an inventory.
+ghost use Rattle.std.specs.Prelude.{◌≡◌, ◌*◌, IfOk, length, replicate};
+ghost use Rattle.cadf_join.specs.Sets.{rising};
+ghost use Rattle.cadf_sketch.specs.Cells.{nothing, turned_all};
+ghost use Rattle.cadf_event.specs.Known.{IsNameText};
+ghost use Rattle.cadf_sketch.specs.SketchFile.{HasParts};
+ghost use Rattle.cadf_sketch.specs.Sketches.{sketch_of};
+ghost use Rattle.cadf_sketch.specs.SketchVerdict.{sketch_of_parts};
+ghost use Rattle.cadf_sketch.specs.Tallies.{tally_of};
+
+use crate::cell::Cell;
+use crate::digest::inventory_digest;
+use crate::head::Head;
+use crate::layout::Layout;
+use crate::tally::Tally;
+use crate::turn::turn;
+use cadf_event::Name;
+use cadf_json::Memory;
+use cadf_set::Inventory;
+use std::alloc::Global;
+use std::marker::Model;
+
+/// What a sketch has of an inventory: its log, its digest, counts of its digests, and the cells of three tables.
+#[derive(Drop)]
+pub struct Sketch {
+    log: Name,
+    layout: Layout,
+    digest: [u8; 32],
+    tally: Tally,
+    cells: Vec<Cell>,
+}
+
+impl Model for Sketch {
+    ghost use Rattle.cadf_sketch.specs.Sketches.{SketchModel, coded_sketch};
+    ghost use Rattle.cadf_sketch.specs.SketchFile.{HasParts};
+
+    ghost Value = { SketchModel };
+
+    ghost coded = { coded_sketch };
+
+    ghost view = { λ s. record { log = s.log; layout = s.layout; digest = s.digest; tally = s.tally; cells = s.cells.items } };
+
+    ghost invariant = { λ s. HasParts (record { log = s.log; layout = s.layout; digest = s.digest; tally = s.tally; cells = s.cells.items }) };
+}
+
+/// Makes cells without a digest.
+fn empty_cells(alloc: Global, count: usize) -> Result<Vec<Cell>, Memory>
+    ensures { IfOk result (λ cells. cells.items ≡ replicate count nothing) }
+{
+    Ok(Vec::from_elem(alloc, Cell::EMPTY, count)?)
+}
+
+/// Puts each digest of the inventory into its cells, or takes it out of them.
+pub(crate) fn turn_all(cells: &mut [Cell], inventory: &Inventory, layout: Layout)
+    requires { length cells.old ≡ 3 * layout.size }
+    ensures cells { cells.new ≡ turned_all cells.old (rising inventory.now.digests) layout }
+    ensures length { length cells.new ≡ length cells.old }
+{
+    for digest in inventory.digests() {
+        turn(cells, digest, layout);
+    }
+}
+
+/// Counts the inventory's digests.
+#[tactic(auto, unfolding(crate::specs::Tallies::tally_of))]
+pub(crate) fn tally(inventory: &Inventory) -> Tally
+    ensures { result ≡ tally_of (rising inventory.now.digests) }
+{
+    let mut tally = Tally::EMPTY;
+    for digest in inventory.digests() {
+        tally.count(digest);
+    }
+    tally
+}
+
+impl Sketch {
+    /// Makes the sketch of the inventory.
+    pub fn of(alloc: Global, inventory: &Inventory, layout: Layout) -> Result<Sketch, Memory>
+        ensures { IfOk result (λ s. s ≡ sketch_of inventory.now layout) }
+    {
+        inventory.type_invariant();
+        layout.type_invariant();
+        let mut cells = empty_cells(alloc, layout.cells())?;
+        turn_all(&mut cells, inventory, layout);
+        let digest = inventory_digest(alloc, inventory)?;
+        Ok(Sketch {
+            log: inventory.log().copy(alloc)?,
+            layout,
+            digest,
+            tally: tally(inventory),
+            cells,
+        })
+    }
+
+    /// Makes the sketch of these parts.
+    pub(crate) fn from_parts(log: Name, head: Head, tally: Tally, cells: Vec<Cell>) -> Sketch
+        requires { HasParts (sketch_of_parts log head tally cells.items) }
+        ensures { result ≡ sketch_of_parts log head tally cells.items }
+    {
+        let Head { layout, digest } = head;
+        Sketch {
+            log,
+            layout,
+            digest,
+            tally,
+            cells,
+        }
+    }
+
+    /// States the type invariant of a sketch: what its file can hold. Does nothing.
+    pub fn type_invariant(&self)
+        ensures log { IsNameText self.now.log }
+        ensures parts { HasParts self.now }
+    {
+        self.log.type_invariant();
+        let _cells = &self.cells;
+    }
+
+    /// Returns the identifier of the log.
+    pub fn log(&self) -> &Name
+        ensures { result.now ≡ self.now.log }
+    {
+        &self.log
+    }
+
+    /// Returns how the cells are laid out.
+    pub fn layout(&self) -> Layout
+        ensures value { result ≡ self.now.layout }
+        ensures cells { length self.now.cells ≡ 3 * result.size }
+    {
+        self.layout
+    }
+
+    /// Returns the digest of the inventory's file.
+    pub fn digest(&self) -> &[u8; 32]
+        ensures { result.now ≡ self.now.digest }
+    {
+        &self.digest
+    }
+
+    /// Returns the counts of the inventory's digests.
+    pub fn tally(&self) -> &Tally
+        ensures { result.now ≡ self.now.tally }
+    {
+        &self.tally
+    }
+
+    /// Returns the cells, table after table.
+    pub fn cells(&self) -> &[Cell]
+        ensures { result.now ≡ self.now.cells }
+    {
+        self.cells.as_slice()
+    }
+}

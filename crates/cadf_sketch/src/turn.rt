@@ -1,0 +1,25 @@
+//! Puts digests into the cells of a sketch, or takes them out.
+ghost use Rattle.std.specs.Prelude.{◌≡◌, ◌<◌, ◌*◌, ◌^◌, length};
+ghost use Rattle.cadf_sketch.specs.Cells.{mixed_at, turned};
+
+use crate::cell::{Cell, place_in};
+use crate::layout::Layout;
+
+/// Puts the digest into the cell at that place, or takes it out.
+fn mix_at(cells: &mut [Cell], place: usize, digest: &[u8; 32])
+    requires { place < length cells.old }
+    ensures { cells.new ≡ mixed_at cells.old place digest.now }
+{
+    cells[place].mix(digest);
+}
+
+/// Puts the digest into its cell of each table, or takes it out.
+#[tactic(auto, unfolding(crate::specs::Cells::turned))]
+pub(crate) fn turn(cells: &mut [Cell], digest: &[u8; 32], layout: Layout)
+    requires cells { length cells.old ≡ 3 * layout.size }
+    ensures { cells.new ≡ turned cells.old digest.now layout }
+{
+    mix_at(cells, place_in(0, digest, layout), digest);
+    mix_at(cells, place_in(1, digest, layout), digest);
+    mix_at(cells, place_in(2, digest, layout), digest);
+}

@@ -1,0 +1,100 @@
+"""The library for C: its archive, what is linked of it, and the files of it that are installed.
+
+The archive that is installed has the kit's allocator in it, so `-lcadf` alone links; it and the shared library show `cadf_*`
+and nothing else. install/library makes the archive that both are linked of.
+"""
+import os
+import re
+import shutil
+import subprocess
+import sys
+import tempfile
+from typing import NamedTuple
+
+import contents
+import record
+
+CRATE = "cadf_c"
+BINDINGS, PACKAGE = "bindings/c", "bindings/python"
+SONAME = "libcadf.so.0"
+# What is linked: no relocation in the code, nothing left to find, and no symbol to bind later.
+SHARED = ["-shared", "-Wl,-soname," + SONAME, "-Wl,-z,noexecstack", "-Wl,-z,text", "-Wl,-z,defs", "-Wl,-z,relro", "-Wl,-z,now"]
+
+
+class Link(NamedTuple):
+    """A symbolic link to install, and the name in the same folder to which it leads."""
+    place: str
+    name: str
+
+
+def archive(top):
+    """What install/library makes."""
+    return os.path.join(top, "crates", CRATE, "out", "lib%s.a" % CRATE)
+
+
+def built(top):
+    """The record of what the archive was made of."""
+    return archive(top) + ".built"
+
+
+def version(top):
+    """The version of the package for Python, which is that of the library too."""
+    with open(os.path.join(top, PACKAGE, "pyproject.toml"), encoding="utf-8") as file:
+        return re.search(r'(?m)^version = "(.*)"$', file.read()).group(1)
+
+
+def why_not(top, names):
+    """Why the archive is not that of the sources as they are; None where it is."""
+    found = record.read_file(built(top))
+    if not os.path.exists(archive(top)) or not found:
+        return "there is no %s" % os.path.relpath(archive(top), top)
+    if found.get("archive") != record.digest_of_file(archive(top)):
+        return "%s is not what install/library left there" % os.path.relpath(archive(top), top)
+    if found.get("sources") != record.digest_of_sources(top, names):
+        return "%s was built of other sources" % os.path.relpath(archive(top), top)
+    return None
+
+
+def link(top, folder):
+    """Links libcadf.a and the shared library in the folder, by gcc and binutils. Raises CalledProcessError."""
+    def run(*words):
+        subprocess.run(words, cwd=folder, stdin=subprocess.DEVNULL, check=True)
+
+    allocator = os.path.join(record.kit_folder(top), "c", "liblibc_c.a")
+    run("ld", "-r", "-o", "cadf.o", "--whole-archive", archive(top), allocator)
+    run("objcopy", "--wildcard", "--keep-global-symbol=cadf_*", "cadf.o")
+    run("ar", "rcsD", "libcadf.a", "cadf.o")
+    script = "-Wl,--version-script," + os.path.join(top, BINDINGS, "cadf.map")
+    run("gcc", *SHARED, script, "-o", SONAME, "cadf.o")
+    os.remove(os.path.join(folder, "cadf.o"))
+
+
+def files(top):
+    """Yields what is installed of the library, by its place under the prefix."""
+    number = version(top)
+    shared = "libcadf.so." + number
+    with tempfile.TemporaryDirectory() as folder:
+        link(top, folder)
+        yield contents.file_of(folder, "libcadf.a", "lib/libcadf.a", 0o644)
+        yield contents.file_of(folder, SONAME, "lib/" + shared, 0o644)
+    yield Link("lib/" + SONAME, shared)
+    yield Link("lib/libcadf.so", SONAME)
+    yield contents.file_of(top, BINDINGS + "/cadf.h", "include/cadf.h")
+    facts = contents.file_of(top, BINDINGS + "/cadf.pc", "lib/pkgconfig/cadf.pc")
+    yield facts._replace(content=facts.content.replace(b"@VERSION@", number.encode()))
+    for name in contents.names_below(top, "bindings"):
+        yield contents.file_of(top, name, "%s/%s" % (contents.DOC, name))
+
+
+def wheel(top, folder):
+    """Makes the wheel of the package for Python, with the shared library in it. Returns its name. Raises CalledProcessError."""
+    with tempfile.TemporaryDirectory() as room:
+        for name in contents.names_below(top, PACKAGE):
+            place = os.path.join(room, os.path.relpath(name, PACKAGE))
+            os.makedirs(os.path.dirname(place), exist_ok=True)
+            shutil.copyfile(os.path.join(top, name), place)
+        with tempfile.TemporaryDirectory() as made:
+            link(top, made)
+            shutil.copyfile(os.path.join(made, SONAME), os.path.join(room, "cadf", SONAME))
+        words = [sys.executable, "-c", "import backend, sys; print(backend.build_wheel(sys.argv[1]))", os.path.abspath(folder)]
+        return subprocess.run(words, cwd=room, stdin=subprocess.DEVNULL, stdout=subprocess.PIPE, check=True).stdout.decode().strip()
