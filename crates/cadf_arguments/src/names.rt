@@ -1,6 +1,6 @@
 //! Names and letters.
 ghost use Rattle.std.specs.Prelude.{◌≡◌, ◌⊎◌, true, is_ok, IfOk, IfErr, encode_utf8};
-ghost use Rattle.cadf_event.specs.Kinds.{is_name};
+ghost use Rattle.cadf_event.specs.Names.{is_name};
 ghost use Rattle.cadf_line.specs.RulingTexts.{is_value_letter};
 
 use crate::fault::ArgumentFault;

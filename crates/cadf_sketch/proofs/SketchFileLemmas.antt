@@ -43,7 +43,7 @@ use Rattle.std.proofs.lemmas.Str.{is_utf8-from_IsUtf8}
 use Rattle.std.proofs.lemmas.Str.Parse.{tells_digits}
 use Rattle.std.proofs.lemmas.Fmt.{digits_decimal}
 use Rattle.std.proofs.lemmas.Bool.{eqb-true, eq-eqb, lt-ltb}
-use Rattle.cadf_event.specs.Kinds.{is_name}
+use Rattle.cadf_event.specs.Names.{is_name}
 use Rattle.cadf_event.specs.Known.{IsNameText}
 use Rattle.cadf_event.specs.LogName.{is_name_text, is_unbroken}
 use Rattle.cadf_event.proofs.LogNameLemmas.{unbroken_quoted, both_unbroken}
