@@ -1,4 +1,4 @@
-//! A place in a tree of prefixes.
+//! A node of a tree of prefixes.
 ghost use Rattle.std.specs.Prelude.{◌≡◌, ◌++◌, [], ◌∷◌, ◌↔◌, OnOk, OnErr, IfOk, IsTrue, length, not, map};
 ghost use Rattle.cadf_join.specs.Sets as set;
 ghost use Rattle.cadf_join.specs.Contents.{IsBetween, IsWithin, under, suffixes_of};
@@ -16,7 +16,8 @@ use std::cmp::Ordering;
 use std::collections::BTreeMap;
 use std::marker::Model;
 
-/// A place in the tree: whether a chain ends there, and the nodes that its chains go on to. Each of these has a chain behind it.
+/// A node of the tree: whether a chain ends there, and its children by the texts that lead to them. Each child has a
+/// chain at or below it.
 #[derive(Drop)]
 pub struct Node {
     ends: bool,
@@ -44,7 +45,7 @@ impl Model for Node {
 }
 
 impl Node {
-    /// The empty tree.
+    /// Makes an empty tree.
     pub(crate) fn new(alloc: Global) -> Node
         ensures { result ≡ set.empty }
     {
@@ -54,7 +55,7 @@ impl Node {
         }
     }
 
-    /// Whether the chain follows the path to this node.
+    /// Returns whether `chain` is among the chains at and below this node.
     pub(crate) fn contains(&self, chain: &[String]) -> bool
         ensures { result ≡ set.contains self.now (chain_texts chain.now) }
     {
@@ -67,7 +68,7 @@ impl Node {
         }
     }
 
-    /// Adds the chain behind this node, and tells whether it is new.
+    /// Adds `chain` to those at and below this node, and returns whether it is new. After `Memory` the node is as before.
     #[cycle(insert)]
     pub(crate) fn insert(&mut self, alloc: Global, chain: &[String]) -> Result<bool, Memory>
         ensures added { IfOk result (λ new. new ≡ not (set.contains self.old (chain_texts chain.now))) }
@@ -84,7 +85,7 @@ impl Node {
         }
     }
 
-    /// Adds the chain of the text and the rest, and tells whether it is new.
+    /// Adds the chain of `text` and `rest`, and returns whether it is new. After `Memory` the node is as before.
     #[cycle(insert)]
     fn insert_below(&mut self, alloc: Global, text: &str, rest: &[String]) -> Result<bool, Memory>
         ensures added { IfOk result (λ new. new ≡ not (set.contains self.old (text.now ∷ chain_texts rest.now))) }
@@ -100,7 +101,7 @@ impl Node {
         Ok(true)
     }
 
-    /// Adds what `other` has.
+    /// Adds the chains of `other`. After `Memory` some of them may have been added.
     #[cycle(join)]
     pub(crate) fn join(&mut self, alloc: Global, other: &Node) -> Result<(), Memory>
         ensures ok { OnOk result (self.new ≡ set.union self.old other.now) }
@@ -113,7 +114,7 @@ impl Node {
         Ok(())
     }
 
-    /// Adds what `theirs`, which isn't empty, has behind the text.
+    /// Adds the chains of `theirs`, which isn't empty, below `text`. After `Memory` some of them may have been added.
     #[cycle(join)]
     fn join_below(&mut self, alloc: Global, text: &str, theirs: &Node) -> Result<(), Memory>
         requires { theirs.now ≡ set.empty → ⊥ }
@@ -137,14 +138,14 @@ impl Node {
         Ok(copied)
     }
 
-    /// Whether there are no chains.
+    /// Returns whether there are no chains.
     pub(crate) fn is_empty(&self) -> bool
         ensures { IsTrue result ↔ (self.now ≡ set.empty) }
     {
         !self.ends && self.next.is_empty()
     }
 
-    /// Puts a child that isn't empty at a text where there is none.
+    /// Inserts a child that isn't empty at a text that has none. After `Memory` the node is as before.
     fn put_below(&mut self, alloc: Global, text: &str, child: Node) -> Result<(), Memory>
         requires other { child ≡ set.empty → ⊥ }
         requires none { suffixes_of self.old text.now ≡ set.empty }
@@ -155,7 +156,7 @@ impl Node {
         Ok(())
     }
 
-    /// What is here and not in `other`, where there is one.
+    /// Returns the chains that are here and not in `other`, or all of them if there is no `other`.
     #[cycle(without)]
     fn without_found(&self, alloc: Global, other: Option<&Node>) -> Result<Node, Memory>
         ensures { IfOk result (λ n. n ≡ set.difference self.now (held (λ s. s) (option_copied other.entry))) }
@@ -166,7 +167,7 @@ impl Node {
         }
     }
 
-    /// What is here and not in `other`.
+    /// Returns the chains that are here and not in `other`.
     #[cycle(without)]
     pub(crate) fn without(&self, alloc: Global, other: &Node) -> Result<Node, Memory>
         ensures { IfOk result (λ n. n ≡ set.difference self.now other.now) }
@@ -184,7 +185,7 @@ impl Node {
         Ok(left)
     }
 
-    /// The number of chains behind this node, or `u64::MAX` where there are more.
+    /// Counts the chains at and below this node, at most `u64::MAX`.
     pub(crate) fn count(&self) -> u64
         ensures { result ≡ saturated (length (set.rising self.now)) }
     {
@@ -195,7 +196,7 @@ impl Node {
         count
     }
 
-    /// Adds to `chains` each chain that begins with the path to this node, in order.
+    /// Appends to `chains` each chain at and below this node, after `path`, in order.
     pub(crate) fn walk(
         &self,
         alloc: Global,
@@ -217,7 +218,8 @@ impl Node {
         Ok(())
     }
 
-    /// Finds the longest chain that begins with the path to this node, the first of equally long ones, unless the one found so far is as long.
+    /// Replaces `found` by the longest chain at and below this node, after `path`, if that is longer. Of equally long
+    /// chains the first counts.
     pub(crate) fn longest(
         &self,
         alloc: Global,
@@ -239,8 +241,8 @@ impl Node {
         Ok(())
     }
 
-    /// Goes on with the path along the least chain behind this node that is above the given list, or is that list where this counts too.
-    /// Tells whether there is one; where there is none the path is as before.
+    /// Extends the path by the least chain at or below this node that is above `given`, or equal to it if `or_equal`.
+    /// Returns whether there is one. If there is none, the path is as before.
     #[cycle(seek)]
     pub(crate) fn seek(
         &self,
@@ -262,7 +264,7 @@ impl Node {
         Ok(false)
     }
 
-    /// The same among the chains of the text that leads here and those behind this node.
+    /// Seeks as `seek` does, among the chains that begin with `text`, which leads to this node.
     #[cycle(seek)]
     fn seek_behind(
         &self,
@@ -286,7 +288,8 @@ impl Node {
         }
     }
 
-    /// The same as `seek`, from the node above: the path goes on with the text that leads here first.
+    /// Appends `text`, which leads to this node, to the path, and seeks here. If there is no such chain, the path is as
+    /// before.
     #[cycle(seek)]
     fn seek_on(
         &self,
@@ -308,7 +311,7 @@ impl Node {
         Ok(false)
     }
 
-    /// Whether `other` has all that is here.
+    /// Returns whether `other` has all chains of this node.
     pub(crate) fn is_within(&self, other: &Node) -> bool
         ensures { IsTrue result ↔ IsWithin self.now other.now }
     {
@@ -327,7 +330,7 @@ impl Node {
     }
 }
 
-/// Whether the chain is longer than the one found so far, where one was found.
+/// Returns whether the chain is longer than the one found so far. Any chain is, if none was found.
 fn is_longer(chain: &[String], found: &Option<Vec<String>>) -> bool
     ensures { result ≡ longer_than (texts_found found.now) (chain_texts chain.now) }
 {
@@ -337,7 +340,7 @@ fn is_longer(chain: &[String], found: &Option<Vec<String>>) -> bool
     }
 }
 
-/// Takes the chain in place of the one found so far, where it is longer.
+/// Replaces the chain found so far by a copy of `chain`, if that is longer.
 fn take_longer(
     alloc: Global,
     chain: &[String],

@@ -15,7 +15,8 @@ use std::alloc::Global;
 use std::collections::BTreeMap;
 use std::marker::Model;
 
-/// Values by their keys; maps nest. Its contents are those of each value, each list behind its key. No key is held whose value is empty.
+/// A map from keys to values; maps nest. Its contents are those of each value, each list after its key. No key has an
+/// empty value.
 #[derive(Drop)]
 pub struct JoinMap<V: Join> {
     parts: BTreeMap<String, V>,
@@ -35,7 +36,7 @@ impl<V: Join> Model for JoinMap<V> {
 }
 
 impl<V: Join> JoinMap<V> {
-    /// An empty map, which grows in that allocator. Takes no memory.
+    /// Makes an empty map that uses this allocator. Allocates nothing.
     pub fn new(alloc: Global) -> JoinMap<V>
         ensures empty { contents_at V.contents result ≡ set.empty }
         ensures no_key { result ≡ fin.empty }
@@ -46,7 +47,7 @@ impl<V: Join> JoinMap<V> {
         }
     }
 
-    /// The value at the key, which is not empty.
+    /// Returns the value at the key, which is not empty, or `None` if the key is absent.
     pub fn get(&self, key: &str) -> Option<&V>
         ensures part { held V.contents (option_copied result) ≡ suffixes_of (contents_at V.contents self.now) key.now }
         ensures some { IfSome result (λ v. V.contents v.now ≡ set.empty → ⊥) }
@@ -54,8 +55,8 @@ impl<V: Join> JoinMap<V> {
         self.parts.get(key)
     }
 
-    /// Joins a value into that of the key. An empty value changes nothing.
-    /// After an `Err` the other keys are as before and this one lies between.
+    /// Joins a value into that of the key. An empty value changes nothing. After an `Err` the other keys are as before,
+    /// and this one lies between.
     pub fn join_at(&mut self, key: &str, value: &V) -> Result<(), Memory>
         ensures ok { OnOk result (contents_at V.contents self.new ≡ set.union (contents_at V.contents self.old) (under key.now (V.contents value.now))) }
         ensures err { OnErr result (IsBetween (contents_at V.contents self.old) (contents_at V.contents self.new)
@@ -68,7 +69,7 @@ impl<V: Join> JoinMap<V> {
         self.put_new(key, part)
     }
 
-    /// Joins a value into that of the key, where the key is held, and tells whether it is.
+    /// Joins a value into that of the key, if the key is present, and returns whether it is.
     fn join_held(&mut self, key: &str, value: &V) -> Result<bool, Memory>
         ensures joined { result ≡ Ok true
             → contents_at V.contents self.new ≡ set.union (contents_at V.contents self.old) (under key.now (V.contents value.now)) }
@@ -83,7 +84,7 @@ impl<V: Join> JoinMap<V> {
         Ok(true)
     }
 
-    /// Puts a value at a key that is not held. An empty one changes nothing.
+    /// Inserts a value at a key that is absent. An empty value changes nothing.
     fn put_new(&mut self, key: &str, value: V) -> Result<(), Memory>
         requires { fin.get self.old key.now ≡ None }
         ensures ok { OnOk result (contents_at V.contents self.new ≡ set.union (contents_at V.contents self.old) (under key.now (V.contents value))) }
@@ -95,7 +96,8 @@ impl<V: Join> JoinMap<V> {
         self.put(key, value)
     }
 
-    /// The least key above the given text, held or not, by their bytes, or the least of all for `None`. Walks all keys before it.
+    /// Returns the least key above the given text, which may be absent; for `None` the least of all. Keys are ordered
+    /// by their bytes. `None` if there is no such key. Walks all keys before it.
     pub fn after(&self, text: Option<&str>) -> Option<&str>
         ensures { option_copied result ≡ next_after (heads (contents_at V.contents self.now)) (option_copied text.entry) }
     {
@@ -107,7 +109,7 @@ impl<V: Join> JoinMap<V> {
         None
     }
 
-    /// Puts a value that is not empty at the key.
+    /// Inserts a value that is not empty at the key. After an `Err` the map is as before.
     fn put(&mut self, key: &str, value: V) -> Result<(), Memory>
         requires { V.contents value ≡ set.empty → ⊥ }
         ensures ok { OnOk result (Puts self.old self.new key.now value) }
@@ -118,7 +120,7 @@ impl<V: Join> JoinMap<V> {
         Ok(())
     }
 
-    /// Whether each key has the same contents in `other`.
+    /// Returns whether each key has the same contents in `other`.
     fn agrees_with(&self, other: &JoinMap<V>) -> bool
         ensures { IsTrue result ↔ ((k : Text) (v : V) → fin.get self.now k ≡ Some v → V.contents v ≡ held V.contents (fin.get other.now k)) }
     {
@@ -133,7 +135,7 @@ impl<V: Join> JoinMap<V> {
         true
     }
 
-    /// Whether each key of `other` is held.
+    /// Returns whether each key of `other` is present.
     fn has_keys_of(&self, other: &JoinMap<V>) -> bool
         ensures test { IsTrue result ↔ ((k : Text) → IsSome (fin.get other.now k) → IsSome (fin.get self.now k)) }
         ensures none_empty { NoneIsEmpty V.contents other.now }
@@ -147,7 +149,8 @@ impl<V: Join> JoinMap<V> {
     }
 }
 
-/// What a value lacks in the other one, or in nothing.
+/// Returns what the value has and the other one lacks, or a copy of it if there is no other. `None` if nothing is
+/// missing.
 fn missing_part<V: Join>(part: &V, other: Option<&V>) -> Result<Option<V>, Memory>
     requires { V.contents part.now ≡ set.empty → ⊥ }
     ensures { IfOk result (PartMissing V.contents V.is_contents (Some part.now) (option_copied other.entry)) }

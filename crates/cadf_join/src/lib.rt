@@ -20,13 +20,13 @@ use std::alloc::AllocError;
 pub use text_set::TextSet;
 pub use walk::{Visitor, Walk};
 
-/// The allocator refused to allocate.
+/// The error of a failed allocation.
 pub type Memory = AllocError;
 
-/// A set of lists of texts that only grows. Values join in any order, grouping and repetition with the same outcome.
+/// A grow-only set of lists of texts, a join-semilattice: `join` is commutative, associative and idempotent.
 ///
-/// In a call that answers `Memory` an allocation failed: what it was to change lies between what it was and what it was to be,
-/// and the same call again may succeed.
+/// A call returns `Memory` if an allocation failed. What it was to change then lies between what it was and what it was
+/// to be, and the same call may succeed later.
 pub trait Join: Drop {
     /// The lists that a value holds.
     ghost contents: { Self → Contents };
@@ -34,12 +34,12 @@ pub trait Join: Drop {
     /// Which sets are the contents of a value.
     ghost is_contents: { Contents → Type 0 };
 
-    /// Adds all that `other` holds.
+    /// Adds all lists of `other`. After an `Err` some of them may have been added.
     fn join(&mut self, other: &Self) -> Result<(), Memory>
         ensures ok { OnOk result (contents self.new ≡ set.union (contents self.old) (contents other.now)) }
         ensures err { OnErr result (IsBetween (contents self.old) (contents self.new) (set.union (contents self.old) (contents other.now))) };
 
-    /// The least value that holds what `other` lacks, or `None` where it lacks nothing.
+    /// Returns the least value that has what `other` lacks. `None` if and only if `other` lacks nothing.
     fn missing_from(&self, other: &Self) -> Result<Option<Self>, Memory>
         ensures some { IfOk result (λ part. is_some part ≡ not (set.is_subset (contents self.now) (contents other.now))) }
         ensures least { IfOk result (λ part. IfSome part (λ v. IsLeastWith is_contents
@@ -49,19 +49,19 @@ pub trait Join: Drop {
     fn copy(&self) -> Result<Self, Memory>
         ensures { IfOk result (λ v. contents v ≡ contents self.now) };
 
-    /// Whether both hold the same.
+    /// Returns whether both have the same contents.
     fn same(&self, other: &Self) -> bool
         ensures { IsTrue result ↔ (contents self.now ≡ contents other.now) };
 
-    /// Whether nothing is held.
+    /// Returns whether there are no lists.
     fn is_empty(&self) -> bool
         ensures { IsTrue result ↔ (contents self.now ≡ set.empty) };
 
-    /// The number of lists, or `u64::MAX` where there are more.
+    /// Counts the lists, at most `u64::MAX`.
     fn list_count(&self) -> u64
         ensures { result ≡ saturated (length (set.rising (contents self.now))) };
 
-    /// Adds to `lists` each list, behind the prefix, in order.
+    /// Appends to `lists` each list, after the prefix, in order.
     fn append_lists(&self, prefix: &[String], lists: &mut Vec<Vec<String>>) -> Result<(), Memory>
         ensures { OnOk result (all_texts lists.new.items
             ≡ all_texts lists.old.items ++ continued (chain_texts prefix.now) (set.rising (contents self.now))) };

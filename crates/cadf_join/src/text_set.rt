@@ -11,7 +11,7 @@ use std::alloc::Global;
 use std::collections::BTreeSet;
 use std::marker::Model;
 
-/// A set of texts that only grows. Its contents are lists of one text each.
+/// A grow-only set of texts. Its contents are lists of one text each.
 #[derive(Drop)]
 pub struct TextSet {
     texts: BTreeSet<String>,
@@ -31,7 +31,7 @@ impl Model for TextSet {
 }
 
 impl TextSet {
-    /// An empty set, which grows in that allocator. Takes no memory.
+    /// Makes an empty set that uses this allocator. Allocates nothing.
     pub fn new(alloc: Global) -> TextSet
         ensures { result ≡ set.empty }
     {
@@ -54,14 +54,15 @@ impl TextSet {
         Ok(true)
     }
 
-    /// Whether the set has the text.
+    /// Returns whether the set has the text.
     pub fn contains(&self, text: &str) -> bool
         ensures { result ≡ set.contains self.now text.now }
     {
         self.texts.contains(text)
     }
 
-    /// The least text above the given one, held or not, by their bytes, or the least of all for `None`. Walks all texts before it.
+    /// Returns the least text above the given one, which may be absent; for `None` the least of all. Texts are ordered
+    /// by their bytes. `None` if there is no such text. Walks all texts before it.
     pub fn after(&self, text: Option<&str>) -> Option<&str>
         ensures { option_copied result ≡ next_after self.now (option_copied text.entry) }
     {
@@ -74,7 +75,7 @@ impl TextSet {
     }
 }
 
-/// Whether the text comes after the given one, as each does where none is given.
+/// Returns whether the text is greater than the given one. Each is, if none is given.
 pub(crate) fn is_after(given: Option<&str>, text: &str) -> bool
     ensures { result ≡ is_after text_cmp (option_copied given.entry) text.now }
 {

@@ -1,4 +1,4 @@
-//! A value's lists in order, each shown in its place without being made.
+//! A value's lists in order, each shown to a visitor without a copy.
 ghost use Rattle.std.specs.Prelude.{◌≡◌, ◌≤◌, ◌++◌, ◌∷◌, [], ℕ, List, OnOk, IfErr, length, take};
 ghost use Rattle.std.specs.declared.alloc.AllocError.{AllocError};
 ghost use Rattle.cadf_join.specs.Contents.{Texts};
@@ -6,7 +6,7 @@ ghost use Rattle.cadf_join.specs.Prefixes.{rising_behind, texts_at};
 
 use crate::{Join, Memory};
 
-/// What is shown lists in turn.
+/// A visitor of lists.
 pub trait Visitor {
     /// Why it stops: a reason of its own, or `Memory`.
     type Fault: From<Memory>;
@@ -17,10 +17,10 @@ pub trait Visitor {
     /// Stopping for that reason, while those lists were to be shown, leads from the one state to the other.
     ghost stops: { Self → List Texts → Self.Fault → Self → Type 0 };
 
-    /// What it has kept of the list before is true of the first texts of this list, so many of them.
+    /// What the visitor has kept of the previous list is true of the first texts of this list, of that many of them.
     ghost keeps: { Self → ℕ → Texts → Type 0 };
 
-    /// Takes the list, whose first `shared` texts are those of the list before; 0 for the first list of a walk.
+    /// Takes the list, whose first `shared` texts are those of the previous list; 0 for the first list of a walk.
     fn visit(&mut self, list: &[&str], shared: usize) -> Result<(), Self::Fault>
         requires within { shared ≤ length list.now }
         requires keeps { keeps self.old shared (texts_at list.now) }
@@ -28,14 +28,14 @@ pub trait Visitor {
         ensures err { IfErr result (λ f. stops self.old (texts_at list.now ∷ []) f self.new) }
         ensures keeps { OnOk result (keeps self.new (length list.now) (texts_at list.now)) };
 
-    /// It need have kept nothing of a list that shares nothing.
+    /// The visitor need not have kept anything for a list that shares nothing.
     ghost keeps_none: { (v : Self) (list : Texts) → keeps v 0 list };
 
     /// What is true of a list is true of the first texts that another shares with it.
     ghost keeps_shared: { (v : Self) (before list : Texts) (n : ℕ) → keeps v (length before) before → n ≤ length before → n ≤ length list
         → take n before ≡ take n list → keeps v n list };
 
-    /// Where no list is shown the state stays.
+    /// If no list is shown, the state stays.
     ghost takes_none: { (v : Self) → takes v [] v };
 
     /// What is shown in two turns is shown in one.
@@ -51,10 +51,10 @@ pub trait Visitor {
     ghost stops_before: { (u v : Self) (xs ys : List Texts) (f : Self.Fault) → stops u xs f v → stops u (xs ++ ys) f v };
 }
 
-/// A value of `Join` that shows its lists.
+/// A value of `Join` whose lists a visitor can be shown.
 pub trait Walk: Join {
-    /// Shows each list, behind the path, in order, with how many texts it shares with the list before, until the visitor stops.
-    /// No text is copied.
+    /// Shows each list, after the path, in order, with the number of texts that it shares with the previous list. Stops
+    /// at the visitor's first fault. Copies no text.
     fn walk<'a, S: Visitor>(
         &'a self,
         path: &mut Vec<&'a str>,

@@ -34,7 +34,7 @@ use Rattle.cadf_json.proofs.Rewriting.{get-put}
 use Rattle.cadf_json.proofs.Turns.{member_read, members_over}
 use Rattle.cadf_json.proofs.Splits.{put-again, put-swaps}
 
--- the members with the list that was taken, where it was
+-- the members with the list that was taken, if one was
 abbrev pub with_list : List ℕ → Option Items → Members → Members
 with_list name None ms = ms
 with_list name (Some es) ms = put name (array es) ms

@@ -1,8 +1,8 @@
--- What holds of an optional value wherever there is one.
+-- What holds of an optional value whenever there is one.
 use Rattle.std.proofs.Common.{Option, Some, None, option_map, option_and_then}
 use Rattle.std.specs.Prelude.{⊤}
 
--- the value, where there is one, has the property
+-- the value, if there is one, has the property
 abbrev pub Given : {A : Type 0} → (A → Type 0) → Option A → Type 0
 Given P None = ⊤
 Given P (Some a) = P a

@@ -1,4 +1,4 @@
--- Items and members that are judged in order, a turn at a time.
+-- Items and members that are checked in order, one at a time.
 use Rattle.std.proofs.Common.{◌≡◌, ℕ, zero, suc, ◌-◌, ◌<◌, ◌≤◌, List, ◌∷◌, length, IsUtf8}
 use Rattle.std.proofs.Common.{true, false, Option, Some, None, nat_cmp, refl, sym, ap, ◌∙◌, subst, arith}
 use Rattle.std.specs.Prelude.{option_and_then}
@@ -220,7 +220,7 @@ above_last : (ms : Members) (k : List ℕ) (j : Json) (ns : Members) → Rises (
 above_last no_members k j ns r = refl
 above_last (member l i ms) k j ns r = above_from l ms k j ns r
 
--- what a member of members that rise is
+-- what a member of strictly ascending members is
 abbrev IsNext : Members → List ℕ → Option (Json × List Token) → Type 0
 IsNext got k o = (j : Json) × (r : List Token) × (o ≡ Some (j, r)) × IsNormalized j × (is_name_above (last_of got) k ≡ true)
 

@@ -85,7 +85,7 @@ module _ {A : Type 0} where
   name_past (n ∷ ms) zero h = absurd (omega arith)
   name_past (n ∷ ms) (suc i) h = name_past ms i (omega arith)
 
--- ---- the parts of what is settled are settled
+-- ---- the parts of what is normalized are normalized
 
 module _ {A : Type 0} (n : ℕ) where
   pub item_settled : (vs : List (Value A)) (i : ℕ) (v : Value A) → AreItemsWithin n (items_view vs) → i < length vs → v ≡ get_or vs i v

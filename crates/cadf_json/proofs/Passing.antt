@@ -19,7 +19,7 @@ pub followed-none : (ds : Items) → followed ds no_items ≡ ds
 followed-none no_items = refl
 followed-none (item d ds) = ap (item d) (followed-none ds)
 
--- the items with one more at their end
+-- the items followed by e
 abbrev pub with_last : Data → Items → Items
 with_last e no_items = item e no_items
 with_last e (item d ds) = item d (with_last e ds)

@@ -49,7 +49,7 @@ abbrev mutual
   MembersHaveUtf8 no_members = ⊤
   MembersHaveUtf8 (member k j ms) = IsUtf8 k × JsonHasUtf8 j × MembersHaveUtf8 ms
 
--- what is read has the property, and the tokens behind it have UTF-8 texts
+-- what is read has the property, and the tokens after it have UTF-8 texts
 abbrev ReadWell : {A : Type 0} → (A → Type 0) → Option (A × List Token) → Type 0
 ReadWell P o = Given (λ p. P p.0 × HaveUtf8 p.1) o
 

@@ -1,4 +1,4 @@
--- A member that is written before the further ones, replaced or left out.
+-- A member that is written before the further ones, replaced or omitted.
 use Rattle.std.proofs.Common.{◌≡◌, ℕ, List, [], ◌∷◌, ◌++◌, true, false, bytes_eq, sym, ap, ◌∙◌, append_assoc}
 use Rattle.json.specs.Token.{Token}
 use Rattle.json.specs.Json as json

@@ -1,4 +1,4 @@
--- A settled tree is the outline of a value.
+-- A normalized tree is the outline of a value.
 use Rattle.std.proofs.Common.{◌≡◌, ℕ, ◌^◌, ◌<◌, ℤ, pos, negsuc, int_lt, SFits, w64, true, List, Some, decimal, refl, sym, ap, ap₂, ◌∙◌, subst, arith}
 use Rattle.std.specs.Fmt.{signed_decimal}
 use Rattle.json.specs.Json as json
@@ -79,7 +79,7 @@ mutual
   MembersAreWhole-named_in json.no_members h = tt
   MembersAreWhole-named_in (json.member k j ms) h = (h.0, IsWhole-data_in j h.1, MembersAreWhole-named_in ms h.2)
 
--- a settled tree can be written, and what is written is the canonical text
+-- a normalized tree can be written, and what is written is the canonical text
 pub HasNumbers-settled : (j : json.Json) → IsNormalized j → HasNumbers j
 HasNumbers-settled j h = subst HasNumbers (outline-data_in j h) (HasNumbers-outline (data_in j) (IsWhole-data_in j h))
 

@@ -56,7 +56,7 @@ use Rattle.json.specs.Text.{
 }
 use Rattle.cadf_json.proofs.Given.{Given, Given-same, Given-map, Given-and_then}
 
--- ---- a UTF-8 text beside an ASCII byte
+-- ---- a UTF-8 text next to an ASCII byte
 
 there : (pre : List ℕ) (x : ℕ) (xs : List ℕ) → length pre < length (pre ++ x ∷ xs)
 there pre x xs = omega (arith, length-append pre (x ∷ xs))
@@ -116,12 +116,12 @@ hex a b c d =
     (Some (digit_value a * 4096 + digit_value b * 256 + digit_value c * 16 + digit_value d)) None
     (Given (λ u. IsHex a b c d u)) (λ e. spelled_unit a b c d e) (λ e. tt)
 
--- what stands behind four hex digits
+-- what follows four hex digits
 behind_hex : (a b c d u : ℕ) (xs : List ℕ) → IsHex a b c d u → IsUtf8 (a ∷ b ∷ c ∷ d ∷ xs) → IsUtf8 xs
 behind_hex a b c d u xs h t =
     behind_ascii [] d xs h.fourth (behind_ascii [] c (d ∷ xs) h.third (behind_ascii [] b (c ∷ d ∷ xs) h.second (behind_ascii [] a (b ∷ c ∷ d ∷ xs) h.first t)))
 
--- a short escape and what it stands for are ASCII
+-- a short escape and the character that it encodes are ASCII
 record IsShort (x c : ℕ) : Type 0 where
   pub before : x < 128
   pub after : c < 128
@@ -156,7 +156,7 @@ led front rest u h = Given-map IsUtf8 IsUtf8 (λ s. front ++ s) (λ s k. IsUtf8-
 ascii_utf8 : (x : ℕ) → x < 128 → IsUtf8 (x ∷ [])
 ascii_utf8 x small = subst IsUtf8 (encode_ascii x small) (IsUtf8-encode x (low_scalar x (omega arith)))
 
--- what is known of the content from xs on: within a character, `pre` is what stands before xs
+-- what is known of the content from xs on; within a character, `pre` is what precedes xs
 abbrev IsText : Within → List ℕ → Type 0
 IsText plain xs = (pre : List ℕ) → IsUtf8 (pre ++ xs) → Given (λ s. IsUtf8 (pre ++ s)) (content plain xs)
 IsText after_backslash xs = IsUtf8 xs → Given IsUtf8 (content after_backslash xs)

@@ -1,4 +1,4 @@
--- The grammar's loops, a turn at a time, under the conversion to values.
+-- The grammar's loops, one pass at a time, under the conversion to values.
 use Rattle.std.proofs.Common.{◌≡◌, ℕ, ◌-◌, ◌<◌, ◌≤◌, List, [], length, Option, Some, None, option_map, option_and_then, refl, ap, ◌∙◌}
 use Rattle.json.specs.Token.{Token}
 use Rattle.json.specs.Json as json

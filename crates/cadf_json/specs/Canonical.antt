@@ -17,7 +17,7 @@ use Rattle.cadf_json.specs.Tree.{named_in, IsNormalized, ItemsAreNormalized, Mem
 abbrev pub IsCanonicalWithin : ℕ → List ℕ → Type 0
 IsCanonicalWithin n s = (d : Data) × IsValue d × (depth d ≤ n) × (s ≡ text d)
 
--- the tokens begin with a value whose numbers are whole and in their one spelling, and the names of each object rise
+-- the tokens begin with a value whose numbers are whole and in canonical spelling, and the names of each object are strictly ascending
 abbrev pub IsOrdered : ℕ → List Token → List Token → Type 0
 IsOrdered depth ts rest = (j : json.Json) × (value depth ts ≡ Some (j, rest)) × IsNormalized j
 
@@ -32,7 +32,7 @@ AreItemsOrdered depth ts rest = (js : json.Items) × (items (value depth) (lengt
 abbrev pub AreItemsUnordered : ℕ → List Token → Type 0
 AreItemsUnordered depth ts = (js : json.Items) (rest : List Token) → items (value depth) (length ts) ts ≡ Some (js, rest) → ¬ ItemsAreNormalized js
 
--- the values of members are such, and their names rise
+-- the values of members are such, and their names are strictly ascending
 abbrev pub MembersRise : json.Members → Type 0
 MembersRise ms = MembersAreNormalized ms × Rises (named_in ms)
 
@@ -48,7 +48,7 @@ abbrev pub is_name_above : Option (List ℕ) → List ℕ → Bool
 is_name_above None k = true
 is_name_above (Some l) k = is_lt (slice_cmp nat_cmp l k)
 
--- the text is the one spelling of a whole number without a sign
+-- the text is the canonical spelling of a whole number without a sign
 abbrev pub IsUnsignedText : List ℕ → Type 0
 IsUnsignedText s = (n : ℕ) × (n < 2 ^ 64) × (s ≡ decimal n)
 
@@ -96,7 +96,7 @@ is_text s (Some (string t)) = bytes_eq t s
 is_text s (Some (array ds)) = false
 is_text s (Some (object ms)) = false
 
--- of members that nest at most 126 deep it is told whether they have this text at that name
+-- for members that nest at most 126 deep: whether they have this text at that name
 abbrev pub FindsText : List ℕ → List ℕ → List Token → Bool → Type 0
 FindsText expected name ts found =
     (ms : Members) (rest : List Token) → members_depth ms ≤ 126 → ts ≡ members_tokens (members_outline ms) ++ rest

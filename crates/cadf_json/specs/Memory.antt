@@ -38,7 +38,7 @@ sink_piece s = s.piece
 abbrev pub failing_write_of : MemorySink → FailingWrite
 failing_write_of s = s.failing_write
 
--- write number n answers an error
+-- write number n returns an error
 abbrev pub refuses_at : FailingWrite → ℕ → Bool
 refuses_at Never n = false
 refuses_at (Refuses k) n = k == n

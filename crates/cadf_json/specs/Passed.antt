@@ -1,4 +1,4 @@
--- Values that are passed over, of which nothing is kept: where they end, and whether a number that counts has a fraction.
+-- Values that are skipped, of which nothing is kept: where they end, and whether a number that counts has a fraction.
 use Rattle.std.specs.Prelude.{◌≡◌, ℕ, List, length, Bool, true, false, Option, Some, None, option_map, IsUtf8}
 use Rattle.json.specs.Token.{Token}
 use Rattle.json.specs.Json.{value, items, members}
@@ -8,7 +8,7 @@ use Rattle.serde_json.specs.Read.{read, number_of, of_json, of_items, of_members
 use Rattle.serde_json.specs.Written.{has_float, items_have_float, members_have_float}
 use Rattle.cadf_json.specs.Value.{SpellsValue}
 
--- the tokens begin with a value, nesting at most so deep
+-- the tokens begin with a value that nests at most `depth` deep
 abbrev pub IsPassed : ℕ → List Token → List Token → Bool → Type 0
 IsPassed depth ts rest fraction =
     (d : Data) × ((converted of_json (value depth ts) ≡ Some (d, rest)) × (has_float d ≡ fraction))
@@ -28,7 +28,7 @@ AreMembersPassed depth ts rest fraction =
 abbrev pub SpellsList : List ℕ → Type 0
 SpellsList text = (es : Items) × SpellsValue text (array es)
 
--- serde_json reads a value, and it is so whether a number of it isn't whole
+-- serde_json reads a value, and the flag says whether a number of it isn't whole
 abbrev pub IsValueWith : Bool → List ℕ → Type 0
 IsValueWith fraction text = (d : Data) × IsUtf8 text × (read text ≡ Some d) × (has_float d ≡ fraction)
 
@@ -36,7 +36,7 @@ IsValueWith fraction text = (d : Data) × IsUtf8 text × (read text ≡ Some d) 
 abbrev pub IsNumberPassed : List ℕ → Bool → Type 0
 IsNumberPassed s fraction = (d : Data) × ((option_map number (number_of s) ≡ Some d) × (has_float d ≡ fraction))
 
--- of the members, the one of that name has a fraction; none has one if there is no name
+-- the member of that name has a fraction; without a name none has one
 abbrev pub HasCounted : Option (List ℕ) → Members → Type 0
 HasCounted None ms = members_have_float ms ≡ false
 HasCounted (Some k) ms = (e : Data) × ((get_member k ms ≡ Some e) × (has_float e ≡ true))

@@ -4,7 +4,7 @@ use Rattle.cadf_json.specs.Value.{IsNoJson, IsNotWhole, IsNotCanonical}
 use Rattle.cadf_json.specs.declared.value.JsonFault.{JsonFault}
 use Rattle.cadf_json.specs.declared.value.JsonFault.TheVariants.{NotJson, NotWhole, NotCanonical, Memory}
 
--- `Memory` may come of any text
+-- `Memory` may occur for any text
 abbrev pub IsRefusal : List ℕ → JsonFault → Type 0
 IsRefusal s NotJson = IsNoJson s
 IsRefusal s NotWhole = IsNotWhole s

@@ -26,20 +26,20 @@ abbrev pub PassesList : {T : Type 0} → (T → List Data → Type 0) → T → 
 PassesList {T} took old new depth ts rest =
     (es : Items) × (AreTaken took old new es × (converted of_json (value depth ts) ≡ Some (array es, rest)))
 
--- the tokens begin with members that these are when the later of two with one name stays
+-- the members that the tokens begin with; of two with the same name the later one counts
 abbrev pub AreMembersRead : ℕ → List Token → Members → List Token → Type 0
 AreMembersRead depth ts ms rest =
     converted (λ ms. of_members ms no_members) (members (value depth) (length ts) ts) ≡ Some (ms, rest)
 
--- the members that the tokens begin with: these, and where a list was taken it stands at the name; else none has that name
+-- The members that the tokens begin with. If a list was taken, it is among them at the name; otherwise none has that name.
 abbrev pub AreAround : {T : Type 0} → (T → List Data → Type 0) → T → T → List ℕ → Bool → Members → ℕ → List Token → List Token → Type 0
 AreAround {T} took old new name true ms depth ts rest =
     (es : Items) × (AreTaken took old new es × AreMembersRead depth ts (put name (array es) ms) rest)
 AreAround {T} took old new name false ms depth ts rest =
     (get_member name ms ≡ None) × AreMembersRead depth ts ms rest
 
--- the text spells the object of these members with, at the name, the list of the items that were taken in turn; or it spells the object, and
--- no member has that name
+-- The text spells an object. It is that of these members and, at the name, the list of the items that were taken in turn; or this one, and
+-- no member has that name.
 abbrev pub IsSplit : {T : Type 0} → (T → List Data → Type 0) → T → T → List ℕ → List ℕ → StreamedObject → Type 0
 IsSplit {T} took old new text name (Around d) =
     (ms : Members) × ((es : Items) × ((d ≡ object ms) × AreTaken took old new es × SpellsValue text (object (put name (array es) ms))))

@@ -1,4 +1,4 @@
--- What reads and writes do to the bytes and the counts of a source or a sink.
+-- How reads and writes change the bytes and the counts of a source or a sink.
 use Rattle.std.specs.Prelude.{
   ◌≡◌,
   ℕ,
@@ -37,7 +37,7 @@ one_more n = min (n + 1) (2 ^ 64 - 1)
 abbrev pub counted : Bool → ℕ → ℕ
 counted failed n = if failed then one_more n else n
 
--- the write answered an error, or took nothing of a piece that has bytes
+-- the write returned an error, or took nothing of a piece that has bytes
 abbrev pub write_fails : {E : Type 0} → Result ℕ E → List ℕ → Bool
 write_fails (Ok n) bytes = (n == 0) && nat_lt 0 (length bytes)
 write_fails (Err e) bytes = true
@@ -50,7 +50,7 @@ ConsumesAtMost old new n = (bytes : List ℕ) × Consumes old new bytes × (leng
 abbrev pub ConsumesExactly : Option (List ℕ) → Option (List ℕ) → ℕ → Type 0
 ConsumesExactly old new n = (bytes : List ℕ) × Consumes old new bytes × (length bytes ≡ n)
 
--- the bytes that were read stand after the start
+-- the bytes that were read follow the start
 abbrev pub ConsumesAfter : Option (List ℕ) → Option (List ℕ) → List ℕ → List ℕ → Type 0
 ConsumesAfter old new start whole = (bytes : List ℕ) × Consumes old new bytes × (whole ≡ start ++ bytes)
 

@@ -1,4 +1,4 @@
--- JSON that is in order, and the value that it stands for.
+-- JSON that is in order, and the value that it represents.
 use Rattle.std.specs.Prelude.{◌≡◌, ◌≤◌, ℕ, List, IsUtf8, unwrap_or, ⊤}
 use Rattle.json.specs.Json as json
 use Rattle.serde_json.specs.Data.{
@@ -25,14 +25,14 @@ use Rattle.serde_json.specs.Read.{number_of}
 use Rattle.serde_json.specs.Written.{number_text}
 use Rattle.cadf_json.specs.Value.{IsWholeNumber, Rises}
 
--- the text is the one spelling of a whole number
+-- the text is the canonical spelling of a whole number
 abbrev pub IsWholeText : List ℕ → Type 0
 IsWholeText s = (n : Num) × IsWholeNumber n × (s ≡ number_text n)
 
 abbrev pub number_in : List ℕ → Num
 number_in s = unwrap_or (number_of s) (unsigned 0)
 
--- the value, with the items and members as they stand
+-- the value, with the items and members as they are
 abbrev mutual
   pub data_in : json.Json → Data
   data_in json.null = null
@@ -50,7 +50,7 @@ abbrev mutual
   named_in json.no_members = no_members
   named_in (json.member k j ms) = member k (data_in j) (named_in ms)
 
--- texts are UTF-8, numbers are whole and in their one spelling, and the names of each object rise
+-- texts are UTF-8, numbers are whole and in canonical spelling, and the names of each object are strictly ascending
 abbrev mutual
   pub IsNormalized : json.Json → Type 0
   IsNormalized json.null = ⊤

@@ -1,4 +1,4 @@
-//! Judges whether a text is canonical, with no tree of it.
+//! Checks whether a text is canonical, without building a tree.
 
 ghost use Rattle.std.specs.Prelude.{◌≡◌, ◌≢◌, ◌<◌, length, true, false, IfOk, option_map};
 ghost use Rattle.json.specs.Lex.{tokens};
@@ -14,8 +14,8 @@ use json::{Reader, Scratch, Token, Writer};
 use std::alloc::Global;
 use std::cmp::Ordering;
 
-/// Returns whether the next value is in order: its numbers are whole and in their one spelling, and the names of each object rise.
-/// Lists and objects may nest `depth` deep.
+/// Returns whether the next value is in order: its numbers are whole and in canonical spelling, and the names of each
+/// object are strictly ascending. Lists and objects may nest `depth` deep.
 #[cycle(is_ordered)]
 fn is_ordered(reader: &mut Reader<'_>, depth: usize) -> bool
     ensures yes { result ≡ true → IsOrdered depth reader.old reader.new }
@@ -46,6 +46,7 @@ fn is_ordered(reader: &mut Reader<'_>, depth: usize) -> bool
     }
 }
 
+/// Returns whether the next items, up to the closing bracket, are in order.
 #[cycle(is_ordered)]
 #[inline(never)]
 fn are_items_ordered(reader: &mut Reader<'_>, depth: usize) -> bool
@@ -61,6 +62,7 @@ fn are_items_ordered(reader: &mut Reader<'_>, depth: usize) -> bool
     true
 }
 
+/// Returns whether the next members, up to the closing brace, are in order.
 #[cycle(is_ordered)]
 #[inline(never)]
 fn are_members_ordered<'a>(reader: &mut Reader<'a>, depth: usize) -> bool
@@ -100,7 +102,7 @@ fn is_above(last: Option<&str>, name: &str) -> bool
     }
 }
 
-/// Returns whether the tokens of the text are written as the text itself: without blanks, and with canonical escapes.
+/// Returns whether the text is what its tokens are written as: without blanks, and with canonical escapes.
 fn is_respelled(alloc: Global, scratch: &mut Scratch, text: &str) -> Result<bool, Memory>
     ensures yes { IfOk result (λ b. b ≡ true → text.now ≡ print (tokens text.now)) }
     ensures no { IfOk result (λ b. b ≡ false → ArePrintable (tokens text.now) → text.now ≢ print (tokens text.now)) }
@@ -116,8 +118,8 @@ fn is_respelled(alloc: Global, scratch: &mut Scratch, text: &str) -> Result<bool
     Ok(finished(writer).as_str() == text)
 }
 
-/// Returns whether the text is the canonical text of a value that nests at most `depth` deep. Takes memory for two copies of the
-/// text, and no tree.
+/// Returns whether the text is the canonical text of a value that nests at most `depth` deep. Needs memory for two
+/// copies of the text, and no tree. `Memory` if an allocation fails.
 pub fn is_canonical(alloc: Global, text: &str, depth: u8) -> Result<bool, Memory>
     ensures yes { IfOk result (λ b. b ≡ true → IsCanonicalWithin depth text.now) }
     ensures no { IfOk result (λ b. b ≡ false → ¬ IsCanonicalWithin depth text.now) }

@@ -1,4 +1,5 @@
-//! Whole-number JSON values, held or read into small trees that borrow their text; their canonical text; and where bytes come from and go to.
+//! JSON values whose numbers are whole, owned or as small trees that borrow their text; their canonical text; and
+//! sources and sinks of bytes.
 #![tactic(auto)]
 
 mod canonical;

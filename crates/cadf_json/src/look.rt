@@ -1,4 +1,4 @@
-//! Looking into a tree: its items and members, and how deep it nests.
+//! Access to a tree: its items and members, and how deep it nests.
 ghost use Rattle.std.specs.Prelude.{◌≡◌, ◌≤◌, IfSome, length, nat_le, option_map, slice_get};
 ghost use Rattle.json.specs.Value.{value_view, items_view, members_view};
 ghost use Rattle.serde_json.specs.Data.{depth as nesting, items_depth, members_depth};
@@ -10,7 +10,7 @@ ghost use Rattle.cadf_json.specs.Tree.{data_in, listed_in, named_in, IsNormalize
 use crate::owned::limit_of;
 use json::Value;
 
-/// How many items a list has.
+/// Counts the items of a list.
 #[tactic(auto, using(crate::proofs::Looks::length_listed))]
 pub(crate) fn item_count(items: &Vec<Value<'_>>) -> usize
     ensures { result ≡ length (to_list (listed_in (items_view items.now.items))) }
@@ -18,7 +18,7 @@ pub(crate) fn item_count(items: &Vec<Value<'_>>) -> usize
     items.len()
 }
 
-/// How many members an object has.
+/// Counts the members of an object.
 #[tactic(auto, using(crate::proofs::Looks::length_named))]
 pub(crate) fn member_count(members: &Vec<(&str, Value<'_>)>) -> usize
     ensures { result ≡ length (values_of (named_in (members_view members.now.items))) }
@@ -26,7 +26,7 @@ pub(crate) fn member_count(members: &Vec<(&str, Value<'_>)>) -> usize
     members.len()
 }
 
-/// The item at this place.
+/// Returns the item at `index`, or `None` past the last.
 pub(crate) fn item_at<'v, 'a>(items: &'v Vec<Value<'a>>, index: usize) -> Option<&'v Value<'a>>
     requires { AreItemsWithin 126 (items_view items.now.items) }
     ensures part { option_map (λ v. data_in (value_view v.now)) result
@@ -40,7 +40,7 @@ pub(crate) fn item_at<'v, 'a>(items: &'v Vec<Value<'a>>, index: usize) -> Option
     }
 }
 
-/// The value of the member at this place.
+/// Returns the value of the member at `index`, or `None` past the last.
 pub(crate) fn value_at<'v, 'a>(
     members: &'v Vec<(&'a str, Value<'a>)>,
     index: usize,
@@ -57,7 +57,7 @@ pub(crate) fn value_at<'v, 'a>(
     }
 }
 
-/// The name of the member at this place.
+/// Returns the name of the member at `index`, or `None` past the last.
 pub(crate) fn name_at<'a>(members: &Vec<(&'a str, Value<'a>)>, index: usize) -> Option<&'a str>
     ensures { option_map (λ s. s.now) result
         ≡ slice_get (names_of (named_in (members_view members.now.items))) index }
@@ -69,7 +69,7 @@ pub(crate) fn name_at<'a>(members: &Vec<(&'a str, Value<'a>)>, index: usize) -> 
     }
 }
 
-/// The value of the member of this name.
+/// Returns the value of the member `name`, or `None` if there is none.
 pub(crate) fn member_of<'v, 'a>(
     members: &'v Vec<(&'a str, Value<'a>)>,
     name: &str,
@@ -87,7 +87,7 @@ pub(crate) fn member_of<'v, 'a>(
     None
 }
 
-/// Whether each member nests at most as deep as the limit of its name, and all others as deep as the last limit.
+/// Returns whether each member nests at most as deep as the limit of its name, or as `others` if its name has none.
 pub(crate) fn are_within(
     members: &Vec<(&str, Value<'_>)>,
     limits: &[(&str, u8)],
@@ -105,7 +105,7 @@ pub(crate) fn are_within(
     true
 }
 
-/// How deep the value nests.
+/// Computes how deep lists and objects nest: 0 for a scalar.
 #[cycle(depth)]
 pub(crate) fn depth(value: &Value<'_>) -> u8
     requires { nesting (data_in (value_view value.now)) ≤ 127 }
@@ -118,6 +118,7 @@ pub(crate) fn depth(value: &Value<'_>) -> u8
     }
 }
 
+/// Computes how deep the deepest item nests: 0 if there is none.
 #[cycle(depth)]
 fn depth_of_items(items: &Vec<Value<'_>>) -> u8
     requires { items_depth (listed_in (items_view items.now.items)) ≤ 126 }
@@ -130,6 +131,7 @@ fn depth_of_items(items: &Vec<Value<'_>>) -> u8
     deepest
 }
 
+/// Computes how deep the deepest value of a member nests: 0 if there is none.
 #[cycle(depth)]
 fn depth_of_members(members: &Vec<(&str, Value<'_>)>) -> u8
     requires { members_depth (named_in (members_view members.now.items)) ≤ 126 }

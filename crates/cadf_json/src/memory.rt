@@ -1,4 +1,4 @@
-//! Sources and sinks in memory, which move bytes in pieces and fail where they are told to: for tests.
+//! Sources and sinks in memory, for tests. They move bytes in pieces, and fail when asked to.
 ghost use Rattle.std.specs.Prelude.{◌≡◌, ◌<◌, ◌==◌, if◌then◌else◌, true, [], Some, IfOk, is_err, length, min};
 ghost use Rattle.std.specs.Io.{ReadsAtMost, WritesAtMost};
 ghost use Rattle.std.specs.Io.KnownBytes.{ReadConsumes, WriteAppends};
@@ -7,7 +7,7 @@ ghost use Rattle.cadf_json.specs.Streams.{one_more, counted, write_fails};
 use crate::stream::{Failed, Sink, Source};
 use std::alloc::Global;
 
-/// Bytes that are read in pieces. One read fails, where that is asked for.
+/// Bytes that are read in pieces. One read can be made to fail.
 #[derive(Drop)]
 pub struct MemorySource<'b> {
     bytes: &'b [u8],
@@ -21,7 +21,8 @@ pub struct MemorySource<'b> {
 impl<'b> MemorySource<'b> {
     ghost use Rattle.cadf_json.specs.Memory.{memory_left, memory_reads, memory_read_failures, source_piece, failing_read_of};
 
-    /// Each read gives at most `piece` bytes. Read number `failing_read` fails: 0 is none.
+    /// Makes a source whose reads give at most `piece` bytes each. Read number `failing_read`, from 1, fails; with 0
+    /// none does.
     pub fn new(bytes: &'b [u8], piece: usize, failing_read: u64) -> MemorySource<'b>
         requires { 0 < piece }
         ensures bytes { memory_left result ≡ bytes.now }
@@ -79,7 +80,7 @@ impl<'b> Source for MemorySource<'b> {
 #[derive(Clone, Copy, Drop)]
 pub enum FailingWrite {
     Never,
-    /// The write of this number answers an error.
+    /// The write of this number returns an error.
     Refuses(u64),
     /// The write of this number takes nothing.
     TakesNothing(u64),
@@ -99,7 +100,7 @@ pub struct MemorySink {
 impl MemorySink {
     ghost use Rattle.cadf_json.specs.Memory.{memory_written, memory_writes, memory_write_failures, sink_piece, failing_write_of};
 
-    /// Each write takes at most `piece` bytes.
+    /// Makes an empty sink, each write of which takes at most `piece` bytes.
     pub fn new(alloc: Global, piece: usize, failing_write: FailingWrite) -> MemorySink
         requires { 0 < piece }
         ensures bytes { memory_written result ≡ [] }
@@ -117,7 +118,7 @@ impl MemorySink {
         }
     }
 
-    /// What was written.
+    /// Returns the bytes that were written.
     pub fn bytes(&self) -> &[u8]
         ensures { result.now ≡ memory_written self.now }
     {

@@ -1,4 +1,4 @@
-//! What a canonical text says of its value, found among its tokens with no tree of it.
+//! Answers about the value of a canonical text, found among its tokens without building a tree.
 
 ghost use Rattle.std.specs.Prelude.{◌≡◌, IfOk, option_map};
 ghost use Rattle.json.specs.Reads.{token_of};

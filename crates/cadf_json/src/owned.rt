@@ -1,4 +1,4 @@
-//! Looking into a value that is held: its items and members, and how deep it nests.
+//! Access to an owned value: its items and members, and how deep it nests.
 ghost use Rattle.std.specs.Prelude.{◌≡◌, ◌≤◌, IfOk, length, nat_le, option_map, slice_get, string_bytes};
 ghost use Rattle.serde_json.specs.Data.{depth as nesting, items_depth, members_depth};
 ghost use Rattle.serde_json.specs.View.{view as data_of, items_view, members_view};
@@ -10,7 +10,7 @@ use crate::Memory;
 use serde_json::{Map, Value};
 use std::alloc::Global;
 
-/// How deep the member of that name may nest.
+/// Returns how deep the member `name` may nest: the limit listed for it, or `others`.
 pub(crate) fn limit_of(limits: &[(&str, u8)], others: u8, name: &str) -> u8
     ensures { result ≡ limit_for (limits_of limits.now) others name.now }
 {
@@ -22,6 +22,7 @@ pub(crate) fn limit_of(limits: &[(&str, u8)], others: u8, name: &str) -> u8
     others
 }
 
+/// Returns whether each member nests at most as deep as the limit of its name, or as `others` if its name has none.
 fn are_within(members: &Map<String, Value>, limits: &[(&str, u8)], others: u8) -> bool
     requires { members_depth (members_view members.now.entries) ≤ 127 }
     ensures { result
@@ -35,7 +36,7 @@ fn are_within(members: &Map<String, Value>, limits: &[(&str, u8)], others: u8) -
     true
 }
 
-/// The item, or the value of the member, at this place.
+/// Returns the item, or the value of the member, at `index`. `None` past the last, and for a scalar.
 pub(crate) fn part_in(value: &Value, index: usize) -> Option<&Value>
     ensures { option_map (λ v. data_of v.now) result
         ≡ slice_get (parts_in (data_of value.now)) index }
@@ -47,6 +48,7 @@ pub(crate) fn part_in(value: &Value, index: usize) -> Option<&Value>
     }
 }
 
+/// Counts the items of a list.
 #[tactic(auto, using(crate::proofs::Items::length_to_list))]
 fn item_count(items: &Vec<Value>) -> usize
     ensures { result ≡ length (to_list (items_view items.now.items)) }
@@ -54,6 +56,7 @@ fn item_count(items: &Vec<Value>) -> usize
     items.len()
 }
 
+/// Counts the members of an object.
 #[tactic(auto, using(crate::proofs::Items::length_values_of))]
 fn member_count(members: &Map<String, Value>) -> usize
     ensures { result ≡ length (values_of (members_view members.now.entries)) }
@@ -61,6 +64,7 @@ fn member_count(members: &Map<String, Value>) -> usize
     members.len()
 }
 
+/// Returns the item at `index`, or `None` past the last.
 fn item_at(items: &Vec<Value>, index: usize) -> Option<&Value>
     ensures { option_map (λ v. data_of v.now) result
         ≡ slice_get (to_list (items_view items.now.items)) index }
@@ -72,6 +76,7 @@ fn item_at(items: &Vec<Value>, index: usize) -> Option<&Value>
     }
 }
 
+/// Returns the value of the member at `index`, or `None` past the last.
 fn member_value<'v>(members: &'v Map<String, Value>, index: usize) -> Option<&'v Value>
     ensures { option_map (λ v. data_of v.now) result
         ≡ slice_get (values_of (members_view members.now.entries)) index }
@@ -86,6 +91,7 @@ fn member_value<'v>(members: &'v Map<String, Value>, index: usize) -> Option<&'v
     None
 }
 
+/// Returns the name of the member at `index`, or `None` past the last.
 fn member_name<'v>(members: &'v Map<String, Value>, index: usize) -> Option<&'v str>
     ensures { option_map (λ s. s.now) result
         ≡ slice_get (names_of (members_view members.now.entries)) index }
@@ -100,7 +106,7 @@ fn member_name<'v>(members: &'v Map<String, Value>, index: usize) -> Option<&'v 
     None
 }
 
-/// How deep the value nests.
+/// Computes how deep lists and objects nest: 0 for a scalar.
 #[cycle(depth)]
 pub(crate) fn depth(value: &Value) -> u8
     requires { nesting (data_of value.now) ≤ 127 }
@@ -113,6 +119,7 @@ pub(crate) fn depth(value: &Value) -> u8
     }
 }
 
+/// Computes how deep the deepest item nests: 0 if there is none.
 #[cycle(depth)]
 fn depth_of_items(items: &Vec<Value>) -> u8
     requires { items_depth (items_view items.now.items) ≤ 126 }
@@ -125,6 +132,7 @@ fn depth_of_items(items: &Vec<Value>) -> u8
     deepest
 }
 
+/// Computes how deep the deepest value of a member nests: 0 if there is none.
 #[cycle(depth)]
 fn depth_of_members(members: &Map<String, Value>) -> u8
     requires { members_depth (members_view members.now.entries) ≤ 126 }
@@ -137,7 +145,7 @@ fn depth_of_members(members: &Map<String, Value>) -> u8
     deepest
 }
 
-/// How many items or members the value has.
+/// Counts the items or members: 0 for a scalar.
 pub(crate) fn count_in(value: &Value) -> usize
     ensures { result ≡ length (parts_in (data_of value.now)) }
 {
@@ -148,7 +156,7 @@ pub(crate) fn count_in(value: &Value) -> usize
     }
 }
 
-/// The name of the member at this place.
+/// Returns the name of the member at `index`. `None` past the last, and if the value is no object.
 pub(crate) fn name_in(value: &Value, index: usize) -> Option<&str>
     ensures { option_map (λ s. s.now) result ≡ slice_get (names_in (data_of value.now)) index }
 {
@@ -170,7 +178,7 @@ pub(crate) fn members_nest_within(value: &Value, limits: &[(&str, u8)], others: 
     }
 }
 
-/// The canonical text.
+/// Encodes the value as canonical text.
 pub(crate) fn text_in(alloc: Global, value: &Value) -> Result<String, Memory>
     requires { IsValue (data_of value.now) }
     ensures { IfOk result (λ s. string_bytes s ≡ text_of (data_of value.now)) }

@@ -18,7 +18,8 @@ use json::{Value, Writer, to_vec};
 use std::alloc::Global;
 use std::marker::Model;
 
-/// Most bodies of events are shorter: their texts are spelled without growing, and then held at their length.
+/// Most bodies of events are shorter: their texts are written without reallocation, and then copied at their exact
+/// length.
 const ORDINARY: usize = 1000;
 
 /// A part of a `Tree`.
@@ -52,7 +53,7 @@ impl<'v, 'a> Part<'v, 'a> {
         Part { value }
     }
 
-    /// The text, where the part is one.
+    /// Returns the text, or `None` if the part is none.
     pub(crate) fn as_text(&self) -> Option<&'a str>
         ensures { option_map (λ s. s.now) result ≡ as_str self.now }
     {
@@ -62,28 +63,28 @@ impl<'v, 'a> Part<'v, 'a> {
         }
     }
 
-    /// Whether it is `null`; a member that is not there is no part at all.
+    /// Returns whether it is `null`; an absent member is no part at all.
     pub(crate) fn is_null(&self) -> bool
         ensures { result ≡ is_some (as_null self.now) }
     {
         matches!(self.value, Value::Null)
     }
 
-    /// Whether it is an object, which may be empty.
+    /// Returns whether it is an object, which may be empty.
     pub(crate) fn is_object(&self) -> bool
         ensures { result ≡ is_object self.now }
     {
         matches!(self.value, Value::Object(_))
     }
 
-    /// Whether it is a list, which may be empty.
+    /// Returns whether it is a list, which may be empty.
     pub(crate) fn is_list(&self) -> bool
         ensures { result ≡ is_some (as_array self.now) }
     {
         matches!(self.value, Value::Array(_))
     }
 
-    /// How many items or members the part has.
+    /// Counts the items or members: 0 for a scalar.
     pub(crate) fn len(&self) -> usize
         ensures { result ≡ length (parts_in self.now) }
     {
@@ -94,7 +95,7 @@ impl<'v, 'a> Part<'v, 'a> {
         }
     }
 
-    /// The item at this place, or the value of the member at this place in the order of names.
+    /// Returns the item at `index`, or the value of the member at `index` in the order of names. `None` past the last.
     pub(crate) fn item(&self, index: usize) -> Option<Part<'v, 'a>>
         ensures part { result ≡ slice_get (parts_in self.now) index }
         ensures value { IfSome result IsValue }
@@ -104,7 +105,7 @@ impl<'v, 'a> Part<'v, 'a> {
         })
     }
 
-    /// The value of the member of this name.
+    /// Returns the value of the member `name`, or `None` if there is none.
     pub(crate) fn member(&self, name: &str) -> Option<Part<'v, 'a>>
         ensures part { result ≡ get name.now self.now }
         ensures value { IfSome result IsValue }
@@ -114,7 +115,8 @@ impl<'v, 'a> Part<'v, 'a> {
         })
     }
 
-    /// The name of the member at this place in the order of names.
+    /// Returns the name of the member at `index` in the order of names. `None` past the last, and if the part is no
+    /// object.
     pub(crate) fn name_at(&self, index: usize) -> Option<&'a str>
         ensures { option_map (λ s. s.now) result ≡ slice_get (names_in self.now) index }
     {
@@ -135,7 +137,7 @@ impl<'v, 'a> Part<'v, 'a> {
         }
     }
 
-    /// The members of an object in the order of their names, none of anything else.
+    /// Borrows the members of an object in the order of their names. `None` for anything else.
     pub(crate) fn members(&self) -> Option<&'v [(&'a str, Value<'a>)]>
         ensures members { named_in (borrowed_members result) ≡ members_in self.now }
         ensures within { AreMembersWithin 126 (borrowed_members result) }
@@ -177,7 +179,7 @@ impl<'v, 'a> Part<'v, 'a> {
         Part { value: self.value }
     }
 
-    /// How deep lists and objects nest: 0 for a scalar.
+    /// Computes how deep lists and objects nest: 0 for a scalar.
     pub(crate) fn depth(&self) -> u8
         ensures depth { result ≡ nesting self.now }
         ensures value { IsValue self.now }
@@ -185,7 +187,7 @@ impl<'v, 'a> Part<'v, 'a> {
         depth(self.value)
     }
 
-    /// The canonical text, held at its length.
+    /// Encodes the part as canonical text, without spare capacity.
     pub(crate) fn text(&self, alloc: Global) -> Result<String, Memory>
         ensures text { IfOk result (λ s. string_bytes s ≡ text_of self.now) }
     {
@@ -197,7 +199,7 @@ impl<'v, 'a> Part<'v, 'a> {
     }
 }
 
-// The item, or the value of the member, at this place.
+// Returns the item, or the value of the member, at `index`. `None` past the last, and for a scalar.
 fn part_at<'v, 'a>(value: &'v Value<'a>, index: usize) -> Option<&'v Value<'a>>
     requires { IsNormalizedWithin 127 (value_view value.now) }
     ensures part { option_map (λ v. data_in (value_view v.now)) result
@@ -211,7 +213,7 @@ fn part_at<'v, 'a>(value: &'v Value<'a>, index: usize) -> Option<&'v Value<'a>>
     }
 }
 
-// The value of the member of this name.
+// Returns the value of the member `name`, or `None` if there is none.
 fn part_named<'v, 'a>(value: &'v Value<'a>, name: &str) -> Option<&'v Value<'a>>
     requires { IsNormalizedWithin 127 (value_view value.now) }
     ensures part { option_map (λ v. data_in (value_view v.now)) result

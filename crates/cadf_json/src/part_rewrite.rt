@@ -1,4 +1,4 @@
-//! An object of a tree with some members left out and one replaced, written as tokens.
+//! An object of a tree with some members omitted and one replaced, written as tokens.
 ghost use Rattle.std.specs.Prelude.{◌≡◌, ◌++◌, ◌∷◌, [], OnOk, string_bytes};
 ghost use Rattle.json.specs.Token.{begin_object};
 ghost use Rattle.json.specs.Value.{value_view, members_view};
@@ -13,7 +13,7 @@ use crate::Memory;
 use crate::rewrite::is_listed;
 use json::{Value, Writer};
 
-// Whatever members follow, theirs are the further tokens.
+// Writes one member, unless its name is in `left_out`. The tokens of the members after it may be any.
 fn write_member(
     writer: &mut Writer,
     key: &str,
@@ -41,7 +41,7 @@ fn write_member(
     Ok(())
 }
 
-// The members that stay, with the closing brace.
+// Writes the members that stay, then the closing brace.
 fn write_members(
     writer: &mut Writer,
     members: &Vec<(&str, Value<'_>)>,
@@ -61,7 +61,7 @@ fn write_members(
     Ok(())
 }
 
-/// The members that stay of an object, as an object, and none of anything else.
+/// Writes the object with the members that stay. Anything else counts as an object without members.
 pub(crate) fn write_object(
     writer: &mut Writer,
     value: &Value<'_>,
@@ -83,7 +83,7 @@ pub(crate) fn write_object(
     Ok(())
 }
 
-/// What was written from the start.
+/// Returns all the text that was written.
 pub(crate) fn finished(writer: Writer) -> String
     requires { writer.before ≡ [] }
     ensures { string_bytes result ≡ print writer.tokens }

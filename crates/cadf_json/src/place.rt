@@ -1,4 +1,4 @@
-//! The place of a further member among those whose names rise.
+//! The place of a further member among members whose names are strictly ascending.
 ghost use Rattle.std.specs.Prelude.{◌≤◌, IfSome, vec_len};
 ghost use Rattle.cadf_json.specs.Value.{Rises};
 ghost use Rattle.json.specs.Value.{members_view};
@@ -8,10 +8,10 @@ ghost use Rattle.cadf_json.specs.Place.{IsPlace};
 use json::Value;
 use std::cmp::Ordering;
 
-// How many members may stand behind the place: further ones would be moved too often.
+// How many members may follow the place: further ones would be moved too often.
 const REACH: usize = 64;
 
-/// The place, unless the name stands there already or too many members would be moved.
+/// Finds the place of `name`. `None` if a member has that name, or if more than 64 members would be moved.
 pub(crate) fn place_of(found: &Vec<(&str, Value<'_>)>, name: &str) -> Option<usize>
     requires { Rises (named_in (members_view found.now.items)) }
     ensures place { IfSome result (λ p. IsPlace p name.now found.now.items) }

@@ -1,4 +1,4 @@
-//! From tokens to a value whose members are in order, in one pass.
+//! A parser from tokens to a value whose members are in order, in one pass.
 ghost use Rattle.std.specs.Prelude.{◌≡◌, ◌<◌, length, Some, IfOk, OnOk};
 ghost use Rattle.json.specs.Json.{value, items, members};
 ghost use Rattle.json.specs.Value.{value_view, items_view, members_view};
@@ -13,16 +13,16 @@ use json::{Reader, Token, Value};
 use std::alloc::{AllocFailed, Global};
 use thiserror::Error;
 
-/// A vector that has grown keeps room for four at least.
+/// A vector that has grown has room for at least four.
 const FEW: usize = 2;
 
-/// Says why a text has no tree.
+/// Why a text has no tree.
 #[derive(Clone, Copy, Debug, Drop, PartialEq, Eq, Error)]
 pub enum TreeFault {
     /// The streaming parser can't decide what the text is; use the full parser.
     #[error("not plain")]
     NeedsFullParse,
-    /// An allocation was refused.
+    /// An allocation failed.
     #[error("out of memory")]
     Memory,
 }
@@ -49,7 +49,8 @@ impl<T: Drop> From<AllocFailed<T>> for TreeFault {
     }
 }
 
-/// The next value of the reader, with its members in order. Arrays and objects may nest `depth` deep.
+/// Reads the next value, with its members in order. Arrays and objects may nest `depth` deep.
+/// `NeedsFullParse` if this parser can't decide.
 #[cycle(read)]
 pub(crate) fn read<'a>(
     alloc: Global,
@@ -91,6 +92,7 @@ pub(crate) fn read<'a>(
     }
 }
 
+/// Reads the next items, up to the closing bracket.
 #[cycle(read)]
 #[inline(never)]
 fn read_items<'a>(
@@ -112,6 +114,7 @@ fn read_items<'a>(
     Ok(trimmed(found))
 }
 
+/// Reads the next members, up to the closing brace, into the order of their names.
 #[cycle(read)]
 #[inline(never)]
 fn read_members<'a>(
@@ -139,7 +142,7 @@ fn read_members<'a>(
     }
 }
 
-/// A few items or members keep no room for more.
+/// Shrinks the vector to its length, if it is at most `FEW`.
 fn trimmed<T>(mut found: Vec<T>) -> Vec<T>
     ensures { result.items ≡ found.items }
 {
@@ -149,7 +152,7 @@ fn trimmed<T>(mut found: Vec<T>) -> Vec<T>
     found
 }
 
-/// Puts a further member in its place.
+/// Inserts a further member at its place. `NeedsFullParse` if `place_of` finds none.
 pub(crate) fn put_member<'a>(
     found: &mut Vec<(&'a str, Value<'a>)>,
     name: &'a str,

@@ -1,4 +1,4 @@
-//! Skips values, and keeps nothing of them but whether a number that counts has a fraction.
+//! Skips values, and finds only whether a number that counts has a fraction.
 ghost use Rattle.std.specs.Prelude.{◌≡◌, ◌<◌, length, true, false, IfOk, IfSome, OnOk, option_map};
 ghost use Rattle.json.specs.Print.{IsNumber};
 ghost use Rattle.serde_json.specs.Data.{Data, Members, put};
@@ -15,8 +15,8 @@ use json::{Reader, Scratch, Token};
 use serde_json::Value;
 use std::alloc::Global;
 
-// Skips the next value. Lists and objects may nest `depth` deep. Returns whether a number that counts has a fraction: of two
-// members of one name the later one counts.
+// Skips the next value and returns whether a number that counts has a fraction. Lists and objects may nest `depth`
+// deep. Of two members with the same name the later one counts.
 #[cycle(skip_any)]
 fn skip_any(alloc: Global, reader: &mut Reader<'_>, depth: usize) -> Result<bool, TreeFault>
     ensures ok { IfOk result (IsPassed depth reader.old reader.new) }
@@ -48,6 +48,7 @@ fn skip_any(alloc: Global, reader: &mut Reader<'_>, depth: usize) -> Result<bool
     }
 }
 
+/// Skips the next items, up to the closing bracket, and returns whether a number that counts has a fraction.
 #[cycle(skip_any)]
 #[inline(never)]
 fn skip_items(alloc: Global, reader: &mut Reader<'_>, depth: usize) -> Result<bool, TreeFault>
@@ -61,6 +62,7 @@ fn skip_items(alloc: Global, reader: &mut Reader<'_>, depth: usize) -> Result<bo
     Ok(fraction)
 }
 
+/// Skips the next members, up to the closing brace, and returns whether a number that counts has a fraction.
 #[cycle(skip_any)]
 #[inline(never)]
 fn skip_members<'a>(alloc: Global, reader: &mut Reader<'a>, depth: usize) -> Result<bool, TreeFault>
@@ -83,8 +85,8 @@ fn skip_members<'a>(alloc: Global, reader: &mut Reader<'a>, depth: usize) -> Res
     }
 }
 
-// The name of a member with a fraction, once a further member is put among the others. It can't tell where that member
-// replaces the one of that name.
+// Returns the name of a member with a fraction, after the member `name` was added. `NeedsFullParse` if that member has
+// none, and replaces the one that has.
 fn counted_with<'a>(
     counted: Option<&'a str>,
     name: &'a str,
@@ -105,7 +107,7 @@ fn counted_with<'a>(
     Ok(Some(other))
 }
 
-// Whether the number has a fraction, or is out of range. It can't tell of one that has no value.
+// Returns whether the number has a fraction, or is out of range. `NeedsFullParse` if it has no value.
 fn is_fraction(alloc: Global, text: &str) -> Result<bool, TreeFault>
     requires { IsNumber text.now }
     ensures { IfOk result (IsNumberPassed text.now) }
@@ -120,8 +122,8 @@ fn is_fraction(alloc: Global, text: &str) -> Result<bool, TreeFault>
     }
 }
 
-/// Checks that the whole text is a list, and keeps nothing of it. `NeedsFullParse` for any other text, and for
-/// a list with a number that isn't written as a whole one.
+/// Checks that the whole text is a list, and keeps nothing of it. `NeedsFullParse` for any other text, and for a list
+/// with a number that isn't written as a whole one.
 pub fn check_list(alloc: Global, text: &str) -> Result<(), TreeFault>
     ensures { OnOk result (SpellsList text.now) }
 {
@@ -139,8 +141,8 @@ pub fn check_list(alloc: Global, text: &str) -> Result<(), TreeFault>
     Ok(())
 }
 
-/// Returns whether a number that counts isn't whole in the value that the text spells, and keeps nothing of it. `None`: it can't
-/// tell, or the text spells no value.
+/// Returns whether a number that counts isn't whole in the value that the text spells, and keeps nothing of it. `None`:
+/// this parser can't decide, or the text spells no value.
 pub fn find_fraction(alloc: Global, text: &str) -> Result<Option<bool>, Memory>
     ensures { IfOk result (λ found. IfSome found (λ fraction. IsValueWith fraction text.now)) }
 {
@@ -157,8 +159,8 @@ pub fn find_fraction(alloc: Global, text: &str) -> Result<Option<bool>, Memory>
     Ok(Some(fraction))
 }
 
-/// Returns whether the text has JSON's syntax, nesting at most 127 deep. Such a text may still be
-/// no value: a number may be too large.
+/// Returns whether the text has the syntax of JSON, RFC 8259, nesting at most 127 deep. Such a text may still be no
+/// value: a number may be too large.
 pub fn has_json_syntax(alloc: Global, text: &str) -> Result<bool, Memory>
     ensures { IfOk result (λ may. may ≡ false → IsNoJson text.now) }
 {

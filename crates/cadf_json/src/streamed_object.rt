@@ -1,4 +1,4 @@
-//! Streaming parser of an object: a visitor takes the items of one list, and each is dropped.
+//! A streaming parser of an object: a visitor takes the items of one list, each of which is dropped.
 ghost use Rattle.std.specs.Prelude.{◌≡◌, ◌<◌, ◌≤◌, ◌++◌, ◌∷◌, [], List, length, Some, IfOk, OnOk};
 ghost use Rattle.json.specs.Json.{value, members};
 ghost use Rattle.json.specs.Value.{members_view};
@@ -17,15 +17,15 @@ const MEMBER_DEPTH: usize = 126;
 
 /// Takes the items of a list in turn.
 pub trait ItemVisitor {
-    /// It took these items.
+    /// The visitor took these items.
     ghost took: { Self → List Data → Type 0 };
 
-    /// Takes a further item. `NeedsFullParse`: it can't decide what the item is.
+    /// Takes a further item. `NeedsFullParse`: the visitor can't decide what the item is.
     fn take(&mut self, item: &View<'_, '_>) -> Result<(), TreeFault>
         ensures { OnOk result ((ds : List Data) → took self.old ds → took self.new (ds ++ item.now ∷ [])) };
 }
 
-// The items up to the closing bracket.
+// Passes the items up to the closing bracket to the visitor.
 fn pass_items<'a, T: ItemVisitor>(
     alloc: Global,
     reader: &mut Reader<'a>,
@@ -44,7 +44,7 @@ fn pass_items<'a, T: ItemVisitor>(
     Ok(())
 }
 
-// The list that comes next.
+// Passes the items of the next list to the visitor. `NeedsFullParse` if no list comes next.
 fn pass_list<'a, T: ItemVisitor>(
     alloc: Global,
     reader: &mut Reader<'a>,
@@ -66,14 +66,14 @@ fn pass_list<'a, T: ItemVisitor>(
     Ok(())
 }
 
-/// Members of an object, and whether a list was taken that stands among them as an empty one.
+/// The members of an object, and whether one of them is an empty list in place of a list that was taken.
 #[derive(Drop)]
 struct MembersAround<'a> {
     members: Vec<(&'a str, Value<'a>)>,
     taken: bool,
 }
 
-// The members up to the closing brace, with an empty list in the place of the one that is let go.
+// Reads the members up to the closing brace, with an empty list in place of the one whose items the visitor took.
 fn read_around<'a, T: ItemVisitor>(
     alloc: Global,
     reader: &mut Reader<'a>,

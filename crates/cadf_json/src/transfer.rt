@@ -1,4 +1,4 @@
-//! Reads a source to its end, and writes all of a text.
+//! Functions that read a source to its end, and write a whole text.
 ghost use Rattle.std.specs.Prelude.{◌≡◌, ◌≤◌, ◌+◌, ◌-◌, ◌<◌, ◌^◌, length, IfOk, OnOk, OnErr, is_err};
 ghost use Rattle.std.specs.Io.KnownBytes.{Consumes, Appends, IsAtEnd};
 ghost use Rattle.cadf_json.specs.Streams.{counted, ConsumesAtMost, ConsumesExactly, ConsumesAfter, ConsumesWithin, AppendsPrefix, is_read_fault};
@@ -8,10 +8,10 @@ use crate::stream::{Failed, Sink, Source};
 use std::alloc::Global;
 use thiserror::Error;
 
-// How many bytes one read asks for.
+// The number of bytes that one read asks for.
 const PIECE: usize = 4096;
 
-/// Says why a source was not read to its end.
+/// Why a source was not read to its end.
 #[derive(Clone, Copy, Debug, Drop, PartialEq, Eq, Error)]
 pub enum ReadLimitFault {
     /// There are more bytes than the limit.
@@ -20,18 +20,18 @@ pub enum ReadLimitFault {
     /// A read failed.
     #[error("read fault")]
     ReadFault,
-    /// An allocation was refused.
+    /// An allocation failed.
     #[error("out of memory")]
     Memory,
 }
 
-/// Says why not all of a text was written.
+/// Why a text was not written whole.
 #[derive(Clone, Copy, Debug, Drop, PartialEq, Eq, Error)]
 pub enum OutFault {
     /// A write failed.
     #[error("write fault")]
     WriteFault,
-    /// An allocation was refused.
+    /// An allocation failed.
     #[error("out of memory")]
     Memory,
 }
@@ -58,7 +58,8 @@ impl From<Memory> for OutFault {
     }
 }
 
-/// Reads the source to its end. `TooLarge`: it has more than `limit` bytes. `ReadFault`: a read failed before.
+/// Reads the source to its end. `TooLarge` if it has more than `limit` bytes. `ReadFault` if a read failed before.
+/// `Memory` if an allocation fails.
 pub fn read_to_limit<S: Source>(
     alloc: Global,
     source: &mut S,
@@ -81,7 +82,8 @@ pub fn read_to_limit<S: Source>(
     read_rest(source, Vec::new(alloc), limit)
 }
 
-/// Reads the rest of the source after what was read of it, up to the limit on both together.
+/// Appends the rest of the source to `start`, the bytes that were already read. `limit` bounds both together. The
+/// faults are those of `read_to_limit`.
 pub fn read_rest<S: Source>(
     source: &mut S,
     start: Vec<u8>,
@@ -119,7 +121,7 @@ pub fn read_rest<S: Source>(
     Err(ReadLimitFault::TooLarge)
 }
 
-/// Writes all the bytes. `Err`: a write failed or took nothing, and a prefix was written.
+/// Writes all the bytes. `Err`: a write failed or took nothing, after a prefix was written.
 pub fn write_all<S: Sink>(sink: &mut S, bytes: &[u8]) -> Result<(), Failed>
     ensures bytes { OnOk result (Appends (S.written sink.old) (S.written sink.new) bytes.now) }
     ensures front { OnErr result

@@ -38,7 +38,7 @@ impl<'a> Model for Tree<'a> {
 }
 
 impl<'a> Tree<'a> {
-    /// The value that comes next. Lists and objects may nest `depth` deep.
+    /// Reads the next value. Lists and objects may nest `depth` deep. `NeedsFullParse` if this parser can't decide.
     pub fn read(alloc: Global, reader: &mut Reader<'a>, depth: usize) -> Result<Tree<'a>, TreeFault>
         requires { depth ≤ 127 }
         ensures ok { IfOk result (λ t. converted of_json (value_at depth reader.old) ≡ Some (t, reader.new)) }
@@ -50,7 +50,7 @@ impl<'a> Tree<'a> {
         })
     }
 
-    /// The value that the whole text spells.
+    /// Reads the whole text as a value. `NeedsFullParse` if this parser can't decide.
     pub fn of_text(
         alloc: Global,
         text: &'a str,
@@ -67,7 +67,7 @@ impl<'a> Tree<'a> {
         Ok(tree)
     }
 
-    /// The object of these members.
+    /// Makes an object of these members.
     pub(crate) fn of_members(members: Vec<(&'a str, Value<'a>)>) -> Tree<'a>
         requires { AreMembersWithin 126 (members_view members.items) }
         ensures { result ≡ object (named_in (members_view members.entry.items)) }
@@ -77,7 +77,7 @@ impl<'a> Tree<'a> {
         }
     }
 
-    /// The whole value.
+    /// Borrows the whole value.
     pub fn view(&self) -> View<'_, 'a>
         ensures whole { result ≡ self.now }
         ensures value { IsValue self.now }

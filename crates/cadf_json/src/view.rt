@@ -16,12 +16,12 @@ use serde_json::Value;
 use std::alloc::Global;
 use std::marker::Model;
 
-/// Where a part stands.
+/// What a part belongs to.
 #[derive(Drop)]
 pub(crate) enum Basis<'v, 'a> {
-    /// In a value that is held.
+    /// An owned value.
     Owned(&'v Value),
-    /// In a tree that borrows its text.
+    /// A tree that borrows its text.
     Plain(Part<'v, 'a>),
 }
 
@@ -47,7 +47,7 @@ impl<'v, 'a> Model for View<'v, 'a> {
 }
 
 impl<'v, 'a> View<'v, 'a> {
-    /// Of a value that is held.
+    /// Borrows an owned value.
     pub(crate) fn of_value(value: &'v Value) -> View<'v, 'a>
         requires { IsValue (data_of value.now) }
         ensures { result ≡ data_of value.now }
@@ -57,7 +57,7 @@ impl<'v, 'a> View<'v, 'a> {
         }
     }
 
-    /// Of a part of a tree.
+    /// Makes a view of a part of a tree.
     pub(crate) fn of_part(part: Part<'v, 'a>) -> View<'v, 'a>
         ensures part { result ≡ part.entry }
         ensures value { IsValue part.entry }
@@ -68,7 +68,7 @@ impl<'v, 'a> View<'v, 'a> {
         }
     }
 
-    /// The text, where the part is one.
+    /// Returns the text, or `None` if the part is none.
     pub fn as_text(&self) -> Option<&'v str>
         ensures { option_map (λ s. s.now) result ≡ as_str self.now }
     {
@@ -78,7 +78,7 @@ impl<'v, 'a> View<'v, 'a> {
         }
     }
 
-    /// Whether it is `null`; a member that is not there is no part at all.
+    /// Returns whether it is `null`; an absent member is no part at all.
     pub fn is_null(&self) -> bool
         ensures { result ≡ is_some (as_null self.now) }
     {
@@ -88,7 +88,7 @@ impl<'v, 'a> View<'v, 'a> {
         }
     }
 
-    /// Whether it is an object, which may be empty.
+    /// Returns whether it is an object, which may be empty.
     pub fn is_object(&self) -> bool
         ensures { result ≡ is_object self.now }
     {
@@ -98,7 +98,7 @@ impl<'v, 'a> View<'v, 'a> {
         }
     }
 
-    /// Whether it is a list, which may be empty.
+    /// Returns whether it is a list, which may be empty.
     pub fn is_list(&self) -> bool
         ensures { result ≡ is_some (as_array self.now) }
     {
@@ -108,7 +108,7 @@ impl<'v, 'a> View<'v, 'a> {
         }
     }
 
-    /// How many items or members the part has.
+    /// Counts the items or members: 0 for a scalar.
     pub fn len(&self) -> usize
         ensures { result ≡ length (parts_in self.now) }
     {
@@ -118,7 +118,7 @@ impl<'v, 'a> View<'v, 'a> {
         }
     }
 
-    /// The item at this place, or the value of the member at this place in the order of names.
+    /// Returns the item at `index`, or the value of the member at `index` in the order of names. `None` past the last.
     pub fn item(&self, index: usize) -> Option<View<'v, 'a>>
         ensures part { result ≡ slice_get (parts_in self.now) index }
         ensures value { IfSome result IsValue }
@@ -129,7 +129,7 @@ impl<'v, 'a> View<'v, 'a> {
         }
     }
 
-    /// The value of the member of this name.
+    /// Returns the value of the member `name`, or `None` if there is none.
     pub fn member(&self, name: &str) -> Option<View<'v, 'a>>
         ensures part { result ≡ get name.now self.now }
         ensures value { IfSome result IsValue }
@@ -140,7 +140,8 @@ impl<'v, 'a> View<'v, 'a> {
         }
     }
 
-    /// The name of the member at this place in the order of names.
+    /// Returns the name of the member at `index` in the order of names. `None` past the last, and if the part is no
+    /// object.
     pub fn name_at(&self, index: usize) -> Option<&'v str>
         ensures { option_map (λ s. s.now) result ≡ slice_get (names_in self.now) index }
     {
@@ -150,7 +151,7 @@ impl<'v, 'a> View<'v, 'a> {
         }
     }
 
-    /// The members of an object in the order of their names, none of anything else.
+    /// Returns the members of an object in the order of their names, none of anything else.
     pub fn members(&self) -> Members<'v, 'a>
         ensures members { result ≡ members_in self.now }
     {
@@ -206,7 +207,7 @@ impl<'v, 'a> View<'v, 'a> {
         }
     }
 
-    /// How deep lists and objects nest: 0 for a scalar.
+    /// Computes how deep lists and objects nest: 0 for a scalar.
     pub fn depth(&self) -> u8
         ensures depth { result ≡ nesting self.now }
         ensures value { IsValue self.now }
@@ -217,7 +218,7 @@ impl<'v, 'a> View<'v, 'a> {
         }
     }
 
-    /// The canonical text.
+    /// Encodes the part as canonical text.
     pub fn text(&self, alloc: Global) -> Result<String, Memory>
         ensures text { IfOk result (λ s. string_bytes s ≡ text_of self.now) }
         ensures value { IsValue self.now }

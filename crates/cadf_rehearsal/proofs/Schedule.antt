@@ -28,7 +28,7 @@ cond_ok false r c x h = cc
 Ok-same : {A C : Type 0} (x y : A) → ◌≡◌ {A = Result A C} (Ok x) (Ok y) → x ≡ y
 Ok-same x y h = cc
 
--- ---- what each plain set has, that each document has, and that unions keep
+-- ---- what each plain set has, if each document has it and unions keep it
 
 -- P holds of each document
 abbrev AllLearnt : (DocumentParts → Type 0) → List Turn → Type 0
@@ -127,7 +127,7 @@ is_message_at : (w : World) (m : ℕ) → is_message w m ≡ true → (0 < m) ×
 is_message_at w m h = (ltb-true 0 m (members.and_first _ _ h), leb-true m w.made (members.and_second (nat_lt 0 m) _ h))
 
 module _ (digest : Texts → Text) where
-  -- ---- what a message means, where no two atoms share a digest
+  -- ---- what a message means, if no two atoms share a digest
   pub record Kept (turns : List Turn) (w : World) : Type 0 where
     pub made_is : w.made ≡ made_by turns
     pub sites_are : (j : ℕ) → w.sites j ≡ plain turns j

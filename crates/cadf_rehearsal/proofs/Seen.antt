@@ -60,7 +60,7 @@ module _ {S M : Type 0} (contents : S → Contents) (message : M → Message) (d
   abbrev pub seen : List S → List M → World
   seen xs ms = record { sites = at_or sets.empty (map contents xs); made = length ms; messages = at_number d (map message ms) }
 
-  -- a site takes what s is
+  -- a site takes the set s
   pub seen_adds : (xs : List S) (ms : List M) (k : ℕ) (old new : S) (s : Contents) → k < length xs → old ≡ get_or xs k old
       → contents new ≡ sets.union (contents old) s → adds (seen xs ms) k s ≡ seen (set xs k new) ms
   seen_adds xs ms k old new s h at is =
@@ -90,7 +90,7 @@ module _ {S M : Type 0} (contents : S → Contents) (message : M → Message) (d
   pub made_is : (ms : List M) (k : ℕ) → 0 < k → k ≤ length ms → (xs : List S) → is_message (seen contents message d xs ms) k ≡ true
   made_is ms k pos le xs = Rattle.cadf_join.proofs.Members.and_both _ _ (lt-ltb 0 k pos) (le-leb k (length ms) le)
 
--- every element stays what it was, where one is set to what all are
+-- every element stays what it was, if one is set to what all are
 module _ {S A : Type 0} (f : S → A) (d : A) where
   pub all_set : (xs : List S) (k : ℕ) (v : S) → k < length xs → ((j : ℕ) → at_or d (map f xs) j ≡ d) → f v ≡ d
       → (j : ℕ) → at_or d (map f (set xs k v)) j ≡ d
@@ -114,7 +114,7 @@ get_at f d [] k e h = absurd (omega arith)
 get_at f d (x ∷ xs) zero e h = refl
 get_at f d (x ∷ xs) (suc k) e h = get_at f d xs k e (omega arith)
 
--- the replicas of one log that hold what a world leaves
+-- the replicas of one log that a world leaves
 pub left_is : (log : Text) (xs : List ReplicaModel) (w : World) (count : ℕ) → length xs ≡ count → ((j : ℕ) → at_or log (map log_at xs) j ≡ log)
     → ((j : ℕ) → w.sites j ≡ at_or sets.empty (map held_at xs) j) → xs ≡ left_by log count w
 left_is log xs w count len logs sites = same_lists xs (left_by log count w) (len ∙ sym (length-map-range_with_len site 0 count)) each

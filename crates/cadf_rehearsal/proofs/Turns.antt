@@ -1,4 +1,4 @@
--- What one turn leaves of a federation: a site that takes something, a message that is kept.
+-- What one turn changes in a federation: a site that takes something, a message that is kept.
 use Rattle.std.proofs.Common.{◌≡◌, ℕ, zero, suc, replicate, ◌-◌, ◌<◌, ◌≤◌, Bool, true, false, cond, length, map, get_or, ◌++◌, ◌∷◌, [], List}
 use Rattle.std.proofs.Common.{refl, sym, ap, ◌∙◌, lt-ltb}
 use Rattle.std.specs.Prelude.{Result, Err, Option, Some, None, nat_lt}
@@ -51,7 +51,7 @@ pub message_log : (log : Text) (f : Federation) (m : ℕ) (x : Message) → IsOn
     → x ≡ get_or f.messages.items (m - 1) x → log_of_message x ≡ log
 message_log log f m x one pos le at = sym (at_number_read log_of_message log f.messages.items m x pos le at) ∙ one.messages m
 
--- ---- a site takes what s is
+-- ---- a site takes the set s
 
 pub site_takes : (f : Federation) (k : ℕ) (old new : ReplicaModel) (s : Contents) → k < length f.sites.items → old ≡ get_or f.sites.items k old
     → new.atoms ≡ sets.union old.atoms s → schedule.adds (world_of f) k s ≡ world_of (with_site f k new)
@@ -90,7 +90,7 @@ of_other_log log (Some n) other = by (schedule.is_of_log log (Some n)) refl
     by true same = absurd (other (sym ((bytes_decides n log).0 same)))
     by false same = refl
 
--- ---- sites that hold nothing yet
+-- ---- sites that have nothing yet
 
 pub all_empty : (log : Text) (n j : ℕ) → at_or sets.empty (map held_at (replicate n (record { log = log; atoms = sets.empty }))) j ≡ sets.empty
 all_empty log zero j = refl
@@ -102,7 +102,7 @@ all_named log zero j = refl
 all_named log (suc n) zero = refl
 all_named log (suc n) (suc j) = all_named log n j
 
--- a federation whose sites are such, and which has no message
+-- a federation of such sites, which has no message
 abbrev pub fresh : Text → ℕ → List ReplicaModel
 fresh log n = replicate n (record { log = log; atoms = sets.empty })
 
@@ -127,7 +127,7 @@ begins log n f sites messages = record {
     no_message zero = refl
     no_message (suc m) = refl
 
--- ---- an answer to what is no inventory
+-- ---- an answer to a message that is no inventory
 
 pub not_answered : (log : Text) (f : Federation) (turn j : ℕ) (x : Message) → ((a : ℕ) (i : InventoryModel) → x ≡ Asked a i → ⊥)
     → schedule.answered atom_digest log (length f.sites.items) turn (world_of f) j (message_of x) ≡ Err (NotInventory turn)

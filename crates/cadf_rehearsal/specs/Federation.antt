@@ -1,9 +1,9 @@
--- A federation as it is kept, seen as the world of its schedule.
---     world_of f           where its sites stand, and its messages
+-- A federation in the code, whose model is the world of its schedule.
+--     world_of f           the sets of its sites, and its messages
 --     IsOneLog log f       each site and each message is of that log
 --     TurnsTo f n t g      the turn t of number n leaves the federation g of the federation f
---     IsTurnFault f n t e  the fault e is why that turn can't be taken, or memory was refused
---     IsFaultDue fault r   the fault is r's, or memory was refused
+--     IsTurnFault f n t e  the fault e is why that turn can't be taken, or memory ran out
+--     IsFaultDue fault r   the fault is r's, or memory ran out
 --     left_by log count w  the replicas that the world leaves at the sites 0 to count - 1
 use Rattle.std.specs.Prelude.{◌≡◌, ℕ, zero, suc, ◌∷◌, List, [], map, length, Result, Ok, Err, ◌⊎◌}
 use Rattle.std.specs.List.{range_with_len}

@@ -1,9 +1,9 @@
 -- Sites that learn documents and exchange messages, as a machine over any schedule. A list of turns has the newest first.
 --     Message, World      what was sent, and the state of all sites
 --     after turns         the world after the turns, or the first fault
---     plain turns j       what site j holds if each answer and each send carried the sender's whole set
+--     plain turns j       what site j has if each answer and each send carried the sender's whole set
 --     learnt_atoms turns  the atoms of all documents
---     Means turns m x     what the message of that number is worth, where no two atoms share a digest
+--     Means turns m x     what the message of that number means, if no two atoms share a digest
 use Rattle.std.specs.Prelude.{◌≡◌, ◌⊎◌, ℕ, suc, ◌+◌, Bool, true, cond, ◌&&◌, List, [], ◌∷◌, length, Option, Some, None, Result, Ok, Err, nat_eq, nat_lt, nat_le}
 use Rattle.cadf_join.specs.Sets as set
 use Rattle.cadf_join.specs.Contents.{Text, Texts, Contents, Has, IsWithin}
@@ -21,7 +21,7 @@ pub data Message : Type 0 where
   PartFor : (asker : ℕ) → Contents → Message
   Whole : Contents → Message
 
--- each site's set, how many messages were made, and the messages, numbered from 1
+-- each site's set, the number of messages made, and the messages, numbered from 1
 pub record World : Type 0 where
   pub sites : ℕ → Contents
   pub made : ℕ
@@ -48,9 +48,8 @@ abbrev pub is_of_log : Text → Option Text → Bool
 is_of_log log None = true
 is_of_log log (Some named) = is_text named log
 
--- A turn that can't be taken is answered with its number: no site has the number that it names, no message
--- has it yet, what is to be answered is no inventory, an answer goes to another site than the one that asked,
--- or the document names another log.
+-- A turn that can't be taken is refused with its number. The reasons: no site has the number that it names; no message has it yet;
+-- the message to answer is no inventory; an answer goes to another site than the one that asked; the document names another log.
 abbrev pub delivered : ℕ → World → ℕ → Message → Result World RehearseFault
 delivered turn w j (Inventory a d) = Ok w
 delivered turn w j (PartFor a p) = cond (nat_eq a j) (Ok (adds w j p)) (Err (WrongAddressee turn))
@@ -62,11 +61,11 @@ module _ (digest : Texts → Text) (log : Text) (sites : ℕ) where
   answered turn w j (PartFor a p) = Err (NotInventory turn)
   answered turn w j (Whole s) = Err (NotInventory turn)
 
-  -- r, where the site is one of them
+  -- r, if the site is one of them
   abbrev pub at_site : ℕ → ℕ → Result World RehearseFault → Result World RehearseFault
   at_site turn j r = cond (nat_lt j sites) r (Err (NoSite turn))
 
-  -- r, where the message was made
+  -- r, if the message was made
   abbrev pub at_message : ℕ → World → ℕ → Result World RehearseFault → Result World RehearseFault
   at_message turn w m r = cond (is_message w m) r (Err (NoMessage turn))
 
@@ -86,7 +85,7 @@ module _ (digest : Texts → Text) (log : Text) (sites : ℕ) where
   after [] = Ok start
   after (t ∷ earlier) = next (length earlier + 1) t (after earlier)
 
--- how many messages the turns make
+-- the number of messages that the turns make
 abbrev pub made_by : List Turn → ℕ
 made_by [] = 0
 made_by (Learn j d ∷ earlier) = made_by earlier
@@ -104,7 +103,7 @@ abbrev mutual
   plain (Send k ∷ earlier) j = plain earlier j
   plain (Deliver m k ∷ earlier) j = cond (nat_eq k j) (set.union (plain earlier j) (carried earlier m)) (plain earlier j)
 
-  -- what the maker of message m held when it made it, for an answer or a send; nothing for an inventory
+  -- what the maker of message m had when it made it, for an answer or a send; nothing for an inventory
   pub carried : List Turn → ℕ → Contents
   carried [] m = set.empty
   carried (Learn k d ∷ earlier) m = carried earlier m
@@ -121,8 +120,8 @@ learnt_atoms (Answer k m ∷ earlier) = learnt_atoms earlier
 learnt_atoms (Send k ∷ earlier) = learnt_atoms earlier
 learnt_atoms (Deliver m k ∷ earlier) = learnt_atoms earlier
 
--- An inventory notes a set that its asker holds from then on. A part has nothing that its sender didn't hold, and
--- all of it that its asker doesn't hold from then on. A whole copy is what its sender held.
+-- An inventory lists a set that its asker has from then on. A delta has nothing that its sender didn't have, and all of that which its
+-- asker doesn't have from then on. A whole copy is what its sender had.
 abbrev pub Means : (Texts → Text) → List Turn → ℕ → Message → Type 0
 Means digest turns m (Inventory a d) = (carried turns m ≡ set.empty) × ((b : Contents) × (d ≡ digests_of digest b) × IsWithin b (plain turns a))
 Means digest turns m (PartFor a p) = IsWithin p (carried turns m) × ((q : Texts) → Has (carried turns m) q → Has (plain turns a) q ⊎ Has p q)

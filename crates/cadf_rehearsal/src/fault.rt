@@ -1,8 +1,8 @@
-//! Why a schedule can't be played to its end.
+//! Why a schedule can't be simulated to its end.
 use cadf_json::Memory;
 use thiserror::Error;
 
-/// Why a turn can't be taken, with its number, from 1: the first of these in their order; `Memory` at any time.
+/// Why a turn can't be taken, with its number, from 1: the first of these in their order, or `Memory`.
 #[derive(Clone, Copy, Debug, PartialEq, Eq, Drop, Error)]
 pub enum RehearseFault {
     /// No site has the number that the turn names.
@@ -11,7 +11,7 @@ pub enum RehearseFault {
     /// No message has that number yet.
     #[error("line {0}: no such message")]
     NoMessage(usize),
-    /// The message that is to be answered is no inventory.
+    /// The message to answer is no inventory.
     #[error("line {0}: not an inventory")]
     NotInventory(usize),
     /// An answer goes to the site that asked, and to no other.
@@ -20,7 +20,7 @@ pub enum RehearseFault {
     /// The document names another log.
     #[error("line {0}: other log")]
     OtherLog(usize),
-    /// An allocation was refused.
+    /// An allocation failed.
     #[error("out of memory")]
     Memory,
 }

@@ -17,9 +17,9 @@ use std::alloc::Global;
 pub(crate) enum Message {
     /// The inventory of the site of that number, which asks.
     Asked(usize, Inventory),
-    /// What the site of that number lacked by its inventory.
+    /// What was missing at the site of that number, by its inventory.
     PartFor(usize, Replica),
-    /// All that a site held.
+    /// All that a site had when it sent the message.
     Whole(Replica),
 }
 
@@ -31,7 +31,7 @@ pub(crate) struct Federation {
 }
 
 impl Federation {
-    /// Keeps a new message.
+    /// Appends a message. `Memory` if an allocation fails.
     fn post(&mut self, message: Message) -> Result<(), RehearseFault>
         ensures ok { OnOk result (self.new.messages.items ≡ self.old.messages.items ++ message ∷ []) }
         ensures rest { self.new.sites ≡ self.old.sites }
@@ -43,7 +43,7 @@ impl Federation {
         }
     }
 
-    /// No messages yet, and so many sites of the log without atoms.
+    /// Makes a federation of `count` sites of the log, without atoms and messages. `Memory` if an allocation fails.
     pub(crate) fn new(alloc: Global, log: &Name, count: usize) -> Result<Federation, RehearseFault>
         ensures ok { IfOk result (λ f. length f.sites.items ≡ count) }
         ensures start { IfOk result (λ f. world_of f ≡ start) }
@@ -63,7 +63,7 @@ impl Federation {
         })
     }
 
-    /// The site learns a document.
+    /// Lets the site learn a document. `NoSite` or `OtherLog` if the turn can't be taken.
     fn learn(
         &mut self,
         number: usize,
@@ -85,7 +85,7 @@ impl Federation {
         }
     }
 
-    /// The site sends the digests of what it holds.
+    /// Posts the inventory of the site. `NoSite` if there is no such site.
     fn ask(&mut self, number: usize, site: usize) -> Result<(), RehearseFault>
         ensures ok { OnOk result (TurnsTo self.old number (turn.Ask site) self.new) }
         ensures later { OnOk result (IsLater self.old self.new) }
@@ -99,7 +99,7 @@ impl Federation {
         Ok(())
     }
 
-    /// The site sends all that it holds.
+    /// Posts a copy of all that the site has. `NoSite` if there is no such site.
     fn send(&mut self, number: usize, site: usize) -> Result<(), RehearseFault>
         ensures ok { OnOk result (TurnsTo self.old number (turn.Send site) self.new) }
         ensures later { OnOk result (IsLater self.old self.new) }
@@ -113,7 +113,8 @@ impl Federation {
         Ok(())
     }
 
-    /// The site sends what the asker of an inventory lacks.
+    /// Posts what is missing at the site whose inventory the message is. `NoSite`, `NoMessage` or `NotInventory` if the
+    /// turn can't be taken.
     fn answer(&mut self, number: usize, site: usize, message: usize) -> Result<(), RehearseFault>
         requires { HasOneLog self.old }
         ensures ok { OnOk result (TurnsTo self.old number (turn.Answer site message) self.new) }
@@ -139,7 +140,8 @@ impl Federation {
         Ok(())
     }
 
-    /// The site takes what a message carries.
+    /// Joins what the message carries into the site. An inventory changes nothing. `NoSite`, `NoMessage` or
+    /// `WrongAddressee` if the turn can't be taken.
     fn deliver(&mut self, number: usize, message: usize, site: usize) -> Result<(), RehearseFault>
         requires { HasOneLog self.old }
         ensures ok { OnOk result (TurnsTo self.old number (turn.Deliver message site) self.new) }
@@ -168,7 +170,7 @@ impl Federation {
         }
     }
 
-    /// Takes the turn of that number.
+    /// Takes the turn `number`. `Err`: why it can't be taken.
     pub(crate) fn take(&mut self, number: usize, turn: &Turn) -> Result<(), RehearseFault>
         requires { HasOneLog self.old }
         ensures ok { OnOk result (TurnsTo self.old number turn.now self.new) }
@@ -185,7 +187,7 @@ impl Federation {
     }
 }
 
-/// The site joins a replica of its log; where that is refused for memory it is tried once more.
+/// Joins a replica of the same log into the site. If an allocation fails, tries once more.
 fn joined(site: &mut Replica, part: &Replica) -> Result<(), RehearseFault>
     requires { part.now.log ≡ site.old.log }
     ensures log { site.new.log ≡ site.old.log }

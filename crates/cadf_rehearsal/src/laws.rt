@@ -6,7 +6,8 @@ ghost use Rattle.cadf_line.specs.Missing.{NoCollision, missing_by, digests_of};
 ghost use Rattle.cadf_rehearsal.specs.declared.turn.Turn.{Turn};
 ghost use Rattle.cadf_rehearsal.specs.Schedule.{World, after, plain, learnt_atoms, Means};
 
-/// A part with the inventory that it answers covers what its sender held, and what that inventory notes its asker holds from then on.
+/// States that a delta, together with the inventory that it answers, covers what its sender had. What that inventory
+/// lists, its asker has from then on. Both require that no two atoms share a digest.
 pub fn answer_with_inventory_covers_sender()
     ensures part { (digest : Texts → Text) (sender noted : Contents) → NoCollision digest (set.union sender noted)
         → IsWithin sender (set.union noted (missing_by digest sender (digests_of digest noted))) }
@@ -15,12 +16,13 @@ pub fn answer_with_inventory_covers_sender()
         → (m : ℕ) → 0 < m → m ≤ world.made → Means digest turns m (world.messages m) }
 {}
 
-/// Whatever is stale, lost, repeated or reordered: a site holds what it would if each answer carried the sender's whole set.
+/// States that a site has what it would have if each answer carried the sender's whole set, whatever is stale, lost,
+/// repeated or reordered. This requires that no two atoms share a digest.
 pub fn rehearsal_equals_full_exchange()
     ensures exact { (digest : Texts → Text) (log : Text) (sites : ℕ) (turns : List Turn) (world : World)
         → NoCollision digest (learnt_atoms turns) → after digest log sites turns ≡ Ok world
         → (j : ℕ) → world.sites j ≡ plain turns j }
-    // Whatever shares a digest, it never holds more.
+    // Whatever atoms share a digest, it never has more.
     ensures within { (digest : Texts → Text) (log : Text) (sites : ℕ) (turns : List Turn) (world : World)
         → after digest log sites turns ≡ Ok world
         → (j : ℕ) → IsWithin (world.sites j) (plain turns j) }

@@ -1,4 +1,4 @@
-//! Sites that learn documents and exchange messages: a schedule is played, and laws over all schedules.
+//! Sites that learn documents and exchange messages: the simulation of a schedule, and laws over all schedules.
 #![tactic(auto)]
 
 mod fault;

@@ -1,4 +1,4 @@
-//! A schedule is played from its first turn to its last.
+//! The simulation of a schedule, from its first turn to its last.
 ghost use Rattle.std.specs.Prelude.{◌≡◌, reverse, IfOk, IfErr, Ok};
 ghost use Rattle.cadf_line.specs.Digest.{atom_digest};
 ghost use Rattle.cadf_rehearsal.specs.Schedule.{World, after};
@@ -11,11 +11,11 @@ use cadf_event::Name;
 use cadf_set::Replica;
 use std::alloc::Global;
 
-/// Plays the turns in order over so many sites of the log, which begin without atoms: the replicas that
-/// they leave, or the fault of the first turn that can't be taken.
+/// Simulates the turns in order over `sites` sites of the log, which begin without atoms. Returns the replicas of the
+/// sites after the last turn. `Err`: the fault of the first turn that can't be taken.
 ///
-/// A part is made when its turn comes, against the inventory that it answers. A delivery whose join is
-/// refused for memory is tried once more.
+/// A delta is made when its turn comes, for the inventory that it answers. If an allocation fails in the join of a
+/// delivery, the join is tried once more.
 pub fn rehearse(
     alloc: Global,
     log: &Name,

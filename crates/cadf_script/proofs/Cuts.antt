@@ -1,4 +1,4 @@
--- Words parted by a blank: there is one way to part them at the first.
+-- Words separated by a blank: there is one way to split them at the first.
 use Rattle.std.proofs.Common.{
   ◌≡◌,
   ℕ,
@@ -133,7 +133,7 @@ cut_at bytes i e within = record {
     short : (xs : List ℕ) (i : ℕ) → length (drop (i + 1) xs) ≤ length xs - (i + 1)
     short xs i = omega (arith, length-drop (i + 1) xs)
 
--- ---- a number and what stands behind it
+-- ---- a number and what follows it
 
 pub site_here : (words word rest : List ℕ) (n : ℕ) → IsCut words word rest → IsNumber word n → IsSiteAndText words n rest
 site_here words word rest n cut number = (number.0, cut.is ∙ ap (λ w. w ++ 32 ∷ rest) number.1)

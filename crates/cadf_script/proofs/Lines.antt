@@ -74,7 +74,7 @@ pub no_lines : lines_of [] ≡ []
 unfolding lines_of
 no_lines = refl
 
--- so many bytes of the script were read, and these are their turns: whatever completes the rest completes the whole
+-- `start` bytes of the script were read, and these are their turns; whatever completes the rest completes the whole
 pub record HasRead (bytes : List ℕ) (start : ℕ) (turns : List Turn) : Type 0 where
   pub goes_on : (more : List Turn) → IsScript (drop start bytes) more → IsScript bytes (turns ++ more)
   pub bad : (m : ℕ) → IsFirstBad (lines_of (drop start bytes)) m → IsFirstBad (lines_of bytes) (length turns + m)
@@ -117,7 +117,7 @@ module _ (bytes : List ℕ) (start : ℕ) (turns : List Turn) (read : HasRead by
   pub one_bad : IsNoTurn (take count rest) → IsFirstBad (lines_of bytes) (length turns + 1)
   one_bad h = read.bad 1 (subst (λ ls. IsFirstBad ls 1) (sym first) (inl (refl, h)))
 
--- the same of the bytes that are left, as a slice of the code has them
+-- the same of the remaining bytes, as a slice of the code has them
 module _ (bytes : List ℕ) (start : ℕ) (turns : List Turn) (read : HasRead bytes start turns) (within : start < length bytes)
     (count : ℕ) (e : count ≡ position_or_len (λ x. x == 10) (take (length bytes - start) (drop start bytes))) where
   left : take (length bytes - start) (drop start bytes) ≡ drop start bytes

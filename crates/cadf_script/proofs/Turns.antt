@@ -78,7 +78,7 @@ turn_found : (line word rest : List ℕ) (c : Command) (found : Option Turn) →
 turn_found line word rest c (Some t) cut e h = turn_some line word rest c t cut e h
 turn_found line word rest c None cut e h = turn_none line word rest c cut e h
 
--- what was found of the words behind the command is what is found of the line
+-- what was found of the words after the command is what is found of the line
 pub turn_here : (line word rest : List ℕ) (c : Command) (r : Result (Option Turn) AllocError) → IsCut line word rest → word ≡ word_of c
     → IfOk r (HasArguments c rest) → IfOk r (λ found. MatchOption found (IsNoTurn line) (IsTurn line))
 turn_here line word rest c (Ok found) cut e h = turn_found line word rest c found cut e h

@@ -2,7 +2,7 @@
 --     IsTurn line t            the line spells the turn
 --     lines_of bytes           the lines of the bytes; the last one's line feed may be absent
 --     IsScript bytes turns     the bytes spell these turns
---     IsFirstBad lines n       the line of that number, from 1, is the first that spells none
+--     IsFirstBad lines n       the line of that number, from 1, is the first that is no turn
 use Rattle.std.specs.Prelude.{◌≡◌, ◌<◌, ◌^◌, ◌==◌, ◌⊎◌, ℕ, suc, List, [], ◌∷◌, ◌++◌, if◌then◌else◌, codes, decimal}
 pub use Rattle.cadf_event.specs.DocumentBytes.{IsDocumentOf}
 use Rattle.cadf_event.specs.Parts.{EachPair}
@@ -30,11 +30,11 @@ command_of (Answer site message) = command.Answer
 command_of (Send site) = command.Send
 command_of (Deliver message site) = command.Deliver
 
--- a number in decimal, of at most nine digits, with no zero in front
+-- a number in decimal, of at most nine digits, without a leading zero
 abbrev pub IsNumber : List ℕ → ℕ → Type 0
 IsNumber word n = (n < 10 ^ 9) × (word ≡ decimal n)
 
--- two numbers, parted by one blank
+-- two numbers, separated by one blank
 abbrev pub AreTwo : List ℕ → ℕ → ℕ → Type 0
 AreTwo words m n = (m < 10 ^ 9) × (n < 10 ^ 9) × (words ≡ decimal m ++ 32 ∷ decimal n)
 
@@ -42,7 +42,7 @@ AreTwo words m n = (m < 10 ^ 9) × (n < 10 ^ 9) × (words ≡ decimal m ++ 32 �
 abbrev pub IsSiteAndText : List ℕ → ℕ → List ℕ → Type 0
 IsSiteAndText words n text = (n < 10 ^ 9) × (words ≡ decimal n ++ 32 ∷ text)
 
--- what stands behind the first word and its blank
+-- what follows the first word and its blank
 abbrev pub AreWords : List ℕ → Turn → Type 0
 AreWords words (Learn site document) = (text : List ℕ) × IsSiteAndText words site text × IsDocumentOf text document
 AreWords words (Ask site) = IsNumber words site
@@ -59,12 +59,12 @@ IsTurn line t = (words : List ℕ) × (line ≡ word_of (command_of t) ++ 32 ∷
 abbrev pub IsNoTurn : List ℕ → Type 0
 IsNoTurn line = (t : Turn) → ¬ IsTurn line t
 
--- the byte stands before the first of the lines
+-- the byte put before the first of the lines
 abbrev pub put_into_first : ℕ → List (List ℕ) → List (List ℕ)
 put_into_first x [] = (x ∷ []) ∷ []
 put_into_first x (l ∷ ls) = (x ∷ l) ∷ ls
 
--- each line ends with a line feed, which the last one may lack
+-- each line ends with a line feed, which may be absent from the last one
 unfoldable pub lines_of : List ℕ → List (List ℕ)
 lines_of [] = []
 lines_of (x ∷ xs) = if x == 10 then [] ∷ lines_of xs else put_into_first x (lines_of xs)
@@ -80,7 +80,7 @@ IsFirstBad [] n = ⊥
 IsFirstBad (l ∷ ls) n =
     ((n ≡ 1) × IsNoTurn l) ⊎ ((m : ℕ) × (n ≡ suc m) × ((t : Turn) × IsTurn l t) × IsFirstBad ls m)
 
--- why the bytes are no script; `Memory` says nothing of them
+-- why the bytes are no script; `Memory` implies nothing about them
 abbrev pub IsScriptFault : List ℕ → ScriptFault → Type 0
 IsScriptFault bytes (Line n) = IsFirstBad (lines_of bytes) n
 IsScriptFault bytes Memory = Unit {0}

@@ -1,4 +1,4 @@
--- How a line is taken apart, from the left.
+-- How a line is split, from the left.
 use Rattle.std.specs.Prelude.{◌≡◌, ◌==◌, ◌&&◌, ◌||◌, not, nat_lt, ℕ, Bool, false, List, [], ◌∷◌, ◌++◌, length, Option, MatchOption}
 use Rattle.std.specs.List.{list_any}
 use Rattle.cadf_event.specs.Document.{DocumentParts}
@@ -13,7 +13,7 @@ pub record IsCut (bytes word rest : List ℕ) : Type 0 where
   pub is : bytes ≡ word ++ 32 ∷ rest
   pub first : has_blank word ≡ false
 
--- one to nine bytes with no sign in front, and a zero in front only by itself
+-- one to nine bytes without a sign at the start, and without a leading zero unless it is the only byte
 abbrev pub is_plain_number : List ℕ → Bool
 is_plain_number [] = false
 is_plain_number (x ∷ xs) = (not (x == 43) && (not (x == 48) || length xs == 0)) && nat_lt (length xs) 9

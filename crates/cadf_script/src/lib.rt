@@ -1,4 +1,4 @@
-//! Scripts of schedules: which bytes spell a list of turns, and the first line that spells none.
+//! Scripts of schedules: the turns of a script's bytes, and the first line that is no turn.
 #![tactic(auto)]
 
 mod line;

@@ -1,4 +1,4 @@
-//! A line, and the turn that it spells.
+//! The turn of a line.
 ghost use Rattle.std.specs.Prelude.{◌≡◌, ◌≢◌, MatchOption, IfOk};
 ghost use Rattle.cadf_script.specs.Script.{Command as CommandOf, word_of, IsDocumentOf, IsTurn, IsNoTurn};
 ghost use Rattle.cadf_script.specs.Words.{SpellsNoDocument, HasArguments};
@@ -18,7 +18,7 @@ pub enum Command {
     Deliver,
 }
 
-/// The command that the word is.
+/// Returns the command that the word names, or `None`.
 fn command_named(word: &[u8]) -> Option<Command>
     ensures { MatchOption result ((c : CommandOf) → word.now ≢ word_of c) (λ c. word.now ≡ word_of c) }
 {
@@ -40,7 +40,7 @@ fn command_named(word: &[u8]) -> Option<Command>
     None
 }
 
-/// The document that the text spells.
+/// Reads the document that the text encodes. `None` if it encodes none.
 fn document_of(alloc: Global, text: &[u8]) -> Result<Option<Document>, Memory>
     ensures { IfOk result (λ found. MatchOption found (SpellsNoDocument text.now) (IsDocumentOf text.now)) }
 {
@@ -53,7 +53,7 @@ fn document_of(alloc: Global, text: &[u8]) -> Result<Option<Document>, Memory>
     }
 }
 
-/// What a site learns.
+/// Reads the turn `learn`: a site, then a document. `None` if the words are no such turn.
 fn learn(alloc: Global, words: &[u8]) -> Result<Option<Turn>, Memory>
     ensures { IfOk result (HasArguments CommandOf.Learn words.now) }
 {
@@ -66,7 +66,7 @@ fn learn(alloc: Global, words: &[u8]) -> Result<Option<Turn>, Memory>
     }
 }
 
-/// A site asks.
+/// Reads the turn `ask`: a site. `None` if the words are no such turn.
 fn ask(words: &[u8]) -> Option<Turn>
     ensures { HasArguments CommandOf.Ask words.now result }
 {
@@ -76,7 +76,7 @@ fn ask(words: &[u8]) -> Option<Turn>
     Some(Turn::Ask(site))
 }
 
-/// A site sends.
+/// Reads the turn `send`: a site. `None` if the words are no such turn.
 fn send(words: &[u8]) -> Option<Turn>
     ensures { HasArguments CommandOf.Send words.now result }
 {
@@ -86,7 +86,7 @@ fn send(words: &[u8]) -> Option<Turn>
     Some(Turn::Send(site))
 }
 
-/// A site answers a message.
+/// Reads the turn `answer`: a site, then a message. `None` if the words are no such turn.
 fn answer(words: &[u8]) -> Option<Turn>
     ensures { HasArguments CommandOf.Answer words.now result }
 {
@@ -96,7 +96,7 @@ fn answer(words: &[u8]) -> Option<Turn>
     Some(Turn::Answer(site, message))
 }
 
-/// A message goes to a site.
+/// Reads the turn `deliver`: a message, then a site. `None` if the words are no such turn.
 fn deliver(words: &[u8]) -> Option<Turn>
     ensures { HasArguments CommandOf.Deliver words.now result }
 {
@@ -106,7 +106,7 @@ fn deliver(words: &[u8]) -> Option<Turn>
     Some(Turn::Deliver(message, site))
 }
 
-/// The turn of that command with these words.
+/// Reads the turn of this command with these words. `None` if the words don't fit the command.
 fn turn_of(alloc: Global, command: Command, words: &[u8]) -> Result<Option<Turn>, Memory>
     ensures { IfOk result (HasArguments command words.now) }
 {
@@ -119,7 +119,7 @@ fn turn_of(alloc: Global, command: Command, words: &[u8]) -> Result<Option<Turn>
     }
 }
 
-/// The turn that the line spells.
+/// Reads the turn of a line without its line feed. `None` if the line is no turn.
 pub(crate) fn read_turn(alloc: Global, line: &[u8]) -> Result<Option<Turn>, Memory>
     ensures { IfOk result (λ found. MatchOption found (IsNoTurn line.now) (IsTurn line.now)) }
 {

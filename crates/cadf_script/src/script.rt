@@ -1,4 +1,4 @@
-//! A script is read to its end, or to its first line that spells no turn.
+//! A reader of scripts: to the end, or to the first line that is no turn.
 ghost use Rattle.std.specs.Prelude.{IfOk, IfErr};
 ghost use Rattle.cadf_script.specs.Script.{IsScript, IsScriptFault};
 
@@ -12,10 +12,10 @@ use thiserror::Error;
 /// Why a script is refused.
 #[derive(Clone, Copy, Debug, Drop, PartialEq, Eq, Error)]
 pub enum ScriptFault {
-    /// The line of that number, from 1, is the first that spells no turn.
+    /// The line of that number, from 1, is the first that is no turn.
     #[error("line {0}: script")]
     Line(usize),
-    /// An allocation was refused.
+    /// An allocation failed.
     #[error("out of memory")]
     Memory,
 }
@@ -31,7 +31,7 @@ impl From<Memory> for ScriptFault {
     }
 }
 
-/// Reads the turns that the bytes spell, a line each; the last one's line feed may be absent.
+/// Reads the turns of the bytes, a line each. The last line needs no line feed. `Line`: the first line that is no turn.
 pub fn read_script(alloc: Global, bytes: &[u8]) -> Result<Vec<Turn>, ScriptFault>
     ensures ok { IfOk result (λ turns. IsScript bytes.now turns.items) }
     ensures err { IfErr result (IsScriptFault bytes.now) }

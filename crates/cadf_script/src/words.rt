@@ -1,10 +1,10 @@
-//! The words of a line: what stands before the first blank, and numbers.
+//! The words of a line: the part before the first blank, and numbers.
 ghost use Rattle.std.specs.Prelude.{◌≡◌, ◌==◌, ◌≤◌, length, ℕ, List, MatchOption, false};
 ghost use Rattle.std.specs.List.{position_or_len};
 ghost use Rattle.cadf_script.specs.Script.{IsNumber, AreTwo, IsSiteAndText};
 ghost use Rattle.cadf_script.specs.Words.{IsCut, has_blank, is_plain_number as is_plain_word};
 
-/// How many bytes stand before the first of that value.
+/// Counts the bytes before the first `mark`, or all bytes if there is none.
 #[tactic(auto, using(std::proofs::lemmas::List::Sums::position_or_len_is))]
 pub(crate) fn place_of(mark: u8, bytes: &[u8]) -> usize
     ensures place { result ≡ position_or_len (λ x. x == mark) bytes.now }
@@ -18,14 +18,14 @@ pub(crate) fn place_of(mark: u8, bytes: &[u8]) -> usize
     bytes.len()
 }
 
-/// What stands before the first blank, and what stands behind it.
+/// What comes before the first blank, and what follows it.
 #[derive(Clone, Copy)]
 pub(crate) struct Cut<'a> {
     pub(crate) word: &'a [u8],
     pub(crate) rest: &'a [u8],
 }
 
-/// The words at the first blank.
+/// Splits the bytes at the first blank. `None` if there is none.
 pub(crate) fn cut_at_blank(bytes: &[u8]) -> Option<Cut<'_>>
     ensures { MatchOption result (has_blank bytes.now ≡ false) (λ c. IsCut bytes.now c.word.now c.rest.now) }
 {
@@ -39,7 +39,8 @@ pub(crate) fn cut_at_blank(bytes: &[u8]) -> Option<Cut<'_>>
     })
 }
 
-/// Whether the word has one to nine bytes and no sign in front, and a zero in front only by itself.
+/// Returns whether the word has one to nine bytes, no plus sign at the start, and no leading zero unless it is the only
+/// byte.
 fn is_plain(word: &[u8]) -> bool
     ensures { result ≡ is_plain_word word.now }
 {
@@ -51,7 +52,7 @@ fn is_plain(word: &[u8]) -> bool
     }
 }
 
-/// The number that the word spells.
+/// Reads the word as a decimal number of at most nine digits. `None` if it is none.
 pub(crate) fn number(word: &[u8]) -> Option<usize>
     ensures { MatchOption result ((n : ℕ) → ¬ IsNumber word.now n) (IsNumber word.now) }
 {
@@ -67,7 +68,7 @@ pub(crate) fn number(word: &[u8]) -> Option<usize>
     }
 }
 
-/// The two numbers that the words spell.
+/// Reads two numbers with one blank between them. `None` if the words are anything else.
 pub(crate) fn two_numbers(words: &[u8]) -> Option<(usize, usize)>
     ensures { MatchOption result ((m n : ℕ) → ¬ AreTwo words.now m n) (λ p. AreTwo words.now p.0 p.1) }
 {
@@ -83,7 +84,8 @@ pub(crate) fn two_numbers(words: &[u8]) -> Option<(usize, usize)>
     Some((first, second))
 }
 
-/// The number that the first word spells, and the text behind it.
+/// Reads the number before the first blank, and returns it with the text after the blank. `None` if the words are
+/// anything else.
 pub(crate) fn site_and_text(words: &[u8]) -> Option<(usize, &[u8])>
     ensures { MatchOption result ((n : ℕ) (text : List ℕ) → ¬ IsSiteAndText words.now n text)
         (λ p. IsSiteAndText words.now p.0 p.1.now) }

@@ -1,4 +1,4 @@
-//! Times: an instant with the offset at which it was written, and its one spelling.
+//! Times: an instant with the offset at which it was written, and its canonical spelling.
 #![tactic(auto)]
 
 pub mod laws;

@@ -1,4 +1,4 @@
--- What any input contributes is kept: atoms alone, each with its carrier.
+-- What any input contributes satisfies the invariant of a replica: only atoms, each with its carrier.
 use Rattle.std.proofs.Common.{ℕ, List}
 use Rattle.cadf_json.proofs.Spelled.{spelled_is_value}
 use Rattle.cadf_event.proofs.KnownDocument.{known_document}

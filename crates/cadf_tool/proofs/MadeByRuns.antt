@@ -36,14 +36,14 @@ use Rattle.cadf_tool.specs.Exchange.{
 use Rattle.cadf_tool.proofs.RulingAdded.{ruled_is}
 use Rattle.cadf_tool.proofs.ExchangeLaws.{read_of, are_read, written_behind}
 
--- ---- a run that was answered with Ok
+-- ---- a run that returned Ok
 
 module _ {A M W T : Type 0} (sources : Sources A) (work : A → Result M ToolFault) (tell : M → Text)
     (sink : Sink W) (old new : W) (t : T) where
   never : (fault : ToolFault) → ◌≡◌ {A = Result T ToolFault} (Ok t) (Err fault) → ⊥
   never fault e = cc
 
-  -- its sources are something, of which the work made what was told
+  -- its sources are something, of which the work made what is stated
   abbrev pub HasRun : Type 0
   HasRun = (a : A) × (made : M) × sources.are a × (work a ≡ Ok made) × Appends (sink.written old) (sink.written new) (tell made)
 
@@ -161,7 +161,7 @@ module _ {S W T : Type 0} (source : Source S) (sink : Sink W) (old new : W) (t :
         ),
       )
 
--- ---- an engine with one input, whose log and atoms it tells
+-- ---- an engine with one input, by the input's log and atoms
 
 held_named : (o : Option Text) (atoms : Contents) (h : ReplicaModel) → under_log o atoms ≡ Ok h → (o ≡ Some h.log) × (h.atoms ≡ atoms)
 held_named None atoms h e = absurd (cc)

@@ -1,4 +1,4 @@
--- A script that is read and played.
+-- A script that is read and simulated.
 use Rattle.std.proofs.Common.{◌≡◌, ℕ, List, Result, Ok, Err, refl, sym, ap, subst}
 use Rattle.cadf_join.specs.Contents.{Text}
 use Rattle.cadf_set.specs.Replica.{ReplicaModel}
@@ -34,12 +34,12 @@ module _ (t : SourceTransition) (log : Text) (sites : ℕ) where
   refused_at fault Writing h = h
   refused_at fault OutOfMemoryStage h = h
 
-  -- a script that is refused isn't played
+  -- a script that is refused isn't simulated
   pub script_refused : (fault : ToolFault) → IsExpected (one script_spec t) turns_of (Err fault)
       → IsExpected (one script_spec t) (final_sites log sites) (Err fault)
   script_refused fault h = record { is = refused_at fault (fault_stage fault) h.is; bounded = h.bounded }
 
-  -- the turns of a script are played
+  -- the turns of a script are simulated
   pub script_played : (turns : List Step) (expected : Result (List ReplicaModel) ToolFault) → IsExpected (one script_spec t) turns_of (Ok turns)
       → IsWorked (left_of log sites turns) expected → IsExpected (one script_spec t) (final_sites log sites) expected
   script_played turns expected h w =

@@ -28,7 +28,7 @@ module _ (place : ℕ) (ruling : RulingParts) (loaded : Loaded) (h : ReplicaMode
   pub rule_log : log_named loaded ≡ Some h.log
   rule_log = is_ruled.log
 
-  -- the ruling stands for the value that was ruled
+  -- the ruling is that of the value that was ruled
   ruling_stands : ruling_at (atoms_loaded loaded) ruling.letter ruling.key place ≡ Ok ruling → ruling_on ruling.letter ruling.key is_ruled.value ≡ ruling
   ruling_stands at =
       one_ruling (ruling_on ruling.letter ruling.key is_ruled.value) ruling

@@ -1,4 +1,4 @@
--- One ruling more: what `rule` makes of a set of atoms.
+-- A further ruling: what `rule` makes of a set of atoms.
 use Rattle.std.proofs.Common.{
   ◌≡◌,
   ◌≤◌,
@@ -85,7 +85,7 @@ listed_held s letter key v l =
     let t = filter_map_listed (λ q. only (strip (letter ∷ key ∷ []) q)) (rising s) v l in
     subst (Has s) (value_is letter key t.0 v t.2) (listed-rising texts_total texts_same s t.0 t.1)
 
--- ---- the ruling for a value that is held
+-- ---- the ruling for a value in the set
 
 -- what holds of every atom of three texts
 pub held_passes : (letter key v : Text) → IsAtom atom_rules (letter ∷ key ∷ v ∷ []) → IsTrue (is_value_letter letter) × IsTrue (is_name_text key)
@@ -226,7 +226,7 @@ ruled_again letter key place named s h r =
 
 -- ---- for the code
 
--- reading the ruling of a value that is held gives it
+-- reading the ruling of a value in the set gives it
 read_is : (letter key value : Text) (r : RulingParts) → ruling_of letter key (value_digest value) ≡ Ok r → ruling_on letter key value ≡ r
 read_is letter key value r e = by (is_value_letter letter) (is_name_text key) (is_digest_text (value_digest value)) e
   where

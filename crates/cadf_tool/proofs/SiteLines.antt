@@ -1,4 +1,4 @@
--- The lines that tell what each site holds.
+-- The lines of what each site has.
 use Rattle.std.proofs.Common.{
   ◌≡◌,
   ℕ,
@@ -66,7 +66,7 @@ same_itself h =
     within : set.is_subset h.atoms h.atoms ≡ true
     within = subset-from_IsWithin texts_total h.atoms h.atoms (λ q w. w)
 
--- what tells the same from the other is the definition
+-- the test of whether two are the same is the definition
 pub decided : (r : Bool) (h k : ReplicaModel) → (IsTrue r ↔ (h ≡ k)) → r ≡ is_same h k
 decided true h k w = sym (subst (λ x. is_same h x ≡ true) (w.0 refl) (same_itself h))
 decided false h k w = by (is_same h k) refl

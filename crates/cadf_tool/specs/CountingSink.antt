@@ -14,6 +14,6 @@ abbrev pub with_taken : {E : Type 0} → ℕ → Result ℕ E → ℕ
 with_taken taken (Ok n) = min (taken + n) (2 ^ 64 - 1)
 with_taken taken (Err e) = taken
 
--- the report of so many bytes that were written: none, up to the limit
+-- the report of that many bytes written: none, up to the limit
 abbrev pub report_of : ℕ → ℕ → Option OverLimit
 report_of written limit = if nat_lt limit written then Some (record { written = written; limit = limit }) else None

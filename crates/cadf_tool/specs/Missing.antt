@@ -1,5 +1,5 @@
--- What the missing part of one input against another is, as one function of what was loaded.
---     missing_of from to       what TO lacks of FROM, under their log, or why there is no such part
+-- The delta of one input against another, as one function of what was loaded.
+--     missing_of from to       what TO lacks of FROM, under their log, or why there is no delta
 --     part_of both             the same of a pair, FROM first
 use Rattle.std.specs.Prelude.{if◌then◌else◌, Option, Some, None, Result, Ok, Err}
 use Rattle.cadf_join.specs.Contents.{Text, Contents}
@@ -11,13 +11,13 @@ use Rattle.cadf_tool.specs.declared.fault.ToolFault.TheVariants.{NoLog, OtherLog
 use Rattle.cadf_tool.specs.Told.{log_named, atoms_loaded}
 use Rattle.cadf_tool.specs.Join.{is_other}
 
--- atoms under the log of FROM, where both inputs name a log, and it is one
+-- atoms under the log of FROM, if both inputs name a log, and it is the same
 abbrev pub under_one_log : Option Text → Option Text → Contents → Result ReplicaModel ToolFault
 under_one_log None to atoms = Err NoLog
 under_one_log (Some log) None atoms = Err NoLog
 under_one_log (Some log) (Some to) atoms = if is_other log (Some to) then Err (OtherLog 2) else Ok (record { log = log; atoms = atoms })
 
--- THE MISSING PART: the least grounded set that contains the atoms of FROM that TO lacks
+-- THE DELTA: the least grounded set that contains the atoms of FROM that TO lacks
 abbrev pub missing_of : Loaded → Loaded → Result ReplicaModel ToolFault
 missing_of from to = under_one_log (log_named from) (log_named to) (missing (atoms_loaded from) (atoms_loaded to))
 

@@ -1,7 +1,7 @@
 -- A script that is read whole, and what its schedule leaves.
---     script_spec                   how a source is read as a script: its turns, or the first line that spells none
+--     script_spec                   how a source is read as a script: its turns, or the first line that is no turn
 --     left_of log sites turns       the replicas that the turns leave, or the first that can't be taken
---     final_sites log sites script  the same of a script, or its first line that spells no turn
+--     final_sites log sites script  the same of a script, or its first line that is no turn
 use Rattle.std.specs.Prelude.{◌≡◌, ◌≤◌, ◌+◌, ℕ, List, length, reverse, true, false, Result, Ok, Err}
 use Rattle.cadf_json.specs.Streams.{counted, ConsumesAtMost, ConsumesExactly}
 use Rattle.cadf_join.specs.Contents.{Text}
@@ -21,7 +21,7 @@ use Rattle.cadf_tool.specs.declared.fault.ToolFault.TheVariants.{Script, Rehears
 use Rattle.cadf_tool.specs.Inputs.{SourceState}
 use Rattle.cadf_tool.specs.Run.{InputSpec}
 
--- the bytes spell these turns, or the line of that number is the first that spells none
+-- the bytes are these turns, or the line of that number is the first that is no turn
 abbrev pub IsScriptJudged : List ℕ → Result (List Turn) ℕ → Type 0
 IsScriptJudged bytes (Ok turns) = IsScript bytes turns
 IsScriptJudged bytes (Err line) = IsFirstBad (lines_of bytes) line
@@ -29,7 +29,7 @@ IsScriptJudged bytes (Err line) = IsFirstBad (lines_of bytes) line
 abbrev pub IsScriptInput : List ℕ → Result (List Turn) ℕ → Type 0
 IsScriptInput bytes judged = (length bytes ≤ FILE_LIMIT) × IsScriptJudged bytes judged
 
--- one byte more than may be was read, and no read failed, or one did
+-- one byte more than the limit was read, and no read failed, or one did
 abbrev pub RefusesScript : SourceState → SourceState → LoadFault → Type 0
 RefusesScript old new TooLarge = ConsumesExactly old.left new.left (FILE_LIMIT + 1) × (new.failures ≡ counted false old.failures)
 RefusesScript old new ReadFault = ConsumesAtMost old.left new.left FILE_LIMIT × (new.failures ≡ counted true old.failures)
@@ -60,7 +60,7 @@ of_rehearsal (WrongAddressee turn) = Rehearse (WrongAddressee turn)
 of_rehearsal (OtherLog turn) = Rehearse (OtherLog turn)
 of_rehearsal Memory = OutOfMemory
 
--- WHAT THE TURNS LEAVE at so many sites of the log
+-- WHAT THE TURNS LEAVE at that many sites of the log
 abbrev pub left_of : Text → ℕ → List Turn → Result (List ReplicaModel) ToolFault
 left_of log sites turns = left_in log sites (after atom_digest log sites (reverse turns))
 

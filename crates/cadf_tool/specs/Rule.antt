@@ -1,4 +1,4 @@
--- What `rule` makes of an input: its set, with one ruling more.
+-- What `rule` makes of an input: its set, with a further ruling.
 --     value_at vs place                    the value at that place of a list; places count from 1
 --     ruling_on letter key value           the ruling that names this value of the key
 --     ruling_at s letter key place         the ruling that names the value at that place of a key's values, or that there is no such value
@@ -26,7 +26,7 @@ abbrev pub ruling_for : (letter key : Text) → Option Text → Result RulingPar
 ruling_for letter key None = Err NoValue
 ruling_for letter key (Some value) = Ok (ruling_on letter key value)
 
--- all values that are held have a place, rising, those that are ruled too
+-- all values of the key have a place, ascending, those that are ruled too
 abbrev pub ruling_at : Contents → (letter key : Text) → ℕ → Result RulingParts ToolFault
 ruling_at s letter key place = ruling_for letter key (value_at (values s letter key) place)
 

@@ -1,6 +1,6 @@
 -- What `rehearse` writes of the replicas of all sites.
---     is_same h k        both are of one log and hold the same
---     place_of h sites   how many sites stand before the first that is the same as h
+--     is_same h k        both are of the same log and have the same atoms
+--     place_of h sites   how many sites come before the first that is the same as h
 --     sites_text sites   a line for each site: its number, how many atoms it has, and the least site that is the same
 use Rattle.std.specs.Prelude.{ℕ, ◌+◌, Bool, ◌&&◌, List, [], ◌∷◌, ◌++◌, length, codes, decimal}
 use Rattle.std.specs.List.{position_or_len}
@@ -24,7 +24,7 @@ site_line site atoms same =
 abbrev pub line_at : List ReplicaModel → ℕ → ReplicaModel → Text
 line_at sites i h = site_line i (saturated (length (set.rising h.atoms))) (place_of h sites)
 
--- the lines of these, of which the first has that number
+-- the lines of these sites, of which the first has that number
 abbrev pub lines_from : List ReplicaModel → ℕ → List ReplicaModel → Text
 lines_from sites i [] = []
 lines_from sites i (h ∷ hs) = line_at sites i h ++ lines_from sites (i + 1) hs

@@ -20,7 +20,7 @@ abbrev pub atoms_loaded : Loaded → Contents
 atoms_loaded (Replica h) = h.atoms
 atoms_loaded (Document doc) = document_atoms doc
 
--- the log that an input names and its atoms, where it names one
+-- the log that an input names and its atoms, if it names one
 abbrev pub under_log : Option Text → Contents → Result ReplicaModel ToolFault
 under_log None atoms = Err NoLog
 under_log (Some log) atoms = Ok (record { log = log; atoms = atoms })

@@ -1,4 +1,4 @@
-//! Counts what a sink takes, and reports an output that is larger than an input may be.
+//! A sink that counts what it takes, and reports an output that is larger than an input may be.
 ghost use Rattle.std.specs.Prelude.{◌≡◌};
 ghost use Rattle.std.specs.Io.{WritesAtMost};
 ghost use Rattle.std.specs.Io.KnownBytes.{WriteAppends};
@@ -7,7 +7,7 @@ ghost use Rattle.cadf_json.specs.Streams.{one_more, counted, write_fails};
 use cadf_json::{Failed, Sink};
 use thiserror::Error;
 
-/// More bytes were written than an input may have.
+/// The report that more bytes were written than an input may have.
 #[derive(Clone, Copy, Debug, Drop, PartialEq, Eq, Error)]
 #[error("{written} bytes were written, and no input above {limit} is read")]
 pub struct OverLimit {

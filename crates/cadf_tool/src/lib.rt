@@ -1,4 +1,4 @@
-//! The engines of the command: what each writes of what it read.
+//! The engines of the command: what each writes for the inputs that it read.
 #![tactic(auto)]
 
 mod check;

@@ -1,4 +1,4 @@
-//! A schedule that is read of a script, and what it leaves at each site.
+//! The engine of `rehearse`: the schedule of a script, and what it leaves at each site.
 ghost use Rattle.std.specs.Prelude.{◌≡◌, IfOk, IfErr, Ok, string_bytes};
 ghost use Rattle.cadf_tool.specs.Rehearse.{bytes_spec, script_spec, turns_of, of_rehearsal, left_of, final_sites as played_of};
 ghost use Rattle.cadf_tool.specs.Run.{one, transition_of, IsReadAs, IsReadWithin, IsUnread, IsExpected, IsWorked, IsWritten, IsRun};
@@ -13,7 +13,7 @@ use cadf_replica::{RehearseFault, Replica, Turn, rehearse};
 use cadf_script::{ScriptFault, read_script};
 use std::alloc::Global;
 
-/// The bytes of a script.
+/// Reads the bytes of a script. `Err`: it is too large, a read failed, or an allocation.
 fn bytes_of<R: Source>(alloc: Global, script: &mut R) -> Result<Vec<u8>, ToolFault>
     ensures ok { IfOk result (λ v. IsReadAs bytes_spec (transition_of R.Source script.old script.new) v.items) }
     ensures err { IfErr result (IsUnread (one script_spec (transition_of R.Source script.old script.new))) }
@@ -27,7 +27,8 @@ fn bytes_of<R: Source>(alloc: Global, script: &mut R) -> Result<Vec<u8>, ToolFau
     }
 }
 
-/// The turns of a script, which is read whole before the first.
+/// Reads the turns of a script, which is read whole before the first. `Err`: the script is refused, or a line of it is
+/// no turn.
 fn turns<R: Source>(alloc: Global, script: &mut R) -> Result<Vec<Turn>, ToolFault>
     ensures ok { IfOk result (λ v. IsExpected (one script_spec (transition_of R.Source script.old script.new)) turns_of (Ok v.items)) }
     ensures err { IfErr result (λ f. IsExpected (one script_spec (transition_of R.Source script.old script.new)) turns_of (Err f)) }
@@ -40,7 +41,7 @@ fn turns<R: Source>(alloc: Global, script: &mut R) -> Result<Vec<Turn>, ToolFaul
     }
 }
 
-/// What an engine answers where a schedule can't be played.
+/// Returns the fault of the engine for the fault of a schedule.
 fn refused(fault: RehearseFault) -> ToolFault
     ensures { result ≡ of_rehearsal fault }
 {
@@ -50,7 +51,8 @@ fn refused(fault: RehearseFault) -> ToolFault
     }
 }
 
-/// The replicas that the turns leave at the sites.
+/// Simulates the turns, and returns the replicas that they leave at the sites. `Err`: the first turn that can't be
+/// taken.
 fn left(alloc: Global, log: &Name, sites: usize, turns: &[Turn]) -> Result<Vec<Replica>, ToolFault>
     ensures ok { IfOk result (λ v. IsWorked (left_of log.now sites turns.now) (Ok v.items)) }
     ensures err { IfErr result (λ f. IsWorked (left_of log.now sites turns.now) (Err f)) }
@@ -61,7 +63,8 @@ fn left(alloc: Global, log: &Name, sites: usize, turns: &[Turn]) -> Result<Vec<R
     }
 }
 
-/// Returns the replicas that a script leaves at the sites.
+/// Reads a script, and returns the replicas that it leaves at the sites. `Err`: the script is refused, or a turn of it
+/// can't be taken.
 fn final_sites<R: Source>(
     alloc: Global,
     log: &Name,
@@ -77,14 +80,14 @@ fn final_sites<R: Source>(
     }
 }
 
-/// Whether both are of one log and hold the same.
+/// Returns whether both are of the same log and have the same atoms.
 fn are_same(site: &Replica, other: &Replica) -> bool
     ensures { result ≡ is_same site.now other.now }
 {
     site.same(other)
 }
 
-/// How many sites stand before the first that holds the same.
+/// Counts the sites before the first that is the same.
 fn place_of(site: &Replica, sites: &[Replica]) -> usize
     ensures { result ≡ place_in site.now sites.now }
 {
@@ -96,14 +99,14 @@ fn place_of(site: &Replica, sites: &[Replica]) -> usize
     sites.len()
 }
 
-/// The line of a site.
+/// Formats the line of a site.
 fn line(alloc: Global, site: usize, atoms: u64, same: usize) -> Result<String, Memory>
     ensures { IfOk result (λ line. string_bytes line ≡ site_line site atoms same) }
 {
     format!(in alloc; "site {site} atoms {atoms} as {same}\n")
 }
 
-/// The lines of all sites.
+/// Formats the lines of all sites.
 #[tactic(auto, unfolding(crate::specs::Sites::sites_text))]
 fn lines(alloc: Global, sites: &[Replica]) -> Result<String, Memory>
     ensures { IfOk result (λ text. string_bytes text ≡ text_of_sites sites.now) }
@@ -116,7 +119,8 @@ fn lines(alloc: Global, sites: &[Replica]) -> Result<String, Memory>
     Ok(text)
 }
 
-/// Writes the lines of all sites.
+/// Writes the lines of all sites. `Memory` if an allocation fails, before anything is written. `WriteFault` if a write
+/// fails.
 fn write_lines<W: Sink>(alloc: Global, sites: &[Replica], output: &mut W) -> Result<(), ToolFault>
     ensures written { IsWritten W.Sink output.old output.new (text_of_sites sites.now) result }
     ensures memory { result ≡ Err ToolFault.Memory → output.new ≡ output.old }
@@ -130,8 +134,8 @@ fn write_lines<W: Sink>(alloc: Global, sites: &[Replica], output: &mut W) -> Res
     }
 }
 
-/// Plays the schedule of a script over so many sites of the log, and writes a line for each site from 0:
-/// `site I atoms N as J`, where J is the least site that holds the same.
+/// Simulates the schedule of a script over `sites` sites of the log, and writes a line for each site from 0:
+/// `site I atoms N as J`, where J is the least site with the same atoms.
 pub fn run_rehearse<R: Source, W: Sink>(
     alloc: Global,
     log: &Name,
@@ -141,7 +145,7 @@ pub fn run_rehearse<R: Source, W: Sink>(
 ) -> Result<(), ToolFault>
     ensures final_sites { IsRun (one script_spec (transition_of R.Source script.old script.new)) (played_of log.now sites)
         text_of_sites W.Sink output.old output.new result }
-    // The lines stand whole before they are written.
+    // All lines are in memory before they are written.
     ensures memory { result ≡ Err ToolFault.Memory → output.new ≡ output.old }
 {
     match final_sites(alloc, log, sites, script) {

@@ -6,7 +6,7 @@ use calls::Call;
 use std::alloc::{AllocError as Memory, Global};
 use std::io;
 
-/// Has the driver make the call, and returns the line of its answer.
+/// Lets the driver make the call, and returns the line of its answer.
 fn answered(alloc: Global, driver: &str, call: &Call) -> Result<String, Memory> {
     match driver {
         "json" => json_calls::answered(alloc, call),

@@ -1,4 +1,4 @@
-//! What a call answers: its result, and what it wrote.
+//! The answer of a call: its result, and what it wrote.
 
 use calls::push_bytes;
 use std::alloc::{AllocError as Memory, Global};
@@ -26,7 +26,7 @@ impl Answer {
         }
     }
 
-    /// Adds what differs from the answer before: the result, and what was written beyond what it wrote.
+    /// Appends what differs from the previous answer: the result, and what was written beyond what that one wrote.
     pub(crate) fn push_after(&self, before: &Answer, line: &mut String) -> Result<(), Memory> {
         if self.told != before.told {
             if !line.is_empty() {

@@ -11,13 +11,13 @@ use cadf_tool::{
 use calls::{push, push_number, refused};
 use std::alloc::{AllocError as Memory, Global};
 
-/// What an engine answered: nothing where the words don't say what to run.
+/// The result of an engine: `None` if the words don't say what to run.
 type Ran = Option<Result<(), ToolFault>>;
 
-/// What an engine writes to: its bytes are counted, as the command counts them.
+/// What an engine writes to. Its bytes are counted, as the command counts them.
 type Output = CountingSink<MemorySink>;
 
-/// `run_join`: a log, empty for none, and readers.
+/// Runs `run_join`: a log, empty for none, and readers.
 fn join(alloc: Global, words: Words<'_>, sink: &mut Output) -> Ran {
     let log = Name::read(alloc, words.text(4)).ok();
     let mut inputs: Vec<MemorySource<'_>> = Vec::new(alloc);
@@ -27,19 +27,19 @@ fn join(alloc: Global, words: Words<'_>, sink: &mut Output) -> Ran {
     Some(run_join(alloc, log, inputs.as_mut_slice(), sink))
 }
 
-/// `run_missing`: two readers.
+/// Runs `run_missing`: two readers.
 fn missing(alloc: Global, words: Words<'_>, sink: &mut Output) -> Ran {
     let (mut from, mut to) = (words.source(4), words.source(7));
     Some(run_missing(alloc, &mut from, &mut to, sink))
 }
 
-/// `run_missing_by`: two readers.
+/// Runs `run_missing_by`: two readers.
 fn missing_by(alloc: Global, words: Words<'_>, sink: &mut Output) -> Ran {
     let (mut from, mut inventory) = (words.source(4), words.source(7));
     Some(run_missing_by(alloc, &mut from, &mut inventory, sink))
 }
 
-/// `run_rule`: a letter, a key, a place and a reader.
+/// Runs `run_rule`: a letter, a key, a place and a reader.
 fn rule(alloc: Global, words: Words<'_>, sink: &mut Output) -> Ran {
     let letter = words.text(4).chars().next()?;
     let key = Name::read(alloc, words.text(5)).ok()?;
@@ -48,14 +48,14 @@ fn rule(alloc: Global, words: Words<'_>, sink: &mut Output) -> Ran {
     Some(run_rule(alloc, letter, &key, place, &mut input, sink))
 }
 
-/// `run_rehearse`: a log, a number of sites and a reader.
+/// Runs `run_rehearse`: a log, a number of sites and a reader.
 fn rehearse(alloc: Global, words: Words<'_>, sink: &mut Output) -> Ran {
     let log = Name::read(alloc, words.text(4)).ok()?;
     let mut script = words.source(6);
     Some(run_rehearse(alloc, &log, words.number(5), &mut script, sink))
 }
 
-/// `run_show`: `log` or `conflicts`, and a reader.
+/// Runs `run_show`: `log` or `conflicts`, and a reader.
 fn show(alloc: Global, words: Words<'_>, sink: &mut Output) -> Ran {
     let conflicts = words.text(4) == "conflicts";
     Some(run_show(alloc, conflicts, &mut words.source(5), sink))
@@ -81,13 +81,13 @@ fn output(alloc: Global, words: Words<'_>) -> Output {
     CountingSink::new(words.sink(alloc, 1))
 }
 
-/// Makes the answer of an engine: its outcome, and what it wrote.
+/// Makes the answer of an engine: its result, and what it wrote.
 fn answer(alloc: Global, told: String, sink: Output) -> Result<Answer, Memory> {
     let written = Vec::from_slice(alloc, sink.into_inner().bytes())?;
     Ok(Answer { told, written })
 }
 
-/// The answer of an engine.
+/// Runs an engine, and returns its answer.
 pub(crate) fn answered(alloc: Global, words: Words<'_>) -> Result<Answer, Memory> {
     let mut sink = output(alloc, words);
     let told = match run(alloc, words, &mut sink) {
@@ -98,7 +98,7 @@ pub(crate) fn answered(alloc: Global, words: Words<'_>) -> Result<Answer, Memory
     answer(alloc, told, sink)
 }
 
-/// The status and the text of a fault.
+/// Returns the status and the text of a fault.
 fn status_and_text(alloc: Global, fault: &ToolFault) -> Result<String, Memory> {
     let (status, text) = (status(fault), format!(in alloc; "{fault}")?);
     calls::answer(
@@ -108,7 +108,7 @@ fn status_and_text(alloc: Global, fault: &ToolFault) -> Result<String, Memory> {
     )
 }
 
-/// `fault`: an engine's call, of which the fault's status and text are told.
+/// Runs an engine for `fault`, and returns the status and the text of its fault.
 pub(crate) fn faulted(alloc: Global, words: Words<'_>) -> Result<Answer, Memory> {
     let mut sink = output(alloc, words);
     let told = match run(alloc, words, &mut sink) {
@@ -118,7 +118,7 @@ pub(crate) fn faulted(alloc: Global, words: Words<'_>) -> Result<Answer, Memory>
     answer(alloc, told, sink)
 }
 
-/// Answers how many bytes were written, and the report if they are more than the limit.
+/// Returns how many bytes were written, and the report if they are more than the limit.
 fn count_and_warning(alloc: Global, sink: &Output, limit: u64) -> Result<String, Memory> {
     let mut line = calls::answer(alloc, "ok", &[])?;
     push_number(alloc, &mut line, i128::from(sink.bytes_written()))?;
@@ -132,7 +132,8 @@ fn count_and_warning(alloc: Global, sink: &Output, limit: u64) -> Result<String,
     Ok(line)
 }
 
-/// `metered`: a limit and an engine's call. Answers how many bytes it wrote, even if it failed.
+/// Runs an engine for `metered`, whose words are a limit and the engine's call. Returns how many bytes it wrote, even
+/// if it failed.
 pub(crate) fn metered(alloc: Global, words: Words<'_>) -> Result<Answer, Memory> {
     let call = words.inner().inner();
     let mut sink = output(alloc, call);

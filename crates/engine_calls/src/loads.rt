@@ -6,12 +6,12 @@ use cadf_tool::{LoadFault, Loaded, load, load_within};
 use calls::{push, push_number, refused};
 use std::alloc::{AllocError as Memory, Global};
 
-/// Adds how many there are.
+/// Appends a count.
 fn push_count(alloc: Global, line: &mut String, count: u64) -> Result<(), Memory> {
     push_number(alloc, line, i128::from(count))
 }
 
-/// Adds what a replica holds, or what a document tells.
+/// Appends the number of a replica's atoms, or the numbers of a document's events, entities and properties.
 fn push_contents(alloc: Global, line: &mut String, loaded: &Loaded) -> Result<(), Memory> {
     match loaded {
         Loaded::Replica(replica) => push_count(alloc, line, replica.atom_count()),
@@ -23,8 +23,8 @@ fn push_contents(alloc: Global, line: &mut String, loaded: &Loaded) -> Result<()
     }
 }
 
-/// The answer of an input: `replica` or `document`, the log that it names, and how many atoms, or how many events,
-/// entities and properties.
+/// Returns the line of an input: `replica` or `document`, the log that it names, and how many atoms, or how many
+/// events, entities and properties.
 fn shown(alloc: Global, loaded: &Loaded) -> Result<String, Memory> {
     let kind = match loaded {
         Loaded::Replica(_) => "replica",
@@ -42,7 +42,7 @@ fn shown(alloc: Global, loaded: &Loaded) -> Result<String, Memory> {
     Ok(line)
 }
 
-/// The answer of a loading.
+/// Returns the answer of a load.
 fn told(alloc: Global, loaded: Result<Loaded, LoadFault>) -> Result<Answer, Memory> {
     let told = match loaded {
         Ok(loaded) => shown(alloc, &loaded)?,
@@ -51,12 +51,12 @@ fn told(alloc: Global, loaded: Result<Loaded, LoadFault>) -> Result<Answer, Memo
     Ok(Answer::of(alloc, told))
 }
 
-/// `load`: a reader.
+/// Runs `load`: a reader.
 pub(crate) fn load_all(alloc: Global, words: Words<'_>) -> Result<Answer, Memory> {
     told(alloc, load(alloc, &mut words.source(1)))
 }
 
-/// `load_within`: a limit and a reader.
+/// Runs `load_within`: a limit and a reader.
 pub(crate) fn load_limited(alloc: Global, words: Words<'_>) -> Result<Answer, Memory> {
     let limit = words.number(1) as u64;
     told(alloc, load_within(alloc, &mut words.source(2), limit))

@@ -6,7 +6,7 @@ use crate::{engines, loads};
 use calls::Call;
 use std::alloc::{AllocError as Memory, Global};
 
-/// The answer of one call.
+/// Makes one call, and returns its answer.
 fn one(alloc: Global, words: Words<'_>) -> Result<Answer, Memory> {
     match words.text(0) {
         "load" => loads::load_all(alloc, words),
@@ -17,7 +17,7 @@ fn one(alloc: Global, words: Words<'_>) -> Result<Answer, Memory> {
     }
 }
 
-/// Makes the call with that number, and adds what its answer has beyond the one before.
+/// Makes the call with that number, and appends what its answer has beyond the previous one.
 fn next(
     alloc: Global,
     words: Words<'_>,
@@ -29,7 +29,7 @@ fn next(
     Ok(answer)
 }
 
-/// The answers of the calls with these numbers, each as far as it differs from the one before.
+/// Makes the call with each of these numbers, and returns the answers, each as far as it differs from the previous one.
 fn each(
     alloc: Global,
     call: &Call,
@@ -44,8 +44,8 @@ fn each(
     Ok(line)
 }
 
-/// The answer of the call. `each` has two numbers and a call, which is made for each number from the first to the
-/// second: the word `N` stands for it.
+/// Returns the line of the call's answer. `each` has two numbers and a call, which is made for each number from the
+/// first to the second: the word `N` is replaced by it.
 pub(crate) fn answered(alloc: Global, call: &Call) -> Result<String, Memory> {
     match call.name() {
         "each" => each(alloc, call, 3, (call.number(1), call.number(2))),

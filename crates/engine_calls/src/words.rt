@@ -4,13 +4,13 @@ use cadf_json::{FailingWrite, MemorySink, MemorySource};
 use calls::Call;
 use std::alloc::Global;
 
-/// A call that stands on a line from one of its words on.
+/// A call whose name is one of the words of a line.
 #[derive(Clone, Copy, Drop)]
 pub(crate) struct Words<'a> {
     call: &'a Call,
     /// The place of the call's name.
     first: usize,
-    /// What the word `N` stands for where a number is asked.
+    /// The value of the word `N` if a number is expected.
     number: usize,
 }
 
@@ -24,7 +24,7 @@ impl<'a> Words<'a> {
         }
     }
 
-    /// The call whose name is this call's first word.
+    /// Returns the call whose name is this call's first word.
     pub(crate) fn inner(self) -> Words<'a> {
         Words::new(self.call, self.first.saturating_add(1), self.number)
     }
@@ -34,12 +34,12 @@ impl<'a> Words<'a> {
         self.call.count().saturating_sub(self.first)
     }
 
-    /// The text of a word, of which 0 is the name.
+    /// Returns the text of a word, of which 0 is the name.
     pub(crate) fn text(self, place: usize) -> &'a str {
         self.call.text(self.first.saturating_add(place))
     }
 
-    /// The number that a word spells; 0 where it spells none.
+    /// Returns the number of a word, 0 if it is no number.
     pub(crate) fn number(self, place: usize) -> usize {
         match self.text(place) {
             "N" => self.number,

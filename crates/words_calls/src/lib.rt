@@ -5,7 +5,7 @@ use cadf_words::{Message, Reply, Request, parse};
 use calls::Call;
 use std::alloc::{AllocError as Memory, Global};
 
-/// The command line, of which each word is a word of the call.
+/// Returns the command line: each word of the call is a word of it.
 fn words_of(alloc: Global, call: &Call) -> Result<Vec<String>, Memory> {
     let mut words = Vec::new(alloc);
     for place in 1..=call.count() {
@@ -14,13 +14,13 @@ fn words_of(alloc: Global, call: &Call) -> Result<Vec<String>, Memory> {
     Ok(words)
 }
 
-/// Adds a word.
+/// Appends a word.
 fn push_word(alloc: Global, words: &mut Vec<String>, word: &str) -> Result<(), Memory> {
     words.push(String::from_str(alloc, word)?)?;
     Ok(())
 }
 
-/// A request for `join`, as a line.
+/// Returns a request for `join`, as a line.
 fn joined(alloc: Global, log: Option<&str>, files: &[&str]) -> Result<String, Memory> {
     let mut line = match log {
         Some(log) => calls::answer(alloc, "ok", &["Join", "some", log])?,
@@ -32,7 +32,7 @@ fn joined(alloc: Global, log: Option<&str>, files: &[&str]) -> Result<String, Me
     Ok(line)
 }
 
-/// A request, as a line.
+/// Returns a request, as a line.
 fn asked(alloc: Global, request: &Request<'_>) -> Result<String, Memory> {
     match request {
         Request::Join { log, files } => joined(alloc, *log, files.as_slice()),
@@ -63,13 +63,13 @@ fn asked(alloc: Global, request: &Request<'_>) -> Result<String, Memory> {
     }
 }
 
-/// A text for the user, as a line.
+/// Returns a text for the user, as a line.
 fn told(alloc: Global, word: &str, message: &Message) -> Result<String, Memory> {
     let text = format!(in alloc; "{message}")?;
     calls::answer(alloc, word, &[text.as_str()])
 }
 
-/// Makes the call, and returns the line of its answer. An `Err` is a refused allocation.
+/// Makes the call, and returns the line of its answer. An `Err` is a failed allocation.
 pub fn answered(alloc: Global, call: &Call) -> Result<String, Memory> {
     let words = words_of(alloc, call)?;
     match parse(alloc, words.as_slice()) {

@@ -1,6 +1,6 @@
 -- The members of a finite set, in order.
---     contains-rising, rising_is_sorted      the members rise strictly, and are those that the set contains
---     rising-from_list     a list that rises strictly is what `rising` gives of its set
+--     contains-rising, rising_is_sorted      the members are strictly ascending, and are those that the set contains
+--     rising-from_list     a strictly ascending list is `rising` of its set
 --     from_list-rising, same_rising          a set is that of its members, and so two sets with one list of members are one
 --     some_member, lacking_member            a member of a set that is not empty, and one that another set lacks
 use Rattle.std.specs.Prelude.{◌≡◌, Bool, true, false, ◌||◌, List, [], ◌∷◌, ◌⊎◌}
