@@ -7,6 +7,7 @@ pub mod CarrierLists
 pub mod Climbs
 pub mod Compared
 pub mod Copies
+pub mod Cuts
 pub mod Ends
 pub mod Firsts
 pub mod Forks

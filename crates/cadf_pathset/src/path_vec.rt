@@ -32,9 +32,9 @@ use std::marker::Model;
 #[derive(Drop)]
 pub struct PathVec {
     nodes: Nodes,
-    numbers: Vec<u32>,
+    numbers: Vec<usize>,
     /// The line of the list that was added last, or of another list.
-    line: Vec<u32>,
+    line: Vec<usize>,
     alloc: Global,
 }
 
@@ -320,7 +320,7 @@ impl PathVec {
 }
 
 /// Whether the nodes of two arenas have the same lists, one by one.
-fn same_lists(nodes: &Nodes, numbers: &[u32], others: &Nodes, its: &[u32]) -> bool
+fn same_lists(nodes: &Nodes, numbers: &[usize], others: &Nodes, its: &[usize]) -> bool
     requires ours { AreThere nodes.now numbers.now }
     requires theirs { AreThere others.now its.now }
     ensures { IsTrue result ↔ (lists_at nodes.now numbers.now ≡ lists_at others.now its.now) }
@@ -343,7 +343,7 @@ fn same_lists(nodes: &Nodes, numbers: &[u32], others: &Nodes, its: &[u32]) -> bo
 }
 
 /// Returns that node of the lists beside that place whose list shares more texts with the path, or the root.
-fn nearest(nodes: &Nodes, numbers: &[u32], at: usize, path: &[&str]) -> u32
+fn nearest(nodes: &Nodes, numbers: &[usize], at: usize, path: &[&str]) -> usize
     requires there { AreThere nodes.now numbers.now }
     requires within { at ≤ length numbers.now }
     ensures { result ≤ length nodes.now }

@@ -22,10 +22,10 @@ use std::cmp::Ordering;
 /// Compares one of our lists with theirs. Skips the texts that they are known to share.
 fn compare(
     nodes: &Nodes,
-    number: u32,
-    line: &mut Vec<u32>,
-    up: &mut Vec<u32>,
-    out: &mut Vec<u32>,
+    number: usize,
+    line: &mut Vec<usize>,
+    up: &mut Vec<usize>,
+    out: &mut Vec<usize>,
     agreed: &mut usize,
     path: &[&str],
 ) -> Result<Ordering, Memory>
@@ -47,7 +47,7 @@ fn compare(
 }
 
 /// Goes to their next list, and returns whether there is one.
-fn enter(cursor: &mut Cursor<'_>, out: &mut Vec<u32>, agreed: &mut usize) -> Result<bool, Memory>
+fn enter(cursor: &mut Cursor<'_>, out: &mut Vec<usize>, agreed: &mut usize) -> Result<bool, Memory>
     ensures { IfOk result (λ more. Entered more cursor.old cursor.new out.old.items out.new.items agreed.old agreed.new) }
 {
     match cursor.advance()? {
@@ -63,9 +63,9 @@ fn enter(cursor: &mut Cursor<'_>, out: &mut Vec<u32>, agreed: &mut usize) -> Res
 /// Appends their list, by new nodes for the texts that our nodes lack.
 fn append(
     nodes: &mut Nodes,
-    out: &mut Vec<u32>,
+    out: &mut Vec<usize>,
     path: &[&str],
-    all: &mut Vec<u32>,
+    all: &mut Vec<usize>,
 ) -> Result<(), Memory>
     requires line { IsLine nodes.old out.old.items (take (length out.old.items) (texts_at path.now)) }
     requires there { AreThere nodes.old all.old.items }
@@ -80,7 +80,7 @@ fn append(
 }
 
 /// Returns a number of ours from `from` on, all lists between being below theirs. Galloping search.
-fn gallop(nodes: &Nodes, numbers: &[u32], from: usize, path: &[&str]) -> usize
+fn gallop(nodes: &Nodes, numbers: &[usize], from: usize, path: &[&str]) -> usize
     requires there { AreThere nodes.now numbers.now }
     requires rises { IsStrictlySortedBy texts_cmp (lists_at nodes.now numbers.now) }
     requires within { from ≤ length numbers.now }
@@ -106,10 +106,10 @@ fn gallop(nodes: &Nodes, numbers: &[u32], from: usize, path: &[&str]) -> usize
 /// Appends those of ours that a galloping search finds below theirs, except the last of them. Returns the number of the next of ours.
 fn skip(
     nodes: &Nodes,
-    numbers: &[u32],
+    numbers: &[usize],
     at: usize,
     path: &[&str],
-    all: &mut Vec<u32>,
+    all: &mut Vec<usize>,
 ) -> Result<usize, Memory>
     requires ours { AreThere nodes.now numbers.now }
     requires rises { IsStrictlySortedBy texts_cmp (lists_at nodes.now numbers.now) }
@@ -137,9 +137,9 @@ const LONG: usize = 8;
 pub(crate) fn merge_into(
     alloc: Global,
     nodes: &mut Nodes,
-    numbers: &[u32],
+    numbers: &[usize],
     other: &PathVec,
-) -> Result<Vec<u32>, Memory>
+) -> Result<Vec<usize>, Memory>
     requires there { AreThere nodes.old numbers.now }
     requires rises { IsStrictlySortedBy texts_cmp (lists_at nodes.old numbers.now) }
     ensures kept { take (length nodes.old) nodes.new ≡ nodes.old }
