@@ -9,6 +9,7 @@ pub mod Compared
 pub mod Copies
 pub mod Cuts
 pub mod Ends
+pub mod FirstNodes
 pub mod Firsts
 pub mod Forks
 pub mod Halving

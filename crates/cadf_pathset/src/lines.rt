@@ -1,10 +1,10 @@
 //! Lines: the nodes of the first 1, 2, .. texts of a list.
-ghost use Rattle.std.specs.Prelude.{◌≡◌, ◌<◌, ◌≤◌, ◌+◌, ◌++◌, [], ◌∷◌, List, OnOk, OnErr, IfOk, true, length, map, take, get_or};
+ghost use Rattle.std.specs.Prelude.{◌≡◌, ◌<◌, ◌≤◌, ◌+◌, ◌++◌, [], ◌∷◌, List, OnOk, OnErr, IfOk, true, length, map, take, drop, get_or};
 ghost use Rattle.std.specs.Ordering.{is_eq};
 ghost use Rattle.cadf_join.specs.Contents.{Texts, texts_cmp};
 ghost use Rattle.cadf_join.specs.Prefixes.{texts_at};
 ghost use Rattle.cadf_pathset.specs.Lists.{last_of, prefix_cmp};
-ghost use Rattle.cadf_pathset.specs.Nodes.{Agree, IsClimb, IsLine, last_node, list_at, lists_at, place, shared};
+ghost use Rattle.cadf_pathset.specs.Nodes.{Agree, AreThere, IsClimb, IsLine, last_node, list_at, lists_at, place, shared};
 
 use crate::Memory;
 use crate::as_text::{AsText, text_at};
@@ -166,7 +166,7 @@ pub(crate) fn lead(
 
 /// Makes the line that of the path, by new nodes after the texts that the two share, and returns the path's node. They are known to share
 /// `known` texts.
-pub(crate) fn line_to<W: AsText>(
+fn line_to<W: AsText>(
     nodes: &mut Nodes,
     line: &mut Vec<usize>,
     path: &[W],
@@ -183,6 +183,61 @@ pub(crate) fn line_to<W: AsText>(
     line.truncate(agreed);
     extend(nodes, line, path)?;
     Ok(end_of(line.as_slice()))
+}
+
+/// Inserts the path's node before the number at that place, by new nodes as above.
+fn put<W: AsText>(
+    nodes: &mut Nodes,
+    line: &mut Vec<usize>,
+    path: &[W],
+    known: usize,
+    numbers: &mut Vec<usize>,
+    at: usize,
+) -> Result<(), Memory>
+    requires line { IsLine nodes.old line.old.items (place nodes.old line.old.items) }
+    requires known { Agree known (place nodes.old line.old.items) (map W.bytes path.now) }
+    requires there { AreThere nodes.old numbers.old.items }
+    requires within { at ≤ length numbers.old.items }
+    ensures kept { take (length nodes.old) nodes.new ≡ nodes.old }
+    ensures line { IsLine nodes.new line.new.items (place nodes.new line.new.items) }
+    ensures there { OnOk result (AreThere nodes.new numbers.new.items) }
+    ensures lists { OnOk result (lists_at nodes.new numbers.new.items
+        ≡ take at (lists_at nodes.old numbers.old.items) ++ map W.bytes path.now ∷ drop at (lists_at nodes.old numbers.old.items)) }
+    ensures err { OnErr result (numbers.new.items ≡ numbers.old.items) }
+{
+    let number = line_to(nodes, line, path, known)?;
+    numbers.insert(at, number)?;
+    Ok(())
+}
+
+/// Does so, or takes back the nodes: after an `Err` the nodes and the numbers are as before, and the line is that of the empty list.
+pub(crate) fn put_or_restore<W: AsText>(
+    nodes: &mut Nodes,
+    line: &mut Vec<usize>,
+    path: &[W],
+    known: usize,
+    numbers: &mut Vec<usize>,
+    at: usize,
+) -> Result<(), Memory>
+    requires line { IsLine nodes.old line.old.items (place nodes.old line.old.items) }
+    requires known { Agree known (place nodes.old line.old.items) (map W.bytes path.now) }
+    requires there { AreThere nodes.old numbers.old.items }
+    requires within { at ≤ length numbers.old.items }
+    ensures line { IsLine nodes.new line.new.items (place nodes.new line.new.items) }
+    ensures there { AreThere nodes.new numbers.new.items }
+    ensures ok { OnOk result (lists_at nodes.new numbers.new.items
+        ≡ take at (lists_at nodes.old numbers.old.items) ++ map W.bytes path.now ∷ drop at (lists_at nodes.old numbers.old.items)) }
+    ensures err { OnErr result ((nodes.new ≡ nodes.old) × (numbers.new.items ≡ numbers.old.items)) }
+{
+    let count = nodes.count();
+    match put(nodes, line, path, known, numbers, at) {
+        Ok(()) => Ok(()),
+        Err(fault) => {
+            nodes.truncate(count);
+            line.clear();
+            Err(fault)
+        }
+    }
 }
 
 /// Returns whether the line is that of the last of the nodes.

@@ -66,6 +66,21 @@ impl Nodes {
         }
     }
 
+    /// Counts the nodes.
+    pub fn count(&self) -> usize
+        ensures { result ≡ length self.now }
+    {
+        self.parents.len()
+    }
+
+    /// Drops all but the first `count` nodes, with their texts.
+    pub fn truncate(&mut self, count: usize)
+        ensures { self.new ≡ take count self.old }
+    {
+        self.parents.truncate(count);
+        self.texts.truncate(count);
+    }
+
     /// Returns the node's parent.
     pub fn parent(&self, node: usize) -> usize
         requires behind { 0 < node }

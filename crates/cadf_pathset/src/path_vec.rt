@@ -19,7 +19,7 @@ use crate::Memory;
 use crate::as_text::AsText;
 use crate::compare::{begins_with, list_cmp, same_list};
 use crate::cursor::Cursor;
-use crate::lines::{cmp_from, is_of_last, known_of, lead, line_starts_with, line_to};
+use crate::lines::{cmp_from, is_of_last, known_of, lead, line_starts_with, put_or_restore};
 use crate::nodes::Nodes;
 use crate::sort::sorted;
 use crate::suffix_range::SuffixRange;
@@ -78,9 +78,15 @@ impl PathVec {
         ensures err { OnErr result (self.new ≡ self.old) }
     {
         let known = known_of(self.line.as_slice(), self.numbers.as_slice(), shared);
-        let number = line_to(&mut self.nodes, &mut self.line, path, known)?;
-        self.numbers.push(number)?;
-        Ok(())
+        let at = self.numbers.len();
+        put_or_restore(
+            &mut self.nodes,
+            &mut self.line,
+            path,
+            known,
+            &mut self.numbers,
+            at,
+        )
     }
 
     /// Inserts the list before the one of that number. After an `Err` the lists are as before.
@@ -92,9 +98,14 @@ impl PathVec {
         let near = nearest(&self.nodes, self.numbers.as_slice(), at, path);
         let mut up = Vec::new(self.alloc);
         lead(&self.nodes, near, &mut self.line, &mut up)?;
-        let number = line_to(&mut self.nodes, &mut self.line, path, 0)?;
-        self.numbers.insert(at, number)?;
-        Ok(())
+        put_or_restore(
+            &mut self.nodes,
+            &mut self.line,
+            path,
+            0,
+            &mut self.numbers,
+            at,
+        )
     }
 
     /// Returns whether the list, whose first `shared` texts are those of the last one, is above that one. True if there is none.

@@ -1,5 +1,5 @@
 //! Texts in one block of bytes, in the order in which they were appended.
-ghost use Rattle.std.specs.Prelude.{◌≡◌, ◌<◌, ◌≤◌, ◌++◌, [], ◌∷◌, OnOk, OnErr, length, get_or};
+ghost use Rattle.std.specs.Prelude.{◌≡◌, ◌<◌, ◌≤◌, ◌++◌, [], ◌∷◌, OnOk, OnErr, length, take, get_or};
 
 use crate::Memory;
 use std::alloc::Global;
@@ -47,6 +47,17 @@ impl Pool {
                 self.ends.pop();
                 Err(fault)
             }
+        }
+    }
+
+    /// Drops all but the first `count` texts.
+    pub fn truncate(&mut self, count: usize)
+        ensures { self.new ≡ take count self.old }
+    {
+        if count < self.ends.len() {
+            let end = start_of(self.ends.as_slice(), count);
+            self.ends.truncate(count);
+            self.block.truncate(end);
         }
     }
 

@@ -1,5 +1,5 @@
 //! The union of two sets of lists, within the nodes of the first.
-ghost use Rattle.std.specs.Prelude.{◌≡◌, ◌≤◌, ◌<◌, ◌-◌, ◌++◌, [], ◌∷◌, ℕ, OnOk, IfOk, length, take, drop, get_or, true, false};
+ghost use Rattle.std.specs.Prelude.{◌≡◌, ◌≤◌, ◌<◌, ◌-◌, ◌++◌, [], ◌∷◌, ℕ, OnOk, OnErr, IfOk, length, take, drop, get_or, true, false};
 ghost use Rattle.std.specs.List.{AllByRecursion};
 ghost use Rattle.std.specs.List.Sorted.{IsStrictlySortedBy};
 ghost use Rattle.std.specs.declared.cmp.Ordering.TheVariants.{Less};
@@ -133,7 +133,66 @@ fn skip(
 /// So many of ours in a row are compared one by one before a galloping search.
 const LONG: usize = 8;
 
-/// Returns the lists of both, each once, in order. Copies no text of ours, and appends no node for a text that our lists beside have.
+/// Appends to `all` our lists and those ahead of the cursor, each once, in order. Copies no text of ours, and appends no node for a text that
+/// our lists beside have.
+fn merge(
+    nodes: &mut Nodes,
+    numbers: &[usize],
+    cursor: &mut Cursor<'_>,
+    line: &mut Vec<usize>,
+    up: &mut Vec<usize>,
+    out: &mut Vec<usize>,
+    all: &mut Vec<usize>,
+) -> Result<(), Memory>
+    requires there { AreThere nodes.old numbers.now }
+    requires rises { IsStrictlySortedBy texts_cmp (lists_at nodes.old numbers.now) }
+    requires front { IsLinePrefix nodes.old line.old.items out.old.items 0 cursor.old.0 }
+    requires before { AreThere nodes.old all.old.items }
+    ensures kept { take (length nodes.old) nodes.new ≡ nodes.old }
+    ensures there { OnOk result (AreThere nodes.new all.new.items) }
+    ensures merged { OnOk result (lists_at nodes.new all.new.items
+        ≡ lists_at nodes.old all.old.items ++ sorted_merge texts_cmp true (lists_at nodes.old numbers.now) cursor.old.1) }
+{
+    let mut agreed: usize = 0;
+    let mut at: usize = 0;
+    let mut run: usize = 0;
+    let mut more = enter(cursor, out, &mut agreed)?;
+    while more {
+        if run == LONG {
+            at = skip(&*nodes, numbers, at, cursor.path(), all)?;
+            run = 0;
+        } else if at < numbers.len() {
+            let number = numbers[at];
+            let order = compare(&*nodes, number, line, up, out, &mut agreed, cursor.path())?;
+            match order {
+                Ordering::Less => {
+                    all.push(number)?;
+                    at += 1;
+                    run += 1;
+                }
+                Ordering::Equal => {
+                    all.push(number)?;
+                    at += 1;
+                    run = 0;
+                    more = enter(cursor, out, &mut agreed)?;
+                }
+                Ordering::Greater => {
+                    run = 0;
+                    append(nodes, out, cursor.path(), all)?;
+                    more = enter(cursor, out, &mut agreed)?;
+                }
+            }
+        } else {
+            append(nodes, out, cursor.path(), all)?;
+            more = enter(cursor, out, &mut agreed)?;
+        }
+    }
+    let (_, rest) = numbers.split_at(at);
+    all.extend_from_slice(rest)?;
+    Ok(())
+}
+
+/// Returns the lists of both, each once, in order, within our nodes. After an `Err` our nodes are as before.
 pub(crate) fn merge_into(
     alloc: Global,
     nodes: &mut Nodes,
@@ -146,55 +205,27 @@ pub(crate) fn merge_into(
     ensures there { IfOk result (λ all. AreThere nodes.new all.items) }
     ensures merged { IfOk result (λ all. lists_at nodes.new all.items
         ≡ sorted_merge texts_cmp true (lists_at nodes.old numbers.now) other.now) }
+    ensures err { OnErr result (nodes.new ≡ nodes.old) }
 {
+    let count = nodes.count();
     let mut all = Vec::new(alloc);
     let mut line = Vec::new(alloc);
     let mut up = Vec::new(alloc);
     let mut out = Vec::new(alloc);
-    let mut agreed: usize = 0;
-    let mut at: usize = 0;
-    let mut run: usize = 0;
     let mut cursor = other.cursor();
-    let mut more = enter(&mut cursor, &mut out, &mut agreed)?;
-    while more {
-        if run == LONG {
-            at = skip(&*nodes, numbers, at, cursor.path(), &mut all)?;
-            run = 0;
-        } else if at < numbers.len() {
-            let number = numbers[at];
-            let order = compare(
-                &*nodes,
-                number,
-                &mut line,
-                &mut up,
-                &mut out,
-                &mut agreed,
-                cursor.path(),
-            )?;
-            match order {
-                Ordering::Less => {
-                    all.push(number)?;
-                    at += 1;
-                    run += 1;
-                }
-                Ordering::Equal => {
-                    all.push(number)?;
-                    at += 1;
-                    run = 0;
-                    more = enter(&mut cursor, &mut out, &mut agreed)?;
-                }
-                Ordering::Greater => {
-                    run = 0;
-                    append(nodes, &mut out, cursor.path(), &mut all)?;
-                    more = enter(&mut cursor, &mut out, &mut agreed)?;
-                }
-            }
-        } else {
-            append(nodes, &mut out, cursor.path(), &mut all)?;
-            more = enter(&mut cursor, &mut out, &mut agreed)?;
+    match merge(
+        nodes,
+        numbers,
+        &mut cursor,
+        &mut line,
+        &mut up,
+        &mut out,
+        &mut all,
+    ) {
+        Ok(()) => Ok(all),
+        Err(fault) => {
+            nodes.truncate(count);
+            Err(fault)
         }
     }
-    let (_, rest) = numbers.split_at(at);
-    all.extend_from_slice(rest)?;
-    Ok(all)
 }
