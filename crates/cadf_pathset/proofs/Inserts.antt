@@ -13,5 +13,5 @@ all_put P xs zero x h p = (p, h)
 all_put P [] (suc n) x h p = (p, tt)
 all_put P (y ∷ xs) (suc n) x h p = (h.0, all_put P xs n x h.1 p)
 
-pub put_last : {A : Type 0} (xs : List A) (n : ℕ) (x : A) → length xs ≤ n → take n xs ++ x ∷ drop n xs ≡ xs ++ x ∷ []
-put_last xs n x h = λ i. take_all n xs h i ++ x ∷ drop_all n xs h i
+pub put_at_end : {A : Type 0} (xs : List A) (n : ℕ) (x : A) → length xs ≤ n → take n xs ++ x ∷ drop n xs ≡ xs ++ x ∷ []
+put_at_end xs n x h = λ i. take_all n xs h i ++ x ∷ drop_all n xs h i
