@@ -1,5 +1,6 @@
 -- One more, inserted at its place.
-use Rattle.std.proofs.Common.{◌≡◌, ℕ, List, [], ◌∷◌, ◌++◌, refl, ap, suc, zero, take, drop, map}
+use Rattle.std.proofs.Common.{◌≡◌, ◌≤◌, ℕ, List, [], ◌∷◌, ◌++◌, refl, ap, suc, zero, length, take, drop, map}
+use Rattle.std.proofs.lemmas.List.{take_all, drop_all}
 use Rattle.std.specs.List.{AllByRecursion}
 
 pub map_put : {A B : Type 0} (f : A → B) (xs : List A) (n : ℕ) (x : A) → map f (take n xs ++ x ∷ drop n xs) ≡ take n (map f xs) ++ f x ∷ drop n (map f xs)
@@ -11,3 +12,6 @@ pub all_put : {A : Type 0} (P : A → Type 0) (xs : List A) (n : ℕ) (x : A) �
 all_put P xs zero x h p = (p, h)
 all_put P [] (suc n) x h p = (p, tt)
 all_put P (y ∷ xs) (suc n) x h p = (h.0, all_put P xs n x h.1 p)
+
+pub put_at_end : {A : Type 0} (xs : List A) (n : ℕ) (x : A) → length xs ≤ n → take n xs ++ x ∷ drop n xs ≡ xs ++ x ∷ []
+put_at_end xs n x h = λ i. take_all n xs h i ++ x ∷ drop_all n xs h i

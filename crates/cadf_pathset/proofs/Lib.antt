@@ -7,7 +7,9 @@ pub mod CarrierLists
 pub mod Climbs
 pub mod Compared
 pub mod Copies
+pub mod Cuts
 pub mod Ends
+pub mod FirstNodes
 pub mod Firsts
 pub mod Forks
 pub mod Halving

@@ -39,7 +39,7 @@ use Rattle.cadf_pathset.specs.Merge.{sorted_merge}
 use Rattle.cadf_pathset.specs.Nodes.{Agree, AreThere, IsLine, list_at, lists_at, place, shared}
 use Rattle.cadf_pathset.specs.Walks.{Entered, IsLinePrefix, Place, ahead}
 use Rattle.cadf_pathset.proofs.Agreement.{agree_less, agree_through, agree_turned}
-use Rattle.cadf_pathset.proofs.Threads.{agree_none, at_kept, line_cut, line_kept, lists_kept, nodes_fit, place_kept, self_line}
+use Rattle.cadf_pathset.proofs.Threads.{agree_none, at_kept, line_cut, line_kept, lists_kept, no_line, nodes_fit, place_kept, root_line, self_line}
 
 abbrev both : List Texts → List Texts → List Texts
 both xs ys = sorted_merge texts_cmp true xs ys
@@ -211,6 +211,14 @@ pub ours_there : (ls first : List Texts) (kept : take (length first) ls ≡ firs
 ours_there ls first kept ns ms n more h there =
     let fits = nodes_fit first ls kept in
     subst (AreThere ls) (sym more) (there_both ls ns (n ∷ []) h (omega (arith, fits, there), tt))
+
+-- no nodes of a line, and none of theirs
+pub front_none : (ls : List Texts) (ns ms : List ℕ) (q : Texts) → ns ≡ [] → ms ≡ [] → IsLinePrefix ls ns ms 0 q
+front_none ls ns ms q e f = record {
+  line = root_line ls ns e;
+  agrees = agree_none (place ls ns) q;
+  out = subst (λ z. IsLine ls z (take (length z) q)) (sym f) (no_line ls);
+}
 
 -- all that is kept, once the turn was taken, of a merge's front
 pub front_ours : (more : Bool) (ls : List Texts) (ns ms ks : List ℕ) (n k : ℕ) (a b : Place) (theirs : Texts) → theirs ≡ a.0 → IsLinePrefix ls ns ms n theirs

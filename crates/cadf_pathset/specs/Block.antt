@@ -1,14 +1,14 @@
--- Texts as spans of one block of bytes.
---     text_of bs s     the text of a span
---     IsSpan bs s      the span is cut between characters
-use Rattle.std.specs.Prelude.{ℕ, List, take, drop}
+-- Texts one after another in one block of bytes.
+--     texts_from s ends bs   the texts of the bytes bs, the first of which begins at s and which end at these places
+--     AreEnds s ends bs      these places are cuts between characters, and bs ends at the last of them
+use Rattle.std.specs.Prelude.{◌≡◌, ◌≤◌, ◌-◌, ℕ, List, [], ◌∷◌, take, drop}
 use Rattle.std.specs.Str.{IsCharBoundary}
-use Rattle.cadf_join.specs.Contents.{Text}
-use Rattle.cadf_pathset.specs.declared.pool.Span.{Span}
+use Rattle.cadf_join.specs.Contents.{Texts}
 
-abbrev pub text_of : List ℕ → Span → Text
-text_of bs s = take s.len (drop s.start bs)
+abbrev pub texts_from : ℕ → List ℕ → List ℕ → Texts
+texts_from s [] bs = []
+texts_from s (e ∷ es) bs = take (e - s) bs ∷ texts_from e es (drop (e - s) bs)
 
-pub record IsSpan (bs : List ℕ) (s : Span) : Type 0 where
-  pub starts : IsCharBoundary bs s.start
-  pub ends : IsCharBoundary (drop s.start bs) s.len
+abbrev pub AreEnds : ℕ → List ℕ → List ℕ → Type 0
+AreEnds s [] bs = bs ≡ []
+AreEnds s (e ∷ es) bs = (s ≤ e) × IsCharBoundary bs (e - s) × AreEnds e es (drop (e - s) bs)

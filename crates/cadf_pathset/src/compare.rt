@@ -16,7 +16,7 @@ const NEAR: usize = 8;
 /// that they share.
 pub(crate) fn list_cmp<W: AsText>(
     nodes: &Nodes,
-    node: u32,
+    node: usize,
     list: &[W],
     known: usize,
 ) -> (Ordering, usize)
@@ -35,7 +35,7 @@ pub(crate) fn list_cmp<W: AsText>(
 /// Compares from the front: the first difference decides.
 fn cmp_down<W: AsText>(
     nodes: &Nodes,
-    node: u32,
+    node: usize,
     has: usize,
     list: &[W],
     known: usize,
@@ -69,7 +69,7 @@ fn parted(order: Ordering, here: usize, behind: usize) -> usize
 /// Compares in one climb: the difference nearest to the root decides.
 fn cmp_up<W: AsText>(
     nodes: &Nodes,
-    node: u32,
+    node: usize,
     has: usize,
     list: &[W],
     known: usize,
@@ -95,7 +95,7 @@ fn cmp_up<W: AsText>(
 }
 
 /// Whether the node's list begins with the prefix.
-pub(crate) fn begins_with<W: AsText>(nodes: &Nodes, node: u32, prefix: &[W]) -> bool
+pub(crate) fn begins_with<W: AsText>(nodes: &Nodes, node: usize, prefix: &[W]) -> bool
     requires { node ≤ length nodes.now }
     ensures { result ≡ is_eq (prefix_cmp (list_at nodes.now node) (map W.bytes prefix.now)) }
 {
@@ -105,7 +105,7 @@ pub(crate) fn begins_with<W: AsText>(nodes: &Nodes, node: u32, prefix: &[W]) -> 
 }
 
 /// Whether nodes of two arenas have the same list.
-pub(crate) fn same_list(nodes: &Nodes, node: u32, others: &Nodes, other: u32) -> bool
+pub(crate) fn same_list(nodes: &Nodes, node: usize, others: &Nodes, other: usize) -> bool
     requires ours { node ≤ length nodes.now }
     requires theirs { other ≤ length others.now }
     ensures { IsTrue result ↔ (list_at nodes.now node ≡ list_at others.now other) }

@@ -14,10 +14,10 @@ use std::marker::Model;
 #[derive(Drop)]
 pub struct Cursor<'a> {
     nodes: &'a Nodes,
-    numbers: &'a [u32],
+    numbers: &'a [usize],
     path: Vec<&'a str>,
-    line: Vec<u32>,
-    up: Vec<u32>,
+    line: Vec<usize>,
+    up: Vec<usize>,
 }
 
 impl<'a> Model for Cursor<'a> {
@@ -35,7 +35,7 @@ impl<'a> Model for Cursor<'a> {
 
 impl<'a> Cursor<'a> {
     /// Starts before the first of the nodes' lists. Allocates nothing.
-    pub(crate) fn new(alloc: Global, nodes: &'a Nodes, numbers: &'a [u32]) -> Cursor<'a>
+    pub(crate) fn new(alloc: Global, nodes: &'a Nodes, numbers: &'a [usize]) -> Cursor<'a>
         requires { AreThere nodes.now numbers.now }
         ensures path { result.0 ≡ [] }
         ensures ahead { result.1 ≡ lists_at nodes.now numbers.now }
@@ -111,10 +111,10 @@ impl<'a> Cursor<'a> {
 /// Goes from the line and the path of one list to those of the node, and returns how many texts the two lists share.
 fn advance<'a>(
     nodes: &'a Nodes,
-    number: u32,
-    line: &mut Vec<u32>,
+    number: usize,
+    line: &mut Vec<usize>,
     path: &mut Vec<&'a str>,
-    up: &mut Vec<u32>,
+    up: &mut Vec<usize>,
 ) -> Result<usize, Memory>
     requires there { number ≤ length nodes.now }
     requires line { IsLine nodes.now line.old.items (texts_at path.old.items) }

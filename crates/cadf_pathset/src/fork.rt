@@ -11,8 +11,8 @@ use std::cmp::Ordering;
 /// Two nodes whose lists part at their last texts, and the order of these; `Equal` if none are known.
 #[derive(Clone, Copy, Drop)]
 pub(crate) struct Fork {
-    a: u32,
-    b: u32,
+    a: usize,
+    b: usize,
     order: Ordering,
 }
 
@@ -29,7 +29,7 @@ impl Fork {
     }
 
     /// These nodes, if their texts differ, else the ones before.
-    fn or_nearer(self, a: u32, b: u32, order: Ordering) -> Fork
+    fn or_nearer(self, a: usize, b: usize, order: Ordering) -> Fork
         ensures same { order ≡ Equal → result ≡ self }
         ensures other { (order ≡ Equal → ⊥) → result ≡ record { a = a; b = b; order = order } }
     {
@@ -41,7 +41,7 @@ impl Fork {
     }
 
     /// Whether the lists of the two nodes go on from these.
-    fn decides(self, nodes: &Nodes, node: u32, other: u32) -> bool
+    fn decides(self, nodes: &Nodes, node: usize, other: usize) -> bool
         requires ours { node ≤ length nodes.now }
         requires theirs { other ≤ length nodes.now }
         requires known { IsFork nodes.now self }
@@ -52,7 +52,7 @@ impl Fork {
 }
 
 /// Whether the climb from the node comes to the other one, with which its list then begins.
-fn goes_on(nodes: &Nodes, node: u32, front: u32) -> bool
+fn goes_on(nodes: &Nodes, node: usize, front: usize) -> bool
     requires { node ≤ length nodes.now }
     ensures { result ≡ true → (rest : Texts) × (list_at nodes.now node ≡ list_at nodes.now front ++ rest) }
 {
@@ -64,7 +64,7 @@ fn goes_on(nodes: &Nodes, node: u32, front: u32) -> bool
 }
 
 /// Compares the lists of two nodes. Their nearest common ancestor ends it.
-pub(crate) fn node_cmp(nodes: &Nodes, node: u32, other: u32) -> Ordering
+pub(crate) fn node_cmp(nodes: &Nodes, node: usize, other: usize) -> Ordering
     requires ours { node ≤ length nodes.now }
     requires theirs { other ≤ length nodes.now }
     ensures { result ≡ texts_cmp (list_at nodes.now node) (list_at nodes.now other) }
@@ -74,7 +74,7 @@ pub(crate) fn node_cmp(nodes: &Nodes, node: u32, other: u32) -> Ordering
 }
 
 /// Does so at once where the lists go on from nodes that are known, and else finds those where they part.
-pub(crate) fn next_cmp(nodes: &Nodes, node: u32, other: u32, fork: &mut Fork) -> Ordering
+pub(crate) fn next_cmp(nodes: &Nodes, node: usize, other: usize, fork: &mut Fork) -> Ordering
     requires ours { node ≤ length nodes.now }
     requires theirs { other ≤ length nodes.now }
     requires known { IsFork nodes.now fork.old }
@@ -89,7 +89,7 @@ pub(crate) fn next_cmp(nodes: &Nodes, node: u32, other: u32, fork: &mut Fork) ->
 }
 
 /// Compares the lists of two nodes, and finds the nodes where they part. The difference nearest to the root decides.
-fn parting_cmp(nodes: &Nodes, node: u32, other: u32, fork: &mut Fork) -> Ordering
+fn parting_cmp(nodes: &Nodes, node: usize, other: usize, fork: &mut Fork) -> Ordering
     requires ours { node ≤ length nodes.now }
     requires theirs { other ≤ length nodes.now }
     ensures order { result ≡ texts_cmp (list_at nodes.now node) (list_at nodes.now other) }

@@ -1,10 +1,10 @@
 //! Lines: the nodes of the first 1, 2, .. texts of a list.
-ghost use Rattle.std.specs.Prelude.{◌≡◌, ◌<◌, ◌≤◌, ◌+◌, ◌++◌, [], ◌∷◌, List, OnOk, OnErr, IfOk, true, length, map, take, get_or};
+ghost use Rattle.std.specs.Prelude.{◌≡◌, ◌<◌, ◌≤◌, ◌+◌, ◌++◌, [], ◌∷◌, List, OnOk, OnErr, IfOk, true, length, map, take, drop, get_or};
 ghost use Rattle.std.specs.Ordering.{is_eq};
 ghost use Rattle.cadf_join.specs.Contents.{Texts, texts_cmp};
 ghost use Rattle.cadf_join.specs.Prefixes.{texts_at};
 ghost use Rattle.cadf_pathset.specs.Lists.{last_of, prefix_cmp};
-ghost use Rattle.cadf_pathset.specs.Nodes.{Agree, IsClimb, IsLine, last_node, list_at, lists_at, place, shared};
+ghost use Rattle.cadf_pathset.specs.Nodes.{Agree, AreThere, IsClimb, IsLine, last_node, list_at, lists_at, place, shared};
 
 use crate::Memory;
 use crate::as_text::{AsText, text_at};
@@ -12,7 +12,7 @@ use crate::nodes::Nodes;
 use std::cmp::Ordering;
 
 /// Returns the line's last node, or the root.
-pub(crate) fn end_of(line: &[u32]) -> u32
+pub(crate) fn end_of(line: &[usize]) -> usize
     ensures { result ≡ last_node line.now }
 {
     match line {
@@ -23,7 +23,12 @@ pub(crate) fn end_of(line: &[u32]) -> u32
 
 /// Truncates the line to the ancestors that it shares with the node, and collects in `up` the nodes between, from the node upwards.
 /// Since parents have smaller numbers than their children, it steps back from whichever number is greater.
-fn climb(nodes: &Nodes, node: u32, line: &mut Vec<u32>, up: &mut Vec<u32>) -> Result<(), Memory>
+fn climb(
+    nodes: &Nodes,
+    node: usize,
+    line: &mut Vec<usize>,
+    up: &mut Vec<usize>,
+) -> Result<(), Memory>
     requires there { node ≤ length nodes.now }
     requires line { IsLine nodes.now line.old.items (place nodes.now line.old.items) }
     requires empty { up.old.items ≡ [] }
@@ -51,9 +56,9 @@ fn climb(nodes: &Nodes, node: u32, line: &mut Vec<u32>, up: &mut Vec<u32>) -> Re
 /// Makes the line that of the node, and returns how many nodes of the line it kept. After an `Err` the line is that of no list.
 pub(crate) fn follow(
     nodes: &Nodes,
-    node: u32,
-    line: &mut Vec<u32>,
-    up: &mut Vec<u32>,
+    node: usize,
+    line: &mut Vec<usize>,
+    up: &mut Vec<usize>,
 ) -> Result<usize, Memory>
     requires there { node ≤ length nodes.now }
     requires line { IsLine nodes.now line.old.items (place nodes.now line.old.items) }
@@ -72,7 +77,7 @@ pub(crate) fn follow(
 /// Compares the line's list with the path, if they are known to share `known` texts. Returns their order, and how many texts they share.
 pub(crate) fn cmp_from<W: AsText>(
     nodes: &Nodes,
-    line: &[u32],
+    line: &[usize],
     path: &[W],
     known: usize,
 ) -> (Ordering, usize)
@@ -96,7 +101,7 @@ pub(crate) fn cmp_from<W: AsText>(
 /// Appends to the path the texts that the line has after it.
 pub(crate) fn spell<'a>(
     nodes: &'a Nodes,
-    line: &[u32],
+    line: &[usize],
     path: &mut Vec<&'a str>,
 ) -> Result<(), Memory>
     requires line { IsLine nodes.now line.now (place nodes.now line.now) }
@@ -110,7 +115,7 @@ pub(crate) fn spell<'a>(
 }
 
 /// Appends a node after the line's last.
-pub(crate) fn grow(nodes: &mut Nodes, line: &mut Vec<u32>, text: &str) -> Result<(), Memory>
+pub(crate) fn grow(nodes: &mut Nodes, line: &mut Vec<usize>, text: &str) -> Result<(), Memory>
     requires { IsLine nodes.old line.old.items (place nodes.old line.old.items) }
     ensures kept { take (length nodes.old) nodes.new ≡ nodes.old }
     ensures line { IsLine nodes.new line.new.items (place nodes.new line.new.items) }
@@ -125,7 +130,7 @@ pub(crate) fn grow(nodes: &mut Nodes, line: &mut Vec<u32>, text: &str) -> Result
 /// Extends the line of a prefix of the path to the line of the whole path, by new nodes.
 pub(crate) fn extend<W: AsText>(
     nodes: &mut Nodes,
-    line: &mut Vec<u32>,
+    line: &mut Vec<usize>,
     path: &[W],
 ) -> Result<(), Memory>
     requires line { IsLine nodes.old line.old.items (take (length line.old.items) (map W.bytes path.now)) }
@@ -142,9 +147,9 @@ pub(crate) fn extend<W: AsText>(
 /// Makes the line that of the node. After an `Err` it is the line of the empty list.
 pub(crate) fn lead(
     nodes: &Nodes,
-    node: u32,
-    line: &mut Vec<u32>,
-    up: &mut Vec<u32>,
+    node: usize,
+    line: &mut Vec<usize>,
+    up: &mut Vec<usize>,
 ) -> Result<(), Memory>
     requires there { node ≤ length nodes.now }
     requires line { IsLine nodes.now line.old.items (place nodes.now line.old.items) }
@@ -161,12 +166,12 @@ pub(crate) fn lead(
 
 /// Makes the line that of the path, by new nodes after the texts that the two share, and returns the path's node. They are known to share
 /// `known` texts.
-pub(crate) fn line_to<W: AsText>(
+fn line_to<W: AsText>(
     nodes: &mut Nodes,
-    line: &mut Vec<u32>,
+    line: &mut Vec<usize>,
     path: &[W],
     known: usize,
-) -> Result<u32, Memory>
+) -> Result<usize, Memory>
     requires line { IsLine nodes.old line.old.items (place nodes.old line.old.items) }
     requires known { Agree known (place nodes.old line.old.items) (map W.bytes path.now) }
     ensures kept { take (length nodes.old) nodes.new ≡ nodes.old }
@@ -180,8 +185,63 @@ pub(crate) fn line_to<W: AsText>(
     Ok(end_of(line.as_slice()))
 }
 
+/// Inserts the path's node before the number at that place, by new nodes as above.
+fn put<W: AsText>(
+    nodes: &mut Nodes,
+    line: &mut Vec<usize>,
+    path: &[W],
+    known: usize,
+    numbers: &mut Vec<usize>,
+    at: usize,
+) -> Result<(), Memory>
+    requires line { IsLine nodes.old line.old.items (place nodes.old line.old.items) }
+    requires known { Agree known (place nodes.old line.old.items) (map W.bytes path.now) }
+    requires there { AreThere nodes.old numbers.old.items }
+    requires within { at ≤ length numbers.old.items }
+    ensures kept { take (length nodes.old) nodes.new ≡ nodes.old }
+    ensures line { IsLine nodes.new line.new.items (place nodes.new line.new.items) }
+    ensures there { OnOk result (AreThere nodes.new numbers.new.items) }
+    ensures lists { OnOk result (lists_at nodes.new numbers.new.items
+        ≡ take at (lists_at nodes.old numbers.old.items) ++ map W.bytes path.now ∷ drop at (lists_at nodes.old numbers.old.items)) }
+    ensures err { OnErr result (numbers.new.items ≡ numbers.old.items) }
+{
+    let number = line_to(nodes, line, path, known)?;
+    numbers.insert(at, number)?;
+    Ok(())
+}
+
+/// Does so, or takes back the nodes: after an `Err` the nodes and the numbers are as before, and the line is that of the empty list.
+pub(crate) fn put_or_restore<W: AsText>(
+    nodes: &mut Nodes,
+    line: &mut Vec<usize>,
+    path: &[W],
+    known: usize,
+    numbers: &mut Vec<usize>,
+    at: usize,
+) -> Result<(), Memory>
+    requires line { IsLine nodes.old line.old.items (place nodes.old line.old.items) }
+    requires known { Agree known (place nodes.old line.old.items) (map W.bytes path.now) }
+    requires there { AreThere nodes.old numbers.old.items }
+    requires within { at ≤ length numbers.old.items }
+    ensures line { IsLine nodes.new line.new.items (place nodes.new line.new.items) }
+    ensures there { AreThere nodes.new numbers.new.items }
+    ensures ok { OnOk result (lists_at nodes.new numbers.new.items
+        ≡ take at (lists_at nodes.old numbers.old.items) ++ map W.bytes path.now ∷ drop at (lists_at nodes.old numbers.old.items)) }
+    ensures err { OnErr result ((nodes.new ≡ nodes.old) × (numbers.new.items ≡ numbers.old.items)) }
+{
+    let count = nodes.count();
+    match put(nodes, line, path, known, numbers, at) {
+        Ok(()) => Ok(()),
+        Err(fault) => {
+            nodes.truncate(count);
+            line.clear();
+            Err(fault)
+        }
+    }
+}
+
 /// Returns whether the line is that of the last of the nodes.
-pub(crate) fn is_of_last(line: &[u32], numbers: &[u32]) -> bool
+pub(crate) fn is_of_last(line: &[usize], numbers: &[usize]) -> bool
     ensures { result ≡ true → (ls : List Texts) → place ls line.now ≡ last_of [] (lists_at ls numbers.now) }
 {
     match numbers {
@@ -191,14 +251,14 @@ pub(crate) fn is_of_last(line: &[u32], numbers: &[u32]) -> bool
 }
 
 /// Returns how many texts the line's list is known to share with a path that shares `shared` texts with the list of the last of the nodes.
-pub(crate) fn known_of(line: &[u32], numbers: &[u32], shared: usize) -> usize
+pub(crate) fn known_of(line: &[usize], numbers: &[usize], shared: usize) -> usize
     ensures { (ls : List Texts) (p : Texts) → Agree shared (last_of [] (lists_at ls numbers.now)) p → Agree result (place ls line.now) p }
 {
     if is_of_last(line, numbers) { shared } else { 0 }
 }
 
 /// Whether the line's list begins with the prefix.
-pub(crate) fn line_starts_with<W: AsText>(nodes: &Nodes, line: &[u32], prefix: &[W]) -> bool
+pub(crate) fn line_starts_with<W: AsText>(nodes: &Nodes, line: &[usize], prefix: &[W]) -> bool
     requires { IsLine nodes.now line.now (place nodes.now line.now) }
     ensures { result ≡ is_eq (prefix_cmp (place nodes.now line.now) (map W.bytes prefix.now)) }
 {

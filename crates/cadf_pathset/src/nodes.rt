@@ -5,14 +5,14 @@ ghost use Rattle.cadf_pathset.specs.Lists.{first_text};
 ghost use Rattle.cadf_pathset.specs.Nodes.{last_text, list_at, rest_of};
 
 use crate::Memory;
-use crate::pool::{Pool, narrow};
+use crate::pool::Pool;
 use std::alloc::Global;
 use std::marker::Model;
 
 /// Nodes, numbered from 1. A node is one text after its parent, which comes before it, or after the root, 0.
 #[derive(Drop)]
 pub struct Nodes {
-    parents: Vec<u32>,
+    parents: Vec<usize>,
     texts: Pool,
 }
 
@@ -50,15 +50,15 @@ impl Nodes {
     }
 
     /// Appends a node and returns its number. After an `Err` the nodes are as before.
-    pub fn push(&mut self, parent: u32, text: &str) -> Result<u32, Memory>
+    pub fn push(&mut self, parent: usize, text: &str) -> Result<usize, Memory>
         requires { parent ≤ length self.old }
         ensures ok { OnOk result (self.new ≡ self.old ++ (list_at self.old parent ++ text.now ∷ []) ∷ []) }
         ensures number { IfOk result (λ n. n ≡ length self.old + 1) }
         ensures err { OnErr result (self.new ≡ self.old) }
     {
         self.parents.push(parent)?;
-        match pushed(&mut self.texts, text, self.parents.len()) {
-            Ok(number) => Ok(number),
+        match self.texts.push(text) {
+            Ok(()) => Ok(self.parents.len()),
             Err(fault) => {
                 self.parents.pop();
                 Err(fault)
@@ -66,39 +66,43 @@ impl Nodes {
         }
     }
 
+    /// Counts the nodes.
+    pub fn count(&self) -> usize
+        ensures { result ≡ length self.now }
+    {
+        self.parents.len()
+    }
+
+    /// Drops all but the first `count` nodes, with their texts.
+    pub fn truncate(&mut self, count: usize)
+        ensures { self.new ≡ take count self.old }
+    {
+        self.parents.truncate(count);
+        self.texts.truncate(count);
+    }
+
     /// Returns the node's parent.
-    pub fn parent(&self, node: u32) -> u32
+    pub fn parent(&self, node: usize) -> usize
         requires behind { 0 < node }
         requires there { node ≤ length self.now }
         ensures before { result < node }
         ensures list { list_at self.now node ≡ list_at self.now result ++ last_text (list_at self.now node) ∷ [] }
     {
-        self.parents[node as usize - 1]
+        self.parents[node - 1]
     }
 
     /// Returns the node's text.
-    pub fn text(&self, node: u32) -> &str
+    pub fn text(&self, node: usize) -> &str
         requires behind { 0 < node }
         requires there { node ≤ length self.now }
         ensures { result.now ≡ last_text (list_at self.now node) }
     {
-        self.texts.text(node as usize - 1)
+        self.texts.text(node - 1)
     }
 }
 
-/// Appends the text and returns the number in 32 bits. After an `Err` the texts are as before.
-fn pushed(texts: &mut Pool, text: &str, number: usize) -> Result<u32, Memory>
-    ensures ok { OnOk result (texts.new ≡ texts.old ++ text.now ∷ []) }
-    ensures number { IfOk result (λ n. n ≡ number) }
-    ensures err { OnErr result (texts.new ≡ texts.old) }
-{
-    let number = narrow(number)?;
-    texts.push(text)?;
-    Ok(number)
-}
-
 /// Counts the texts of the node's list.
-pub(crate) fn depth(nodes: &Nodes, node: u32) -> usize
+pub(crate) fn depth(nodes: &Nodes, node: usize) -> usize
     requires { node ≤ length nodes.now }
     ensures { result ≡ length (list_at nodes.now node) }
 {
@@ -112,7 +116,7 @@ pub(crate) fn depth(nodes: &Nodes, node: u32) -> usize
 }
 
 /// Returns the node of the first `wanted` texts of the node's list, which has `has` texts, or the node itself if it has fewer.
-pub(crate) fn ancestor(nodes: &Nodes, node: u32, has: usize, wanted: usize) -> u32
+pub(crate) fn ancestor(nodes: &Nodes, node: usize, has: usize, wanted: usize) -> usize
     requires there { node ≤ length nodes.now }
     requires has { has ≡ length (list_at nodes.now node) }
     ensures there { result ≤ length nodes.now }
@@ -128,7 +132,7 @@ pub(crate) fn ancestor(nodes: &Nodes, node: u32, has: usize, wanted: usize) -> u
 }
 
 /// Returns the text after the first `skipped` texts of the node's list. `None` if it has no more.
-pub(crate) fn text_after(nodes: &Nodes, node: u32, skipped: usize) -> Option<&str>
+pub(crate) fn text_after(nodes: &Nodes, node: usize, skipped: usize) -> Option<&str>
     requires { node ≤ length nodes.now }
     ensures { option_copied result ≡ first_text (rest_of nodes.now skipped node) }
 {

@@ -19,7 +19,7 @@ use crate::Memory;
 use crate::as_text::AsText;
 use crate::compare::{begins_with, list_cmp, same_list};
 use crate::cursor::Cursor;
-use crate::lines::{cmp_from, is_of_last, known_of, lead, line_starts_with, line_to};
+use crate::lines::{cmp_from, is_of_last, known_of, lead, line_starts_with, put_or_restore};
 use crate::nodes::Nodes;
 use crate::sort::sorted;
 use crate::suffix_range::SuffixRange;
@@ -32,9 +32,9 @@ use std::marker::Model;
 #[derive(Drop)]
 pub struct PathVec {
     nodes: Nodes,
-    numbers: Vec<u32>,
+    numbers: Vec<usize>,
     /// The line of the list that was added last, or of another list.
-    line: Vec<u32>,
+    line: Vec<usize>,
     alloc: Global,
 }
 
@@ -78,9 +78,15 @@ impl PathVec {
         ensures err { OnErr result (self.new ≡ self.old) }
     {
         let known = known_of(self.line.as_slice(), self.numbers.as_slice(), shared);
-        let number = line_to(&mut self.nodes, &mut self.line, path, known)?;
-        self.numbers.push(number)?;
-        Ok(())
+        let at = self.numbers.len();
+        put_or_restore(
+            &mut self.nodes,
+            &mut self.line,
+            path,
+            known,
+            &mut self.numbers,
+            at,
+        )
     }
 
     /// Inserts the list before the one of that number. After an `Err` the lists are as before.
@@ -92,9 +98,14 @@ impl PathVec {
         let near = nearest(&self.nodes, self.numbers.as_slice(), at, path);
         let mut up = Vec::new(self.alloc);
         lead(&self.nodes, near, &mut self.line, &mut up)?;
-        let number = line_to(&mut self.nodes, &mut self.line, path, 0)?;
-        self.numbers.insert(at, number)?;
-        Ok(())
+        put_or_restore(
+            &mut self.nodes,
+            &mut self.line,
+            path,
+            0,
+            &mut self.numbers,
+            at,
+        )
     }
 
     /// Returns whether the list, whose first `shared` texts are those of the last one, is above that one. True if there is none.
@@ -320,7 +331,7 @@ impl PathVec {
 }
 
 /// Whether the nodes of two arenas have the same lists, one by one.
-fn same_lists(nodes: &Nodes, numbers: &[u32], others: &Nodes, its: &[u32]) -> bool
+fn same_lists(nodes: &Nodes, numbers: &[usize], others: &Nodes, its: &[usize]) -> bool
     requires ours { AreThere nodes.now numbers.now }
     requires theirs { AreThere others.now its.now }
     ensures { IsTrue result ↔ (lists_at nodes.now numbers.now ≡ lists_at others.now its.now) }
@@ -343,7 +354,7 @@ fn same_lists(nodes: &Nodes, numbers: &[u32], others: &Nodes, its: &[u32]) -> bo
 }
 
 /// Returns that node of the lists beside that place whose list shares more texts with the path, or the root.
-fn nearest(nodes: &Nodes, numbers: &[u32], at: usize, path: &[&str]) -> u32
+fn nearest(nodes: &Nodes, numbers: &[usize], at: usize, path: &[&str]) -> usize
     requires there { AreThere nodes.now numbers.now }
     requires within { at ≤ length numbers.now }
     ensures { result ≤ length nodes.now }

@@ -1,36 +1,27 @@
 //! Texts in one block of bytes, in the order in which they were appended.
-ghost use Rattle.std.specs.Prelude.{◌≡◌, ◌<◌, ◌++◌, [], ◌∷◌, OnOk, OnErr, IfOk, length, take, get_or, string_bytes};
-ghost use Rattle.cadf_pathset.specs.Block.{IsSpan, text_of};
+ghost use Rattle.std.specs.Prelude.{◌≡◌, ◌<◌, ◌≤◌, ◌++◌, [], ◌∷◌, OnOk, OnErr, length, take, get_or};
 
 use crate::Memory;
-use std::alloc::{AllocError, Global};
+use std::alloc::Global;
 use std::marker::Model;
 
-/// Bytes of a block: the first, and how many.
-#[derive(Drop, Clone, Copy)]
-pub(crate) struct Span {
-    pub start: u32,
-    pub len: u32,
-}
-
-/// Texts in the order in which they were appended.
+/// Texts in the order in which they were appended: each begins where the one before ends.
 #[derive(Drop)]
 pub(crate) struct Pool {
     block: String,
-    spans: Vec<Span>,
+    ends: Vec<usize>,
 }
 
 impl Model for Pool {
-    ghost use Rattle.std.specs.Prelude.{map, string_bytes};
-    ghost use Rattle.std.specs.List.{AllByRecursion};
+    ghost use Rattle.std.specs.Prelude.{string_bytes};
     ghost use Rattle.cadf_join.specs.Contents.{Texts};
-    ghost use Rattle.cadf_pathset.specs.Block.{IsSpan, text_of};
+    ghost use Rattle.cadf_pathset.specs.Block.{AreEnds, texts_from};
 
     ghost Value = { Texts };
 
-    ghost view = { λ p. map (text_of (string_bytes p.block)) p.spans.items };
+    ghost view = { λ p. texts_from 0 p.ends.items (string_bytes p.block) };
 
-    ghost invariant = { λ p. AllByRecursion (IsSpan (string_bytes p.block)) p.spans.items };
+    ghost invariant = { λ p. AreEnds 0 p.ends.items (string_bytes p.block) };
 }
 
 impl Pool {
@@ -40,7 +31,7 @@ impl Pool {
     {
         Pool {
             block: String::new(alloc),
-            spans: Vec::new(alloc),
+            ends: Vec::new(alloc),
         }
     }
 
@@ -49,9 +40,25 @@ impl Pool {
         ensures ok { OnOk result (self.new ≡ self.old ++ text.now ∷ []) }
         ensures err { OnErr result (self.new ≡ self.old) }
     {
-        let span = placed(&mut self.block, text)?;
-        self.spans.push(span)?;
-        Ok(())
+        self.ends.push(self.block.as_str().len() + text.len())?;
+        match self.block.push_str(text) {
+            Ok(()) => Ok(()),
+            Err(fault) => {
+                self.ends.pop();
+                Err(fault)
+            }
+        }
+    }
+
+    /// Drops all but the first `count` texts.
+    pub fn truncate(&mut self, count: usize)
+        ensures { self.new ≡ take count self.old }
+    {
+        if count < self.ends.len() {
+            let end = start_of(self.ends.as_slice(), count);
+            self.ends.truncate(count);
+            self.block.truncate(end);
+        }
     }
 
     /// Returns the text of that number.
@@ -59,38 +66,20 @@ impl Pool {
         requires { number < length self.now }
         ensures { result.now ≡ get_or self.now number [] }
     {
-        text_at(self.block.as_str(), self.spans[number])
+        let start = start_of(self.ends.as_slice(), number);
+        let (_, rest) = self.block.as_str().split_at(start);
+        let (text, _) = rest.split_at(self.ends[number] - start);
+        text
     }
 }
 
-/// Appends the text to the block.
-fn placed(block: &mut String, text: &str) -> Result<Span, Memory>
-    ensures kept { take (length (string_bytes block.old)) (string_bytes block.new) ≡ string_bytes block.old }
-    ensures cut { IfOk result (λ s. IsSpan (string_bytes block.new) s) }
-    ensures text { IfOk result (λ s. text_of (string_bytes block.new) s ≡ text.now) }
+/// Returns where the text of that number begins.
+fn start_of(ends: &[usize], number: usize) -> usize
+    requires { number ≤ length ends.now }
+    ensures { result ≡ get_or (0 ∷ ends.now) number 0 }
 {
-    let start = narrow(block.as_str().len())?;
-    let len = narrow(text.len())?;
-    block.push_str(text)?;
-    Ok(Span { start, len })
-}
-
-/// Converts the number to 32 bits. `Err` if it has more.
-pub(crate) fn narrow(number: usize) -> Result<u32, Memory>
-    ensures { IfOk result (λ n. n ≡ number) }
-{
-    match u32::try_from(number) {
-        Ok(number) => Ok(number),
-        Err(_) => Err(AllocError),
+    if number == 0 {
+        return 0;
     }
-}
-
-/// Returns the text of the span.
-fn text_at<'a>(block: &'a str, span: Span) -> &'a str
-    requires { IsSpan block.now span }
-    ensures { result.now ≡ text_of block.now span }
-{
-    let (_, rest) = block.split_at(span.start as usize);
-    let (text, _) = rest.split_at(span.len as usize);
-    text
+    ends[number - 1]
 }

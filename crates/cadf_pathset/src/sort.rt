@@ -13,7 +13,7 @@ use std::alloc::Global;
 use std::cmp::Ordering;
 
 /// Whether each list is below the next. If not, there are two or more.
-fn is_rising(nodes: &Nodes, numbers: &[u32]) -> bool
+fn is_rising(nodes: &Nodes, numbers: &[usize]) -> bool
     requires { AreThere nodes.now numbers.now }
     ensures rises { result ≡ true → IsStrictlySortedBy texts_cmp (lists_at nodes.now numbers.now) }
     ensures several { result ≡ false → 2 ≤ length numbers.now }
@@ -31,7 +31,7 @@ fn is_rising(nodes: &Nodes, numbers: &[u32]) -> bool
 }
 
 /// Returns the lists of both, each once, in order.
-fn merged(alloc: Global, nodes: &Nodes, a: &[u32], b: &[u32]) -> Result<Vec<u32>, Memory>
+fn merged(alloc: Global, nodes: &Nodes, a: &[usize], b: &[usize]) -> Result<Vec<usize>, Memory>
     requires ours { AreThere nodes.now a.now }
     requires theirs { AreThere nodes.now b.now }
     ensures there { IfOk result (λ all. AreThere nodes.now all.items) }
@@ -70,7 +70,7 @@ fn merged(alloc: Global, nodes: &Nodes, a: &[u32], b: &[u32]) -> Result<Vec<u32>
 }
 
 /// Returns the lists, each once, in order. Merge sort.
-pub(crate) fn sorted(alloc: Global, nodes: &Nodes, numbers: &[u32]) -> Result<Vec<u32>, Memory>
+pub(crate) fn sorted(alloc: Global, nodes: &Nodes, numbers: &[usize]) -> Result<Vec<usize>, Memory>
     requires { AreThere nodes.now numbers.now }
     ensures there { IfOk result (λ all. AreThere nodes.now all.items) }
     ensures rises { IfOk result (λ all. IsStrictlySortedBy texts_cmp (lists_at nodes.now all.items)) }

@@ -25,7 +25,7 @@ use std::marker::Model;
 #[derive(Drop)]
 pub struct SuffixRange<'a> {
     nodes: &'a Nodes,
-    numbers: &'a [u32],
+    numbers: &'a [usize],
     depth: usize,
 }
 
@@ -43,7 +43,7 @@ impl<'a> Model for SuffixRange<'a> {
 
 impl<'a> SuffixRange<'a> {
     /// Takes the nodes' lists, each without its first `depth` texts.
-    pub fn new(nodes: &'a Nodes, numbers: &'a [u32], depth: usize) -> SuffixRange<'a>
+    pub fn new(nodes: &'a Nodes, numbers: &'a [usize], depth: usize) -> SuffixRange<'a>
         requires { AreThere nodes.now numbers.now }
         ensures { result ≡ map (rest_of nodes.now depth) numbers.now }
     {

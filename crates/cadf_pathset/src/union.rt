@@ -1,5 +1,5 @@
 //! The union of two sets of lists, within the nodes of the first.
-ghost use Rattle.std.specs.Prelude.{◌≡◌, ◌≤◌, ◌<◌, ◌-◌, ◌++◌, [], ◌∷◌, ℕ, OnOk, IfOk, length, take, drop, get_or, true, false};
+ghost use Rattle.std.specs.Prelude.{◌≡◌, ◌≤◌, ◌<◌, ◌-◌, ◌++◌, [], ◌∷◌, ℕ, OnOk, OnErr, IfOk, length, take, drop, get_or, true, false};
 ghost use Rattle.std.specs.List.{AllByRecursion};
 ghost use Rattle.std.specs.List.Sorted.{IsStrictlySortedBy};
 ghost use Rattle.std.specs.declared.cmp.Ordering.TheVariants.{Less};
@@ -22,10 +22,10 @@ use std::cmp::Ordering;
 /// Compares one of our lists with theirs. Skips the texts that they are known to share.
 fn compare(
     nodes: &Nodes,
-    number: u32,
-    line: &mut Vec<u32>,
-    up: &mut Vec<u32>,
-    out: &mut Vec<u32>,
+    number: usize,
+    line: &mut Vec<usize>,
+    up: &mut Vec<usize>,
+    out: &mut Vec<usize>,
     agreed: &mut usize,
     path: &[&str],
 ) -> Result<Ordering, Memory>
@@ -47,7 +47,7 @@ fn compare(
 }
 
 /// Goes to their next list, and returns whether there is one.
-fn enter(cursor: &mut Cursor<'_>, out: &mut Vec<u32>, agreed: &mut usize) -> Result<bool, Memory>
+fn enter(cursor: &mut Cursor<'_>, out: &mut Vec<usize>, agreed: &mut usize) -> Result<bool, Memory>
     ensures { IfOk result (λ more. Entered more cursor.old cursor.new out.old.items out.new.items agreed.old agreed.new) }
 {
     match cursor.advance()? {
@@ -63,9 +63,9 @@ fn enter(cursor: &mut Cursor<'_>, out: &mut Vec<u32>, agreed: &mut usize) -> Res
 /// Appends their list, by new nodes for the texts that our nodes lack.
 fn append(
     nodes: &mut Nodes,
-    out: &mut Vec<u32>,
+    out: &mut Vec<usize>,
     path: &[&str],
-    all: &mut Vec<u32>,
+    all: &mut Vec<usize>,
 ) -> Result<(), Memory>
     requires line { IsLine nodes.old out.old.items (take (length out.old.items) (texts_at path.now)) }
     requires there { AreThere nodes.old all.old.items }
@@ -80,7 +80,7 @@ fn append(
 }
 
 /// Returns a number of ours from `from` on, all lists between being below theirs. Galloping search.
-fn gallop(nodes: &Nodes, numbers: &[u32], from: usize, path: &[&str]) -> usize
+fn gallop(nodes: &Nodes, numbers: &[usize], from: usize, path: &[&str]) -> usize
     requires there { AreThere nodes.now numbers.now }
     requires rises { IsStrictlySortedBy texts_cmp (lists_at nodes.now numbers.now) }
     requires within { from ≤ length numbers.now }
@@ -106,10 +106,10 @@ fn gallop(nodes: &Nodes, numbers: &[u32], from: usize, path: &[&str]) -> usize
 /// Appends those of ours that a galloping search finds below theirs, except the last of them. Returns the number of the next of ours.
 fn skip(
     nodes: &Nodes,
-    numbers: &[u32],
+    numbers: &[usize],
     at: usize,
     path: &[&str],
-    all: &mut Vec<u32>,
+    all: &mut Vec<usize>,
 ) -> Result<usize, Memory>
     requires ours { AreThere nodes.now numbers.now }
     requires rises { IsStrictlySortedBy texts_cmp (lists_at nodes.now numbers.now) }
@@ -133,44 +133,37 @@ fn skip(
 /// So many of ours in a row are compared one by one before a galloping search.
 const LONG: usize = 8;
 
-/// Returns the lists of both, each once, in order. Copies no text of ours, and appends no node for a text that our lists beside have.
-pub(crate) fn merge_into(
-    alloc: Global,
+/// Appends to `all` our lists and those ahead of the cursor, each once, in order. Copies no text of ours, and appends no node for a text that
+/// our lists beside have.
+fn merge(
     nodes: &mut Nodes,
-    numbers: &[u32],
-    other: &PathVec,
-) -> Result<Vec<u32>, Memory>
+    numbers: &[usize],
+    cursor: &mut Cursor<'_>,
+    line: &mut Vec<usize>,
+    up: &mut Vec<usize>,
+    out: &mut Vec<usize>,
+    all: &mut Vec<usize>,
+) -> Result<(), Memory>
     requires there { AreThere nodes.old numbers.now }
     requires rises { IsStrictlySortedBy texts_cmp (lists_at nodes.old numbers.now) }
+    requires front { IsLinePrefix nodes.old line.old.items out.old.items 0 cursor.old.0 }
+    requires before { AreThere nodes.old all.old.items }
     ensures kept { take (length nodes.old) nodes.new ≡ nodes.old }
-    ensures there { IfOk result (λ all. AreThere nodes.new all.items) }
-    ensures merged { IfOk result (λ all. lists_at nodes.new all.items
-        ≡ sorted_merge texts_cmp true (lists_at nodes.old numbers.now) other.now) }
+    ensures there { OnOk result (AreThere nodes.new all.new.items) }
+    ensures merged { OnOk result (lists_at nodes.new all.new.items
+        ≡ lists_at nodes.old all.old.items ++ sorted_merge texts_cmp true (lists_at nodes.old numbers.now) cursor.old.1) }
 {
-    let mut all = Vec::new(alloc);
-    let mut line = Vec::new(alloc);
-    let mut up = Vec::new(alloc);
-    let mut out = Vec::new(alloc);
     let mut agreed: usize = 0;
     let mut at: usize = 0;
     let mut run: usize = 0;
-    let mut cursor = other.cursor();
-    let mut more = enter(&mut cursor, &mut out, &mut agreed)?;
+    let mut more = enter(cursor, out, &mut agreed)?;
     while more {
         if run == LONG {
-            at = skip(&*nodes, numbers, at, cursor.path(), &mut all)?;
+            at = skip(&*nodes, numbers, at, cursor.path(), all)?;
             run = 0;
         } else if at < numbers.len() {
             let number = numbers[at];
-            let order = compare(
-                &*nodes,
-                number,
-                &mut line,
-                &mut up,
-                &mut out,
-                &mut agreed,
-                cursor.path(),
-            )?;
+            let order = compare(&*nodes, number, line, up, out, &mut agreed, cursor.path())?;
             match order {
                 Ordering::Less => {
                     all.push(number)?;
@@ -181,20 +174,58 @@ pub(crate) fn merge_into(
                     all.push(number)?;
                     at += 1;
                     run = 0;
-                    more = enter(&mut cursor, &mut out, &mut agreed)?;
+                    more = enter(cursor, out, &mut agreed)?;
                 }
                 Ordering::Greater => {
                     run = 0;
-                    append(nodes, &mut out, cursor.path(), &mut all)?;
-                    more = enter(&mut cursor, &mut out, &mut agreed)?;
+                    append(nodes, out, cursor.path(), all)?;
+                    more = enter(cursor, out, &mut agreed)?;
                 }
             }
         } else {
-            append(nodes, &mut out, cursor.path(), &mut all)?;
-            more = enter(&mut cursor, &mut out, &mut agreed)?;
+            append(nodes, out, cursor.path(), all)?;
+            more = enter(cursor, out, &mut agreed)?;
         }
     }
     let (_, rest) = numbers.split_at(at);
     all.extend_from_slice(rest)?;
-    Ok(all)
+    Ok(())
+}
+
+/// Returns the lists of both, each once, in order, within our nodes. After an `Err` our nodes are as before.
+pub(crate) fn merge_into(
+    alloc: Global,
+    nodes: &mut Nodes,
+    numbers: &[usize],
+    other: &PathVec,
+) -> Result<Vec<usize>, Memory>
+    requires there { AreThere nodes.old numbers.now }
+    requires rises { IsStrictlySortedBy texts_cmp (lists_at nodes.old numbers.now) }
+    ensures kept { take (length nodes.old) nodes.new ≡ nodes.old }
+    ensures there { IfOk result (λ all. AreThere nodes.new all.items) }
+    ensures merged { IfOk result (λ all. lists_at nodes.new all.items
+        ≡ sorted_merge texts_cmp true (lists_at nodes.old numbers.now) other.now) }
+    ensures err { OnErr result (nodes.new ≡ nodes.old) }
+{
+    let count = nodes.count();
+    let mut all = Vec::new(alloc);
+    let mut line = Vec::new(alloc);
+    let mut up = Vec::new(alloc);
+    let mut out = Vec::new(alloc);
+    let mut cursor = other.cursor();
+    match merge(
+        nodes,
+        numbers,
+        &mut cursor,
+        &mut line,
+        &mut up,
+        &mut out,
+        &mut all,
+    ) {
+        Ok(()) => Ok(all),
+        Err(fault) => {
+            nodes.truncate(count);
+            Err(fault)
+        }
+    }
 }

@@ -1,4 +1,4 @@
-use Rattle.std.proofs.Common.{subst, ◌∙◌}
+use Rattle.std.proofs.Common.{◌++◌, subst, ◌∙◌}
 use Rattle.std.specs.declared.cmp.Ordering.TheVariants.{Less, Equal, Greater}
 use Rattle.cadf_join.specs.Contents.{texts_cmp}
 use Rattle.cadf_join.specs.Prefixes.{texts_at}
@@ -6,7 +6,26 @@ use Rattle.cadf_pathset.specs.Merge.{sorted_without}
 use Rattle.cadf_pathset.specs.Walks.{Steps}
 use Rattle.cadf_pathset.proofs.Agreement.{agree_turned}
 use Rattle.cadf_pathset.proofs.Copies.{agree_at, order_at, left_less, left_equal, left_greater, stepped_agrees, stepped_ahead}
-use Rattle.cadf_pathset.proofs.merge.without.Goals as goal
+use Rattle.cadf_pathset.proofs.Threads.{agree_none}
+use Rattle.cadf_pathset.proofs.merge.copy_lacking.Goals as goal
+
+pub loop-more-init : goal.loop-more-init
+loop-more-init c =
+    let a = c.args.ours.now.0 in
+    let b = c.args.theirs.now in
+    let d = c.step.new.self.0 in
+    let e = c.step-2.new.self in
+    let ours = c.in_ok-more.ensures.place in
+    let theirs = c.in_ok-others.ensures in
+    let first = stepped_ahead c.in_ok-more.more a d 0 c.step.new.agreed ours in
+    let second = stepped_ahead c.in_ok-others.others b e c.step.new.agreed c.step-2.new.agreed theirs in
+    record {
+      left = λ i. c.step.ensures.same i ++ sorted_without texts_cmp (first i) (second i);
+      agrees = agree_turned c.step-2.new.agreed e.0 d.0
+          (stepped_agrees c.in_ok-others.others b e c.step.new.agreed c.step-2.new.agreed d.0 theirs
+          (agree_turned c.step.new.agreed d.0 b.0
+          (stepped_agrees c.in_ok-more.more a d 0 c.step.new.agreed b.0 ours (agree_none a.0 b.0))));
+    }
 
 pub loop-more-preserved-in-Less : goal.loop-more-preserved-in-Less
 loop-more-preserved-in-Less c =
@@ -21,7 +40,7 @@ loop-more-preserved-in-Less c =
     let steps : Steps c.in_ok-more-in-Less.more a d c.texts_cmp-order.result.1 c.step-in-Less.new.agreed =
     subst (λ z. Steps c.in_ok-more-in-Less.more z d c.texts_cmp-order.result.1 c.step-in-Less.new.agreed) c.copy.ensures.place c.in_ok-more-in-Less.ensures.place in
     record {
-      left = left_less c.loop-more.ours.1 (sorted_without texts_cmp c.args.a.now c.args.b.now) c.loop-more.more c.loop-more.others a b c.loop-more-test.true
+      left = left_less c.loop-more.ours.1 (c.args.ours.now.1 ++ sorted_without texts_cmp c.args.ours.now.0.1 c.args.theirs.now.1) c.loop-more.more c.loop-more.others a b c.loop-more-test.true
           c.if-others.true h.left c.in_ok-more-in-Less.more d c.step-in-Less.new.self.1 order (c.step-in-Less.ensures.same ∙ c.in_ok-copy-in-Less.ensures.more)
           (stepped_ahead c.in_ok-more-in-Less.more a d c.texts_cmp-order.result.1 c.step-in-Less.new.agreed steps);
       agrees = stepped_agrees c.in_ok-more-in-Less.more a d c.texts_cmp-order.result.1 c.step-in-Less.new.agreed b.0 steps both;
@@ -41,7 +60,7 @@ loop-more-preserved-in-Equal c =
     let ours = c.in_ok-more-in-Equal.ensures.place in
     let theirs = c.in_ok-others-in-Equal.ensures in
     record {
-      left = left_equal c.loop-more.ours.1 (sorted_without texts_cmp c.args.a.now c.args.b.now) c.loop-more.more c.loop-more.others a b c.loop-more-test.true
+      left = left_equal c.loop-more.ours.1 (c.args.ours.now.1 ++ sorted_without texts_cmp c.args.ours.now.0.1 c.args.theirs.now.1) c.loop-more.more c.loop-more.others a b c.loop-more-test.true
           c.if-others.true h.left c.in_ok-more-in-Equal.more c.in_ok-others-in-Equal.others d e c.step-in-Equal.new.self.1 order c.step-in-Equal.ensures.same
           (stepped_ahead c.in_ok-more-in-Equal.more a d c.texts_cmp-order.result.1 c.step-in-Equal.new.agreed ours)
           (stepped_ahead c.in_ok-others-in-Equal.others b e c.step-in-Equal.new.agreed c.step-in-Equal-2.new.agreed theirs);
@@ -63,7 +82,7 @@ loop-more-preserved c =
     let e = c.step-in-Greater.new.self in
     let theirs = c.in_ok-others-in-Greater.ensures in
     record {
-      left = left_greater c.loop-more.ours.1 (sorted_without texts_cmp c.args.a.now c.args.b.now) c.loop-more.more c.loop-more.others a b c.loop-more-test.true
+      left = left_greater c.loop-more.ours.1 (c.args.ours.now.1 ++ sorted_without texts_cmp c.args.ours.now.0.1 c.args.theirs.now.1) c.loop-more.more c.loop-more.others a b c.loop-more-test.true
           c.if-others.true h.left c.in_ok-others-in-Greater.others e order
           (stepped_ahead c.in_ok-others-in-Greater.others b e c.texts_cmp-order.result.1 c.step-in-Greater.new.agreed theirs);
       agrees = agree_turned c.step-in-Greater.new.agreed e.0 a.0

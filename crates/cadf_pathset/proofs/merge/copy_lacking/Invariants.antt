@@ -3,11 +3,11 @@ use Rattle.cadf_join.specs.Contents.{texts_cmp}
 use Rattle.cadf_pathset.specs.Nodes.{Agree}
 use Rattle.cadf_pathset.specs.Walks.{ahead}
 use Rattle.cadf_pathset.specs.Merge.{sorted_without}
-use Rattle.cadf_pathset.proofs.merge.without.Given as goal
+use Rattle.cadf_pathset.proofs.merge.copy_lacking.Given as goal
 
 abbrev pub invariant-loop-more : goal.invariant-loop-more
 invariant-loop-more l = record {
-  left : l.ours.1 ++ sorted_without texts_cmp (ahead l.more l.ours.0) (ahead l.others l.theirs) ≡ sorted_without texts_cmp l.a l.b;
+  left : l.ours.1 ++ sorted_without texts_cmp (ahead l.more l.ours.0) (ahead l.others l.theirs) ≡ l.fn.ours.1 ++ sorted_without texts_cmp l.fn.ours.0.1 l.fn.theirs.1;
   agrees : Agree l.agreed l.ours.0.0 l.theirs.0;
 }
 

@@ -3,7 +3,7 @@ use Rattle.cadf_join.specs.Contents.{texts_cmp}
 use Rattle.cadf_pathset.specs.Merge.{sorted_merge}
 use Rattle.cadf_pathset.specs.Nodes.{AreThere, lists_at}
 use Rattle.cadf_pathset.specs.Walks.{IsLinePrefix, ahead}
-use Rattle.cadf_pathset.proofs.union.merge_into.Given as goal
+use Rattle.cadf_pathset.proofs.union.merge.Given as goal
 
 abbrev pub invariant-loop-more : goal.invariant-loop-more
 invariant-loop-more l = record {
@@ -13,7 +13,7 @@ invariant-loop-more l = record {
   there : AreThere l.nodes l.all.items;
   front : IsLinePrefix l.nodes l.line.items l.out.items l.agreed l.cursor.0;
   lists : lists_at l.nodes l.all.items ++ sorted_merge texts_cmp true (lists_at l.fn.nodes (drop l.at l.numbers)) (ahead l.more l.cursor)
-      ≡ sorted_merge texts_cmp true (lists_at l.fn.nodes l.numbers) l.other;
+      ≡ lists_at l.fn.nodes l.fn.all.items ++ sorted_merge texts_cmp true (lists_at l.fn.nodes l.numbers) l.fn.cursor.1;
 }
 
 abbrev pub decreases-loop-more : goal.decreases-loop-more
