@@ -1,3 +1,4 @@
+pub mod AskedLemmas
 pub mod Cancelling
 pub mod CellLemmas
 pub mod CheckLemmas

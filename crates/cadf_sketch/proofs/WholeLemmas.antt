@@ -139,7 +139,7 @@ unfolding digest_bytes
 digest_are h zero i = omega arith
 digest_are h (suc n) i = append_fits (digest_bytes h n) _ (digest_are h n) (high_fits 4 (slice_index h n)) i
 
-sha_digest : (message : List ℕ) → IsDigest (sha256 message)
+pub sha_digest : (message : List ℕ) → IsDigest (sha256 message)
 unfolding sha256
 sha_digest message = record { size = length-sha256 message; bytes = digest_are (final_hash initial_hash_256 message) 8 }
 

@@ -1,14 +1,16 @@
 -- What contracts see of a sketch.
 --     cells_of s layout      the cells of a set of digests
 --     sketch_of n layout     the sketch of an inventory
-use Rattle.std.specs.Prelude.{◌*◌, ℕ, List, replicate, refl}
+--     own_salt n             the salt that the digest of an inventory makes
+--     asked n cells salt     the sketch of so many cells, with that salt or with the inventory's own
+use Rattle.std.specs.Prelude.{◌+◌, ◌*◌, ◌/◌, ℕ, List, replicate, Option, unwrap_or, refl}
 use Rattle.std.specs.Coded.{Coded, coded_ℕ, coded_list, coded×, code_by}
 use Rattle.cadf_join.specs.Sets.{rising}
 use Rattle.cadf_join.specs.Contents.{Text}
 use Rattle.cadf_set.specs.Inventory.{InventoryModel}
 use Rattle.cadf_line.specs.Missing.{Digests}
-use Rattle.cadf_sketch.specs.Layouts.{LayoutModel, coded_layout}
-use Rattle.cadf_sketch.specs.Cells.{nothing, turned_all}
+use Rattle.cadf_sketch.specs.Layouts.{LayoutModel, coded_layout, layout_with}
+use Rattle.cadf_sketch.specs.Cells.{nothing, turned_all, word}
 use Rattle.cadf_sketch.specs.Tallies.{tally_of}
 use Rattle.cadf_sketch.specs.Texts.{inventory_digest}
 use Rattle.cadf_sketch.specs.declared.cell.Cell.{Cell}
@@ -48,3 +50,10 @@ sketch_of n layout = record {
   tally = tally_of (rising n.digests);
   cells = cells_of n.digests layout;
 }
+
+-- the first eight bytes of the digest, with the lowest bit set
+abbrev pub own_salt : InventoryModel → ℕ
+own_salt n = word (inventory_digest n) 0 / 2 * 2 + 1
+
+abbrev pub asked : InventoryModel → ℕ → Option ℕ → SketchModel
+asked n cells salt = sketch_of n (layout_with cells (unwrap_or salt (own_salt n)))

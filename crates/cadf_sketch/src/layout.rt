@@ -1,8 +1,98 @@
 //! How the cells of a sketch are laid out.
-ghost use Rattle.std.specs.Prelude.{◌≡◌, ◌<◌, ◌≤◌, ◌*◌, ◌^◌, IfSome};
-ghost use Rattle.cadf_sketch.specs.Layouts.{layout_of, IsLayout};
+ghost use Rattle.std.specs.Prelude.{◌≡◌, ◌<◌, ◌≤◌, ◌*◌, ◌/◌, ◌+◌, ◌^◌, if◌then◌else◌, Some, None};
+ghost use Rattle.cadf_sketch.specs.Cells.{word};
+ghost use Rattle.cadf_sketch.specs.Layouts.{are_cells, is_salt, layout_with, IsLayout};
 
+use crate::cell::word;
 use std::marker::Model;
+
+/// How many cells a sketch has in all three tables: a multiple of 3, from 3 to 3 * 2^22.
+#[derive(Clone, Copy, Debug)]
+pub struct Cells {
+    count: u32,
+}
+
+impl Model for Cells {
+    ghost use Rattle.std.specs.Prelude.{◌≡◌, ℕ, true};
+    ghost use Rattle.std.specs.Coded.{coded_ℕ};
+    ghost use Rattle.cadf_sketch.specs.Layouts.{are_cells};
+
+    ghost Value = { ℕ };
+
+    ghost coded = { coded_ℕ };
+
+    ghost view = { λ c. c.count };
+
+    ghost inverse = { λ n. record { count = n } };
+
+    ghost invariant = { λ c. are_cells c.count ≡ true };
+}
+
+impl Cells {
+    /// Returns that many cells. `None` if no sketch has as many.
+    pub fn of(count: u64) -> Option<Cells>
+        ensures { result ≡ if are_cells count then Some count else None }
+    {
+        if count % 3 == 0 && 3 <= count && count <= 12_582_912 {
+            Some(Cells {
+                count: count as u32,
+            })
+        } else {
+            None
+        }
+    }
+
+    /// Returns 198 cells: enough for some 100 differences.
+    pub fn by_default() -> Cells
+        ensures { result ≡ 198 }
+    {
+        Cells { count: 198 }
+    }
+}
+
+/// The number by which a digest finds its cells: an odd one.
+#[derive(Clone, Copy, Debug)]
+pub struct Salt {
+    number: u64,
+}
+
+impl Model for Salt {
+    ghost use Rattle.std.specs.Prelude.{◌≡◌, ℕ, true};
+    ghost use Rattle.std.specs.Coded.{coded_ℕ};
+    ghost use Rattle.cadf_sketch.specs.Layouts.{is_salt};
+
+    ghost Value = { ℕ };
+
+    ghost coded = { coded_ℕ };
+
+    ghost view = { λ s. s.number };
+
+    ghost inverse = { λ n. record { number = n } };
+
+    ghost invariant = { λ s. is_salt s.number ≡ true };
+}
+
+impl Salt {
+    /// Returns the number as a salt. `None` if it is even.
+    pub fn of(number: u64) -> Option<Salt>
+        ensures { result ≡ if is_salt number then Some number else None }
+    {
+        if number % 2 == 1 {
+            Some(Salt { number })
+        } else {
+            None
+        }
+    }
+
+    /// Returns the first eight bytes of the digest, with the lowest bit set.
+    pub(crate) fn of_digest(digest: &[u8; 32]) -> Salt
+        ensures { result ≡ word digest.now 0 / 2 * 2 + 1 }
+    {
+        Salt {
+            number: word(digest, 0) / 2 * 2 + 1,
+        }
+    }
+}
 
 /// How many cells each of a sketch's three tables has, and the salt by which a digest finds its cells.
 #[derive(Clone, Copy, Debug, PartialEq, Eq)]
@@ -26,18 +116,13 @@ impl Model for Layout {
 }
 
 impl Layout {
-    /// Returns the layout of that many cells with that salt. `None` unless the cells are a multiple of 3, from 3 to
-    /// 3 * 2^22, and the salt is odd.
-    pub fn of(cells: u64, salt: u64) -> Option<Layout>
-        ensures { result ≡ layout_of cells salt }
+    /// Returns the layout of these cells with that salt.
+    pub(crate) fn of(cells: Cells, salt: Salt) -> Layout
+        ensures { result ≡ layout_with cells salt }
     {
-        if cells % 3 == 0 && 3 <= cells && cells <= 12_582_912 && salt % 2 == 1 {
-            Some(Layout {
-                size: (cells / 3) as u32,
-                salt,
-            })
-        } else {
-            None
+        Layout {
+            size: cells.count / 3,
+            salt: salt.number,
         }
     }
 

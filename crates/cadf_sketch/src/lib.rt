@@ -27,7 +27,7 @@ pub use laws::{
     accepted_bytes_are_sketches, cells_are_what_stands_there, enough_cells_are_read,
     read_is_what_was_sketched, sketch_file_is_injective, sketch_is_read_back,
 };
-pub use layout::Layout;
+pub use layout::{Cells, Layout, Salt};
 pub use reading::{ReadFault, read};
 pub use sketch::Sketch;
 pub use sketch_read::read_sketch;

@@ -1,11 +1,12 @@
 //! What the lines of a sketch's file tell.
 
 ghost use Rattle.std.specs.Prelude.{◌≡◌, ◌∷◌, IfOk, length};
+ghost use Rattle.cadf_sketch.specs.Layouts.{layout_of};
 ghost use Rattle.cadf_sketch.specs.SketchVerdict.{head_in, head_in_words, laid_out, number_in, tally_in, counts_in_words, cell_in, cell_of_bytes};
 
 use crate::cell::Cell;
 use crate::head::Head;
-use crate::layout::Layout;
+use crate::layout::{Cells, Layout, Salt};
 use crate::numbers::{cut_at_blank, number_in, numbers_in};
 use crate::tally::Tally;
 use cadf_file::digest_of;
@@ -22,7 +23,20 @@ fn layout_in(cells: &[u8], salt: &[u8]) -> Option<Layout>
     let Some(salt) = number_in(salt) else {
         return None;
     };
-    Layout::of(cells, salt)
+    layout_of(cells, salt)
+}
+
+/// Returns the layout of that many cells with that salt. `None` if there is none.
+fn layout_of(cells: u64, salt: u64) -> Option<Layout>
+    ensures { result ≡ layout_of cells salt }
+{
+    let Some(cells) = Cells::of(cells) else {
+        return None;
+    };
+    let Some(salt) = Salt::of(salt) else {
+        return None;
+    };
+    Some(Layout::of(cells, salt))
 }
 
 /// Reads the number of cells, the salt and the digest. `None` if the words are other than these.

@@ -1,17 +1,18 @@
 //! A sketch of an inventory.
-ghost use Rattle.std.specs.Prelude.{◌≡◌, ◌*◌, IfOk, length, replicate};
+ghost use Rattle.std.specs.Prelude.{◌≡◌, ◌*◌, ◌/◌, ◌+◌, IfOk, length, replicate, unwrap_or};
 ghost use Rattle.cadf_join.specs.Sets.{rising};
-ghost use Rattle.cadf_sketch.specs.Cells.{nothing, turned_all};
+ghost use Rattle.cadf_sketch.specs.Cells.{nothing, turned_all, word};
 ghost use Rattle.cadf_event.specs.Known.{IsNameText};
 ghost use Rattle.cadf_sketch.specs.SketchFile.{HasParts};
-ghost use Rattle.cadf_sketch.specs.Sketches.{sketch_of};
+ghost use Rattle.cadf_sketch.specs.Sketches.{sketch_of, asked};
 ghost use Rattle.cadf_sketch.specs.SketchVerdict.{sketch_of_parts};
 ghost use Rattle.cadf_sketch.specs.Tallies.{tally_of};
+ghost use Rattle.cadf_sketch.specs.Texts.{inventory_digest};
 
 use crate::cell::Cell;
 use crate::digest::inventory_digest;
 use crate::head::Head;
-use crate::layout::Layout;
+use crate::layout::{Cells, Layout, Salt};
 use crate::tally::Tally;
 use crate::turn::turn;
 use cadf_event::Name;
@@ -73,16 +74,46 @@ pub(crate) fn tally(inventory: &Inventory) -> Tally
     tally
 }
 
+/// Returns the salt, or that which the inventory's digest makes.
+fn salt_or_own(salt: Option<Salt>, digest: &[u8; 32]) -> Salt
+    ensures { result ≡ unwrap_or salt (word digest.now 0 / 2 * 2 + 1) }
+{
+    match salt {
+        Some(salt) => salt,
+        None => Salt::of_digest(digest),
+    }
+}
+
 impl Sketch {
-    /// Makes the sketch of the inventory.
-    pub fn of(alloc: Global, inventory: &Inventory, layout: Layout) -> Result<Sketch, Memory>
+    /// Makes the sketch of the inventory with so many cells. Without a salt its digest makes one: so one inventory has
+    /// one sketch of that many cells.
+    pub fn of(
+        alloc: Global,
+        inventory: &Inventory,
+        cells: Cells,
+        salt: Option<Salt>,
+    ) -> Result<Sketch, Memory>
+        ensures { IfOk result (λ s. s ≡ asked inventory.now cells salt) }
+    {
+        let digest = inventory_digest(alloc, inventory)?;
+        let salt = salt_or_own(salt, &digest);
+        Sketch::laid_out(alloc, inventory, Layout::of(cells, salt), digest)
+    }
+
+    /// Makes the sketch of the inventory, whose digest is given.
+    fn laid_out(
+        alloc: Global,
+        inventory: &Inventory,
+        layout: Layout,
+        digest: [u8; 32],
+    ) -> Result<Sketch, Memory>
+        requires { digest ≡ inventory_digest inventory.now }
         ensures { IfOk result (λ s. s ≡ sketch_of inventory.now layout) }
     {
         inventory.type_invariant();
         layout.type_invariant();
         let mut cells = empty_cells(alloc, layout.cells())?;
         turn_all(&mut cells, inventory, layout);
-        let digest = inventory_digest(alloc, inventory)?;
         Ok(Sketch {
             log: inventory.log().copy(alloc)?,
             layout,

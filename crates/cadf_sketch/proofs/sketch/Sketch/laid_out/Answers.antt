@@ -5,7 +5,7 @@ use Rattle.cadf_sketch.specs.Cells.{turned_all, nothing}
 use Rattle.cadf_sketch.specs.SketchFile.{HasParts}
 use Rattle.cadf_sketch.specs.Sketches.{cells_of, sketch_of}
 use Rattle.cadf_sketch.proofs.WholeLemmas.{sketch_parts}
-use Rattle.cadf_sketch.proofs.sketch.Sketch.of.Goals as goal
+use Rattle.cadf_sketch.proofs.sketch.Sketch.laid_out.Goals as goal
 
 pub invariant_of-result : goal.invariant_of-result
 unfolding sketch_of cells_of
@@ -21,7 +21,7 @@ invariant_of-result c =
     (λ i. record {
       log = sym log i;
       layout = layout;
-      digest = sym c.in_ok-digest.ensures i;
+      digest = sym c.requires i;
       tally = sym c.tally.ensures i;
       cells = sym cells i;
     })
@@ -40,7 +40,7 @@ returns c =
     λ i. record {
       log = log i;
       layout = layout;
-      digest = c.in_ok-digest.ensures i;
+      digest = c.requires i;
       tally = c.tally.ensures i;
       cells = cells i;
     }

@@ -1,0 +1,52 @@
+-- The sketch that is asked for is a sketch.
+use Rattle.std.proofs.Common.{◌≡◌, ◌<◌, ◌≤◌, ◌+◌, ◌*◌, ◌/◌, ◌%◌, ◌^◌, ℕ, zero, suc, true, arith}
+use Rattle.std.proofs.Common.{List, [], ◌∷◌, take, slice_index, slice_range, Option, None, Some, IfSome}
+use Rattle.cadf_line.specs.Digest.{IsDigest}
+use Rattle.cadf_set.specs.Inventory.{InventoryModel}
+use Rattle.cadf_file.specs.InventoryFile.{IsInventory}
+use Rattle.cadf_sketch.specs.Cells.{word}
+use Rattle.cadf_sketch.specs.Layouts.{IsLayout, are_cells, is_salt, layout_with}
+use Rattle.cadf_sketch.specs.SketchFile.{IsSketch}
+use Rattle.cadf_sketch.specs.Sketches.{sketch_of, own_salt, asked}
+use Rattle.cadf_sketch.specs.Texts.{inventory_digest, inventory_text}
+use Rattle.cadf_sketch.proofs.LineLemmas.{from_fits}
+use Rattle.cadf_sketch.proofs.WholeLemmas.{sha_digest, sketch_parts}
+
+take_fits : (n : ℕ) (xs : List ℕ) → ((i : ℕ) → slice_index xs i < 256) → (i : ℕ) → slice_index (take n xs) i < 256
+take_fits zero xs f i = omega arith
+take_fits (suc n) [] f i = f i
+take_fits (suc n) (x ∷ xs) f zero = f zero
+take_fits (suc n) (x ∷ xs) f (suc i) = take_fits n xs (λ k. f (suc k)) i
+
+first_word_fits : (n : InventoryModel) → word (inventory_digest n) 0 < 2 ^ 64
+unfolding word inventory_digest
+first_word_fits n =
+    let digest : IsDigest (inventory_digest n) = sha_digest (inventory_text n) in
+    from_fits (slice_range (inventory_digest n) 0 8) (take_fits 8 (inventory_digest n) digest.bytes)
+
+laid : (cells salt : ℕ) → are_cells cells ≡ true → salt % 2 ≡ 1 → IsLayout (layout_with cells salt)
+laid cells salt h odd = record { some = omega (arith, facts.0); most = omega (arith, facts.1); odd = odd }
+  where
+    facts : (3 ≤ cells) × (cells ≤ 3 * 2 ^ 22)
+    facts = (grind (arith, h), grind (arith, h))
+
+with_salt : (n : InventoryModel) (cells salt : ℕ) → IsInventory n → are_cells cells ≡ true → salt % 2 ≡ 1 → salt < 2 ^ 64
+    → IsSketch (sketch_of n (layout_with cells salt))
+unfolding sketch_of
+with_salt n cells salt is h odd small = record { log = is.log; parts = sketch_parts n (layout_with cells salt) is.digests (laid cells salt h odd) small }
+
+odd_of : (w : ℕ) → (w / 2 * 2 + 1) % 2 ≡ 1
+odd_of w = omega arith
+
+small_of : (w : ℕ) → w < 2 ^ 64 → w / 2 * 2 + 1 < 2 ^ 64
+small_of w h = omega (arith, h)
+
+salt_odd : (a : ℕ) → is_salt a ≡ true → a % 2 ≡ 1
+salt_odd a h = grind (arith, h)
+
+pub asked_is : (n : InventoryModel) (cells : ℕ) (salt : Option ℕ) → IsInventory n → are_cells cells ≡ true
+    → IfSome salt (λ a. (is_salt a ≡ true) × (a < 2 ^ 64)) → IsSketch (asked n cells salt)
+asked_is n cells None is h given =
+    let w = word (inventory_digest n) 0 in
+    with_salt n cells (own_salt n) is h (odd_of w) (small_of w (first_word_fits n))
+asked_is n cells (Some a) is h given = with_salt n cells a is h (salt_odd a given.0) given.1
