@@ -5,6 +5,7 @@ use Rattle.cadf_tool.specs.declared.fault.ToolFault.TheVariants.{
   Input,
   NoLog,
   OtherLog,
+  TooFewCells,
   Script,
   Rehearse,
   NoValue,
@@ -18,6 +19,7 @@ pub above_zero : (fault : ToolFault) → 1 ≤ status_of fault
 above_zero (Input n f) = omega arith
 above_zero NoLog = omega arith
 above_zero (OtherLog n) = omega arith
+above_zero (TooFewCells cells) = omega arith
 above_zero (Script line) = omega arith
 above_zero (Rehearse f) = omega arith
 above_zero NoValue = omega arith

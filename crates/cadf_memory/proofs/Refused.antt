@@ -9,6 +9,7 @@ use Rattle.cadf_tool.specs.declared.fault.ToolFault.TheVariants.{
   Input,
   NoLog,
   OtherLog,
+  TooFewCells,
   Script,
   Rehearse,
   NoValue,
@@ -43,6 +44,7 @@ module _ {A M : Type 0} (sources : Sources A) (work : A → Result M ToolFault) 
   kept (Input n f) h = h
   kept NoLog h = h
   kept (OtherLog n) h = h
+  kept (TooFewCells cells) h = h
   kept (Script line) h = h
   kept (Rehearse f) h = h
   kept NoValue h = h

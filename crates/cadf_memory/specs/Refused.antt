@@ -11,6 +11,7 @@ use Rattle.cadf_tool.specs.declared.fault.ToolFault.TheVariants.{
   Input,
   NoLog,
   OtherLog,
+  TooFewCells,
   Script,
   Rehearse,
   NoValue,
@@ -26,6 +27,7 @@ abbrev pub unwritten_of : ToolFault → ToolFault
 unwritten_of (Input n f) = Input n f
 unwritten_of NoLog = NoLog
 unwritten_of (OtherLog n) = OtherLog n
+unwritten_of (TooFewCells cells) = TooFewCells cells
 unwritten_of (Script line) = Script line
 unwritten_of (Rehearse f) = Rehearse f
 unwritten_of NoValue = NoValue

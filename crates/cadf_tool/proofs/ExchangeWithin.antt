@@ -7,6 +7,7 @@ use Rattle.cadf_join.specs.laws.Contents.{texts_total}
 use Rattle.cadf_join.specs.laws.Sets as laws
 use Rattle.cadf_atom.specs.AtomSets.{IsReplicaSet}
 use Rattle.cadf_atom.specs.Contributions.{Contribution, one_atom}
+use Rattle.cadf_set.specs.Inventory.{InventoryModel}
 use Rattle.cadf_set.specs.Replica.{ReplicaModel}
 use Rattle.cadf_line.specs.RulingTexts.{RulingParts, ruling_atom}
 use Rattle.cadf_set.proofs.ContributionLaws.{kept_empty, kept_union}
@@ -17,8 +18,8 @@ use Rattle.cadf_tool.specs.Input.{IsInput}
 use Rattle.cadf_tool.specs.Told.{log_named, atoms_loaded, IsHeld}
 use Rattle.cadf_tool.specs.Join.{first_named, union_of, join_of}
 use Rattle.cadf_tool.specs.Rule.{ruling_at, ruled_of}
-use Rattle.cadf_tool.specs.Exchange.{Derivation, External, Empty, Joined, Ruled, Operands, End, Whole, Part, PartBy}
-use Rattle.cadf_tool.specs.Exchange.{IsReadOf, IsPartOf, IsPartByOf, IsDerived, AreRead}
+use Rattle.cadf_tool.specs.Exchange.{Derivation, External, Empty, Joined, Ruled, Operands, End, Whole, Part, PartBy, PartBySketch}
+use Rattle.cadf_tool.specs.Exchange.{IsReadOf, IsPartOf, IsPartByOf, IsPartBySketchOf, IsDerived, AreRead}
 use Rattle.cadf_tool.specs.Exchange.{external_inputs, external_inputs_of, brought, log_of, log_in, HoldsAtMost}
 use Rattle.cadf_tool.proofs.OneText.{one_loaded}
 use Rattle.cadf_tool.proofs.KeptInputs.{input_kept}
@@ -26,6 +27,7 @@ use Rattle.cadf_tool.proofs.Brought.{brought_by, brought_alone, left_brought, ri
 use Rattle.cadf_tool.proofs.RuledFiles.{rule_kept, rule_log, rule_atoms}
 use Rattle.cadf_tool.proofs.InputUnions.{more_within, loaded_file, IsJoin, join_is, part_is, part_within, part_kept}
 use Rattle.cadf_tool.proofs.InventoryParts.{part_by_is, part_by_within, part_by_kept}
+use Rattle.cadf_tool.proofs.SketchParts.{part_by_read_is}
 
 pub record IsReadWithin (m : Derivation) (l : Loaded) : Type 0 where
   pub log : log_named l ≡ log_of m
@@ -80,6 +82,9 @@ inputs_kept (Part from to operands) (l ∷ ls) ((bytes, made, input), read) = ke
 inputs_kept (PartBy from to operands) [] read = absurd read
 inputs_kept (PartBy from to operands) (l ∷ ls) ((bytes, made, input), read) = kept_union (atoms_loaded l) (union_of ls) (input_kept bytes l input)
     (inputs_kept operands ls read)
+inputs_kept (PartBySketch from to sketched read operands) [] more = absurd more
+inputs_kept (PartBySketch from to sketched read operands) (l ∷ ls) ((bytes, made, input), more) =
+    kept_union (atoms_loaded l) (union_of ls) (input_kept bytes l input) (inputs_kept operands ls more)
 
 pub join_kept : (log : Option Text) (operands : Operands) (inputs : List Loaded) (h : ReplicaModel) → AreRead operands inputs → join_of log inputs ≡ Ok h
     → IsReplicaSet h.atoms
@@ -104,6 +109,13 @@ part_by_read : (from : Derivation) (to : List ℕ → Type 0) (l : Loaded) → (
 part_by_read from to l f (bytes, (one, noted, r, s, (h, e, is)), input) =
     let p = part_by_is one noted h e in
     part_of_read from one l h bytes (f one r) p.log (part_by_within r.0 one noted h r.2 p) (part_by_kept r.0 one noted h r.2 p) is input
+
+part_by_sketch_read : (from : Derivation) (to : List ℕ → Type 0) (sketched read : InventoryModel) (l : Loaded)
+    → ((one : Loaded) → IsReadOf (λ b. IsDerived from b) one → IsReadWithin from one)
+    → IsReadOf (IsPartBySketchOf (λ b. IsDerived from b) to sketched read) l → IsReadWithin from l
+part_by_sketch_read from to sketched read l f (bytes, (one, sketch, h, r, s, e, is), input) =
+    let p = part_by_read_is one sketch read h e in
+    part_of_read from one l h bytes (f one r) p.log (part_by_within r.0 one read h r.2 p) (part_by_kept r.0 one read h r.2 p) is input
 
 -- ---- what is read of a file
 
@@ -137,6 +149,10 @@ mutual
   names (PartBy from to operands) (l ∷ ls) read =
       let r = part_by_read from (λ b. IsDerived to b) l (read_within from) read.0 in
       λ i. option_or (r.log i) (names operands ls read.1 i)
+  names (PartBySketch from to sketched read operands) [] more = absurd more
+  names (PartBySketch from to sketched read operands) (l ∷ ls) more =
+      let r = part_by_sketch_read from (λ b. IsDerived to b) sketched read l (read_within from) more.0 in
+      λ i. option_or (r.log i) (names operands ls more.1 i)
 
   -- nothing else is joined
   pub inputs_within : (operands : Operands) (inputs : List Loaded) → AreRead operands inputs
@@ -152,6 +168,10 @@ mutual
   inputs_within (PartBy from to operands) (l ∷ ls) read =
       first_within from (external_inputs_of operands) l ls (part_by_read from (λ b. IsDerived to b) l (read_within from) read.0)
       (inputs_within operands ls read.1)
+  inputs_within (PartBySketch from to sketched read operands) [] more = absurd more
+  inputs_within (PartBySketch from to sketched read operands) (l ∷ ls) more =
+      first_within from (external_inputs_of operands) l ls (part_by_sketch_read from (λ b. IsDerived to b) sketched read l (read_within from) more.0)
+      (inputs_within operands ls more.1)
 
 pub held_within : (m : Derivation) (bytes : List ℕ) (h : ReplicaModel) → IsDerived m bytes → IsHeld bytes h → HoldsAtMost m h
 held_within m bytes h made held =

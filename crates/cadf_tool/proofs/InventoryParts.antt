@@ -50,7 +50,7 @@ notes loaded noted e = by (log_named loaded) refl e
         record { log = is ∙ ap Some same.0; digests = same.1 }
 
 -- what was noted of an input is an inventory
-notes_inventory : (bytes : List ℕ) (loaded : Loaded) (noted : InventoryModel) → IsInput bytes loaded → Notes loaded noted → IsInventory noted
+pub notes_inventory : (bytes : List ℕ) (loaded : Loaded) (noted : InventoryModel) → IsInput bytes loaded → Notes loaded noted → IsInventory noted
 notes_inventory bytes loaded noted input n =
     let held : IsHeld bytes (record { log = noted.log; atoms = atoms_loaded loaded }) = record {
       loaded = loaded;

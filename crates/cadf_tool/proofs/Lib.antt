@@ -7,7 +7,9 @@ pub mod Convergence
 pub mod Runs
 pub mod Rehearsals
 pub mod SiteLines
+pub mod KindReading
 pub mod InventoryReading
+pub mod SketchReading
 pub mod LoadLemmas
 pub mod OneText
 pub mod Exclusion
@@ -20,6 +22,7 @@ pub mod HeldReplicas
 pub mod ShownAgain
 pub mod DigestBytes
 pub mod InventoryParts
+pub mod SketchParts
 pub mod Brought
 pub mod RuledFiles
 pub mod ExchangeWithin

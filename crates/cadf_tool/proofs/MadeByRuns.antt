@@ -4,17 +4,21 @@ use Rattle.std.specs.Io.KnownBytes.{Appends}
 use Rattle.std.proofs.KnownBytes.{Consumes-whole}
 use Rattle.cadf_json.specs.declared.stream.Source.{Ghosts as Source}
 use Rattle.cadf_json.specs.declared.stream.Sink.{Ghosts as Sink}
-use Rattle.cadf_join.specs.Contents.{Text, Contents}
+use Rattle.cadf_join.specs.Contents.{Text}
 use Rattle.cadf_set.specs.Inventory.{InventoryModel}
 use Rattle.cadf_set.specs.Replica.{ReplicaModel}
 use Rattle.cadf_file.specs.InventoryFile.{inventory_file}
+use Rattle.cadf_sketch.specs.SketchFile.{sketch_file}
+use Rattle.cadf_sketch.specs.Sketches.{SketchModel}
 use Rattle.cadf_tool.specs.WrittenFile.{file}
 use Rattle.cadf_linefile.specs.declared.file_feed.TheConstants.{FILE_LIMIT}
 use Rattle.cadf_tool.specs.declared.fault.ToolFault.{ToolFault}
-use Rattle.cadf_tool.specs.Told.{log_named, atoms_loaded, under_log, replica_model_of}
+use Rattle.cadf_tool.specs.Told.{log_named, atoms_loaded, replica_model_of}
 use Rattle.cadf_tool.specs.Inputs.{SourceState, source_state}
-use Rattle.cadf_tool.specs.Run.{transition_of, Sources, one, two, all, input_spec, IsReadAs, IsExpectedOf, IsAnswer, IsRun}
+use Rattle.cadf_tool.specs.Run.{transition_of, Sources, one, two, all, input_spec, IsReadAs, IsValue, IsExpectedOfBy, IsAnswer, IsRun, IsRunBy}
 use Rattle.cadf_tool.specs.InventoryInput.{inventory_spec}
+use Rattle.cadf_tool.specs.SketchInput.{sketch_spec}
+use Rattle.cadf_tool.specs.Sketch.{AreAsked, sketch_model_of, IsPartBySketch, IsSketchInput}
 use Rattle.cadf_tool.specs.Join.{join_of}
 use Rattle.cadf_tool.specs.Missing.{part_of}
 use Rattle.cadf_tool.specs.MissingBy.{inventory_model_of, part_by, IsInventoryInput}
@@ -30,28 +34,32 @@ use Rattle.cadf_tool.specs.Exchange.{
   IsInventoryOf,
   IsInventoryReadOf,
   IsPartByOf,
+  IsSketchOf,
+  IsSketchReadOf,
+  IsPartBySketchOf,
   GivesFile,
   AreSources,
 }
 use Rattle.cadf_tool.proofs.RulingAdded.{ruled_is}
+use Rattle.cadf_tool.proofs.SketchParts.{sketched_is, held_named, answer_read}
 use Rattle.cadf_tool.proofs.ExchangeLaws.{read_of, are_read, written_behind}
 
 -- ---- a run that was answered with Ok
 
-module _ {A M W T : Type 0} (sources : Sources A) (work : A → Result M ToolFault) (tell : M → Text)
+module _ {A M W T : Type 0} (sources : Sources A) (work : A → Result M ToolFault → Type 0) (tell : M → Text)
     (sink : Sink W) (old new : W) (t : T) where
   never : (fault : ToolFault) → ◌≡◌ {A = Result T ToolFault} (Ok t) (Err fault) → ⊥
   never fault e = cc
 
-  -- its sources are something, of which the work made what was told
+  -- its sources are something, of which the work allows what was told
   abbrev pub HasRun : Type 0
-  HasRun = (a : A) × (made : M) × sources.are a × (work a ≡ Ok made) × Appends (sink.written old) (sink.written new) (tell made)
+  HasRun = (a : A) × (made : M) × sources.are a × work a (Ok made) × Appends (sink.written old) (sink.written new) (tell made)
 
-  run_by : (expected : Result M ToolFault) → IsExpectedOf sources work expected → IsAnswer tell sink old new expected (Ok t) → HasRun
+  run_by : (expected : Result M ToolFault) → IsExpectedOfBy sources work expected → IsAnswer tell sink old new expected (Ok t) → HasRun
   run_by (Ok made) (a, are, worked) answer = (a, made, are, worked, answer.whole)
   run_by (Err fault) first answer = absurd (never fault answer.0)
 
-  pub run_ok : IsRun sources work tell sink old new (Ok t) → HasRun
+  pub run_ok : IsRunBy sources work tell sink old new (Ok t) → HasRun
   run_ok run = run_by run.expected run.first.is run.answer
 
 pub text_behind : {W : Type 0} (sink : Sink W) (old new : W) (before bytes : List ℕ) → sink.written old ≡ Some before
@@ -66,9 +74,9 @@ module _ {S W T : Type 0} (source : Source S) (sink : Sink W) (old new : W) (t :
   pub join_makes : (log : Option Text) (operands : Operands) (inputs after : List S) → AreSources operands (map (source_state source) inputs)
       → IsRun (all source inputs after) (join_of log) file sink old new (Ok t)
       → (bytes : List ℕ) × (sink.written new ≡ Some (before ++ bytes)) × IsDerived (Joined log operands) bytes
-  join_makes log operands inputs after given run = by (run_ok (all source inputs after) (join_of log) file sink old new t run)
+  join_makes log operands inputs after given run = by (run_ok (all source inputs after) (IsValue (join_of log)) file sink old new t run)
     where
-      by : HasRun (all source inputs after) (join_of log) file sink old new t
+      by : HasRun (all source inputs after) (IsValue (join_of log)) file sink old new t
           → (bytes : List ℕ) × (sink.written new ≡ Some (before ++ bytes)) × IsDerived (Joined log operands) bytes
       by (loaded, h, read, joined, w) = (
         file h,
@@ -81,9 +89,10 @@ module _ {S W T : Type 0} (source : Source S) (sink : Sink W) (old new : W) (t :
       → IsRun (two input_spec (transition_of source input after) input_spec (transition_of source other other_after)) part_of file sink old new (Ok t)
       → (bytes : List ℕ) × (sink.written new ≡ Some (before ++ bytes)) × IsPartOf (λ b. IsDerived from b) (λ b. IsDerived to b) bytes
   missing_makes from to input other after other_after s u run =
-      by (run_ok (two input_spec (transition_of source input after) input_spec (transition_of source other other_after)) part_of file sink old new t run)
+      by (run_ok (two input_spec (transition_of source input after) input_spec (transition_of source other other_after))
+      (IsValue part_of) file sink old new t run)
     where
-      by : HasRun (two input_spec (transition_of source input after) input_spec (transition_of source other other_after)) part_of file sink old new t
+      by : HasRun (two input_spec (transition_of source input after) input_spec (transition_of source other other_after)) (IsValue part_of) file sink old new t
           → (bytes : List ℕ) × (sink.written new ≡ Some (before ++ bytes)) × IsPartOf (λ b. IsDerived from b) (λ b. IsDerived to b) bytes
       by ((first, second), h, (r, k), made, w) = (
         file h,
@@ -101,9 +110,9 @@ module _ {S W T : Type 0} (source : Source S) (sink : Sink W) (old new : W) (t :
       → IsRun (one input_spec (transition_of source input after)) inventory_model_of inventory_file sink old new (Ok t)
       → (bytes : List ℕ) × (sink.written new ≡ Some (before ++ bytes)) × IsInventoryOf (λ b. IsDerived to b) bytes
   inventory_makes to input after s run =
-      by (run_ok (one input_spec (transition_of source input after)) inventory_model_of inventory_file sink old new t run)
+      by (run_ok (one input_spec (transition_of source input after)) (IsValue inventory_model_of) inventory_file sink old new t run)
     where
-      by : HasRun (one input_spec (transition_of source input after)) inventory_model_of inventory_file sink old new t
+      by : HasRun (one input_spec (transition_of source input after)) (IsValue inventory_model_of) inventory_file sink old new t
           → (bytes : List ℕ) × (sink.written new ≡ Some (before ++ bytes)) × IsInventoryOf (λ b. IsDerived to b) bytes
       by (loaded, noted, r, made, w) = (
         inventory_file noted,
@@ -116,9 +125,9 @@ module _ {S W T : Type 0} (source : Source S) (sink : Sink W) (old new : W) (t :
       → (value : Text) × (bytes : List ℕ) × (sink.written new ≡ Some (before ++ bytes))
       × IsDerived (Ruled place (ruling_on letter key value) m) bytes
   rule_makes letter key place m input after s run =
-      by (run_ok (one input_spec (transition_of source input after)) (ruled_of letter key place) file sink old new t run)
+      by (run_ok (one input_spec (transition_of source input after)) (IsValue (ruled_of letter key place)) file sink old new t run)
     where
-      by : HasRun (one input_spec (transition_of source input after)) (ruled_of letter key place) file sink old new t
+      by : HasRun (one input_spec (transition_of source input after)) (IsValue (ruled_of letter key place)) file sink old new t
           → (value : Text) × (bytes : List ℕ) × (sink.written new ≡ Some (before ++ bytes))
           × IsDerived (Ruled place (ruling_on letter key value) m) bytes
       by (loaded, h, r, made, w) =
@@ -145,9 +154,11 @@ module _ {S W T : Type 0} (source : Source S) (sink : Sink W) (old new : W) (t :
       → IsRun (two input_spec (transition_of source input after) inventory_spec (transition_of source by by_after)) part_by file sink old new (Ok t)
       → (bytes : List ℕ) × (sink.written new ≡ Some (before ++ bytes)) × IsPartByOf (λ b. IsDerived from b) (λ b. IsDerived to b) bytes
   missing_by_makes from to input by after by_after s u run =
-      made_by (run_ok (two input_spec (transition_of source input after) inventory_spec (transition_of source by by_after)) part_by file sink old new t run)
+      made_by (run_ok (two input_spec (transition_of source input after) inventory_spec (transition_of source by by_after))
+      (IsValue part_by) file sink old new t run)
     where
-      made_by : HasRun (two input_spec (transition_of source input after) inventory_spec (transition_of source by by_after)) part_by file sink old new t
+      made_by : HasRun (two input_spec (transition_of source input after) inventory_spec (transition_of source by by_after))
+      (IsValue part_by) file sink old new t
           → (bytes : List ℕ) × (sink.written new ≡ Some (before ++ bytes)) × IsPartByOf (λ b. IsDerived from b) (λ b. IsDerived to b) bytes
       made_by ((loaded, noted), h, (r, k), made, w) = (
         file h,
@@ -161,22 +172,74 @@ module _ {S W T : Type 0} (source : Source S) (sink : Sink W) (old new : W) (t :
         ),
       )
 
--- ---- an engine with one input, whose log and atoms it tells
+  pub sketch_makes : (cells salt : Option ℕ) (to : Derivation) (input after : S) → AreAsked cells salt
+      → GivesFile (λ b. IsDerived to b) (source_state source input)
+      → IsRun (one input_spec (transition_of source input after)) (sketch_model_of cells salt) sketch_file sink old new (Ok t)
+      → (noted : InventoryModel) × (bytes : List ℕ) × (sink.written new ≡ Some (before ++ bytes)) × IsSketchOf (λ b. IsDerived to b) noted bytes
+  sketch_makes cells salt to input after given s run =
+      by (run_ok (one input_spec (transition_of source input after)) (IsValue (sketch_model_of cells salt)) sketch_file sink old new t run)
+    where
+      by : HasRun (one input_spec (transition_of source input after)) (IsValue (sketch_model_of cells salt)) sketch_file sink old new t
+          → (noted : InventoryModel) × (bytes : List ℕ) × (sink.written new ≡ Some (before ++ bytes)) × IsSketchOf (λ b. IsDerived to b) noted bytes
+      by (loaded, sketch, r, made, w) =
+          let of_noted = sketched_is cells salt loaded sketch made in (
+            of_noted.0,
+            sketch_file sketch,
+            text_behind sink old new before (sketch_file sketch) begun w,
+            (
+              loaded,
+              cells,
+              salt,
+              given,
+              read_of (λ b. IsDerived to b) (source_state source input) (source_state source after) loaded s r,
+              of_noted.1,
+              ap sketch_file of_noted.2,
+            ),
+          )
 
-held_named : (o : Option Text) (atoms : Contents) (h : ReplicaModel) → under_log o atoms ≡ Ok h → (o ≡ Some h.log) × (h.atoms ≡ atoms)
-held_named None atoms h e = absurd (cc)
-held_named (Some log) atoms h e =
-    let is : record { log = log; atoms = atoms } ≡ h = cc in
-    (ap (λ (k : ReplicaModel). Some k.log) is, sym (ap (λ (k : ReplicaModel). k.atoms) is))
+  sketch_of_file : (to : List ℕ → Type 0) (noted : InventoryModel) (by by_after : SourceState) (sketch : SketchModel) → GivesFile (IsSketchOf to noted) by
+      → IsReadAs sketch_spec (record { old = by; new = by_after }) sketch → IsSketchReadOf to noted sketch
+  sketch_of_file to noted by by_after sketch (bytes, left, made) ((given, (consumed, at_end, input)), failures) =
+      let of_given = Consumes-whole by.left by_after.left given (λ b. IsSketchInput FILE_LIMIT b sketch) consumed at_end input in
+      (bytes, made, subst (λ o. IfSome o (λ b. IsSketchInput FILE_LIMIT b sketch)) left of_given)
+
+  pub missing_by_sketch_makes : (from to : Derivation) (sketched : InventoryModel) (input by after by_after : S)
+      → GivesFile (λ b. IsDerived from b) (source_state source input) → GivesFile (IsSketchOf (λ b. IsDerived to b) sketched) (source_state source by)
+      → IsRunBy (two input_spec (transition_of source input after) sketch_spec (transition_of source by by_after)) IsPartBySketch file sink old new (Ok t)
+      → (read : InventoryModel) × (bytes : List ℕ) × (sink.written new ≡ Some (before ++ bytes))
+      × IsPartBySketchOf (λ b. IsDerived from b) (λ b. IsDerived to b) sketched read bytes
+  missing_by_sketch_makes from to sketched input by after by_after s u run =
+      made_by (run_ok (two input_spec (transition_of source input after) sketch_spec (transition_of source by by_after)) IsPartBySketch file sink old new t run)
+    where
+      made_by : HasRun (two input_spec (transition_of source input after) sketch_spec (transition_of source by by_after)) IsPartBySketch file sink old new t
+          → (read : InventoryModel) × (bytes : List ℕ) × (sink.written new ≡ Some (before ++ bytes))
+          × IsPartBySketchOf (λ b. IsDerived from b) (λ b. IsDerived to b) sketched read bytes
+      made_by ((loaded, sketch), h, (r, k), made, w) =
+          let of_read = answer_read loaded sketch h made in (
+            of_read.0,
+            file h,
+            text_behind sink old new before (file h) begun w,
+            (
+              loaded,
+              sketch,
+              h,
+              read_of (λ b. IsDerived from b) (source_state source input) (source_state source after) loaded s r,
+              sketch_of_file (λ b. IsDerived to b) sketched (source_state source by) (source_state source by_after) sketch u k,
+              of_read.1,
+              refl,
+            ),
+          )
+
+-- ---- an engine with one input, whose log and atoms it tells
 
 module _ {S W T : Type 0} (source : Source S) (sink : Sink W) (old new : W) (t : T) (before : List ℕ)
     (begun : sink.written old ≡ Some before) (tell : ReplicaModel → Text) where
   pub text_makes : (m : Derivation) (input after : S) → GivesFile (λ b. IsDerived m b) (source_state source input)
       → IsRun (one input_spec (transition_of source input after)) replica_model_of tell sink old new (Ok t)
       → (text : Text) × (sink.written new ≡ Some (before ++ text)) × IsTextOf tell m text
-  text_makes m input after s run = by (run_ok (one input_spec (transition_of source input after)) replica_model_of tell sink old new t run)
+  text_makes m input after s run = by (run_ok (one input_spec (transition_of source input after)) (IsValue replica_model_of) tell sink old new t run)
     where
-      by : HasRun (one input_spec (transition_of source input after)) replica_model_of tell sink old new t
+      by : HasRun (one input_spec (transition_of source input after)) (IsValue replica_model_of) tell sink old new t
           → (text : Text) × (sink.written new ≡ Some (before ++ text)) × IsTextOf tell m text
       by (loaded, h, r, made, w) =
           let file_read = read_of (λ b. IsDerived m b) (source_state source input) (source_state source after) loaded s r in

@@ -11,14 +11,15 @@ use Rattle.cadf_tool.specs.Run.{
   IsReadAs,
   IsReadWithin,
   IsFirstFault,
+  IsFirstFaultBy,
   IsUnread,
-  IsExpected,
-  IsWorkFault,
-  IsWorked,
+  IsExpectedBy,
+  IsWorkFaultBy,
+  IsWorkedBy,
 }
 
-module _ {A M : Type 0} (sources : Sources A) (work : A → Result M ToolFault) where
-  not_read_at : (fault : ToolFault) (s : FaultStage) → IsFirstFault sources Ok fault s → IsFirstFault sources work fault s
+module _ {A M : Type 0} (sources : Sources A) (work : A → Result M ToolFault → Type 0) where
+  not_read_at : (fault : ToolFault) (s : FaultStage) → IsFirstFault sources Ok fault s → IsFirstFaultBy sources work fault s
   not_read_at fault (Reading n f) h = h
   not_read_at fault Working (a, read, e) = absurd (never a e)
     where
@@ -28,11 +29,11 @@ module _ {A M : Type 0} (sources : Sources A) (work : A → Result M ToolFault) 
   not_read_at fault OutOfMemoryStage h = h
 
   -- sources that are not all read give nothing to any work
-  pub not_read : (fault : ToolFault) → sources.bounded → IsUnread sources fault → IsExpected sources work (Err fault)
+  pub not_read : (fault : ToolFault) → sources.bounded → IsUnread sources fault → IsExpectedBy sources work (Err fault)
   not_read fault bounded h = record { is = not_read_at fault (fault_stage fault) h; bounded = bounded }
 
   not_worked : (a : A) (fault : ToolFault) (s : FaultStage) → sources.are a → sources.unfailed
-      → IsWorkFault (work a) fault s → IsFirstFault sources work fault s
+      → IsWorkFaultBy (work a) fault s → IsFirstFaultBy sources work fault s
   not_worked a fault (Reading n f) read unfailed h = absurd h
   not_worked a fault Working read unfailed h = (a, read, h)
   not_worked a fault Writing read unfailed h = h
@@ -40,7 +41,7 @@ module _ {A M : Type 0} (sources : Sources A) (work : A → Result M ToolFault) 
 
   -- the work on sources that were read
   pub worked : (a : A) (expected : Result M ToolFault) → sources.bounded → sources.are a → sources.unfailed
-      → IsWorked (work a) expected → IsExpected sources work expected
+      → IsWorkedBy (work a) expected → IsExpectedBy sources work expected
   worked a (Ok made) bounded read unfailed w = record { is = (a, read, w); bounded = bounded }
   worked a (Err fault) bounded read unfailed w =
       record { is = not_worked a fault (fault_stage fault) read unfailed w; bounded = bounded }
@@ -48,16 +49,16 @@ module _ {A M : Type 0} (sources : Sources A) (work : A → Result M ToolFault) 
 -- ---- two sources
 
 module _ {T U M : Type 0} (reader : InputSpec T) (t : SourceTransition) (other : InputSpec U) (u : SourceTransition)
-    (work : T × U → Result M ToolFault) (within : IsReadWithin reader.limit t) where
+    (work : T × U → Result M ToolFault → Type 0) (within : IsReadWithin reader.limit t) where
   -- the work on both
   pub both_worked : (value : T) (value' : U) (expected : Result M ToolFault) → IsReadAs reader t value
       → IsReadAs other u value' → IsReadWithin other.limit u
-      → IsWorked (work (value, value')) expected → IsExpected (two reader t other u) work expected
+      → IsWorkedBy (work (value, value')) expected → IsExpectedBy (two reader t other u) work expected
   both_worked value value' expected read read' within' w =
       worked (two reader t other u) work (value, value') expected (within, within') (read, read') (read.1, read'.1) w
 
   second_not_read_at : (value : T) (fault : ToolFault) (s : FaultStage) → IsReadAs reader t value
-      → IsFirstFault (numbered 2 other u) Ok fault s → IsFirstFault (two reader t other u) work fault s
+      → IsFirstFault (numbered 2 other u) Ok fault s → IsFirstFaultBy (two reader t other u) work fault s
   second_not_read_at value fault (Reading n f) read (is, (number, refuses)) = (is, inr (number, (value, read), refuses))
   second_not_read_at value fault Working read (a, are, e) = absurd (never a e)
     where
@@ -68,5 +69,5 @@ module _ {T U M : Type 0} (reader : InputSpec T) (t : SourceTransition) (other :
 
   -- the first was read, and the second was not
   pub second_not_read : (value : T) (fault : ToolFault) → IsReadAs reader t value → IsReadWithin other.limit u
-      → IsUnread (numbered 2 other u) fault → IsExpected (two reader t other u) work (Err fault)
+      → IsUnread (numbered 2 other u) fault → IsExpectedBy (two reader t other u) work (Err fault)
   second_not_read value fault read within' h = record { is = second_not_read_at value fault (fault_stage fault) read h; bounded = (within, within') }

@@ -5,12 +5,15 @@ pub mod Told
 pub mod Shown
 pub mod Inputs
 pub mod Run
+pub mod FileKind
 pub mod InventoryInput
 pub mod Join
 pub mod JoinState
 pub mod WrittenFile
 pub mod Missing
 pub mod MissingBy
+pub mod Sketch
+pub mod SketchInput
 pub mod Rule
 pub mod Rehearse
 pub mod Sites

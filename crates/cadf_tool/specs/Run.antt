@@ -1,9 +1,10 @@
 -- THE RUN of an engine: its sources are read in turn, one thing is made of them, and the text of that is written.
---     one, two, all                           what came of one source, of two, of a list of them
---     IsExpected sources work expected        the expected result: the work on the sources, or the first fault
---     IsWritten sink old new text r           all of the text was written, or a prefix of it
---     IsRun sources work tell sink old new r  the run, and its answer
--- A source is refused before the work is begun, and what is written begins when the work is done.
+--     one, two, all                             what came of one source, of two, of a list of them
+--     IsExpectedBy sources work expected        the expected result: what the work allows of the sources, or the first fault
+--     IsWritten sink old new text r             all of the text was written, or a prefix of it
+--     IsRunBy sources work tell sink old new r  the run, and its answer
+-- A source is refused before the work is begun, and what is written begins when the work is done. The work is a relation: which
+-- results it allows of what was read. Of a function it is the one value, and the names without `By` are of a function.
 use Rattle.std.specs.Prelude.{◌≡◌, ◌≤◌, ◌+◌, ◌⊎◌, ℕ, List, [], ◌∷◌, map, length, take, drop, Result, Ok, Err, OnOk, OnErr, IfErr}
 use Rattle.std.specs.Io.KnownBytes.{Appends}
 use Rattle.cadf_json.specs.declared.stream.Source.{Ghosts as Source}
@@ -121,39 +122,55 @@ all source old new = record {
 
 -- ---- the expected result
 
+-- the value of a function is the one result that it allows
+abbrev pub IsValue : {A M : Type 0} → (A → Result M ToolFault) → A → Result M ToolFault → Type 0
+IsValue work a result = work a ≡ result
+
 -- the fault comes first: of a source, or of the work where all were read.
 -- `Memory` may come at any time, but not for a read that failed
+abbrev pub IsFirstFaultBy : {A M : Type 0} → Sources A → (A → Result M ToolFault → Type 0) → ToolFault → FaultStage → Type 0
+IsFirstFaultBy sources work fault (Reading n f) = (fault ≡ of_load n f) × sources.refused n f
+IsFirstFaultBy {A} sources work fault Working = (a : A) × sources.are a × work a (Err fault)
+IsFirstFaultBy sources work fault Writing = ⊥
+IsFirstFaultBy sources work fault OutOfMemoryStage = sources.unfailed
+
 abbrev pub IsFirstFault : {A M : Type 0} → Sources A → (A → Result M ToolFault) → ToolFault → FaultStage → Type 0
-IsFirstFault sources work fault (Reading n f) = (fault ≡ of_load n f) × sources.refused n f
-IsFirstFault {A} sources work fault Working = (a : A) × sources.are a × (work a ≡ Err fault)
-IsFirstFault sources work fault Writing = ⊥
-IsFirstFault sources work fault OutOfMemoryStage = sources.unfailed
+IsFirstFault sources work fault stage = IsFirstFaultBy sources (IsValue work) fault stage
 
 -- no work is asked for: a source was refused, or there was no memory to read it
 abbrev pub IsUnread : {A : Type 0} → Sources A → ToolFault → Type 0
 IsUnread sources fault = IsFirstFault sources Ok fault (fault_stage fault)
 
-abbrev pub IsExpectedOf : {A M : Type 0} → Sources A → (A → Result M ToolFault) → Result M ToolFault → Type 0
-IsExpectedOf {A} sources work (Ok made) = (a : A) × sources.are a × (work a ≡ Ok made)
-IsExpectedOf sources work (Err fault) = IsFirstFault sources work fault (fault_stage fault)
+abbrev pub IsExpectedOfBy : {A M : Type 0} → Sources A → (A → Result M ToolFault → Type 0) → Result M ToolFault → Type 0
+IsExpectedOfBy {A} sources work (Ok made) = (a : A) × sources.are a × work a (Ok made)
+IsExpectedOfBy sources work (Err fault) = IsFirstFaultBy sources work fault (fault_stage fault)
 
-pub record IsExpected {A M : Type 0} (sources : Sources A) (work : A → Result M ToolFault)
+abbrev pub IsExpectedOf : {A M : Type 0} → Sources A → (A → Result M ToolFault) → Result M ToolFault → Type 0
+IsExpectedOf sources work expected = IsExpectedOfBy sources (IsValue work) expected
+
+pub record IsExpectedBy {A M : Type 0} (sources : Sources A) (work : A → Result M ToolFault → Type 0)
     (expected : Result M ToolFault) : Type 0 where
-  pub is : IsExpectedOf sources work expected
+  pub is : IsExpectedOfBy sources work expected
   pub bounded : sources.bounded
+
+abbrev pub IsExpected : {A M : Type 0} → Sources A → (A → Result M ToolFault) → Result M ToolFault → Type 0
+IsExpected sources work expected = IsExpectedBy sources (IsValue work) expected
 
 -- ---- the work
 
 -- the work was done as it should, or there was no memory for it
-abbrev pub IsWorkFault : {M : Type 0} → Result M ToolFault → ToolFault → FaultStage → Type 0
-IsWorkFault expected fault (Reading n f) = ⊥
-IsWorkFault expected fault Working = expected ≡ Err fault
-IsWorkFault expected fault Writing = ⊥
-IsWorkFault expected fault OutOfMemoryStage = Unit {0}
+abbrev pub IsWorkFaultBy : {M : Type 0} → (Result M ToolFault → Type 0) → ToolFault → FaultStage → Type 0
+IsWorkFaultBy allowed fault (Reading n f) = ⊥
+IsWorkFaultBy allowed fault Working = allowed (Err fault)
+IsWorkFaultBy allowed fault Writing = ⊥
+IsWorkFaultBy allowed fault OutOfMemoryStage = Unit {0}
+
+abbrev pub IsWorkedBy : {M : Type 0} → (Result M ToolFault → Type 0) → Result M ToolFault → Type 0
+IsWorkedBy allowed (Ok made) = allowed (Ok made)
+IsWorkedBy allowed (Err fault) = IsWorkFaultBy allowed fault (fault_stage fault)
 
 abbrev pub IsWorked : {M : Type 0} → Result M ToolFault → Result M ToolFault → Type 0
-IsWorked expected (Ok made) = expected ≡ Ok made
-IsWorked expected (Err fault) = IsWorkFault expected fault (fault_stage fault)
+IsWorked expected result = IsWorkedBy (λ r. expected ≡ r) result
 
 -- ---- what is written
 
@@ -169,8 +186,11 @@ abbrev pub IsAnswer : {W M T : Type 0} → (M → Text) → Sink W → W → W �
 IsAnswer tell sink old new (Ok made) result = IsWritten sink old new (tell made) result
 IsAnswer tell sink old new (Err fault) result = (result ≡ Err fault) × (new ≡ old)
 
-pub record IsRun {A M W T : Type 0} (sources : Sources A) (work : A → Result M ToolFault) (tell : M → Text)
+pub record IsRunBy {A M W T : Type 0} (sources : Sources A) (work : A → Result M ToolFault → Type 0) (tell : M → Text)
     (sink : Sink W) (old new : W) (result : Result T ToolFault) : Type 0 where
   pub expected : Result M ToolFault
-  pub first : IsExpected sources work expected
+  pub first : IsExpectedBy sources work expected
   pub answer : IsAnswer tell sink old new expected result
+
+abbrev pub IsRun : {A M W T : Type 0} → Sources A → (A → Result M ToolFault) → (M → Text) → Sink W → W → W → Result T ToolFault → Type 0
+IsRun sources work tell sink old new result = IsRunBy sources (IsValue work) tell sink old new result

@@ -1,4 +1,4 @@
-use Rattle.cadf_tool.proofs.ExchangeLaws.{part_as_whole, part_by_as_whole}
+use Rattle.cadf_tool.proofs.ExchangeLaws.{part_as_whole, part_by_as_whole, part_by_sketch_as_whole}
 use Rattle.std.proofs.Common.{refl}
 use Rattle.cadf_tool.proofs.exchange.delta_equals_full_merge.Goals as goal
 
@@ -8,5 +8,8 @@ returns-clause-by_file c = part_as_whole
 pub returns-clause-by_inventory : goal.returns-clause-by_inventory
 returns-clause-by_inventory c = part_by_as_whole
 
+pub returns-clause-by_sketch : goal.returns-clause-by_sketch
+returns-clause-by_sketch c = part_by_sketch_as_whole
+
 pub returns-clause-brings : goal.returns-clause-brings
-returns-clause-brings c log from to operands = (refl, refl)
+returns-clause-brings c log from to sketched read operands = (refl, refl, refl)

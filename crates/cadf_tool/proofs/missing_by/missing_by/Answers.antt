@@ -1,14 +1,14 @@
 use Rattle.std.proofs.lemmas.Result.{err_from_is_err_and}
 use Rattle.cadf_tool.specs.InventoryInput.{inventory_spec}
 use Rattle.cadf_tool.specs.MissingBy.{part_by}
-use Rattle.cadf_tool.specs.Run.{transition_of, input_spec}
+use Rattle.cadf_tool.specs.Run.{transition_of, input_spec, IsValue}
 use Rattle.cadf_tool.proofs.Runs.{both_worked, second_not_read}
 use Rattle.cadf_tool.proofs.missing_by.missing_by.Goals as goal
 
 pub returns : goal.returns
 returns g c =
     both_worked input_spec (transition_of g.R.Source c.args.from.now c.load_one.new.input) inventory_spec
-    (transition_of g.R.Source c.args.inventory.now c.load_inventory.new.input) part_by
+    (transition_of g.R.Source c.args.inventory.now c.load_inventory.new.input) (IsValue part_by)
     c.in_ok-first.ensures.reads c.in_ok-first.first c.in_ok-second.second c.part.result c.in_ok-first.ensures.ok c.in_ok-second.ensures.ok
     c.in_ok-second.ensures.reads c.part.ensures
 
@@ -17,5 +17,5 @@ returns-in_err-second g c =
     let p = err_from_is_err_and c.from_residual-in_err-second.result c.from_residual-in_err-second.ensures.1 in
     rw (p.1, p.2) (second_not_read input_spec (transition_of g.R.Source c.args.from.now c.load_one.new.input) inventory_spec
     (transition_of g.R.Source c.args.inventory.now c.load_inventory.new.input)
-    part_by c.in_ok-first.ensures.reads c.in_ok-first.first c.in_err-second.field-0.0 c.in_ok-first.ensures.ok c.in_err-second.ensures.reads
+    (IsValue part_by) c.in_ok-first.ensures.reads c.in_ok-first.first c.in_err-second.field-0.0 c.in_ok-first.ensures.ok c.in_err-second.ensures.reads
     c.in_err-second.ensures.err)

@@ -1,0 +1,118 @@
+-- What `sketch` and `missing-by-sketch` answer of inputs.
+use Rattle.std.proofs.Common.{◌≡◌, ◌⊎◌, ℕ, List, Option, None, Some, IfSome, unwrap_or, Result, Ok, Err, true, refl, sym, ap, ◌∙◌, subst, inl, inr}
+use Rattle.cadf_join.specs.Contents.{Text, Contents}
+use Rattle.cadf_line.specs.Digest.{atom_digest}
+use Rattle.cadf_line.specs.Missing.{missing_by}
+use Rattle.cadf_set.specs.Inventory.{InventoryModel}
+use Rattle.cadf_set.specs.Replica.{ReplicaModel}
+use Rattle.cadf_file.specs.InventoryFile.{IsInventory}
+use Rattle.cadf_sketch.specs.Answers.{IsAnswer}
+use Rattle.cadf_sketch.specs.Layouts.{LayoutModel, are_cells, layout_with}
+use Rattle.cadf_sketch.specs.Sketches.{SketchModel, sketch_of, own_salt, asked}
+use Rattle.cadf_sketch.specs.Texts.{inventory_digest, ShareNoDigest}
+use Rattle.cadf_sketch.proofs.AskedLemmas.{asked_is}
+use Rattle.cadf_sketch.proofs.DigestLemmas.{same_inventory}
+use Rattle.cadf_sketch.proofs.SketchFileLemmas.{sketch-file-tells}
+use Rattle.cadf_tool.specs.declared.input.Loaded.{Loaded}
+use Rattle.cadf_tool.specs.declared.fault.ToolFault.{ToolFault}
+use Rattle.cadf_tool.specs.declared.fault.ToolFault.TheVariants.{NoLog, Memory}
+use Rattle.cadf_tool.specs.Exchange.{IsReadOf, IsSketchReadOf, IsPartByRead}
+use Rattle.cadf_tool.specs.MissingBy.{inventory_model_of}
+use Rattle.cadf_tool.specs.Run.{IsWorkedBy}
+use Rattle.cadf_tool.specs.Sketch.{sketch_of_result, sketch_model_of, IsAnswerTo, IsAnswerOfResult, IsPartBySketch}
+use Rattle.cadf_tool.specs.Told.{log_named, atoms_loaded, under_log, replica_model_of}
+use Rattle.cadf_tool.proofs.InventoryParts.{Notes, notes, notes_inventory, IsPartBy}
+
+module _ (loaded : Loaded) (sketch : SketchModel) where
+  -- it is what the replica has that the input tells
+  pub part_held : (h : ReplicaModel) (result : Result ReplicaModel ToolFault) → log_named loaded ≡ Some h.log → h.atoms ≡ atoms_loaded loaded
+      → IsWorkedBy (IsAnswerTo sketch h) result → IsWorkedBy (IsPartBySketch (loaded, sketch)) result
+  part_held h result named atoms worked =
+      subst (λ (held : Result ReplicaModel ToolFault). IsWorkedBy (IsAnswerOfResult sketch held) result) (λ i. under_log (sym named i) (atoms i)) worked
+
+  -- an input that tells no replica has no part
+  pub part_unheld : (fault : ToolFault) → (fault ≡ NoLog) ⊎ (fault ≡ Memory) → (fault ≡ NoLog → log_named loaded ≡ None)
+      → IsWorkedBy (IsPartBySketch (loaded, sketch)) (Err fault)
+  part_unheld fault (inl is) none =
+      subst (λ f. IsWorkedBy (IsPartBySketch (loaded, sketch)) (Err f)) (sym is)
+      (subst (λ (o : Option Text). IsAnswerOfResult sketch (under_log o (atoms_loaded loaded)) (Err NoLog)) (sym (none is)) refl)
+  part_unheld fault (inr is) none = subst (λ f. IsWorkedBy (IsPartBySketch (loaded, sketch)) (Err f)) (sym is) tt
+
+-- ---- the inventory that was sketched
+
+pub sketched_digest : (n : InventoryModel) (layout : LayoutModel) → (sketch_of n layout).digest ≡ inventory_digest n
+unfolding sketch_of
+sketched_digest n layout = refl
+
+-- the sketch of an input is that of its inventory
+pub sketched_is : (cells salt : Option ℕ) (loaded : Loaded) (sketch : SketchModel) → sketch_model_of cells salt loaded ≡ Ok sketch
+    → (noted : InventoryModel) × (inventory_model_of loaded ≡ Ok noted) × (sketch ≡ asked noted (unwrap_or cells 198) salt)
+sketched_is cells salt loaded sketch e = by (inventory_model_of loaded) refl e
+  where
+    same_sketch : (s : SketchModel) → ◌≡◌ {A = Result SketchModel ToolFault} (Ok s) (Ok sketch) → sketch ≡ s
+    same_sketch s e = cc
+
+    no_sketch : (fault : ToolFault) → ◌≡◌ {A = Result SketchModel ToolFault} (Err fault) (Ok sketch) → ⊥
+    no_sketch fault e = cc
+
+    by : (r : Result InventoryModel ToolFault) → inventory_model_of loaded ≡ r → sketch_of_result cells salt r ≡ Ok sketch
+        → (noted : InventoryModel) × (inventory_model_of loaded ≡ Ok noted) × (sketch ≡ asked noted (unwrap_or cells 198) salt)
+    by (Ok noted) is k = (noted, is, same_sketch (asked noted (unwrap_or cells 198) salt) k)
+    by (Err fault) is k = absurd (no_sketch fault k)
+
+cells_asked : (cells : Option ℕ) → IfSome cells (λ n. are_cells n ≡ true) → are_cells (unwrap_or cells 198) ≡ true
+cells_asked None h = refl
+cells_asked (Some n) h = h
+
+-- what was read of a sketch's file has the digest of the inventory that was sketched
+pub sketched_by : (to : List ℕ → Type 0) (noted : InventoryModel) (sketch : SketchModel) → IsSketchReadOf to noted sketch
+    → (other : Loaded) × IsReadOf to other × Notes other noted × IsInventory noted × (sketch.digest ≡ inventory_digest noted)
+sketched_by to noted sketch (bytes, (other, cells, salt, given, read, made, is), input) =
+    let n : Notes other noted = notes other noted made in
+    let inventory = notes_inventory read.0 other noted read.2 n in
+    let many = unwrap_or cells 198 in
+    let same : asked noted many salt ≡ sketch =
+    sketch-file-tells (asked noted many salt) sketch (asked_is noted many salt inventory (cells_asked cells given.number) given.odd) input.holds
+    (sym is ∙ input.is) in
+    let layout = layout_with many (unwrap_or salt (own_salt noted)) in
+    (other, read, n, inventory, ap (λ (s : SketchModel). s.digest) (sym same) ∙ sketched_digest noted layout)
+
+-- ---- the part that a sketch doesn't show
+
+pub held_named : (o : Option Text) (atoms : Contents) (h : ReplicaModel) → under_log o atoms ≡ Ok h → (o ≡ Some h.log) × (h.atoms ≡ atoms)
+held_named None atoms h e = absurd (cc)
+held_named (Some log) atoms h e =
+    let is : record { log = log; atoms = atoms } ≡ h = cc in
+    (ap (λ (k : ReplicaModel). Some k.log) is, sym (ap (λ (k : ReplicaModel). k.atoms) is))
+
+-- an answer is what the input has beyond the inventory that was read
+pub part_by_read_is : (from : Loaded) (sketch : SketchModel) (read : InventoryModel) (part : ReplicaModel) → IsPartByRead from sketch read part
+    → IsPartBy from read part
+part_by_read_is from sketch read part (held, is, answer, same) =
+    let named = held_named (log_named from) (atoms_loaded from) held is in
+    record {
+      log = named.0 ∙ ap (λ (k : ReplicaModel). Some k.log) (sym answer.missing);
+      atoms = ap (λ (k : ReplicaModel). k.atoms) answer.missing ∙ (λ i. missing_by atom_digest (named.1 i) (same i).digests);
+    }
+
+-- where the files of both share no digest, what was read is what was sketched
+pub part_by_sketched : (from : Loaded) (sketch : SketchModel) (sketched read : InventoryModel) (part : ReplicaModel) → IsInventory sketched
+    → sketch.digest ≡ inventory_digest sketched → ShareNoDigest read sketched → IsPartByRead from sketch read part → IsPartBy from sketched part
+unfolding inventory_digest
+part_by_sketched from sketch sketched read part inventory is share (held, told, answer, same) =
+    let true_read : answer.theirs ≡ sketched =
+    same_inventory answer.theirs sketched answer.inventory inventory (subst (λ m. ShareNoDigest m sketched) (sym same) share) (answer.digest ∙ is) in
+    part_by_read_is from sketch sketched part (held, told, answer, true_read)
+
+-- the answer of an engine, with the inventory that was read
+pub answer_read : (from : Loaded) (sketch : SketchModel) (part : ReplicaModel) → IsPartBySketch (from, sketch) (Ok part)
+    → (read : InventoryModel) × IsPartByRead from sketch read part
+answer_read from sketch part answer = by (replica_model_of from) refl answer
+  where
+    never : (fault : ToolFault) → ◌≡◌ {A = Result ReplicaModel ToolFault} (Ok part) (Err fault) → ⊥
+    never fault e = cc
+
+    by : (r : Result ReplicaModel ToolFault) → replica_model_of from ≡ r → IsAnswerOfResult sketch r (Ok part)
+        → (read : InventoryModel) × IsPartByRead from sketch read part
+    by (Ok held) is k = (k.theirs, (held, is, k, refl))
+    by (Err fault) is k = absurd (never fault k)

@@ -1,0 +1,57 @@
+-- The sketch of an input's inventory, and what an input has beyond a sketch.
+--     AreAsked cells salt                 a sketch can have these, where they are given
+--     sketch_model_of cells salt loaded   the sketch of an input's inventory, or why there is none
+--     IsPartBySketch both answer          what an input is answered against a sketch, as a relation: which digests a peel finds is open
+--     IsSketchInput limit b s             the bytes are the file of this sketch, within the limit
+use Rattle.std.specs.Prelude.{◌≡◌, ◌<◌, ◌≤◌, ◌^◌, ℕ, true, List, length, Option, IfSome, unwrap_or, Result, Ok, Err}
+use Rattle.cadf_set.specs.Inventory.{InventoryModel}
+use Rattle.cadf_set.specs.Replica.{ReplicaModel}
+use Rattle.cadf_sketch.specs.Answers.{inventory_of, IsAnswer}
+use Rattle.cadf_sketch.specs.Layouts.{are_cells, is_salt}
+use Rattle.cadf_sketch.specs.Refusals.{IsReadFault}
+use Rattle.cadf_sketch.specs.SketchFile.{sketch_file, IsSketch}
+use Rattle.cadf_sketch.specs.Sketches.{SketchModel, asked}
+use Rattle.cadf_sketch.specs.declared.reading.ReadFault.{ReadFault}
+use Rattle.cadf_sketch.specs.declared.reading.ReadFault.TheVariants as read
+use Rattle.cadf_tool.specs.declared.input.Loaded.{Loaded}
+use Rattle.cadf_tool.specs.declared.fault.ToolFault.{ToolFault}
+use Rattle.cadf_tool.specs.declared.fault.ToolFault.TheVariants.{OtherLog, TooFewCells, Memory}
+use Rattle.cadf_tool.specs.MissingBy.{inventory_model_of}
+use Rattle.cadf_tool.specs.Told.{replica_model_of}
+
+pub record AreAsked (cells salt : Option ℕ) : Type 0 where
+  pub number : IfSome cells (λ n. are_cells n ≡ true)
+  pub odd : IfSome salt (λ a. (is_salt a ≡ true) × (a < 2 ^ 64))
+
+-- of 198 cells, where no number is given, and with the inventory's own salt, where none is given
+abbrev pub sketch_of_result : Option ℕ → Option ℕ → Result InventoryModel ToolFault → Result SketchModel ToolFault
+sketch_of_result cells salt (Ok noted) = Ok (asked noted (unwrap_or cells 198) salt)
+sketch_of_result cells salt (Err fault) = Err fault
+
+-- THE SKETCH of an input
+abbrev pub sketch_model_of : Option ℕ → Option ℕ → Loaded → Result SketchModel ToolFault
+sketch_model_of cells salt loaded = sketch_of_result cells salt (inventory_model_of loaded)
+
+-- the sketch is the second input
+abbrev pub of_read : ReadFault → ToolFault
+of_read read.OtherLog = OtherLog 2
+of_read (read.TooFewCells cells) = TooFewCells cells
+of_read read.Memory = Memory
+
+abbrev pub IsAnswerTo : SketchModel → ReplicaModel → Result ReplicaModel ToolFault → Type 0
+IsAnswerTo sketch held (Ok part) = IsAnswer held sketch part
+IsAnswerTo sketch held (Err fault) = (f : ReadFault) × (fault ≡ of_read f) × IsReadFault (inventory_of held) sketch f
+
+abbrev pub IsAnswerOfResult : SketchModel → Result ReplicaModel ToolFault → Result ReplicaModel ToolFault → Type 0
+IsAnswerOfResult sketch (Ok held) answer = IsAnswerTo sketch held answer
+IsAnswerOfResult sketch (Err fault) answer = answer ≡ Err fault
+
+-- THE MISSING PART BY A SKETCH: the atoms of FROM whose digest isn't in an inventory that has the sketch's digest
+abbrev pub IsPartBySketch : Loaded × SketchModel → Result ReplicaModel ToolFault → Type 0
+IsPartBySketch both answer = IsAnswerOfResult both.1 (replica_model_of both.0) answer
+
+-- the bytes are the file of this sketch, within the limit
+pub record IsSketchInput (limit : ℕ) (bytes : List ℕ) (sketch : SketchModel) : Type 0 where
+  pub is : bytes ≡ sketch_file sketch
+  pub within : length bytes ≤ limit
+  pub holds : IsSketch sketch

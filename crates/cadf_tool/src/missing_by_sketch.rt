@@ -1,0 +1,64 @@
+//! What an input has beyond a sketch, as a replica file.
+ghost use Rattle.cadf_tool.specs.WrittenFile.{file};
+ghost use Rattle.cadf_tool.specs.Sketch.{IsAnswerTo, IsPartBySketch};
+ghost use Rattle.cadf_tool.specs.SketchInput.{sketch_spec};
+ghost use Rattle.cadf_tool.specs.Run.{two, transition_of, input_spec, IsExpectedBy, IsWorkedBy, IsRunBy};
+
+use crate::fault::ToolFault;
+use crate::input::Loaded;
+use crate::inputs::{load_one, load_sketch};
+use crate::join::write_file;
+use crate::told::replica_of;
+use cadf_json::{Sink, Source};
+use cadf_replica::Replica;
+use cadf_sketch::{ReadFault, Sketch, missing_by_sketch};
+use std::alloc::Global;
+
+/// What the replica has beyond the sketch.
+fn beyond(alloc: Global, from: &Replica, sketch: &Sketch) -> Result<Replica, ToolFault>
+    ensures { IsWorkedBy (IsAnswerTo sketch.now from.now) result }
+{
+    match missing_by_sketch(alloc, from, sketch) {
+        Ok(part) => Ok(part),
+        Err(ReadFault::OtherLog) => Err(ToolFault::OtherLog(2)),
+        Err(ReadFault::TooFewCells(cells)) => Err(ToolFault::TooFewCells(cells)),
+        Err(ReadFault::Memory) => Err(ToolFault::Memory),
+    }
+}
+
+/// What a loaded input has beyond the sketch.
+fn part(alloc: Global, from: Loaded, sketch: &Sketch) -> Result<Replica, ToolFault>
+    ensures { IsWorkedBy (IsPartBySketch (from, sketch.now)) result }
+{
+    let held = replica_of(alloc, from)?;
+    beyond(alloc, &held, sketch)
+}
+
+/// What the first input has beyond the sketch that is the second.
+fn load_part<R: Source>(
+    alloc: Global,
+    from: &mut R,
+    sketch: &mut R,
+) -> Result<Replica, ToolFault>
+    ensures { IsExpectedBy (two input_spec (transition_of R.Source from.old from.new) sketch_spec (transition_of R.Source sketch.old sketch.new))
+        IsPartBySketch result }
+{
+    let first = load_one(alloc, 1, from)?;
+    let second = load_sketch(alloc, 2, sketch)?;
+    part(alloc, first, &second)
+}
+
+/// Writes the replica file of what `from` has beyond `sketch`: what `run_missing_by` writes for the inventory that was
+/// sketched. Inputs count from 1: `from` is the first. The second is read as a sketch file, whatever it begins with.
+pub fn run_missing_by_sketch<R: Source, W: Sink>(
+    alloc: Global,
+    from: &mut R,
+    sketch: &mut R,
+    output: &mut W,
+) -> Result<(), ToolFault>
+    ensures { IsRunBy (two input_spec (transition_of R.Source from.old from.new) sketch_spec (transition_of R.Source sketch.old sketch.new))
+        IsPartBySketch file W.Sink output.old output.new result }
+{
+    let part = load_part(alloc, from, sketch)?;
+    write_file(alloc, &part, output)
+}

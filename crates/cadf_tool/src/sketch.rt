@@ -1,0 +1,92 @@
+//! A short sketch of what an input has, as a sketch file.
+ghost use Rattle.std.specs.Prelude.{◌≡◌, IfOk, unwrap_or};
+ghost use Rattle.cadf_sketch.specs.Answers.{inventory_of};
+ghost use Rattle.cadf_sketch.specs.SketchFile.{sketch_file};
+ghost use Rattle.cadf_sketch.specs.Sketches.{asked};
+ghost use Rattle.cadf_tool.specs.Sketch.{sketch_model_of};
+ghost use Rattle.cadf_tool.specs.Run.{one, transition_of, input_spec, IsExpected, IsWorked, IsWritten, IsRun};
+
+use crate::fault::{ToolFault, answered, refused};
+use crate::input::{Loaded, load};
+use crate::told::replica_of;
+use cadf_json::{Memory, Sink, Source};
+use cadf_replica::Replica;
+use cadf_sketch::{Cells, Salt, Sketch, write_sketch};
+use std::alloc::Global;
+
+/// Returns the cells, or 198.
+fn cells_or_default(cells: Option<Cells>) -> Cells
+    ensures { result ≡ unwrap_or cells 198 }
+{
+    match cells {
+        Some(cells) => cells,
+        None => Cells::by_default(),
+    }
+}
+
+/// The sketch of the replica's inventory.
+fn sketch_of(
+    alloc: Global,
+    cells: Option<Cells>,
+    salt: Option<Salt>,
+    replica: &Replica,
+) -> Result<Sketch, Memory>
+    ensures { IfOk result (λ sketch. sketch ≡ asked (inventory_of replica.now) (unwrap_or cells 198) salt) }
+{
+    let inventory = replica.inventory()?;
+    Sketch::of(alloc, &inventory, cells_or_default(cells), salt)
+}
+
+/// The sketch of a loaded input.
+fn sketched(
+    alloc: Global,
+    cells: Option<Cells>,
+    salt: Option<Salt>,
+    loaded: Loaded,
+) -> Result<Sketch, ToolFault>
+    ensures { IsWorked (sketch_model_of cells salt loaded) result }
+{
+    let replica = replica_of(alloc, loaded)?;
+    match sketch_of(alloc, cells, salt, &replica) {
+        Ok(sketch) => Ok(sketch),
+        Err(_) => Err(ToolFault::Memory),
+    }
+}
+
+/// The sketch of the only input of an engine.
+fn load_sketched<R: Source>(
+    alloc: Global,
+    cells: Option<Cells>,
+    salt: Option<Salt>,
+    input: &mut R,
+) -> Result<Sketch, ToolFault>
+    ensures { IsExpected (one input_spec (transition_of R.Source input.old input.new)) (sketch_model_of cells salt) result }
+{
+    match load(alloc, input) {
+        Ok(loaded) => sketched(alloc, cells, salt, loaded),
+        Err(fault) => Err(refused(1, fault)),
+    }
+}
+
+/// Writes the file of the sketch.
+fn write_sketched<W: Sink>(alloc: Global, sketch: &Sketch, output: &mut W) -> Result<(), ToolFault>
+    ensures { IsWritten W.Sink output.old output.new (sketch_file sketch.now) result }
+{
+    answered(write_sketch(alloc, sketch, output))
+}
+
+/// Writes the sketch file of an input's inventory: of 198 cells if no number is given, and with the salt that the
+/// inventory's digest makes if none is given, so that one set has one sketch.
+pub fn run_sketch<R: Source, W: Sink>(
+    alloc: Global,
+    cells: Option<Cells>,
+    salt: Option<Salt>,
+    input: &mut R,
+    output: &mut W,
+) -> Result<(), ToolFault>
+    ensures { IsRun (one input_spec (transition_of R.Source input.old input.new)) (sketch_model_of cells salt)
+        sketch_file W.Sink output.old output.new result }
+{
+    let sketch = load_sketched(alloc, cells, salt, input)?;
+    write_sketched(alloc, &sketch, output)
+}
