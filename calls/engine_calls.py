@@ -4,15 +4,17 @@ The worked calls of differential/rows.py are made here too, with each reader in 
 its call for each number of a range, where `N` stands for the number; an answer tells what differs from the one before.
 """
 import os
+import re
 import sys
 
 sys.path.append(os.path.join(os.path.dirname(os.path.dirname(os.path.abspath(__file__))), "differential"))
 
 import rows as worked
+import sketch_rows as sketched
 import worked_files as made
 from document_rows import BOTH, NORTH, conflicts, log
 from exchange_rows import OTHER_LOG
-from texts import C1, K1, V1, V2, digits, document, inventory, replica
+from texts import C1, C2, CF, K1, KF, V1, V2, digits, document, inventory, replica
 
 CALLS = {
     "each": [],
@@ -22,6 +24,8 @@ CALLS = {
     "run_missing": ["run_missing"],
     "run_missing_by": ["run_missing_by"],
     "run_inventory": ["run_inventory"],
+    "run_sketch": ["run_sketch", "Cells::by_default"],
+    "run_missing_by_sketch": ["run_missing_by_sketch"],
     "run_rule": ["run_rule"],
     "run_rehearse": ["run_rehearse"],
     "run_show": ["run_show"],
@@ -56,6 +60,9 @@ def engine(command, readers, to=None):
         own = own[1:] or [""]
     if name == "show":
         own = ["conflicts" if own else "log"]
+    if name == "sketch":
+        given = dict(re.findall(r"--(\w+)[= ](\w+)", command))
+        own = [given.get(option, "") for option in ("cells", "salt")]
     return "run_" + name.replace("-", "_"), [*(to or writer()), *own, *(word for one in readers for word in one)]
 
 
@@ -77,7 +84,7 @@ def row(call, words, fields, heading):
 
 
 # The worked calls of the command, with each reader in pieces of 1 to 7 bytes.
-LARGE = 2000  # bytes of an input that is at a limit: the command alone reads it
+LARGE = 6000  # bytes of an input that is at a limit: the command alone reads it
 for name, words, files, wanted in worked.all_rows():
     inputs = [files[word] for word in words if word in files]
     if wanted.status == 2 or max(len(text) for text in inputs) > LARGE:
@@ -159,6 +166,8 @@ READ = [
     ("join", [EMPTY_LOG, made.NOTHING_TREE], made.NOTHING_TREE),
     ("missing", [NONE, EMPTY_LOG], made.NOTHING_TREE),
     ("missing-by", [EMPTY_LOG, inventory()], made.NOTHING_TREE),
+    ("sketch --cells 3", [NONE], sketched.EMPTY),
+    ("missing-by-sketch", [NONE, sketched.EMPTY], made.NOTHING_TREE),
     ("rule P name 2", [NAMED], made.SOUTH_TREE),
     ("rehearse g 2", [TWO_SITES], "site 0 atoms 0 as 0\nsite 1 atoms 0 as 0\n"),
 ]
@@ -193,6 +202,8 @@ WRITTEN = [
     ("missing", [EMPTY_LOG, NONE], made.NOTHING_TREE, LINES),
     ("missing", [made.TWO, made.EVENT_TREE], made.SECOND_TREE, LINES),
     ("missing-by", [made.NOTHING_TREE, inventory()], made.NOTHING_TREE, LINES),
+    ("sketch --cells 3 --salt 1", [made.EVENT_TREE], sketched.WORKED, LINES),
+    ("missing-by-sketch", [made.TWO, sketched.WORKED], made.SECOND_TREE, LINES),
     ("rule P name 2", [NAMED], made.SOUTH_TREE, LINES),
     ("rehearse g 2", [""], "site 0 atoms 0 as 0\nsite 1 atoms 0 as 0\n", WHOLE),
 ]
@@ -219,7 +230,7 @@ for command, inputs, output, lines in WRITTEN:
 
 # A command, its readers, and its fault by name, where the first write would fail: nothing is written before all else.
 FAILING, GOOD, EVENT, BAD = reader(EMPTY_LOG, ALL, 1), reader(EMPTY_LOG), reader(V1), reader("{")
-OTHER, OTHER_NOTED = reader(OTHER_LOG), reader(inventory(log="h"))
+OTHER, OTHER_NOTED, OTHER_SKETCHED = reader(OTHER_LOG), reader(inventory(log="h")), reader(sketched.sketch(3, 1, log="h"))
 NOT_JSON_1, NOT_JSON_2 = ["Input", 1, "Json", "NotJson"], ["Input", 2, "Json", "NotJson"]
 IN_ORDER = [
     ("join", [], ["NoLog"]),
@@ -246,6 +257,17 @@ IN_ORDER = [
     ("missing-by", [EVENT, OTHER_NOTED], ["NoLog"]),
     ("missing-by", [GOOD, OTHER_NOTED], ["OtherLog", 2]),
     ("missing-by", [GOOD, reader(inventory())], ["WriteFault"]),
+    ("missing-by-sketch", [BAD, FAILING], NOT_JSON_1),
+    ("missing-by-sketch", [EVENT, FAILING], ["ReadFault", 2]),
+    ("missing-by-sketch", [EVENT, reader(inventory())], ["Input", 2, "File", "Version"]),
+    ("missing-by-sketch", [EVENT, OTHER_SKETCHED], ["NoLog"]),
+    ("missing-by-sketch", [GOOD, OTHER_SKETCHED], ["OtherLog", 2]),
+    ("missing-by-sketch", [reader(made.CHAINS), reader(sketched.sketch(3, 1, C2, CF, KF))], ["TooFewCells", sketched.ASKED]),
+    ("missing-by-sketch", [GOOD, reader(sketched.EMPTY)], ["WriteFault"]),
+    ("sketch", [FAILING], ["ReadFault", 1]),
+    ("sketch", [BAD], NOT_JSON_1),
+    ("sketch", [EVENT], ["NoLog"]),
+    ("sketch", [GOOD], ["WriteFault"]),
     ("inventory", [FAILING], ["ReadFault", 1]),
     ("inventory", [BAD], NOT_JSON_1),
     ("inventory", [EVENT], ["NoLog"]),

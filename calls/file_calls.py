@@ -1,10 +1,11 @@
 """Calls of replica files and inventory files: whole and damaged ones, in pieces, within limits, with failing readers
-and writers; and of the two texts, whose rows are in log_rows.py.
+and writers; of the two texts, whose rows are in log_rows.py, and of sketches, whose rows are in sketched_rows.py.
 
 Words: a reading is a limit, the bytes of a read and the number of the read that fails (0 is none); a writer is the
 bytes of a write, what it does (`never`, `refuses` or `takes-nothing`) and at which write.
 """
 import log_rows
+import sketched_rows
 from texts import (
     B1, B3, BF, C1, C2, CF, E3, K1, KF, S0, S1, S2, T3, digits, inventory, line, nested, quoted, replica, tree)
 
@@ -22,6 +23,7 @@ CALLS = {
     "write_inventory": ["write_inventory"],
     "fault_text": [],
     **log_rows.CALLS,
+    **sketched_rows.CALLS,
 }
 
 REFUSAL = "What is refused"
@@ -437,3 +439,4 @@ ROWS += [
 ROWS += [("fault_text", fault.split(), ["ok", text], REFUSAL) for fault, text in TEXTS]
 ROWS.append(("fault_text", ["Memory"], ["ok", "out of memory"], "Fault lines"))
 ROWS += log_rows.ROWS
+ROWS += sketched_rows.ROWS

@@ -3,7 +3,7 @@
 
     differential/calls.py [NUMBER [SEED]]
 
-Generates NUMBER calls (6,000) by SEED (1): of values, times, names, documents, files, inventories, the two texts, atoms,
+Generates NUMBER calls (6,000) by SEED (1): of values, times, names, documents, files, inventories, sketches, the two texts, atoms,
 replicas, rulings, scripts, schedules and engines. They are handed to the built program crates/drivers. Compared are
 values by their canonical texts, times by their instants and spellings, documents by their log, their atoms and the
 instants of their events, or by what their fault is shown as; all others by all fields. The status is 1 where an answer

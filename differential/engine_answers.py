@@ -3,8 +3,8 @@ that cut, and their answers by the second implementation.
 
 Each of `KINDS` makes a driver's name, a call with its words and the fields of its answer.
 """
-from command import DIRECTORY, Call, Usage, answer
-from generate import KINDS_WITH_REHEARSALS, Case
+from command import DIRECTORY, OPTIONS, Call, Usage, answer
+from generate import KINDS_WITH_SKETCHES, Case
 
 LARGEST = 20000  # bytes of a file; a larger one takes too many reads
 LONGEST_PIECE = 9
@@ -15,7 +15,8 @@ def engine(call):
     name = "run_" + call.command.decode().replace("-", "_")
     own = {
         b"join": lambda: [call.log or b""], b"rehearse": lambda: [call.log, call.sites], b"rule": lambda: call.ruling,
-        b"show": lambda: ["conflicts" if call.conflicts else "log"]}
+        b"show": lambda: ["conflicts" if call.conflicts else "log"],
+        b"sketch": lambda: [call.given.get(option, b"") for option in OPTIONS[b"sketch"]]}
     return name, own.get(call.command, lambda: [])()
 
 
@@ -48,7 +49,7 @@ def engines(chance):
     pieces = iter(lambda: chance.randint(1, LONGEST_PIECE), 0)
     made = None
     while made is None:
-        made = called(Case(KINDS_WITH_REHEARSALS, chance.randrange(2 ** 32), 0), pieces)
+        made = called(Case(KINDS_WITH_SKETCHES, chance.randrange(2 ** 32), 0), pieces)
     return ("engine", *made)
 
 

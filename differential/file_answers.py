@@ -119,7 +119,7 @@ def write_digests(piece, how, number, log, *digests):
     return written(inventory_with(log, {one.encode() for one in digests}), how, number)
 
 
-def write_cells(piece, how, number, log, cells, salt, *digests):
+def write_cells(piece, how, number, cells, salt, log, *digests):
     return written(sketch_file(log, sketch_with(log, {one.encode() for one in digests}, cells, salt)), how, number)
 
 
@@ -228,10 +228,10 @@ def digest_words(chance):
 
 
 def sketch_words(chance):
-    """The words of `write_inventory`, with a number of cells and a salt behind the log."""
+    """The words of `write_inventory`, with a number of cells and a salt before the log."""
     cells, salt = some_layout(chance)
     piece, how, number, log, *digests = digest_words(chance)
-    return [piece, how, number, log, cells or CELLS, salt or 1, *digests]
+    return [piece, how, number, cells or CELLS, salt or 1, log, *digests]
 
 
 def any_sketch(chance):
@@ -259,9 +259,6 @@ KINDS = [
     kind("file", "write_inventory", digest_words, write_digests),
     kind("file", "write_log", text_words, write_log),
     kind("file", "write_conflicts", text_words, write_conflicts),
-]
-# Those of sketches, for a driver that has them: calls.py takes them in once one does.
-SKETCH_KINDS = [
     kind("file", "read_sketch", reading_words(any_sketch), read_cells),
     kind("file", "write_sketch", sketch_words, write_cells),
 ]

@@ -287,10 +287,11 @@ def file_rows():
 
 
 def all_rows():
-    """The rows of this file, and those of documents and of several inputs."""
+    """The rows of this file, and those of documents, of several inputs and of sketches."""
     yield from file_rows()
     yield from document_rows_called()
     yield from exchange_rows_called()
+    yield from sketch_rows_called()
 
 
 def with_bytes(rows):
@@ -312,7 +313,7 @@ def wrong_sizes():
 def main():
     wrong, count = wrong_sizes(), len(SIZES)
     listed = {binary: commands_of(binary) for binary in map(os.path.abspath, sys.argv[1:2])}
-    for name, words, files, wanted in with_bytes(itertools.chain(all_rows(), sketch_rows_called())):
+    for name, words, files, wanted in with_bytes(all_rows()):
         asked = [binary for binary, commands in listed.items() if words[0].decode() in commands]
         got = [answer(words, files)] + [answered(binary, words, files) for binary in asked]
         if not all(alike(wanted, one) for one in got):

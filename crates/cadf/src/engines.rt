@@ -1,11 +1,13 @@
 //! Opens the files of a request, and runs its engine on them.
-use crate::given::{letter_given, log_given, place_given, sites_given};
+use crate::given::{
+    cells_given, letter_given, log_given, place_given, salt_given, sites_given,
+};
 use crate::stop::Stop;
 use cadf_arguments::{read_key, read_log};
 use cadf_json::{FromStd, Sink};
 use cadf_tool::{
-    ToolFault, run_check, run_inventory, run_join, run_missing, run_missing_by, run_rehearse,
-    run_rule, run_show,
+    ToolFault, run_check, run_inventory, run_join, run_missing, run_missing_by,
+    run_missing_by_sketch, run_rehearse, run_rule, run_show, run_sketch,
 };
 use cadf_words::Request;
 use std::alloc::Global;
@@ -73,6 +75,31 @@ fn inventory<W: Sink>(rt: &HostRuntime, file: &str, output: &mut W) -> Result<()
     Ok(run_inventory(rt.alloc(), &mut input, output)?)
 }
 
+/// Runs `sketch` on a file. `options` are the number of cells and the salt.
+fn sketch<W: Sink>(
+    rt: &HostRuntime,
+    options: [Option<&str>; 2],
+    file: &str,
+    output: &mut W,
+) -> Result<(), Stop> {
+    let cells = cells_given(options[0])?;
+    let salt = salt_given(options[1])?;
+    let mut input = open(rt, file, 1)?;
+    Ok(run_sketch(rt.alloc(), cells, salt, &mut input, output)?)
+}
+
+/// Runs `missing-by-sketch` on a file and a sketch file.
+fn missing_by_sketch<W: Sink>(
+    rt: &HostRuntime,
+    from: &str,
+    sketch: &str,
+    output: &mut W,
+) -> Result<(), Stop> {
+    let mut from = open(rt, from, 1)?;
+    let mut sketch = open(rt, sketch, 2)?;
+    Ok(run_missing_by_sketch(rt.alloc(), &mut from, &mut sketch, output)?)
+}
+
 /// Runs `rule` on a file. `ruling` is the letter, the key and the place.
 fn rule<W: Sink>(
     rt: &HostRuntime,
@@ -129,6 +156,8 @@ pub(crate) fn run_engine<W: Sink>(
         Request::Missing { from, to } => missing(rt, from, to, output),
         Request::MissingBy { from, inventory } => missing_by(rt, from, inventory, output),
         Request::Inventory { file } => inventory(rt, file, output),
+        Request::Sketch { cells, salt, file } => sketch(rt, [*cells, *salt], file, output),
+        Request::MissingBySketch { from, sketch } => missing_by_sketch(rt, from, sketch, output),
         Request::Rule {
             letter,
             key,

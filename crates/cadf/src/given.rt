@@ -1,6 +1,9 @@
 //! Reads the words that are no files: names, numbers and letters.
-use cadf_arguments::{ArgumentFault, check_letter, check_place, check_sites, read_log};
+use cadf_arguments::{
+    ArgumentFault, check_cells, check_letter, check_place, check_salt, check_sites, read_log,
+};
 use cadf_event::Name;
+use cadf_tool::{Cells, Salt};
 use std::alloc::Global;
 
 /// The log of that identifier, if one is given.
@@ -41,5 +44,27 @@ pub(crate) fn place_given(word: &str) -> Result<u64, ArgumentFault> {
     match number_given(word) {
         Some(place) => check_place(place),
         None => Err(ArgumentFault::Place),
+    }
+}
+
+/// The number of cells that the word spells, if one is given.
+pub(crate) fn cells_given(word: Option<&str>) -> Result<Option<Cells>, ArgumentFault> {
+    let Some(word) = word else {
+        return Ok(None);
+    };
+    match number_given(word) {
+        Some(cells) => Ok(Some(check_cells(cells)?)),
+        None => Err(ArgumentFault::Cells),
+    }
+}
+
+/// The salt that the word spells, if one is given.
+pub(crate) fn salt_given(word: Option<&str>) -> Result<Option<Salt>, ArgumentFault> {
+    let Some(word) = word else {
+        return Ok(None);
+    };
+    match number_given(word) {
+        Some(salt) => Ok(Some(check_salt(salt)?)),
+        None => Err(ArgumentFault::Salt),
     }
 }

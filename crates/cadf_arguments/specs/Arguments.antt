@@ -4,7 +4,7 @@
 --     argument_status_of f     2 if the command line is refused, 4 if out of memory
 use Rattle.std.specs.Prelude.{ℕ, nat_le, Bool, ◌&&◌}
 use Rattle.cadf_arguments.specs.declared.fault.ArgumentFault.{ArgumentFault}
-use Rattle.cadf_arguments.specs.declared.fault.ArgumentFault.TheVariants.{LogName, Sites, Letter, Key, Place, Memory}
+use Rattle.cadf_arguments.specs.declared.fault.ArgumentFault.TheVariants.{LogName, Sites, Letter, Key, Place, Cells, Salt, Memory}
 
 abbrev pub is_site_count : ℕ → Bool
 is_site_count n = nat_le 1 n && nat_le n 64
@@ -18,4 +18,6 @@ argument_status_of Sites = 2
 argument_status_of Letter = 2
 argument_status_of Key = 2
 argument_status_of Place = 2
+argument_status_of Cells = 2
+argument_status_of Salt = 2
 argument_status_of Memory = 4

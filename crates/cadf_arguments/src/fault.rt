@@ -22,6 +22,12 @@ pub enum ArgumentFault {
     /// The place isn't 1 to 999,999,999.
     #[error("place")]
     Place,
+    /// The number of cells isn't a multiple of 3 from 3 to 12,582,912.
+    #[error("cells")]
+    Cells,
+    /// The salt isn't odd.
+    #[error("salt")]
+    Salt,
     /// An allocation was refused.
     #[error("out of memory")]
     Memory,
@@ -36,6 +42,7 @@ impl ArgumentFault {
         match self {
             ArgumentFault::LogName | ArgumentFault::Sites | ArgumentFault::Letter => 2,
             ArgumentFault::Key | ArgumentFault::Place => 2,
+            ArgumentFault::Cells | ArgumentFault::Salt => 2,
             ArgumentFault::Memory => 4,
         }
     }

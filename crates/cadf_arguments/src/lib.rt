@@ -7,4 +7,4 @@ mod numbers;
 
 pub use crate::fault::ArgumentFault;
 pub use crate::names::{check_letter, read_key, read_log};
-pub use crate::numbers::{check_place, check_sites};
+pub use crate::numbers::{check_cells, check_place, check_salt, check_sites};

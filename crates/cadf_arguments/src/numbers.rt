@@ -1,8 +1,10 @@
 //! Numbers.
 ghost use Rattle.std.specs.Prelude.{◌≡◌, is_ok, IfOk, IfErr};
 ghost use Rattle.cadf_arguments.specs.Arguments.{is_place, is_site_count};
+ghost use Rattle.cadf_sketch.specs.Layouts.{are_cells, is_salt};
 
 use crate::fault::ArgumentFault;
+use cadf_sketch::{Cells, Salt};
 
 /// Bounds the number of sites of a rehearsal.
 const MAX_SITES: u64 = 64;
@@ -32,4 +34,28 @@ pub fn check_place(place: u64) -> Result<u64, ArgumentFault>
         return Ok(place);
     }
     Err(ArgumentFault::Place)
+}
+
+/// Returns the number of cells of a sketch. `Cells`: it isn't a multiple of 3 from 3 to 12,582,912.
+pub fn check_cells(cells: u64) -> Result<Cells, ArgumentFault>
+    ensures accepts { is_ok result ≡ are_cells cells }
+    ensures ok { IfOk result (λ count. count ≡ cells) }
+    ensures err { IfErr result (λ f. f ≡ ArgumentFault.Cells) }
+{
+    match Cells::of(cells) {
+        Some(cells) => Ok(cells),
+        None => Err(ArgumentFault::Cells),
+    }
+}
+
+/// Returns the salt of a sketch. `Salt`: it isn't odd.
+pub fn check_salt(salt: u64) -> Result<Salt, ArgumentFault>
+    ensures accepts { is_ok result ≡ is_salt salt }
+    ensures ok { IfOk result (λ n. n ≡ salt) }
+    ensures err { IfErr result (λ f. f ≡ ArgumentFault.Salt) }
+{
+    match Salt::of(salt) {
+        Some(salt) => Ok(salt),
+        None => Err(ArgumentFault::Salt),
+    }
 }

@@ -22,6 +22,15 @@ pub enum Request<'a> {
     Inventory {
         file: &'a str,
     },
+    Sketch {
+        cells: Option<&'a str>,
+        salt: Option<&'a str>,
+        file: &'a str,
+    },
+    MissingBySketch {
+        from: &'a str,
+        sketch: &'a str,
+    },
     Rule {
         letter: &'a str,
         key: &'a str,
@@ -52,17 +61,9 @@ fn files<'a>(alloc: Global, matches: &ArgMatches<'a>) -> Result<Vec<&'a str>, Al
     Vec::from_slice(alloc, matches.get_strs("FILE").unwrap_or_default())
 }
 
-/// What the words of the command of that name ask for.
-fn request_of<'a>(
-    alloc: Global,
-    name: &str,
-    matches: &ArgMatches<'a>,
-) -> Result<Request<'a>, Reply> {
+/// What the words of a command that asks for what a receiver lacks, or of the letter of such a request, ask for.
+fn exchange_of<'a>(name: &str, matches: &ArgMatches<'a>) -> Result<Request<'a>, Reply> {
     Ok(match name {
-        "join" => Request::Join {
-            log: matches.get_str("log"),
-            files: files(alloc, matches)?,
-        },
         "missing" => Request::Missing {
             from: word(matches, "FROM"),
             to: word(matches, "TO"),
@@ -73,6 +74,30 @@ fn request_of<'a>(
         },
         "inventory" => Request::Inventory {
             file: word(matches, "FILE"),
+        },
+        "sketch" => Request::Sketch {
+            cells: matches.get_str("cells"),
+            salt: matches.get_str("salt"),
+            file: word(matches, "FILE"),
+        },
+        "missing-by-sketch" => Request::MissingBySketch {
+            from: word(matches, "FROM"),
+            sketch: word(matches, "SKETCH"),
+        },
+        _ => return Err(Reply::Unnamed),
+    })
+}
+
+/// What the words of the command of that name ask for.
+fn request_of<'a>(
+    alloc: Global,
+    name: &str,
+    matches: &ArgMatches<'a>,
+) -> Result<Request<'a>, Reply> {
+    Ok(match name {
+        "join" => Request::Join {
+            log: matches.get_str("log"),
+            files: files(alloc, matches)?,
         },
         "rule" => Request::Rule {
             letter: word(matches, "LETTER"),
@@ -92,7 +117,7 @@ fn request_of<'a>(
         "check" => Request::Check {
             file: word(matches, "FILE"),
         },
-        _ => return Err(Reply::Unnamed),
+        _ => return exchange_of(name, matches),
     })
 }
 

@@ -12,14 +12,14 @@ enum Kind {
     Files,
     /// A text, which may be empty.
     Text,
-    /// `--NAME` and a text, which may be empty.
-    Option,
+    /// `--NAME` and a text of that name, which may be empty.
+    Option(&'static str),
     /// `--NAME` alone.
     Flag,
 }
 
 /// Each command, and its help.
-const COMMANDS: [(&str, &str); 8] = [
+const COMMANDS: [(&str, &str); 10] = [
     ("join", "Writes the replica file of what all inputs tell"),
     (
         "missing",
@@ -30,6 +30,14 @@ const COMMANDS: [(&str, &str); 8] = [
         "Writes the replica file of what FROM has beyond INVENTORY",
     ),
     ("inventory", "Writes the digests of all that a file tells"),
+    (
+        "sketch",
+        "Writes a short sketch of the digests of all that a file tells",
+    ),
+    (
+        "missing-by-sketch",
+        "Writes the replica file of what FROM has beyond SKETCH",
+    ),
     (
         "rule",
         "Writes the replica file with a ruling on a conflict",
@@ -46,11 +54,11 @@ const COMMANDS: [(&str, &str); 8] = [
 ];
 
 /// Each word of a command, in their order: the command, the word's name, how it is given, and its help.
-const WORDS: [(&str, &str, Kind, &str); 17] = [
+const WORDS: [(&str, &str, Kind, &str); 22] = [
     (
         "join",
         "log",
-        Kind::Option,
+        Kind::Option("ID"),
         "The log's identifier, else that of the first input that names one",
     ),
     ("join", "FILE", Kind::Files, "Replica files, logs or events"),
@@ -69,6 +77,26 @@ const WORDS: [(&str, &str, Kind, &str); 17] = [
         "The receiver's inventory, as it is or was",
     ),
     ("inventory", "FILE", Kind::File, "A replica file or a log"),
+    (
+        "sketch",
+        "cells",
+        Kind::Option("N"),
+        "How many cells, a multiple of 3 from 3 to 12582912, else 198",
+    ),
+    (
+        "sketch",
+        "salt",
+        Kind::Option("A"),
+        "An odd number below 2^64, else one that follows from the digests",
+    ),
+    ("sketch", "FILE", Kind::File, "A replica file or a log"),
+    ("missing-by-sketch", "FROM", Kind::File, "The sender's file"),
+    (
+        "missing-by-sketch",
+        "SKETCH",
+        Kind::File,
+        "The receiver's sketch, as it is or was",
+    ),
     (
         "rule",
         "LETTER",
@@ -123,9 +151,9 @@ fn argument<'a>(alloc: Global, name: &'a str, kind: Kind, help: &'a str) -> Arg<
         Kind::File => argument.required(true),
         Kind::Files => argument.required(true).num_args(1..),
         Kind::Text => argument.required(true).value_parser(ValueParser::string()),
-        Kind::Option => argument
+        Kind::Option(value) => argument
             .long(name)
-            .value_name("ID")
+            .value_name(value)
             .value_parser(ValueParser::string()),
         Kind::Flag => argument.long(name).action(ArgAction::SetTrue),
     }

@@ -5,8 +5,8 @@ use crate::words::Words;
 use cadf_event::Name;
 use cadf_json::{MemorySink, MemorySource};
 use cadf_tool::{
-    CountingSink, ToolFault, run_check, run_inventory, run_join, run_missing, run_missing_by,
-    run_rehearse, run_rule, run_show, status,
+    Cells, CountingSink, Salt, ToolFault, run_check, run_inventory, run_join, run_missing,
+    run_missing_by, run_missing_by_sketch, run_rehearse, run_rule, run_show, run_sketch, status,
 };
 use calls::{push, push_number, refused};
 use std::alloc::{AllocError as Memory, Global};
@@ -39,6 +39,19 @@ fn missing_by(alloc: Global, words: Words<'_>, sink: &mut Output) -> Ran {
     Some(run_missing_by(alloc, &mut from, &mut inventory, sink))
 }
 
+/// Runs `run_sketch`: a number of cells and a salt, empty for none, and a reader.
+fn sketch(alloc: Global, words: Words<'_>, sink: &mut Output) -> Ran {
+    let cells = Cells::of(words.number(4) as u64);
+    let salt = Salt::of(words.number(5) as u64);
+    Some(run_sketch(alloc, cells, salt, &mut words.source(6), sink))
+}
+
+/// Runs `run_missing_by_sketch`: two readers.
+fn missing_by_sketch(alloc: Global, words: Words<'_>, sink: &mut Output) -> Ran {
+    let (mut from, mut sketch) = (words.source(4), words.source(7));
+    Some(run_missing_by_sketch(alloc, &mut from, &mut sketch, sink))
+}
+
 /// Runs `run_rule`: a letter, a key, a place and a reader.
 fn rule(alloc: Global, words: Words<'_>, sink: &mut Output) -> Ran {
     let letter = words.text(4).chars().next()?;
@@ -68,6 +81,8 @@ fn run(alloc: Global, words: Words<'_>, sink: &mut Output) -> Ran {
         "run_missing" => missing(alloc, words, sink),
         "run_missing_by" => missing_by(alloc, words, sink),
         "run_inventory" => Some(run_inventory(alloc, &mut words.source(4), sink)),
+        "run_sketch" => sketch(alloc, words, sink),
+        "run_missing_by_sketch" => missing_by_sketch(alloc, words, sink),
         "run_rule" => rule(alloc, words, sink),
         "run_rehearse" => rehearse(alloc, words, sink),
         "run_show" => show(alloc, words, sink),

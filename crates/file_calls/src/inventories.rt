@@ -10,7 +10,7 @@ use calls::{Call, answer, push, refused};
 use std::alloc::Global;
 
 /// Answers `ok` with the inventory's log and its digests.
-fn shown(alloc: Global, inventory: &Inventory) -> Result<String, Memory> {
+pub(crate) fn shown(alloc: Global, inventory: &Inventory) -> Result<String, Memory> {
     let mut line = answer(alloc, "ok", &[inventory.log().as_str()])?;
     for digest in inventory.digests() {
         push(&mut line, hex::encode(alloc, digest)?.as_str())?;
@@ -37,20 +37,21 @@ fn put(inventory: &mut Inventory, word: &str) -> bool {
     hex::decode_to_slice(word, &mut digest).is_ok() && inventory.put(&digest).is_ok()
 }
 
-/// Makes the inventory of the log that the fourth word names, with the digests after it. `None` if one is refused.
-fn inventory_of(alloc: Global, call: &Call) -> Option<Inventory> {
-    let log = Name::read(alloc, call.text(4)).ok()?;
+/// Makes the inventory of the log that the word at that place names, with the digests after it. `None` if one is
+/// refused.
+pub(crate) fn inventory_of(alloc: Global, call: &Call, place: usize) -> Option<Inventory> {
+    let log = Name::read(alloc, call.text(place)).ok()?;
     let mut inventory = Inventory::new(alloc, log);
     let mut is_whole = true;
-    for place in 4..call.count() {
-        is_whole &= put(&mut inventory, call.text(place.saturating_add(1)));
+    for at in place..call.count() {
+        is_whole &= put(&mut inventory, call.text(at.saturating_add(1)));
     }
     if is_whole { Some(inventory) } else { None }
 }
 
 /// Answers `write_inventory`: a writer, a log and digests.
 pub(crate) fn write(alloc: Global, call: &Call) -> Result<String, Memory> {
-    let Some(inventory) = inventory_of(alloc, call) else {
+    let Some(inventory) = inventory_of(alloc, call, 4) else {
         return answer(alloc, "no inventory", &[]);
     };
     let mut sink = sink_of(alloc, call, 1);

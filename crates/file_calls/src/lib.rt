@@ -6,6 +6,7 @@ mod feeds;
 mod inventories;
 mod reads;
 mod replicas;
+mod sketches;
 mod streams;
 mod sweeps;
 mod texts;
@@ -28,6 +29,11 @@ pub fn answered(alloc: Global, call: &Call) -> Result<String, Memory> {
         "read_inventory" => inventories::read(alloc, call),
         "write_inventory" => inventories::write(alloc, call),
         "write_log" | "write_conflicts" => texts::write(alloc, call),
+        "read_sketch" => sketches::read(alloc, call),
+        "write_sketch" => sketches::write(alloc, call),
+        "read_by" => sketches::read_by(alloc, call),
+        "missing_by_sketch" => sketches::missing(alloc, call),
+        "inventory_digest" => sketches::digest(alloc, call),
         "fault_text" => faults::fault_text(alloc, call),
         _ => calls::answer(alloc, "no such call", &[]),
     }

@@ -5,6 +5,7 @@ mod examples;
 mod feeds;
 mod inventories;
 mod reads;
+mod sketches;
 mod steps;
 mod writes;
 

@@ -1,6 +1,6 @@
 //! The steps: each makes its values, and then the one call that is watched.
 use crate::examples::{BOTH, BOTH_NODES, FILE, NODES, NORTH, NORTH_NODES};
-use crate::{feeds, inventories, reads, writes};
+use crate::{feeds, inventories, reads, sketches, writes};
 use oom_support::{Report, again};
 use std::alloc::Global;
 
@@ -21,13 +21,16 @@ pub enum Step {
     WriteConflict,
     ReadInventory,
     WriteInventory,
+    ReadSketch,
+    WriteSketch,
+    MissingBySketch,
     ReadJson,
     ReadDocument,
     WriteLog,
     WriteConflicts,
 }
 
-pub const STEPS: [Step; 16] = [
+pub const STEPS: [Step; 19] = [
     Step::Feed,
     Step::FeedNodes,
     Step::FeedConflict,
@@ -40,6 +43,9 @@ pub const STEPS: [Step; 16] = [
     Step::WriteConflict,
     Step::ReadInventory,
     Step::WriteInventory,
+    Step::ReadSketch,
+    Step::WriteSketch,
+    Step::MissingBySketch,
     Step::ReadJson,
     Step::ReadDocument,
     Step::WriteLog,
@@ -62,6 +68,9 @@ impl Step {
             Step::WriteConflict => ("write", "conflict"),
             Step::ReadInventory => ("read-inventory", "pieces"),
             Step::WriteInventory => ("write-inventory", "event"),
+            Step::ReadSketch => ("read-sketch", "pieces"),
+            Step::WriteSketch => ("write-sketch", "north"),
+            Step::MissingBySketch => ("missing-by-sketch", "conflict"),
             Step::ReadJson => ("read-json", "event"),
             Step::ReadDocument => ("read-document", "event"),
             Step::WriteLog => ("write-log", "event"),
@@ -93,6 +102,9 @@ fn tried(alloc: Global, step: Step) -> Option<Report> {
         Step::WriteConflict => writes::file(alloc, BOTH),
         Step::ReadInventory => inventories::read(alloc),
         Step::WriteInventory => inventories::write(alloc),
+        Step::ReadSketch => sketches::read(alloc),
+        Step::WriteSketch => sketches::write(alloc),
+        Step::MissingBySketch => sketches::missing(alloc),
         Step::ReadJson => reads::json(alloc),
         Step::ReadDocument => reads::document(alloc),
         Step::WriteLog => writes::log(alloc),

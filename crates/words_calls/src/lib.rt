@@ -20,15 +20,38 @@ fn push_word(alloc: Global, words: &mut Vec<String>, word: &str) -> Result<(), M
     Ok(())
 }
 
+/// Adds a word that may be left out.
+fn push_option(line: &mut String, word: Option<&str>) -> Result<(), Memory> {
+    match word {
+        Some(word) => {
+            calls::push(line, "some")?;
+            calls::push(line, word)
+        }
+        None => calls::push(line, "none"),
+    }
+}
+
 /// Returns a request for `join`, as a line.
 fn joined(alloc: Global, log: Option<&str>, files: &[&str]) -> Result<String, Memory> {
-    let mut line = match log {
-        Some(log) => calls::answer(alloc, "ok", &["Join", "some", log])?,
-        None => calls::answer(alloc, "ok", &["Join", "none"])?,
-    };
+    let mut line = calls::answer(alloc, "ok", &["Join"])?;
+    push_option(&mut line, log)?;
     for file in files {
         calls::push(&mut line, file)?;
     }
+    Ok(line)
+}
+
+/// Returns a request for `sketch`, as a line.
+fn sketched(
+    alloc: Global,
+    cells: Option<&str>,
+    salt: Option<&str>,
+    file: &str,
+) -> Result<String, Memory> {
+    let mut line = calls::answer(alloc, "ok", &["Sketch"])?;
+    push_option(&mut line, cells)?;
+    push_option(&mut line, salt)?;
+    calls::push(&mut line, file)?;
     Ok(line)
 }
 
@@ -43,6 +66,12 @@ fn asked(alloc: Global, request: &Request<'_>) -> Result<String, Memory> {
             &["MissingBy", from, inventory],
         ),
         Request::Inventory { file } => calls::answer(alloc, "ok", &["Inventory", file]),
+        Request::Sketch { cells, salt, file } => sketched(alloc, *cells, *salt, file),
+        Request::MissingBySketch { from, sketch } => calls::answer(
+            alloc,
+            "ok",
+            &["MissingBySketch", from, sketch],
+        ),
         Request::Rule {
             letter,
             key,
