@@ -26,10 +26,7 @@ fn of_document(
 ) -> Result<String, Memory> {
     let mut line = taken(alloc, name, &mut ours, document)?;
     if is_refused(line.as_str()) {
-        push_answer(
-            &mut line,
-            taken(alloc, name, &mut ours, document)?.as_str(),
-        )?;
+        push_answer(&mut line, taken(alloc, name, &mut ours, document)?.as_str())?;
     }
     Ok(line)
 }

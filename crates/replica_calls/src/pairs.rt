@@ -27,12 +27,7 @@ fn missing_by(alloc: Global, ours: &Replica, word: &str) -> Result<String, Memor
 }
 
 /// Answers a call about a replica, and the replica or the inventory of the word.
-fn told_with(
-    alloc: Global,
-    name: &str,
-    ours: &mut Replica,
-    word: &str,
-) -> Result<String, Memory> {
+fn told_with(alloc: Global, name: &str, ours: &mut Replica, word: &str) -> Result<String, Memory> {
     match name {
         "missing_by" => missing_by(alloc, ours, word),
         _ => told_of_both(alloc, name, ours, &replica(alloc, word)?),

@@ -21,12 +21,7 @@ pub(crate) fn answered(alloc: Global, name: &str, call: &Call) -> Result<String,
     Ok(line)
 }
 
-fn told_of(
-    alloc: Global,
-    name: &str,
-    ours: &mut Replica,
-    word: &str,
-) -> Result<String, Memory> {
+fn told_of(alloc: Global, name: &str, ours: &mut Replica, word: &str) -> Result<String, Memory> {
     match name {
         "atom_count" => told::number(alloc, ours.atom_count()),
         "conflict_count" => told::number(alloc, ours.conflict_count()),
@@ -39,12 +34,7 @@ fn told_of(
 }
 
 /// Answers a call about a replica and the atom of the line.
-fn told_with(
-    alloc: Global,
-    name: &str,
-    ours: &mut Replica,
-    line: &str,
-) -> Result<String, Memory> {
+fn told_with(alloc: Global, name: &str, ours: &mut Replica, line: &str) -> Result<String, Memory> {
     match atom(alloc, line)? {
         Some(atom) => told_of_atom(alloc, name, ours, &atom),
         None => answer(alloc, "no atom", &[]),
