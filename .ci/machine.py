@@ -44,6 +44,13 @@ def built(program):
     return os.path.join(CRATES, program, "out", program)
 
 
+def compiled(folder, name):
+    """A library that is preloaded, compiled from NAME.c into the folder."""
+    library = os.path.join(folder, name + ".so")
+    subprocess.run(["gcc", "-O1", "-Wall", "-shared", "-fPIC", "-o", library, os.path.join(HERE, name + ".c")], check=True)
+    return library
+
+
 def ended(binary, words, **options):
     """What the binary answers."""
     try:
@@ -63,9 +70,7 @@ class Machine:
 
     def __init__(self, folder):
         self.folder = folder
-        self.library = os.path.join(folder, "machine.so")
-        source = os.path.join(HERE, "machine.c")
-        subprocess.run(["gcc", "-O1", "-Wall", "-shared", "-fPIC", "-o", self.library, source], check=True)
+        self.library = compiled(folder, "machine")
 
     def run(self, binary, words, fault=None, text=b""):
         """What the binary answers, and its calls: None where it didn't come to its end."""

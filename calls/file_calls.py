@@ -387,6 +387,9 @@ for form, text in ((1, NOTHING), (2, NOTHING_2)):
 for text in (X, X_2):
     for size in (1, 7, len(text)):
         ROWS.append(("feed", [LIMIT, "ended", *pieces(text, size)], ["fed", *pendings(text, size), *read([C1, C2])], LIMITS))
+for atoms, nodes in SETS[5:]:
+    for text in (replica(*atoms), tree(*nodes)):
+        ROWS.append(("feed", [LIMIT, "ended", text], ["fed", 0, *read(atoms)], LIMITS))
 for text, length in [(X, 25), (X, 211), (X, 467), (X_2, 25), (X_2, 31), (X_2, 40), (X_2, 489)]:
     front = text[:length]
     ROWS.append(("feed", [LIMIT, "ended", front], ["fed", *pendings(front, length), *refused("Truncated")], LIMITS))

@@ -195,6 +195,10 @@ for before, text, after in [
         (held(), document(V1, event("eventTime", '"2024-03-01T13:00:00+01:00"')),
          held(C1, line("E", "e1", B1.replace("12:00:00Z", "13:00:00+01:00")))),
         (held(NORTH), document(more=',"name":"south"'), held(NORTH, SOUTH)),
+        (held(SOUTH), ENTITIES, held(G1, M1, NORTH, SOUTH, R1)),
+        # A tag of a body that is held, and another event; two chains of it.
+        (held(C1), document(event("tags", '["x"]'), V2), held(C1, LT, C2)),
+        (held(C1), document(event("reporterchains", "[[%s],[%s,%s]]" % (S1, S1, S2))), held(C1, K1, L12)),
         # An event by itself names no log, and is taken by any.
         (held(log="h"), V1, held(C1, log="h"))]:
     row("Atoms", "document.take", [before, text], "ok", after)
@@ -273,11 +277,16 @@ row(REPLICA, "body.longest_chain", [held(C1, line("E", "e1", B1, "C", S1, S3), L
 
 # ---- Replicas that are joined.
 FIVE = held(C1, K1, L12)
+# Chains of 256 steps, the most, which differ in their last step.
+SHORT, LAST = '{"reporterId":"s","role":"relay"}', '{"reporterId":"t","role":"relay"}'
+DEEP, OTHER = (line("E", "e1", B1, "C", *[SHORT] * 255, last) for last in (SHORT, LAST))
 for call in ["pair.join", "pair.join_twice"]:
     for ours, theirs, union in [
             (held(C1), held(C1), held(C1)), (held(C1, K1), held(C1, L12), FIVE), (held(C1, L12), held(C1, K1), FIVE), (FIVE, FIVE, FIVE),
             (FIVE, held(), FIVE), (held(), FIVE, FIVE), (held(C1, K1), held(CF, KF), CONFLICT), (held(CF, KF), held(C1, K1), CONFLICT),
-            (held(C1), held(C1, C2), held(C1, C2)), (held(C1, UB), held(CF), held(CF, C1, UB))]:
+            (held(C1), held(C1, C2), held(C1, C2)), (held(C1, UB), held(CF), held(CF, C1, UB)), (held(C1), FIVE, FIVE),
+            (held(C1), held(C1, LT, C2), held(C1, LT, C2)), (held(SOUTH), held(NORTH, R1), held(NORTH, SOUTH, R1)),
+            (held(C1, DEEP), held(C1, OTHER), held(C1, DEEP, OTHER))]:
         row("What the commands write", call, [ours, theirs], "ok", union)
     row(REPLICA, call, [held(C1), held(C2, log="h")], "err", "OtherLog", held(C1))
 for ours, theirs, same in [

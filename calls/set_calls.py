@@ -100,6 +100,7 @@ PAIRS = [
     ("map of maps", "o/k/a", "o/l/a o/k/b", "o/k/a o/k/b o/l/a", "o/k/a"),
     ("map of trees", "body/s body/s/t", "body/s other/s", "body/s body/s/t other/s", "body/s/t"),
     ("tree", "a a/b a/c", "a", "a a/b a/c", "a/b a/c"),
+    ("tree", "a", "a a/b a/c", "a a/b a/c", ""),
     ("tree", "a a/b", "a/b", "a a/b", "a"),
     ("tree", "a/b", "a a/b", "a a/b", ""),
     ("tree", "a/b/c", "a/b/d a/e", "a/b/c a/b/d a/e", "a/b/c"),
@@ -170,7 +171,7 @@ for kind, written, key, found in [
 for kind, written, key, added, after in [
         ("texts", "", "k", "a", "k/a"), ("texts", "k/a", "k", "b", "k/a k/b"), ("texts", "k/a", "l", "c", "k/a l/c"),
         ("texts", "k/a", "k", "a", "k/a"), ("tree", "", "body", "s/t s", "body/s body/s/t"),
-        ("map of texts", "o/k/a", "p", "k/a", "o/k/a p/k/a"),
+        ("map of texts", "o/k/a", "p", "k/a", "o/k/a p/k/a"), ("map of texts", "o/k/a", "o", "k/a k/b l/c", "o/k/a o/k/b o/l/c"),
         # An empty value is not held.
         ("texts", "", "z", "", ""), ("texts", "k/a", "z", "", "k/a"), ("texts", "k/a", "k", "", "k/a")]:
     row("map.join_at", [kind, lists(written), key, lists(added)], "ok", lists(after))

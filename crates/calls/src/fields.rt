@@ -18,6 +18,17 @@ pub fn push(line: &mut String, field: &str) -> Result<(), Memory> {
     push_escaped(line, field)
 }
 
+/// Adds an answer after another one.
+pub fn push_answer(line: &mut String, answer: &str) -> Result<(), Memory> {
+    line.push('\t')?;
+    line.push_str(answer)
+}
+
+/// Whether the answer is that memory was refused.
+pub fn is_refused(line: &str) -> bool {
+    line.starts_with("err\tMemory")
+}
+
 /// Adds bytes.
 pub fn push_bytes(line: &mut String, field: &[u8]) -> Result<(), Memory> {
     line.push('\t')?;

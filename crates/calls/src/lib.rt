@@ -8,4 +8,6 @@ mod call;
 mod fields;
 
 pub use crate::call::Call;
-pub use crate::fields::{answer, push, push_bytes, push_number, push_truth, refused};
+pub use crate::fields::{
+    answer, is_refused, push, push_answer, push_bytes, push_number, push_truth, refused,
+};

@@ -5,7 +5,7 @@ use crate::told;
 use cadf_event::Document;
 use cadf_json::Memory;
 use cadf_replica::Replica;
-use calls::{Call, answer, refused};
+use calls::{Call, answer, is_refused, push_answer, refused};
 use std::alloc::Global;
 
 /// Answers the call of that name.
@@ -17,41 +17,58 @@ pub(crate) fn answered(alloc: Global, name: &str, call: &Call) -> Result<String,
     }
 }
 
+/// Answers a call about the document; if memory was refused, also what it answers when it is made again.
 fn of_document(
     alloc: Global,
     name: &str,
     mut ours: Replica,
     document: &Document,
 ) -> Result<String, Memory> {
-    match name {
-        "take" => {
-            let outcome = ours.take_document(document);
-            told::changed(alloc, outcome, &ours)
-        }
-        "take_sightings" => sightings(alloc, ours, document),
-        "take_entities" => entities(alloc, ours, document),
-        "take_properties" => properties(alloc, ours, document),
-        _ => answer(alloc, "no such call", &[]),
+    let mut line = taken(alloc, name, &mut ours, document)?;
+    if is_refused(line.as_str()) {
+        push_answer(&mut line, taken(alloc, name, &mut ours, document)?.as_str())?;
     }
+    Ok(line)
 }
 
-fn sightings(alloc: Global, mut ours: Replica, document: &Document) -> Result<String, Memory> {
+fn taken(
+    alloc: Global,
+    name: &str,
+    ours: &mut Replica,
+    document: &Document,
+) -> Result<String, Memory> {
+    let outcome = match name {
+        "take" => return all(alloc, ours, document),
+        "take_sightings" => sightings(ours, document),
+        "take_entities" => entities(ours, document),
+        "take_properties" => properties(ours, document),
+        _ => return answer(alloc, "no such call", &[]),
+    };
+    told::grown(alloc, outcome, ours)
+}
+
+fn all(alloc: Global, ours: &mut Replica, document: &Document) -> Result<String, Memory> {
+    let outcome = ours.take_document(document);
+    told::changed(alloc, outcome, ours)
+}
+
+fn sightings(ours: &mut Replica, document: &Document) -> Result<(), Memory> {
     for sighting in document.sightings() {
         ours.take(sighting)?;
     }
-    told::replica(alloc, &ours)
+    Ok(())
 }
 
-fn entities(alloc: Global, mut ours: Replica, document: &Document) -> Result<String, Memory> {
+fn entities(ours: &mut Replica, document: &Document) -> Result<(), Memory> {
     for entity in document.entities() {
         ours.take_entity(entity)?;
     }
-    told::replica(alloc, &ours)
+    Ok(())
 }
 
-fn properties(alloc: Global, mut ours: Replica, document: &Document) -> Result<String, Memory> {
+fn properties(ours: &mut Replica, document: &Document) -> Result<(), Memory> {
     for property in document.properties() {
         ours.take_property(property)?;
     }
-    told::replica(alloc, &ours)
+    Ok(())
 }

@@ -4,7 +4,7 @@ use crate::spelled::{digest, inventory, of_inventory};
 use crate::told;
 use cadf_json::Memory;
 use cadf_replica::Inventory;
-use calls::{Call, answer};
+use calls::{Call, answer, is_refused, push_answer};
 use std::alloc::Global;
 
 /// Answers the call of that name.
@@ -20,10 +20,21 @@ pub(crate) fn answered(alloc: Global, name: &str, call: &Call) -> Result<String,
     }
 }
 
+/// Answers what the inventory is with the digest; if memory was refused, also what it is when it is put again.
 fn put(alloc: Global, mut ours: Inventory, digest: &[u8; 32]) -> Result<String, Memory> {
-    ours.put(digest)?;
-    let lines = of_inventory(alloc, &ours)?;
-    answer(alloc, "ok", &[lines.as_str()])
+    let mut line = noted(alloc, &mut ours, digest)?;
+    if is_refused(line.as_str()) {
+        push_answer(&mut line, noted(alloc, &mut ours, digest)?.as_str())?;
+    }
+    Ok(line)
+}
+
+fn noted(alloc: Global, ours: &mut Inventory, digest: &[u8; 32]) -> Result<String, Memory> {
+    let word = match ours.put(digest) {
+        Ok(()) => "ok",
+        Err(_) => "err\tMemory",
+    };
+    answer(alloc, word, &[of_inventory(alloc, ours)?.as_str()])
 }
 
 fn found(alloc: Global, digest: Option<[u8; 32]>) -> Result<String, Memory> {

@@ -4,16 +4,20 @@ use crate::spelled::{inventory, replica};
 use crate::told;
 use cadf_json::Memory;
 use cadf_replica::Replica;
-use calls::{Call, answer};
+use calls::{Call, answer, is_refused, push_answer};
 use std::alloc::Global;
 
-/// Answers the call of that name.
+/// Answers the call of that name; if memory was refused, also what it answers when it is made again.
 pub(crate) fn answered(alloc: Global, name: &str, call: &Call) -> Result<String, Memory> {
-    let ours = replica(alloc, call.text(1))?;
-    match name {
-        "missing_by" => missing_by(alloc, &ours, call.text(2)),
-        _ => told_with(alloc, name, ours, call.text(2)),
+    let mut ours = replica(alloc, call.text(1))?;
+    let mut line = told_with(alloc, name, &mut ours, call.text(2))?;
+    if is_refused(line.as_str()) {
+        push_answer(
+            &mut line,
+            told_with(alloc, name, &mut ours, call.text(2))?.as_str(),
+        )?;
     }
+    Ok(line)
 }
 
 /// Answers the part that the inventory of the word lacks.
@@ -22,16 +26,18 @@ fn missing_by(alloc: Global, ours: &Replica, word: &str) -> Result<String, Memor
     told::part(alloc, ours.missing_by(&theirs))
 }
 
-/// Answers a call about a replica and that of the word.
-fn told_with(alloc: Global, name: &str, ours: Replica, word: &str) -> Result<String, Memory> {
-    let theirs = replica(alloc, word)?;
-    told_of_both(alloc, name, ours, &theirs)
+/// Answers a call about a replica, and the replica or the inventory of the word.
+fn told_with(alloc: Global, name: &str, ours: &mut Replica, word: &str) -> Result<String, Memory> {
+    match name {
+        "missing_by" => missing_by(alloc, ours, word),
+        _ => told_of_both(alloc, name, ours, &replica(alloc, word)?),
+    }
 }
 
 fn told_of_both(
     alloc: Global,
     name: &str,
-    ours: Replica,
+    ours: &mut Replica,
     theirs: &Replica,
 ) -> Result<String, Memory> {
     match name {
@@ -43,12 +49,12 @@ fn told_of_both(
     }
 }
 
-fn joined(alloc: Global, mut ours: Replica, theirs: &Replica) -> Result<String, Memory> {
+fn joined(alloc: Global, ours: &mut Replica, theirs: &Replica) -> Result<String, Memory> {
     let outcome = ours.join(theirs);
-    told::changed(alloc, outcome, &ours)
+    told::changed(alloc, outcome, ours)
 }
 
-fn joined_twice(alloc: Global, mut ours: Replica, theirs: &Replica) -> Result<String, Memory> {
+fn joined_twice(alloc: Global, ours: &mut Replica, theirs: &Replica) -> Result<String, Memory> {
     let outcome = ours.join_twice(theirs);
-    told::changed(alloc, outcome, &ours)
+    told::changed(alloc, outcome, ours)
 }

@@ -5,25 +5,36 @@ use crate::spelled::{atom, of_inventory, replica};
 use crate::told;
 use cadf_json::Memory;
 use cadf_replica::{Atom, Replica};
-use calls::{Call, answer};
+use calls::{Call, answer, is_refused, push_answer};
 use std::alloc::Global;
 
-/// Answers the call of that name.
+/// Answers the call of that name; if memory was refused, also what it answers when it is made again.
 pub(crate) fn answered(alloc: Global, name: &str, call: &Call) -> Result<String, Memory> {
-    let ours = replica(alloc, call.text(1))?;
+    let mut ours = replica(alloc, call.text(1))?;
+    let mut line = told_of(alloc, name, &mut ours, call.text(2))?;
+    if is_refused(line.as_str()) {
+        push_answer(
+            &mut line,
+            told_of(alloc, name, &mut ours, call.text(2))?.as_str(),
+        )?;
+    }
+    Ok(line)
+}
+
+fn told_of(alloc: Global, name: &str, ours: &mut Replica, word: &str) -> Result<String, Memory> {
     match name {
         "atom_count" => told::number(alloc, ours.atom_count()),
         "conflict_count" => told::number(alloc, ours.conflict_count()),
         "copy" => told::made(alloc, ours.copy()),
-        "walk" => told::found_lists(alloc, lists(alloc, &ours)),
-        "inventory" => noted(alloc, &ours),
+        "walk" => told::found_lists(alloc, lists(alloc, ours)),
+        "inventory" => noted(alloc, ours),
         "least_atom" => found(alloc, ours.atom_after(None)),
-        _ => told_with(alloc, name, ours, call.text(2)),
+        _ => told_with(alloc, name, ours, word),
     }
 }
 
 /// Answers a call about a replica and the atom of the line.
-fn told_with(alloc: Global, name: &str, ours: Replica, line: &str) -> Result<String, Memory> {
+fn told_with(alloc: Global, name: &str, ours: &mut Replica, line: &str) -> Result<String, Memory> {
     match atom(alloc, line)? {
         Some(atom) => told_of_atom(alloc, name, ours, &atom),
         None => answer(alloc, "no atom", &[]),
@@ -31,7 +42,12 @@ fn told_with(alloc: Global, name: &str, ours: Replica, line: &str) -> Result<Str
 }
 
 /// Answers a call about a replica and an atom.
-fn told_of_atom(alloc: Global, name: &str, ours: Replica, atom: &Atom) -> Result<String, Memory> {
+fn told_of_atom(
+    alloc: Global,
+    name: &str,
+    ours: &mut Replica,
+    atom: &Atom,
+) -> Result<String, Memory> {
     match name {
         "holds" => told::truth(alloc, ours.holds(atom)),
         "atom_after" => found(alloc, ours.atom_after(Some(atom))),
@@ -57,21 +73,21 @@ fn noted(alloc: Global, ours: &Replica) -> Result<String, Memory> {
     answer(alloc, "ok", &[lines.as_str()])
 }
 
-fn put(alloc: Global, mut ours: Replica, atom: &Atom) -> Result<String, Memory> {
+fn put(alloc: Global, ours: &mut Replica, atom: &Atom) -> Result<String, Memory> {
     let outcome = ours.put(atom);
-    told::changed(alloc, outcome, &ours)
+    told::changed(alloc, outcome, ours)
 }
 
-fn put_parts(alloc: Global, mut ours: Replica, atom: &Atom) -> Result<String, Memory> {
+fn put_parts(alloc: Global, ours: &mut Replica, atom: &Atom) -> Result<String, Memory> {
     let outcome = ours.put_parts(atom.parts());
-    told::changed(alloc, outcome, &ours)
+    told::changed(alloc, outcome, ours)
 }
 
 /// Tells whether the atom was put last, or why not, and what the replica then is.
-fn push_if_last(alloc: Global, mut ours: Replica, atom: &Atom) -> Result<String, Memory> {
+fn push_if_last(alloc: Global, ours: &mut Replica, atom: &Atom) -> Result<String, Memory> {
     match ours.push_if_last(atom.parts()) {
-        Ok(true) => told::replica(alloc, &ours),
+        Ok(true) => told::replica(alloc, ours),
         Ok(false) => answer(alloc, "not above", &[]),
-        Err(fault) => told::kept(alloc, fault, &ours),
+        Err(fault) => told::kept(alloc, fault, ours),
     }
 }

@@ -4,7 +4,7 @@ use crate::spelled::{letter_at, replica};
 use crate::told;
 use cadf_json::Memory;
 use cadf_replica::{Replica, Ruling, RulingFault};
-use calls::{Call, answer, push, refused};
+use calls::{Call, answer, is_refused, push, push_answer, refused};
 use std::alloc::Global;
 
 /// Answers the call of that name.
@@ -59,9 +59,18 @@ fn taken(
     }
 }
 
+/// Answers what the replica is with the ruling; if memory was refused, also what it is when it takes it again.
 fn with_ruling(alloc: Global, mut ours: Replica, ruling: &Ruling) -> Result<String, Memory> {
-    ours.take_ruling(ruling)?;
-    told::replica(alloc, &ours)
+    let mut line = took(alloc, &mut ours, ruling)?;
+    if is_refused(line.as_str()) {
+        push_answer(&mut line, took(alloc, &mut ours, ruling)?.as_str())?;
+    }
+    Ok(line)
+}
+
+fn took(alloc: Global, ours: &mut Replica, ruling: &Ruling) -> Result<String, Memory> {
+    let outcome = ours.take_ruling(ruling);
+    told::grown(alloc, outcome, ours)
 }
 
 /// Answers the rulings of the replica, each its letter, key and digest, as fields.

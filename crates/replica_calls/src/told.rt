@@ -94,6 +94,18 @@ pub(crate) fn changed(
     }
 }
 
+/// Answers how a change came out that only memory can refuse, and what the replica then is.
+pub(crate) fn grown(
+    alloc: Global,
+    outcome: Result<(), Memory>,
+    after: &Replica,
+) -> Result<String, Memory> {
+    match outcome {
+        Ok(()) => replica(alloc, after),
+        Err(_) => kept(alloc, ReplicaFault::Memory, after),
+    }
+}
+
 /// Answers why it was refused, and what the replica still is.
 pub(crate) fn kept(alloc: Global, fault: ReplicaFault, after: &Replica) -> Result<String, Memory> {
     let mut line = refused(alloc, &fault)?;

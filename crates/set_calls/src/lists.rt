@@ -5,12 +5,10 @@ use cadf_json::{Json, Memory, View, quoted};
 use calls::{Call, answer};
 use std::alloc::Global;
 
-/// Reads the JSON value of the word, or that of an empty list if the word has none.
+/// Reads the JSON value of the word, or that of an empty list if it is missing. A word that is none is answered as `Memory`.
 fn json(alloc: Global, word: &str) -> Result<Json, Memory> {
-    if let Ok(json) = Json::read(alloc, word.as_bytes()) {
-        return Ok(json);
-    }
-    match Json::read(alloc, b"[]") {
+    let word = if word.is_empty() { "[]" } else { word };
+    match Json::read(alloc, word.as_bytes()) {
         Ok(json) => Ok(json),
         Err(_) => Err(Memory),
     }

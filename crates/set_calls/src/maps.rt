@@ -3,7 +3,7 @@
 use crate::kinds::{Made, value_of};
 use crate::told;
 use cadf_join::{ChainTree, JoinMap, Memory, TextSet};
-use calls::{Call, answer};
+use calls::{Call, answer, is_refused, push_answer};
 use std::alloc::Global;
 
 /// Answers the call of that name.
@@ -16,11 +16,28 @@ pub(crate) fn answered(alloc: Global, name: &str, call: &Call) -> Result<String,
     }
 }
 
+/// Answers the call; if memory was refused, also what it answers when it is made again.
 fn told_of<V: Made>(alloc: Global, name: &str, call: &Call) -> Result<String, Memory> {
-    let ours: JoinMap<V> = value_of(alloc, call.text(2))?;
+    let mut ours: JoinMap<V> = value_of(alloc, call.text(2))?;
+    let mut line = told_of_map(alloc, name, &mut ours, call)?;
+    if is_refused(line.as_str()) {
+        push_answer(
+            &mut line,
+            told_of_map(alloc, name, &mut ours, call)?.as_str(),
+        )?;
+    }
+    Ok(line)
+}
+
+fn told_of_map<V: Made>(
+    alloc: Global,
+    name: &str,
+    ours: &mut JoinMap<V>,
+    call: &Call,
+) -> Result<String, Memory> {
     match name {
         "get" => got(alloc, ours.get(call.text(3))),
-        "join_at" => joined(alloc, ours, call.text(3), &value_of(alloc, call.text(4))?),
+        "join_at" => joined(alloc, ours, call.text(3), call.text(4)),
         "least" => told::text(alloc, ours.after(None)),
         "after" => told::text(alloc, ours.after(Some(call.text(3)))),
         _ => answer(alloc, "no such call", &[]),
@@ -35,12 +52,14 @@ fn got<V: Made>(alloc: Global, value: Option<&V>) -> Result<String, Memory> {
     }
 }
 
+/// Joins what the word spells into the value at the key.
 fn joined<V: Made>(
     alloc: Global,
-    mut ours: JoinMap<V>,
+    ours: &mut JoinMap<V>,
     key: &str,
-    value: &V,
+    word: &str,
 ) -> Result<String, Memory> {
-    ours.join_at(key, value)?;
-    told::held(alloc, &ours)
+    let value: V = value_of(alloc, word)?;
+    let outcome = ours.join_at(key, &value);
+    told::left(alloc, outcome, ours)
 }

@@ -7,22 +7,12 @@ use crate::lists::{lent, list, lists};
 use crate::told;
 use cadf_join::Memory;
 use cadf_pathset::{Carrier, PathSet, PathSetBuilder};
-use calls::{Call, answer};
+use calls::{Call, answer, is_refused, push_answer};
 use std::alloc::Global;
 
 /// Answers the call of that name.
 pub(crate) fn answered(alloc: Global, name: &str, call: &Call) -> Result<String, Memory> {
     match name {
-        "union_with" => united(
-            alloc,
-            value_of(alloc, call.text(1))?,
-            &value_of(alloc, call.text(2))?,
-        ),
-        "take" => taken(
-            alloc,
-            value_of(alloc, call.text(1))?,
-            value_of(alloc, call.text(2))?,
-        ),
         "missing_with_carriers" => missing(
             alloc,
             &value_of(alloc, call.text(1))?,
@@ -30,7 +20,25 @@ pub(crate) fn answered(alloc: Global, name: &str, call: &Call) -> Result<String,
         ),
         "gathered" => gathered(alloc, call.text(1)),
         "walk" => shown(alloc, call),
-        _ => told_of_list(alloc, name, call),
+        _ => told_of_set(alloc, name, call),
+    }
+}
+
+/// Answers a call about a set; if memory was refused, also what it answers when it is made again.
+fn told_of_set(alloc: Global, name: &str, call: &Call) -> Result<String, Memory> {
+    let mut ours: PathSet = value_of(alloc, call.text(1))?;
+    let mut line = told_of(alloc, name, &mut ours, call)?;
+    if is_refused(line.as_str()) {
+        push_answer(&mut line, told_of(alloc, name, &mut ours, call)?.as_str())?;
+    }
+    Ok(line)
+}
+
+fn told_of(alloc: Global, name: &str, ours: &mut PathSet, call: &Call) -> Result<String, Memory> {
+    match name {
+        "union_with" => united(alloc, ours, call.text(2)),
+        "take" => taken(alloc, ours, call.text(2)),
+        _ => told_of_list(alloc, name, ours, call),
     }
 }
 
@@ -43,8 +51,12 @@ fn shown(alloc: Global, call: &Call) -> Result<String, Memory> {
 }
 
 /// Answers a call about a set and a list.
-fn told_of_list(alloc: Global, name: &str, call: &Call) -> Result<String, Memory> {
-    let ours: PathSet = value_of(alloc, call.text(1))?;
+fn told_of_list(
+    alloc: Global,
+    name: &str,
+    ours: &mut PathSet,
+    call: &Call,
+) -> Result<String, Memory> {
     let given = list(alloc, call.text(2))?;
     match name {
         "holds" => told::truth(alloc, ours.holds(&given)),
@@ -59,7 +71,7 @@ fn told_of_list(alloc: Global, name: &str, call: &Call) -> Result<String, Memory
 fn told_of_lent(
     alloc: Global,
     name: &str,
-    ours: PathSet,
+    ours: &mut PathSet,
     given: &[&str],
     text: &str,
 ) -> Result<String, Memory> {
@@ -78,28 +90,29 @@ fn told_of_lent(
     }
 }
 
-fn inserted(alloc: Global, mut ours: PathSet, list: &[&str]) -> Result<String, Memory> {
-    ours.insert(list)?;
-    told::held(alloc, &ours)
+fn inserted(alloc: Global, ours: &mut PathSet, list: &[&str]) -> Result<String, Memory> {
+    let outcome = ours.insert(list);
+    told::left(alloc, outcome, ours)
 }
 
 /// Pushes the list; one that is not above all that are there is no word of this call.
-fn pushed(alloc: Global, mut ours: PathSet, list: &[&str]) -> Result<String, Memory> {
+fn pushed(alloc: Global, ours: &mut PathSet, list: &[&str]) -> Result<String, Memory> {
     if !ours.is_above(list) {
         return answer(alloc, "not above", &[]);
     }
-    ours.push(list)?;
-    told::held(alloc, &ours)
+    let outcome = ours.push(list);
+    told::left(alloc, outcome, ours)
 }
 
-fn united(alloc: Global, mut ours: PathSet, theirs: &PathSet) -> Result<String, Memory> {
-    ours.union_with(theirs)?;
-    told::held(alloc, &ours)
+fn united(alloc: Global, ours: &mut PathSet, word: &str) -> Result<String, Memory> {
+    let theirs: PathSet = value_of(alloc, word)?;
+    let outcome = ours.union_with(&theirs);
+    told::left(alloc, outcome, ours)
 }
 
-fn taken(alloc: Global, mut ours: PathSet, theirs: PathSet) -> Result<String, Memory> {
-    ours.take(theirs)?;
-    told::held(alloc, &ours)
+fn taken(alloc: Global, ours: &mut PathSet, word: &str) -> Result<String, Memory> {
+    let outcome = ours.take(value_of(alloc, word)?);
+    told::left(alloc, outcome, ours)
 }
 
 /// Lists that all have the empty list as their carrier.

@@ -3,22 +3,28 @@
 use crate::kinds::value_of;
 use crate::told;
 use cadf_join::{Memory, TextSet};
-use calls::{Call, answer};
+use calls::{Call, answer, is_refused, push_answer};
 use std::alloc::Global;
 
-/// Answers the call of that name.
+/// Answers the call of that name; if memory was refused, also what it answers when it is made again.
 pub(crate) fn answered(alloc: Global, name: &str, call: &Call) -> Result<String, Memory> {
-    let ours: TextSet = value_of(alloc, call.text(1))?;
+    let mut ours: TextSet = value_of(alloc, call.text(1))?;
+    let mut line = told_of(alloc, name, &mut ours, call)?;
+    if is_refused(line.as_str()) {
+        push_answer(&mut line, told_of(alloc, name, &mut ours, call)?.as_str())?;
+    }
+    Ok(line)
+}
+
+fn told_of(alloc: Global, name: &str, ours: &mut TextSet, call: &Call) -> Result<String, Memory> {
     match name {
-        "insert" => inserted(alloc, ours, call.text(2)),
+        "insert" => {
+            let outcome = ours.insert(call.text(2));
+            told::added(alloc, outcome, ours)
+        }
         "contains" => told::truth(alloc, ours.contains(call.text(2))),
         "least" => told::text(alloc, ours.after(None)),
         "after" => told::text(alloc, ours.after(Some(call.text(2)))),
         _ => answer(alloc, "no such call", &[]),
     }
-}
-
-fn inserted(alloc: Global, mut ours: TextSet, text: &str) -> Result<String, Memory> {
-    let new = ours.insert(text)?;
-    told::added(alloc, new, &ours)
 }

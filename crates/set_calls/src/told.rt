@@ -2,7 +2,7 @@
 
 use crate::lists::{all_spelled, spelled};
 use cadf_join::{Join, Memory};
-use calls::{answer, push, push_truth};
+use calls::{answer, push};
 use std::alloc::Global;
 
 /// Answers `true` or `false`.
@@ -57,13 +57,32 @@ pub(crate) fn contents<J: Join>(alloc: Global, value: &J) -> Result<String, Memo
 
 /// Answers `ok` with what the value holds.
 pub(crate) fn held<J: Join>(alloc: Global, value: &J) -> Result<String, Memory> {
-    answer(alloc, "ok", &[contents(alloc, value)?.as_str()])
+    left(alloc, Ok(()), value)
 }
 
-/// Answers `ok`, whether what was added is new, and what the value then holds.
-pub(crate) fn added<J: Join>(alloc: Global, new: bool, value: &J) -> Result<String, Memory> {
-    let mut line = answer(alloc, "ok", &[])?;
-    push_truth(&mut line, new)?;
-    push(&mut line, contents(alloc, value)?.as_str())?;
-    Ok(line)
+/// Answers how a change came out, and what the value then holds.
+pub(crate) fn left<J: Join>(
+    alloc: Global,
+    outcome: Result<(), Memory>,
+    value: &J,
+) -> Result<String, Memory> {
+    let word = match outcome {
+        Ok(()) => "ok",
+        Err(_) => "err\tMemory",
+    };
+    answer(alloc, word, &[contents(alloc, value)?.as_str()])
+}
+
+/// Answers how an insert came out: whether what was added is new; and what the value then holds.
+pub(crate) fn added<J: Join>(
+    alloc: Global,
+    outcome: Result<bool, Memory>,
+    value: &J,
+) -> Result<String, Memory> {
+    let word = match outcome {
+        Ok(true) => "ok\ttrue",
+        Ok(false) => "ok\tfalse",
+        Err(_) => "err\tMemory",
+    };
+    answer(alloc, word, &[contents(alloc, value)?.as_str()])
 }

@@ -5,7 +5,7 @@ use crate::lists::list;
 use crate::told;
 use cadf_join::{ChainTree, JoinMap, Memory, TextSet};
 use cadf_pathset::PathSet;
-use calls::{Call, answer};
+use calls::{Call, answer, is_refused, push_answer};
 use std::alloc::Global;
 
 /// Answers the call of that name.
@@ -21,29 +21,51 @@ pub(crate) fn answered(alloc: Global, name: &str, call: &Call) -> Result<String,
     }
 }
 
+/// Answers the call; if memory was refused, also what it answers when it is made again.
 fn told_of<J: Made>(alloc: Global, name: &str, call: &Call) -> Result<String, Memory> {
-    let ours: J = value_of(alloc, call.text(2))?;
+    let mut ours: J = value_of(alloc, call.text(2))?;
+    let mut line = told_of_value(alloc, name, &mut ours, call.text(3))?;
+    if is_refused(line.as_str()) {
+        push_answer(
+            &mut line,
+            told_of_value(alloc, name, &mut ours, call.text(3))?.as_str(),
+        )?;
+    }
+    Ok(line)
+}
+
+fn told_of_value<J: Made>(
+    alloc: Global,
+    name: &str,
+    ours: &mut J,
+    word: &str,
+) -> Result<String, Memory> {
     match name {
         "copy" => told::held(alloc, &ours.copy()?),
         "is_empty" => told::truth(alloc, ours.is_empty()),
         "list_count" => told::number(alloc, ours.list_count()),
-        "append_lists" => appended(alloc, &ours, call.text(3)),
-        _ => told_of_both(alloc, name, ours, &value_of(alloc, call.text(3))?),
+        "append_lists" => appended(alloc, ours, word),
+        _ => told_of_both(alloc, name, ours, &value_of(alloc, word)?),
     }
 }
 
-fn told_of_both<J: Made>(alloc: Global, name: &str, ours: J, theirs: &J) -> Result<String, Memory> {
+fn told_of_both<J: Made>(
+    alloc: Global,
+    name: &str,
+    ours: &mut J,
+    theirs: &J,
+) -> Result<String, Memory> {
     match name {
         "join" => joined(alloc, ours, theirs),
-        "missing_from" => missing(alloc, &ours, theirs),
+        "missing_from" => missing(alloc, ours, theirs),
         "same" => told::truth(alloc, ours.same(theirs)),
         _ => answer(alloc, "no such call", &[]),
     }
 }
 
-fn joined<J: Made>(alloc: Global, mut ours: J, theirs: &J) -> Result<String, Memory> {
-    ours.join(theirs)?;
-    told::held(alloc, &ours)
+fn joined<J: Made>(alloc: Global, ours: &mut J, theirs: &J) -> Result<String, Memory> {
+    let outcome = ours.join(theirs);
+    told::left(alloc, outcome, ours)
 }
 
 /// Answers what the first has and the second lacks.
