@@ -12,6 +12,7 @@ pub(crate) fn answered(alloc: Global, name: &str, call: &Call) -> Result<String,
     let ours = replica(alloc, call.text(1))?;
     match name {
         "missing_by" => missing_by(alloc, &ours, call.text(2)),
+        "missing_by_digests" => missing_by_digests(alloc, &ours, call.text(2)),
         _ => told_with(alloc, name, ours, call.text(2)),
     }
 }
@@ -20,6 +21,13 @@ pub(crate) fn answered(alloc: Global, name: &str, call: &Call) -> Result<String,
 fn missing_by(alloc: Global, ours: &Replica, word: &str) -> Result<String, Memory> {
     let theirs = inventory(alloc, word)?;
     told::part(alloc, ours.missing_by(&theirs))
+}
+
+/// Answers the same by the digests of the replica's atoms.
+fn missing_by_digests(alloc: Global, ours: &Replica, word: &str) -> Result<String, Memory> {
+    let theirs = inventory(alloc, word)?;
+    let digests = ours.digests()?;
+    told::part(alloc, ours.missing_by_digests(digests.as_slice(), &theirs))
 }
 
 /// Answers a call about a replica and that of the word.

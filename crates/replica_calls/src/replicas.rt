@@ -4,8 +4,8 @@ use crate::kept::lists;
 use crate::spelled::{atom, of_inventory, replica};
 use crate::told;
 use cadf_json::Memory;
-use cadf_replica::{Atom, Replica};
-use calls::{Call, answer};
+use cadf_replica::{Atom, Inventory, Replica};
+use calls::{Call, answer, push};
 use std::alloc::Global;
 
 /// Answers the call of that name.
@@ -16,7 +16,9 @@ pub(crate) fn answered(alloc: Global, name: &str, call: &Call) -> Result<String,
         "conflict_count" => told::number(alloc, ours.conflict_count()),
         "copy" => told::made(alloc, ours.copy()),
         "walk" => told::found_lists(alloc, lists(alloc, &ours)),
-        "inventory" => noted(alloc, &ours),
+        "digests" => digests(alloc, &ours),
+        "inventory" => noted(alloc, &ours.inventory()?),
+        "inventory_of" => inventory_of(alloc, &ours),
         "least_atom" => found(alloc, ours.atom_after(None)),
         _ => told_with(alloc, name, ours, call.text(2)),
     }
@@ -50,10 +52,26 @@ fn found(alloc: Global, atom: Result<Option<Atom>, Memory>) -> Result<String, Me
     }
 }
 
-/// Answers the digests of the replica's atoms.
-fn noted(alloc: Global, ours: &Replica) -> Result<String, Memory> {
-    let inventory = ours.inventory()?;
-    let lines = of_inventory(alloc, &inventory)?;
+/// Answers the digits of each atom's digest, each a field.
+fn digests(alloc: Global, ours: &Replica) -> Result<String, Memory> {
+    let mut line = answer(alloc, "ok", &[])?;
+    for digest in ours.digests()? {
+        push(&mut line, hex::encode(alloc, digest)?.as_str())?;
+    }
+    Ok(line)
+}
+
+/// Answers the inventory that is made of the digests of the replica's atoms.
+fn inventory_of(alloc: Global, ours: &Replica) -> Result<String, Memory> {
+    let log = ours.log().copy(alloc)?;
+    let digests = ours.digests()?;
+    let made = Inventory::of(alloc, log, digests)?;
+    noted(alloc, &made)
+}
+
+/// Answers the inventory.
+fn noted(alloc: Global, inventory: &Inventory) -> Result<String, Memory> {
+    let lines = of_inventory(alloc, inventory)?;
     answer(alloc, "ok", &[lines.as_str()])
 }
 
