@@ -18,7 +18,9 @@ CALLS = {
     "replica.atom_count": ["Replica::atom_count"],
     "replica.conflict_count": ["Replica::conflict_count"],
     "replica.walk": ["Replica::walk"],
+    "replica.digests": ["Replica::digests"],
     "replica.inventory": ["Replica::inventory", "Inventory::log", "Inventory::digests"],
+    "replica.inventory_of": ["Inventory::of"],
     "replica.least_atom": ["Replica::atom_after"],
     "replica.atom_after": ["Replica::atom_after"],
     "replica.holds": ["Replica::holds"],
@@ -30,6 +32,7 @@ CALLS = {
     "pair.join_twice": ["Replica::join_twice"],
     "pair.missing": ["Replica::missing"],
     "pair.missing_by": ["Replica::missing_by"],
+    "pair.missing_by_digests": ["Replica::missing_by_digests"],
     "key.keys": ["Replica::keys"],
     "key.least_key": ["Replica::key_after"],
     "key.key_after": ["Replica::key_after"],
@@ -51,6 +54,7 @@ CALLS = {
     "ruling.rulings": ["Replica::rulings", "Ruling::kind"],
     "inventory.has": ["Inventory::has"],
     "inventory.put": ["Inventory::new", "Inventory::put"],
+    "inventory.remove": ["Inventory::remove"],
     "inventory.least_digest": ["Inventory::digest_after"],
     "inventory.digest_after": ["Inventory::digest_after"],
     "schedule.read_script": ["read_script"],
@@ -313,21 +317,29 @@ def noted(*lines, log="g"):
 
 for lines in [(), (C1,), (CF, KF, C1, K1), (C1, LA, K1, L12, LT, NORTH, UB)]:
     row("Inventory file", "replica.inventory", [held(*lines)], "ok", noted(*lines))
+    row("Inventory file", "replica.inventory_of", [held(*lines)], "ok", noted(*lines))
+    row("Inventory file", "replica.digests", [held(*lines)], "ok", *(digits(text) for text in lines))
 row("Inventory file", "replica.inventory", [held(C1, log="h")], "ok", noted(C1, log="h"))
+row("Inventory file", "replica.inventory_of", [held(C1, log="h")], "ok", noted(C1, log="h"))
+BY = ("pair.missing_by", "pair.missing_by_digests")
 for lines, part in [
         ((C1, K1), held(CF, KF)), ((K1,), held(CF, KF, C1)), ((C1,), CONFLICT), ((), CONFLICT), ((CF, KF, C1, K1), held()),
         ((CF, KF, C1, K1, NORTH), held()), ((KF, K1), held(CF, C1))]:
-    row("What the commands write", "pair.missing_by", [CONFLICT, noted(*lines)], "ok", part)
-row("What the commands write", "pair.missing_by", [held(C1), noted(C1)], "ok", held())
-row("What the commands write", "pair.missing_by", [FIVE, noted(C1)], "ok", FIVE)
-row(REPLICA, "pair.missing_by", [CONFLICT, noted(C1, log="h")], "err", "OtherLog")
-row(REPLICA, "pair.missing_by", [held(log="h"), noted(C1)], "err", "OtherLog")
+    for call in BY:
+        row("What the commands write", call, [CONFLICT, noted(*lines)], "ok", part)
+for call in BY:
+    row("What the commands write", call, [held(C1), noted(C1)], "ok", held())
+    row("What the commands write", call, [FIVE, noted(C1)], "ok", FIVE)
+    row(REPLICA, call, [CONFLICT, noted(C1, log="h")], "err", "OtherLog")
+    row(REPLICA, call, [held(log="h"), noted(C1)], "err", "OtherLog")
 LOW, MIDDLE, HIGH = "00" * 32, digits(C1), "ff" * 32
 for digest, has in [(MIDDLE, True), (LOW, False), (MIDDLE[:-1] + "9", False)]:
     row("Inventory file", "inventory.has", [held(MIDDLE), digest], has)
 row("Inventory file", "inventory.has", [held(), MIDDLE], False)
 for before, digest, after in [((), MIDDLE, (MIDDLE,)), ((MIDDLE,), MIDDLE, (MIDDLE,)), ((MIDDLE,), LOW, (LOW, MIDDLE)), ((HIGH,), MIDDLE, (MIDDLE, HIGH))]:
     row("Inventory file", "inventory.put", [held(*before), digest], "ok", held(*after))
+for before, digest, after in [((), MIDDLE, ()), ((MIDDLE,), MIDDLE, ()), ((MIDDLE,), LOW, (MIDDLE,)), ((LOW, MIDDLE, HIGH), MIDDLE, (LOW, HIGH))]:
+    row("Inventory file", "inventory.remove", [held(*before), digest], "ok", held(*after))
 row(REPLICA, "inventory.least_digest", [held()], "none")
 row(REPLICA, "inventory.least_digest", [held(HIGH, MIDDLE)], "some", MIDDLE)
 for digest, found in [(LOW, MIDDLE), (MIDDLE, HIGH), (HIGH, None)]:

@@ -5,8 +5,7 @@ use Rattle.std.specs.Prelude.{◌||◌, ◌&&◌, not}
 use Rattle.std.specs.List.{AllByRecursion}
 use Rattle.std.specs.List.Sorted.{IsStrictlySortedBy}
 use Rattle.std.specs.Ordering.{eq_by_cmp, is_eq}
-use Rattle.std.specs.Cmp.{Equal-is, tied_itself}
-use Rattle.std.specs.declared.cmp.Ordering.TheVariants.{Less}
+use Rattle.std.specs.Cmp.{tied_itself}
 use Rattle.std.specs.BTreeSet.{insert_key}
 use Rattle.std.proofs.lemmas.List.{length-replicate}
 use mathlib.Core.Bool.{true≢false}
@@ -23,10 +22,9 @@ use Rattle.cadf_join.specs.laws.Rising.{
   from_list-rising,
   any_listed,
   listed_any,
-  AllByRecursion-listed,
 }
 use Rattle.cadf_join.specs.laws.Contents.{text_total, text_same}
-use Rattle.cadf_join.specs.laws.Sets.{or_cases, false_from, bool_cases}
+use Rattle.cadf_join.specs.laws.Sets.{or_cases, bool_cases}
 use Rattle.cadf_join.specs.Contents.{Text, text_cmp, IsWithin}
 use Rattle.cadf_line.specs.Digest.{IsDigest}
 use Rattle.cadf_set.specs.Inventory.{InventoryModel, AreDigests}
@@ -43,49 +41,10 @@ use Rattle.cadf_sketch.specs.Sketches.{cells_of, sketch_of}
 use Rattle.cadf_sketch.specs.Texts.{inventory_digest}
 use Rattle.cadf_sketch.specs.declared.cell.Cell.{Cell}
 use Rattle.cadf_sketch.proofs.CellLemmas.{length-turned_all}
+use Rattle.cadf_sketch.proofs.FlipLemmas.{either, one, in_one, in_apart, by_members, told, apart_none, apart-insert, first_is_new, rest_sorted}
 use Rattle.cadf_sketch.proofs.Cancelling.{AreWide, turned_twice, wide-turned_all, wide-nothing, turned_all_push, turned_all_insert, length-insert}
 
 -- ---- sets
-
--- one of the two, and not both
-abbrev either : Bool → Bool → Bool
-either a b = (a && not b) || (b && not a)
-
-abbrev one : Text → Digests
-one d = set.from_list (d ∷ [])
-
-or_none : (a : Bool) → (a || false) ≡ a
-or_none true = refl
-or_none false = refl
-
-in_one : (d q : Text) → set.contains (one d) q ≡ eq_by_cmp text_cmp q d
-in_one d q = set.contains-from_list text_total (d ∷ []) q ∙ or_none (eq_by_cmp text_cmp q d)
-
-in_apart : (s t : Digests) (q : Text) → set.contains (apart s t) q ≡ either (set.contains s q) (set.contains t q)
-in_apart s t q =
-    set.contains-union text_total (set.difference s t) (set.difference t s) q
-    ∙ (λ i. set.contains-difference text_total s t q i || set.contains-difference text_total t s q i)
-
-by_members : (s t : Digests) → ((q : Text) → set.contains s q ≡ set.contains t q) → s ≡ t
-by_members = set.same_set text_total text_same
-
-same_text : (q d : Text) → eq_by_cmp text_cmp q d ≡ true → q ≡ d
-same_text q d e = text_same q d ((Equal-is (text_cmp q d)).0 e)
-
--- what is told of d is told of what is d
-told : (s : Digests) (d q : Text) (b : Bool) → set.contains s d ≡ b → eq_by_cmp text_cmp q d ≡ true → set.contains s q ≡ b
-told s d q b h e = ap (set.contains s) (same_text q d e) ∙ h
-
-apart_new : (a e : Bool) → (e ≡ true → a ≡ false) → either a e ≡ (e || a)
-apart_new true true h = absurd (true≢false (h refl))
-apart_new true false h = refl
-apart_new false true h = refl
-apart_new false false h = refl
-
-apart-insert : (s : Digests) (d : Text) → set.contains s d ≡ false → apart s (one d) ≡ set.insert s d
-apart-insert s d new = by_members (apart s (one d)) (set.insert s d) (λ q.
-    in_apart s (one d) q ∙ ap (either (set.contains s q)) (in_one d q)
-    ∙ apart_new (set.contains s q) (eq_by_cmp text_cmp q d) (told s d q false new) ∙ sym (set.contains-insert text_total s d q))
 
 back_again : (a e : Bool) → (e ≡ true → a ≡ true) → (e || either a e) ≡ a
 back_again true true h = refl
@@ -125,14 +84,6 @@ apart_more s d ds new = by_members (apart (apart s (set.from_list ds)) (one d)) 
     in_apart (apart s (set.from_list ds)) (one d) q ∙ (λ i. either (in_apart s (set.from_list ds) q i) (in_one d q i))
     ∙ with_one_more (set.contains s q) t (eq_by_cmp text_cmp q d) (told (set.from_list ds) d q false new)
     ∙ sym (in_apart s (set.from_list (d ∷ ds)) q ∙ ap (either (set.contains s q)) (set.contains-insert text_total (set.from_list ds) d q)))
-
-apart_none : (s : Digests) → s ≡ apart s (set.from_list [])
-apart_none s = by_members s (apart s (set.from_list [])) (λ q. sym (in_apart s set.empty q ∙ ap (either (set.contains s q)) (set.contains-empty text_cmp q)
-    ∙ by (set.contains s q)))
-  where
-    by : (a : Bool) → either a false ≡ a
-    by true = refl
-    by false = refl
 
 AreDigests-apart : (s t : Digests) → AreDigests s → AreDigests t → AreDigests (apart s t)
 AreDigests-apart s t f g q h = by (set.contains s q) (set.contains t q) (sym (in_apart s t q) ∙ h) (f q) (g q)
@@ -187,17 +138,6 @@ cells_turned s d layout some are digest = bool_cases (set.contains s d)
     ∙ ap (λ (l : List Cell). turned l d layout) (cells_insert rest d layout some (gone s d there))
     ∙ turned_twice (cells_of rest layout) d layout some (wide-cells_of rest layout some rest_are) digest.size)
     (λ new. sym (cells_insert s d layout some new) ∙ ap (λ (t : Digests). cells_of t layout) (sym (apart-insert s d new)))
-
-first_is_new : (d : Text) (ds : List Text) → IsStrictlySortedBy text_cmp (d ∷ ds) → set.contains (set.from_list {R = text_cmp} ds) d ≡ false
-unfolding IsStrictlySortedBy
-first_is_new d ds up = false_from (set.contains (set.from_list ds) d) (λ h.
-    let below : text_cmp d d ≡ Less = AllByRecursion-listed (λ y. text_cmp d y ≡ Less) ds up.0 d
-    (listed_any text_total text_same ds d (sym (set.contains-from_list text_total ds d) ∙ h)) in
-    true≢false (ap is_eq (sym (tied_itself text_total d) ∙ below)))
-
-rest_sorted : (d : Text) (ds : List Text) → IsStrictlySortedBy text_cmp (d ∷ ds) → IsStrictlySortedBy text_cmp ds
-unfolding IsStrictlySortedBy
-rest_sorted d ds up = up.1
 
 -- what both have cancels
 cells_apart : (s : Digests) (ds : List Text) (layout : LayoutModel) → 0 < layout.size → AreDigests s → AllByRecursion IsDigest ds

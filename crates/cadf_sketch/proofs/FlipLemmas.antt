@@ -1,67 +1,132 @@
--- Adding in turn what isn't known is a union with a difference.
-use Rattle.std.proofs.Common.{◌≡◌, ◌∙◌, Bool, true, false, cond, List, [], ◌∷◌, refl, sym, ap}
+-- What flips digests in turn, and back.
+use Rattle.std.proofs.Common.{◌≡◌, ◌∙◌, Bool, true, false, List, [], ◌∷◌, refl, sym, ap}
 use Rattle.std.specs.Prelude.{◌||◌, ◌&&◌, not}
-use Rattle.std.specs.Ordering.{eq_by_cmp}
-use Rattle.std.specs.List.{list_any}
-use Rattle.std.specs.Cmp.{Equal-is}
+use Rattle.std.specs.List.Sorted.{IsStrictlySortedBy}
+use Rattle.std.specs.FinSet.{remove, contains-remove}
+use Rattle.std.specs.Ordering.{eq_by_cmp, is_eq}
+use Rattle.std.specs.Cmp.{Equal-is, tied_itself}
+use Rattle.std.specs.declared.cmp.Ordering.TheVariants.{Less}
 use mathlib.Core.Bool.{true≢false}
 use Rattle.cadf_join.specs.Sets as set
-use Rattle.cadf_join.specs.laws.Rising.{contains-rising}
-use Rattle.cadf_join.specs.laws.Sets.{empty-union}
+use Rattle.cadf_join.specs.laws.Rising.{AllByRecursion-listed, from_list-rising, listed_any, rising_is_sorted}
 use Rattle.cadf_join.specs.laws.Contents.{text_total, text_same}
+use Rattle.cadf_join.specs.laws.Sets.{false_from}
 use Rattle.cadf_join.specs.Contents.{Text, text_cmp}
-use Rattle.cadf_set.specs.Inventory.{InventoryModel}
 use Rattle.cadf_line.specs.Missing.{Digests}
-use Rattle.cadf_sketch.specs.Flips.{with_lacking, flipped}
+use Rattle.cadf_sketch.specs.Flips.{apart}
 
--- what one more digest changes, where e tells that it is the one asked for
-step : (e kd kq sq a : Bool) → (e ≡ true → kq ≡ kd) → (cond kd sq (e || sq) || (a && not kq)) ≡ (sq || ((e || a) && not kq))
-step false true kq sq a h = refl
-step false false kq sq a h = refl
-step true true true sq true h = refl
-step true true true sq false h = refl
-step true true false sq a h = absurd (true≢false (sym (h refl)))
-step true false true sq a h = absurd (true≢false (h refl))
-step true false false true a h = refl
-step true false false false a h = refl
+-- ---- sets by their members
 
-in_cond : (b : Bool) (s t : Digests) (q : Text) → set.contains (cond b s t) q ≡ cond b (set.contains s q) (set.contains t q)
-in_cond true s t q = refl
-in_cond false s t q = refl
+-- one of the two, and not both
+abbrev pub either : Bool → Bool → Bool
+either a b = (a && not b) || (b && not a)
 
-or_none : (a : Bool) → a ≡ (a || false)
+abbrev pub one : Text → Digests
+one d = set.from_list (d ∷ [])
+
+or_none : (a : Bool) → (a || false) ≡ a
 or_none true = refl
 or_none false = refl
 
-contains-with_lacking : (s known : Digests) (ds : List Text) (q : Text)
-    → set.contains (with_lacking s ds known) q ≡ (set.contains s q || (list_any (eq_by_cmp text_cmp q) ds && not (set.contains known q)))
-contains-with_lacking s known [] q = or_none (set.contains s q)
-contains-with_lacking s known (d ∷ ds) q =
-    let e = eq_by_cmp text_cmp q d in
-    let more = list_any (eq_by_cmp text_cmp q) ds in
-    contains-with_lacking (cond (set.contains known d) s (set.insert s d)) known ds q
-    ∙ ap (λ b. b || (more && not (set.contains known q)))
-    (in_cond (set.contains known d) s (set.insert s d) q
-    ∙ ap (λ b. cond (set.contains known d) (set.contains s q) b) (set.contains-insert text_total s d q))
-    ∙ step e (set.contains known d) (set.contains known q) (set.contains s q) more
-    (λ same. sym (set.contains_tied text_total known q d ((Equal-is (text_cmp q d)).0 same)))
+pub in_one : (d q : Text) → set.contains (one d) q ≡ eq_by_cmp text_cmp q d
+in_one d q = set.contains-from_list text_total (d ∷ []) q ∙ or_none (eq_by_cmp text_cmp q d)
 
-pub with_lacking_is : (s from known : Digests) → with_lacking s (set.rising from) known ≡ set.union s (set.difference from known)
-with_lacking_is s from known = set.same_set text_total text_same _ _ (λ q.
-    contains-with_lacking s known (set.rising from) q
-    ∙ ap (λ b. set.contains s q || (b && not (set.contains known q))) (sym (contains-rising text_total from q))
-    ∙ ap (λ b. set.contains s q || b) (sym (set.contains-difference text_total from known q))
-    ∙ sym (set.contains-union text_total s (set.difference from known) q))
+pub in_apart : (s t : Digests) (q : Text) → set.contains (apart s t) q ≡ either (set.contains s q) (set.contains t q)
+in_apart s t q =
+    set.contains-union text_total (set.difference s t) (set.difference t s) q
+    ∙ (λ i. set.contains-difference text_total s t q i || set.contains-difference text_total t s q i)
 
--- what is added to nothing in two turns
-pub flipped_is : (own : InventoryModel) (taken : List Text) (first second : Digests)
-    → first ≡ with_lacking set.empty (set.rising own.digests) (set.from_list taken)
-    → second ≡ with_lacking first (set.rising (set.from_list {R = text_cmp} taken)) own.digests
-    → record { log = own.log; digests = second } ≡ flipped own taken
-unfolding flipped
-flipped_is own taken first second f g =
-    ap (λ (s : Digests). record { log = own.log; digests = s })
-    (g ∙ with_lacking_is first (set.from_list taken) own.digests
-    ∙ ap (λ (s : Digests). set.union s (set.difference (set.from_list taken) own.digests))
-    (f ∙ with_lacking_is set.empty own.digests (set.from_list taken)
-    ∙ empty-union text_total text_same (set.difference own.digests (set.from_list taken))))
+pub by_members : (s t : Digests) → ((q : Text) → set.contains s q ≡ set.contains t q) → s ≡ t
+by_members = set.same_set text_total text_same
+
+same_text : (q d : Text) → eq_by_cmp text_cmp q d ≡ true → q ≡ d
+same_text q d e = text_same q d ((Equal-is (text_cmp q d)).0 e)
+
+-- what is told of d is told of what is d
+pub told : (s : Digests) (d q : Text) (b : Bool) → set.contains s d ≡ b → eq_by_cmp text_cmp q d ≡ true → set.contains s q ≡ b
+told s d q b h e = ap (set.contains s) (same_text q d e) ∙ h
+
+-- ---- one digest, and none
+
+pub apart_none : (s : Digests) → s ≡ apart s (set.from_list [])
+apart_none s = by_members s (apart s (set.from_list [])) (λ q. sym (in_apart s set.empty q ∙ ap (either (set.contains s q)) (set.contains-empty text_cmp q)
+    ∙ by (set.contains s q)))
+  where
+    by : (a : Bool) → either a false ≡ a
+    by true = refl
+    by false = refl
+
+apart_new : (a e : Bool) → (e ≡ true → a ≡ false) → either a e ≡ (e || a)
+apart_new true true h = absurd (true≢false (h refl))
+apart_new true false h = refl
+apart_new false true h = refl
+apart_new false false h = refl
+
+pub apart-insert : (s : Digests) (d : Text) → set.contains s d ≡ false → apart s (one d) ≡ set.insert s d
+apart-insert s d new = by_members (apart s (one d)) (set.insert s d) (λ q.
+    in_apart s (one d) q ∙ ap (either (set.contains s q)) (in_one d q)
+    ∙ apart_new (set.contains s q) (eq_by_cmp text_cmp q d) (told s d q false new) ∙ sym (set.contains-insert text_total s d q))
+
+apart_old : (a e : Bool) → (e ≡ true → a ≡ true) → either a e ≡ (not e && a)
+apart_old true true h = refl
+apart_old true false h = refl
+apart_old false true h = absurd (true≢false (sym (h refl)))
+apart_old false false h = refl
+
+pub apart-remove : (s : Digests) (d : Text) → set.contains s d ≡ true → apart s (one d) ≡ remove s d
+apart-remove s d there = by_members (apart s (one d)) (remove s d) (λ q.
+    in_apart s (one d) q ∙ ap (either (set.contains s q)) (in_one d q)
+    ∙ apart_old (set.contains s q) (eq_by_cmp text_cmp q d) (told s d q true there) ∙ sym (contains-remove text_total s d q))
+
+-- ---- digests in turn
+
+abbrev pub flipped_in_turn : Digests → List Text → Digests
+flipped_in_turn s [] = s
+flipped_in_turn s (d ∷ ds) = flipped_in_turn (apart s (one d)) ds
+
+one_before : (a e t : Bool) → (e ≡ true → t ≡ false) → either (either a e) t ≡ either a (e || t)
+one_before true true true h = absurd (true≢false (h refl))
+one_before false true true h = absurd (true≢false (h refl))
+one_before true true false h = refl
+one_before false true false h = refl
+one_before true false true h = refl
+one_before false false true h = refl
+one_before true false false h = refl
+one_before false false false h = refl
+
+pub first_is_new : (d : Text) (ds : List Text) → IsStrictlySortedBy text_cmp (d ∷ ds) → set.contains (set.from_list {R = text_cmp} ds) d ≡ false
+unfolding IsStrictlySortedBy
+first_is_new d ds up = false_from (set.contains (set.from_list ds) d) (λ h.
+    let below : text_cmp d d ≡ Less = AllByRecursion-listed (λ y. text_cmp d y ≡ Less) ds up.0 d
+    (listed_any text_total text_same ds d (sym (set.contains-from_list text_total ds d) ∙ h)) in
+    true≢false (ap is_eq (sym (tied_itself text_total d) ∙ below)))
+
+pub rest_sorted : (d : Text) (ds : List Text) → IsStrictlySortedBy text_cmp (d ∷ ds) → IsStrictlySortedBy text_cmp ds
+unfolding IsStrictlySortedBy
+rest_sorted d ds up = up.1
+
+in_turn : (s : Digests) (ds : List Text) → IsStrictlySortedBy text_cmp ds → flipped_in_turn s ds ≡ apart s (set.from_list ds)
+in_turn s [] up = apart_none s
+in_turn s (d ∷ ds) up =
+    in_turn (apart s (one d)) ds (rest_sorted d ds up)
+    ∙ by_members (apart (apart s (one d)) (set.from_list ds)) (apart s (set.from_list (d ∷ ds))) (λ q.
+    let t : Bool = set.contains (set.from_list {R = text_cmp} ds) q in
+    in_apart (apart s (one d)) (set.from_list ds) q
+    ∙ ap (λ b. either b t) (in_apart s (one d) q ∙ ap (either (set.contains s q)) (in_one d q))
+    ∙ one_before (set.contains s q) (eq_by_cmp text_cmp q d) t (told (set.from_list ds) d q false (first_is_new d ds up))
+    ∙ sym (in_apart s (set.from_list (d ∷ ds)) q ∙ ap (either (set.contains s q)) (set.contains-insert text_total (set.from_list ds) d q)))
+
+pub flipped_in_turn_is : (s t : Digests) → flipped_in_turn s (set.rising t) ≡ apart s t
+flipped_in_turn_is s t = in_turn s (set.rising t) (rising_is_sorted text_total text_same t) ∙ ap (apart s) (from_list-rising text_total text_same t)
+
+-- ---- and back
+
+either_twice : (a b : Bool) → either (either a b) b ≡ a
+either_twice true true = refl
+either_twice true false = refl
+either_twice false true = refl
+either_twice false false = refl
+
+pub apart_twice : (s t : Digests) → apart (apart s t) t ≡ s
+apart_twice s t = by_members (apart (apart s t) t) s (λ q.
+    in_apart (apart s t) t q ∙ ap (λ b. either b (set.contains t q)) (in_apart s t q) ∙ either_twice (set.contains s q) (set.contains t q))

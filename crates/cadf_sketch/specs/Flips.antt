@@ -1,16 +1,11 @@
 -- An inventory that differs from another in given digests.
---     with_lacking s ds known     the set with those of the digests that aren't known, added in turn
 --     apart s t            what is in one of the two sets and not in the other
 --     flipped n taken      n without those of the digests that it has, and with those that it lacks
-use Rattle.std.specs.Prelude.{cond, List, [], ◌∷◌}
+use Rattle.std.specs.Prelude.{List}
 use Rattle.cadf_join.specs.Sets as set
 use Rattle.cadf_join.specs.Contents.{Text}
 use Rattle.cadf_set.specs.Inventory.{InventoryModel}
 use Rattle.cadf_line.specs.Missing.{Digests}
-
-abbrev pub with_lacking : Digests → List Text → Digests → Digests
-with_lacking s [] known = s
-with_lacking s (d ∷ ds) known = with_lacking (cond (set.contains known d) s (set.insert s d)) ds known
 
 -- what is in one of the two sets and not in the other
 abbrev pub apart : Digests → Digests → Digests

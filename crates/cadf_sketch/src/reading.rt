@@ -1,13 +1,14 @@
 //! Finds the inventory that a sketch was made of.
-ghost use Rattle.std.specs.Prelude.{◌≡◌, ◌*◌, ◌↔◌, IfOk, IfErr, IsTrue, vec_len};
+ghost use Rattle.std.specs.Prelude.{◌≡◌, ◌*◌, ◌↔◌, IfOk, IfErr, IsTrue, OnOk, vec_len};
 ghost use Rattle.cadf_join.specs.Sets.{rising};
+ghost use Rattle.cadf_sketch.specs.Flips.{apart};
 ghost use Rattle.cadf_sketch.specs.Texts.{inventory_digest};
 ghost use Rattle.cadf_sketch.specs.Tallies.{tally_of, cells_to_ask};
 ghost use Rattle.cadf_sketch.specs.Refusals.{differing, IsPeeled, IsReadFault};
 
 use crate::cell::Cell;
 use crate::digest::inventory_digest;
-use crate::flip::flip;
+use crate::flip::{flip, of_taken};
 use crate::peel::peel;
 use crate::sketch::{Sketch, tally, turn_all};
 use cadf_json::Memory;
@@ -49,13 +50,17 @@ fn differing(alloc: Global, own: &Inventory, sketch: &Sketch) -> Result<Vec<Cell
     Ok(cells)
 }
 
-/// Flips in the own inventory the digests that a peel finds.
-fn peeled(alloc: Global, own: &Inventory, sketch: &Sketch) -> Result<Inventory, Memory>
-    ensures { IfOk result (λ theirs. IsPeeled own.now sketch.now theirs) }
+/// Flips in the own inventory the digests that a peel finds, and returns them: flipped again they lead back.
+fn flip_peeled(alloc: Global, own: &mut Inventory, sketch: &Sketch) -> Result<Inventory, Memory>
+    ensures log { own.new.log ≡ own.old.log }
+    ensures peeled { OnOk result (IsPeeled own.old sketch.now own.new) }
+    ensures back { IfOk result (λ taken. apart own.new.digests taken.digests ≡ own.old.digests) }
 {
     let mut cells = differing(alloc, own, sketch)?;
-    let taken = peel(alloc, &mut cells, sketch.layout())?;
-    Ok(flip(alloc, own, taken.as_slice())?)
+    let found = peel(alloc, &mut cells, sketch.layout())?;
+    let taken = of_taken(alloc, own, found.as_slice())?;
+    flip(own, &taken)?;
+    Ok(taken)
 }
 
 /// Returns whether the inventory is the sketched one, by its digest.
@@ -80,25 +85,26 @@ fn cells_to_ask(own: &Inventory, sketch: &Sketch) -> u32
     tally(own).cells_to_ask(sketch.tally())
 }
 
-/// Finds the inventory that the sketch was made of, by one that has most of it.
+/// Finds the inventory that the sketch was made of, by one that has most of it, which becomes it: memory holds one.
 ///
 /// # Errors
 ///
 /// `OtherLog` if the sketch is of another log, `TooFewCells` if what a peel finds doesn't lead to the sketched
 /// inventory, `Memory` if an allocation fails.
-pub fn read(alloc: Global, own: &Inventory, sketch: &Sketch) -> Result<Inventory, ReadFault>
-    ensures log { IfOk result (λ theirs. (own.now.log ≡ sketch.now.log) × (theirs.log ≡ sketch.now.log)) }
+pub fn read(alloc: Global, own: Inventory, sketch: &Sketch) -> Result<Inventory, ReadFault>
+    ensures log { IfOk result (λ theirs. (own.log ≡ sketch.now.log) × (theirs.log ≡ sketch.now.log)) }
     ensures digest { IfOk result (λ theirs. inventory_digest theirs ≡ sketch.now.digest) }
-    ensures err { IfErr result (IsReadFault own.now sketch.now) }
+    ensures err { IfErr result (IsReadFault own sketch.now) }
 {
-    if !is_log_of(own, sketch) {
+    if !is_log_of(&own, sketch) {
         return Err(ReadFault::OtherLog);
     }
-    let theirs = peeled(alloc, own, sketch)?;
+    let mut theirs = own;
+    let taken = flip_peeled(alloc, &mut theirs, sketch)?;
     let found = is_of(alloc, sketch, &theirs)?;
     if found {
-        Ok(theirs)
-    } else {
-        Err(ReadFault::TooFewCells(cells_to_ask(own, sketch)))
+        return Ok(theirs);
     }
+    flip(&mut theirs, &taken)?;
+    Err(ReadFault::TooFewCells(cells_to_ask(&theirs, sketch)))
 }

@@ -14,6 +14,7 @@ pub(crate) fn answered(alloc: Global, name: &str, call: &Call) -> Result<String,
     match name {
         "has" => told::truth(alloc, ours.has(&given)),
         "put" => put(alloc, ours, &given),
+        "remove" => removed(alloc, ours, &given),
         "least_digest" => found(alloc, ours.digest_after(None)),
         "digest_after" => found(alloc, ours.digest_after(Some(&given))),
         _ => answer(alloc, "no such call", &[]),
@@ -35,6 +36,12 @@ fn noted(alloc: Global, ours: &mut Inventory, digest: &[u8; 32]) -> Result<Strin
         Err(_) => "err\tMemory",
     };
     answer(alloc, word, &[of_inventory(alloc, ours)?.as_str()])
+}
+
+fn removed(alloc: Global, mut ours: Inventory, digest: &[u8; 32]) -> Result<String, Memory> {
+    ours.remove(digest);
+    let lines = of_inventory(alloc, &ours)?;
+    answer(alloc, "ok", &[lines.as_str()])
 }
 
 fn found(alloc: Global, digest: Option<[u8; 32]>) -> Result<String, Memory> {

@@ -26,10 +26,18 @@ fn missing_by(alloc: Global, ours: &Replica, word: &str) -> Result<String, Memor
     told::part(alloc, ours.missing_by(&theirs))
 }
 
+/// Answers the same by the digests of the replica's atoms.
+fn missing_by_digests(alloc: Global, ours: &Replica, word: &str) -> Result<String, Memory> {
+    let theirs = inventory(alloc, word)?;
+    let digests = ours.digests()?;
+    told::part(alloc, ours.missing_by_digests(digests.as_slice(), &theirs))
+}
+
 /// Answers a call about a replica, and the replica or the inventory of the word.
 fn told_with(alloc: Global, name: &str, ours: &mut Replica, word: &str) -> Result<String, Memory> {
     match name {
         "missing_by" => missing_by(alloc, ours, word),
+        "missing_by_digests" => missing_by_digests(alloc, ours, word),
         _ => told_of_both(alloc, name, ours, &replica(alloc, word)?),
     }
 }

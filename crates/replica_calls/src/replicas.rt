@@ -4,8 +4,8 @@ use crate::kept::lists;
 use crate::spelled::{atom, of_inventory, replica};
 use crate::told;
 use cadf_json::Memory;
-use cadf_replica::{Atom, Replica};
-use calls::{Call, answer, is_refused, push_answer};
+use cadf_replica::{Atom, Inventory, Replica};
+use calls::{Call, answer, is_refused, push, push_answer};
 use std::alloc::Global;
 
 /// Answers the call of that name; if memory was refused, also what it answers when it is made again.
@@ -27,7 +27,9 @@ fn told_of(alloc: Global, name: &str, ours: &mut Replica, word: &str) -> Result<
         "conflict_count" => told::number(alloc, ours.conflict_count()),
         "copy" => told::made(alloc, ours.copy()),
         "walk" => told::found_lists(alloc, lists(alloc, ours)),
-        "inventory" => noted(alloc, ours),
+        "digests" => digests(alloc, ours),
+        "inventory" => noted(alloc, &ours.inventory()?),
+        "inventory_of" => inventory_of(alloc, ours),
         "least_atom" => found(alloc, ours.atom_after(None)),
         _ => told_with(alloc, name, ours, word),
     }
@@ -66,10 +68,26 @@ fn found(alloc: Global, atom: Result<Option<Atom>, Memory>) -> Result<String, Me
     }
 }
 
-/// Answers the digests of the replica's atoms.
-fn noted(alloc: Global, ours: &Replica) -> Result<String, Memory> {
-    let inventory = ours.inventory()?;
-    let lines = of_inventory(alloc, &inventory)?;
+/// Answers the digits of each atom's digest, each a field.
+fn digests(alloc: Global, ours: &Replica) -> Result<String, Memory> {
+    let mut line = answer(alloc, "ok", &[])?;
+    for digest in ours.digests()? {
+        push(&mut line, hex::encode(alloc, digest)?.as_str())?;
+    }
+    Ok(line)
+}
+
+/// Answers the inventory that is made of the digests of the replica's atoms.
+fn inventory_of(alloc: Global, ours: &Replica) -> Result<String, Memory> {
+    let log = ours.log().copy(alloc)?;
+    let digests = ours.digests()?;
+    let made = Inventory::of(alloc, log, digests)?;
+    noted(alloc, &made)
+}
+
+/// Answers the inventory.
+fn noted(alloc: Global, inventory: &Inventory) -> Result<String, Memory> {
+    let lines = of_inventory(alloc, inventory)?;
     answer(alloc, "ok", &[lines.as_str()])
 }
 

@@ -1,21 +1,22 @@
 use Rattle.std.proofs.Common.{◌∙◌, ap, sym}
 use mathlib.Core.Bool.{true≢false}
-use Rattle.cadf_sketch.specs.Flips.{flipped}
+use Rattle.cadf_join.specs.Sets.{rising}
+use Rattle.cadf_sketch.specs.Tallies.{tally_of, cells_to_ask}
 use Rattle.cadf_sketch.proofs.reading.read.Goals as goal
 
 pub returns-then-found-clause-log : goal.returns-then-found-clause-log
-unfolding flipped
 returns-then-found-clause-log c =
     let same = c.is_log_of.ensures.0 c.if-not-is_log_of.false in
-    (same, ap (λ n. n.log) c.in_ok-theirs.ensures.flips ∙ same)
+    (same, c.flip_peeled.ensures.log ∙ same)
 
-pub returns-else-found-clause-err : goal.returns-else-found-clause-err
-returns-else-found-clause-err c = (
-  record {
-    log = c.is_log_of.ensures.0 c.if-not-is_log_of.false;
-    theirs = c.in_ok-theirs.theirs;
-    peeled = c.in_ok-theirs.ensures;
-    other = λ same. true≢false (sym (c.in_ok-found.ensures.1 same) ∙ c.if-found.false);
-  },
-  c.cells_to_ask.ensures,
-)
+pub returns-clause-err : goal.returns-clause-err
+returns-clause-err c =
+    let back = c.in_ok-flip.ensures.ok ∙ c.in_ok-taken.ensures.back in (
+      record {
+        log = c.is_log_of.ensures.0 c.if-not-is_log_of.false;
+        theirs = c.flip_peeled.new.own;
+        peeled = c.in_ok-taken.ensures.peeled;
+        other = λ same. true≢false (sym (c.in_ok-found.ensures.1 same) ∙ c.if-found.false);
+      },
+      c.cells_to_ask.ensures ∙ ap (λ s. cells_to_ask (tally_of (rising s)) c.args.sketch.now.tally) back,
+    )
