@@ -82,7 +82,7 @@ pub(crate) fn read_by(alloc: Global, call: &Call) -> Result<String, Memory> {
     let (Ok(sketch), Some(own)) = (sketch_in(alloc, call), inventory_of(alloc, call, 5)) else {
         return answer(alloc, "no sketch", &[]);
     };
-    match cadf_sketch::read(alloc, &own, &sketch) {
+    match cadf_sketch::read(alloc, own, &sketch) {
         Ok(theirs) => inventory_shown(alloc, &theirs),
         Err(fault) => refused(alloc, &fault),
     }
