@@ -60,8 +60,7 @@ module _ {M : Type 0} (kind : FileKind M) (t : SourceTransition) where
         let at_end : IsAtEnd t.new.left = elim (r.end whole (undecided (kind.decided FILE_LIMIT r.bytes) refl)) [
           | inl e ↦ absurd (no_fault m Memory e)
           | inr e ↦ e
-        ] in
-        (
+        ] in (
           (r.bytes, (r.consumed, at_end, subst (λ b. kind.verdict FILE_LIMIT b r.bytes ≡ Ok m) whole r.verdict)),
           r.failures ∙ ap (λ b. counted b t.old.failures) whole,
         )

@@ -64,7 +64,8 @@ use Rattle.cadf_atom.proofs.RulingTexts.{hex_is_digest}
 use Rattle.sha2.specs.Sha256.{sha256}
 use Rattle.cadf_tool.specs.declared.fault.ToolFault.{ToolFault}
 use Rattle.cadf_tool.specs.declared.input.Loaded.{Loaded}
-use Rattle.cadf_tool.specs.Run.{IsWorked}
+use Rattle.cadf_tool.specs.Faults.{FaultStage, Reading, Working, Writing, OutOfMemoryStage, fault_stage}
+use Rattle.cadf_tool.specs.Run.{IsWorkFaultBy, IsWorked}
 use Rattle.cadf_tool.specs.Told.{log_named, atoms_loaded, under_log}
 use Rattle.cadf_tool.specs.Rule.{value_at, ruling_on, ruling_for, ruling_at, with_ruling, ruled_in, ruled_of}
 use Rattle.cadf_tool.proofs.DigestBytes.{is_digest}
@@ -261,6 +262,19 @@ ruling_there s letter key place xs x r are one lt at read =
     ap (λ vs. ruling_for letter key (value_at vs place)) (sym are)
     ∙ ap (ruling_for letter key) (some_at xs place x one lt at)
     ∙ ap Ok (read_is letter key (string_bytes x) r read)
+
+-- a replica of which no value is ruled is refused for that
+pub ruling_refused : (h : ReplicaModel) (letter key text : Text) (place : ℕ) (fault : ToolFault) → text ≡ key
+    → IsWorked (ruling_at h.atoms letter text place) (Err fault) → IsWorked (ruled_in letter key place (Ok h)) (Err fault)
+ruling_refused h letter key text place fault same worked =
+    at (fault_stage fault) (subst (λ (k : Text). IsWorked (ruling_at h.atoms letter k place) (Err fault)) same worked)
+  where
+    at : (s : FaultStage) → IsWorkFaultBy {M = RulingParts} (λ r. ruling_at h.atoms letter key place ≡ r) fault s
+        → IsWorkFaultBy {M = ReplicaModel} (λ r. with_ruling h (ruling_at h.atoms letter key place) ≡ r) fault s
+    at (Reading n f) w = w
+    at Working w = ap (with_ruling h) w
+    at Writing w = w
+    at OutOfMemoryStage w = w
 
 pub rule_held : (letter key : Text) (place : ℕ) (loaded : Loaded) (h : ReplicaModel) (result : Result ReplicaModel ToolFault) → log_named loaded ≡ Some h.log
     → h.atoms ≡ atoms_loaded loaded → IsWorked (ruled_in letter key place (Ok h)) result → IsWorked (ruled_of letter key place loaded) result

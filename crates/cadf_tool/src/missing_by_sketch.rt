@@ -35,11 +35,7 @@ fn part(alloc: Global, from: Loaded, sketch: &Sketch) -> Result<Replica, ToolFau
 }
 
 /// What the first input has beyond the sketch that is the second.
-fn load_part<R: Source>(
-    alloc: Global,
-    from: &mut R,
-    sketch: &mut R,
-) -> Result<Replica, ToolFault>
+fn load_part<R: Source>(alloc: Global, from: &mut R, sketch: &mut R) -> Result<Replica, ToolFault>
     ensures { IsExpectedBy (two input_spec (transition_of R.Source from.old from.new) sketch_spec (transition_of R.Source sketch.old sketch.new))
         IsPartBySketch result }
 {
