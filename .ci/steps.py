@@ -49,6 +49,7 @@ STAGES = [
         "spool": ".ci/spool",
         "listen": ".ci/listen",
         "oom": ".ci/oom",
+        "plain-sets": ".ci/plain-sets",
         "limits": ".ci/limits",
         "compare": "differential/compare.py",
         "drivers": "differential/calls.py",

@@ -48,6 +48,7 @@ CALLS = {
     "paths.multi_valued_count_at": ["PathSet::multi_valued_count_at"],
     "paths.longest_suffix": ["PathSet::longest_suffix"],
     "prefix.copied": ["copy_texts"],
+    "example.two_sites": [],
 }
 
 SETS = "PROMISES: Sets that join"
@@ -263,3 +264,6 @@ for prefix, found in [("-", "a/b/a"), ("a", "b/a"), ("a/b", "a"), ("c", "b"), ("
 # Prefixes of lists.
 row("prefix.copied", [lst("a/b")], "ok", lst("a/b"))
 row("prefix.copied", [lst("-")], "ok", lst("-"))
+
+# The example of the README: a site takes what it lacks of another one.
+row("example.two_sites", [], True)

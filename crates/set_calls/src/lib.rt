@@ -1,6 +1,7 @@
 //! Calls of sets of lists of texts. A list is written as the JSON list of its texts, and a set as the JSON list of its lists.
 #![tactic(auto)]
 
+mod example;
 mod keeping;
 mod kinds;
 mod lists;
@@ -28,6 +29,7 @@ pub fn answered(alloc: Global, call: &Call) -> Result<String, Memory> {
         "tree" => trees::answered(alloc, name, call),
         "paths" => paths::answered(alloc, name, call),
         "prefix" => lists::answered(alloc, call),
+        "example" => example::answered(alloc),
         _ => answer(alloc, "no such call", &[]),
     }
 }
