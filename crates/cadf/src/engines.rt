@@ -1,7 +1,5 @@
 //! Opens the files of a request, and runs its engine on them.
-use crate::given::{
-    cells_given, letter_given, log_given, place_given, salt_given, sites_given,
-};
+use crate::given::{cells_given, letter_given, log_given, place_given, salt_given, sites_given};
 use crate::stop::Stop;
 use cadf_arguments::{read_key, read_log};
 use cadf_json::{FromStd, Sink};
