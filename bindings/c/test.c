@@ -5,15 +5,19 @@
  *     test VERSION
  *
  * VERSION is what `cadf --version` prints. What each call writes to memory is what differential/cadf writes for the same inputs.
+ * All calls are made on a stack of the least size that cadf.h asks for.
  */
 #include "cadf.h"
 
+#include <pthread.h>
 #include <stdio.h>
 #include <stdlib.h>
 #include <string.h>
 
 #define GUARD 0xA5
 #define BEHIND 9
+#define STACK (256 * 1024)
+#define DEPTH 100
 
 static int failures;
 
@@ -82,6 +86,18 @@ static const struct cadf_bytes g = TEXT("g"), h = TEXT("h"), key = TEXT("name"),
 
 static const struct cadf_bytes both = TEXT(BOTH_FILE), b_inventory = TEXT(B_INVENTORY);
 
+/* A log with a property that is nested so deep. */
+static struct cadf_bytes nested_log(void)
+{
+    static const char before[] = "{\"id\":\"g\",\"events\":[],\"name\":";
+    static char text[sizeof before + 2 * DEPTH];
+    memcpy(text, before, sizeof before - 1);
+    memset(text + sizeof before - 1, '[', DEPTH);
+    memset(text + sizeof before - 1 + DEPTH, ']', DEPTH);
+    text[sizeof text - 1] = '}';
+    return cadf_bytes_of(text, sizeof text);
+}
+
 /* ---- calls */
 
 typedef int call(uint8_t *output, size_t room, size_t *length);
@@ -116,6 +132,12 @@ CALL(rehearses_no_sites, cadf_rehearse(&g, 0, &script, OUT))
 CALL(rehearses_many_sites, cadf_rehearse(&g, 65, &script, OUT))
 CALL(rehearses_no_log, cadf_rehearse(NULL, 65, &script, OUT))
 
+static int checks_nested(uint8_t *output, size_t room, size_t *length)
+{
+    const struct cadf_bytes log = nested_log();
+    return cadf_check(&log, output, room, length);
+}
+
 static int joined(const struct cadf_bytes *first, const struct cadf_bytes *log, uint8_t *output, size_t room, size_t *length)
 {
     const struct cadf_bytes inputs[] = {*first, b_log, a_log};
@@ -146,6 +168,7 @@ static const struct expected rows[] = {
     ROW(shows_cut, 1, "input 1: not JSON"),
     ROW(shows_nothing, 1, "input 1: not JSON"),
     ROW(checks, 0, "ok \"g\" atoms 2 conflicts 1\n"),
+    ROW(checks_nested, 0, "ok \"g\" atoms 1 conflicts 0\n"),
     ROW(checks_cut, 1, "input 1: not JSON"),
     ROW(misses, 0, A_FILE),
     ROW(misses_other, 1, "input 2: other log"),
@@ -243,18 +266,27 @@ static void has_version(const char *told)
         fail("cadf_version", version);
 }
 
-int main(int count, char **words)
+static void *try_all(void *version)
 {
-    size_t tried = sizeof rows / sizeof *rows;
-    if (count != 2)
-        return fprintf(stderr, "usage: test VERSION\n"), 2;
-    has_version(words[1]);
-    for (size_t at = 0; at < tried; at++) {
+    has_version(version);
+    for (size_t at = 0; at < sizeof rows / sizeof *rows; at++) {
         with_all_rooms(&rows[at]);
 #ifdef REFUSES
         with_refusals(&rows[at]);
 #endif
     }
-    printf("test: %zu calls, %d failures\n", tried, failures);
+    return NULL;
+}
+
+int main(int count, char **words)
+{
+    pthread_attr_t attributes;
+    pthread_t thread;
+    if (count != 2)
+        return fprintf(stderr, "usage: test VERSION\n"), 2;
+    if (pthread_attr_init(&attributes) || pthread_attr_setstacksize(&attributes, STACK)
+        || pthread_create(&thread, &attributes, try_all, words[1]) || pthread_join(thread, NULL))
+        fail("main", "no thread");
+    printf("test: %zu calls, %d failures\n", sizeof rows / sizeof *rows, failures);
     return failures != 0;
 }
