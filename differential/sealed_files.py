@@ -1,4 +1,4 @@
-"""Files of lines that end with the digest of the lines before: replica files and inventory files."""
+"""Files of lines that end with the digest of the lines before: replica, inventory and sketch files."""
 import hashlib
 
 from events import Fault, is_name
