@@ -28,7 +28,12 @@ use cadf_tool::{
 use std::alloc::{AllocError as Memory, Global};
 
 /// Writes the log that the input tells, or with `conflicts` the list of its conflicts.
-pub fn show(alloc: Global, conflicts: bool, input: &[u8], output: &mut Buffer<'_>) -> Result<(), ToolFault>
+pub fn show(
+    alloc: Global,
+    conflicts: bool,
+    input: &[u8],
+    output: &mut Buffer<'_>,
+) -> Result<(), ToolFault>
     ensures same { buffer_name output.new ≡ buffer_name output.old }
     ensures before { buffer_before output.new ≡ buffer_before output.old }
     ensures ok { OnOk result (IsFilled (IsMadeOf input_spec replica_model_of (shown_text conflicts) input.now) output.old output.new) }
@@ -111,7 +116,12 @@ pub fn rehearse(
 }
 
 /// Writes the replica file of what `to` lacks of `from`. Inputs count from 1: `from` is the first.
-pub fn missing(alloc: Global, from: &[u8], to: &[u8], output: &mut Buffer<'_>) -> Result<(), ToolFault>
+pub fn missing(
+    alloc: Global,
+    from: &[u8],
+    to: &[u8],
+    output: &mut Buffer<'_>,
+) -> Result<(), ToolFault>
     ensures same { buffer_name output.new ≡ buffer_name output.old }
     ensures before { buffer_before output.new ≡ buffer_before output.old }
     ensures ok { OnOk result (IsFilled (IsMadeOfTwo input_spec input_spec part_of file from.now to.now) output.old output.new) }
@@ -126,7 +136,12 @@ pub fn missing(alloc: Global, from: &[u8], to: &[u8], output: &mut Buffer<'_>) -
 }
 
 /// Writes the replica file of what `from` has beyond the inventory. Inputs count from 1: `from` is the first.
-pub fn missing_by(alloc: Global, from: &[u8], inventory: &[u8], output: &mut Buffer<'_>) -> Result<(), ToolFault>
+pub fn missing_by(
+    alloc: Global,
+    from: &[u8],
+    inventory: &[u8],
+    output: &mut Buffer<'_>,
+) -> Result<(), ToolFault>
     ensures same { buffer_name output.new ≡ buffer_name output.old }
     ensures before { buffer_before output.new ≡ buffer_before output.old }
     ensures ok { OnOk result (IsFilled (IsMadeOfTwo input_spec inventory_spec part_by file from.now inventory.now) output.old output.new) }
@@ -153,7 +168,12 @@ fn sources<'b>(alloc: Global, inputs: &[&'b [u8]]) -> Result<Vec<SliceSource<'b>
 
 /// Writes the replica file of what all inputs contribute, under the given log or else the first that an
 /// input names.
-pub fn join(alloc: Global, log: Option<Name>, inputs: &[&[u8]], output: &mut Buffer<'_>) -> Result<(), ToolFault>
+pub fn join(
+    alloc: Global,
+    log: Option<Name>,
+    inputs: &[&[u8]],
+    output: &mut Buffer<'_>,
+) -> Result<(), ToolFault>
     ensures same { buffer_name output.new ≡ buffer_name output.old }
     ensures before { buffer_before output.new ≡ buffer_before output.old }
     ensures ok { OnOk result (IsFilled (IsMadeOfAll (join_of log) file (bytes_of inputs.now)) output.old output.new) }
