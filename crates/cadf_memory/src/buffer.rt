@@ -2,7 +2,7 @@
 ghost use Rattle.std.specs.Prelude.{◌≡◌, [], ◌∷◌, ◌++◌, Some, length as length_of};
 ghost use Rattle.cadf_memory.specs.Handed.{handed};
 
-use crate::noted::{Given, Noted};
+use crate::ghost_bytes::{Given, GhostBytes};
 use cadf_json::{Failed, Sink};
 
 /// A buffer that is written to: bytes for which it has no room are counted. A write fails only if the count has no
@@ -13,8 +13,8 @@ pub struct Buffer<'o> {
     length: usize,
     writes: u64,
     failures: u64,
-    before: Noted,
-    text: Noted,
+    before: GhostBytes,
+    text: GhostBytes,
     ghost told: { length ≡ length_of text.items },
     ghost fits: { output.now ≡ handed text.items before.items },
 }
@@ -28,14 +28,14 @@ impl<'o> Buffer<'o> {
         ensures before { buffer_before result ≡ output.old }
         ensures text { buffer_text result ≡ [] }
     {
-        let before = Noted::new().then(&Given { bytes: output });
+        let before = GhostBytes::new().then(&Given { bytes: output });
         Buffer {
             output,
             length: 0,
             writes: 0,
             failures: 0,
             before,
-            text: Noted::new(),
+            text: GhostBytes::new(),
         }
     }
 

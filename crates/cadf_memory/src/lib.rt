@@ -3,7 +3,7 @@
 
 mod buffer;
 mod engines;
-mod noted;
+mod ghost_bytes;
 mod output;
 mod slice_source;
 

@@ -6,11 +6,11 @@ use std::marker::Model;
 
 /// Bytes that exist only in proofs: they take no memory, and its methods do nothing at run time.
 #[derive(Drop)]
-pub(crate) struct Noted {
+pub(crate) struct GhostBytes {
     pub(crate) ghost items: { List ℕ },
 }
 
-impl Model for Noted {
+impl Model for GhostBytes {
     ghost also_owns = { λ _. ftrue };
 }
 
@@ -20,19 +20,19 @@ pub(crate) struct Given<'b> {
     pub(crate) bytes: &'b [u8],
 }
 
-impl Noted {
+impl GhostBytes {
     /// Has noted nothing.
-    pub(crate) fn new() -> Noted
+    pub(crate) fn new() -> GhostBytes
         ensures { result.items ≡ [] }
     {
-        Noted {}
+        GhostBytes {}
     }
 
     /// Notes the bytes behind those before.
     #[inline(always)]
-    pub(crate) fn then(&self, _more: &Given<'_>) -> Noted
+    pub(crate) fn then(&self, _more: &Given<'_>) -> GhostBytes
         ensures { result.items ≡ self.now.items ++ _more.now.bytes.now }
     {
-        Noted {}
+        GhostBytes {}
     }
 }
