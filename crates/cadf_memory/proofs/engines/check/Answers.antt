@@ -18,16 +18,16 @@ returns-in-Err-clause-err c =
 
 pub returns-in-Ok-clause-same : goal.returns-in-Ok-clause-same
 returns-in-Ok-clause-same c =
-    (run_kept _ _ _ _ _ _ _ c.args.output.now c.run_check.new.output refl refl c.run_check.ensures).0
+    (run_kept _ _ _ _ _ _ _ c.args.output.now c.run_check.new.output refl refl c.run_check.ensures.checked).0
 
 pub returns-in-Ok-clause-before : goal.returns-in-Ok-clause-before
 returns-in-Ok-clause-before c =
-    (run_kept _ _ _ _ _ _ _ c.args.output.now c.run_check.new.output refl refl c.run_check.ensures).1
+    (run_kept _ _ _ _ _ _ _ c.args.output.now c.run_check.new.output refl refl c.run_check.ensures.checked).1
 
 pub returns-in-Err-clause-same : goal.returns-in-Err-clause-same
 returns-in-Err-clause-same c =
-    (run_kept _ _ _ _ _ _ _ c.args.output.now c.run_check.new.output refl refl c.run_check.ensures).0
+    (run_kept _ _ _ _ _ _ _ c.args.output.now c.run_check.new.output refl refl c.run_check.ensures.checked).0
 
 pub returns-in-Err-clause-before : goal.returns-in-Err-clause-before
 returns-in-Err-clause-before c =
-    (run_kept _ _ _ _ _ _ _ c.args.output.now c.run_check.new.output refl refl c.run_check.ensures).1
+    (run_kept _ _ _ _ _ _ _ c.args.output.now c.run_check.new.output refl refl c.run_check.ensures.checked).1
