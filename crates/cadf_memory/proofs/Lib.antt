@@ -2,3 +2,6 @@ pub mod Made
 pub mod Refused
 pub mod Lists
 pub mod States
+pub mod Walks
+pub mod Stored
+pub mod Framed
