@@ -11,8 +11,8 @@ use Rattle.cadf_tool.specs.Run.{InputSpec}
 use Rattle.cadf_memory.specs.declared.buffer.Buffer.{Buffer}
 use Rattle.cadf_memory.specs.Filled.{IsFilled, buffer_before, buffer_text}
 use Rattle.cadf_memory.specs.Handed as memory
-use Rattle.cadf_memory.specs.Made.{IsMadeOf, IsMadeOfTwo, IsMadeOfAll}
-use Rattle.cadf_c.specs.Output.{IsHandedOut, IsMadeFrom, IsMadeFromTwo, IsMadeFromAll}
+use Rattle.cadf_memory.specs.Made.{IsMadeOf, IsMadeOfTwoBy, IsMadeOfAll}
+use Rattle.cadf_c.specs.Output.{IsHandedOut, IsMadeFrom, IsMadeFromTwoBy, IsMadeFromAll}
 
 -- a status that is 0 where it is passed on is 0
 pub kept : (status : ℤ) → SFits w32 status → to_z w32 (of_z w32 status) ≡ pos 0 → status ≡ pos 0
@@ -36,9 +36,9 @@ module _ {V : Type 0} (b c : Buffer) (old new : List ℕ) (told : ℕ) (empty : 
     handed reader work bytes (Ok v) f h = record { text = f.text; made = f.made; handed = out f.text (text_is f) }
     handed reader work bytes (Err e) f h = absurd h
 
-    pub handed_two : {T U : Type 0} (reader : InputSpec T) (other : InputSpec U) (work : T × U → Result M ToolFault)
-        (from to : List ℕ) (made : Result V ToolFault) → OnOk made (IsFilled (IsMadeOfTwo reader other work tell from to) b c) → IsOk made
-        → IsMadeFromTwo reader other work tell from to old new told
+    pub handed_two : {T U : Type 0} (reader : InputSpec T) (other : InputSpec U) (work : T × U → Result M ToolFault → Type 0)
+        (from to : List ℕ) (made : Result V ToolFault) → OnOk made (IsFilled (IsMadeOfTwoBy reader other work tell from to) b c) → IsOk made
+        → IsMadeFromTwoBy reader other work tell from to old new told
     handed_two reader other work from to (Ok v) f h = record { text = f.text; made = f.made; handed = out f.text (text_is f) }
     handed_two reader other work from to (Err e) f h = absurd h
 

@@ -18,14 +18,16 @@ use Rattle.cadf_tool.specs.Run.{
   input_spec,
   IsReadAs,
   AreLoaded,
+  IsExpectedOfBy,
   IsExpectedOf,
   IsWritten,
   IsAnswer,
+  IsRunBy,
   IsRun,
 }
 use Rattle.cadf_memory.specs.declared.buffer.Buffer.{Buffer}
 use Rattle.cadf_memory.specs.Filled.{IsFilled, buffer_name, buffer_before, buffer_text}
-use Rattle.cadf_memory.specs.Made.{IsMadeOf, IsMadeOfTwo, IsMadeOfAll, AreInputs}
+use Rattle.cadf_memory.specs.Made.{IsMadeOf, IsMadeOfTwoBy, IsMadeOfAll, AreInputs}
 use Rattle.cadf_memory.proofs.Framed.{frame, name_kept, before_kept, text_added}
 
 -- what was read of bytes that are known is what they are
@@ -72,9 +74,9 @@ some_same xs ys e = cc
 -- ---- runs
 
 -- what was written, whatever the answer is
-pub added : {A M W V : Type 0} (sources : Sources A) (work : A → Result M ToolFault) (tell : M → Text) (sink : Sink W) (old new : W)
+pub added : {A M W V : Type 0} (sources : Sources A) (work : A → Result M ToolFault → Type 0) (tell : M → Text) (sink : Sink W) (old new : W)
     (result : Result V ToolFault) (front all : List ℕ) → sink.written old ≡ Some front → sink.written new ≡ Some all
-    → IsRun sources work tell sink old new result → (more : List ℕ) × (all ≡ front ++ more)
+    → IsRunBy sources work tell sink old new result → (more : List ℕ) × (all ≡ front ++ more)
 added {A} {M} {W} {V} sources work tell sink old new result front all was is r = of_answer r.expected result r.answer
   where
     known : (more : List ℕ) → Appends (sink.written old) (sink.written new) more → all ≡ front ++ more
@@ -91,9 +93,9 @@ added {A} {M} {W} {V} sources work tell sink old new result front all was is r =
     of_answer (Ok made) (Err fault) w = (take w.front.0 (tell made), known (take w.front.0 (tell made)) w.front.1)
     of_answer (Err fault) result w = ([], unchanged w.1)
 
-pub run_kept : {A M W V : Type 0} (sources : Sources A) (work : A → Result M ToolFault) (tell : M → Text) (sink : Sink W) (old new : W)
+pub run_kept : {A M W V : Type 0} (sources : Sources A) (work : A → Result M ToolFault → Type 0) (tell : M → Text) (sink : Sink W) (old new : W)
     (result : Result V ToolFault) (b c : Buffer) → sink.written old ≡ Some (frame b) → sink.written new ≡ Some (frame c)
-    → IsRun sources work tell sink old new result → (buffer_name c ≡ buffer_name b) × (buffer_before c ≡ buffer_before b)
+    → IsRunBy sources work tell sink old new result → (buffer_name c ≡ buffer_name b) × (buffer_before c ≡ buffer_before b)
 run_kept sources work tell sink old new result b c was is r =
     let more = added sources work tell sink old new result (frame b) (frame c) was is r in
     (name_kept b c more.0 more.1, before_kept b c more.0 more.1)
@@ -124,10 +126,10 @@ module _ {M W V : Type 0} (tell : M → Text) (sink : Sink W) (old new : W) (v :
     pub run_made : IsRun (one reader t) work tell sink old new (Ok v) → IsFilled (IsMadeOf reader work tell bytes) b c
     run_made r = of_expected r.expected r.first.is r.answer
 
-  module _ {T U : Type 0} (reader : InputSpec T) (other : InputSpec U) (work : T × U → Result M ToolFault)
+  module _ {T U : Type 0} (reader : InputSpec T) (other : InputSpec U) (work : T × U → Result M ToolFault → Type 0)
       (t u : SourceTransition) (from to : List ℕ) (given : t.old.left ≡ Some from) (given' : u.old.left ≡ Some to) where
-    of_expected_two : (expected : Result M ToolFault) → IsExpectedOf (two reader t other u) work expected
-        → IsAnswer tell sink old new expected (Ok v) → IsFilled (IsMadeOfTwo reader other work tell from to) b c
+    of_expected_two : (expected : Result M ToolFault) → IsExpectedOfBy (two reader t other u) work expected
+        → IsAnswer tell sink old new expected (Ok v) → IsFilled (IsMadeOfTwoBy reader other work tell from to) b c
     of_expected_two (Ok made) (a, are, e) w =
         record {
           text = tell made;
@@ -144,8 +146,8 @@ module _ {M W V : Type 0} (tell : M → Text) (sink : Sink W) (old new : W) (v :
         }
     of_expected_two (Err fault) d w = absurd (never fault w.0)
 
-    pub run_made_two : IsRun (two reader t other u) work tell sink old new (Ok v)
-        → IsFilled (IsMadeOfTwo reader other work tell from to) b c
+    pub run_made_two : IsRunBy (two reader t other u) work tell sink old new (Ok v)
+        → IsFilled (IsMadeOfTwoBy reader other work tell from to) b c
     run_made_two r = of_expected_two r.expected r.first.is r.answer
 
   module _ {S : Type 0} (source : Source S) (work : List Loaded → Result M ToolFault) (ss rs : List S)

@@ -2,7 +2,7 @@
 ghost use Rattle.std.specs.Prelude.{◌≡◌, [], ◌∷◌, ◌++◌, Some, length as length_of};
 ghost use Rattle.cadf_memory.specs.Handed.{handed};
 
-use crate::ghost_bytes::{Given, GhostBytes};
+use crate::ghost_bytes::{GhostBytes, Given};
 use cadf_json::{Failed, Sink};
 
 /// A buffer that is written to: bytes for which it has no room are counted. A write fails only if the count has no

@@ -7,6 +7,9 @@ ghost use Rattle.cadf_tool.specs.Told.{replica_model_of};
 ghost use Rattle.cadf_tool.specs.Shown.{shown_text, checked_text};
 ghost use Rattle.cadf_tool.specs.Missing.{part_of};
 ghost use Rattle.cadf_tool.specs.MissingBy.{inventory_model_of, part_by};
+ghost use Rattle.cadf_sketch.specs.SketchFile.{sketch_file};
+ghost use Rattle.cadf_tool.specs.Sketch.{sketch_model_of, IsPartBySketch};
+ghost use Rattle.cadf_tool.specs.SketchInput.{sketch_spec};
 ghost use Rattle.cadf_tool.specs.Rule.{ruled_of};
 ghost use Rattle.cadf_tool.specs.Rehearse.{script_spec, final_sites};
 ghost use Rattle.cadf_tool.specs.Sites.{sites_text};
@@ -14,16 +17,17 @@ ghost use Rattle.cadf_tool.specs.Join.{join_of};
 ghost use Rattle.cadf_tool.specs.WrittenFile.{file};
 ghost use Rattle.cadf_memory.specs.Memory.{bytes_of, slice_left};
 ghost use Rattle.cadf_memory.specs.Filled.{IsFilled, buffer_name, buffer_before};
-ghost use Rattle.cadf_memory.specs.Made.{IsMadeOf, IsMadeOfTwo, IsMadeOfAll};
-ghost use Rattle.cadf_memory.specs.Refused.{IsFirstOf, IsFirstOfTwo, IsFirstOfAll};
+ghost use Rattle.cadf_memory.specs.Made.{IsMadeOf, IsMadeOfTwo, IsMadeOfTwoBy, IsMadeOfAll};
+ghost use Rattle.cadf_memory.specs.Refused.{IsFirstOf, IsFirstOfTwo, IsFirstOfTwoBy, IsFirstOfAll};
 
 use crate::buffer::Buffer;
 use crate::output::unwritten;
 use crate::slice_source::SliceSource;
 use cadf_event::Name;
+use cadf_sketch::{Cells, Salt};
 use cadf_tool::{
-    ToolFault, run_check, run_inventory, run_join, run_missing, run_missing_by, run_rehearse,
-    run_rule, run_show,
+    ToolFault, run_check, run_inventory, run_join, run_missing, run_missing_by,
+    run_missing_by_sketch, run_rehearse, run_rule, run_show, run_sketch,
 };
 use std::alloc::{AllocError as Memory, Global};
 
@@ -150,6 +154,46 @@ pub fn missing_by(
     let mut first = SliceSource::new(from);
     let mut second = SliceSource::new(inventory);
     match run_missing_by(alloc, &mut first, &mut second, output) {
+        Ok(()) => Ok(()),
+        Err(fault) => Err(unwritten(fault)),
+    }
+}
+
+/// Writes the sketch file of the input: of 198 cells if no number is given, and with its own salt if none is given.
+pub fn sketch(
+    alloc: Global,
+    cells: Option<Cells>,
+    salt: Option<Salt>,
+    input: &[u8],
+    output: &mut Buffer<'_>,
+) -> Result<(), ToolFault>
+    ensures same { buffer_name output.new ≡ buffer_name output.old }
+    ensures before { buffer_before output.new ≡ buffer_before output.old }
+    ensures ok { OnOk result (IsFilled (IsMadeOf input_spec (sketch_model_of cells salt) sketch_file input.now) output.old output.new) }
+    ensures err { IfErr result (λ fault. IsFirstOf input_spec (sketch_model_of cells salt) input.now fault) }
+{
+    let mut source = SliceSource::new(input);
+    match run_sketch(alloc, cells, salt, &mut source, output) {
+        Ok(()) => Ok(()),
+        Err(fault) => Err(unwritten(fault)),
+    }
+}
+
+/// Writes the replica file of what `from` has beyond the sketch. Inputs count from 1: `from` is the first.
+pub fn missing_by_sketch(
+    alloc: Global,
+    from: &[u8],
+    sketch: &[u8],
+    output: &mut Buffer<'_>,
+) -> Result<(), ToolFault>
+    ensures same { buffer_name output.new ≡ buffer_name output.old }
+    ensures before { buffer_before output.new ≡ buffer_before output.old }
+    ensures ok { OnOk result (IsFilled (IsMadeOfTwoBy input_spec sketch_spec IsPartBySketch file from.now sketch.now) output.old output.new) }
+    ensures err { IfErr result (λ fault. IsFirstOfTwoBy input_spec sketch_spec IsPartBySketch from.now sketch.now fault) }
+{
+    let mut first = SliceSource::new(from);
+    let mut second = SliceSource::new(sketch);
+    match run_missing_by_sketch(alloc, &mut first, &mut second, output) {
         Ok(()) => Ok(()),
         Err(fault) => Err(unwritten(fault)),
     }

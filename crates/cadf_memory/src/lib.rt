@@ -8,6 +8,9 @@ mod output;
 mod slice_source;
 
 pub use crate::buffer::Buffer;
-pub use crate::engines::{check, inventory, join, missing, missing_by, rehearse, rule, show};
+pub use crate::engines::{
+    check, inventory, join, missing, missing_by, missing_by_sketch, rehearse, rule, show, sketch,
+};
 pub use cadf_event::Name;
+pub use cadf_sketch::{Cells, Salt};
 pub use cadf_tool::{ToolFault, status};
