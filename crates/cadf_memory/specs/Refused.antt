@@ -1,10 +1,10 @@
 -- Why an engine over bytes in memory gives up: the first refusal, or there is no memory.
 --     unwritten_of fault                         a write to memory fails only if there is no memory
+--     is_of_memory fault                         it is neither a failed read nor a failed write
 --     IsFirstOf reader work bytes fault          the fault comes first, of a source that has these bytes and of which no read failed
 --     IsFirstOfTwo reader other work from to f   the same of two inputs; `By`: of a work that is a relation
 --     IsFirstOfAll work inputs fault             the same of a list of inputs
--- Where `IsFirstFault` holds, the fault is no `WriteFault`. It is no `ReadFault` either: that is refused with a failed read.
-use Rattle.std.specs.Prelude.{◌≡◌, ℕ, List, [], ◌∷◌, map, Some, Result}
+use Rattle.std.specs.Prelude.{◌≡◌, ℕ, Bool, true, false, List, [], ◌∷◌, map, Some, Result}
 use Rattle.cadf_tool.specs.declared.input.Loaded.{Loaded}
 use Rattle.cadf_tool.specs.declared.fault.ToolFault.{ToolFault}
 use Rattle.cadf_tool.specs.declared.fault.ToolFault.TheVariants.{
@@ -34,6 +34,11 @@ unwritten_of NoValue = NoValue
 unwritten_of (ReadFault n) = ReadFault n
 unwritten_of WriteFault = Memory
 unwritten_of Memory = Memory
+
+abbrev pub is_of_memory : ToolFault → Bool
+is_of_memory (ReadFault n) = false
+is_of_memory WriteFault = false
+is_of_memory _ = true
 
 pub record IsFirstOf {T M : Type 0} (reader : InputSpec T) (work : T → Result M ToolFault) (bytes : List ℕ)
     (fault : ToolFault) : Type 0 where

@@ -1,5 +1,5 @@
 //! Each engine over bytes. It writes the text that it tells of the bytes, or answers the first refusal.
-ghost use Rattle.std.specs.Prelude.{◌≡◌, OnOk, IfOk, IfErr, map, encode_utf8};
+ghost use Rattle.std.specs.Prelude.{◌≡◌, true, OnOk, IfOk, IfErr, map, encode_utf8};
 ghost use Rattle.cadf_file.specs.InventoryFile.{inventory_file};
 ghost use Rattle.cadf_tool.specs.Run.{input_spec};
 ghost use Rattle.cadf_tool.specs.InventoryInput.{inventory_spec};
@@ -18,7 +18,7 @@ ghost use Rattle.cadf_tool.specs.WrittenFile.{file};
 ghost use Rattle.cadf_memory.specs.Memory.{bytes_of, slice_left};
 ghost use Rattle.cadf_memory.specs.Filled.{IsFilled, buffer_name, buffer_before};
 ghost use Rattle.cadf_memory.specs.Made.{IsMadeOf, IsMadeOfTwo, IsMadeOfTwoBy, IsMadeOfAll};
-ghost use Rattle.cadf_memory.specs.Refused.{IsFirstOf, IsFirstOfTwo, IsFirstOfTwoBy, IsFirstOfAll};
+ghost use Rattle.cadf_memory.specs.Refused.{is_of_memory, IsFirstOf, IsFirstOfTwo, IsFirstOfTwoBy, IsFirstOfAll};
 
 use crate::buffer::Buffer;
 use crate::output::unwritten;
@@ -42,6 +42,7 @@ pub fn show(
     ensures before { buffer_before output.new ≡ buffer_before output.old }
     ensures ok { OnOk result (IsFilled (IsMadeOf input_spec replica_model_of (shown_text conflicts) input.now) output.old output.new) }
     ensures err { IfErr result (λ fault. IsFirstOf input_spec replica_model_of input.now fault) }
+    ensures only { IfErr result (λ fault. is_of_memory fault ≡ true) }
 {
     let mut source = SliceSource::new(input);
     match run_show(alloc, conflicts, &mut source, output) {
@@ -56,6 +57,7 @@ pub fn check(alloc: Global, input: &[u8], output: &mut Buffer<'_>) -> Result<(),
     ensures before { buffer_before output.new ≡ buffer_before output.old }
     ensures ok { OnOk result (IsFilled (IsMadeOf input_spec replica_model_of checked_text input.now) output.old output.new) }
     ensures err { IfErr result (λ fault. IsFirstOf input_spec replica_model_of input.now fault) }
+    ensures only { IfErr result (λ fault. is_of_memory fault ≡ true) }
 {
     let mut source = SliceSource::new(input);
     match run_check(alloc, &mut source, output) {
@@ -70,6 +72,7 @@ pub fn inventory(alloc: Global, input: &[u8], output: &mut Buffer<'_>) -> Result
     ensures before { buffer_before output.new ≡ buffer_before output.old }
     ensures ok { OnOk result (IsFilled (IsMadeOf input_spec inventory_model_of inventory_file input.now) output.old output.new) }
     ensures err { IfErr result (λ fault. IsFirstOf input_spec inventory_model_of input.now fault) }
+    ensures only { IfErr result (λ fault. is_of_memory fault ≡ true) }
 {
     let mut source = SliceSource::new(input);
     match run_inventory(alloc, &mut source, output) {
@@ -91,6 +94,7 @@ pub fn rule(
     ensures before { buffer_before output.new ≡ buffer_before output.old }
     ensures ok { OnOk result (IsFilled (IsMadeOf input_spec (ruled_of (encode_utf8 letter) key.now place) file input.now) output.old output.new) }
     ensures err { IfErr result (λ fault. IsFirstOf input_spec (ruled_of (encode_utf8 letter) key.now place) input.now fault) }
+    ensures only { IfErr result (λ fault. is_of_memory fault ≡ true) }
 {
     let mut source = SliceSource::new(input);
     match run_rule(alloc, letter, key, place, &mut source, output) {
@@ -111,6 +115,7 @@ pub fn rehearse(
     ensures before { buffer_before output.new ≡ buffer_before output.old }
     ensures ok { OnOk result (IsFilled (IsMadeOf script_spec (final_sites log.now sites) sites_text script.now) output.old output.new) }
     ensures err { IfErr result (λ fault. IsFirstOf script_spec (final_sites log.now sites) script.now fault) }
+    ensures only { IfErr result (λ fault. is_of_memory fault ≡ true) }
 {
     let mut source = SliceSource::new(script);
     match run_rehearse(alloc, log, sites, &mut source, output) {
@@ -130,6 +135,7 @@ pub fn missing(
     ensures before { buffer_before output.new ≡ buffer_before output.old }
     ensures ok { OnOk result (IsFilled (IsMadeOfTwo input_spec input_spec part_of file from.now to.now) output.old output.new) }
     ensures err { IfErr result (λ fault. IsFirstOfTwo input_spec input_spec part_of from.now to.now fault) }
+    ensures only { IfErr result (λ fault. is_of_memory fault ≡ true) }
 {
     let mut first = SliceSource::new(from);
     let mut second = SliceSource::new(to);
@@ -150,6 +156,7 @@ pub fn missing_by(
     ensures before { buffer_before output.new ≡ buffer_before output.old }
     ensures ok { OnOk result (IsFilled (IsMadeOfTwo input_spec inventory_spec part_by file from.now inventory.now) output.old output.new) }
     ensures err { IfErr result (λ fault. IsFirstOfTwo input_spec inventory_spec part_by from.now inventory.now fault) }
+    ensures only { IfErr result (λ fault. is_of_memory fault ≡ true) }
 {
     let mut first = SliceSource::new(from);
     let mut second = SliceSource::new(inventory);
@@ -171,6 +178,7 @@ pub fn sketch(
     ensures before { buffer_before output.new ≡ buffer_before output.old }
     ensures ok { OnOk result (IsFilled (IsMadeOf input_spec (sketch_model_of cells salt) sketch_file input.now) output.old output.new) }
     ensures err { IfErr result (λ fault. IsFirstOf input_spec (sketch_model_of cells salt) input.now fault) }
+    ensures only { IfErr result (λ fault. is_of_memory fault ≡ true) }
 {
     let mut source = SliceSource::new(input);
     match run_sketch(alloc, cells, salt, &mut source, output) {
@@ -190,6 +198,7 @@ pub fn missing_by_sketch(
     ensures before { buffer_before output.new ≡ buffer_before output.old }
     ensures ok { OnOk result (IsFilled (IsMadeOfTwoBy input_spec sketch_spec IsPartBySketch file from.now sketch.now) output.old output.new) }
     ensures err { IfErr result (λ fault. IsFirstOfTwoBy input_spec sketch_spec IsPartBySketch from.now sketch.now fault) }
+    ensures only { IfErr result (λ fault. is_of_memory fault ≡ true) }
 {
     let mut first = SliceSource::new(from);
     let mut second = SliceSource::new(sketch);
@@ -222,6 +231,7 @@ pub fn join(
     ensures before { buffer_before output.new ≡ buffer_before output.old }
     ensures ok { OnOk result (IsFilled (IsMadeOfAll (join_of log) file (bytes_of inputs.now)) output.old output.new) }
     ensures err { IfErr result (λ fault. IsFirstOfAll (join_of log) (bytes_of inputs.now) fault) }
+    ensures only { IfErr result (λ fault. is_of_memory fault ≡ true) }
 {
     let Ok(mut sources) = sources(alloc, inputs) else {
         return Err(ToolFault::Memory);

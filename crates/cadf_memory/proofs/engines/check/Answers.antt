@@ -3,6 +3,7 @@ use Rattle.cadf_tool.specs.Run.{input_spec}
 use Rattle.cadf_tool.specs.Shown.{checked_text}
 use Rattle.cadf_tool.specs.Told.{replica_model_of}
 use Rattle.cadf_memory.proofs.Made.{run_kept, run_made}
+use Rattle.cadf_memory.proofs.OfMemory.{one_never, input_never, run_of_memory}
 use Rattle.cadf_memory.proofs.Refused.{run_refused}
 use Rattle.cadf_memory.proofs.engines.check.Goals as goal
 
@@ -31,3 +32,8 @@ returns-in-Err-clause-same c =
 pub returns-in-Err-clause-before : goal.returns-in-Err-clause-before
 returns-in-Err-clause-before c =
     (run_kept _ _ _ _ _ _ _ c.args.output.now c.run_check.new.output refl refl c.run_check.ensures.checked).1
+
+pub returns-in-Err-clause-only : goal.returns-in-Err-clause-only
+returns-in-Err-clause-only c =
+    run_of_memory _ _ (one_never input_spec _ (input_never _ _ refl refl _)) checked_text _ _ _
+    c.in-Err.fault c.unwritten.result c.unwritten.ensures (λ a are. are.1) c.in-Err.ensures.checked

@@ -1,9 +1,11 @@
 use Rattle.std.proofs.Common.{Some, ap, sym, refl, map, ◌∙◌}
 use Rattle.cadf_tool.specs.Join.{join_of}
 use Rattle.cadf_tool.specs.WrittenFile.{file}
+use Rattle.cadf_tool.proofs.LoadedLists.{none_failed}
 use Rattle.cadf_memory.specs.Memory.{slice_left}
 use Rattle.cadf_memory.proofs.Lists.{lefts, none_has_failed, refused_unread}
 use Rattle.cadf_memory.proofs.Made.{run_kept, run_made_all}
+use Rattle.cadf_memory.proofs.OfMemory.{all_never, run_of_memory}
 use Rattle.cadf_memory.proofs.Refused.{run_refused_all}
 use Rattle.cadf_memory.proofs.engines.join.Goals as goal
 
@@ -40,3 +42,8 @@ returns-clause-same c =
 pub returns-clause-before : goal.returns-clause-before
 returns-clause-before c =
     (run_kept _ _ _ _ _ _ _ c.args.output.now c.run_join.new.output refl refl c.run_join.ensures).1
+
+pub returns-clause-only : goal.returns-clause-only
+returns-clause-only c =
+    run_of_memory _ _ (all_never _ _ (none_has_failed _ (λ s. refl) c.as_mut_slice.result.now) (none_has_failed _ (λ s. refl) c.run_join.new.inputs)) file _ _ _
+    c.in-Err.fault c.unwritten.result c.unwritten.ensures (λ ls are. none_failed _ _ ls are) c.in-Err.ensures

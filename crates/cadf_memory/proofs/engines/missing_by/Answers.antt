@@ -4,6 +4,7 @@ use Rattle.cadf_tool.specs.MissingBy.{part_by}
 use Rattle.cadf_tool.specs.Run.{input_spec, IsValue}
 use Rattle.cadf_tool.specs.WrittenFile.{file}
 use Rattle.cadf_memory.proofs.Made.{run_kept, run_made_two}
+use Rattle.cadf_memory.proofs.OfMemory.{two_never, input_never, kind_never, inventory_alone, run_of_memory}
 use Rattle.cadf_memory.proofs.Refused.{run_refused_two}
 use Rattle.cadf_memory.proofs.engines.missing_by.Goals as goal
 
@@ -32,3 +33,8 @@ returns-in-Err-clause-same c =
 pub returns-in-Err-clause-before : goal.returns-in-Err-clause-before
 returns-in-Err-clause-before c =
     (run_kept _ _ _ _ _ _ _ c.args.output.now c.run_missing_by.new.output refl refl c.run_missing_by.ensures).1
+
+pub returns-in-Err-clause-only : goal.returns-in-Err-clause-only
+returns-in-Err-clause-only c =
+    run_of_memory _ _ (two_never input_spec _ inventory_spec _ (input_never _ _ refl refl _) (kind_never _ _ refl refl _ inventory_alone)) file _ _ _
+    c.in-Err.fault c.unwritten.result c.unwritten.ensures (λ a are. (are.0.1, are.1.1)) c.in-Err.ensures

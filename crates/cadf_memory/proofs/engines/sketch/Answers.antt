@@ -3,6 +3,7 @@ use Rattle.cadf_sketch.specs.SketchFile.{sketch_file}
 use Rattle.cadf_tool.specs.Run.{input_spec}
 use Rattle.cadf_tool.specs.Sketch.{sketch_model_of}
 use Rattle.cadf_memory.proofs.Made.{run_kept, run_made}
+use Rattle.cadf_memory.proofs.OfMemory.{one_never, input_never, run_of_memory}
 use Rattle.cadf_memory.proofs.Refused.{run_refused}
 use Rattle.cadf_memory.proofs.engines.sketch.Goals as goal
 
@@ -31,3 +32,8 @@ returns-in-Err-clause-same c =
 pub returns-in-Err-clause-before : goal.returns-in-Err-clause-before
 returns-in-Err-clause-before c =
     (run_kept _ _ _ _ _ _ _ c.args.output.now c.run_sketch.new.output refl refl c.run_sketch.ensures).1
+
+pub returns-in-Err-clause-only : goal.returns-in-Err-clause-only
+returns-in-Err-clause-only c =
+    run_of_memory _ _ (one_never input_spec _ (input_never _ _ refl refl _)) sketch_file _ _ _
+    c.in-Err.fault c.unwritten.result c.unwritten.ensures (λ a are. are.1) c.in-Err.ensures
