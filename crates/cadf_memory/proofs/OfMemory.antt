@@ -23,7 +23,6 @@ use Rattle.cadf_linefile.proofs.RefusedLemmas as refused
 use Rattle.cadf_file.specs.InventoryVerdict.{inventory_grammar, inventory_model_or_fault}
 use Rattle.cadf_sketch.specs.Sketches.{SketchModel}
 use Rattle.cadf_sketch.specs.SketchVerdict.{sketch_grammar, sketch_model_or_fault}
-use Rattle.cadf_tool.specs.declared.input.Loaded.{Loaded}
 use Rattle.cadf_tool.specs.declared.input.LoadFault.TheVariants.{ReadFault as ReadFailed}
 use Rattle.cadf_tool.specs.declared.fault.ToolFault.{ToolFault}
 use Rattle.cadf_tool.specs.declared.fault.ToolFault.TheVariants.{

@@ -1,5 +1,6 @@
 -- What stands in a buffer after one more write.
-use Rattle.std.proofs.Common.{◌≡◌, ℕ, ◌+◌, ◌-◌, ◌≤◌, ◌<◌, Bool, true, false, List, [], ◌∷◌, ◌++◌, length, take, drop, refl, sym, ap, ◌∙◌, subst, arith, append-nil, append_assoc, length-append, length-take, length-drop, length-take-le, take_all}
+use Rattle.std.proofs.Common.{◌≡◌, ℕ, ◌+◌, ◌-◌, ◌≤◌, ◌<◌, Bool, true, false, List, ◌++◌, length, take, drop}
+use Rattle.std.proofs.Common.{refl, sym, ap, ◌∙◌, arith, append-nil, append_assoc, length-append, length-take, length-drop, length-take-le, take_all}
 use Rattle.std.proofs.Math.Dec.{leb}
 use Rattle.std.proofs.lemmas.Bool.{leb-true, leb-false}
 use Rattle.std.proofs.lemmas.List.{take-append-le}
@@ -58,7 +59,8 @@ module _ (text old bytes : List ℕ) where
     all_fits h k =
         let m : length bytes ≤ length old - length text = omega arith in
         same_written now _ s _ e _ (was ∙ fits_so_far h) (whole h) (ends k) ∙ after_room (length bytes) h
-        ∙ ap (λ (xs : List ℕ). text ++ (xs ++ drop (length text + length bytes) old)) (take-length bytes ∙ sym (take_all (length old - length text) bytes m))
+        ∙ ap (λ (xs : List ℕ). text ++ (xs ++ drop (length text + length bytes) old))
+        (take-length bytes ∙ sym (take_all (length old - length text) bytes m))
         ∙ sym (handed_more h)
 
     some_fits : length text ≤ length old → length old ≤ length text + length bytes → written_at now s e bytes ≡ handed (text ++ bytes) old
@@ -66,7 +68,8 @@ module _ (text old bytes : List ℕ) where
         let d : length old ≡ length text + (length old - length text) = omega arith in
         let l : length old ≤ length text + (length old - length text) = omega arith in
         same_written now _ s _ e _ (was ∙ fits_so_far h) (whole h) (stops k ∙ d) ∙ after_room (length old - length text) h
-        ∙ ap (λ (xs : List ℕ). text ++ (take (length old - length text) bytes ++ xs)) (drop_of_length-le old l ∙ sym (drop_of_length-le old k))
+        ∙ ap (λ (xs : List ℕ). text ++ (take (length old - length text) bytes ++ xs))
+        (drop_of_length-le old l ∙ sym (drop_of_length-le old k))
         ∙ sym (handed_more h)
 
     nothing_fits : length old ≤ length text → written_at now s e bytes ≡ handed (text ++ bytes) old

@@ -1,4 +1,4 @@
-use Rattle.std.proofs.Common.{Some, ap, sym, refl, map, ◌∙◌}
+use Rattle.std.proofs.Common.{Some, ap, refl, map, ◌∙◌}
 use Rattle.cadf_tool.specs.Join.{join_of}
 use Rattle.cadf_tool.specs.WrittenFile.{file}
 use Rattle.cadf_tool.proofs.LoadedLists.{none_failed}
