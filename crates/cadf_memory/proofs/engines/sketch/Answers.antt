@@ -8,12 +8,12 @@ use Rattle.cadf_memory.proofs.engines.sketch.Goals as goal
 
 pub returns-in-Ok-clause-ok : goal.returns-in-Ok-clause-ok
 returns-in-Ok-clause-ok c =
-    run_made sketch_file _ _ _ _ c.args.output.now c.run_sketch.new.output refl refl input_spec (sketch_model_of _ _) _ _
+    run_made sketch_file _ _ _ _ c.args.output.now c.run_sketch.new.output refl refl input_spec (sketch_model_of c.args.cells c.args.salt) _ _
     (ap Some c.new-source.ensures) c.in-Ok.ensures
 
 pub returns-in-Err-clause-err : goal.returns-in-Err-clause-err
 returns-in-Err-clause-err c =
-    run_refused sketch_file _ _ _ c.in-Err.fault c.unwritten.result c.unwritten.ensures input_spec (sketch_model_of _ _) _ _
+    run_refused sketch_file _ _ _ c.in-Err.fault c.unwritten.result c.unwritten.ensures input_spec (sketch_model_of c.args.cells c.args.salt) _ _
     (ap Some c.new-source.ensures) refl c.in-Err.ensures
 
 pub returns-in-Ok-clause-same : goal.returns-in-Ok-clause-same
