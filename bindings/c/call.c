@@ -5,8 +5,8 @@
  *     call join LOG FILE.. | rule LETTER KEY PLACE FILE | rehearse LOG SITES SCRIPT
  *     call sketch CELLS SALT FILE | missing-by-sketch FROM SKETCH
  *
- * An empty LOG is none, and so is 0 for CELLS or SALT. PLACE, SITES, CELLS and SALT are decimal numbers. The exit status is that of the command; 3 where a file can't be read
- * or the output not written, 2 where the words are none of these.
+ * An empty LOG is none, and so is 0 for CELLS or SALT. PLACE, SITES, CELLS and SALT are decimal numbers. The exit status is that of
+ * the command; 3 where a file can't be read or the output not written, 2 where the words are none of these.
  */
 #include "cadf.h"
 
