@@ -19,7 +19,7 @@ pub kept : (status : ℤ) → SFits w32 status → to_z w32 (of_z w32 status) �
 kept status fits zero = sym (to_z-of_z w32 status fits) ∙ zero
 
 -- an engine wrote to the buffer c, which was b and to which nothing was written
-module _ {V : Type 0} (b c : Buffer) (old new : List ℕ) (told : ℕ) (empty : buffer_text b ≡ []) (first : buffer_before b ≡ old)
+module _ (b c : Buffer) (old new : List ℕ) (told : ℕ) (empty : buffer_text b ≡ []) (first : buffer_before b ≡ old)
     (same : buffer_before c ≡ buffer_before b) (left : new ≡ c.output.now) (count : told ≡ length (buffer_text c)) where
   text_is : {P : Text → Type 0} (f : IsFilled P b c) → buffer_text c ≡ f.text
   text_is f = f.added ∙ ap (λ (t : List ℕ). t ++ f.text) empty
@@ -30,7 +30,7 @@ module _ {V : Type 0} (b c : Buffer) (old new : List ℕ) (told : ℕ) (empty : 
     all = count ∙ ap length e;
   }
 
-  module _ {M : Type 0} (tell : M → Text) where
+  module _ {V M : Type 0} (tell : M → Text) where
     pub handed : {T : Type 0} (reader : InputSpec T) (work : T → Result M ToolFault) (bytes : List ℕ) (made : Result V ToolFault)
         → OnOk made (IsFilled (IsMadeOf reader work tell bytes) b c) → IsOk made → IsMadeFrom reader work tell bytes old new told
     handed reader work bytes (Ok v) f h = record { text = f.text; made = f.made; handed = out f.text (text_is f) }
