@@ -1,5 +1,5 @@
 -- What an engine wrote to a buffer is handed out.
-use Rattle.std.proofs.Common.{◌≡◌, ℕ, List, [], ◌++◌, length, Result, Ok, Err, OnOk, IsOk, sym, ap, ◌∙◌}
+use Rattle.std.proofs.Common.{◌≡◌, ℕ, List, [], ◌++◌, length, Result, Ok, Err, OnOk, IsOk, sym, ap, ◌∙◌, true≢false}
 use Rattle.std.proofs.lemmas.Int.{to_z-of_z}
 use lib.IntN.{ℤ, pos}
 use mir.Syntax.{w32}
@@ -34,15 +34,15 @@ module _ (b c : Buffer) (old new : List ℕ) (told : ℕ) (empty : buffer_text b
     pub handed : {T : Type 0} (reader : InputSpec T) (work : T → Result M ToolFault) (bytes : List ℕ) (made : Result V ToolFault)
         → OnOk made (IsFilled (IsMadeOf reader work tell bytes) b c) → IsOk made → IsMadeFrom reader work tell bytes old new told
     handed reader work bytes (Ok v) f h = record { text = f.text; made = f.made; handed = out f.text (text_is f) }
-    handed reader work bytes (Err e) f h = absurd h
+    handed reader work bytes (Err e) f h = absurd (true≢false (sym h))
 
     pub handed_two : {T U : Type 0} (reader : InputSpec T) (other : InputSpec U) (work : T × U → Result M ToolFault → Type 0)
         (from to : List ℕ) (made : Result V ToolFault) → OnOk made (IsFilled (IsMadeOfTwoBy reader other work tell from to) b c) → IsOk made
         → IsMadeFromTwoBy reader other work tell from to old new told
     handed_two reader other work from to (Ok v) f h = record { text = f.text; made = f.made; handed = out f.text (text_is f) }
-    handed_two reader other work from to (Err e) f h = absurd h
+    handed_two reader other work from to (Err e) f h = absurd (true≢false (sym h))
 
     pub handed_all : (work : List Loaded → Result M ToolFault) (inputs : List (List ℕ)) (made : Result V ToolFault)
         → OnOk made (IsFilled (IsMadeOfAll work tell inputs) b c) → IsOk made → IsMadeFromAll work tell inputs old new told
     handed_all work inputs (Ok v) f h = record { text = f.text; made = f.made; handed = out f.text (text_is f) }
-    handed_all work inputs (Err e) f h = absurd h
+    handed_all work inputs (Err e) f h = absurd (true≢false (sym h))
