@@ -8,5 +8,5 @@ use Rattle.cadf_c.proofs.cadf_inventory.Goals as goal
 pub returns : goal.returns
 returns c = λ zero.
     let done = c.answer.ensures (kept c.answer.result (search rules) zero) in
-    handed c.new-sink.result c.inventory-made.new.output _ _ _ c.new-sink.ensures.text c.new-sink.ensures.before c.inventory-made.ensures.before done.1.0
-    (done.1.1 ∙ c.length-written.ensures) inventory_file input_spec inventory_model_of _ _ c.inventory-made.ensures.ok done.0
+    handed c.new-sink.result c.inventory-made.new.output _ _ _ c.new-sink.ensures.text c.new-sink.ensures.before c.inventory-made.ensures.before done.1
+    (done.2 ∙ c.length-written.ensures) inventory_file input_spec inventory_model_of _ _ c.inventory-made.ensures.ok done.0

@@ -7,5 +7,5 @@ use Rattle.cadf_c.proofs.cadf_rehearse.Goals as goal
 pub returns-in-Ok : goal.returns-in-Ok
 returns-in-Ok c = λ zero.
     let done = c.answer.ensures (kept c.answer.result (search rules) zero) in
-    handed c.new-sink.result c.rehearse-made.new.output _ _ _ c.new-sink.ensures.text c.new-sink.ensures.before c.rehearse-made.ensures.before done.1.0
-    (done.1.1 ∙ c.length-written.ensures) sites_text script_spec (final_sites _ _) _ _ (rw (c.in-Ok.ensures.0, c.in-Ok.ensures.1) at c.rehearse-made.ensures.ok) done.0
+    handed c.new-sink.result c.rehearse-made.new.output _ _ _ c.new-sink.ensures.text c.new-sink.ensures.before c.rehearse-made.ensures.before done.1
+    (done.2 ∙ c.length-written.ensures) sites_text script_spec (final_sites _ _) _ _ (rw (c.in-Ok.ensures.0, c.in-Ok.ensures.1) at c.rehearse-made.ensures.ok) done.0
