@@ -76,6 +76,25 @@ impl<'a> SuffixRange<'a> {
         self.binary_search(text, passed, 0, count)
     }
 
+    /// Returns the same number. Gallops upwards from `near`, which may be any number: fast if the bound is close behind it.
+    fn gallop(&self, text: &str, passed: bool, near: usize) -> usize
+        requires { IsStrictlySortedBy texts_cmp self.now }
+        ensures within { result ≤ length self.now }
+        ensures below { AllByRecursion (λ l. is_before (text.now ∷ []) passed l ≡ true) (take result self.now) }
+        ensures above { AllByRecursion (λ l. is_before (text.now ∷ []) passed l ≡ false) (drop result self.now) }
+    {
+        let mut low: usize = 0;
+        let mut probe = near;
+        while probe < self.count() {
+            if !self.is_before(probe, text, passed) {
+                return self.binary_search(text, passed, low, probe);
+            }
+            low = probe + 1;
+            probe = low.saturating_add(low.saturating_sub(near));
+        }
+        self.binary_search(text, passed, low, self.count())
+    }
+
     /// Finds that number between `low` and `high`.
     fn binary_search(&self, text: &str, passed: bool, low: usize, high: usize) -> usize
         requires rising { IsStrictlySortedBy texts_cmp self.now }
@@ -167,6 +186,21 @@ impl<'a> SuffixRange<'a> {
     {
         match text {
             Some(text) => self.text(self.bound(text, true)),
+            None => self.least_text(),
+        }
+    }
+
+    /// Returns the same text. Searches from the suffix of the number `near`, and leaves there the number of the one that was found.
+    pub fn next_child_near(&self, text: Option<&str>, near: &mut usize) -> Option<&'a str>
+        requires { IsStrictlySortedBy texts_cmp self.now }
+        ensures { option_copied result ≡ next_after (heads (set.from_list self.now)) (option_copied text.entry) }
+    {
+        match text {
+            Some(text) => {
+                let number = self.gallop(text, true, *near);
+                *near = number;
+                self.text(number)
+            }
             None => self.least_text(),
         }
     }

@@ -57,13 +57,21 @@ impl<'a> SuffixSet<'a> {
         self.range.next_child(text)
     }
 
+    /// Returns the same text, of a search that begins at the number `near`, and leaves there the number at which it ended.
+    fn next_child_near(&self, text: Option<&str>, near: &mut usize) -> Option<&'a str>
+        ensures { option_copied result ≡ next_after (heads self.now) (option_copied text.entry) }
+    {
+        self.range.next_child_near(text, near)
+    }
+
     /// Copies the first texts, each once, in order.
     pub fn child_texts(&self) -> Result<Vec<String>, Memory>
         ensures { IfOk result (λ found. map string_bytes found.items ≡ set.rising (heads self.now)) }
     {
         let mut texts = Vec::new(self.alloc);
         let mut last = None;
-        while let Some(text) = self.next_child(last) {
+        let mut near: usize = 0;
+        while let Some(text) = self.next_child_near(last, &mut near) {
             texts.push(String::from_str(self.alloc, text)?)?;
             last = Some(text);
         }

@@ -20,7 +20,7 @@ pub loop-text-smaller : goal.loop-text-smaller
 loop-text-smaller c =
     let h = heads c.args.self.now in
     let step = ap length (next_one text_total text_same (option_copied c.loop-text.last) (set.rising h) (rising_is_sorted text_total text_same h)
-    c.in-Some.text.now (sym c.next_child.ensures ∙ ap option_copied c.in-Some.is)) in
+    c.in-Some.text.now (sym c.next_child_near.ensures ∙ ap option_copied c.in-Some.is)) in
     omega (arith, step)
 
 pub loop-text-preserved : goal.loop-text-preserved
@@ -34,7 +34,7 @@ loop-text-preserved c =
     ∙ append_assoc done (string_bytes c.in_ok-from_str.field-0 ∷ []) left
     ∙ ap (λ x. done ++ x ∷ left) c.in_ok-from_str.ensures.ok
     ∙ ap (λ ts. done ++ ts) (sym (next_one text_total text_same (option_copied c.loop-text.last) (set.rising h) (rising_is_sorted text_total text_same h)
-    t (sym c.next_child.ensures ∙ ap option_copied c.in-Some.is)))
+    t (sym c.next_child_near.ensures ∙ ap option_copied c.in-Some.is)))
     ∙ c.loop-text.invariant
 
 pub returns : goal.returns
@@ -43,5 +43,5 @@ returns c =
     let done = map string_bytes c.loop-text.texts.items in
     sym (append-nil done)
     ∙ ap (λ ts. done ++ ts) (sym (next_none text_total text_same (is_after text_cmp (option_copied c.loop-text.last)) (set.rising h)
-    (sym c.next_child.ensures ∙ ap option_copied c.in_default.is)))
+    (sym c.next_child_near.ensures ∙ ap option_copied c.in_default.is)))
     ∙ c.loop-text.invariant
