@@ -1,5 +1,5 @@
 //! Suffixes: lists of a range, each without its first texts.
-ghost use Rattle.std.specs.Prelude.{◌≡◌, ◌≤◌, ◌<◌, ℕ, [], ◌∷◌, IfOk, IfSome, None, true, false, length, take, drop, get_or, map, nat_le};
+ghost use Rattle.std.specs.Prelude.{◌≡◌, ◌≤◌, ◌<◌, ℕ, [], ◌∷◌, IfOk, IfSome, None, true, false, length, take, drop, get_or, map, nat_le, string_bytes};
 ghost use Rattle.std.specs.List.{AllByRecursion, find};
 ghost use Rattle.std.specs.List.Sorted.{IsStrictlySortedBy};
 ghost use Rattle.std.specs.Option.{option_copied, option_map};
@@ -76,6 +76,30 @@ impl<'a> SuffixRange<'a> {
         self.binary_search(text, passed, 0, count)
     }
 
+    /// Returns the number of the first suffix above those that begin with the text, which is `from` or higher. Galloping search: fast if it
+    /// is close behind `from`.
+    fn gallop(&self, text: &str, from: usize) -> usize
+        requires rising { IsStrictlySortedBy texts_cmp self.now }
+        requires within { from ≤ length self.now }
+        requires below { (k : ℕ) → k < from → is_before (text.now ∷ []) true (get_or self.now k []) ≡ true }
+        ensures from { from ≤ result }
+        ensures within { result ≤ length self.now }
+        ensures below { AllByRecursion (λ l. is_before (text.now ∷ []) true l ≡ true) (take result self.now) }
+        ensures above { AllByRecursion (λ l. is_before (text.now ∷ []) true l ≡ false) (drop result self.now) }
+    {
+        let mut low = from;
+        let mut step: usize = 1;
+        while step <= self.count() - low {
+            let probe = low + (step - 1);
+            if !self.is_before(probe, text, true) {
+                return self.binary_search(text, true, low, probe);
+            }
+            low = probe + 1;
+            step = step.saturating_mul(2);
+        }
+        self.binary_search(text, true, low, self.count())
+    }
+
     /// Finds that number between `low` and `high`.
     fn binary_search(&self, text: &str, passed: bool, low: usize, high: usize) -> usize
         requires rising { IsStrictlySortedBy texts_cmp self.now }
@@ -83,6 +107,7 @@ impl<'a> SuffixRange<'a> {
         requires ends { high ≤ length self.now }
         requires below { (k : ℕ) → k < low → is_before (text.now ∷ []) passed (get_or self.now k []) ≡ true }
         requires above { (k : ℕ) → high ≤ k → k < length self.now → is_before (text.now ∷ []) passed (get_or self.now k []) ≡ false }
+        ensures from { low ≤ result }
         ensures within { result ≤ length self.now }
         ensures below { AllByRecursion (λ l. is_before (text.now ∷ []) passed l ≡ true) (take result self.now) }
         ensures above { AllByRecursion (λ l. is_before (text.now ∷ []) passed l ≡ false) (drop result self.now) }
@@ -229,6 +254,25 @@ impl<'a> SuffixRange<'a> {
             Some(node) => depth(self.nodes, *node).saturating_sub(self.depth),
             None => 0,
         }
+    }
+
+    /// Copies the first texts, each once, in order. Galloping search from each to the next.
+    pub fn child_texts(&self, alloc: Global) -> Result<Vec<String>, Memory>
+        requires { IsStrictlySortedBy texts_cmp self.now }
+        ensures { IfOk result (λ found. map string_bytes found.items ≡ set.rising (heads (set.from_list self.now))) }
+    {
+        let mut texts = Vec::new(alloc);
+        let mut number: usize = 0;
+        while number < self.count() {
+            match self.text(number) {
+                Some(text) => {
+                    texts.push(String::from_str(alloc, text)?)?;
+                    number = self.gallop(text, number + 1);
+                }
+                None => number += 1,
+            }
+        }
+        Ok(texts)
     }
 
     /// Copies the suffixes, in order.

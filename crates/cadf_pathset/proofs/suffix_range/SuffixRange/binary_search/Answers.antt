@@ -8,7 +8,9 @@ loop-low-preserved-then-is_before c =
     let w = c.loop-low.invariant.within in
     let e = c.loop-low.invariant.ends in
     let t = c.loop-low-test.true in
+    let f = c.loop-low.invariant.from in
     record {
+      from = omega (arith, f);
       within = omega (arith, w, e, t);
       ends = e;
       below = all_before c.args.self.now c.requires.rising (c.args.text.now ∷ []) c.args.passed _ (omega (arith, w, e, t))
@@ -22,6 +24,7 @@ loop-low-preserved c =
     let e = c.loop-low.invariant.ends in
     let t = c.loop-low-test.true in
     record {
+      from = c.loop-low.invariant.from;
       within = omega (arith, w, e, t);
       ends = omega (arith, w, e, t);
       below = c.loop-low.invariant.below;
