@@ -40,7 +40,7 @@ use Rattle.cadf_pathset.specs.Lists.{first_text, is_before}
 use Rattle.cadf_pathset.proofs.Firsts.{below_all, twice}
 use Rattle.cadf_pathset.proofs.Halving.{before_below}
 use Rattle.cadf_pathset.proofs.Narrowed.{all_of_first}
-use Rattle.cadf_pathset.proofs.Spans.{all_turned}
+use Rattle.cadf_pathset.proofs.Grown.{all_turned}
 
 abbrev pub children : List Texts → List Text
 children ls = set.rising (set.from_list {R = text_cmp} (firsts ls))

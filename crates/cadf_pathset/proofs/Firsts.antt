@@ -15,7 +15,7 @@ use Rattle.cadf_join.specs.Sets as set
 use Rattle.cadf_join.specs.Sets.{IsAntisymmetric, contains-from_list, Listed}
 use Rattle.cadf_join.specs.laws.Rising.{listed_any, contains-rising, rising-from_list, rising_is_sorted}
 use Rattle.cadf_join.specs.laws.Rising.{listed-rising, listed-AllByRecursion, AllByRecursion-listed}
-use Rattle.cadf_pathset.proofs.Spans.{all_turned}
+use Rattle.cadf_pathset.proofs.Grown.{all_turned}
 
 pub copied_some : {A : Type 0} (x : Option (Bor A)) → is_some x ≡ is_some (option_copied x)
 copied_some None = refl

@@ -17,7 +17,7 @@ use Rattle.cadf_join.specs.Contents.{Texts, is_after, text_cmp, texts_cmp}
 use Rattle.cadf_join.specs.laws.Contents.{text_total, text_same, texts_total, texts_same, contents_same}
 use Rattle.cadf_join.specs.Sets as set
 use Rattle.cadf_join.specs.Sets.{contains-from_list, contains-insert}
-use Rattle.cadf_pathset.proofs.Spans.{all_more, all_turned}
+use Rattle.cadf_pathset.proofs.Grown.{all_more, all_turned}
 use Rattle.cadf_pathset.proofs.Inserts.{all_put}
 use Rattle.cadf_pathset.specs.Lists.{prefix_cmp, is_before, last_of, last_starts_with, is_above_last}
 

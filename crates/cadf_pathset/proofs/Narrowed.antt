@@ -1,13 +1,11 @@
 -- The lists between two bounds, without one more text, are the suffixes after a text.
 use Rattle.std.proofs.Common.{◌≡◌, ℕ, suc, zero, true, false, List, [], ◌∷◌, refl, sym, ap, ◌∙◌, subst, take, drop, map}
 use Rattle.std.specs.List.{AllByRecursion, take-map, drop-map}
-use Rattle.std.specs.declared.cmp.Ordering.TheVariants.{Less}
-use Rattle.std.specs.List.Sorted.{IsStrictlySortedBy}
-use Rattle.cadf_join.specs.Contents.{Text, Texts, tails_of, texts_cmp}
+use Rattle.cadf_join.specs.Contents.{Text, Texts, tails_of}
 use Rattle.cadf_pathset.specs.Lists.{is_before}
 use Rattle.cadf_pathset.specs.Nodes.{rest_of, IsThere}
 use Rattle.cadf_pathset.proofs.Behind.{rests_between, rests_from, rests_up_to}
-use Rattle.cadf_pathset.proofs.Spans.{map_same}
+use Rattle.cadf_pathset.proofs.Grown.{map_same}
 
 pub all_of_first : {A : Type 0} (P : A → Type 0) (xs : List A) (n : ℕ) → AllByRecursion P xs → AllByRecursion P (take n xs)
 all_of_first P xs zero h = tt

@@ -17,7 +17,7 @@ pub(crate) struct Fork {
 }
 
 impl Fork {
-    /// None are known.
+    /// Makes a fork that knows no nodes.
     pub fn unknown() -> Fork
         ensures { result.order ≡ Equal }
     {
@@ -28,7 +28,7 @@ impl Fork {
         }
     }
 
-    /// These nodes, if their texts differ, else the ones before.
+    /// Returns the fork at these nodes, if their texts differ, else the one before.
     fn or_nearer(self, a: usize, b: usize, order: Ordering) -> Fork
         ensures same { order ≡ Equal → result ≡ self }
         ensures other { (order ≡ Equal → ⊥) → result ≡ record { a = a; b = b; order = order } }
@@ -40,7 +40,7 @@ impl Fork {
         }
     }
 
-    /// Whether the lists of the two nodes go on from these.
+    /// Returns whether the lists of the two nodes go on from these.
     fn decides(self, nodes: &Nodes, node: usize, other: usize) -> bool
         requires ours { node ≤ length nodes.now }
         requires theirs { other ≤ length nodes.now }
@@ -51,7 +51,7 @@ impl Fork {
     }
 }
 
-/// Whether the climb from the node comes to the other one, with which its list then begins.
+/// Returns whether the climb from the node comes to the other one, with which its list then begins.
 fn goes_on(nodes: &Nodes, node: usize, front: usize) -> bool
     requires { node ≤ length nodes.now }
     ensures { result ≡ true → (rest : Texts) × (list_at nodes.now node ≡ list_at nodes.now front ++ rest) }
@@ -73,7 +73,7 @@ pub(crate) fn node_cmp(nodes: &Nodes, node: usize, other: usize) -> Ordering
     parting_cmp(nodes, node, other, &mut fork)
 }
 
-/// Does so at once where the lists go on from nodes that are known, and else finds those where they part.
+/// Compares them at once where the lists go on from nodes that are known, and else finds those where they part.
 pub(crate) fn next_cmp(nodes: &Nodes, node: usize, other: usize, fork: &mut Fork) -> Ordering
     requires ours { node ≤ length nodes.now }
     requires theirs { other ≤ length nodes.now }

@@ -1,10 +1,10 @@
-use Rattle.std.proofs.Common.{◌∷◌, [], ◌++◌, true, ap, sym, ◌∙◌, arith, append_assoc, drop, length, map, string_bytes}
+use Rattle.std.proofs.Common.{◌∷◌, [], ◌++◌, true, ap, sym, ◌∙◌, arith, append_assoc, drop, map, string_bytes}
 use Rattle.std.proofs.Math.ListN.{drop_of_length-le}
 use Rattle.std.proofs.lemmas.List.{append-nil}
 use Rattle.std.specs.Option.{option_copied}
 use Rattle.cadf_pathset.proofs.Children.{children, children_are, children-nil, children-some, begins_before}
 use Rattle.cadf_pathset.proofs.Halving.{all_before}
-use Rattle.cadf_pathset.proofs.Spans.{map_more}
+use Rattle.cadf_pathset.proofs.Grown.{map_more}
 use Rattle.cadf_pathset.proofs.suffix_range.SuffixRange.child_texts.Goals as goal
 
 pub gallop-number-requires-clause-below : goal.gallop-number-requires-clause-below

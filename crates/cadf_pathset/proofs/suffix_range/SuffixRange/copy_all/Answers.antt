@@ -4,7 +4,7 @@ use Rattle.std.proofs.lemmas.Simd.{map-map}
 use Rattle.cadf_join.specs.Prefixes.{all_texts, chain_texts}
 use Rattle.cadf_pathset.specs.Nodes.{list_at}
 use Rattle.cadf_pathset.specs.Walks.{Moves}
-use Rattle.cadf_pathset.proofs.Spans.{map_more}
+use Rattle.cadf_pathset.proofs.Grown.{map_more}
 use Rattle.cadf_pathset.proofs.suffix_range.SuffixRange.copy_all.Goals as goal
 
 pub loop-cursor-init : goal.loop-cursor-init

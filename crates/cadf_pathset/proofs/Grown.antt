@@ -1,4 +1,4 @@
--- Lists to which more was put, and where a text may be cut that has grown.
+-- Lists that have grown, and where a text that has grown may be cut.
 use Rattle.std.proofs.Common.{◌≡◌, ℕ, Bool, true, false, List, [], ◌∷◌, ◌++◌, refl, sym, ap, ◌∙◌, subst, length, take, drop, map, arith}
 use Rattle.std.proofs.lemmas.List.{length-append, take-append-drop, take-append-le}
 use Rattle.std.proofs.lemmas.Str.{IsUtf8-take, IsCharBoundary-from_take}
