@@ -14,9 +14,7 @@ ghost use Rattle.cadf_pathset.specs.Lists.{first_text, is_before, prefix_cmp};
 ghost use Rattle.cadf_pathset.specs.Nodes.{AreThere, rest_of};
 
 use crate::Memory;
-use crate::cursor::Cursor;
-use crate::nodes::{Nodes, depth, text_after};
-use crate::order::copied_after;
+use crate::nodes::{Nodes, copy_after, depth, text_after};
 use std::alloc::Global;
 use std::cmp::Ordering;
 use std::marker::Model;
@@ -318,9 +316,8 @@ impl<'a> SuffixRange<'a> {
         ensures { IfOk result (λ lists. all_texts lists.items ≡ self.now) }
     {
         let mut lists = Vec::with_capacity(alloc, self.count())?;
-        let mut cursor = Cursor::new(alloc, self.nodes, self.numbers);
-        while cursor.next()? {
-            lists.push(copied_after(alloc, cursor.path(), self.depth)?)?;
+        for node in self.numbers {
+            lists.push(copy_after(alloc, self.nodes, *node, self.depth)?)?;
         }
         Ok(lists)
     }
@@ -330,9 +327,6 @@ impl<'a> SuffixRange<'a> {
         requires { number < length self.now }
         ensures { IfOk result (λ list. chain_texts list.items ≡ get_or self.now number []) }
     {
-        let (_, numbers) = self.numbers.split_at(number);
-        let mut cursor = Cursor::new(alloc, self.nodes, numbers);
-        cursor.next()?;
-        copied_after(alloc, cursor.path(), self.depth)
+        copy_after(alloc, self.nodes, self.numbers[number], self.depth)
     }
 }
