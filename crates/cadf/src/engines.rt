@@ -12,7 +12,7 @@ use std::alloc::Global;
 use std::fs;
 use std::fs::Files;
 
-/// The file of that path, open: the input of that number.
+/// Opens the file at the path, which is input `number`. `ReadFault` if it can't be opened.
 fn open<R: Files>(rt: &R, path: &str, number: usize) -> Result<FromStd<R::File>, ToolFault> {
     match fs::open(rt, path) {
         Ok(file) => Ok(FromStd::new(file)),
@@ -20,7 +20,8 @@ fn open<R: Files>(rt: &R, path: &str, number: usize) -> Result<FromStd<R::File>,
     }
 }
 
-/// The files of these paths, each open, in turn.
+/// Opens the files at these paths in turn, which are the inputs from 1. `ReadFault` names the first that can't be
+/// opened, `Memory` if an allocation fails.
 fn open_all<R: Files>(
     rt: &R,
     alloc: Global,
@@ -73,7 +74,7 @@ fn inventory<W: Sink>(rt: &HostRuntime, file: &str, output: &mut W) -> Result<()
     Ok(run_inventory(rt.alloc(), &mut input, output)?)
 }
 
-/// Runs `sketch` on a file. `options` are the number of cells and the salt.
+/// Runs `sketch` on a file. `options` are the number of cells and the salt, if they are given.
 fn sketch<W: Sink>(
     rt: &HostRuntime,
     options: [Option<&str>; 2],
@@ -143,7 +144,8 @@ fn check<W: Sink>(rt: &HostRuntime, file: &str, output: &mut W) -> Result<(), St
     Ok(run_check(rt.alloc(), &mut input, output)?)
 }
 
-/// Runs the engine that the request names.
+/// Runs the engine that the request names. `Err`: a refused argument, then a file that can't be opened, then the
+/// engine's fault.
 pub(crate) fn run_engine<W: Sink>(
     rt: &HostRuntime,
     request: &Request<'_>,

@@ -6,7 +6,7 @@ use cadf_event::Name;
 use cadf_tool::{Cells, Salt};
 use std::alloc::Global;
 
-/// The log of that identifier, if one is given.
+/// Reads the identifier of the log, if one is given. `LogName`: it is no name.
 pub(crate) fn log_given(alloc: Global, word: Option<&str>) -> Result<Option<Name>, ArgumentFault> {
     match word {
         Some(word) => Ok(Some(read_log(alloc, word)?)),
@@ -14,7 +14,7 @@ pub(crate) fn log_given(alloc: Global, word: Option<&str>) -> Result<Option<Name
     }
 }
 
-/// The number that the word spells in decimal without a leading zero.
+/// Reads a positive decimal number below 2^64, without a sign or leading zeros. `None` if the word is none.
 fn number_given(word: &str) -> Option<u64> {
     if word.starts_with('+') || word.starts_with('0') {
         return None;
@@ -22,7 +22,7 @@ fn number_given(word: &str) -> Option<u64> {
     word.parse::<u64>().ok()
 }
 
-/// The number of sites that the word spells.
+/// Reads the number of sites of a rehearsal. `Sites`: it isn't 1 to 64.
 pub(crate) fn sites_given(word: &str) -> Result<usize, ArgumentFault> {
     match number_given(word) {
         Some(sites) => check_sites(sites),
@@ -30,7 +30,7 @@ pub(crate) fn sites_given(word: &str) -> Result<usize, ArgumentFault> {
     }
 }
 
-/// Reads the word as the letter of a kind of keys.
+/// Reads the letter of a kind of keys. `Letter`: the word is no such letter.
 pub(crate) fn letter_given(word: &str) -> Result<char, ArgumentFault> {
     let mut letters = word.chars();
     match (letters.next(), letters.next()) {
@@ -39,7 +39,7 @@ pub(crate) fn letter_given(word: &str) -> Result<char, ArgumentFault> {
     }
 }
 
-/// The place of a value that the word spells.
+/// Reads the place of a value, from 1. `Place`: it isn't 1 to 999,999,999.
 pub(crate) fn place_given(word: &str) -> Result<u64, ArgumentFault> {
     match number_given(word) {
         Some(place) => check_place(place),
@@ -47,7 +47,7 @@ pub(crate) fn place_given(word: &str) -> Result<u64, ArgumentFault> {
     }
 }
 
-/// The number of cells that the word spells, if one is given.
+/// Reads the number of cells of a sketch, if one is given. `Cells`: it isn't a multiple of 3 from 3 to 12,582,912.
 pub(crate) fn cells_given(word: Option<&str>) -> Result<Option<Cells>, ArgumentFault> {
     let Some(word) = word else {
         return Ok(None);
@@ -58,7 +58,7 @@ pub(crate) fn cells_given(word: Option<&str>) -> Result<Option<Cells>, ArgumentF
     }
 }
 
-/// The salt that the word spells, if one is given.
+/// Reads the salt of a sketch, if one is given. `Salt`: it isn't an odd number below 2^64.
 pub(crate) fn salt_given(word: Option<&str>) -> Result<Option<Salt>, ArgumentFault> {
     let Some(word) = word else {
         return Ok(None);

@@ -14,7 +14,7 @@ use std::io::{BufWriter, Write};
 use std::process::ExitCode;
 use std::{env, io};
 
-/// Flushes the buffer, and reports an output that is larger than an input may be.
+/// Flushes the buffer. Returns a report if the output is larger than an input may be. `WriteFault` if the flush fails.
 fn flushed<W: Write + Drop>(
     output: CountingSink<FromStd<W>>,
 ) -> Result<Option<OverLimit>, ToolFault> {
@@ -25,7 +25,8 @@ fn flushed<W: Write + Drop>(
     }
 }
 
-/// Runs the request's engine on standard output, and reports an output that is larger than an input may be.
+/// Runs the request's engine on standard output. Returns a report if the output is larger than an input may be. `Err`:
+/// why the engine gave up.
 fn run_out(rt: &HostRuntime, request: &Request<'_>) -> Result<Option<OverLimit>, Stop> {
     let Ok(buffer) = BufWriter::new(rt.alloc(), io::writer(rt)) else {
         return Err(Stop::Tool(ToolFault::Memory));
@@ -35,7 +36,7 @@ fn run_out(rt: &HostRuntime, request: &Request<'_>) -> Result<Option<OverLimit>,
     Ok(flushed(output)?)
 }
 
-/// Runs the request, and says what it ended with.
+/// Runs the request, reports a fault or too large an output on standard error, and returns the exit status.
 fn run(rt: &HostRuntime, request: &Request<'_>) -> ExitCode {
     match run_out(rt, request) {
         Ok(Some(over_limit)) => {
@@ -47,7 +48,7 @@ fn run(rt: &HostRuntime, request: &Request<'_>) -> ExitCode {
     }
 }
 
-/// Prints what the command line asked for, or why it is refused.
+/// Prints what the command line asked for, or why it is refused, and returns the exit status.
 fn answer(rt: &HostRuntime, reply: &Reply) -> ExitCode {
     match reply {
         Reply::Memory => report(rt, &Stop::Tool(ToolFault::Memory)),

@@ -3,7 +3,7 @@ use cadf_arguments::ArgumentFault;
 use cadf_tool::{ToolFault, status};
 use std::process::ExitCode;
 
-/// The exit status where the command line is refused.
+/// The exit status if the command line is refused.
 pub(crate) const REFUSED: u8 = 2;
 
 /// Why a command didn't do its work.
@@ -28,7 +28,7 @@ impl From<ArgumentFault> for Stop {
     }
 }
 
-/// Says why the command gave up.
+/// Reports on standard error why the command gave up, and returns the exit status.
 pub(crate) fn report(rt: &HostRuntime, stop: &Stop) -> ExitCode {
     match stop {
         Stop::Tool(fault) => {

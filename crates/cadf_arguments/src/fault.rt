@@ -28,7 +28,7 @@ pub enum ArgumentFault {
     /// The salt isn't odd.
     #[error("salt")]
     Salt,
-    /// An allocation was refused.
+    /// An allocation failed.
     #[error("out of memory")]
     Memory,
 }

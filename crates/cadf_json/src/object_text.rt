@@ -13,7 +13,7 @@ use crate::tree::MAX_DEPTH;
 use json::{Reader, Scratch, Token};
 use std::alloc::Global;
 
-/// Returns whether the value of a canonical text is an object.
+/// Returns whether the value of a canonical text is an object. `Memory` if an allocation fails.
 pub fn spells_object(alloc: Global, text: &str) -> Result<bool, Memory>
     ensures { IfOk result (λ b. (d : Data) → IsValue d → text.now ≡ text_of d → b ≡ is_object d) }
 {
@@ -22,7 +22,8 @@ pub fn spells_object(alloc: Global, text: &str) -> Result<bool, Memory>
     Ok(is_opening(reader.next()))
 }
 
-/// Returns whether the object of a canonical text has this text at that name. `false` for any other value.
+/// Returns whether the object of a canonical text has this text at that name. `false` for any other value. `Memory` if
+/// an allocation fails.
 pub fn has_text_at(alloc: Global, text: &str, name: &str, expected: &str) -> Result<bool, Memory>
     ensures { IfOk result (λ b. (d : Data) → IsValue d → text.now ≡ text_of d → b ≡ is_text expected.now (get name.now d)) }
 {

@@ -178,7 +178,7 @@ pub(crate) fn members_nest_within(value: &Value, limits: &[(&str, u8)], others: 
     }
 }
 
-/// Encodes the value as canonical text.
+/// Encodes the value as canonical text. `Memory` if an allocation fails.
 pub(crate) fn text_in(alloc: Global, value: &Value) -> Result<String, Memory>
     requires { IsValue (data_of value.now) }
     ensures { IfOk result (λ s. string_bytes s ≡ text_of (data_of value.now)) }

@@ -148,8 +148,8 @@ impl<'v, 'a> Part<'v, 'a> {
         }
     }
 
-    /// Encodes the canonical text of an object without the members of these names, and with this text at
-    /// that name if the object has it. Anything else counts as an object without members.
+    /// Encodes the canonical text of an object without the members of these names, and with this text at that name if
+    /// the object has it. Anything else counts as an object without members. `Memory` if an allocation fails.
     pub(crate) fn rewritten_text(
         &self,
         alloc: Global,
@@ -187,7 +187,7 @@ impl<'v, 'a> Part<'v, 'a> {
         depth(self.value)
     }
 
-    /// Encodes the part as canonical text, without spare capacity.
+    /// Encodes the part as canonical text, without spare capacity. `Memory` if an allocation fails.
     pub(crate) fn text(&self, alloc: Global) -> Result<String, Memory>
         ensures text { IfOk result (λ s. string_bytes s ≡ text_of self.now) }
     {

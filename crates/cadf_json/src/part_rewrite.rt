@@ -61,7 +61,8 @@ fn write_members(
     Ok(())
 }
 
-/// Writes the object with the members that stay. Anything else counts as an object without members.
+/// Writes the object with the members that stay. Anything else counts as an object without members. `Memory` if an
+/// allocation fails.
 pub(crate) fn write_object(
     writer: &mut Writer,
     value: &Value<'_>,

@@ -160,7 +160,7 @@ pub fn find_fraction(alloc: Global, text: &str) -> Result<Option<bool>, Memory>
 }
 
 /// Returns whether the text has the syntax of JSON, RFC 8259, nesting at most 127 deep. Such a text may still be no
-/// value: a number may be too large.
+/// value: a number may be too large. `Memory` if an allocation fails.
 pub fn has_json_syntax(alloc: Global, text: &str) -> Result<bool, Memory>
     ensures { IfOk result (λ may. may ≡ false → IsNoJson text.now) }
 {

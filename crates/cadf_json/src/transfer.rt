@@ -82,8 +82,8 @@ pub fn read_to_limit<S: Source>(
     read_rest(source, Vec::new(alloc), limit)
 }
 
-/// Appends the rest of the source to `start`, the bytes that were already read. `limit` bounds both together. The
-/// faults are those of `read_to_limit`.
+/// Returns `start`, the bytes that were already read, followed by the rest of the source. `limit` bounds both together.
+/// `Err`: a fault as of `read_to_limit`.
 pub fn read_rest<S: Source>(
     source: &mut S,
     start: Vec<u8>,

@@ -172,8 +172,8 @@ impl<'v, 'a> View<'v, 'a> {
         }
     }
 
-    /// Encodes the canonical text of an object without the members of these names, and with this text at
-    /// that name if the object has it. Anything else counts as an object without members.
+    /// Encodes the canonical text of an object without the members of these names, and with this text at that name if
+    /// the object has it. Anything else counts as an object without members. `Memory` if an allocation fails.
     pub fn rewritten_text(
         &self,
         alloc: Global,
@@ -218,7 +218,7 @@ impl<'v, 'a> View<'v, 'a> {
         }
     }
 
-    /// Encodes the part as canonical text.
+    /// Encodes the part as canonical text. `Memory` if an allocation fails.
     pub fn text(&self, alloc: Global) -> Result<String, Memory>
         ensures text { IfOk result (λ s. string_bytes s ≡ text_of self.now) }
         ensures value { IsValue self.now }

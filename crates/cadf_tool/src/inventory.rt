@@ -11,7 +11,7 @@ use cadf_json::{Sink, Source};
 use cadf_replica::Inventory;
 use std::alloc::Global;
 
-/// The inventory of a loaded input.
+/// Makes the inventory of a loaded input. `NoLog` if the input names no log, `Memory` if an allocation fails.
 fn noted(alloc: Global, loaded: Loaded) -> Result<Inventory, ToolFault>
     ensures { IsWorked (inventory_model_of loaded) result }
 {
@@ -22,7 +22,8 @@ fn noted(alloc: Global, loaded: Loaded) -> Result<Inventory, ToolFault>
     }
 }
 
-/// The inventory of the only input of an engine.
+/// Loads the only input of an engine, and makes its inventory. `Err`: it is refused or names no log, a read failed, or
+/// an allocation.
 fn load_noted<R: Source>(alloc: Global, input: &mut R) -> Result<Inventory, ToolFault>
     ensures { IsExpected (one input_spec (transition_of R.Source input.old input.new)) inventory_model_of result }
 {
@@ -32,7 +33,7 @@ fn load_noted<R: Source>(alloc: Global, input: &mut R) -> Result<Inventory, Tool
     }
 }
 
-/// Writes the file of the inventory.
+/// Writes the file of the inventory. `WriteFault` if a write fails, `Memory` if an allocation fails.
 fn write_noted<W: Sink>(
     alloc: Global,
     inventory: &Inventory,
@@ -43,7 +44,8 @@ fn write_noted<W: Sink>(
     answered(write_inventory(alloc, inventory, output))
 }
 
-/// Writes the inventory file of an input: the digests of all that it tells, under its log.
+/// Writes the inventory file of an input: its log, and the digest of each atom that it contributes. `Err`: why nothing
+/// was written, or only a prefix.
 pub fn run_inventory<R: Source, W: Sink>(
     alloc: Global,
     input: &mut R,

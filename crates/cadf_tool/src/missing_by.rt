@@ -14,7 +14,8 @@ use cadf_json::{Sink, Source};
 use cadf_replica::{Inventory, Replica, ReplicaFault};
 use std::alloc::Global;
 
-/// What the replica has beyond the inventory.
+/// Returns the delta of the replica for the inventory. `OtherLog` if they are of different logs, `Memory` if an
+/// allocation fails.
 fn beyond(from: &Replica, inventory: &Inventory) -> Result<Replica, ToolFault>
     ensures { IsWorked (missing_by_of (loaded.Replica from.now) inventory.now) result }
 {
@@ -26,7 +27,8 @@ fn beyond(from: &Replica, inventory: &Inventory) -> Result<Replica, ToolFault>
     }
 }
 
-/// What a loaded input has beyond the inventory.
+/// Returns the delta of a loaded input for the inventory. `Err`: the input names no log, they are of different logs, or
+/// an allocation failed.
 fn part(alloc: Global, from: Loaded, inventory: &Inventory) -> Result<Replica, ToolFault>
     ensures { IsWorked (missing_by_of from inventory.now) result }
 {
@@ -34,7 +36,8 @@ fn part(alloc: Global, from: Loaded, inventory: &Inventory) -> Result<Replica, T
     beyond(&from, inventory)
 }
 
-/// What the first input has beyond the inventory that is the second.
+/// Loads both inputs, the second as an inventory file, and returns the delta of the first for the second. `Err`: an
+/// input is refused, the first names no log, they are of different logs, a read failed, or an allocation.
 fn missing_by<R: Source>(
     alloc: Global,
     from: &mut R,
@@ -48,9 +51,9 @@ fn missing_by<R: Source>(
     part(alloc, first, &second)
 }
 
-/// Writes the replica file of what `from` has beyond `inventory`: the least replica that holds each atom
-/// whose digest the inventory hasn't. Inputs count from 1: `from` is the first. The second is read as an
-/// inventory file, whatever it begins with.
+/// Writes the replica file of what `from` has beyond `inventory`: the least replica that holds each atom whose digest
+/// the inventory hasn't. Inputs count from 1: `from` is the first. The second is read as an inventory file, whatever it
+/// begins with. `Err`: why nothing was written, or only a prefix.
 pub fn run_missing_by<R: Source, W: Sink>(
     alloc: Global,
     from: &mut R,

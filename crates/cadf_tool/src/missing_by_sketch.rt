@@ -14,7 +14,8 @@ use cadf_replica::Replica;
 use cadf_sketch::{ReadFault, Sketch, missing_by_sketch};
 use std::alloc::Global;
 
-/// What the replica has beyond the sketch.
+/// Returns the delta of the replica for the sketch. `OtherLog` if they are of different logs, `TooFewCells` if the
+/// sketch has too few cells for what differs, `Memory` if an allocation fails.
 fn beyond(alloc: Global, from: &Replica, sketch: &Sketch) -> Result<Replica, ToolFault>
     ensures { IsWorkedBy (IsAnswerTo sketch.now from.now) result }
 {
@@ -26,7 +27,8 @@ fn beyond(alloc: Global, from: &Replica, sketch: &Sketch) -> Result<Replica, Too
     }
 }
 
-/// What a loaded input has beyond the sketch.
+/// Returns the delta of a loaded input for the sketch. `Err`: the input names no log, they are of different logs, the
+/// sketch has too few cells, or an allocation failed.
 fn part(alloc: Global, from: Loaded, sketch: &Sketch) -> Result<Replica, ToolFault>
     ensures { IsWorkedBy (IsPartBySketch (from, sketch.now)) result }
 {
@@ -34,7 +36,9 @@ fn part(alloc: Global, from: Loaded, sketch: &Sketch) -> Result<Replica, ToolFau
     beyond(alloc, &held, sketch)
 }
 
-/// What the first input has beyond the sketch that is the second.
+/// Loads both inputs, the second as a sketch file, and returns the delta of the first for the second. `Err`: an input
+/// is refused, the first names no log, they are of different logs, the sketch has too few cells, a read failed, or an
+/// allocation.
 fn load_part<R: Source>(alloc: Global, from: &mut R, sketch: &mut R) -> Result<Replica, ToolFault>
     ensures { IsExpectedBy (two input_spec (transition_of R.Source from.old from.new) sketch_spec (transition_of R.Source sketch.old sketch.new))
         IsPartBySketch result }
@@ -46,6 +50,7 @@ fn load_part<R: Source>(alloc: Global, from: &mut R, sketch: &mut R) -> Result<R
 
 /// Writes the replica file of what `from` has beyond `sketch`: what `run_missing_by` writes for the inventory that was
 /// sketched. Inputs count from 1: `from` is the first. The second is read as a sketch file, whatever it begins with.
+/// `Err`: why nothing was written, or only a prefix.
 pub fn run_missing_by_sketch<R: Source, W: Sink>(
     alloc: Global,
     from: &mut R,

@@ -135,7 +135,8 @@ fn write_lines<W: Sink>(alloc: Global, sites: &[Replica], output: &mut W) -> Res
 }
 
 /// Simulates the schedule of a script over `sites` sites of the log, and writes a line for each site from 0:
-/// `site I atoms N as J`, where J is the least site with the same atoms.
+/// `site I atoms N as J`, where J is the least site with the same atoms. `Err`: why nothing was written, or only a
+/// prefix.
 pub fn run_rehearse<R: Source, W: Sink>(
     alloc: Global,
     log: &Name,

@@ -24,7 +24,8 @@ fn cells_or_default(cells: Option<Cells>) -> Cells
     }
 }
 
-/// The sketch of the replica's inventory.
+/// Makes the sketch of the replica's inventory: of 198 cells if no number is given, with the inventory's own salt if
+/// none is given. `Memory` if an allocation fails.
 fn sketch_of(
     alloc: Global,
     cells: Option<Cells>,
@@ -37,7 +38,7 @@ fn sketch_of(
     Sketch::of(alloc, &inventory, cells_or_default(cells), salt)
 }
 
-/// The sketch of a loaded input.
+/// Makes the sketch of a loaded input. `NoLog` if the input names no log, `Memory` if an allocation fails.
 fn sketched(
     alloc: Global,
     cells: Option<Cells>,
@@ -53,7 +54,8 @@ fn sketched(
     }
 }
 
-/// The sketch of the only input of an engine.
+/// Loads the only input of an engine, and makes its sketch. `Err`: it is refused or names no log, a read failed, or an
+/// allocation.
 fn load_sketched<R: Source>(
     alloc: Global,
     cells: Option<Cells>,
@@ -68,7 +70,7 @@ fn load_sketched<R: Source>(
     }
 }
 
-/// Writes the file of the sketch.
+/// Writes the file of the sketch. `WriteFault` if a write fails, `Memory` if an allocation fails.
 fn write_sketched<W: Sink>(alloc: Global, sketch: &Sketch, output: &mut W) -> Result<(), ToolFault>
     ensures { IsWritten W.Sink output.old output.new (sketch_file sketch.now) result }
 {
@@ -76,7 +78,8 @@ fn write_sketched<W: Sink>(alloc: Global, sketch: &Sketch, output: &mut W) -> Re
 }
 
 /// Writes the sketch file of an input's inventory: of 198 cells if no number is given, and with the salt that the
-/// inventory's digest makes if none is given, so that one set has one sketch.
+/// inventory's digest makes if none is given, so that one set has one sketch. `Err`: why nothing was written, or only a
+/// prefix.
 pub fn run_sketch<R: Source, W: Sink>(
     alloc: Global,
     cells: Option<Cells>,

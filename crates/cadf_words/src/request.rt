@@ -51,17 +51,18 @@ pub enum Request<'a> {
     },
 }
 
-/// The word of that name.
+/// Returns the word of that name, empty if there is none.
 fn word<'a>(matches: &ArgMatches<'a>, name: &str) -> &'a str {
     matches.get_str(name).unwrap_or_default()
 }
 
-/// The words of the name `FILE`.
+/// Copies the words of the name `FILE`. `Err` if an allocation fails.
 fn files<'a>(alloc: Global, matches: &ArgMatches<'a>) -> Result<Vec<&'a str>, AllocError> {
     Vec::from_slice(alloc, matches.get_strs("FILE").unwrap_or_default())
 }
 
-/// What the words of a command that asks for what a receiver lacks, or of the letter of such a request, ask for.
+/// Makes the request of a command that writes a delta, or what a receiver sends to ask for one. `Unnamed` for any other
+/// name.
 fn exchange_of<'a>(name: &str, matches: &ArgMatches<'a>) -> Result<Request<'a>, Reply> {
     Ok(match name {
         "missing" => Request::Missing {
@@ -88,7 +89,7 @@ fn exchange_of<'a>(name: &str, matches: &ArgMatches<'a>) -> Result<Request<'a>, 
     })
 }
 
-/// What the words of the command of that name ask for.
+/// Makes the request of the command of that name. `Unnamed` if there is none, `Memory` if an allocation fails.
 fn request_of<'a>(
     alloc: Global,
     name: &str,

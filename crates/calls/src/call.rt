@@ -9,7 +9,7 @@ pub struct Call {
 }
 
 impl Call {
-    /// Reads a line.
+    /// Reads the call that the line spells: fields between tabs, the name first. `Err` if an allocation fails.
     pub fn read(alloc: Global, line: &str) -> Result<Call, Memory> {
         let mut fields = Vec::new(alloc);
         for field in line.split('\t') {
@@ -18,17 +18,17 @@ impl Call {
         Ok(Call { fields })
     }
 
-    /// Answers the call's name.
+    /// Returns the call's name.
     pub fn name(&self) -> &str {
         text_of(&self.fields, 0)
     }
 
-    /// Answers the text of a word, of which 1 is the first; empty where the word is missing or no text.
+    /// Returns the text of word `place`, from 1; empty if the word is missing or no text.
     pub fn text(&self, place: usize) -> &str {
         text_of(&self.fields, place)
     }
 
-    /// Answers the bytes of a word, of which 1 is the first; empty where the word is missing.
+    /// Returns the bytes of word `place`, from 1; empty if the word is missing.
     pub fn bytes(&self, place: usize) -> &[u8] {
         match self.fields.get(place) {
             Some(field) => field.as_slice(),
@@ -36,7 +36,7 @@ impl Call {
         }
     }
 
-    /// Answers the number that a word spells, of which 1 is the first; 0 where it spells none.
+    /// Returns the number that word `place`, from 1, spells; 0 if it spells none.
     pub fn number(&self, place: usize) -> usize {
         text_of(&self.fields, place).parse().unwrap_or(0)
     }
@@ -47,7 +47,7 @@ impl Call {
     }
 }
 
-/// Answers the text of a field; empty where the field is missing or no text.
+/// Returns the text of a field; empty if the field is missing or no text.
 fn text_of(fields: &[Vec<u8>], place: usize) -> &str {
     match fields.get(place) {
         Some(field) => str::from_utf8(field.as_slice()).unwrap_or(""),
@@ -55,7 +55,7 @@ fn text_of(fields: &[Vec<u8>], place: usize) -> &str {
     }
 }
 
-/// Adds the bytes of the field.
+/// Appends the bytes that the field spells.
 fn push_decoded(alloc: Global, fields: &mut Vec<Vec<u8>>, field: &str) -> Result<(), Memory> {
     fields.push(decoded(alloc, field)?)?;
     Ok(())
@@ -74,7 +74,7 @@ enum Open {
     Digit(u8),
 }
 
-/// Answers the bytes that the field spells.
+/// Returns the bytes that the field spells.
 fn decoded(alloc: Global, field: &str) -> Result<Vec<u8>, Memory> {
     let mut bytes = Vec::new(alloc);
     let mut open = Open::Plain;
@@ -84,7 +84,7 @@ fn decoded(alloc: Global, field: &str) -> Result<Vec<u8>, Memory> {
     Ok(bytes)
 }
 
-/// Adds what the byte ends, and answers what is then open.
+/// Appends the byte that `byte` completes, if it completes one, and returns what is then open.
 fn next(bytes: &mut Vec<u8>, open: Open, byte: u8) -> Result<Open, Memory> {
     let ended = match (open, byte) {
         (Open::Plain, b'\\') => return Ok(Open::Escape),
@@ -100,7 +100,7 @@ fn next(bytes: &mut Vec<u8>, open: Open, byte: u8) -> Result<Open, Memory> {
     Ok(Open::Plain)
 }
 
-/// Answers the value of a hexadecimal digit; 0 for another byte.
+/// Returns the value of a hexadecimal digit; 0 for another byte.
 fn digit(byte: u8) -> u8 {
     match byte {
         b'0'..=b'9' => byte - b'0',

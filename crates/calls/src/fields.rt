@@ -24,7 +24,7 @@ pub fn push_answer(line: &mut String, answer: &str) -> Result<(), Memory> {
     line.push_str(answer)
 }
 
-/// Whether the answer is that memory was refused.
+/// Returns whether the answer is that an allocation failed.
 pub fn is_refused(line: &str) -> bool {
     line.starts_with("err\tMemory")
 }

@@ -17,7 +17,7 @@ type Ran = Option<Result<(), ToolFault>>;
 /// What an engine writes to. Its bytes are counted, as the command counts them.
 type Output = CountingSink<MemorySink>;
 
-/// Runs `run_join`: a log, empty for none, and readers.
+/// Runs `run_join`. Its words are a log, empty for none, and readers.
 fn join(alloc: Global, words: Words<'_>, sink: &mut Output) -> Ran {
     let log = Name::read(alloc, words.text(4)).ok();
     let mut inputs: Vec<MemorySource<'_>> = Vec::new(alloc);
@@ -27,32 +27,32 @@ fn join(alloc: Global, words: Words<'_>, sink: &mut Output) -> Ran {
     Some(run_join(alloc, log, inputs.as_mut_slice(), sink))
 }
 
-/// Runs `run_missing`: two readers.
+/// Runs `run_missing`. Its words are two readers.
 fn missing(alloc: Global, words: Words<'_>, sink: &mut Output) -> Ran {
     let (mut from, mut to) = (words.source(4), words.source(7));
     Some(run_missing(alloc, &mut from, &mut to, sink))
 }
 
-/// Runs `run_missing_by`: two readers.
+/// Runs `run_missing_by`. Its words are two readers.
 fn missing_by(alloc: Global, words: Words<'_>, sink: &mut Output) -> Ran {
     let (mut from, mut inventory) = (words.source(4), words.source(7));
     Some(run_missing_by(alloc, &mut from, &mut inventory, sink))
 }
 
-/// Runs `run_sketch`: a number of cells and a salt, empty for none, and a reader.
+/// Runs `run_sketch`. Its words are a number of cells and a salt, empty for none, and a reader.
 fn sketch(alloc: Global, words: Words<'_>, sink: &mut Output) -> Ran {
     let cells = Cells::of(words.number(4) as u64);
     let salt = Salt::of(words.number(5) as u64);
     Some(run_sketch(alloc, cells, salt, &mut words.source(6), sink))
 }
 
-/// Runs `run_missing_by_sketch`: two readers.
+/// Runs `run_missing_by_sketch`. Its words are two readers.
 fn missing_by_sketch(alloc: Global, words: Words<'_>, sink: &mut Output) -> Ran {
     let (mut from, mut sketch) = (words.source(4), words.source(7));
     Some(run_missing_by_sketch(alloc, &mut from, &mut sketch, sink))
 }
 
-/// Runs `run_rule`: a letter, a key, a place and a reader.
+/// Runs `run_rule`. Its words are a letter, a key, a place and a reader.
 fn rule(alloc: Global, words: Words<'_>, sink: &mut Output) -> Ran {
     let letter = words.text(4).chars().next()?;
     let key = Name::read(alloc, words.text(5)).ok()?;
@@ -61,20 +61,20 @@ fn rule(alloc: Global, words: Words<'_>, sink: &mut Output) -> Ran {
     Some(run_rule(alloc, letter, &key, place, &mut input, sink))
 }
 
-/// Runs `run_rehearse`: a log, a number of sites and a reader.
+/// Runs `run_rehearse`. Its words are a log, a number of sites and a reader.
 fn rehearse(alloc: Global, words: Words<'_>, sink: &mut Output) -> Ran {
     let log = Name::read(alloc, words.text(4)).ok()?;
     let mut script = words.source(6);
     Some(run_rehearse(alloc, &log, words.number(5), &mut script, sink))
 }
 
-/// Runs `run_show`: `log` or `conflicts`, and a reader.
+/// Runs `run_show`. Its words are `log` or `conflicts`, and a reader.
 fn show(alloc: Global, words: Words<'_>, sink: &mut Output) -> Ran {
     let conflicts = words.text(4) == "conflicts";
     Some(run_show(alloc, conflicts, &mut words.source(5), sink))
 }
 
-/// Runs the engine of that name.
+/// Runs the engine of that name. `None` if there is none, or if its words don't fit.
 fn run(alloc: Global, words: Words<'_>, sink: &mut Output) -> Ran {
     match words.text(0) {
         "run_join" => join(alloc, words, sink),

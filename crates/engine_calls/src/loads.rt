@@ -51,12 +51,12 @@ fn told(alloc: Global, loaded: Result<Loaded, LoadFault>) -> Result<Answer, Memo
     Ok(Answer::of(alloc, told))
 }
 
-/// Runs `load`: a reader.
+/// Runs `load`. Its word is a reader.
 pub(crate) fn load_all(alloc: Global, words: Words<'_>) -> Result<Answer, Memory> {
     told(alloc, load(alloc, &mut words.source(1)))
 }
 
-/// Runs `load_within`: a limit and a reader.
+/// Runs `load_within`. Its words are a limit and a reader.
 pub(crate) fn load_limited(alloc: Global, words: Words<'_>) -> Result<Answer, Memory> {
     let limit = words.number(1) as u64;
     told(alloc, load_within(alloc, &mut words.source(2), limit))

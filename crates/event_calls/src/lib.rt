@@ -11,7 +11,7 @@ use cadf_event::laws as held;
 use calls::Call;
 use std::alloc::{AllocError as Memory, Global};
 
-/// Makes the call, and returns the line of its answer. An `Err` is a refused allocation.
+/// Makes the call, and returns the line of its answer. An `Err` is a failed allocation.
 pub fn answered(alloc: Global, call: &Call) -> Result<String, Memory> {
     let text = call.text(1);
     match call.name() {

@@ -16,7 +16,7 @@ use cadf_json::Memory;
 use calls::Call;
 use std::alloc::Global;
 
-/// Makes the call, and returns the line of its answer. An `Err` is a refused allocation.
+/// Makes the call, and returns the line of its answer. An `Err` is a failed allocation.
 pub fn answered(alloc: Global, call: &Call) -> Result<String, Memory> {
     match call.name() {
         "read" => reads::read(alloc, call),

@@ -12,7 +12,7 @@ mod writers;
 use calls::Call;
 use std::alloc::{AllocError as Memory, Global};
 
-/// Makes the call, and returns the line of its answer. An `Err` is a refused allocation.
+/// Makes the call, and returns the line of its answer. An `Err` is a failed allocation.
 pub fn answered(alloc: Global, call: &Call) -> Result<String, Memory> {
     match call.name() {
         "value" => looks::value(alloc, call),

@@ -1,4 +1,4 @@
-//! Sources that give their bytes in pieces and fail where they are told to.
+//! Sources that give their bytes in pieces and fail when they are told to.
 
 ghost use Rattle.std.specs.Prelude.{◌<◌, ◌^◌};
 
@@ -39,7 +39,7 @@ pub(crate) fn whole(alloc: Global, call: &Call) -> Result<String, Memory> {
     told(alloc, bytes)
 }
 
-/// Answers the fifth word's bytes, and behind them the first word's, read as in a whole reading.
+/// Answers the fifth word's bytes, and after them the first word's, read as in a whole reading.
 pub(crate) fn rest(alloc: Global, call: &Call) -> Result<String, Memory> {
     let mut source = source(call.bytes(1), call);
     let start = call.bytes(5).to_vec(alloc)?;

@@ -1,4 +1,4 @@
-//! Sinks that take bytes in pieces and fail where they are told to.
+//! Sinks that take bytes in pieces and fail when they are told to.
 
 use cadf_json::{Failed, FailingWrite, FromStd, MemorySink, OutFault, write_all};
 use calls::Call;

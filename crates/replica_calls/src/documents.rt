@@ -17,7 +17,7 @@ pub(crate) fn answered(alloc: Global, name: &str, call: &Call) -> Result<String,
     }
 }
 
-/// Answers a call about the document; if memory was refused, also what it answers when it is made again.
+/// Answers a call about the document; if an allocation failed, also what it answers when it is made again.
 fn of_document(
     alloc: Global,
     name: &str,

@@ -21,7 +21,7 @@ pub(crate) fn answered(alloc: Global, name: &str, call: &Call) -> Result<String,
     }
 }
 
-/// Answers what the inventory is with the digest; if memory was refused, also what it is when it is put again.
+/// Answers what the inventory is with the digest; if an allocation failed, also what it is when it is put again.
 fn put(alloc: Global, mut ours: Inventory, digest: &[u8; 32]) -> Result<String, Memory> {
     let mut line = noted(alloc, &mut ours, digest)?;
     if is_refused(line.as_str()) {

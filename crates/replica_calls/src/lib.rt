@@ -1,7 +1,7 @@
 //! Calls of atoms, replicas, inventories, rulings, scripts and schedules.
 //!
-//! A replica is written as lines: its log's name, and behind it the line of each atom. An inventory likewise: its log's name,
-//! and behind it the digits of each digest.
+//! A replica is written as lines: its log's name, and after it the line of each atom. An inventory likewise: its log's name,
+//! and after it the digits of each digest.
 #![tactic(auto)]
 
 mod atoms;
@@ -25,7 +25,7 @@ use cadf_json::Memory;
 use calls::{Call, answer};
 use std::alloc::Global;
 
-/// Makes the call, and returns the line of its answer. An `Err` is a refused allocation.
+/// Makes the call, and returns the line of its answer. An `Err` is a failed allocation.
 pub fn answered(alloc: Global, call: &Call) -> Result<String, Memory> {
     let (family, name) = call.name().split_once('.').unwrap_or_default();
     match family {

@@ -8,7 +8,7 @@ use cadf_replica::{Atom, Inventory, Replica};
 use calls::{Call, answer, is_refused, push, push_answer};
 use std::alloc::Global;
 
-/// Answers the call of that name; if memory was refused, also what it answers when it is made again.
+/// Answers the call of that name; if an allocation failed, also what it answers when it is made again.
 pub(crate) fn answered(alloc: Global, name: &str, call: &Call) -> Result<String, Memory> {
     let mut ours = replica(alloc, call.text(1))?;
     let mut line = told_of(alloc, name, &mut ours, call.text(2))?;

@@ -59,7 +59,7 @@ fn taken(
     }
 }
 
-/// Answers what the replica is with the ruling; if memory was refused, also what it is when it takes it again.
+/// Answers what the replica is with the ruling; if an allocation failed, also what it is when it takes it again.
 fn with_ruling(alloc: Global, mut ours: Replica, ruling: &Ruling) -> Result<String, Memory> {
     let mut line = took(alloc, &mut ours, ruling)?;
     if is_refused(line.as_str()) {

@@ -19,7 +19,7 @@ use cadf_join::laws::{
 use calls::{Call, answer};
 use std::alloc::Global;
 
-/// Makes the call, and returns the line of its answer. An `Err` is a refused allocation.
+/// Makes the call, and returns the line of its answer. An `Err` is a failed allocation.
 pub fn answered(alloc: Global, call: &Call) -> Result<String, Memory> {
     let (family, name) = call.name().split_once('.').unwrap_or_default();
     match family {

@@ -14,7 +14,7 @@ fn json(alloc: Global, word: &str) -> Result<Json, Memory> {
     }
 }
 
-/// Adds the text at the place, where one stands there.
+/// Adds the text at the place, if there is one.
 fn push_text(
     alloc: Global,
     texts: &mut Vec<String>,
@@ -36,7 +36,7 @@ fn texts_of(alloc: Global, list: &View) -> Result<Vec<String>, Memory> {
     Ok(texts)
 }
 
-/// Adds the list at the place, where one stands there.
+/// Adds the list at the place, if there is one.
 fn push_list(
     alloc: Global,
     lists: &mut Vec<Vec<String>>,

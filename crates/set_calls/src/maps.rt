@@ -16,7 +16,7 @@ pub(crate) fn answered(alloc: Global, name: &str, call: &Call) -> Result<String,
     }
 }
 
-/// Answers the call; if memory was refused, also what it answers when it is made again.
+/// Answers the call; if an allocation failed, also what it answers when it is made again.
 fn told_of<V: Made>(alloc: Global, name: &str, call: &Call) -> Result<String, Memory> {
     let mut ours: JoinMap<V> = value_of(alloc, call.text(2))?;
     let mut line = told_of_map(alloc, name, &mut ours, call)?;

@@ -24,7 +24,7 @@ pub(crate) fn answered(alloc: Global, name: &str, call: &Call) -> Result<String,
     }
 }
 
-/// Answers a call about a set; if memory was refused, also what it answers when it is made again.
+/// Answers a call about a set; if an allocation failed, also what it answers when it is made again.
 fn told_of_set(alloc: Global, name: &str, call: &Call) -> Result<String, Memory> {
     let mut ours: PathSet = value_of(alloc, call.text(1))?;
     let mut line = told_of(alloc, name, &mut ours, call)?;

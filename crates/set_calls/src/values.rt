@@ -21,7 +21,7 @@ pub(crate) fn answered(alloc: Global, name: &str, call: &Call) -> Result<String,
     }
 }
 
-/// Answers the call; if memory was refused, also what it answers when it is made again.
+/// Answers the call; if an allocation failed, also what it answers when it is made again.
 fn told_of<J: Made>(alloc: Global, name: &str, call: &Call) -> Result<String, Memory> {
     let mut ours: J = value_of(alloc, call.text(2))?;
     let mut line = told_of_value(alloc, name, &mut ours, call.text(3))?;
@@ -79,7 +79,7 @@ fn missing<J: Made>(alloc: Global, ours: &J, theirs: &J) -> Result<String, Memor
     }
 }
 
-/// Answers the lists behind the prefix.
+/// Answers the lists of the value, each after the prefix.
 fn appended<J: Made>(alloc: Global, value: &J, prefix: &str) -> Result<String, Memory> {
     let mut lists = Vec::new(alloc);
     value.append_lists(&list(alloc, prefix)?, &mut lists)?;

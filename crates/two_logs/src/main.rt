@@ -17,7 +17,7 @@ const KINDS: [KeyKind; 5] = [
     KeyKind::Resource,
 ];
 
-/// Returns a replica of what the document tells.
+/// Makes the replica of what the document contributes. `Err` if the text is no document, or names another log.
 fn replica_of(alloc: Global, text: &str) -> anyhow::Result<Replica> {
     let document = Document::read_bytes(alloc, text.as_bytes())?;
     let mut replica = Replica::new(alloc, Name::read(alloc, LOG)?);
@@ -25,7 +25,7 @@ fn replica_of(alloc: Global, text: &str) -> anyhow::Result<Replica> {
     Ok(replica)
 }
 
-/// Lists the keys of that kind that have several values.
+/// Prints the keys of the kind that have several values, each with its values.
 fn list(rt: &impl Print, joined: &Replica, kind: KeyKind) -> anyhow::Result<()> {
     let letter = kind.letter().char();
     for key in joined.conflicted_keys(kind)? {
