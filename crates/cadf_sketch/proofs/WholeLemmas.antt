@@ -35,6 +35,7 @@ use Rattle.cadf_line.specs.Digest.{IsDigest}
 use Rattle.cadf_file.proofs.InventoryVerdictLemmas.{each_digest}
 use Rattle.sha2.specs.Sha256.{sha256, digest_bytes, final_hash, initial_hash_256}
 use Rattle.sha2.proofs.Facts256.{length-sha256}
+use Rattle.cadf_file.specs.InventoryFile.{inventory_text, inventory_digest}
 use Rattle.cadf_sketch.specs.Layouts.{LayoutModel, IsLayout}
 use Rattle.cadf_sketch.specs.Cells.{word, check, place_in, each_xor, nothing, mixed, mixed_at, cell_at, turned, turned_all}
 use Rattle.cadf_sketch.specs.Sketches.{cells_of, sketch_of}
@@ -42,7 +43,6 @@ use Rattle.cadf_sketch.specs.SketchFile.{AreWords64, IsTally, IsCell, HasParts}
 use Rattle.cadf_sketch.specs.Tallies.{with_bits, tallied, tallied_all, tally_of}
 use Rattle.cadf_sketch.specs.declared.cell.Cell.{Cell}
 use Rattle.cadf_sketch.specs.declared.tally.Tally.{Tally}
-use Rattle.cadf_sketch.specs.Texts.{inventory_text, inventory_digest}
 use Rattle.cadf_sketch.proofs.CellLemmas.{length-turned_all}
 use Rattle.cadf_sketch.proofs.LineLemmas.{append_fits, high_fits}
 

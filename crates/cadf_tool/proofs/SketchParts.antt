@@ -5,11 +5,10 @@ use Rattle.cadf_line.specs.Digest.{atom_digest}
 use Rattle.cadf_line.specs.Missing.{missing_by}
 use Rattle.cadf_set.specs.Inventory.{InventoryModel}
 use Rattle.cadf_set.specs.Replica.{ReplicaModel}
-use Rattle.cadf_file.specs.InventoryFile.{IsInventory}
+use Rattle.cadf_file.specs.InventoryFile.{IsInventory, inventory_digest, ShareNoDigest}
 use Rattle.cadf_sketch.specs.Answers.{IsAnswer}
 use Rattle.cadf_sketch.specs.Layouts.{LayoutModel, are_cells, layout_with}
 use Rattle.cadf_sketch.specs.Sketches.{SketchModel, sketch_of, own_salt, asked}
-use Rattle.cadf_sketch.specs.Texts.{inventory_digest, ShareNoDigest}
 use Rattle.cadf_sketch.proofs.AskedLemmas.{asked_is}
 use Rattle.cadf_sketch.proofs.DigestLemmas.{same_inventory}
 use Rattle.cadf_sketch.proofs.SketchFileLemmas.{sketch-file-tells}
