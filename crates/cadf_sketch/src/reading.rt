@@ -56,9 +56,12 @@ fn flip_peeled(alloc: Global, own: &mut Inventory, sketch: &Sketch) -> Result<In
     ensures peeled { OnOk result (IsPeeled own.old sketch.now own.new) }
     ensures back { IfOk result (λ taken. apart own.new.digests taken.digests ≡ own.old.digests) }
 {
+    own.type_invariant();
+    sketch.type_invariant();
     let mut cells = differing(alloc, own, sketch)?;
     let found = peel(alloc, &mut cells, sketch.layout())?;
-    let taken = of_taken(alloc, own, found.as_slice())?;
+    drop(cells);
+    let taken = of_taken(alloc, own, found)?;
     flip(own, &taken)?;
     Ok(taken)
 }
