@@ -1,15 +1,12 @@
 //! What a call answers: a status, and a text in the caller's buffer.
-ghost use Rattle.std.specs.Prelude.{◌≡◌, ◌≢◌, ◌≤◌, pos, IsOkAnd};
-ghost use Rattle.cadf_c.specs.Output.{IsHandedOut};
+ghost use Rattle.std.specs.Prelude.{◌≡◌, ◌≢◌, ◌≤◌, pos, IsOk};
 
 use cadf_arguments::ArgumentFault;
 use cadf_memory::{ToolFault, status};
 use std::alloc::{AllocError as Memory, Global};
 
 /// Copies what of the text fits, and tells how long it is.
-fn hand_out(text: &[u8], output: &mut [u8], length: &mut usize)
-    ensures { IsHandedOut text.now output.old output.new length.new }
-{
+fn hand_out(text: &[u8], output: &mut [u8], length: &mut usize) {
     let count = text.len().min(output.len());
     output[..count].copy_from_slice(&text[..count]);
     *length = text.len();
@@ -57,18 +54,19 @@ pub(crate) fn refuse(
     hand_out_fault(text, fault.status(), output, length)
 }
 
-/// Answers the text of an engine, or its fault.
+/// Answers how many bytes an engine wrote, or hands out its fault.
 pub(crate) fn answer(
     alloc: Global,
-    made: Result<Vec<u8>, ToolFault>,
+    made: Result<(), ToolFault>,
+    written: usize,
     output: &mut [u8],
     length: &mut usize,
 ) -> i32
-    ensures { result ≡ pos 0 → IsOkAnd made (λ text. IsHandedOut text.items output.old output.new length.new) }
+    ensures { result ≡ pos 0 → IsOk made × (output.new ≡ output.old) × (length.new ≡ written) }
 {
     match made {
-        Ok(text) => {
-            hand_out(text.as_slice(), output, length);
+        Ok(()) => {
+            *length = written;
             0
         }
         Err(fault) => {

@@ -1,4 +1,4 @@
-use Rattle.std.proofs.Common.{rules}
+use Rattle.std.proofs.Common.{rules, ◌∙◌}
 use Rattle.cadf_tool.specs.Run.{input_spec}
 use Rattle.cadf_tool.specs.Shown.{shown_text}
 use Rattle.cadf_tool.specs.Told.{replica_model_of}
@@ -6,5 +6,7 @@ use Rattle.cadf_c.proofs.Handed.{handed, kept}
 use Rattle.cadf_c.proofs.cadf_show.Goals as goal
 
 pub returns : goal.returns
-returns c = λ zero. handed _ (shown_text _) _ _ _ input_spec replica_model_of _ _ c.show-made.ensures.ok
-    (c.answer.ensures (kept c.answer.result (search rules) zero))
+returns c = λ zero.
+    let done = c.answer.ensures (kept c.answer.result (search rules) zero) in
+    handed c.new-sink.result c.show-made.new.output _ _ _ c.new-sink.ensures.text c.new-sink.ensures.before c.show-made.ensures.before done.1
+    (done.2 ∙ c.length-written.ensures) (shown_text _) input_spec replica_model_of _ _ c.show-made.ensures.ok done.0
