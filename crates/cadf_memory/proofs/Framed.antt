@@ -2,7 +2,7 @@
 use Rattle.std.proofs.Common.{◌≡◌, ℕ, List, ◌∷◌, ◌++◌, length, take, drop, sym, ap, ◌∙◌, append_assoc}
 use lib.Seq.{take-append_seam, drop-append_seam}
 use Rattle.cadf_memory.specs.declared.buffer.Buffer.{Buffer}
-use Rattle.cadf_memory.specs.Filled.{buffer_name, buffer_before, buffer_text}
+use Rattle.cadf_memory.specs.Buffers.{buffer_name, buffer_before, buffer_text}
 
 -- all that a buffer tells as written
 abbrev pub frame : Buffer → List ℕ

@@ -1,6 +1,5 @@
--- What a run on bytes in memory made of them.
-use Rattle.std.proofs.Common.{◌≡◌, ℕ, List, [], ◌∷◌, ◌++◌, map, take, Option, Some, IfSome}
-use Rattle.std.proofs.Common.{Result, Ok, Err, refl, sym, ap, ◌∙◌, subst, append-nil}
+-- What a run on bytes in memory hands out in a buffer.
+use Rattle.std.proofs.Common.{◌≡◌, ℕ, List, [], ◌∷◌, ◌++◌, length, map, Option, Some, IfSome, Result, Ok, Err, refl, ap, ◌∙◌, subst}
 use Rattle.std.proofs.KnownBytes.{Consumes-whole}
 use Rattle.std.specs.Io.KnownBytes.{Appends}
 use Rattle.cadf_json.specs.declared.stream.Sink.{Ghosts as Sink}
@@ -12,7 +11,6 @@ use Rattle.cadf_tool.specs.Inputs.{SourceState, source_state}
 use Rattle.cadf_tool.specs.Run.{
   SourceTransition,
   InputSpec,
-  Sources,
   one,
   two,
   all,
@@ -27,7 +25,8 @@ use Rattle.cadf_tool.specs.Run.{
   IsRun,
 }
 use Rattle.cadf_memory.specs.declared.buffer.Buffer.{Buffer}
-use Rattle.cadf_memory.specs.Filled.{IsFilled, buffer_name, buffer_before, buffer_text}
+use Rattle.cadf_memory.specs.Buffers.{buffer_name, buffer_before, buffer_text}
+use Rattle.cadf_memory.specs.Handed.{handed, IsHandedOut}
 use Rattle.cadf_memory.specs.Made.{IsMadeOf, IsMadeOfTwoBy, IsMadeOfAll, AreInputs}
 use Rattle.cadf_memory.proofs.Framed.{frame, name_kept, before_kept, text_added}
 
@@ -69,105 +68,83 @@ are_inputs (o ∷ os) (n ∷ ns) (b ∷ bs) (l ∷ ls) e h = (
   are_inputs os ns bs ls (tail_same (left_of o) (Some b) (map left_of os) (map Some bs) e) h.1,
 )
 
-some_same : (xs ys : List ℕ) → ◌≡◌ {A = Option (List ℕ)} (Some xs) (Some ys) → xs ≡ ys
-some_same xs ys e = cc
-
 -- ---- runs
 
--- what was written, whatever the answer is
-pub added : {A M W V : Type 0} (sources : Sources A) (work : A → Result M ToolFault → Type 0) (tell : M → Text) (sink : Sink W) (old new : W)
-    (result : Result V ToolFault) (front all : List ℕ) → sink.written old ≡ Some front → sink.written new ≡ Some all
-    → IsRunBy sources work tell sink old new result → (more : List ℕ) × (all ≡ front ++ more)
-added {A} {M} {W} {V} sources work tell sink old new result front all was is r = of_answer r.expected result r.answer
-  where
-    known : (more : List ℕ) → Appends (sink.written old) (sink.written new) more → all ≡ front ++ more
-    known more a =
-        subst (λ (x : Option (List ℕ)). Appends x (Some all) more) was
-        (subst (λ (y : Option (List ℕ)). Appends (sink.written old) y more) is a)
-
-    unchanged : new ≡ old → all ≡ front ++ []
-    unchanged e = some_same all front (sym is ∙ ap sink.written e ∙ was) ∙ sym (append-nil front)
-
-    of_answer : (expected : Result M ToolFault) (result : Result V ToolFault) → IsAnswer tell sink old new expected result
-        → (more : List ℕ) × (all ≡ front ++ more)
-    of_answer (Ok made) (Ok v) w = (tell made, known (tell made) w.whole)
-    of_answer (Ok made) (Err fault) w = (take w.front.0 (tell made), known (take w.front.0 (tell made)) w.front.1)
-    of_answer (Err fault) result w = ([], unchanged w.1)
-
-pub run_kept : {A M W V : Type 0} (sources : Sources A) (work : A → Result M ToolFault → Type 0) (tell : M → Text) (sink : Sink W) (old new : W)
-    (result : Result V ToolFault) (b c : Buffer) → sink.written old ≡ Some (frame b) → sink.written new ≡ Some (frame c)
-    → IsRunBy sources work tell sink old new result → (buffer_name c ≡ buffer_name b) × (buffer_before c ≡ buffer_before b)
-run_kept sources work tell sink old new result b c was is r =
-    let more = added sources work tell sink old new result (frame b) (frame c) was is r in
-    (name_kept b c more.0 more.1, before_kept b c more.0 more.1)
-
+-- the sink is the buffer b, to which nothing was written, then c; the caller's bytes are those of c again, if it kept them
 module _ {M W V : Type 0} (tell : M → Text) (sink : Sink W) (old new : W) (v : V) (b c : Buffer)
-    (was : sink.written old ≡ Some (frame b)) (is : sink.written new ≡ Some (frame c)) where
-  told_of : (made : M) → IsWritten sink old new (tell made) (Ok v) → buffer_text c ≡ buffer_text b ++ tell made
-  told_of made w =
-      text_added b c (tell made)
-      (subst (λ (x : Option (List ℕ)). Appends x (Some (frame c)) (tell made)) was
-      (subst (λ (y : Option (List ℕ)). Appends (sink.written old) y (tell made)) is w.whole))
-
+    (was : sink.written old ≡ Some (frame b)) (is : sink.written new ≡ Some (frame c))
+    (first last : List ℕ) (told : ℕ) (before : buffer_before b ≡ first) (empty : buffer_text b ≡ [])
+    (count : told ≡ length (buffer_text c)) (back : buffer_name c ≡ buffer_name b → last ≡ c.output.now) where
   never : (fault : ToolFault) → ◌≡◌ {A = Result V ToolFault} (Ok v) (Err fault) → ⊥
   never fault e = cc
+
+  whole : (text : Text) → IsWritten {T = V} sink old new text (Ok v) → frame c ≡ frame b ++ text
+  whole text w =
+      subst (λ (x : Option (List ℕ)). Appends x (Some (frame c)) text) was
+      (subst (λ (y : Option (List ℕ)). Appends (sink.written old) y text) is w.whole)
+
+  out : (P : Text → Type 0) (text : Text) → IsWritten {T = V} sink old new text (Ok v) → P text → IsHandedOut P first last told
+  out P text w p =
+      let grown : frame c ≡ frame b ++ text = whole text w in
+      let same : buffer_text c ≡ text = text_added b c text grown ∙ ap (λ (t : List ℕ). t ++ text) empty in
+      record {
+        text = text;
+        made = p;
+        fits = back (name_kept b c text grown) ∙ c.fits ∙ ap (λ (t : List ℕ). handed t (buffer_before c)) same
+            ∙ ap (handed text) (before_kept b c text grown ∙ before);
+        all = count ∙ ap length same;
+      }
 
   module _ {T : Type 0} (reader : InputSpec T) (work : T → Result M ToolFault) (t : SourceTransition) (bytes : List ℕ)
       (given : t.old.left ≡ Some bytes) where
     of_expected : (expected : Result M ToolFault) → IsExpectedOf (one reader t) work expected
-        → IsAnswer tell sink old new expected (Ok v) → IsFilled (IsMadeOf reader work tell bytes) b c
+        → IsAnswer tell sink old new expected (Ok v) → IsHandedOut (IsMadeOf reader work tell bytes) first last told
     of_expected (Ok made) (value, are, e) w =
-        record {
-          text = tell made;
-          made = record { value = value; input = read_of reader t bytes given value are; made = made; worked = e; told = refl };
-          added = told_of made w;
-        }
+        out (IsMadeOf reader work tell bytes) (tell made) w
+        (record { value = value; input = read_of reader t bytes given value are; made = made; worked = e; told = refl })
     of_expected (Err fault) d w = absurd (never fault w.0)
 
-    pub run_made : IsRun (one reader t) work tell sink old new (Ok v) → IsFilled (IsMadeOf reader work tell bytes) b c
+    pub run_made : IsRun (one reader t) work tell sink old new (Ok v)
+        → IsHandedOut (IsMadeOf reader work tell bytes) first last told
     run_made r = of_expected r.expected r.first.is r.answer
 
   module _ {T U : Type 0} (reader : InputSpec T) (other : InputSpec U) (work : T × U → Result M ToolFault → Type 0)
       (t u : SourceTransition) (from to : List ℕ) (given : t.old.left ≡ Some from) (given' : u.old.left ≡ Some to) where
     of_expected_two : (expected : Result M ToolFault) → IsExpectedOfBy (two reader t other u) work expected
-        → IsAnswer tell sink old new expected (Ok v) → IsFilled (IsMadeOfTwoBy reader other work tell from to) b c
+        → IsAnswer tell sink old new expected (Ok v)
+        → IsHandedOut (IsMadeOfTwoBy reader other work tell from to) first last told
     of_expected_two (Ok made) (a, are, e) w =
-        record {
-          text = tell made;
-          made = record {
-            first = a.0;
-            input = read_of reader t from given a.0 are.0;
-            second = a.1;
-            following = read_of other u to given' a.1 are.1;
-            made = made;
-            worked = e;
-            told = refl;
-          };
-          added = told_of made w;
-        }
+        out (IsMadeOfTwoBy reader other work tell from to) (tell made) w
+        (record {
+          first = a.0;
+          input = read_of reader t from given a.0 are.0;
+          second = a.1;
+          following = read_of other u to given' a.1 are.1;
+          made = made;
+          worked = e;
+          told = refl;
+        })
     of_expected_two (Err fault) d w = absurd (never fault w.0)
 
     pub run_made_two : IsRunBy (two reader t other u) work tell sink old new (Ok v)
-        → IsFilled (IsMadeOfTwoBy reader other work tell from to) b c
+        → IsHandedOut (IsMadeOfTwoBy reader other work tell from to) first last told
     run_made_two r = of_expected_two r.expected r.first.is r.answer
 
   module _ {S : Type 0} (source : Source S) (work : List Loaded → Result M ToolFault) (ss rs : List S)
       (inputs : List (List ℕ)) (given : map left_of (map (source_state source) ss) ≡ map Some inputs) where
     of_expected_all : (expected : Result M ToolFault) → IsExpectedOf (all source ss rs) work expected
-        → IsAnswer tell sink old new expected (Ok v) → IsFilled (IsMadeOfAll work tell inputs) b c
+        → IsAnswer tell sink old new expected (Ok v) → IsHandedOut (IsMadeOfAll work tell inputs) first last told
     of_expected_all (Ok made) (ls, are, e) w =
-        record {
-          text = tell made;
-          made = record {
-            loaded = ls;
-            are = are_inputs (map (source_state source) ss) (map (source_state source) rs) inputs ls given are;
-            made = made;
-            worked = e;
-            told = refl;
-          };
-          added = told_of made w;
-        }
+        out (IsMadeOfAll work tell inputs) (tell made) w
+        (record {
+          loaded = ls;
+          are = are_inputs (map (source_state source) ss) (map (source_state source) rs) inputs ls given are;
+          made = made;
+          worked = e;
+          told = refl;
+        })
     of_expected_all (Err fault) d w = absurd (never fault w.0)
 
-    pub run_made_all : IsRun (all source ss rs) work tell sink old new (Ok v) → IsFilled (IsMadeOfAll work tell inputs) b c
+    pub run_made_all : IsRun (all source ss rs) work tell sink old new (Ok v)
+        → IsHandedOut (IsMadeOfAll work tell inputs) first last told
     run_made_all r = of_expected_all r.expected r.first.is r.answer

@@ -1,8 +1,6 @@
--- Nothing in memory fails to be read, and nothing there fails to be written but for want of memory.
+-- The first fault of bytes in memory is no failed read and no failed write.
 use Rattle.std.proofs.Common.{◌≡◌, ℕ, zero, suc, Bool, true, List, [], ◌∷◌, drop, length, Result, Ok, Err, inl, inr, refl, sym, ap, ◌∙◌, subst, arith}
-use Rattle.cadf_json.specs.declared.stream.Sink.{Ghosts as Sink}
 use Rattle.cadf_json.specs.Streams.{counted}
-use Rattle.cadf_join.specs.Contents.{Text}
 use Rattle.cadf_set.specs.Inventory.{InventoryModel}
 use Rattle.cadf_linefile.specs.declared.fault.FileFault.{FileFault}
 use Rattle.cadf_linefile.specs.declared.fault.FileFault.TheVariants.{
@@ -23,6 +21,7 @@ use Rattle.cadf_linefile.proofs.RefusedLemmas as refused
 use Rattle.cadf_file.specs.InventoryVerdict.{inventory_grammar, inventory_model_or_fault}
 use Rattle.cadf_sketch.specs.Sketches.{SketchModel}
 use Rattle.cadf_sketch.specs.SketchVerdict.{sketch_grammar, sketch_model_or_fault}
+use Rattle.cadf_tool.specs.declared.input.Loaded.{Loaded}
 use Rattle.cadf_tool.specs.declared.input.LoadFault.TheVariants.{ReadFault as ReadFailed}
 use Rattle.cadf_tool.specs.declared.fault.ToolFault.{ToolFault}
 use Rattle.cadf_tool.specs.declared.fault.ToolFault.TheVariants.{
@@ -41,12 +40,11 @@ use Rattle.cadf_tool.specs.Faults.{fault_stage}
 use Rattle.cadf_tool.specs.InputFault.{of_file}
 use Rattle.cadf_tool.specs.Inputs.{SourceState, IsRefusedWithin}
 use Rattle.cadf_tool.specs.FileKind.{FileKind, IsKindRefusal}
-use Rattle.cadf_tool.specs.InventoryInput.{inventory_kind}
-use Rattle.cadf_tool.specs.SketchInput.{sketch_kind}
-use Rattle.cadf_tool.specs.Rehearse.{RefusesScript}
-use Rattle.cadf_tool.specs.Run.{SourceTransition, InputSpec, Sources, one, two, IsRefusedFirst, IsRefusedAt, IsFirstFaultBy, IsRunBy}
-use Rattle.cadf_memory.specs.Refused.{is_of_memory, unwritten_of, NoReadFailed}
-use Rattle.cadf_memory.proofs.Refused.{first_of}
+use Rattle.cadf_tool.specs.InventoryInput.{inventory_kind, inventory_spec}
+use Rattle.cadf_tool.specs.SketchInput.{sketch_kind, sketch_spec}
+use Rattle.cadf_tool.specs.Rehearse.{script_spec}
+use Rattle.cadf_tool.specs.Run.{InputSpec, Sources, one, two, input_spec, IsRefusedFirst, IsRefusedAt, IsValue, IsFirstFaultBy}
+use Rattle.cadf_memory.specs.Refused.{is_of_memory, seen_as, NoReadFailed, IsFirstOf, IsFirstOfTwoBy, IsFirstOfAll}
 
 no_count : (old new : ℕ) → old ≡ 0 → new ≡ 0 → new ≡ counted true old → ⊥
 no_count old new o n e =
@@ -72,7 +70,7 @@ ReadsAlone kind = (limit : ℕ) (failed : Bool) (bytes : List ℕ) → kind.verd
 same : {M : Type 0} (f g : FileFault) → ◌≡◌ {A = Result M FileFault} (Err f) (Err g) → f ≡ g
 same f g e = cc
 
-pub inventory_alone : ReadsAlone inventory_kind
+inventory_alone : ReadsAlone inventory_kind
 inventory_alone limit failed bytes e =
     refused.failed_alone inventory_grammar limit failed bytes (held (frame.verdict inventory_grammar limit failed bytes) e)
   where
@@ -80,7 +78,7 @@ inventory_alone limit failed bytes e =
     held (Ok ls) e = absurd (cc)
     held (Err f) e = ap reading.err (same {M = InventoryModel} f FileReadFault e)
 
-pub sketch_alone : ReadsAlone sketch_kind
+sketch_alone : ReadsAlone sketch_kind
 sketch_alone limit failed bytes e =
     refused.failed_alone sketch_grammar limit failed bytes (held (frame.verdict sketch_grammar limit failed bytes) e)
   where
@@ -90,51 +88,51 @@ sketch_alone limit failed bytes e =
 
 -- ---- a source of which no read fails isn't refused for one
 
-module _ (old new : SourceState) (before : old.failures ≡ 0) (after : new.failures ≡ 0) where
-  pub input_never : (limit : ℕ) → IsRefusedWithin limit old new ReadFailed → ⊥
-  input_never limit h = no_count old.failures new.failures before after h.1
+abbrev pub IsSafe : {T : Type 0} → InputSpec T → Type 0
+IsSafe reader = (old new : SourceState) → old.failures ≡ 0 → new.failures ≡ 0 → reader.refuses old new ReadFailed → ⊥
 
-  pub script_never : RefusesScript old new ReadFailed → ⊥
-  script_never h = no_count old.failures new.failures before after h.1
+within_never : (limit : ℕ) (old new : SourceState) → old.failures ≡ 0 → new.failures ≡ 0 → IsRefusedWithin limit old new ReadFailed → ⊥
+within_never limit old new before after h = no_count old.failures new.failures before after h.1
 
-  module _ {M : Type 0} (kind : FileKind M) (alone : ReadsAlone kind) where
-    pub kind_never : IsKindRefusal kind old new ReadFailed → ⊥
-    kind_never (fault, other, e, r) =
-        let is : kind.verdict FILE_LIMIT r.failed r.bytes ≡ Err FileReadFault =
-        subst (λ (f : FileFault). kind.verdict FILE_LIMIT r.failed r.bytes ≡ Err f) (of_failed fault (sym e)) r.verdict in
-        no_count old.failures new.failures before after
-        (r.failures ∙ ap (λ b. counted b old.failures) (alone FILE_LIMIT r.failed r.bytes is))
+pub input_safe : IsSafe input_spec
+input_safe = within_never FILE_LIMIT
 
--- ---- nor is one of several
+pub script_safe : IsSafe script_spec
+script_safe old new before after h = no_count old.failures new.failures before after h.1
 
-abbrev Never : {A : Type 0} → Sources A → Type 0
-Never sources = (n : ℕ) → sources.refused n ReadFailed → ⊥
+kind_never : {M : Type 0} (kind : FileKind M) → ReadsAlone kind → (old new : SourceState) → old.failures ≡ 0 → new.failures ≡ 0
+    → IsKindRefusal kind old new ReadFailed → ⊥
+kind_never kind alone old new before after (fault, other, e, r) =
+    let is : kind.verdict FILE_LIMIT r.failed r.bytes ≡ Err FileReadFault =
+    subst (λ (f : FileFault). kind.verdict FILE_LIMIT r.failed r.bytes ≡ Err f) (of_failed fault (sym e)) r.verdict in
+    no_count old.failures new.failures before after
+    (r.failures ∙ ap (λ b. counted b old.failures) (alone FILE_LIMIT r.failed r.bytes is))
 
-pub one_never : {T : Type 0} (reader : InputSpec T) (t : SourceTransition) → (reader.refuses t.old t.new ReadFailed → ⊥) → Never (one reader t)
-one_never reader t never n h = never h.1
+pub inventory_safe : IsSafe inventory_spec
+inventory_safe = kind_never inventory_kind inventory_alone
 
-pub two_never : {T U : Type 0} (reader : InputSpec T) (t : SourceTransition) (other : InputSpec U) (u : SourceTransition)
-    → (reader.refuses t.old t.new ReadFailed → ⊥) → (other.refuses u.old u.new ReadFailed → ⊥) → Never (two reader t other u)
-two_never reader t other u first second n h = elim h [ inl x ↦ first x.1.0 | inr x ↦ second x.1.1 ]
+pub sketch_safe : IsSafe sketch_spec
+sketch_safe = kind_never sketch_kind sketch_alone
 
 first_never : (old new : List SourceState) → NoReadFailed old → NoReadFailed new → IsRefusedFirst old new ReadFailed → ⊥
 first_never [] ns a b h = absurd h
 first_never (o ∷ os) [] a b h = absurd h
-first_never (o ∷ os) (n ∷ ns) a b h = input_never o n a.0 b.0 FILE_LIMIT h.0
+first_never (o ∷ os) (n ∷ ns) a b h = within_never FILE_LIMIT o n a.0 b.0 h.0
 
 unfailed_behind : (k : ℕ) (ss : List SourceState) → NoReadFailed ss → NoReadFailed (drop k ss)
 unfailed_behind zero ss h = h
 unfailed_behind (suc k) [] h = tt
 unfailed_behind (suc k) (s ∷ ss) h = unfailed_behind k ss h.1
 
-pub all_never : (old new : List SourceState) → NoReadFailed old → NoReadFailed new → (n : ℕ) → IsRefusedAt old new n ReadFailed → ⊥
+all_never : (old new : List SourceState) → NoReadFailed old → NoReadFailed new → (n : ℕ) → IsRefusedAt old new n ReadFailed → ⊥
 all_never old new a b n h =
     first_never (drop (length h.before) old) (drop (length h.before) new) (unfailed_behind (length h.before) old a)
     (unfailed_behind (length h.before) new b) h.refused
 
--- ---- what is answered
+-- ---- what comes first is no failed read and no failed write
 
-module _ {A M : Type 0} (sources : Sources A) (work : A → Result M ToolFault → Type 0) (never : Never sources) where
+module _ {A M : Type 0} (sources : Sources A) (work : A → Result M ToolFault → Type 0)
+    (never : (n : ℕ) → sources.refused n ReadFailed → ⊥) where
   of_memory : (fault : ToolFault) → IsFirstFaultBy sources work fault (fault_stage fault) → is_of_memory fault ≡ true
   of_memory (Input n f) h = refl
   of_memory NoLog h = refl
@@ -147,8 +145,22 @@ module _ {A M : Type 0} (sources : Sources A) (work : A → Result M ToolFault �
   of_memory WriteFault h = absurd h
   of_memory Memory h = refl
 
-  pub run_of_memory : {W V : Type 0} (tell : M → Text) (sink : Sink W) (old new : W) (fault result : ToolFault)
-      → result ≡ unwritten_of fault → ((a : A) → sources.are a → sources.unfailed)
-      → IsRunBy {T = V} sources work tell sink old new (Err fault) → is_of_memory result ≡ true
-  run_of_memory {W} {V} tell sink old new fault result answered read r =
-      ap is_of_memory answered ∙ of_memory (unwritten_of fault) (first_of sources work V tell sink old new fault read r)
+pub first_of_memory : {T M : Type 0} (reader : InputSpec T) → IsSafe reader → (work : T → Result M ToolFault) (bytes : List ℕ)
+    (fault : ToolFault) → IsFirstOf reader work bytes fault → is_of_memory fault ≡ true
+first_of_memory reader safe work bytes fault f =
+    of_memory (one reader f.source) (IsValue work) (λ n h. safe f.source.old f.source.new f.before f.after h.1) fault f.first
+
+pub first_of_memory_two : {T U M : Type 0} (reader : InputSpec T) (other : InputSpec U) → IsSafe reader → IsSafe other
+    → (work : T × U → Result M ToolFault → Type 0) (from to : List ℕ) (fault : ToolFault)
+    → IsFirstOfTwoBy reader other work from to fault → is_of_memory fault ≡ true
+first_of_memory_two reader other safe safe' work from to fault f =
+    of_memory (two reader f.source other f.following) work
+    (λ n h. elim h [
+      | inl x ↦ safe f.source.old f.source.new f.before f.after x.1
+      | inr x ↦ safe' f.following.old f.following.new f.following_before f.following_after x.2
+    ]) fault f.first
+
+pub first_of_memory_all : {M : Type 0} (work : List Loaded → Result M ToolFault) (inputs : List (List ℕ)) (fault : ToolFault)
+    → IsFirstOfAll work inputs fault → is_of_memory fault ≡ true
+first_of_memory_all work inputs fault f =
+    of_memory (seen_as f.old f.new) (IsValue work) (all_never f.old f.new f.before f.after) fault f.first

@@ -2,4 +2,4 @@ pub mod Memory
 pub mod Made
 pub mod Refused
 pub mod Handed
-pub mod Filled
+pub mod Buffers

@@ -1,5 +1,5 @@
 -- Why an engine over bytes in memory gives up: the first refusal, or there is no memory.
---     unwritten_of fault                         a write to memory fails only if there is no memory
+--     unwritten_of fault                         a failed write to memory counts as no memory
 --     is_of_memory fault                         it is neither a failed read nor a failed write
 --     IsFirstOf reader work bytes fault          the fault comes first, of a source that has these bytes and of which no read failed
 --     IsFirstOfTwo reader other work from to f   the same of two inputs; `By`: of a work that is a relation
@@ -21,7 +21,7 @@ use Rattle.cadf_tool.specs.declared.fault.ToolFault.TheVariants.{
 }
 use Rattle.cadf_tool.specs.Faults.{fault_stage}
 use Rattle.cadf_tool.specs.Inputs.{SourceState, NoneFailed}
-use Rattle.cadf_tool.specs.Run.{SourceTransition, InputSpec, Sources, one, two, AreLoaded, IsRefusedAt, IsUnfailed, IsValue, IsFirstFaultBy, IsFirstFault}
+use Rattle.cadf_tool.specs.Run.{SourceTransition, InputSpec, Sources, one, two, AreLoaded, IsRefusedAt, IsValue, IsFirstFaultBy, IsFirstFault}
 
 abbrev pub unwritten_of : ToolFault → ToolFault
 unwritten_of (Input n f) = Input n f
@@ -44,17 +44,20 @@ pub record IsFirstOf {T M : Type 0} (reader : InputSpec T) (work : T → Result 
     (fault : ToolFault) : Type 0 where
   pub source : SourceTransition
   pub left : source.old.left ≡ Some bytes
-  pub unfailed : IsUnfailed source
+  pub before : source.old.failures ≡ 0
+  pub after : source.new.failures ≡ 0
   pub first : IsFirstFault (one reader source) work fault (fault_stage fault)
 
 pub record IsFirstOfTwoBy {T U M : Type 0} (reader : InputSpec T) (other : InputSpec U)
     (work : T × U → Result M ToolFault → Type 0) (from to : List ℕ) (fault : ToolFault) : Type 0 where
   pub source : SourceTransition
   pub left : source.old.left ≡ Some from
-  pub unfailed : IsUnfailed source
+  pub before : source.old.failures ≡ 0
+  pub after : source.new.failures ≡ 0
   pub following : SourceTransition
   pub following_left : following.old.left ≡ Some to
-  pub following_unfailed : IsUnfailed following
+  pub following_before : following.old.failures ≡ 0
+  pub following_after : following.new.failures ≡ 0
   pub first : IsFirstFaultBy (two reader source other following) work fault (fault_stage fault)
 
 abbrev pub IsFirstOfTwo : {T U M : Type 0} → InputSpec T → InputSpec U → (T × U → Result M ToolFault) → List ℕ → List ℕ

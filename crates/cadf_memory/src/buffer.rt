@@ -8,7 +8,7 @@ use cadf_json::{Failed, Sink};
 /// A buffer that is written to: bytes for which it has no room are counted. A write fails only if the count has no
 /// 64 bits.
 #[derive(Drop)]
-pub struct Buffer<'o> {
+pub(crate) struct Buffer<'o> {
     output: &'o mut [u8],
     length: usize,
     writes: u64,
@@ -20,10 +20,10 @@ pub struct Buffer<'o> {
 }
 
 impl<'o> Buffer<'o> {
-    ghost use Rattle.cadf_memory.specs.Filled.{buffer_name, buffer_before, buffer_text};
+    ghost use Rattle.cadf_memory.specs.Buffers.{buffer_name, buffer_before, buffer_text};
 
     /// Returns a buffer to which nothing was written.
-    pub fn new(output: &'o mut [u8]) -> Buffer<'o>
+    pub(crate) fn new(output: &'o mut [u8]) -> Buffer<'o>
         ensures same { buffer_name result ≡ output.entry.ghost_name }
         ensures before { buffer_before result ≡ output.old }
         ensures text { buffer_text result ≡ [] }
@@ -40,7 +40,7 @@ impl<'o> Buffer<'o> {
     }
 
     /// Returns how many bytes were written, with those that are only counted.
-    pub fn length(&self) -> usize
+    pub(crate) fn length(&self) -> usize
         ensures { result ≡ length_of (buffer_text self.now) }
     {
         self.length

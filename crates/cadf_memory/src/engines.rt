@@ -1,5 +1,6 @@
-//! Each engine over bytes. It writes the text that it tells of the bytes, or answers the first refusal.
-ghost use Rattle.std.specs.Prelude.{◌≡◌, true, OnOk, IfOk, IfErr, map, encode_utf8};
+//! Each engine over bytes. It writes the text that it tells of the bytes to a buffer, as far as there is room, and returns
+//! how long it is; or it answers the first refusal.
+ghost use Rattle.std.specs.Prelude.{◌≡◌, true, IfOk, IfErr, map, encode_utf8};
 ghost use Rattle.cadf_file.specs.InventoryFile.{inventory_file};
 ghost use Rattle.cadf_tool.specs.Run.{input_spec};
 ghost use Rattle.cadf_tool.specs.InventoryInput.{inventory_spec};
@@ -16,7 +17,7 @@ ghost use Rattle.cadf_tool.specs.Sites.{sites_text};
 ghost use Rattle.cadf_tool.specs.Join.{join_of};
 ghost use Rattle.cadf_tool.specs.WrittenFile.{file};
 ghost use Rattle.cadf_memory.specs.Memory.{bytes_of, slice_left};
-ghost use Rattle.cadf_memory.specs.Filled.{IsFilled, buffer_name, buffer_before};
+ghost use Rattle.cadf_memory.specs.Handed.{IsHandedOut};
 ghost use Rattle.cadf_memory.specs.Made.{IsMadeOf, IsMadeOfTwo, IsMadeOfTwoBy, IsMadeOfAll};
 ghost use Rattle.cadf_memory.specs.Refused.{is_of_memory, IsFirstOf, IsFirstOfTwo, IsFirstOfTwoBy, IsFirstOfAll};
 
@@ -36,47 +37,44 @@ pub fn show(
     alloc: Global,
     conflicts: bool,
     input: &[u8],
-    output: &mut Buffer<'_>,
-) -> Result<(), ToolFault>
-    ensures same { buffer_name output.new ≡ buffer_name output.old }
-    ensures before { buffer_before output.new ≡ buffer_before output.old }
-    ensures ok { OnOk result (IsFilled (IsMadeOf input_spec replica_model_of (shown_text conflicts) input.now) output.old output.new) }
+    output: &mut [u8],
+) -> Result<usize, ToolFault>
+    ensures ok { IfOk result (IsHandedOut (IsMadeOf input_spec replica_model_of (shown_text conflicts) input.now) output.old output.new) }
     ensures err { IfErr result (λ fault. IsFirstOf input_spec replica_model_of input.now fault) }
     ensures only { IfErr result (λ fault. is_of_memory fault ≡ true) }
 {
     let mut source = SliceSource::new(input);
-    match run_show(alloc, conflicts, &mut source, output) {
-        Ok(()) => Ok(()),
+    let mut buffer = Buffer::new(output);
+    match run_show(alloc, conflicts, &mut source, &mut buffer) {
+        Ok(()) => Ok(buffer.length()),
         Err(fault) => Err(unwritten(fault)),
     }
 }
 
 /// Writes the line that tells what the input holds.
-pub fn check(alloc: Global, input: &[u8], output: &mut Buffer<'_>) -> Result<(), ToolFault>
-    ensures same { buffer_name output.new ≡ buffer_name output.old }
-    ensures before { buffer_before output.new ≡ buffer_before output.old }
-    ensures ok { OnOk result (IsFilled (IsMadeOf input_spec replica_model_of checked_text input.now) output.old output.new) }
+pub fn check(alloc: Global, input: &[u8], output: &mut [u8]) -> Result<usize, ToolFault>
+    ensures ok { IfOk result (IsHandedOut (IsMadeOf input_spec replica_model_of checked_text input.now) output.old output.new) }
     ensures err { IfErr result (λ fault. IsFirstOf input_spec replica_model_of input.now fault) }
     ensures only { IfErr result (λ fault. is_of_memory fault ≡ true) }
 {
     let mut source = SliceSource::new(input);
-    match run_check(alloc, &mut source, output) {
-        Ok(()) => Ok(()),
+    let mut buffer = Buffer::new(output);
+    match run_check(alloc, &mut source, &mut buffer) {
+        Ok(()) => Ok(buffer.length()),
         Err(fault) => Err(unwritten(fault)),
     }
 }
 
 /// Writes the inventory file of the input.
-pub fn inventory(alloc: Global, input: &[u8], output: &mut Buffer<'_>) -> Result<(), ToolFault>
-    ensures same { buffer_name output.new ≡ buffer_name output.old }
-    ensures before { buffer_before output.new ≡ buffer_before output.old }
-    ensures ok { OnOk result (IsFilled (IsMadeOf input_spec inventory_model_of inventory_file input.now) output.old output.new) }
+pub fn inventory(alloc: Global, input: &[u8], output: &mut [u8]) -> Result<usize, ToolFault>
+    ensures ok { IfOk result (IsHandedOut (IsMadeOf input_spec inventory_model_of inventory_file input.now) output.old output.new) }
     ensures err { IfErr result (λ fault. IsFirstOf input_spec inventory_model_of input.now fault) }
     ensures only { IfErr result (λ fault. is_of_memory fault ≡ true) }
 {
     let mut source = SliceSource::new(input);
-    match run_inventory(alloc, &mut source, output) {
-        Ok(()) => Ok(()),
+    let mut buffer = Buffer::new(output);
+    match run_inventory(alloc, &mut source, &mut buffer) {
+        Ok(()) => Ok(buffer.length()),
         Err(fault) => Err(unwritten(fault)),
     }
 }
@@ -88,17 +86,16 @@ pub fn rule(
     key: &Name,
     place: u64,
     input: &[u8],
-    output: &mut Buffer<'_>,
-) -> Result<(), ToolFault>
-    ensures same { buffer_name output.new ≡ buffer_name output.old }
-    ensures before { buffer_before output.new ≡ buffer_before output.old }
-    ensures ok { OnOk result (IsFilled (IsMadeOf input_spec (ruled_of (encode_utf8 letter) key.now place) file input.now) output.old output.new) }
+    output: &mut [u8],
+) -> Result<usize, ToolFault>
+    ensures ok { IfOk result (IsHandedOut (IsMadeOf input_spec (ruled_of (encode_utf8 letter) key.now place) file input.now) output.old output.new) }
     ensures err { IfErr result (λ fault. IsFirstOf input_spec (ruled_of (encode_utf8 letter) key.now place) input.now fault) }
     ensures only { IfErr result (λ fault. is_of_memory fault ≡ true) }
 {
     let mut source = SliceSource::new(input);
-    match run_rule(alloc, letter, key, place, &mut source, output) {
-        Ok(()) => Ok(()),
+    let mut buffer = Buffer::new(output);
+    match run_rule(alloc, letter, key, place, &mut source, &mut buffer) {
+        Ok(()) => Ok(buffer.length()),
         Err(fault) => Err(unwritten(fault)),
     }
 }
@@ -109,38 +106,31 @@ pub fn rehearse(
     log: &Name,
     sites: usize,
     script: &[u8],
-    output: &mut Buffer<'_>,
-) -> Result<(), ToolFault>
-    ensures same { buffer_name output.new ≡ buffer_name output.old }
-    ensures before { buffer_before output.new ≡ buffer_before output.old }
-    ensures ok { OnOk result (IsFilled (IsMadeOf script_spec (final_sites log.now sites) sites_text script.now) output.old output.new) }
+    output: &mut [u8],
+) -> Result<usize, ToolFault>
+    ensures ok { IfOk result (IsHandedOut (IsMadeOf script_spec (final_sites log.now sites) sites_text script.now) output.old output.new) }
     ensures err { IfErr result (λ fault. IsFirstOf script_spec (final_sites log.now sites) script.now fault) }
     ensures only { IfErr result (λ fault. is_of_memory fault ≡ true) }
 {
     let mut source = SliceSource::new(script);
-    match run_rehearse(alloc, log, sites, &mut source, output) {
-        Ok(()) => Ok(()),
+    let mut buffer = Buffer::new(output);
+    match run_rehearse(alloc, log, sites, &mut source, &mut buffer) {
+        Ok(()) => Ok(buffer.length()),
         Err(fault) => Err(unwritten(fault)),
     }
 }
 
 /// Writes the replica file of what `to` lacks of `from`. Inputs count from 1: `from` is the first.
-pub fn missing(
-    alloc: Global,
-    from: &[u8],
-    to: &[u8],
-    output: &mut Buffer<'_>,
-) -> Result<(), ToolFault>
-    ensures same { buffer_name output.new ≡ buffer_name output.old }
-    ensures before { buffer_before output.new ≡ buffer_before output.old }
-    ensures ok { OnOk result (IsFilled (IsMadeOfTwo input_spec input_spec part_of file from.now to.now) output.old output.new) }
+pub fn missing(alloc: Global, from: &[u8], to: &[u8], output: &mut [u8]) -> Result<usize, ToolFault>
+    ensures ok { IfOk result (IsHandedOut (IsMadeOfTwo input_spec input_spec part_of file from.now to.now) output.old output.new) }
     ensures err { IfErr result (λ fault. IsFirstOfTwo input_spec input_spec part_of from.now to.now fault) }
     ensures only { IfErr result (λ fault. is_of_memory fault ≡ true) }
 {
     let mut first = SliceSource::new(from);
     let mut second = SliceSource::new(to);
-    match run_missing(alloc, &mut first, &mut second, output) {
-        Ok(()) => Ok(()),
+    let mut buffer = Buffer::new(output);
+    match run_missing(alloc, &mut first, &mut second, &mut buffer) {
+        Ok(()) => Ok(buffer.length()),
         Err(fault) => Err(unwritten(fault)),
     }
 }
@@ -150,18 +140,17 @@ pub fn missing_by(
     alloc: Global,
     from: &[u8],
     inventory: &[u8],
-    output: &mut Buffer<'_>,
-) -> Result<(), ToolFault>
-    ensures same { buffer_name output.new ≡ buffer_name output.old }
-    ensures before { buffer_before output.new ≡ buffer_before output.old }
-    ensures ok { OnOk result (IsFilled (IsMadeOfTwo input_spec inventory_spec part_by file from.now inventory.now) output.old output.new) }
+    output: &mut [u8],
+) -> Result<usize, ToolFault>
+    ensures ok { IfOk result (IsHandedOut (IsMadeOfTwo input_spec inventory_spec part_by file from.now inventory.now) output.old output.new) }
     ensures err { IfErr result (λ fault. IsFirstOfTwo input_spec inventory_spec part_by from.now inventory.now fault) }
     ensures only { IfErr result (λ fault. is_of_memory fault ≡ true) }
 {
     let mut first = SliceSource::new(from);
     let mut second = SliceSource::new(inventory);
-    match run_missing_by(alloc, &mut first, &mut second, output) {
-        Ok(()) => Ok(()),
+    let mut buffer = Buffer::new(output);
+    match run_missing_by(alloc, &mut first, &mut second, &mut buffer) {
+        Ok(()) => Ok(buffer.length()),
         Err(fault) => Err(unwritten(fault)),
     }
 }
@@ -172,17 +161,16 @@ pub fn sketch(
     cells: Option<Cells>,
     salt: Option<Salt>,
     input: &[u8],
-    output: &mut Buffer<'_>,
-) -> Result<(), ToolFault>
-    ensures same { buffer_name output.new ≡ buffer_name output.old }
-    ensures before { buffer_before output.new ≡ buffer_before output.old }
-    ensures ok { OnOk result (IsFilled (IsMadeOf input_spec (sketch_model_of cells salt) sketch_file input.now) output.old output.new) }
+    output: &mut [u8],
+) -> Result<usize, ToolFault>
+    ensures ok { IfOk result (IsHandedOut (IsMadeOf input_spec (sketch_model_of cells salt) sketch_file input.now) output.old output.new) }
     ensures err { IfErr result (λ fault. IsFirstOf input_spec (sketch_model_of cells salt) input.now fault) }
     ensures only { IfErr result (λ fault. is_of_memory fault ≡ true) }
 {
     let mut source = SliceSource::new(input);
-    match run_sketch(alloc, cells, salt, &mut source, output) {
-        Ok(()) => Ok(()),
+    let mut buffer = Buffer::new(output);
+    match run_sketch(alloc, cells, salt, &mut source, &mut buffer) {
+        Ok(()) => Ok(buffer.length()),
         Err(fault) => Err(unwritten(fault)),
     }
 }
@@ -192,18 +180,17 @@ pub fn missing_by_sketch(
     alloc: Global,
     from: &[u8],
     sketch: &[u8],
-    output: &mut Buffer<'_>,
-) -> Result<(), ToolFault>
-    ensures same { buffer_name output.new ≡ buffer_name output.old }
-    ensures before { buffer_before output.new ≡ buffer_before output.old }
-    ensures ok { OnOk result (IsFilled (IsMadeOfTwoBy input_spec sketch_spec IsPartBySketch file from.now sketch.now) output.old output.new) }
+    output: &mut [u8],
+) -> Result<usize, ToolFault>
+    ensures ok { IfOk result (IsHandedOut (IsMadeOfTwoBy input_spec sketch_spec IsPartBySketch file from.now sketch.now) output.old output.new) }
     ensures err { IfErr result (λ fault. IsFirstOfTwoBy input_spec sketch_spec IsPartBySketch from.now sketch.now fault) }
     ensures only { IfErr result (λ fault. is_of_memory fault ≡ true) }
 {
     let mut first = SliceSource::new(from);
     let mut second = SliceSource::new(sketch);
-    match run_missing_by_sketch(alloc, &mut first, &mut second, output) {
-        Ok(()) => Ok(()),
+    let mut buffer = Buffer::new(output);
+    match run_missing_by_sketch(alloc, &mut first, &mut second, &mut buffer) {
+        Ok(()) => Ok(buffer.length()),
         Err(fault) => Err(unwritten(fault)),
     }
 }
@@ -225,19 +212,18 @@ pub fn join(
     alloc: Global,
     log: Option<Name>,
     inputs: &[&[u8]],
-    output: &mut Buffer<'_>,
-) -> Result<(), ToolFault>
-    ensures same { buffer_name output.new ≡ buffer_name output.old }
-    ensures before { buffer_before output.new ≡ buffer_before output.old }
-    ensures ok { OnOk result (IsFilled (IsMadeOfAll (join_of log) file (bytes_of inputs.now)) output.old output.new) }
+    output: &mut [u8],
+) -> Result<usize, ToolFault>
+    ensures ok { IfOk result (IsHandedOut (IsMadeOfAll (join_of log) file (bytes_of inputs.now)) output.old output.new) }
     ensures err { IfErr result (λ fault. IsFirstOfAll (join_of log) (bytes_of inputs.now) fault) }
     ensures only { IfErr result (λ fault. is_of_memory fault ≡ true) }
 {
     let Ok(mut sources) = sources(alloc, inputs) else {
         return Err(ToolFault::Memory);
     };
-    match run_join(alloc, log, sources.as_mut_slice(), output) {
-        Ok(()) => Ok(()),
+    let mut buffer = Buffer::new(output);
+    match run_join(alloc, log, sources.as_mut_slice(), &mut buffer) {
+        Ok(()) => Ok(buffer.length()),
         Err(fault) => Err(unwritten(fault)),
     }
 }

@@ -21,14 +21,14 @@ pub(crate) struct Given<'b> {
 }
 
 impl GhostBytes {
-    /// Has noted nothing.
+    /// Returns an empty note.
     pub(crate) fn new() -> GhostBytes
         ensures { result.items ≡ [] }
     {
         GhostBytes {}
     }
 
-    /// Notes the bytes behind those before.
+    /// Notes the bytes too, behind those before.
     #[inline(always)]
     pub(crate) fn then(&self, _more: &Given<'_>) -> GhostBytes
         ensures { result.items ≡ self.now.items ++ _more.now.bytes.now }

@@ -7,7 +7,6 @@ mod ghost_bytes;
 mod output;
 mod slice_source;
 
-pub use crate::buffer::Buffer;
 pub use crate::engines::{
     check, inventory, join, missing, missing_by, missing_by_sketch, rehearse, rule, show, sketch,
 };

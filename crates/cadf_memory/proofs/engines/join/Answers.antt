@@ -1,11 +1,10 @@
-use Rattle.std.proofs.Common.{Some, ap, refl, map, ◌∙◌}
+use Rattle.std.proofs.Common.{Some, ap, refl, rules, map, ◌∙◌}
 use Rattle.cadf_tool.specs.Join.{join_of}
 use Rattle.cadf_tool.specs.WrittenFile.{file}
-use Rattle.cadf_tool.proofs.LoadedLists.{none_failed}
 use Rattle.cadf_memory.specs.Memory.{slice_left}
 use Rattle.cadf_memory.proofs.Lists.{lefts, none_has_failed, refused_unread}
-use Rattle.cadf_memory.proofs.Made.{run_kept, run_made_all}
-use Rattle.cadf_memory.proofs.OfMemory.{all_never, run_of_memory}
+use Rattle.cadf_memory.proofs.Made.{run_made_all}
+use Rattle.cadf_memory.proofs.OfMemory.{first_of_memory_all}
 use Rattle.cadf_memory.proofs.Refused.{run_refused_all}
 use Rattle.cadf_memory.proofs.engines.join.Goals as goal
 
@@ -14,7 +13,8 @@ returns-in_default-clause-err c = refused_unread (join_of _) _
 
 pub returns-in-Ok-run_join-clause-ok : goal.returns-in-Ok-run_join-clause-ok
 returns-in-Ok-run_join-clause-ok c =
-    run_made_all file _ _ _ _ c.args.output.now c.run_join.new.output refl refl _ (join_of _)
+    run_made_all file _ _ _ _ c.new-buffer.result c.run_join.new.output refl refl _ _ _ c.new-buffer.ensures.before c.new-buffer.ensures.text
+    c.length.ensures (λ same. search rules) _ (join_of _)
     c.as_mut_slice.result.now c.run_join.new.inputs _
     (lefts _ slice_left (λ s. refl) c.as_mut_slice.result.now
     ∙ ap (map Some) (ap (map slice_left) c.as_mut_slice.ensures.value ∙ c.in-Ok.ensures)) c.in-Ok-run_join.ensures
@@ -27,23 +27,5 @@ returns-clause-err c =
     ∙ ap (map Some) (ap (map slice_left) c.as_mut_slice.ensures.value ∙ c.in-Ok.ensures))
     (none_has_failed _ (λ s. refl) c.as_mut_slice.result.now) (none_has_failed _ (λ s. refl) c.run_join.new.inputs) c.in-Err.ensures
 
-pub returns-in-Ok-run_join-clause-same : goal.returns-in-Ok-run_join-clause-same
-returns-in-Ok-run_join-clause-same c =
-    (run_kept _ _ _ _ _ _ _ c.args.output.now c.run_join.new.output refl refl c.run_join.ensures).0
-
-pub returns-in-Ok-run_join-clause-before : goal.returns-in-Ok-run_join-clause-before
-returns-in-Ok-run_join-clause-before c =
-    (run_kept _ _ _ _ _ _ _ c.args.output.now c.run_join.new.output refl refl c.run_join.ensures).1
-
-pub returns-clause-same : goal.returns-clause-same
-returns-clause-same c =
-    (run_kept _ _ _ _ _ _ _ c.args.output.now c.run_join.new.output refl refl c.run_join.ensures).0
-
-pub returns-clause-before : goal.returns-clause-before
-returns-clause-before c =
-    (run_kept _ _ _ _ _ _ _ c.args.output.now c.run_join.new.output refl refl c.run_join.ensures).1
-
 pub returns-clause-only : goal.returns-clause-only
-returns-clause-only c =
-    run_of_memory _ _ (all_never _ _ (none_has_failed _ (λ s. refl) c.as_mut_slice.result.now) (none_has_failed _ (λ s. refl) c.run_join.new.inputs)) file _ _ _
-    c.in-Err.fault c.unwritten.result c.unwritten.ensures (λ ls are. none_failed _ _ ls are) c.in-Err.ensures
+returns-clause-only c = first_of_memory_all (join_of _) _ _ (returns-clause-err c)
