@@ -1,13 +1,14 @@
 //! Bytes of the caller's.
-ghost use Rattle.std.specs.Prelude.{◌≡◌, IfOk, OnOk};
+ghost use Rattle.std.specs.Prelude.{◌≡◌, true, IfOk, IfErr};
 ghost use Rattle.cadf_tool.specs.Join.{join_of};
 ghost use Rattle.cadf_tool.specs.WrittenFile.{file};
 ghost use Rattle.cadf_memory.specs.Memory.{bytes_of};
-ghost use Rattle.cadf_memory.specs.Filled.{IsFilled, buffer_name, buffer_before};
+ghost use Rattle.cadf_memory.specs.Handed.{IsHandedOut};
 ghost use Rattle.cadf_memory.specs.Made.{IsMadeOfAll};
+ghost use Rattle.cadf_memory.specs.Refused.{is_of_memory, IsFirstOfAll};
 ghost use Rattle.cadf_c.specs.Inputs.{bytes_in};
 
-use cadf_memory::{Buffer, Name, ToolFault, join};
+use cadf_memory::{Name, ToolFault, join};
 use std::alloc::{AllocError as Memory, Global};
 
 /// Bytes of the caller's: an address and a length.
@@ -27,16 +28,17 @@ fn slices<'b>(alloc: Global, inputs: &[CadfBytes<'b>]) -> Result<Vec<&'b [u8]>, 
     Ok(slices)
 }
 
-/// Writes the replica file of what all of them contribute.
+/// Writes the replica file of what all of them contribute, and returns its length.
+#[tactic(auto, using(cadf_memory::proofs::Lists::refused_unread))]
 pub(crate) fn join_inputs(
     alloc: Global,
     log: Option<Name>,
     inputs: &[CadfBytes<'_>],
-    output: &mut Buffer<'_>,
-) -> Result<(), ToolFault>
-    ensures same { buffer_name output.new ≡ buffer_name output.old }
-    ensures before { buffer_before output.new ≡ buffer_before output.old }
-    ensures ok { OnOk result (IsFilled (IsMadeOfAll (join_of log) file (bytes_in inputs.now)) output.old output.new) }
+    output: &mut [u8],
+) -> Result<usize, ToolFault>
+    ensures ok { IfOk result (IsHandedOut (IsMadeOfAll (join_of log) file (bytes_in inputs.now)) output.old output.new) }
+    ensures err { IfErr result (λ fault. IsFirstOfAll (join_of log) (bytes_in inputs.now) fault) }
+    ensures only { IfErr result (λ fault. is_of_memory fault ≡ true) }
 {
     match slices(alloc, inputs) {
         Ok(slices) => join(alloc, log, slices.as_slice(), output),
