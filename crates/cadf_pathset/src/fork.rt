@@ -19,7 +19,8 @@ pub(crate) struct Fork {
 impl Fork {
     /// Makes a fork that knows no nodes.
     pub fn unknown() -> Fork
-        ensures { result.order ≡ Equal }
+        ensures order { result.order ≡ Equal }
+        ensures root { (result.a ≡ 0) × (result.b ≡ 0) }
     {
         Fork {
             a: 0,
@@ -88,7 +89,31 @@ pub(crate) fn next_cmp(nodes: &Nodes, node: usize, other: usize, fork: &mut Fork
     parting_cmp(nodes, node, other, fork)
 }
 
-/// Compares the lists of two nodes, and finds the nodes where they part. The difference nearest to the root decides.
+/// Climbs from two nodes to children of one parent, and compares their texts. Unknown if the climbs don't come to such children.
+fn sibling_fork(nodes: &Nodes, node: usize, other: usize) -> Fork
+    requires ours { node ≤ length nodes.now }
+    requires theirs { other ≤ length nodes.now }
+    ensures known { IsFork nodes.now result }
+    ensures ours { (rest : Texts) × (list_at nodes.now node ≡ list_at nodes.now result.a ++ rest) }
+    ensures theirs { (rest : Texts) × (list_at nodes.now other ≡ list_at nodes.now result.b ++ rest) }
+{
+    let mut a = node;
+    let mut b = other;
+    while a != b && a > 0 && b > 0 {
+        let above = nodes.parent(a);
+        let beside = nodes.parent(b);
+        if above == beside {
+            let order = nodes.text(a).cmp(nodes.text(b));
+            return Fork { a, b, order };
+        }
+        a = above;
+        b = beside;
+    }
+    Fork::unknown()
+}
+
+/// Compares the lists of two nodes, and finds the nodes where they part. The difference nearest to the root decides: it is at children of
+/// one parent, unless these have the same text.
 fn parting_cmp(nodes: &Nodes, node: usize, other: usize, fork: &mut Fork) -> Ordering
     requires ours { node ≤ length nodes.now }
     requires theirs { other ≤ length nodes.now }
@@ -100,7 +125,11 @@ fn parting_cmp(nodes: &Nodes, node: usize, other: usize, fork: &mut Fork) -> Ord
     let mut found = has.cmp(&its);
     let mut a = ancestor(nodes, node, has, its);
     let mut b = ancestor(nodes, other, its, has);
-    let mut near = Fork::unknown();
+    let mut near = sibling_fork(nodes, a, b);
+    if !near.order.is_eq() {
+        *fork = near;
+        return near.order;
+    }
     while a != b && a > 0 && b > 0 {
         let order = nodes.text(a).cmp(nodes.text(b));
         found = order.then(found);
