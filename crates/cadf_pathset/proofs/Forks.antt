@@ -1,6 +1,5 @@
 -- Lists that part, and those that go on from them.
-use Rattle.std.proofs.Common.{◌≡◌, ℕ, List, [], ◌∷◌, ◌++◌, refl, sym, ap, ◌∙◌, subst, append_assoc, length, take, drop}
-use Rattle.std.proofs.lemmas.List.{take-append-drop}
+use Rattle.std.proofs.Common.{◌≡◌, ℕ, List, [], ◌∷◌, ◌++◌, refl, sym, ap, ◌∙◌, subst, append_assoc, length}
 use Rattle.std.specs.declared.cmp.Ordering.{Ordering}
 use Rattle.std.specs.declared.cmp.Ordering.TheVariants.{Less, Equal, Greater}
 use Rattle.std.specs.Ordering.{ordering_then}
@@ -72,13 +71,6 @@ fork_at ls a b p q t u r ours theirs same is =
     let f : Fork = record { a = a; b = b; order = r } in
     let e = ap (list_at ls) same in
     fork_found ls f p q e (λ n x y. here ls f f a b p q t u r ours theirs (ap length e) is n n x y)
-
--- what goes on from what goes on
-pub further : (ls : List Texts) (m a f : ℕ) (n : ℕ) → list_at ls a ≡ take n (list_at ls m) → (rest : Texts) × (list_at ls a ≡ list_at ls f ++ rest)
-    → (rest : Texts) × (list_at ls m ≡ list_at ls f ++ rest)
-further ls m a f n front (rest, is) =
-    let l = list_at ls m in
-    (rest ++ drop n l, sym (take-append-drop n l) ∙ ap (λ z. z ++ drop n l) (sym front ∙ is) ∙ append_assoc (list_at ls f) rest (drop n l))
 
 -- lists that go on from a fork
 pub fork_decides : (ls : List Texts) (f : Fork) (m n : ℕ) (x y : Texts) → IsFork ls f → (f.order ≡ Equal → ⊥) → list_at ls m ≡ list_at ls f.a ++ x

@@ -89,7 +89,8 @@ pub(crate) fn next_cmp(nodes: &Nodes, node: usize, other: usize, fork: &mut Fork
     parting_cmp(nodes, node, other, fork)
 }
 
-/// Climbs from two nodes to children of one parent, and compares their texts. Unknown if the climbs don't come to such children.
+/// Climbs from two nodes to children of one parent, and compares their texts. Unknown if one of the lists begins with the other.
+/// Since parents have smaller numbers than their children, it climbs from whichever number is greater.
 fn sibling_fork(nodes: &Nodes, node: usize, other: usize) -> Fork
     requires ours { node ≤ length nodes.now }
     requires theirs { other ≤ length nodes.now }
@@ -97,17 +98,26 @@ fn sibling_fork(nodes: &Nodes, node: usize, other: usize) -> Fork
     ensures ours { (rest : Texts) × (list_at nodes.now node ≡ list_at nodes.now result.a ++ rest) }
     ensures theirs { (rest : Texts) × (list_at nodes.now other ≡ list_at nodes.now result.b ++ rest) }
 {
+    let mut ours: usize = 0;
+    let mut theirs: usize = 0;
     let mut a = node;
     let mut b = other;
-    while a != b && a > 0 && b > 0 {
-        let above = nodes.parent(a);
-        let beside = nodes.parent(b);
-        if above == beside {
-            let order = nodes.text(a).cmp(nodes.text(b));
-            return Fork { a, b, order };
+    while a != b {
+        if a > b {
+            ours = a;
+            a = nodes.parent(a);
+        } else {
+            theirs = b;
+            b = nodes.parent(b);
         }
-        a = above;
-        b = beside;
+    }
+    if ours > 0 && theirs > 0 {
+        let order = nodes.text(ours).cmp(nodes.text(theirs));
+        return Fork {
+            a: ours,
+            b: theirs,
+            order,
+        };
     }
     Fork::unknown()
 }
@@ -120,16 +130,16 @@ fn parting_cmp(nodes: &Nodes, node: usize, other: usize, fork: &mut Fork) -> Ord
     ensures order { result ≡ texts_cmp (list_at nodes.now node) (list_at nodes.now other) }
     ensures known { IsFork nodes.now fork.new }
 {
+    let mut near = sibling_fork(nodes, node, other);
+    if !near.order.is_eq() {
+        *fork = near;
+        return near.order;
+    }
     let has = depth(nodes, node);
     let its = depth(nodes, other);
     let mut found = has.cmp(&its);
     let mut a = ancestor(nodes, node, has, its);
     let mut b = ancestor(nodes, other, its, has);
-    let mut near = sibling_fork(nodes, a, b);
-    if !near.order.is_eq() {
-        *fork = near;
-        return near.order;
-    }
     while a != b && a > 0 && b > 0 {
         let order = nodes.text(a).cmp(nodes.text(b));
         found = order.then(found);

@@ -6,7 +6,7 @@ use Rattle.std.proofs.lemmas.List.{length-take}
 use Rattle.cadf_join.specs.Contents.{Texts, text_cmp}
 use Rattle.cadf_pathset.specs.Nodes.{list_at, last_text}
 use Rattle.cadf_pathset.proofs.Arena.{one_longer}
-use Rattle.cadf_pathset.proofs.Forks.{fork_decides, fork_found, fork_up, further, no_fork}
+use Rattle.cadf_pathset.proofs.Forks.{fork_decides, fork_found, fork_up, no_fork}
 use Rattle.cadf_pathset.proofs.Orders.{cmp_lengths, cmp_up, cmp_same}
 use Rattle.cadf_pathset.proofs.fork.parting_cmp.Goals as goal
 
@@ -15,10 +15,8 @@ returns-then-not-is_eq-clause-order c =
     let ls = c.args.nodes.now in
     let near = c.sibling_fork-near.result in
     let known = c.sibling_fork-near.ensures in
-    let ours = further ls c.args.node c.ancestor-a.result near.a c.depth-its.result c.ancestor-a.ensures.list known.ours in
-    let theirs = further ls c.args.other c.ancestor-b.result near.b c.depth-has.result c.ancestor-b.ensures.list known.theirs in
-    fork_decides ls near c.args.node c.args.other ours.0 theirs.0 known.known
-    (λ e. true≢false (sym (ap is_eq e) ∙ sym c.is_eq.ensures ∙ c.if-not-is_eq.true)) ours.1 theirs.1
+    fork_decides ls near c.args.node c.args.other known.ours.0 known.theirs.0 known.known
+    (λ e. true≢false (sym (ap is_eq e) ∙ sym c.is_eq.ensures ∙ c.if-not-is_eq.true)) known.ours.1 known.theirs.1
 
 pub loop-a-init : goal.loop-a-init
 loop-a-init c =

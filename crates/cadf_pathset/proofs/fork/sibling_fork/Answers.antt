@@ -1,4 +1,4 @@
-use Rattle.std.proofs.Common.{[], ◌++◌, sym, ap, ◌∙◌}
+use Rattle.std.proofs.Common.{[], ◌++◌, sym, ap, refl, arith, ◌∙◌}
 use Rattle.std.proofs.lemmas.List.{append-nil}
 use Rattle.cadf_join.specs.Contents.{text_cmp}
 use Rattle.cadf_pathset.specs.Nodes.{last_text, list_at}
@@ -6,19 +6,29 @@ use Rattle.cadf_pathset.proofs.Forks.{fork_at}
 use Rattle.cadf_pathset.proofs.fork.sibling_fork.Goals as goal
 
 pub loop-a-init : goal.loop-a-init
-loop-a-init c = record {
-  here = c.requires.ours;
-  there = c.requires.theirs;
-  ours = ([], sym (append-nil (list_at c.args.nodes.now c.args.node)));
-  theirs = ([], sym (append-nil (list_at c.args.nodes.now c.args.other)));
-}
+loop-a-init c =
+    let l = list_at c.args.nodes.now c.args.node in
+    let m = list_at c.args.nodes.now c.args.other in
+    record {
+      here = c.requires.ours;
+      there = c.requires.theirs;
+      held = omega arith;
+      known = omega arith;
+      child = λ h. absurd (omega (arith, h));
+      sibling = λ h. absurd (omega (arith, h));
+      ours = (l, refl);
+      theirs = (m, refl);
+      above = ([], sym (append-nil l));
+      beside = ([], sym (append-nil m));
+    }
 
-pub returns-then-above-beside-clause-known : goal.returns-then-above-beside-clause-known
-returns-then-above-beside-clause-known c =
+pub returns-then-theirs-gt0-clause-known : goal.returns-then-theirs-gt0-clause-known
+returns-then-theirs-gt0-clause-known c =
     let ls = c.args.nodes.now in
-    fork_at ls c.loop-a.a c.loop-a.b c.parent-above.result c.parent-beside.result (last_text (list_at ls c.loop-a.a)) (last_text (list_at ls c.loop-a.b))
-    c.cmp-order.result c.parent-above.ensures.list c.parent-beside.ensures.list c.if-above-beside.true
-    (c.cmp-order.ensures ∙ (λ i. text_cmp (c.text.ensures i) (c.text-then-above-beside.ensures i)))
+    let h = c.loop-a.invariant in
+    fork_at ls c.loop-a.ours c.loop-a.theirs c.loop-a.a c.loop-a.b (last_text (list_at ls c.loop-a.ours)) (last_text (list_at ls c.loop-a.theirs))
+    c.cmp-order.result (h.child c.if-ours-gt0.true) (h.sibling c.if-theirs-gt0.true) c.loop-a-test.false
+    (c.cmp-order.ensures ∙ (λ i. text_cmp (c.text.ensures i) (c.text-then-theirs-gt0.ensures i)))
 
 pub returns-clause-ours : goal.returns-clause-ours
 returns-clause-ours c =
