@@ -45,7 +45,7 @@ class Row:
         self.file, self.function = heads[0].split()
         self.old = "\n".join(line[2:] for line in lines if line[0] == "-")
         self.new = "\n".join(line[2:] for line in lines if line[0] == "+")
-        self.verdict = "".join(line[2:] for line in lines if line[0] == "=")
+        self.verdict = "".join(line[2:] for line in lines if line[0] == "=") or UNJUDGED
 
     def text(self):
         """Returns the row as its table has it."""
