@@ -16,6 +16,7 @@ mod place;
 mod read;
 mod rewrite;
 mod skip;
+mod spelling;
 mod stream;
 mod streamed_object;
 mod transfer;
