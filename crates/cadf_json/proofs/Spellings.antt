@@ -52,7 +52,7 @@ use Rattle.serde_json.specs.Written.{number_text, has_float, items_have_float, m
 use Rattle.cadf_json.specs.Value.{text}
 use Rattle.cadf_json.specs.Tree.{IsWholeText, number_in}
 use Rattle.cadf_json.specs.Passed.{IsNumberPassed}
-use Rattle.cadf_json.specs.Spelling.{IsNumberSpelled, IsAt, AreAt}
+use Rattle.cadf_json.specs.Spelling.{IsNumberSpelled, IsAt, AreEntries, AreAt}
 use Rattle.cadf_json.specs.declared.spelling.Place.{Place}
 use Rattle.cadf_json.proofs.Passing.{followed, followed-none, followed-last, with_last, further, parsed_none}
 use Rattle.cadf_json.proofs.PassedOver.{or_shift, float-with_last}
@@ -176,20 +176,22 @@ is_at_last bytes p d start stop fraction =
       fraction = fraction;
     }
 
-at_either : (o : Ordering) (bytes : List ℕ) (es fs gs : List Entry) (ms ns os : Members) → AreAt bytes es ms → AreAt bytes fs ns → AreAt bytes gs os
-    → AreAt bytes (match_ordering o es fs gs) (match_ordering o ms ns os)
-at_either Less bytes es fs gs ms ns os a b c = a
-at_either Equal bytes es fs gs ms ns os a b c = b
-at_either Greater bytes es fs gs ms ns os a b c = c
+entries_either : {V : Type 0} (P : V → Data → Type 0) (o : Ordering) (es fs gs : List (Bor (List ℕ) × V)) (ms ns os : Members) → AreEntries P es ms
+    → AreEntries P fs ns → AreEntries P gs os → AreEntries P (match_ordering o es fs gs) (match_ordering o ms ns os)
+entries_either P Less es fs gs ms ns os a b c = a
+entries_either P Equal es fs gs ms ns os a b c = b
+entries_either P Greater es fs gs ms ns os a b c = c
 
-pub at_insert : (bytes : List ℕ) (es : List Entry) (ms : Members) (k : Bor (List ℕ)) (p : Place) (d : Data) → AreAt bytes es ms → IsAt bytes p d
-    → AreAt bytes (insert_entry (λ a b. slice_cmp nat_cmp a.now b.now) es k p) (put k.now d ms)
-at_insert bytes [] no_members k p d h at = (refl, at, tt)
-at_insert bytes [] (member l f ms) k p d h at = absurd h
-at_insert bytes (e ∷ es) no_members k p d h at = absurd h
-at_insert bytes (e ∷ es) (member l f ms) k p d h at =
-    subst (λ name. AreAt bytes (insert_entry (λ a b. slice_cmp nat_cmp a.now b.now) (e ∷ es) k p) (put k.now d (member name f ms))) h.0
-    (at_either (slice_cmp nat_cmp k.now e.0.now) bytes _ _ _ _ _ _ (refl, at, (refl, h.1, h.2)) (refl, at, h.2) (refl, h.1, at_insert bytes es ms k p d h.2 at))
+-- an entry that is inserted stands for a member that is put
+pub entries_insert : {V : Type 0} (P : V → Data → Type 0) (es : List (Bor (List ℕ) × V)) (ms : Members) (k : Bor (List ℕ)) (v : V) (d : Data)
+    → AreEntries P es ms → P v d → AreEntries P (insert_entry (λ a b. slice_cmp nat_cmp a.now b.now) es k v) (put k.now d ms)
+entries_insert P [] no_members k v d h at = (refl, at, tt)
+entries_insert P [] (member l f ms) k v d h at = absurd h
+entries_insert P (e ∷ es) no_members k v d h at = absurd h
+entries_insert P (e ∷ es) (member l f ms) k v d h at =
+    subst (λ name. AreEntries P (insert_entry (λ a b. slice_cmp nat_cmp a.now b.now) (e ∷ es) k v) (put k.now d (member name f ms))) h.0
+    (entries_either P (slice_cmp nat_cmp k.now e.0.now) _ _ _ _ _ _ (refl, at, (refl, h.1, h.2)) (refl, at, h.2)
+    (refl, h.1, entries_insert P es ms k v d h.2 at))
 
 -- ---- members
 
@@ -227,7 +229,7 @@ module _ (p : Parse json.Json) (start : List Token) (before : List ℕ) where
         bound = h.bound - 1;
         enough = omega (arith, enough, less);
         got = put k.now d h.got;
-        places = at_insert (out ++ text d) es h.got k place d (at_append out (text d) es h.got h.places) (is_at_last out place d from to has);
+        places = entries_insert (IsAt (out ++ text d)) es h.got k place d (at_append out (text d) es h.got h.places) (is_at_last out place d from to has);
         values = h.values ++ text d;
         kept = ap (λ xs. xs ++ text d) h.kept ∙ append_assoc before h.values (text d);
         left = h.left ∙ member_read p h.got h.bound k.now now s r d (omega (arith, enough, less)) key read;

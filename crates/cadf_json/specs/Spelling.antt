@@ -1,5 +1,7 @@
 -- The canonical text of a value that is appended token by token. A number that isn't whole has no text.
-use Rattle.std.specs.Prelude.{◌≡◌, ℕ, ◌≤◌, List, [], ◌∷◌, ◌++◌, length, slice_range, Bool, Some, option_map, ⊤}
+use Rattle.std.specs.Prelude.{◌≡◌, ℕ, ◌≤◌, List, [], ◌∷◌, ◌++◌, length, slice_range, string_bytes, Bool, false, Some, option_map, ⊤}
+use Rattle.std.specs.declared.string.String.{String}
+use Rattle.std.specs.declared.alloc.Global.{Global}
 use Rattle.std.specs.Borrow.{Bor}
 use Rattle.json.specs.Token.{Token}
 use Rattle.json.specs.Json.{value, items, members}
@@ -38,9 +40,25 @@ pub record IsAt (bytes : List ℕ) (p : Place) (d : Data) : Type 0 where
   pub spelled : slice_range bytes p.start p.end ≡ text d
   pub fraction : has_float d ≡ p.fraction
 
--- the members have these names, and the texts of their values are at these places
+-- the entries have the members' names, and each stands for its value
+abbrev pub AreEntries : {V : Type 0} → (V → Data → Type 0) → List (Bor (List ℕ) × V) → Members → Type 0
+AreEntries stands [] no_members = ⊤
+AreEntries stands [] (member k d ms) = ⊥
+AreEntries stands (e ∷ es) no_members = ⊥
+AreEntries stands (e ∷ es) (member k d ms) = (e.0.now ≡ k) × stands e.1 d × AreEntries stands es ms
+
+-- the texts of the members' values are at these places
 abbrev pub AreAt : List ℕ → List (Bor (List ℕ) × Place) → Members → Type 0
-AreAt bytes [] no_members = ⊤
-AreAt bytes [] (member k d ms) = ⊥
-AreAt bytes (e ∷ es) no_members = ⊥
-AreAt bytes (e ∷ es) (member k d ms) = (e.0.now ≡ k) × IsAt bytes e.1 d × AreAt bytes es ms
+AreAt bytes es ms = AreEntries (IsAt bytes) es ms
+
+-- the text is that of the value
+abbrev pub IsTextOf : String Global → Data → Type 0
+IsTextOf s d = string_bytes s ≡ text d
+
+-- these are the texts of the members' values
+abbrev pub AreTexts : List (Bor (List ℕ) × String Global) → Members → Type 0
+AreTexts es ms = AreEntries IsTextOf es ms
+
+-- the tokens begin with a value that has this text
+abbrev pub IsRead : ℕ → List Token → List Token → List ℕ → Type 0
+IsRead depth ts rest s = (d : Data) × (converted of_json (value depth ts) ≡ Some (d, rest)) × (has_float d ≡ false) × (s ≡ text d)

@@ -34,7 +34,7 @@ pub use crate::object_text::{has_text_at, spells_object};
 pub use crate::read::TreeFault;
 pub use crate::skip::{check_list, find_fraction, has_json_syntax};
 pub use crate::stream::{Failed, FromStd, Sink, Source};
-pub use crate::streamed_object::{ItemVisitor, StreamedObject, read_object_streaming};
+pub use crate::streamed_object::{ItemVisitor, ObjectAround, read_object_streaming};
 pub use crate::transfer::{OutFault, ReadLimitFault, read_rest, read_to_limit, write_all};
 pub use crate::tree::Tree;
 pub use crate::value::{Json, JsonFault, quoted};

@@ -1,0 +1,91 @@
+-- Members beside others that are kept as texts.
+use Rattle.std.proofs.Common.{
+  ◌≡◌,
+  ℕ,
+  List,
+  [],
+  ◌∷◌,
+  Bool,
+  true,
+  false,
+  true≢false,
+  not,
+  bytes_eq,
+  string_bytes,
+  Global,
+  refl,
+  sym,
+  ap,
+  ◌∙◌,
+  Ordering,
+  Less,
+  Equal,
+  Greater,
+  nat_cmp,
+}
+use Rattle.std.proofs.lemmas.Bool.{and_parts, or_parts}
+use Rattle.std.specs.Prelude.{String}
+use Rattle.std.specs.Borrow.{Bor}
+use Rattle.std.specs.BTreeMap.{insert_entry}
+use Rattle.std.specs.Ordering.{match_ordering}
+use Rattle.std.specs.Cmp.Lexicographic.{slice_cmp}
+use Rattle.serde_json.specs.Data.{Data, Members, no_members, member, put}
+use Rattle.serde_json.specs.Written.{has_float, members_have_float}
+use Rattle.cadf_json.specs.Rewritten.{is_one_of, without, all_members}
+use Rattle.cadf_json.specs.Spelling.{IsTextOf, AreTexts}
+use Rattle.cadf_json.specs.StreamedObjects.{merged, AreOthers, AreBeside}
+use Rattle.cadf_json.specs.Value.{text}
+use Rattle.cadf_json.proofs.Orders.{Rises-put}
+use Rattle.cadf_json.proofs.Rewriting.{all-put, without-put}
+use Rattle.cadf_json.proofs.Spellings.{entries_insert}
+use Rattle.cadf_json.proofs.Splits.{same_name, itself, float-put, put-again, put-swaps}
+
+-- ---- a further member among the others
+
+merged_put_at : (o : Ordering) (k l : List ℕ) (d e : Data) (us ms : Members) → slice_cmp nat_cmp k l ≡ o
+    → put k d (merged us ms) ≡ merged (put k d us) ms
+    → put k d (put l e (merged us ms)) ≡ merged (match_ordering o (member k d (member l e us)) (member l d us) (member l e (put k d us))) ms
+merged_put_at Less k l d e us ms is rest = refl
+merged_put_at Equal k l d e us ms is rest =
+    let same : k ≡ l = same_name k l is in
+    ap (λ n. put n d (put l e (merged us ms))) same ∙ put-again l d e (merged us ms)
+merged_put_at Greater k l d e us ms is rest =
+    put-swaps k l d e (merged us ms) (λ same. absurd (let equal = ap (slice_cmp nat_cmp k) (sym same) in let itself_ = itself k in cc)) ∙ ap (put l e) rest
+
+pub merged_put : (k : List ℕ) (d : Data) (us ms : Members) → put k d (merged us ms) ≡ merged (put k d us) ms
+merged_put k d no_members ms = refl
+merged_put k d (member l e us) ms = merged_put_at (slice_cmp nat_cmp k l) k l d e us ms refl (merged_put k d us ms)
+
+not_named : (names : List (List ℕ)) (k l : List ℕ) → is_one_of names k ≡ true → not (is_one_of names l) ≡ true → k ≡ l → ⊥
+not_named names k l listed other same = let here = ap (is_one_of names) same in absurd cc
+
+-- ---- a further member beside them
+
+pub merged_other : (names : List (List ℕ)) (k : List ℕ) (d : Data) (us ms : Members) → AreOthers names us → is_one_of names k ≡ true
+    → put k d (merged us ms) ≡ merged us (put k d ms)
+merged_other names k d no_members ms h listed = refl
+merged_other names k d (member l e us) ms h listed =
+    let both = and_parts (not (is_one_of names l)) (all_members (λ j c. not (is_one_of names j)) us) h in
+    put-swaps k l d e (merged us ms) (not_named names k l listed both.0) ∙ ap (put l e) (merged_other names k d us ms both.1 listed)
+
+pub merged_float : (us ms : Members) → members_have_float us ≡ false → members_have_float ms ≡ false → members_have_float (merged us ms) ≡ false
+merged_float no_members ms h k = k
+merged_float (member l e us) ms h k =
+    let both = or_parts (has_float e) (members_have_float us) h in
+    float-put l e (merged us ms) both.0 (merged_float us ms both.1 k)
+
+module _ (names : List (List ℕ)) (texts : List (Bor (List ℕ) × String Global)) (us ms : Members) where
+  pub beside_text : (k : Bor (List ℕ)) (s : String Global) (d : Data) → AreBeside names texts us ms → is_one_of names k.now ≡ false
+      → string_bytes s ≡ text d → AreBeside names (insert_entry (λ a b. slice_cmp nat_cmp a.now b.now) texts k s) (put k.now d us) ms
+  beside_text k s d h other spelled = record {
+    spelled = entries_insert IsTextOf texts us k s d h.spelled spelled;
+    rise = Rises-put k.now d us h.rise;
+    away = all-put (λ j c. not (is_one_of names j)) k.now d us (ap not other) h.away;
+    named = h.named;
+  }
+
+  pub beside_named : (k : List ℕ) (d : Data) → AreBeside names texts us ms → is_one_of names k ≡ true → AreBeside names texts us (put k d ms)
+  beside_named k d h listed = record { spelled = h.spelled; rise = h.rise; away = h.away; named = without-put names k d ms listed ∙ h.named }
+
+pub beside_none : (names : List (List ℕ)) → AreBeside names [] no_members no_members
+beside_none names = record { spelled = tt; rise = tt; away = refl; named = refl }
