@@ -2,7 +2,11 @@
 use Rattle.std.proofs.Common.{
   ◌≡◌,
   ℕ,
+  ◌<◌,
   List,
+  length,
+  Some,
+  subst,
   [],
   ◌∷◌,
   Bool,
@@ -30,13 +34,18 @@ use Rattle.std.specs.BTreeMap.{insert_entry}
 use Rattle.std.specs.Ordering.{match_ordering}
 use Rattle.std.specs.Cmp.Lexicographic.{slice_cmp}
 use Rattle.serde_json.specs.Data.{Data, Members, no_members, member, put}
+use Rattle.json.specs.Token.{Token}
+use Rattle.json.specs.Json as json
+use Rattle.json.specs.Json.{Parse, read_key}
+use Rattle.serde_json.specs.Read.{of_json, converted}
 use Rattle.serde_json.specs.Written.{has_float, members_have_float}
 use Rattle.cadf_json.specs.Rewritten.{is_one_of, without, all_members}
-use Rattle.cadf_json.specs.Spelling.{IsTextOf, AreTexts}
+use Rattle.cadf_json.specs.Spelling.{IsTextOf}
 use Rattle.cadf_json.specs.StreamedObjects.{merged, AreOthers, AreBeside}
 use Rattle.cadf_json.specs.Value.{text}
+use Rattle.cadf_json.proofs.Around.{Around, around_other}
 use Rattle.cadf_json.proofs.Orders.{Rises-put}
-use Rattle.cadf_json.proofs.Rewriting.{all-put, without-put}
+use Rattle.cadf_json.proofs.Rewriting.{all-put, differ, without-put}
 use Rattle.cadf_json.proofs.Spellings.{entries_insert}
 use Rattle.cadf_json.proofs.Splits.{same_name, itself, float-put, put-again, put-swaps}
 
@@ -89,3 +98,13 @@ module _ (names : List (List ℕ)) (texts : List (Bor (List ℕ) × String Globa
 
 pub beside_none : (names : List (List ℕ)) → AreBeside names [] no_members no_members
 beside_none names = record { spelled = tt; rise = tt; away = refl; named = refl }
+
+-- a member that is read as a text is put among the others
+pub around_text : {T : Type 0} (took : T → List Data → Type 0) (name : List ℕ) (names : List (List ℕ)) (p : Parse json.Json) (start : List Token) (old new : T)
+    (k : List ℕ) (now s r : List Token) (d : Data) (us ms : Members) (taken : Bool) → Around took old new name p start now (merged us ms) taken
+    → is_one_of names name ≡ true → is_one_of names k ≡ false → read_key now ≡ Some (Some k, s) → converted of_json (p s) ≡ Some (d, r)
+    → length r < length now → Around took old new name p start r (merged (put k d us) ms) taken
+around_text took name names p start old new k now s r d us ms taken h listed out key read less =
+    let other = differ names k name (bytes_eq k name) refl out listed in
+    subst (λ all. Around took old new name p start r all taken) (merged_put k d us ms)
+    (around_other took name p start old new k now s r d (merged us ms) taken h other key read less)

@@ -30,7 +30,7 @@ pub use crate::laws::{
 };
 pub use crate::members::{Member, Members};
 pub use crate::memory::{FailingWrite, MemorySink, MemorySource};
-pub use crate::object_text::{has_text_at, spells_object};
+pub use crate::object_text::{has_text_at, nests_within, spells_object};
 pub use crate::read::TreeFault;
 pub use crate::skip::{check_list, find_fraction, has_json_syntax};
 pub use crate::stream::{Failed, FromStd, Sink, Source};

@@ -12,8 +12,7 @@ use Rattle.cadf_json.specs.StreamedObjects.{merged, AreBeside}
 use Rattle.cadf_json.specs.Tree.{data_in, named_in, AreMembersWithin}
 use Rattle.cadf_json.specs.Value.{text}
 use Rattle.cadf_json.proofs.Around.{Around, around_start, around_other, around_list, around_over}
-use Rattle.cadf_json.proofs.Beside.{beside_none, beside_text, beside_named, merged_put, merged_other}
-use Rattle.cadf_json.proofs.Rewriting.{differ}
+use Rattle.cadf_json.proofs.Beside.{beside_none, beside_text, beside_named, merged_other, around_text}
 use Rattle.cadf_json.proofs.Splits.{float-put}
 use Rattle.cadf_json.proofs.streamed_object.read_around.Goals as goal
 
@@ -39,8 +38,6 @@ members-preserved-in_ok-insert g c =
     let s = c.next_key.new.self in
     let named : read_key l.reader ≡ Some (Some k.now, s) = c.in-Ok.ensures.value ∙ ap (λ o. Some (option_map (λ x. x.now) o, s)) c.in-Some.is in
     let out : is_one_of names k.now ≡ false = search rules in
-    let other : bytes_eq k.now c.args.name.now ≡ false =
-    differ names k.now c.args.name.now (bytes_eq k.now c.args.name.now) refl out c.requires.named in
     let read = c.in_ok-text.ensures.ok in
     let r = c.read_text.new.reader in
     let sooner = read_key-shorter l.reader (Some k.now) s named in
@@ -51,10 +48,8 @@ members-preserved-in_ok-insert g c =
       beside = subst (λ es. AreBeside names es (put k.now read.0 inv.others) ms) (sym c.in_ok-insert.ensures.entries)
           (beside_text names l.texts.entries inv.others ms k c.in_ok-text.text read.0 inv.beside out read.3);
       whole = float-put k.now read.0 inv.others read.2 inv.whole;
-      around = subst (λ us. Around g.T.ItemVisitor.took c.args.taker.now l.taker c.args.name.now (value c.args.depth) c.args.reader.now r us l.taken)
-          (merged_put k.now read.0 inv.others ms)
-          (around_other g.T.ItemVisitor.took c.args.name.now (value c.args.depth) c.args.reader.now c.args.taker.now l.taker k.now l.reader s r read.0
-          (merged inv.others ms) l.taken inv.around other named read.1 less);
+      around = around_text g.T.ItemVisitor.took c.args.name.now names (value c.args.depth) c.args.reader.now c.args.taker.now l.taker k.now l.reader s r read.0
+          inv.others ms l.taken inv.around c.requires.named out named read.1 less;
       within = inv.within;
     }
 
@@ -68,8 +63,6 @@ members-preserved-in_ok-insert-2 g c =
     let s = c.next_key.new.self in
     let named : read_key l.reader ≡ Some (Some k.now, s) = c.in-Ok.ensures.value ∙ ap (λ o. Some (option_map (λ x. x.now) o, s)) c.in-Some.is in
     let out : is_one_of names k.now ≡ false = search rules in
-    let other : bytes_eq k.now c.args.name.now ≡ false =
-    differ names k.now c.args.name.now (bytes_eq k.now c.args.name.now) refl out c.requires.named in
     let read = c.in_ok-text.ensures.ok in
     let r = c.read_text.new.reader in
     let sooner = read_key-shorter l.reader (Some k.now) s named in
@@ -80,10 +73,8 @@ members-preserved-in_ok-insert-2 g c =
       beside = subst (λ es. AreBeside names es (put k.now read.0 inv.others) ms) (sym c.in_ok-insert.ensures.entries)
           (beside_text names l.texts.entries inv.others ms k c.in_ok-text.text read.0 inv.beside out read.3);
       whole = float-put k.now read.0 inv.others read.2 inv.whole;
-      around = subst (λ us. Around g.T.ItemVisitor.took c.args.taker.now l.taker c.args.name.now (value c.args.depth) c.args.reader.now r us l.taken)
-          (merged_put k.now read.0 inv.others ms)
-          (around_other g.T.ItemVisitor.took c.args.name.now (value c.args.depth) c.args.reader.now c.args.taker.now l.taker k.now l.reader s r read.0
-          (merged inv.others ms) l.taken inv.around other named read.1 less);
+      around = around_text g.T.ItemVisitor.took c.args.name.now names (value c.args.depth) c.args.reader.now c.args.taker.now l.taker k.now l.reader s r read.0
+          inv.others ms l.taken inv.around c.requires.named out named read.1 less;
       within = inv.within;
     }
 
