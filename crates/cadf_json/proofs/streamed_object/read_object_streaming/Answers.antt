@@ -37,6 +37,7 @@ returns g c =
         others = h.others;
         items = split.0;
         in_tree = c.of_members.ensures;
+        rise = within.0.1;
         beside = h.beside;
         taken = split.1.0;
         spells = (
