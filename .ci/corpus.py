@@ -27,7 +27,7 @@ PROVES = "proves"
 
 IMPL = re.compile(r"^impl(?:<.*?>)? (?:(.*?) for )?(.*?) \{$")
 TRAIT = re.compile(r"^(?:pub(?:\([a-z]+\))? )?trait (\w+)")
-FUNCTION = re.compile(r"^( *)(?:pub(?:\([a-z]+\))? )?(?:const )?fn (\w+)")
+FUNCTION = re.compile(r"^( *)(?:pub(?:\([a-z]+\))? )?(?:const |extern \"C\" )?fn (\w+)")
 CONSTANT = re.compile(r"^(?:pub(?:\([a-z]+\))? )?const (\w+):.*;$")
 CYCLE = re.compile(r"^\s*#\[cycle\((\w+)\)\]$")
 CLAUSE = re.compile(r"^\s*(?:requires|ensures|ghost)\b")
