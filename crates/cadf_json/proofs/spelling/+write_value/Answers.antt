@@ -92,10 +92,12 @@ write_items-returns-clause-ok t c =
 pub write_members-members-init : goal.write_members-members-init
 write_members-members-init t c =
     let added : c.push.new.self.items ≡ c.args.out.now.items ++ 123 ∷ [] = search rules in
-    let begun = c.args.out.now.items ++ 123 ∷ [] in
-    (subst (λ xs. MembersSpelled (value c.args.depth) c.args.reader.now c.args.reader.now begun xs c.new-found.result.entries) (sym added)
-    (subst (λ es. MembersSpelled (value c.args.depth) c.args.reader.now c.args.reader.now begun begun es) (sym c.new-found.ensures.empty)
-    (members_start (value c.args.depth) c.args.reader.now begun)), grind arith)
+    let begun = c.args.out.now.items ++ 123 ∷ [] in (
+      subst (λ xs. MembersSpelled (value c.args.depth) c.args.reader.now c.args.reader.now begun xs c.new-found.result.entries) (sym added)
+          (subst (λ es. MembersSpelled (value c.args.depth) c.args.reader.now c.args.reader.now begun begun es) (sym c.new-found.ensures.empty)
+          (members_start (value c.args.depth) c.args.reader.now begun)),
+      grind arith,
+    )
 
 pub write_members-returns-in_default-key-clause-ok : goal.write_members-returns-in_default-key-clause-ok
 write_members-returns-in_default-key-clause-ok t c =
@@ -105,8 +107,7 @@ write_members-returns-in_default-key-clause-ok t c =
     let over = c.in-Ok.ensures.value ∙ ap (λ o. Some (option_map (λ x. x.now) o, s)) c.in_default-key.is in
     let all = all_members (value c.args.depth) c.args.reader.now (old ++ 123 ∷ []) l.reader s l.out.items l.found.entries l.invariant.0 over in
     let done = c.in_ok-put_in_order.ensures all.0 all.2 in
-    let front = ap (λ n. take n l.out.items) l.invariant.1 ∙ all.3 in
-    (
+    let front = ap (λ n. take n l.out.items) l.invariant.1 ∙ all.3 in (
       all.0,
       all.1,
       done.1,
@@ -133,6 +134,8 @@ write_members-members-preserved t c =
     let from : place.start ≡ length l.out.items = grind arith in
     let to : place.end ≡ length (l.out.items ++ text read.0) = rw (← read.3) (grind arith) in
     let one = one_more_member p start before l.reader s r k read.0 place l.out.items l.found.entries l.invariant.0 named read.1 less from to
-    (read.2 ∙ sym placed.2) in
-    (subst (λ xs. MembersSpelled p start r before xs c.insert.new.self.entries) (sym read.3)
-    (subst (λ es. MembersSpelled p start r before (l.out.items ++ text read.0) es) (sym c.in_ok-insert.ensures.entries) one), l.invariant.1)
+    (read.2 ∙ sym placed.2) in (
+      subst (λ xs. MembersSpelled p start r before xs c.insert.new.self.entries) (sym read.3)
+          (subst (λ es. MembersSpelled p start r before (l.out.items ++ text read.0) es) (sym c.in_ok-insert.ensures.entries) one),
+      l.invariant.1,
+    )
