@@ -53,5 +53,8 @@ module _ (ts : List Texts) (d : ℕ) (numbers : List ℕ) (ls : List Texts) (vie
         map_same (IsThere ts) (rest_of ts further) (λ r. drop 1 (rest_of ts d r)) lists deeper left_there
         ∙ map_twice (rest_of ts d) (λ l. drop 1 l) lists
         ∙ ap (map (λ l. drop 1 l)) (ap (map (rest_of ts d)) lists_are ∙ sym (drop-map (rest_of ts d) low front) ∙ ap (drop low) front_view)
-        ∙ sym (rests_between t (drop low (take high ls)) (last_of_front (λ l. is_before (t ∷ []) false l ≡ false) ls low high from) (all_of_last (λ l. is_before (t ∷ []) true l ≡ true) (take high ls) low upto))
-        ∙ rests_from t (take high ls) low (first_of_front (λ l. is_before (t ∷ []) false l ≡ true) ls low high below) ∙ rests_up_to t ls high over
+        ∙ sym (rests_between t (drop low (take high ls))
+        (last_of_front (λ l. is_before (t ∷ []) false l ≡ false) ls low high from)
+        (all_of_last (λ l. is_before (t ∷ []) true l ≡ true) (take high ls) low upto))
+        ∙ rests_from t (take high ls) low (first_of_front (λ l. is_before (t ∷ []) false l ≡ true) ls low high below)
+        ∙ rests_up_to t ls high over

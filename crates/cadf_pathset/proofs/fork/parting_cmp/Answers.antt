@@ -39,7 +39,8 @@ loop-a-init c =
           ∙ (λ i. ordering_then (Rattle.cadf_join.specs.Contents.texts_cmp (take (sym its i) a) (take (sym has i) b))
           (Rattle.std.specs.Ordering.nat_cmp (sym has i) (sym its i)))
           ∙ (λ i. ordering_then (Rattle.cadf_join.specs.Contents.texts_cmp (sym ours i) (sym theirs i)) (sym c.cmp-found.ensures i));
-      near = no_fork ls c.sibling_fork-near.result c.ancestor-a.result c.ancestor-b.result ((Equal-is c.sibling_fork-near.result.order).0 (sym c.is_eq.ensures ∙ c.if-not-is_eq.false));
+      near = no_fork ls c.sibling_fork-near.result c.ancestor-a.result c.ancestor-b.result
+          ((Equal-is c.sibling_fork-near.result.order).0 (sym c.is_eq.ensures ∙ c.if-not-is_eq.false));
     }
 
 pub loop-a-preserved : goal.loop-a-preserved
