@@ -33,7 +33,8 @@ use Rattle.std.proofs.Common.{
   length-drop,
   take_all,
 }
-use Rattle.std.proofs.Common.{Ordering, Less, Equal, Greater, nat_cmp}
+use Rattle.std.proofs.Common.{Ordering, Less, Equal, Greater, nat_cmp, ◌+◌, ◌&&◌, is_some}
+use Rattle.std.specs.Ordering.{is_lt}
 use Rattle.std.specs.Prelude.{slice_range, ⊤}
 use Rattle.std.specs.Borrow.{Bor}
 use Rattle.std.specs.Ordering.{match_ordering}
@@ -52,8 +53,10 @@ use Rattle.serde_json.specs.Written.{number_text, has_float, items_have_float, m
 use Rattle.cadf_json.specs.Value.{text}
 use Rattle.cadf_json.specs.Tree.{IsWholeText, number_in}
 use Rattle.cadf_json.specs.Passed.{IsNumberPassed}
-use Rattle.cadf_json.specs.Spelling.{IsNumberSpelled, IsAt, AreEntries, AreAt}
+use Rattle.cadf_json.specs.Spelling.{IsNumberSpelled, IsAt, AreEntries, AreAt, name_text}
+use Rattle.cadf_json.specs.Canonical.{is_name_above}
 use Rattle.cadf_json.specs.declared.spelling.Place.{Place}
+use Rattle.cadf_json.proofs.Orders.{AreBelow, joined, joined-none, joined-one, push_if_last, AreBelow-further, AreBelow-joined}
 use Rattle.cadf_json.proofs.Passing.{followed, followed-none, followed-last, with_last, further, parsed_none}
 use Rattle.cadf_json.proofs.PassedOver.{or_shift, float-with_last}
 use Rattle.cadf_json.proofs.Settled.{IsWhole-data_in, number_in_is, number_of-whole}
@@ -193,111 +196,190 @@ entries_insert P (e ∷ es) (member l f ms) k v d h at =
     (entries_either P (slice_cmp nat_cmp k.now e.0.now) _ _ _ _ _ _ (refl, at, (refl, h.1, h.2)) (refl, at, h.2)
     (refl, h.1, entries_insert P es ms k v d h.2 at))
 
--- ---- members
-
-pub record MembersSpelled (p : Parse json.Json) (start now : List Token) (before out : List ℕ) (es : List Entry) : Type 0 where
-  pub bound : ℕ
-  pub enough : length now ≤ bound
-  pub got : Members
-  pub places : AreAt out es got
-  pub values : List ℕ
-  pub kept : out ≡ before ++ values
-  pub left : converted (λ ms. of_members ms no_members) (members p (length start) start) ≡ converted (λ ms. of_members ms got) (members p bound now)
-  pub shorter : length now ≤ length start
-
-module _ (p : Parse json.Json) (start : List Token) (before : List ℕ) where
-  pub members_start : MembersSpelled p start start before before []
-  members_start = record {
-    bound = length start;
-    enough = omega arith;
-    got = no_members;
-    places = tt;
-    values = [];
-    kept = sym (append-nil before);
-    left = refl;
-    shorter = omega arith;
-  }
-
-  pub one_more_member : (now s r : List Token) (k : Bor (List ℕ)) (d : Data) (place : Place) (out : List ℕ) (es : List Entry)
-      → MembersSpelled p start now before out es → read_key now ≡ Some (Some k.now, s) → converted of_json (p s) ≡ Some (d, r) → length r < length now
-      → place.start ≡ length out → place.end ≡ length (out ++ text d) → has_float d ≡ place.fraction
-      → MembersSpelled p start r before (out ++ text d) (insert_entry (λ a b. slice_cmp nat_cmp a.now b.now) es k place)
-  one_more_member now s r k d place out es h key read less from to has =
-      let enough = h.enough in
-      let shorter = h.shorter in
-      record {
-        bound = h.bound - 1;
-        enough = omega (arith, enough, less);
-        got = put k.now d h.got;
-        places = entries_insert (IsAt (out ++ text d)) es h.got k place d (at_append out (text d) es h.got h.places) (is_at_last out place d from to has);
-        values = h.values ++ text d;
-        kept = ap (λ xs. xs ++ text d) h.kept ∙ append_assoc before h.values (text d);
-        left = h.left ∙ member_read p h.got h.bound k.now now s r d (omega (arith, enough, less)) key read;
-        shorter = omega (arith, shorter, less);
-      }
-
-  pub all_members : (now r : List Token) (out : List ℕ) (es : List Entry) → MembersSpelled p start now before out es → read_key now ≡ Some (None, r)
-      → (ms : Members) × (converted (λ ms. of_members ms no_members) (members p (length start) start) ≡ Some (ms, r)) × AreAt out es ms
-      × (take (length before) out ≡ before)
-  all_members now r out es h key = (
-    h.got,
-    h.left ∙ members_over p h.got h.bound now r h.enough key,
-    h.places,
-    ap (take (length before)) h.kept ∙ take-append_seam before h.values,
-  )
-
--- ---- the members in the order of their names
-
-pub record Walked (old out : List ℕ) (es : List Entry) (ms : Members) (later had : Bool) : Type 0 where
-  pub left : Members
-  pub places : AreAt out es left
-  pub spelled : out ++ members_text later left ≡ old ++ members_text false ms
-  pub has : (had || members_have_float left) ≡ members_have_float ms
-
-pub walk_start : (out : List ℕ) (es : List Entry) (ms : Members) → AreAt out es ms → Walked out out es ms false false
-walk_start out es ms h = record { left = ms; places = h; spelled = refl; has = refl }
-
-member_spelled : (out value rest name : List ℕ) (later : Bool) → (out ++ (comma_if later ++ (quoted name ++ 58 ∷ value))) ++ rest
-    ≡ out ++ (comma_if later ++ (quoted name ++ 58 ∷ (value ++ rest)))
-member_spelled out value rest name later =
-    append_assoc out (comma_if later ++ (quoted name ++ 58 ∷ value)) rest
-    ∙ ap (λ xs. out ++ xs) (append_assoc (comma_if later) (quoted name ++ 58 ∷ value) rest
-    ∙ ap (λ xs. comma_if later ++ xs) (append_assoc (quoted name) (58 ∷ value) rest))
-
-step_at : (old out : List ℕ) (e : Entry) (es : List Entry) (ms : Members) (later had : Bool) (left : Members) → AreAt out (e ∷ es) left
-    → out ++ members_text later left ≡ old ++ members_text false ms → (had || members_have_float left) ≡ members_have_float ms
-    → Walked old (out ++ (comma_if later ++ (quoted e.0.now ++ 58 ∷ slice_range out e.1.start e.1.end))) es ms true (had || e.1.fraction)
-step_at old out e es ms later had no_members h spelled has = absurd h
-step_at old out e es ms later had (member k d left) h spelled has = record {
-  left = left;
-  places = at_append out (comma_if later ++ (quoted e.0.now ++ 58 ∷ slice_range out e.1.start e.1.end)) es left h.2;
-  spelled = member_spelled out (slice_range out e.1.start e.1.end) (members_text true left) e.0.now later
-      ∙ ap₂ (λ (name value : List ℕ). out ++ (comma_if later ++ (quoted name ++ 58 ∷ (value ++ members_text true left)))) h.0 h.1.spelled ∙ spelled;
-  has = sym (or_shift had e.1.fraction (members_have_float left)) ∙ ap (λ b. had || (b || members_have_float left)) (sym h.1.fraction) ∙ has;
-}
-
-pub walk_step : (old out : List ℕ) (e : Entry) (es : List Entry) (ms : Members) (later had : Bool) → Walked old out (e ∷ es) ms later had
-    → Walked old (out ++ (comma_if later ++ (quoted e.0.now ++ 58 ∷ slice_range out e.1.start e.1.end))) es ms true (had || e.1.fraction)
-walk_step old out e es ms later had h = step_at old out e es ms later had h.left h.places h.spelled h.has
-
-bounds_at : (out : List ℕ) (e : Entry) (es : List Entry) (left : Members) → AreAt out (e ∷ es) left → (e.1.start ≤ e.1.end) × (e.1.end ≤ length out)
-bounds_at out e es no_members h = absurd h
-bounds_at out e es (member k d left) h = (h.1.rise, h.1.within)
-
-pub walk_bounds : (old out : List ℕ) (e : Entry) (es : List Entry) (ms : Members) (later had : Bool) → Walked old out (e ∷ es) ms later had
-    → (e.1.start ≤ e.1.end) × (e.1.end ≤ length out)
-walk_bounds old out e es ms later had h = bounds_at out e es h.left h.places
-
 or_none : (b : Bool) → (b || false) ≡ b
 or_none true = refl
 or_none false = refl
 
-over_at : (old out : List ℕ) (ms : Members) (later had : Bool) (left : Members) → AreAt out [] left → out ++ members_text later left ≡ old ++ members_text false ms
-    → (had || members_have_float left) ≡ members_have_float ms
-    → (out ++ 125 ∷ [] ≡ old ++ members_text false ms) × (members_have_float ms ≡ had)
-over_at old out ms later had no_members h spelled has = (spelled, sym has ∙ or_none had)
-over_at old out ms later had (member k d left) h spelled has = absurd h
+-- ---- members whose names rise
 
-pub walk_over : (old out : List ℕ) (ms : Members) (later had : Bool) → Walked old out [] ms later had
+-- the last name, above which further ones are
+abbrev pub IsLast : Members → Option (List ℕ) → Type 0
+IsLast got None = got ≡ no_members
+IsLast got (Some l) = (k : List ℕ) → slice_cmp nat_cmp l k ≡ Less → AreBelow got k
+
+pub record Rising (got : Members) (last : Option (List ℕ)) (before out : List ℕ) (had : Bool) : Type 0 where
+  pub ends : IsLast got last
+  pub spelled : (rest : Members) → out ++ members_text (is_some last) rest ≡ before ++ members_text false (joined got rest)
+  pub has : members_have_float got ≡ had
+
+less_from : (o : Ordering) → is_lt o ≡ true → o ≡ Less
+less_from Less h = refl
+less_from Equal h = absurd cc
+less_from Greater h = absurd cc
+
+below_next : (got : Members) (last : Option (List ℕ)) (k : List ℕ) → IsLast got last → is_name_above last k ≡ true → AreBelow got k
+below_next got None k h above = subst (λ ms. AreBelow ms k) (sym h) tt
+below_next got (Some l) k h above = h k (less_from (slice_cmp nat_cmp l k) above)
+
+float_joined : (ms : Members) (k : List ℕ) (d : Data) → members_have_float (joined ms (member k d no_members)) ≡ (members_have_float ms || has_float d)
+float_joined no_members k d = or_none (has_float d)
+float_joined (member l e ms) k d = ap (λ b. has_float e || b) (float_joined ms k d) ∙ or_shift (has_float e) (members_have_float ms) (has_float d)
+
+module _ (got : Members) (last : Option (List ℕ)) (before out : List ℕ) (had : Bool) (k : List ℕ) (d : Data) where
+  next_spelled : (rest : Members) → ((out ++ name_text (is_some last) k) ++ text d) ++ members_text true rest
+      ≡ out ++ members_text (is_some last) (member k d rest)
+  next_spelled rest =
+      append_assoc (out ++ name_text (is_some last) k) (text d) (members_text true rest)
+      ∙ append_assoc out (name_text (is_some last) k) (text d ++ members_text true rest)
+      ∙ ap (λ xs. out ++ xs) (append_assoc (comma_if (is_some last)) (quoted k ++ 58 ∷ []) (text d ++ members_text true rest)
+      ∙ ap (λ xs. comma_if (is_some last) ++ xs) (append_assoc (quoted k) (58 ∷ []) (text d ++ members_text true rest)))
+
+  pub rises_further : (has : Bool) → Rising got last before out had → is_name_above last k ≡ true → has_float d ≡ has
+      → Rising (put k d got) (Some k) before ((out ++ name_text (is_some last) k) ++ text d) (had || has)
+  rises_further has h above is =
+      let below = below_next got last k h.ends above in
+      let there : put k d got ≡ joined got (member k d no_members) = push_if_last got k d below in
+      record {
+        ends = λ j r. subst (λ ms. AreBelow ms j) (sym there) (AreBelow-joined got k d j (AreBelow-further got k j below r) r);
+        spelled = λ rest. next_spelled rest ∙ h.spelled (member k d rest)
+            ∙ ap (λ ms. before ++ members_text false ms) (sym (joined-one got k d rest) ∙ ap (λ ms. joined ms rest) (sym there));
+        has = ap members_have_float there ∙ float_joined got k d ∙ ap₂ (λ (x y : Bool). x || y) h.has is;
+      }
+
+pub rises_none : (before : List ℕ) → Rising no_members None before before false
+rises_none before = record { ends = refl; spelled = λ rest. refl; has = refl }
+
+-- ---- members
+
+pub record MembersSpelled (p : Parse json.Json) (start now : List Token) (before out : List ℕ) (es : List Entry) (last : Option (List ℕ))
+    (rising had : Bool) : Type 0 where
+  pub bound : ℕ
+  pub enough : length now ≤ bound
+  pub got : Members
+  pub bytes : List ℕ
+  pub kept : out ≡ before ++ bytes
+  pub places : AreAt bytes es got
+  pub in_order : rising ≡ true → Rising got last before out had
+  pub left : converted (λ ms. of_members ms no_members) (members p (length start) start) ≡ converted (λ ms. of_members ms got) (members p bound now)
+  pub shorter : length now ≤ length start
+
+both_true : (a b : Bool) → (a && b) ≡ true → (a ≡ true) × (b ≡ true)
+both_true true b h = (refl, h)
+both_true false b h = absurd cc
+
+module _ (p : Parse json.Json) (start : List Token) (before : List ℕ) where
+  pub members_start : MembersSpelled p start start before before [] None true false
+  members_start = record {
+    bound = length start;
+    enough = omega arith;
+    got = no_members;
+    bytes = [];
+    kept = sym (append-nil before);
+    places = tt;
+    in_order = λ r. rises_none before;
+    left = refl;
+    shorter = omega arith;
+  }
+
+  -- the length of what was appended after what was there before
+  pub bytes_length : (now : List Token) (out : List ℕ) (es : List Entry) (last : Option (List ℕ)) (rising had : Bool)
+      → (h : MembersSpelled p start now before out es last rising had) → length out ≡ length before + length h.bytes
+  bytes_length now out es last rising had h = ap length h.kept ∙ length-append before h.bytes
+
+  pub one_more_member : (now s r : List Token) (k : Bor (List ℕ)) (d : Data) (place : Place) (out : List ℕ) (es : List Entry) (last : Option (List ℕ))
+      (rising had has : Bool) → (h : MembersSpelled p start now before out es last rising had) → read_key now ≡ Some (Some k.now, s)
+      → converted of_json (p s) ≡ Some (d, r) → length r < length now
+      → place.start + length before ≡ length (out ++ name_text (is_some last) k.now)
+      → place.end + length before ≡ length ((out ++ name_text (is_some last) k.now) ++ text d) → has_float d ≡ has → place.fraction ≡ has
+      → MembersSpelled p start r before ((out ++ name_text (is_some last) k.now) ++ text d) (insert_entry (λ a b. slice_cmp nat_cmp a.now b.now) es k place)
+      (Some k.now) (rising && is_name_above last k.now) (had || has)
+  one_more_member now s r k d place out es last rising had has h key read less from to is marked =
+      let enough = h.enough in
+      let shorter = h.shorter in
+      let lead = name_text (is_some last) k.now in
+      let long = bytes_length now out es last rising had h in
+      let led = length-append out lead in
+      let whole = length-append (out ++ lead) (text d) in
+      let led_bytes = length-append h.bytes lead in
+      let whole_bytes = length-append (h.bytes ++ lead) (text d) in
+      record {
+        bound = h.bound - 1;
+        enough = omega (arith, enough, less);
+        got = put k.now d h.got;
+        bytes = (h.bytes ++ lead) ++ text d;
+        kept = ap (λ xs. (xs ++ lead) ++ text d) h.kept ∙ ap (λ xs. xs ++ text d) (append_assoc before h.bytes lead)
+            ∙ append_assoc before (h.bytes ++ lead) (text d);
+        places = entries_insert (IsAt ((h.bytes ++ lead) ++ text d)) es h.got k place d
+            (at_append (h.bytes ++ lead) (text d) es h.got (at_append h.bytes lead es h.got h.places))
+            (is_at_last (h.bytes ++ lead) place d (omega (arith, from, long, led, led_bytes)) (omega (arith, to, long, led, whole, led_bytes, whole_bytes))
+            (is ∙ sym marked));
+        in_order = λ still. let both = both_true rising (is_name_above last k.now) still in
+            rises_further h.got last before out had k.now d has (h.in_order both.0) both.1 is;
+        left = h.left ∙ member_read p h.got h.bound k.now now s r d (omega (arith, enough, less)) key read;
+        shorter = omega (arith, shorter, less);
+      }
+
+  pub all_members : (now r : List Token) (out : List ℕ) (es : List Entry) (last : Option (List ℕ)) (rising had : Bool)
+      → (h : MembersSpelled p start now before out es last rising had) → read_key now ≡ Some (None, r)
+      → converted (λ ms. of_members ms no_members) (members p (length start) start) ≡ Some (h.got, r)
+  all_members now r out es last rising had h key = h.left ∙ members_over p h.got h.bound now r h.enough key
+
+  pub bytes_are : (now : List Token) (out : List ℕ) (es : List Entry) (last : Option (List ℕ)) (rising had : Bool)
+      → (h : MembersSpelled p start now before out es last rising had) → (n : ℕ) → n ≡ length before
+      → (take n out ≡ before) × (drop n out ≡ h.bytes)
+  bytes_are now out es last rising had h n e = (
+    ap₂ take e h.kept ∙ take-append_seam before h.bytes,
+    ap₂ drop e h.kept ∙ drop-append_seam before h.bytes,
+  )
+
+  pub in_order_text : (now : List Token) (out : List ℕ) (es : List Entry) (last : Option (List ℕ)) (had : Bool)
+      → (h : MembersSpelled p start now before out es last true had) → (out ++ 125 ∷ [] ≡ before ++ members_text false h.got)
+      × (members_have_float h.got ≡ had)
+  in_order_text now out es last had h =
+      let r = h.in_order refl in
+      (r.spelled no_members ∙ ap (λ ms. before ++ members_text false ms) (joined-none h.got), r.has)
+
+-- ---- the members in the order of their names
+
+pub record Walked (old out bytes : List ℕ) (es : List Entry) (ms : Members) (later had : Bool) : Type 0 where
+  pub left : Members
+  pub places : AreAt bytes es left
+  pub spelled : out ++ members_text later left ≡ old ++ members_text false ms
+  pub has : (had || members_have_float left) ≡ members_have_float ms
+
+pub walk_start : (out bytes : List ℕ) (es : List Entry) (ms : Members) → AreAt bytes es ms → Walked out out bytes es ms false false
+walk_start out bytes es ms h = record { left = ms; places = h; spelled = refl; has = refl }
+
+member_spelled : (out value rest name : List ℕ) (later : Bool) → ((out ++ name_text later name) ++ value) ++ rest
+    ≡ out ++ (comma_if later ++ (quoted name ++ 58 ∷ (value ++ rest)))
+member_spelled out value rest name later =
+    append_assoc (out ++ name_text later name) value rest
+    ∙ append_assoc out (name_text later name) (value ++ rest)
+    ∙ ap (λ xs. out ++ xs) (append_assoc (comma_if later) (quoted name ++ 58 ∷ []) (value ++ rest)
+    ∙ ap (λ xs. comma_if later ++ xs) (append_assoc (quoted name) (58 ∷ []) (value ++ rest)))
+
+step_at : (old out bytes : List ℕ) (e : Entry) (es : List Entry) (ms : Members) (later had : Bool) (left : Members) → AreAt bytes (e ∷ es) left
+    → out ++ members_text later left ≡ old ++ members_text false ms → (had || members_have_float left) ≡ members_have_float ms
+    → Walked old ((out ++ name_text later e.0.now) ++ slice_range bytes e.1.start e.1.end) bytes es ms true (had || e.1.fraction)
+step_at old out bytes e es ms later had no_members h spelled has = absurd h
+step_at old out bytes e es ms later had (member k d left) h spelled has = record {
+  left = left;
+  places = h.2;
+  spelled = member_spelled out (slice_range bytes e.1.start e.1.end) (members_text true left) e.0.now later
+      ∙ ap₂ (λ (name value : List ℕ). out ++ (comma_if later ++ (quoted name ++ 58 ∷ (value ++ members_text true left)))) h.0 h.1.spelled ∙ spelled;
+  has = sym (or_shift had e.1.fraction (members_have_float left)) ∙ ap (λ b. had || (b || members_have_float left)) (sym h.1.fraction) ∙ has;
+}
+
+pub walk_step : (old out bytes : List ℕ) (e : Entry) (es : List Entry) (ms : Members) (later had : Bool) → Walked old out bytes (e ∷ es) ms later had
+    → Walked old ((out ++ name_text later e.0.now) ++ slice_range bytes e.1.start e.1.end) bytes es ms true (had || e.1.fraction)
+walk_step old out bytes e es ms later had h = step_at old out bytes e es ms later had h.left h.places h.spelled h.has
+
+over_at : (old out bytes : List ℕ) (ms : Members) (later had : Bool) (left : Members) → AreAt bytes [] left
+    → out ++ members_text later left ≡ old ++ members_text false ms → (had || members_have_float left) ≡ members_have_float ms
     → (out ++ 125 ∷ [] ≡ old ++ members_text false ms) × (members_have_float ms ≡ had)
-walk_over old out ms later had h = over_at old out ms later had h.left h.places h.spelled h.has
+over_at old out bytes ms later had no_members h spelled has = (spelled, sym has ∙ or_none had)
+over_at old out bytes ms later had (member k d left) h spelled has = absurd h
+
+pub walk_over : (old out bytes : List ℕ) (ms : Members) (later had : Bool) → Walked old out bytes [] ms later had
+    → (out ++ 125 ∷ [] ≡ old ++ members_text false ms) × (members_have_float ms ≡ had)
+walk_over old out bytes ms later had h = over_at old out bytes ms later had h.left h.places h.spelled h.has

@@ -7,7 +7,8 @@ use Rattle.json.specs.Token.{Token}
 use Rattle.json.specs.Json.{value, items, members}
 use Rattle.serde_json.specs.Data.{Data, number, array, object, Items, Members, no_members, member}
 use Rattle.serde_json.specs.Read.{number_of, of_json, of_items, of_members, converted}
-use Rattle.serde_json.specs.Written.{has_float, items_have_float, members_have_float}
+use Rattle.json.specs.Print.{quoted}
+use Rattle.serde_json.specs.Written.{has_float, items_have_float, members_have_float, comma_if}
 use Rattle.cadf_json.specs.Value.{text}
 use Rattle.cadf_json.specs.declared.spelling.Place.{Place}
 
@@ -32,6 +33,10 @@ AreMembersSpelled depth ts rest before after fraction =
 abbrev pub IsNumberSpelled : List ℕ → List ℕ → List ℕ → Bool → Type 0
 IsNumberSpelled s before after fraction =
     (d : Data) × (option_map number (number_of s) ≡ Some d) × (has_float d ≡ fraction) × (after ≡ before ++ text d)
+
+-- a member's name and a colon, after a comma if a member stands before
+abbrev pub name_text : Bool → List ℕ → List ℕ
+name_text later name = comma_if later ++ (quoted name ++ 58 ∷ [])
 
 -- the value's text is at that place among the bytes
 pub record IsAt (bytes : List ℕ) (p : Place) (d : Data) : Type 0 where

@@ -1,4 +1,3 @@
-use Rattle.std.proofs.Common.{List}
 use Rattle.serde_json.specs.Data.{Members}
 use Rattle.cadf_json.specs.Spelling.{AreAt}
 use Rattle.cadf_json.proofs.Spellings.{Walked}
@@ -6,4 +5,4 @@ use Rattle.cadf_json.proofs.spelling.push_members.Given as goal
 
 abbrev pub invariant-loop-name : goal.invariant-loop-name
 invariant-loop-name l =
-    (ms : Members) → AreAt l.fn.out.items l.found.entries ms → Walked l.fn.out.items l.out.items l.name-iterator ms l.later l.fraction
+    (ms : Members) → AreAt l.bytes l.found.entries ms → Walked l.fn.out.items l.out.items l.bytes l.name-iterator ms l.later l.fraction
