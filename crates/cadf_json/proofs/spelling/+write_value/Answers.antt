@@ -98,10 +98,12 @@ write_items-returns-clause-ok t c =
 pub write_members-members-init : goal.write_members-members-init
 write_members-members-init t c =
     let added : c.push.new.self.items ≡ c.args.out.now.items ++ 123 ∷ [] = search rules in
-    let begun = c.args.out.now.items ++ 123 ∷ [] in
-    (subst (λ xs. MembersSpelled (value c.args.depth) c.args.reader.now c.args.reader.now begun xs c.new-found.result.entries None true false) (sym added)
-    (subst (λ es. MembersSpelled (value c.args.depth) c.args.reader.now c.args.reader.now begun begun es None true false) (sym c.new-found.ensures.empty)
-    (members_start (value c.args.depth) c.args.reader.now begun)), grind arith)
+    let begun = c.args.out.now.items ++ 123 ∷ [] in (
+      subst (λ xs. MembersSpelled (value c.args.depth) c.args.reader.now c.args.reader.now begun xs c.new-found.result.entries None true false) (sym added)
+          (subst (λ es. MembersSpelled (value c.args.depth) c.args.reader.now c.args.reader.now begun begun es None true false) (sym c.new-found.ensures.empty)
+          (members_start (value c.args.depth) c.args.reader.now begun)),
+      grind arith,
+    )
 
 -- the end of members whose names rise, and of others
 module _ (p : Parse json.Json) (start now s : List Token) (old out after : List ℕ) (es : List Entry) (last : Option (List ℕ)) (had has : Bool) where
@@ -114,8 +116,7 @@ module _ (p : Parse json.Json) (start now s : List Token) (old out after : List 
       → (rising ≡ false → (ms : Members) → AreAt (drop n out) es ms → (after ≡ take n out ++ members_text false ms) × (members_have_float ms ≡ has)) → Ended
   ended true n h e key ascending sorted =
       let done = ascending refl in
-      let text = in_order_text p start (old ++ 123 ∷ []) now out es last had h in
-      (
+      let text = in_order_text p start (old ++ 123 ∷ []) now out es last had h in (
         h.got,
         all_members p start (old ++ 123 ∷ []) now s out es last true had h key,
         text.1 ∙ sym done.1,
@@ -123,8 +124,7 @@ module _ (p : Parse json.Json) (start now s : List Token) (old out after : List 
       )
   ended false n h e key ascending sorted =
       let are = bytes_are p start (old ++ 123 ∷ []) now out es last false had h n e in
-      let done = sorted refl h.got (subst (λ xs. AreAt xs es h.got) (sym are.1) h.places) in
-      (
+      let done = sorted refl h.got (subst (λ xs. AreAt xs es h.got) (sym are.1) h.places) in (
         h.got,
         all_members p start (old ++ 123 ∷ []) now s out es last false had h key,
         done.1,
@@ -179,10 +179,12 @@ write_members-members-preserved t c =
     let to : place.end + length before ≡ length ((l.out.items ++ name_text (is_some last) k.now) ++ text read.0) =
     omega (arith, room, led, led_all, long_whole, at_end, whole_ok, placed_to, began) in
     let one = one_more_member p start before l.reader s r k read.0 place l.out.items l.found.entries last l.rising l.fraction has l.invariant.0 named read.1
-    less from to read.2 placed.2 in
-    (subst (λ b. MembersSpelled p start r before c.write_value.new.out.items c.insert.new.self.entries (Some k.now) b (l.fraction || has))
-    (sym c.rises_to-rising.ensures)
-    (subst (λ xs. MembersSpelled p start r before xs c.insert.new.self.entries (Some k.now) (l.rising && is_name_above last k.now) (l.fraction || has))
-    (sym whole)
-    (subst (λ es. MembersSpelled p start r before ((l.out.items ++ name_text (is_some last) k.now) ++ text read.0) es (Some k.now)
-    (l.rising && is_name_above last k.now) (l.fraction || has)) (sym c.in_ok-insert.ensures.entries) one)), began)
+    less from to read.2 placed.2 in (
+      subst (λ b. MembersSpelled p start r before c.write_value.new.out.items c.insert.new.self.entries (Some k.now) b (l.fraction || has))
+          (sym c.rises_to-rising.ensures)
+          (subst (λ xs. MembersSpelled p start r before xs c.insert.new.self.entries (Some k.now) (l.rising && is_name_above last k.now) (l.fraction || has))
+          (sym whole)
+          (subst (λ es. MembersSpelled p start r before ((l.out.items ++ name_text (is_some last) k.now) ++ text read.0) es (Some k.now)
+          (l.rising && is_name_above last k.now) (l.fraction || has)) (sym c.in_ok-insert.ensures.entries) one)),
+      began,
+    )
