@@ -27,7 +27,7 @@ PROVES = "proves"
 
 IMPL = re.compile(r"^impl(?:<.*?>)? (?:(.*?) for )?(.*?) \{$")
 TRAIT = re.compile(r"^(?:pub(?:\([a-z]+\))? )?trait (\w+)")
-FUNCTION = re.compile(r"^( *)(?:pub(?:\([a-z]+\))? )?(?:const )?fn (\w+)")
+FUNCTION = re.compile(r"^( *)(?:pub(?:\([a-z]+\))? )?(?:const |extern \"C\" )?fn (\w+)")
 CONSTANT = re.compile(r"^(?:pub(?:\([a-z]+\))? )?const (\w+):.*;$")
 CYCLE = re.compile(r"^\s*#\[cycle\((\w+)\)\]$")
 CLAUSE = re.compile(r"^\s*(?:requires|ensures|ghost)\b")
@@ -45,7 +45,7 @@ class Row:
         self.file, self.function = heads[0].split()
         self.old = "\n".join(line[2:] for line in lines if line[0] == "-")
         self.new = "\n".join(line[2:] for line in lines if line[0] == "+")
-        self.verdict = "".join(line[2:] for line in lines if line[0] == "=")
+        self.verdict = "".join(line[2:] for line in lines if line[0] == "=") or UNJUDGED
 
     def text(self):
         """Returns the row as its table has it."""

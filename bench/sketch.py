@@ -102,8 +102,10 @@ class Trial:
         return self.chance.getrandbits(64) | 1
 
     def letters(self, sender, receiver):
-        """The sketches with which the receiver asks until one is read: by the default first, then as a refusal says."""
-        options, asked = [], []
+        """The sketches with which the receiver asks until one is read: by the default first, then as a refusal says.
+
+        Where it says no more than were too few, it asks with twice as many, as cadf-agree does."""
+        options, cells, asked = [], CELLS, []
         while True:
             asked.append(self.written("sketch", *options, receiver))
             done = self.run("missing-by-sketch", sender, asked[-1])
@@ -111,7 +113,9 @@ class Trial:
                 return asked, self.keep(done.output)
             if not done.error.startswith(TOO_FEW):
                 sys.exit("missing-by-sketch: %r" % done.error)
-            options = ["--cells", done.error[len(TOO_FEW):].decode().strip(), "--salt", str(self.salt())]
+            hint = int(done.error[len(TOO_FEW):])
+            cells = hint if hint > cells else 2 * cells
+            options = ["--cells", str(cells), "--salt", str(self.salt())]
 
 
 def aim(what, reached):

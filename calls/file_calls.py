@@ -21,6 +21,7 @@ CALLS = {
     "read_rest": ["ReplicaFeed::new", "cadf_file::read_rest", "cadf_linefile::read_rest"],
     "read_inventory": ["read_inventory"],
     "write_inventory": ["write_inventory"],
+    "inventory_digest": ["inventory_digest"],
     "fault_text": [],
     **log_rows.CALLS,
     **sketched_rows.CALLS,
@@ -439,6 +440,9 @@ ROWS += [
     ("write_inventory", [1, "refuses", 24, "g", DIGEST_1], ["err", "WriteFault", HEAD_OF_DIGESTS], SINKS),
     ("write_inventory", [1, "takes-nothing", 25, "g", DIGEST_1], ["err", "WriteFault", HEAD_OF_DIGESTS + DIGEST_1[0]], SINKS),
 ]
+# The digest in an inventory's last line.
+for log, held in (("g", []), ("g", [digits(C1)]), ('a"b', [digits(C1), digits(K1), digits(C2)])):
+    ROWS.append(("inventory_digest", [log, *held], ["ok", inventory(*sorted(held), log=log)[-65:-1]], DIGESTS))
 ROWS += [("fault_text", fault.split(), ["ok", text], REFUSAL) for fault, text in TEXTS]
 ROWS.append(("fault_text", ["Memory"], ["ok", "out of memory"], "Fault lines"))
 ROWS += log_rows.ROWS

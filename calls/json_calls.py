@@ -25,6 +25,7 @@ CALLS = {
     "find_fraction": ["find_fraction"],
     "is_canonical": ["is_canonical"],
     "spells_object": ["spells_object"],
+    "nests_within": ["nests_within"],
     "has_text_at": ["has_text_at"],
     "read_to_limit": ["read_to_limit", "MemorySource::new", "Source::read"],
     "read_rest": ["cadf_json::read_rest"],
@@ -126,15 +127,18 @@ FOUND = [
     ('{"x":1,"id":1,"tags":[]}', ["rewritten_text", "time", "t", "id", "tags"], ["ok", '{"x":1}']),
 ]
 
-# Objects of which `list` is taken: what is left, and the items.
+# Objects of which `list` is taken: `id` and `list` as they are left, the items, and the names and texts of other members.
 AROUND = [
-    (' { "z" : [1,2], "list" : [ {"b":1,"a":[]} , null , 7, "\\u0041" ] , "a":{"list":[3]} } ',
-     '{"a":{"list":[3]},"list":[],"z":[1,2]}', ['{"a":[],"b":1}', "null", "7", '"A"']),
-    ('{"list":[]}', '{"list":[]}', []),
+    (' { "z" : [1,2], "list" : [ {"b":1,"a":[]} , null , 7, "\\u0041" ] , "id":{"b":3,"a":4}, "a":{"list":[3]} } ',
+     '{"id":{"a":4,"b":3},"list":[]}', ['{"a":[],"b":1}', "null", "7", '"A"'], ["a", '{"list":[3]}', "z", "[1,2]"]),
+    ('{"list":[]}', '{"list":[]}', [], []),
+    ('{"a":1,"list":[],"a":{"c":[],"b":"\\u0041","c":2}}', '{"list":[]}', [], ["a", '{"b":"A","c":2}']),
+    ('{"b":[{"b":1,"a":2},{}],"":null,"list":[0]}', '{"list":[]}', ["0"], ["", "null", "b", '[{"a":2,"b":1},{}]']),
+    ('{"a":{"b":1.5,"b":1},"list":[]}', '{"list":[]}', [], ["a", '{"b":1}']),
 ]
-WITHOUT_LIST = [("{}", "{}"), (' {"b":{"list":[1]},"a":[{}]} ', '{"a":[{}],"b":{"list":[1]}}')]
+WITHOUT_LIST = ["{}", ' {"b":{"list":[1]},"a":[{}]} ', '{"b":1,"b":2}']
 NO_SPLIT = ["", "[]", '{"list":[]', '{"list":[]} {}', '{"list":[1.5]}', '{"list":{}}', '{"list":null}', '{"a":1} 2',
-            '{"b":1,"b":2}', '{"b":[0.5]}', '{"list":[],"list":[]}', '{"a":1,"list":[],"a":1}']
+            '{"b":[0.5],"list":[]}', '{"list":[],"list":[]}', '{"id":1,"list":[],"id":1}', '{"a":1.5,"a":1,"list":[]}']
 
 # Lists that are passed over with nothing kept, and texts that aren't.
 PASSED = ["[]", ' [ { "a" : 1 } , { "a" : [ ] } ] ', "[-9223372036854775808,18446744073709551615,0,-1]",
@@ -269,12 +273,12 @@ def made():
 
 def passed():
     """Objects of which a list is taken, lists that are passed over, and texts that may be JSON."""
-    for text, rest, items in AROUND:
-        yield "split", [text, "list"], ["around", rest, *items], VALUES
-    for text, whole in WITHOUT_LIST:
-        yield "split", [text, "list"], ["whole", whole], VALUES
+    for text, tree, items, texts in AROUND:
+        yield "split", [text], ["around", tree, len(items), *items, *texts], VALUES
+    for text in WITHOUT_LIST:
+        yield "split", [text], ["none"], VALUES
     for text in NO_SPLIT:
-        yield "split", [text, "list"], ["err", "NeedsFullParse"], VALUES
+        yield "split", [text], ["err", "NeedsFullParse"], VALUES
     for text in PASSED:
         yield "check_list", [text], ["ok"], VALUES
     for text in NOT_PASSED:
@@ -292,8 +296,11 @@ def passed():
         yield "is_canonical", [text, depth], [True], CANONICAL
         yield "is_canonical", [text, 255], [True], CANONICAL
         yield "spells_object", [text], [text.startswith("{")], VALUES
+        yield "nests_within", [text, depth], [True], VALUES
+        yield "nests_within", [text, 255], [True], VALUES
         if depth:
             yield "is_canonical", [text, depth - 1], [False], CANONICAL
+            yield "nests_within", [text, depth - 1], [False], VALUES
     for text in NOT_JUDGED:
         yield "is_canonical", [text, 255], [False], CANONICAL
     for name, expected, has in [("id", "r", True), ("id", "s", False), ("name", "s", False), ("no", "1", False),

@@ -17,7 +17,6 @@ CALLS = {
     "write_sketch": ["Cells::of", "Salt::of", "Sketch::of", "write_sketch"],
     "read_by": ["read_sketch", "read"],
     "missing_by_sketch": ["read_sketch", "missing_by_sketch"],
-    "inventory_digest": ["inventory_digest"],
 }
 
 SKETCH, READER, REFUSAL = "Sketch file", "What a sketch says to its reader", "What is refused"
@@ -98,7 +97,3 @@ FEW = [
 for own, text, fault in FEW:
     ROWS.append(("read_by", [*WHOLE, text, "g", *map(digits, own)], ["err", *fault], READER))
     ROWS.append(("missing_by_sketch", [*WHOLE, text, "g", *own], ["err", *fault], READER))
-
-# The digest in an inventory's last line.
-ROWS += [("inventory_digest", [log, *map(digits, atoms)], ["ok", made.file_digest(map(digits, atoms), log)], "Inventory file")
-         for log, atoms in (("g", []), ("g", [C1]), ('a"b', [C1, K1, C2]))]

@@ -5,7 +5,8 @@
  *
  *     CADF_WRITTEN (0)            the text is what the command writes to standard output
  *     CADF_INPUT_REFUSED (1)      an input is refused; the text is the command's error line, without `cadf: ` and line feed
- *     CADF_ARGUMENT_REFUSED (2)   a log, a key, a letter, a place or a number of sites is refused; the text says which
+ *     CADF_ARGUMENT_REFUSED (2)   a log, a key, a letter, a place, a number of sites or cells, or a salt is refused; the text
+ *                                 says which
  *     CADF_OUT_OF_MEMORY (4)      an allocation failed; the text is `out of memory`, or empty
  *
  * `*length` is the length of the text. If it is above `room`, the buffer has the first `room` bytes of it, and nothing
@@ -82,6 +83,14 @@ int cadf_missing(const struct cadf_bytes *from, const struct cadf_bytes *to,
 int cadf_missing_by(const struct cadf_bytes *from, const struct cadf_bytes *inventory,
                     uint8_t *output, size_t room, size_t *length);
 
+/* The replica file of what `from` has beyond the sketch; or a refusal that says how many cells to ask for. */
+int cadf_missing_by_sketch(const struct cadf_bytes *from, const struct cadf_bytes *sketch,
+                           uint8_t *output, size_t room, size_t *length);
+
+/* The sketch file of the input: of so many cells, 0 for 198, and with that odd salt, 0 for the input's own. */
+int cadf_sketch(uint64_t cells, uint64_t salt, const struct cadf_bytes *input,
+                uint8_t *output, size_t room, size_t *length);
+
 /* The inventory file of the input. */
 int cadf_inventory(const struct cadf_bytes *input, uint8_t *output, size_t room, size_t *length);
 
@@ -157,6 +166,22 @@ static inline int cadf_missing_by_or_null(const struct cadf_bytes *from, const s
     return cadf_missing_by(&first, &second, output ? output : &nowhere, output ? room : 0, length);
 }
 
+static inline int cadf_missing_by_sketch_or_null(const struct cadf_bytes *from, const struct cadf_bytes *sketch,
+                                                 uint8_t *output, size_t room, size_t *length)
+{
+    uint8_t nowhere = 0;
+    const struct cadf_bytes first = cadf_bytes_at(from), second = cadf_bytes_at(sketch);
+    return cadf_missing_by_sketch(&first, &second, output ? output : &nowhere, output ? room : 0, length);
+}
+
+static inline int cadf_sketch_or_null(uint64_t cells, uint64_t salt, const struct cadf_bytes *input,
+                                      uint8_t *output, size_t room, size_t *length)
+{
+    uint8_t nowhere = 0;
+    const struct cadf_bytes one = cadf_bytes_at(input);
+    return cadf_sketch(cells, salt, &one, output ? output : &nowhere, output ? room : 0, length);
+}
+
 static inline int cadf_inventory_or_null(const struct cadf_bytes *input, uint8_t *output, size_t room, size_t *length)
 {
     uint8_t nowhere = 0;
@@ -185,6 +210,8 @@ static inline int cadf_rehearse_or_null(const struct cadf_bytes *log, uint64_t s
 #define cadf_join(...) cadf_join_or_null(__VA_ARGS__)
 #define cadf_missing(...) cadf_missing_or_null(__VA_ARGS__)
 #define cadf_missing_by(...) cadf_missing_by_or_null(__VA_ARGS__)
+#define cadf_missing_by_sketch(...) cadf_missing_by_sketch_or_null(__VA_ARGS__)
+#define cadf_sketch(...) cadf_sketch_or_null(__VA_ARGS__)
 #define cadf_inventory(...) cadf_inventory_or_null(__VA_ARGS__)
 #define cadf_rule(...) cadf_rule_or_null(__VA_ARGS__)
 #define cadf_rehearse(...) cadf_rehearse_or_null(__VA_ARGS__)

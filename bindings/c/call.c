@@ -3,9 +3,10 @@
  *
  *     call show FILE | conflicts FILE | check FILE | inventory FILE | missing FROM TO | missing-by FROM INVENTORY
  *     call join LOG FILE.. | rule LETTER KEY PLACE FILE | rehearse LOG SITES SCRIPT
+ *     call sketch CELLS SALT FILE | missing-by-sketch FROM SKETCH
  *
- * An empty LOG is none. PLACE and SITES are decimal numbers. The exit status is that of the command; 3 where a file can't be read
- * or the output not written, 2 where the words are none of these.
+ * An empty LOG is none, and so is 0 for CELLS or SALT. PLACE, SITES, CELLS and SALT are decimal numbers. The exit status is that of
+ * the command; 3 where a file can't be read or the output not written, 2 where the words are none of these.
  */
 #include "cadf.h"
 
@@ -58,11 +59,12 @@ static int call(int count, char **words, uint8_t *output, size_t room, size_t *l
 {
     static struct cadf_bytes first, second;
     const char *name = words[0];
+    bool is_of_two = count == 3 && strcmp(name, "rehearse");
     if (count >= 2 && count < 4098 && !strcmp(name, "join"))
         return join(count, words, output, room, length);
     if (!first.bytes && count > 1) {
-        first = file(words[count == 3 && strcmp(name, "rehearse") ? 1 : count - 1]);
-        second = count == 3 && strcmp(name, "rehearse") ? file(words[2]) : word("");
+        first = file(words[is_of_two ? 1 : count - 1]);
+        second = is_of_two ? file(words[2]) : word("");
     }
     if (count == 2 && (!strcmp(name, "show") || !strcmp(name, "conflicts")))
         return cadf_show(name[0] == 'c', &first, output, room, length);
@@ -74,6 +76,10 @@ static int call(int count, char **words, uint8_t *output, size_t room, size_t *l
         return cadf_missing(&first, &second, output, room, length);
     if (count == 3 && !strcmp(name, "missing-by"))
         return cadf_missing_by(&first, &second, output, room, length);
+    if (count == 3 && !strcmp(name, "missing-by-sketch"))
+        return cadf_missing_by_sketch(&first, &second, output, room, length);
+    if (count == 4 && !strcmp(name, "sketch"))
+        return cadf_sketch(strtoull(words[1], NULL, 10), strtoull(words[2], NULL, 10), &first, output, room, length);
     if (count == 5 && !strcmp(name, "rule")) {
         struct cadf_bytes key = word(words[2]);
         uint8_t letter = strlen(words[1]) == 1 ? words[1][0] : 0;

@@ -84,7 +84,18 @@ static const struct cadf_bytes g = TEXT("g"), h = TEXT("h"), key = TEXT("name"),
 #define B_INVENTORY "CADF-INVENTORY 1\nL \"g\"\n996bc98dddbb85f9086eaa19d3baa801145d5cee05855ba7b6536a33eeb07b11\n" \
     "Z a50c88d1acddfe24de2cc6470468677d07207dc1b6d3e11fe4484f4c3585dda7\n"
 
+#define SKETCH_OF(layout, cells, digest) "CADF-SKETCH 1\nL \"g\"\nS " layout " a50c88d1acddfe24de2cc6470468677d07207dc1b6d3e11fe4484f4c3585dda7\n" \
+    "C 1 1 0 0 1 1 0 0 1 0 1 1 0 1 0 1 1 1 1 0 0 1 0 0 1 1 0 0 0 1 1 0 1 " \
+    "1 1 0 1 1 1 0 1 1 0 1 1 1 0 1 1 1 0 0 0 0 1 0 1 1 1 1 1 1 0 0 1\n" \
+    cells "Z " digest "\n"
+#define B_CELL "996bc98dddbb85f9086eaa19d3baa801145d5cee05855ba7b6536a33eeb07b116113b3ac35454111\n"
+#define NO_CELL "0000000000000000000000000000000000000000" "0000000000000000000000000000000000000000\n"
+#define B_SKETCH SKETCH_OF("6 1", NO_CELL B_CELL B_CELL NO_CELL B_CELL NO_CELL, "3bf794ca0f5d10d025c4ba0398db0090410b816d203bb0013c9071c01e87a31e")
+#define FEW_SKETCH SKETCH_OF("3 1", B_CELL B_CELL B_CELL, "71e763ac7eb26f197d34fc7cd04ab1a795d4b97345d7af89985c2ba198c9dd17")
+#define OWN_SKETCH SKETCH_OF("3 11893031150108409381", B_CELL B_CELL B_CELL, "697cb959e6ee2f0916b20a10e7d63d15f7b48e930d4ecf568500782a4520674d")
+
 static const struct cadf_bytes both = TEXT(BOTH_FILE), b_inventory = TEXT(B_INVENTORY);
+static const struct cadf_bytes b_sketch = TEXT(B_SKETCH), few_sketch = TEXT(FEW_SKETCH);
 
 /* A log with a property that is nested so deep. */
 static struct cadf_bytes nested_log(void)
@@ -115,6 +126,16 @@ CALL(misses, cadf_missing(&a_log, &b_log, OUT))
 CALL(misses_other, cadf_missing(&a_log, &other_log, OUT))
 CALL(misses_by, cadf_missing_by(&a_log, &b_inventory, OUT))
 CALL(misses_by_cut, cadf_missing_by(&a_log, &cut, OUT))
+CALL(misses_by_sketch, cadf_missing_by_sketch(&a_log, &b_sketch, OUT))
+CALL(misses_by_few_cells, cadf_missing_by_sketch(&a_log, &few_sketch, OUT))
+CALL(misses_by_cut_sketch, cadf_missing_by_sketch(&a_log, &cut, OUT))
+CALL(sketches, cadf_sketch(6, 1, &b_log, OUT))
+CALL(sketches_few_cells, cadf_sketch(3, 1, &b_log, OUT))
+CALL(sketches_with_own_salt, cadf_sketch(3, 0, &b_log, OUT))
+CALL(sketches_cut, cadf_sketch(0, 0, &cut, OUT))
+CALL(sketches_four_cells, cadf_sketch(4, 2, &cut, OUT))
+CALL(sketches_many_cells, cadf_sketch(12582915, 1, &cut, OUT))
+CALL(sketches_even_salt, cadf_sketch(3, 2, &cut, OUT))
 CALL(lists, cadf_inventory(&b_log, OUT))
 CALL(lists_cut, cadf_inventory(&cut, OUT))
 CALL(rules, cadf_rule('P', &key, 1, &both, OUT))
@@ -174,6 +195,16 @@ static const struct expected rows[] = {
     ROW(misses_other, 1, "input 2: other log"),
     ROW(misses_by, 0, A_FILE),
     ROW(misses_by_cut, 1, "input 2: truncated"),
+    ROW(misses_by_sketch, 0, A_FILE),
+    ROW(misses_by_few_cells, 1, "input 2: too few cells: ask for 36"),
+    ROW(misses_by_cut_sketch, 1, "input 2: truncated"),
+    ROW(sketches, 0, B_SKETCH),
+    ROW(sketches_few_cells, 0, FEW_SKETCH),
+    ROW(sketches_with_own_salt, 0, OWN_SKETCH),
+    ROW(sketches_cut, 1, "input 1: not JSON"),
+    ROW(sketches_four_cells, 2, "cells"),
+    ROW(sketches_many_cells, 2, "cells"),
+    ROW(sketches_even_salt, 2, "salt"),
     ROW(lists, 0, B_INVENTORY),
     ROW(lists_cut, 1, "input 1: not JSON"),
     ROW(rules, 0, RULED_FILE),

@@ -19,7 +19,8 @@ from typing import Any, Iterable, NamedTuple, Optional, Tuple, Union
 
 from . import _library
 
-__all__ = ["CadfError", "Check", "check", "inventory", "join", "missing", "missing_by", "rehearse", "rule", "show", "version"]
+__all__ = ["CadfError", "Check", "check", "inventory", "join", "missing", "missing_by", "missing_by_sketch", "rehearse", "rule", "show",
+           "sketch", "version"]
 
 Input = Union[bytes, bytearray, memoryview, str]
 
@@ -27,6 +28,7 @@ _PLACED = re.compile(r"(?:input (\d+): )?(?:(.*): )?.*", re.DOTALL)
 _CHECKED = re.compile(rb"ok (.*) atoms (\d+) conflicts (\d+)\n", re.DOTALL)
 # What a call is given room for at first, beyond twice the size of its inputs.
 _ROOM = 4096
+_MOST_CELLS = 12_582_912
 _loaded: Optional[ctypes.CDLL] = None
 
 
@@ -75,6 +77,11 @@ def _whole(value: int, name: str) -> int:
     if isinstance(value, bool) or not isinstance(value, int):
         raise TypeError("%s is a whole number, not %s" % (name, type(value).__name__))
     return value if 0 <= value < 1 << 64 else 0
+
+
+def _chosen(value: Optional[int], name: str) -> int:
+    """A number of a sketch, 0 for none. One that no sketch has is handed on as 2, which the library refuses: 0 would be none."""
+    return 0 if value is None else _whole(value, name) or 2
 
 
 def _functions() -> ctypes.CDLL:
@@ -132,6 +139,22 @@ def missing_by(source: Input, inventory: Input) -> bytes:
     """Returns the delta for the holder of an inventory."""
     texts = _of(source), _of(inventory)
     return _call("missing_by", _room(texts[0]), *map(_given, texts))
+
+
+def missing_by_sketch(source: Input, sketch: Input) -> bytes:
+    """Returns the delta for the holder of what was sketched. Where the sketch has too few cells, the error says how many to ask for."""
+    texts = _of(source), _of(sketch)
+    return _call("missing_by_sketch", _room(texts[0]), *map(_given, texts))
+
+
+def sketch(value: Input, cells: Optional[int] = None, salt: Optional[int] = None) -> bytes:
+    """Returns the sketch file of an input: of 198 cells and with a salt that the input makes, if none are given.
+
+    `cells` is a multiple of 3 from 3 to 12,582,912, and `salt` an odd number of 64 bits.
+    """
+    text, numbers = _of(value), (_chosen(cells, "cells"), _chosen(salt, "salt"))
+    room = 81 * (numbers[0] or 198) if numbers[0] <= _MOST_CELLS else 0
+    return _call("sketch", _ROOM + room, *numbers, _given(text))
 
 
 def inventory(value: Input) -> bytes:

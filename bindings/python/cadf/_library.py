@@ -23,6 +23,8 @@ FUNCTIONS = {
     "join": [*_INPUT, ctypes.c_size_t, *_INPUT],
     "missing": _INPUT * 2,
     "missing_by": _INPUT * 2,
+    "missing_by_sketch": _INPUT * 2,
+    "sketch": [ctypes.c_uint64, ctypes.c_uint64, *_INPUT],
     "inventory": _INPUT,
     "rule": [ctypes.c_uint8, *_INPUT, ctypes.c_uint64, *_INPUT],
     "rehearse": [*_INPUT, ctypes.c_uint64, *_INPUT],

@@ -47,6 +47,19 @@ class Calls(unittest.TestCase):
         self.assertEqual(cadf.missing_by(A, cadf.inventory(B)), delta)
         self.refuses(1, "input 2: other log", cadf.missing, A, '{"id":"h","events":[]}')
 
+    def test_a_sketch_gives_the_same_delta(self):
+        delta, sketch = cadf.missing(A, B), cadf.sketch(B)
+        self.assertEqual(cadf.missing_by_sketch(A, sketch), delta)
+        self.assertEqual(cadf.missing_by_sketch(A, cadf.sketch(B, cells=6, salt=1)), delta)
+        self.assertEqual(sketch, cadf.sketch(cadf.join([B]), cells=198))
+        self.assertEqual(cadf.sketch(B, salt=3).split()[5:7], [b"198", b"3"])
+        self.refuses(1, "input 2: too few cells: ask for 36", cadf.missing_by_sketch, A, cadf.sketch(B, cells=3))
+        self.refuses(1, "input 2: truncated", cadf.missing_by_sketch, A, B[:10])
+        for cells in (0, 1, 4, -3, 12_582_915, 1 << 64):
+            self.refuses(2, "cells", cadf.sketch, B, cells=cells)
+        for salt in (0, 2, -1, 1 << 64, (1 << 64) + 1):
+            self.refuses(2, "salt", cadf.sketch, B, salt=salt)
+
     def test_show_and_rule(self):
         both = cadf.join([A, B])
         self.assertNotIn(b'"name"', cadf.show(both))

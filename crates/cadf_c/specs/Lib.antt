@@ -1,3 +1,3 @@
 pub mod Inputs
 pub mod Arguments
-pub mod Output
+pub mod Statuses

@@ -1,9 +1,12 @@
 //! Arguments that are no inputs, as C hands them over.
 ghost use Rattle.std.specs.Prelude.{◌≡◌, IfOk};
-ghost use Rattle.cadf_c.specs.Arguments.{log_given};
+ghost use Rattle.cadf_c.specs.Arguments.{log_given, number_given};
 
-use cadf_arguments::{ArgumentFault, check_letter, check_place, check_sites, read_key, read_log};
-use cadf_memory::Name;
+use cadf_arguments::{
+    ArgumentFault, check_cells, check_letter, check_place, check_salt, check_sites, read_key,
+    read_log,
+};
+use cadf_memory::{Cells, Name, Salt};
 use std::alloc::Global;
 
 /// Reads the bytes as the identifier of a log. `LogName`: they are none, or not UTF-8.
@@ -65,4 +68,42 @@ pub(crate) fn rehearsal_given(
     let log = log_of_bytes(alloc, log)?;
     let sites = check_sites(sites)?;
     Ok((log, sites))
+}
+
+/// Returns the number of cells of a sketch. 0 is none.
+fn cells_if_any(cells: u64) -> Result<Option<Cells>, ArgumentFault>
+    ensures { IfOk result (λ given. given ≡ number_given cells) }
+{
+    if cells == 0 {
+        return Ok(None);
+    }
+    match check_cells(cells) {
+        Ok(cells) => Ok(Some(cells)),
+        Err(fault) => Err(fault),
+    }
+}
+
+/// Returns the salt of a sketch. 0 is none.
+fn salt_if_any(salt: u64) -> Result<Option<Salt>, ArgumentFault>
+    ensures { IfOk result (λ given. given ≡ number_given salt) }
+{
+    if salt == 0 {
+        return Ok(None);
+    }
+    match check_salt(salt) {
+        Ok(salt) => Ok(Some(salt)),
+        Err(fault) => Err(fault),
+    }
+}
+
+/// Returns the number of cells and the salt of a sketch; they are checked in this order.
+pub(crate) fn sketch_given(
+    cells: u64,
+    salt: u64,
+) -> Result<(Option<Cells>, Option<Salt>), ArgumentFault>
+    ensures { IfOk result (λ given. (given.0 ≡ number_given cells) × (given.1 ≡ number_given salt)) }
+{
+    let cells = cells_if_any(cells)?;
+    let salt = salt_if_any(salt)?;
+    Ok((cells, salt))
 }

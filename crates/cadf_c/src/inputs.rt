@@ -1,9 +1,11 @@
 //! Bytes of the caller's.
-ghost use Rattle.std.specs.Prelude.{◌≡◌, IfOk};
+ghost use Rattle.std.specs.Prelude.{◌≡◌, true, IfOk, IfErr};
 ghost use Rattle.cadf_tool.specs.Join.{join_of};
 ghost use Rattle.cadf_tool.specs.WrittenFile.{file};
 ghost use Rattle.cadf_memory.specs.Memory.{bytes_of};
+ghost use Rattle.cadf_memory.specs.Handed.{IsHandedOut};
 ghost use Rattle.cadf_memory.specs.Made.{IsMadeOfAll};
+ghost use Rattle.cadf_memory.specs.Refused.{is_of_memory, IsFirstOfAll};
 ghost use Rattle.cadf_c.specs.Inputs.{bytes_in};
 
 use cadf_memory::{Name, ToolFault, join};
@@ -26,16 +28,20 @@ fn slices<'b>(alloc: Global, inputs: &[CadfBytes<'b>]) -> Result<Vec<&'b [u8]>, 
     Ok(slices)
 }
 
-/// Returns the replica file of what all of them contribute.
-pub(crate) fn joined(
+/// Writes the replica file of what all of them contribute, and returns its length.
+#[tactic(auto, using(cadf_memory::proofs::Lists::refused_unread))]
+pub(crate) fn join_inputs(
     alloc: Global,
     log: Option<Name>,
     inputs: &[CadfBytes<'_>],
-) -> Result<Vec<u8>, ToolFault>
-    ensures { IfOk result (λ text. IsMadeOfAll (join_of log) file (bytes_in inputs.now) text.items) }
+    output: &mut [u8],
+) -> Result<usize, ToolFault>
+    ensures ok { IfOk result (IsHandedOut (IsMadeOfAll (join_of log) file (bytes_in inputs.now)) output.old output.new) }
+    ensures err { IfErr result (λ fault. IsFirstOfAll (join_of log) (bytes_in inputs.now) fault) }
+    ensures only { IfErr result (λ fault. is_of_memory fault ≡ true) }
 {
     match slices(alloc, inputs) {
-        Ok(slices) => join(alloc, log, slices.as_slice()),
+        Ok(slices) => join(alloc, log, slices.as_slice(), output),
         Err(_) => Err(ToolFault::Memory),
     }
 }

@@ -9,24 +9,32 @@ ghost use Rattle.cadf_tool.specs.Told.{replica_model_of};
 ghost use Rattle.cadf_tool.specs.Shown.{shown_text, checked_text};
 ghost use Rattle.cadf_tool.specs.Missing.{part_of};
 ghost use Rattle.cadf_tool.specs.MissingBy.{inventory_model_of, part_by};
+ghost use Rattle.cadf_sketch.specs.SketchFile.{sketch_file};
+ghost use Rattle.cadf_tool.specs.Sketch.{sketch_model_of, IsPartBySketch};
+ghost use Rattle.cadf_tool.specs.SketchInput.{sketch_spec};
 ghost use Rattle.cadf_tool.specs.Rule.{ruled_of};
 ghost use Rattle.cadf_tool.specs.Rehearse.{script_spec, final_sites};
 ghost use Rattle.cadf_tool.specs.Sites.{sites_text};
 ghost use Rattle.cadf_tool.specs.Join.{join_of};
 ghost use Rattle.cadf_tool.specs.WrittenFile.{file};
-ghost use Rattle.cadf_c.specs.Output.{IsMadeFrom, IsMadeFromTwo, IsMadeFromAll};
-ghost use Rattle.cadf_c.specs.Arguments.{log_given};
+ghost use Rattle.cadf_memory.specs.Handed.{IsHandedOut};
+ghost use Rattle.cadf_memory.specs.Made.{IsMadeOf, IsMadeOfTwo, IsMadeOfTwoBy, IsMadeOfAll};
+ghost use Rattle.cadf_memory.specs.Refused.{IsFirstOf, IsFirstOfTwo, IsFirstOfTwoBy, IsFirstOfAll};
+ghost use Rattle.cadf_c.specs.Statuses.{IsRefused, IsStatus};
+ghost use Rattle.cadf_c.specs.Arguments.{log_given, number_given};
 ghost use Rattle.cadf_c.specs.Inputs.{bytes_in};
 
 mod arguments;
 mod inputs;
 mod output;
 
-use crate::arguments::{log_if_any, rehearsal_given, ruling_given};
+use crate::arguments::{log_if_any, rehearsal_given, ruling_given, sketch_given};
 pub use crate::inputs::CadfBytes;
-use crate::inputs::joined;
+use crate::inputs::join_inputs;
 use crate::output::{answer, refuse};
-use cadf_memory::{check, inventory, missing, missing_by, rehearse, rule, show};
+use cadf_memory::{
+    check, inventory, missing, missing_by, missing_by_sketch, rehearse, rule, show, sketch,
+};
 use std::alloc::Global;
 
 /// The version of the command, which `cadf --version` prints.
@@ -43,6 +51,7 @@ pub extern "C" fn cadf_version() -> u32 {
 }
 
 /// Hands out the log that the input tells, or with `conflicts` the list of its conflicts.
+#[tactic(auto, using(crate::proofs::Statuses::refused))]
 #[unsafe(no_mangle)]
 pub extern "C" fn cadf_show(
     alloc: Global,
@@ -51,14 +60,18 @@ pub extern "C" fn cadf_show(
     output: &mut [u8],
     length: &mut usize,
 ) -> i32
-    ensures { result ≡ pos 0 → IsMadeFrom input_spec replica_model_of (shown_text conflicts)
-        input.now.bytes.now output.old output.new length.new }
+    ensures written { result ≡ pos 0 → IsHandedOut
+        (IsMadeOf input_spec replica_model_of (shown_text conflicts) input.now.bytes.now)
+        output.old output.new length.new }
+    ensures refused { result ≡ pos 1 → IsRefused (IsFirstOf input_spec replica_model_of input.now.bytes.now) }
+    ensures only { IsStatus result }
 {
-    let made = show(alloc, conflicts, input.bytes);
+    let made = show(alloc, conflicts, input.bytes, output);
     answer(alloc, made, output, length)
 }
 
 /// Hands out the line that tells what the input holds.
+#[tactic(auto, using(crate::proofs::Statuses::refused))]
 #[unsafe(no_mangle)]
 pub extern "C" fn cadf_check(
     alloc: Global,
@@ -66,14 +79,18 @@ pub extern "C" fn cadf_check(
     output: &mut [u8],
     length: &mut usize,
 ) -> i32
-    ensures { result ≡ pos 0 → IsMadeFrom input_spec replica_model_of checked_text
-        input.now.bytes.now output.old output.new length.new }
+    ensures written { result ≡ pos 0 → IsHandedOut
+        (IsMadeOf input_spec replica_model_of checked_text input.now.bytes.now)
+        output.old output.new length.new }
+    ensures refused { result ≡ pos 1 → IsRefused (IsFirstOf input_spec replica_model_of input.now.bytes.now) }
+    ensures only { IsStatus result }
 {
-    let made = check(alloc, input.bytes);
+    let made = check(alloc, input.bytes, output);
     answer(alloc, made, output, length)
 }
 
 /// Hands out the inventory file of the input.
+#[tactic(auto, using(crate::proofs::Statuses::refused))]
 #[unsafe(no_mangle)]
 pub extern "C" fn cadf_inventory(
     alloc: Global,
@@ -81,14 +98,18 @@ pub extern "C" fn cadf_inventory(
     output: &mut [u8],
     length: &mut usize,
 ) -> i32
-    ensures { result ≡ pos 0 → IsMadeFrom input_spec inventory_model_of inventory_file
-        input.now.bytes.now output.old output.new length.new }
+    ensures written { result ≡ pos 0 → IsHandedOut
+        (IsMadeOf input_spec inventory_model_of inventory_file input.now.bytes.now)
+        output.old output.new length.new }
+    ensures refused { result ≡ pos 1 → IsRefused (IsFirstOf input_spec inventory_model_of input.now.bytes.now) }
+    ensures only { IsStatus result }
 {
-    let made = inventory(alloc, input.bytes);
+    let made = inventory(alloc, input.bytes, output);
     answer(alloc, made, output, length)
 }
 
 /// Hands out the replica file of what `to` lacks of `from`.
+#[tactic(auto, using(crate::proofs::Statuses::refused))]
 #[unsafe(no_mangle)]
 pub extern "C" fn cadf_missing(
     alloc: Global,
@@ -97,14 +118,18 @@ pub extern "C" fn cadf_missing(
     output: &mut [u8],
     length: &mut usize,
 ) -> i32
-    ensures { result ≡ pos 0 → IsMadeFromTwo input_spec input_spec part_of file
-        from.now.bytes.now to.now.bytes.now output.old output.new length.new }
+    ensures written { result ≡ pos 0 → IsHandedOut
+        (IsMadeOfTwo input_spec input_spec part_of file from.now.bytes.now to.now.bytes.now)
+        output.old output.new length.new }
+    ensures refused { result ≡ pos 1 → IsRefused (IsFirstOfTwo input_spec input_spec part_of from.now.bytes.now to.now.bytes.now) }
+    ensures only { IsStatus result }
 {
-    let made = missing(alloc, from.bytes, to.bytes);
+    let made = missing(alloc, from.bytes, to.bytes, output);
     answer(alloc, made, output, length)
 }
 
 /// Hands out the replica file of what `from` has beyond the inventory.
+#[tactic(auto, using(crate::proofs::Statuses::refused))]
 #[unsafe(no_mangle)]
 pub extern "C" fn cadf_missing_by(
     alloc: Global,
@@ -113,15 +138,19 @@ pub extern "C" fn cadf_missing_by(
     output: &mut [u8],
     length: &mut usize,
 ) -> i32
-    ensures { result ≡ pos 0 → IsMadeFromTwo input_spec inventory_spec part_by file
-        from.now.bytes.now held.now.bytes.now output.old output.new length.new }
+    ensures written { result ≡ pos 0 → IsHandedOut
+        (IsMadeOfTwo input_spec inventory_spec part_by file from.now.bytes.now held.now.bytes.now)
+        output.old output.new length.new }
+    ensures refused { result ≡ pos 1 → IsRefused (IsFirstOfTwo input_spec inventory_spec part_by from.now.bytes.now held.now.bytes.now) }
+    ensures only { IsStatus result }
 {
-    let made = missing_by(alloc, from.bytes, held.bytes);
+    let made = missing_by(alloc, from.bytes, held.bytes, output);
     answer(alloc, made, output, length)
 }
 
 /// Hands out the replica file of the input with one ruling more, for the value at that place of the key's
 /// values. Places count from 1.
+#[tactic(auto, using(crate::proofs::Statuses::refused))]
 #[unsafe(no_mangle)]
 pub extern "C" fn cadf_rule(
     alloc: Global,
@@ -132,12 +161,15 @@ pub extern "C" fn cadf_rule(
     output: &mut [u8],
     length: &mut usize,
 ) -> i32
-    ensures { result ≡ pos 0 → IsMadeFrom input_spec (ruled_of (encode_utf8 letter) key.now.bytes.now place) file
-        input.now.bytes.now output.old output.new length.new }
+    ensures written { result ≡ pos 0 → IsHandedOut
+        (IsMadeOf input_spec (ruled_of (encode_utf8 letter) key.now.bytes.now place) file input.now.bytes.now)
+        output.old output.new length.new }
+    ensures refused { result ≡ pos 1 → IsRefused (IsFirstOf input_spec (ruled_of (encode_utf8 letter) key.now.bytes.now place) input.now.bytes.now) }
+    ensures only { IsStatus result }
 {
     match ruling_given(alloc, letter, key.bytes, place) {
         Ok((letter, key, place)) => {
-            let made = rule(alloc, letter, &key, place, input.bytes);
+            let made = rule(alloc, letter, &key, place, input.bytes, output);
             answer(alloc, made, output, length)
         }
         Err(fault) => refuse(alloc, fault, output, length),
@@ -145,6 +177,7 @@ pub extern "C" fn cadf_rule(
 }
 
 /// Hands out a line for each site of the log after the schedule of the script.
+#[tactic(auto, using(crate::proofs::Statuses::refused))]
 #[unsafe(no_mangle)]
 pub extern "C" fn cadf_rehearse(
     alloc: Global,
@@ -154,20 +187,70 @@ pub extern "C" fn cadf_rehearse(
     output: &mut [u8],
     length: &mut usize,
 ) -> i32
-    ensures { result ≡ pos 0 → IsMadeFrom script_spec (final_sites log.now.bytes.now sites) sites_text
-        script.now.bytes.now output.old output.new length.new }
+    ensures written { result ≡ pos 0 → IsHandedOut
+        (IsMadeOf script_spec (final_sites log.now.bytes.now sites) sites_text script.now.bytes.now)
+        output.old output.new length.new }
+    ensures refused { result ≡ pos 1 → IsRefused (IsFirstOf script_spec (final_sites log.now.bytes.now sites) script.now.bytes.now) }
+    ensures only { IsStatus result }
 {
     match rehearsal_given(alloc, log.bytes, sites) {
         Ok((log, sites)) => {
-            let made = rehearse(alloc, &log, sites, script.bytes);
+            let made = rehearse(alloc, &log, sites, script.bytes, output);
             answer(alloc, made, output, length)
         }
         Err(fault) => refuse(alloc, fault, output, length),
     }
 }
 
+/// Hands out the sketch file of the input: of so many cells, 0 for 198, and with that salt, 0 for the input's own.
+#[tactic(auto, using(crate::proofs::Statuses::refused))]
+#[unsafe(no_mangle)]
+pub extern "C" fn cadf_sketch(
+    alloc: Global,
+    cells: u64,
+    salt: u64,
+    input: &CadfBytes<'_>,
+    output: &mut [u8],
+    length: &mut usize,
+) -> i32
+    ensures written { result ≡ pos 0 → IsHandedOut
+        (IsMadeOf input_spec (sketch_model_of (number_given cells) (number_given salt)) sketch_file input.now.bytes.now)
+        output.old output.new length.new }
+    ensures refused { result ≡ pos 1 → IsRefused (IsFirstOf input_spec (sketch_model_of (number_given cells) (number_given salt)) input.now.bytes.now) }
+    ensures only { IsStatus result }
+{
+    match sketch_given(cells, salt) {
+        Ok((cells, salt)) => {
+            let made = sketch(alloc, cells, salt, input.bytes, output);
+            answer(alloc, made, output, length)
+        }
+        Err(fault) => refuse(alloc, fault, output, length),
+    }
+}
+
+/// Hands out the replica file of what `from` has beyond the sketch.
+#[tactic(auto, using(crate::proofs::Statuses::refused))]
+#[unsafe(no_mangle)]
+pub extern "C" fn cadf_missing_by_sketch(
+    alloc: Global,
+    from: &CadfBytes<'_>,
+    held: &CadfBytes<'_>,
+    output: &mut [u8],
+    length: &mut usize,
+) -> i32
+    ensures written { result ≡ pos 0 → IsHandedOut
+        (IsMadeOfTwoBy input_spec sketch_spec IsPartBySketch file from.now.bytes.now held.now.bytes.now)
+        output.old output.new length.new }
+    ensures refused { result ≡ pos 1 → IsRefused (IsFirstOfTwoBy input_spec sketch_spec IsPartBySketch from.now.bytes.now held.now.bytes.now) }
+    ensures only { IsStatus result }
+{
+    let made = missing_by_sketch(alloc, from.bytes, held.bytes, output);
+    answer(alloc, made, output, length)
+}
+
 /// Hands out the replica file of what all inputs contribute, under the given log or else the first that an
 /// input names. A log of no bytes is none.
+#[tactic(auto, using(crate::proofs::Statuses::refused))]
 #[unsafe(no_mangle)]
 pub extern "C" fn cadf_join(
     alloc: Global,
@@ -176,11 +259,17 @@ pub extern "C" fn cadf_join(
     output: &mut [u8],
     length: &mut usize,
 ) -> i32
-    ensures { result ≡ pos 0 → IsMadeFromAll (join_of (log_given log.now.bytes.now)) file
-        (bytes_in inputs.now) output.old output.new length.new }
+    ensures written { result ≡ pos 0 → IsHandedOut
+        (IsMadeOfAll (join_of (log_given log.now.bytes.now)) file (bytes_in inputs.now))
+        output.old output.new length.new }
+    ensures refused { result ≡ pos 1 → IsRefused (IsFirstOfAll (join_of (log_given log.now.bytes.now)) (bytes_in inputs.now)) }
+    ensures only { IsStatus result }
 {
     match log_if_any(alloc, log.bytes) {
-        Ok(log) => answer(alloc, joined(alloc, log, inputs), output, length),
+        Ok(log) => {
+            let made = join_inputs(alloc, log, inputs, output);
+            answer(alloc, made, output, length)
+        }
         Err(fault) => refuse(alloc, fault, output, length),
     }
 }

@@ -1,6 +1,9 @@
 //! What a call answers: a status, and a text in the caller's buffer.
-ghost use Rattle.std.specs.Prelude.{◌≡◌, ◌≢◌, ◌≤◌, pos, IsOkAnd};
-ghost use Rattle.cadf_c.specs.Output.{IsHandedOut};
+ghost use Rattle.std.specs.Prelude.{◌≡◌, ◌⊎◌, true, pos, Ok, IfErr, IsErrAnd};
+ghost use Rattle.cadf_tool.specs.Faults.{status_of};
+ghost use Rattle.cadf_memory.specs.Handed.{IsHandedOut};
+ghost use Rattle.cadf_memory.specs.Refused.{is_of_memory};
+ghost use Rattle.cadf_c.specs.Statuses.{IsStatus};
 
 use cadf_arguments::ArgumentFault;
 use cadf_memory::{ToolFault, status};
@@ -8,18 +11,11 @@ use std::alloc::{AllocError as Memory, Global};
 
 /// Copies what of the text fits, and tells how long it is.
 fn hand_out(text: &[u8], output: &mut [u8], length: &mut usize)
-    ensures { IsHandedOut text.now output.old output.new length.new }
+    ensures { IsHandedOut (λ t. t ≡ text.now) output.old output.new length.new }
 {
     let count = text.len().min(output.len());
     output[..count].copy_from_slice(&text[..count]);
     *length = text.len();
-}
-
-/// Returns the status of a fault, which is above 0.
-fn fault_status(fault: &ToolFault) -> u8
-    ensures { 1 ≤ result }
-{
-    status(fault)
 }
 
 /// Hands out the text of a fault, if there is memory for it, and returns its status.
@@ -29,8 +25,7 @@ fn hand_out_fault(
     output: &mut [u8],
     length: &mut usize,
 ) -> i32
-    requires { 1 ≤ code }
-    ensures { result ≢ pos 0 }
+    ensures { (result ≡ pos code) ⊎ (result ≡ pos 4) }
 {
     match text {
         Ok(text) => {
@@ -39,41 +34,46 @@ fn hand_out_fault(
         }
         Err(_) => {
             *length = 0;
-            fault_status(&ToolFault::Memory) as i32
+            status(&ToolFault::Memory) as i32
         }
     }
 }
 
 /// Answers that an argument is refused.
+#[tactic(auto, using(crate::proofs::Statuses::two_or_four))]
 pub(crate) fn refuse(
     alloc: Global,
     fault: ArgumentFault,
     output: &mut [u8],
     length: &mut usize,
 ) -> i32
-    ensures { result ≢ pos 0 }
+    ensures { (result ≡ pos 2) ⊎ (result ≡ pos 4) }
 {
     let text = format!(in alloc; "{fault}");
     hand_out_fault(text, fault.status(), output, length)
 }
 
-/// Answers the text of an engine, or its fault.
+/// Answers how long the text is that an engine wrote, or hands out its fault.
+#[tactic(auto, using(crate::proofs::Statuses::one_or_four))]
 pub(crate) fn answer(
     alloc: Global,
-    made: Result<Vec<u8>, ToolFault>,
+    made: Result<usize, ToolFault>,
     output: &mut [u8],
     length: &mut usize,
 ) -> i32
-    ensures { result ≡ pos 0 → IsOkAnd made (λ text. IsHandedOut text.items output.old output.new length.new) }
+    requires { IfErr made (λ fault. is_of_memory fault ≡ true) }
+    ensures written { result ≡ pos 0 → (made ≡ Ok length.new) × (output.new ≡ output.old) }
+    ensures refused { result ≡ pos 1 → IsErrAnd made (λ fault. status_of fault ≡ 1) }
+    ensures only { IsStatus result }
 {
     match made {
-        Ok(text) => {
-            hand_out(text.as_slice(), output, length);
+        Ok(written) => {
+            *length = written;
             0
         }
         Err(fault) => {
             let text = format!(in alloc; "{fault}");
-            hand_out_fault(text, fault_status(&fault), output, length)
+            hand_out_fault(text, status(&fault), output, length)
         }
     }
 }

@@ -77,7 +77,7 @@ pub canonical_tokens : (s : List ℕ) (d : Data) → IsValue d → s ≡ text d 
 canonical_tokens s d v e =
     ap tokens (e ∙ sym (print-outline d)) ∙ tokens-print (json_tokens (outline d)) (ArePrintable-json_tokens (outline d) (HasNumbers-outline d v.0))
 
-canonical_value : (n : ℕ) (s : List ℕ) (d : Data) → IsValue d → depth d ≤ n → s ≡ text d → value n (tokens s) ≡ Some (outline d, [])
+pub canonical_value : (n : ℕ) (s : List ℕ) (d : Data) → IsValue d → depth d ≤ n → s ≡ text d → value n (tokens s) ≡ Some (outline d, [])
 canonical_value n s d v deep e =
     let shallow : tree.depth (outline d) ≤ n = omega (arith, deep, depth-outline d) in
     ap (value n) (canonical_tokens s d v e ∙ sym (append-nil _)) ∙ value-json_tokens (outline d) n [] shallow

@@ -56,11 +56,11 @@ or_last : (a b : Bool) → b ≡ true → (a || b) ≡ true
 or_last true b h = refl
 or_last false b h = h
 
-or_shift : (a b c : Bool) → (a || (b || c)) ≡ ((a || b) || c)
+pub or_shift : (a b c : Bool) → (a || (b || c)) ≡ ((a || b) || c)
 or_shift true b c = refl
 or_shift false b c = refl
 
-float-with_last : (ds : Items) (d : Data) → items_have_float (with_last d ds) ≡ (items_have_float ds || has_float d)
+pub float-with_last : (ds : Items) (d : Data) → items_have_float (with_last d ds) ≡ (items_have_float ds || has_float d)
 float-with_last no_items d = or_none (has_float d)
 float-with_last (item e ds) d = ap (λ b. has_float e || b) (float-with_last ds d) ∙ or_shift (has_float e) (items_have_float ds) (has_float d)
 

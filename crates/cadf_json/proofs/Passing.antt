@@ -24,7 +24,7 @@ abbrev pub with_last : Data → Items → Items
 with_last e no_items = item e no_items
 with_last e (item d ds) = item d (with_last e ds)
 
-followed-last : (ds : Items) (d : Data) (rest : Items) → followed ds (item d rest) ≡ followed (with_last d ds) rest
+pub followed-last : (ds : Items) (d : Data) (rest : Items) → followed ds (item d rest) ≡ followed (with_last d ds) rest
 followed-last no_items d rest = refl
 followed-last (item e ds) d rest = ap (item e) (followed-last ds d rest)
 

@@ -10,7 +10,7 @@ use Rattle.serde_json.specs.Data.{Data, Members, no_members, member, put}
 use Rattle.serde_json.specs.Written.{has_float, members_have_float}
 use Rattle.cadf_json.proofs.Orders.{greater-from_less, less-from_greater}
 
-same_name : (k l : List ℕ) → slice_cmp nat_cmp k l ≡ Equal → k ≡ l
+pub same_name : (k l : List ℕ) → slice_cmp nat_cmp k l ≡ Equal → k ≡ l
 same_name k l is = (bytes_eq-Decides k l).0 (sym (is_eq-slice_cmp k l) ∙ ap is_eq is)
 
 itself_at : (o : Ordering) (k : List ℕ) → slice_cmp nat_cmp k k ≡ o → slice_cmp nat_cmp k k ≡ Equal

@@ -1,15 +1,19 @@
 -- An object that is parsed member by member, and one list of it item by item.
-use Rattle.std.specs.Prelude.{◌≡◌, ℕ, List, ◌++◌, length, Bool, true, false, Some, None}
+use Rattle.std.specs.Prelude.{◌≡◌, ℕ, List, ◌++◌, length, Bool, true, false, not, Some, None}
+use Rattle.std.specs.Borrow.{Bor}
+use Rattle.std.specs.declared.string.String.{String}
+use Rattle.std.specs.declared.alloc.Global.{Global}
 use Rattle.json.specs.Token.{Token}
 use Rattle.json.specs.Json.{value, items, members}
-use Rattle.serde_json.specs.Data.{Data, array, object, Items, Members, no_members, put}
-use Rattle.serde_json.specs.Find.{get_member, get}
+use Rattle.serde_json.specs.Data.{Data, array, object, Items, Members, no_members, member, put}
+use Rattle.serde_json.specs.Find.{get_member}
 use Rattle.serde_json.specs.Read.{of_json, of_items, of_members, converted}
-use Rattle.serde_json.specs.Written.{items_have_float}
+use Rattle.serde_json.specs.Written.{items_have_float, members_have_float}
 use Rattle.cadf_json.specs.Parts.{to_list}
-use Rattle.cadf_json.specs.Value.{SpellsValue}
-use Rattle.cadf_json.specs.declared.streamed_object.StreamedObject.{StreamedObject}
-use Rattle.cadf_json.specs.declared.streamed_object.StreamedObject.TheVariants.{Around, Whole}
+use Rattle.cadf_json.specs.Rewritten.{is_one_of, without, all_members}
+use Rattle.cadf_json.specs.Spelling.{AreTexts}
+use Rattle.cadf_json.specs.Value.{SpellsValue, Rises}
+use Rattle.cadf_json.specs.declared.streamed_object.ObjectAround.{ObjectAround}
 
 -- the items were taken in turn
 abbrev pub AreTaken : {T : Type 0} → (T → List Data → Type 0) → T → T → Items → Type 0
@@ -38,9 +42,39 @@ AreAround {T} took old new name true ms depth ts rest =
 AreAround {T} took old new name false ms depth ts rest =
     (get_member name ms ≡ None) × AreMembersRead depth ts ms rest
 
--- The text spells an object. It is that of these members and, at the name, the list of the items that were taken in turn; or this one, and
--- no member has that name.
-abbrev pub IsSplit : {T : Type 0} → (T → List Data → Type 0) → T → T → List ℕ → List ℕ → StreamedObject → Type 0
-IsSplit {T} took old new text name (Around d) =
-    (ms : Members) × ((es : Items) × ((d ≡ object ms) × AreTaken took old new es × SpellsValue text (object (put name (array es) ms))))
-IsSplit {T} took old new text name (Whole d) = SpellsValue text d × (get name d ≡ None)
+-- those members, with the others in their places
+abbrev pub merged : Members → Members → Members
+merged no_members ms = ms
+merged (member k d us) ms = put k d (merged us ms)
+
+-- none has one of these names
+abbrev pub AreOthers : List (List ℕ) → Members → Type 0
+AreOthers names ms = all_members (λ k d. not (is_one_of names k)) ms ≡ true
+
+-- the texts are those of members with other names than these, and the members beside them have only these
+pub record AreBeside (names : List (List ℕ)) (texts : List (Bor (List ℕ) × String Global)) (others ms : Members) : Type 0 where
+  pub spelled : AreTexts texts others
+  pub rise : Rises others
+  pub away : AreOthers names others
+  pub named : without names ms ≡ no_members
+
+-- The members that the tokens begin with, as members and texts beside them. If a list was taken, it is among them at the name; otherwise none
+-- has that name.
+pub record AreSplit {T : Type 0} (took : T → List Data → Type 0) (old new : T) (name : List ℕ) (names : List (List ℕ)) (taken : Bool)
+    (texts : List (Bor (List ℕ) × String Global)) (ms : Members) (depth : ℕ) (ts rest : List Token) : Type 0 where
+  pub others : Members
+  pub beside : AreBeside names texts others ms
+  pub whole : members_have_float others ≡ false
+  pub around : AreAround took old new name taken (merged others ms) depth ts rest
+
+-- The text spells an object: that of the members of the tree and of the texts and, at the name, the list of the items that were taken in turn.
+pub record IsSplit {T : Type 0} (took : T → List Data → Type 0) (old new : T) (text name : List ℕ) (names : List (List ℕ)) (o : ObjectAround)
+    : Type 0 where
+  pub members : Members
+  pub others : Members
+  pub items : Items
+  pub in_tree : o.tree ≡ object members
+  pub rise : Rises members
+  pub beside : AreBeside names o.texts.entries others members
+  pub taken : AreTaken took old new items
+  pub spells : SpellsValue text (object (put name (array items) (merged others members)))

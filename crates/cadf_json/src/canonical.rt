@@ -89,7 +89,7 @@ fn are_members_ordered<'a>(reader: &mut Reader<'a>, depth: usize) -> bool
 }
 
 /// Returns whether the name is above the last one, if there is one.
-fn is_above(last: Option<&str>, name: &str) -> bool
+pub(crate) fn is_above(last: Option<&str>, name: &str) -> bool
     ensures { result ≡ is_name_above (option_map (λ s. s.now) last.entry) name.now }
 {
     match last {

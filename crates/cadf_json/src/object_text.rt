@@ -1,8 +1,8 @@
 //! Answers about the value of a canonical text, found among its tokens without building a tree.
 
-ghost use Rattle.std.specs.Prelude.{◌≡◌, IfOk, option_map};
+ghost use Rattle.std.specs.Prelude.{◌≡◌, IfOk, nat_le, option_map};
 ghost use Rattle.json.specs.Reads.{token_of};
-ghost use Rattle.serde_json.specs.Data.{Data};
+ghost use Rattle.serde_json.specs.Data.{Data, depth as nesting};
 ghost use Rattle.serde_json.specs.Find.{get};
 ghost use Rattle.cadf_json.specs.Parts.{is_object};
 ghost use Rattle.cadf_json.specs.Value.{IsValue, text as text_of};
@@ -33,6 +33,17 @@ pub fn has_text_at(alloc: Global, text: &str, name: &str, expected: &str) -> Res
         return Ok(false);
     }
     Ok(finds_text(&mut reader, name, expected))
+}
+
+/// Returns whether the value of a canonical text nests at most `depth` deep. The scratch keeps the parser's memory.
+pub fn nests_within(scratch: &mut Scratch, text: &str, depth: u8) -> Result<bool, Memory>
+    ensures { IfOk result (λ b. (d : Data) → IsValue d → text.now ≡ text_of d → b ≡ nat_le (nesting d) depth) }
+{
+    let mut reader = Reader::new(text, scratch)?;
+    match reader.skip_value(usize::from(depth)) {
+        Ok(()) => Ok(true),
+        Err(_) => Ok(false),
+    }
 }
 
 /// Returns whether the next members have this text at that name.

@@ -108,7 +108,7 @@ fn counted_with<'a>(
 }
 
 // Returns whether the number has a fraction, or is out of range. `NeedsFullParse` if it has no value.
-fn is_fraction(alloc: Global, text: &str) -> Result<bool, TreeFault>
+pub(crate) fn is_fraction(alloc: Global, text: &str) -> Result<bool, TreeFault>
     requires { IsNumber text.now }
     ensures { IfOk result (IsNumberPassed text.now) }
 {

@@ -1,17 +1,21 @@
 //! A streaming parser of an object: a visitor takes the items of one list, each of which is dropped.
-ghost use Rattle.std.specs.Prelude.{◌≡◌, ◌<◌, ◌≤◌, ◌++◌, ◌∷◌, [], List, length, Some, IfOk, OnOk};
+ghost use Rattle.std.specs.Prelude.{◌≡◌, ◌<◌, ◌≤◌, ◌++◌, ◌∷◌, [], List, length, true, Some, IfOk, IfSome, OnOk};
 ghost use Rattle.json.specs.Json.{value, members};
 ghost use Rattle.json.specs.Value.{members_view};
 ghost use Rattle.serde_json.specs.Data.{Data, Items, array, no_members, put};
 ghost use Rattle.serde_json.specs.Read.{of_members, converted};
 ghost use Rattle.cadf_json.specs.Tree.{named_in, AreMembersWithin};
-ghost use Rattle.cadf_json.specs.StreamedObjects.{PassesItems, PassesList, AreAround, IsSplit};
+ghost use Rattle.cadf_json.specs.Rewritten.{is_one_of, texts_of};
+ghost use Rattle.cadf_json.specs.StreamedObjects.{PassesItems, PassesList, AreSplit, IsSplit};
 
 use crate::read::{TreeFault, put_member, read};
+use crate::rewrite::is_listed;
+use crate::spelling::read_text;
 use crate::tree::Tree;
 use crate::view::View;
 use json::{Reader, Scratch, Token, Value};
 use std::alloc::Global;
+use std::collections::BTreeMap;
 
 const MEMBER_DEPTH: usize = 126;
 
@@ -66,10 +70,12 @@ fn pass_list<'a, T: ItemVisitor>(
     Ok(())
 }
 
-/// The members of an object, and whether one of them is an empty list in place of a list that was taken.
+/// The members of an object, as a tree those of some names, as canonical texts the others, and whether one of them is an
+/// empty list in place of a list that was taken.
 #[derive(Drop)]
 struct MembersAround<'a> {
     members: Vec<(&'a str, Value<'a>)>,
+    texts: BTreeMap<&'a str, String>,
     taken: bool,
 }
 
@@ -79,23 +85,34 @@ fn read_around<'a, T: ItemVisitor>(
     reader: &mut Reader<'a>,
     depth: usize,
     name: &str,
+    in_tree: &[&str],
     taker: &mut T,
 ) -> Result<MembersAround<'a>, TreeFault>
-    requires { (1 ≤ depth) × (depth ≤ 127) }
-    ensures ok { IfOk result (λ a. AreAround T.took taker.old taker.new name.now a.taken
+    requires depth { (1 ≤ depth) × (depth ≤ 127) }
+    requires named { is_one_of (texts_of in_tree.now) name.now ≡ true }
+    ensures ok { IfOk result (λ a. AreSplit T.took taker.old taker.new name.now (texts_of in_tree.now) a.taken a.texts.entries
         (named_in (members_view a.members.items)) depth reader.old reader.new) }
     ensures within { IfOk result (λ a. AreMembersWithin depth (members_view a.members.items)) }
 {
     let mut members = Vec::new(alloc);
+    let mut texts: BTreeMap<&'a str, String> = BTreeMap::new(alloc);
+    let mut buffer = Vec::new(alloc);
     let mut taken = false;
     'members: loop {
         let Ok(key) = reader.next_key() else {
             return Err(TreeFault::NeedsFullParse);
         };
         let Some(key) = key else {
-            return Ok(MembersAround { members, taken });
+            return Ok(MembersAround {
+                members,
+                texts,
+                taken,
+            });
         };
-        if key != name {
+        if !is_listed(in_tree, key) {
+            let text = read_text(alloc, reader, depth, &mut buffer)?;
+            texts.insert(key, text)?;
+        } else if key != name {
             let member = read(alloc, reader, depth)?;
             put_member(&mut members, key, member, depth)?;
         } else if taken {
@@ -108,37 +125,42 @@ fn read_around<'a, T: ItemVisitor>(
     }
 }
 
-/// The object that was read, with or without the list that the visitor took.
+/// The object that was read, without the items of the list that the visitor took.
 #[derive(Drop)]
-pub enum StreamedObject<'a> {
-    /// The object with an empty list in place of the one whose items the visitor took.
-    Around(Tree<'a>),
-    /// The whole object, which has no member of that name.
-    Whole(Tree<'a>),
+pub struct ObjectAround<'a> {
+    /// The members of the given names, with an empty list in place of the one that was taken.
+    pub tree: Tree<'a>,
+    /// The canonical texts of the other members, by their names.
+    pub texts: BTreeMap<&'a str, String>,
 }
 
-/// Reads the object that the text encodes. If it has a member of that name, this is a list, and the visitor
-/// takes its items in turn. `NeedsFullParse` for any other text.
+/// Reads the object that the text encodes: a tree of the members whose names are in `in_tree`, and the canonical texts
+/// of all others. If it has a member `name`, which is one of these names, this is a list, and the visitor takes its
+/// items in turn. `None` for an object without that member. `NeedsFullParse` for any other text.
 pub fn read_object_streaming<'a, T: ItemVisitor>(
     alloc: Global,
     text: &'a str,
     scratch: &'a mut Scratch,
     name: &str,
+    in_tree: &[&str],
     taker: &mut T,
-) -> Result<StreamedObject<'a>, TreeFault>
-    ensures ok { IfOk result (λ s. IsSplit T.took taker.old taker.new text.now name.now s) }
+) -> Result<Option<ObjectAround<'a>>, TreeFault>
+    requires { is_one_of (texts_of in_tree.now) name.now ≡ true }
+    ensures ok { IfOk result (λ found. IfSome found (IsSplit T.took taker.old taker.new text.now name.now (texts_of in_tree.now))) }
 {
     let mut reader = Reader::new(text, scratch)?;
     let Some(Token::BeginObject) = reader.next() else {
         return Err(TreeFault::NeedsFullParse);
     };
-    let around = read_around(alloc, &mut reader, MEMBER_DEPTH, name, taker)?;
+    let around = read_around(alloc, &mut reader, MEMBER_DEPTH, name, in_tree, taker)?;
     if reader.next().is_some() {
         return Err(TreeFault::NeedsFullParse);
     }
-    let tree = Tree::of_members(around.members);
-    if around.taken {
-        return Ok(StreamedObject::Around(tree));
+    if !around.taken {
+        return Ok(None);
     }
-    Ok(StreamedObject::Whole(tree))
+    Ok(Some(ObjectAround {
+        tree: Tree::of_members(around.members),
+        texts: around.texts,
+    }))
 }

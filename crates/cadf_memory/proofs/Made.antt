@@ -1,5 +1,5 @@
--- What a run on bytes in memory made of them.
-use Rattle.std.proofs.Common.{◌≡◌, ℕ, List, [], ◌∷◌, map, Option, Some, IfSome, Result, Ok, Err, subst}
+-- What a run on bytes in memory hands out in a buffer.
+use Rattle.std.proofs.Common.{◌≡◌, ℕ, List, [], ◌∷◌, ◌++◌, length, map, Option, Some, IfSome, Result, Ok, Err, refl, ap, ◌∙◌, subst}
 use Rattle.std.proofs.KnownBytes.{Consumes-whole}
 use Rattle.std.specs.Io.KnownBytes.{Appends}
 use Rattle.cadf_json.specs.declared.stream.Sink.{Ghosts as Sink}
@@ -17,12 +17,18 @@ use Rattle.cadf_tool.specs.Run.{
   input_spec,
   IsReadAs,
   AreLoaded,
+  IsExpectedOfBy,
   IsExpectedOf,
   IsWritten,
   IsAnswer,
+  IsRunBy,
   IsRun,
 }
-use Rattle.cadf_memory.specs.Made.{IsMadeOf, IsMadeOfTwo, IsMadeOfAll, AreInputs}
+use Rattle.cadf_memory.specs.declared.buffer.Buffer.{Buffer}
+use Rattle.cadf_memory.specs.Buffers.{buffer_name, buffer_before, buffer_text}
+use Rattle.cadf_memory.specs.Handed.{handed, IsHandedOut}
+use Rattle.cadf_memory.specs.Made.{IsMadeOf, IsMadeOfTwoBy, IsMadeOfAll, AreInputs}
+use Rattle.cadf_memory.proofs.Framed.{frame, name_kept, before_kept, text_added}
 
 -- what was read of bytes that are known is what they are
 read_of : {T : Type 0} (reader : InputSpec T) (t : SourceTransition) (bytes : List ℕ) → t.old.left ≡ Some bytes
@@ -64,60 +70,81 @@ are_inputs (o ∷ os) (n ∷ ns) (b ∷ bs) (l ∷ ls) e h = (
 
 -- ---- runs
 
-module _ {M W V : Type 0} (tell : M → Text) (sink : Sink W) (old new : W) (text : List ℕ) (v : V)
-    (none : sink.written old ≡ Some []) (all_of_it : sink.written new ≡ Some text) where
-  told_of : (made : M) → IsWritten sink old new (tell made) (Ok v) → text ≡ tell made
-  told_of made w =
-      subst (λ (x : Option (List ℕ)). Appends x (Some text) (tell made)) none
-      (subst (λ (y : Option (List ℕ)). Appends (sink.written old) y (tell made)) all_of_it w.whole)
-
+-- the sink is the buffer b, to which nothing was written, then c; the caller's bytes are those of c again, if it kept them
+module _ {M W V : Type 0} (tell : M → Text) (sink : Sink W) (old new : W) (v : V) (b c : Buffer)
+    (was : sink.written old ≡ Some (frame b)) (is : sink.written new ≡ Some (frame c))
+    (first last : List ℕ) (told : ℕ) (before : buffer_before b ≡ first) (empty : buffer_text b ≡ [])
+    (count : told ≡ length (buffer_text c)) (back : buffer_name c ≡ buffer_name b → last ≡ c.output.now) where
   never : (fault : ToolFault) → ◌≡◌ {A = Result V ToolFault} (Ok v) (Err fault) → ⊥
   never fault e = cc
+
+  whole : (text : Text) → IsWritten {T = V} sink old new text (Ok v) → frame c ≡ frame b ++ text
+  whole text w =
+      subst (λ (x : Option (List ℕ)). Appends x (Some (frame c)) text) was
+      (subst (λ (y : Option (List ℕ)). Appends (sink.written old) y text) is w.whole)
+
+  out : (P : Text → Type 0) (text : Text) → IsWritten {T = V} sink old new text (Ok v) → P text → IsHandedOut P first last told
+  out P text w p =
+      let grown : frame c ≡ frame b ++ text = whole text w in
+      let same : buffer_text c ≡ text = text_added b c text grown ∙ ap (λ (t : List ℕ). t ++ text) empty in
+      record {
+        text = text;
+        made = p;
+        fits = back (name_kept b c text grown) ∙ c.fits ∙ ap (λ (t : List ℕ). handed t (buffer_before c)) same
+            ∙ ap (handed text) (before_kept b c text grown ∙ before);
+        all = count ∙ ap length same;
+      }
 
   module _ {T : Type 0} (reader : InputSpec T) (work : T → Result M ToolFault) (t : SourceTransition) (bytes : List ℕ)
       (given : t.old.left ≡ Some bytes) where
     of_expected : (expected : Result M ToolFault) → IsExpectedOf (one reader t) work expected
-        → IsAnswer tell sink old new expected (Ok v) → IsMadeOf reader work tell bytes text
+        → IsAnswer tell sink old new expected (Ok v) → IsHandedOut (IsMadeOf reader work tell bytes) first last told
     of_expected (Ok made) (value, are, e) w =
-        record { value = value; input = read_of reader t bytes given value are; made = made; worked = e; told = told_of made w }
+        out (IsMadeOf reader work tell bytes) (tell made) w
+        (record { value = value; input = read_of reader t bytes given value are; made = made; worked = e; told = refl })
     of_expected (Err fault) d w = absurd (never fault w.0)
 
-    pub run_made : IsRun (one reader t) work tell sink old new (Ok v) → IsMadeOf reader work tell bytes text
+    pub run_made : IsRun (one reader t) work tell sink old new (Ok v)
+        → IsHandedOut (IsMadeOf reader work tell bytes) first last told
     run_made r = of_expected r.expected r.first.is r.answer
 
-  module _ {T U : Type 0} (reader : InputSpec T) (other : InputSpec U) (work : T × U → Result M ToolFault)
+  module _ {T U : Type 0} (reader : InputSpec T) (other : InputSpec U) (work : T × U → Result M ToolFault → Type 0)
       (t u : SourceTransition) (from to : List ℕ) (given : t.old.left ≡ Some from) (given' : u.old.left ≡ Some to) where
-    of_expected_two : (expected : Result M ToolFault) → IsExpectedOf (two reader t other u) work expected
-        → IsAnswer tell sink old new expected (Ok v) → IsMadeOfTwo reader other work tell from to text
+    of_expected_two : (expected : Result M ToolFault) → IsExpectedOfBy (two reader t other u) work expected
+        → IsAnswer tell sink old new expected (Ok v)
+        → IsHandedOut (IsMadeOfTwoBy reader other work tell from to) first last told
     of_expected_two (Ok made) (a, are, e) w =
-        record {
+        out (IsMadeOfTwoBy reader other work tell from to) (tell made) w
+        (record {
           first = a.0;
           input = read_of reader t from given a.0 are.0;
           second = a.1;
           following = read_of other u to given' a.1 are.1;
           made = made;
           worked = e;
-          told = told_of made w;
-        }
+          told = refl;
+        })
     of_expected_two (Err fault) d w = absurd (never fault w.0)
 
-    pub run_made_two : IsRun (two reader t other u) work tell sink old new (Ok v)
-        → IsMadeOfTwo reader other work tell from to text
+    pub run_made_two : IsRunBy (two reader t other u) work tell sink old new (Ok v)
+        → IsHandedOut (IsMadeOfTwoBy reader other work tell from to) first last told
     run_made_two r = of_expected_two r.expected r.first.is r.answer
 
   module _ {S : Type 0} (source : Source S) (work : List Loaded → Result M ToolFault) (ss rs : List S)
       (inputs : List (List ℕ)) (given : map left_of (map (source_state source) ss) ≡ map Some inputs) where
     of_expected_all : (expected : Result M ToolFault) → IsExpectedOf (all source ss rs) work expected
-        → IsAnswer tell sink old new expected (Ok v) → IsMadeOfAll work tell inputs text
+        → IsAnswer tell sink old new expected (Ok v) → IsHandedOut (IsMadeOfAll work tell inputs) first last told
     of_expected_all (Ok made) (ls, are, e) w =
-        record {
+        out (IsMadeOfAll work tell inputs) (tell made) w
+        (record {
           loaded = ls;
           are = are_inputs (map (source_state source) ss) (map (source_state source) rs) inputs ls given are;
           made = made;
           worked = e;
-          told = told_of made w;
-        }
+          told = refl;
+        })
     of_expected_all (Err fault) d w = absurd (never fault w.0)
 
-    pub run_made_all : IsRun (all source ss rs) work tell sink old new (Ok v) → IsMadeOfAll work tell inputs text
+    pub run_made_all : IsRun (all source ss rs) work tell sink old new (Ok v)
+        → IsHandedOut (IsMadeOfAll work tell inputs) first last told
     run_made_all r = of_expected_all r.expected r.first.is r.answer

@@ -26,18 +26,20 @@ use Rattle.cadf_tool.specs.Run.{
   one,
   two,
   all,
-  IsUnfailed,
+  IsValue,
+  IsFirstFaultBy,
   IsFirstFault,
-  IsExpectedOf,
+  IsExpectedOfBy,
   IsAnswer,
+  IsRunBy,
   IsRun,
 }
 use Rattle.cadf_tool.proofs.LoadedLists.{none_failed}
-use Rattle.cadf_memory.specs.Refused.{unwritten_of, seen_as, NoReadFailed, IsFirstOf, IsFirstOfTwo, IsFirstOfAll}
+use Rattle.cadf_memory.specs.Refused.{unwritten_of, seen_as, NoReadFailed, IsFirstOf, IsFirstOfTwoBy, IsFirstOfAll}
 
-module _ {A M : Type 0} (sources : Sources A) (work : A → Result M ToolFault) where
+module _ {A M : Type 0} (sources : Sources A) (work : A → Result M ToolFault → Type 0) where
   abbrev IsFirst : ToolFault → Type 0
-  IsFirst fault = IsFirstFault sources work fault (fault_stage fault)
+  IsFirst fault = IsFirstFaultBy sources work fault (fault_stage fault)
 
   -- what comes first is no failed write, and is answered as it is
   kept : (fault : ToolFault) → IsFirst fault → IsFirst (unwritten_of fault)
@@ -62,12 +64,12 @@ module _ {A M : Type 0} (sources : Sources A) (work : A → Result M ToolFault) 
     same_fault : (f : ToolFault) → ◌≡◌ {A = Result V ToolFault} (Err fault) (Err f) → fault ≡ f
     same_fault f e = cc
 
-    first_at : (expected : Result M ToolFault) → IsExpectedOf sources work expected
+    first_at : (expected : Result M ToolFault) → IsExpectedOfBy sources work expected
         → IsAnswer {T = V} tell sink old new expected (Err fault) → IsFirst (unwritten_of fault)
     first_at (Ok made) (a, are, e) w = starved (read a are) fault w.only
     first_at (Err f) d w = subst (λ (f : ToolFault). IsFirst (unwritten_of f)) (sym (same_fault f w.0)) (kept f d)
 
-    pub first_of : IsRun {T = V} sources work tell sink old new (Err fault) → IsFirst (unwritten_of fault)
+    first_of : IsRunBy {T = V} sources work tell sink old new (Err fault) → IsFirst (unwritten_of fault)
     first_of r = first_at r.expected r.first.is r.answer
 
 -- however often the sources were read
@@ -82,30 +84,35 @@ module _ {S M : Type 0} (source : Source S) (ss rs : List S) (work : List Loaded
 module _ {M W V : Type 0} (tell : M → Text) (sink : Sink W) (old new : W) (fault result : ToolFault)
     (answered : result ≡ unwritten_of fault) where
   pub run_refused : {T : Type 0} (reader : InputSpec T) (work : T → Result M ToolFault) (t : SourceTransition) (bytes : List ℕ)
-      → t.old.left ≡ Some bytes → IsUnfailed t → IsRun {T = V} (one reader t) work tell sink old new (Err fault)
+      → t.old.left ≡ Some bytes → t.old.failures ≡ 0 → t.new.failures ≡ 0
+      → IsRun {T = V} (one reader t) work tell sink old new (Err fault)
       → IsFirstOf reader work bytes result
-  run_refused reader work t bytes given unfailed r =
+  run_refused reader work t bytes given before after r =
       subst (λ (f : ToolFault). IsFirstOf reader work bytes f) (sym answered)
       (record {
         source = t;
         left = given;
-        unfailed = unfailed;
-        first = first_of (one reader t) work V tell sink old new fault (λ a are. are.1) r;
+        before = before;
+        after = after;
+        first = first_of (one reader t) (IsValue work) V tell sink old new fault (λ a are. are.1) r;
       })
 
-  pub run_refused_two : {T U : Type 0} (reader : InputSpec T) (other : InputSpec U) (work : T × U → Result M ToolFault)
-      (t u : SourceTransition) (from to : List ℕ) → t.old.left ≡ Some from → u.old.left ≡ Some to → IsUnfailed t → IsUnfailed u
-      → IsRun {T = V} (two reader t other u) work tell sink old new (Err fault)
-      → IsFirstOfTwo reader other work from to result
-  run_refused_two reader other work t u from to given given' unfailed unfailed' r =
-      subst (λ (f : ToolFault). IsFirstOfTwo reader other work from to f) (sym answered)
+  pub run_refused_two : {T U : Type 0} (reader : InputSpec T) (other : InputSpec U) (work : T × U → Result M ToolFault → Type 0)
+      (t u : SourceTransition) (from to : List ℕ) → t.old.left ≡ Some from → u.old.left ≡ Some to
+      → t.old.failures ≡ 0 → t.new.failures ≡ 0 → u.old.failures ≡ 0 → u.new.failures ≡ 0
+      → IsRunBy {T = V} (two reader t other u) work tell sink old new (Err fault)
+      → IsFirstOfTwoBy reader other work from to result
+  run_refused_two reader other work t u from to given given' before after before' after' r =
+      subst (λ (f : ToolFault). IsFirstOfTwoBy reader other work from to f) (sym answered)
       (record {
         source = t;
         left = given;
-        unfailed = unfailed;
+        before = before;
+        after = after;
         following = u;
         following_left = given';
-        following_unfailed = unfailed';
+        following_before = before';
+        following_after = after';
         first = first_of (two reader t other u) work V tell sink old new fault (λ a are. (are.0.1, are.1.1)) r;
       })
 
@@ -122,6 +129,6 @@ module _ {M W V : Type 0} (tell : M → Text) (sink : Sink W) (old new : W) (fau
         before = before;
         after = after;
         first = seen_at source ss rs work (unwritten_of fault) (fault_stage (unwritten_of fault))
-            (first_of (all source ss rs) work V tell sink old new fault
+            (first_of (all source ss rs) (IsValue work) V tell sink old new fault
             (λ ls are. none_failed (map (source_state source) ss) (map (source_state source) rs) ls are) r);
       })

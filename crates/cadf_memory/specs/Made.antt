@@ -1,13 +1,13 @@
 -- What an engine makes of bytes in memory.
 --     IsMadeOf reader work tell bytes text              the bytes are what is read, and the text is what is told of the work on it
---     IsMadeOfTwo reader other work tell from to text   the same of two inputs
+--     IsMadeOfTwo reader other work tell from to text   the same of two inputs; `By`: of a work that is a relation
 --     IsMadeOfAll work tell inputs text                 the same of a list of inputs
 use Rattle.std.specs.Prelude.{◌≡◌, ℕ, List, [], ◌∷◌, Result, Ok}
 use Rattle.cadf_join.specs.Contents.{Text}
 use Rattle.cadf_tool.specs.declared.input.Loaded.{Loaded}
 use Rattle.cadf_tool.specs.declared.fault.ToolFault.{ToolFault}
 use Rattle.cadf_tool.specs.Input.{IsInput}
-use Rattle.cadf_tool.specs.Run.{InputSpec}
+use Rattle.cadf_tool.specs.Run.{InputSpec, IsValue}
 
 pub record IsMadeOf {T M : Type 0} (reader : InputSpec T) (work : T → Result M ToolFault) (tell : M → Text)
     (bytes : List ℕ) (text : Text) : Type 0 where
@@ -17,15 +17,19 @@ pub record IsMadeOf {T M : Type 0} (reader : InputSpec T) (work : T → Result M
   pub worked : work value ≡ Ok made
   pub told : text ≡ tell made
 
-pub record IsMadeOfTwo {T U M : Type 0} (reader : InputSpec T) (other : InputSpec U) (work : T × U → Result M ToolFault)
-    (tell : M → Text) (from to : List ℕ) (text : Text) : Type 0 where
+pub record IsMadeOfTwoBy {T U M : Type 0} (reader : InputSpec T) (other : InputSpec U)
+    (work : T × U → Result M ToolFault → Type 0) (tell : M → Text) (from to : List ℕ) (text : Text) : Type 0 where
   pub first : T
   pub input : reader.is from first
   pub second : U
   pub following : other.is to second
   pub made : M
-  pub worked : work (first, second) ≡ Ok made
+  pub worked : work (first, second) (Ok made)
   pub told : text ≡ tell made
+
+abbrev pub IsMadeOfTwo : {T U M : Type 0} → InputSpec T → InputSpec U → (T × U → Result M ToolFault) → (M → Text)
+    → List ℕ → List ℕ → Text → Type 0
+IsMadeOfTwo reader other work tell from to text = IsMadeOfTwoBy reader other (IsValue work) tell from to text
 
 -- the bytes in each place are the input in that place
 abbrev pub AreInputs : List (List ℕ) → List Loaded → Type 0

@@ -1,5 +1,6 @@
-//! Each engine over bytes. What it answers is the text that it tells of the bytes, or the first refusal.
-ghost use Rattle.std.specs.Prelude.{◌≡◌, IfOk, IfErr, map, encode_utf8};
+//! Each engine over bytes. It writes the text that it tells of the bytes to a buffer, as far as there is room, and returns
+//! how long it is; or it answers the first refusal.
+ghost use Rattle.std.specs.Prelude.{◌≡◌, true, IfOk, IfErr, map, encode_utf8};
 ghost use Rattle.cadf_file.specs.InventoryFile.{inventory_file};
 ghost use Rattle.cadf_tool.specs.Run.{input_spec};
 ghost use Rattle.cadf_tool.specs.InventoryInput.{inventory_spec};
@@ -7,125 +8,189 @@ ghost use Rattle.cadf_tool.specs.Told.{replica_model_of};
 ghost use Rattle.cadf_tool.specs.Shown.{shown_text, checked_text};
 ghost use Rattle.cadf_tool.specs.Missing.{part_of};
 ghost use Rattle.cadf_tool.specs.MissingBy.{inventory_model_of, part_by};
+ghost use Rattle.cadf_sketch.specs.SketchFile.{sketch_file};
+ghost use Rattle.cadf_tool.specs.Sketch.{sketch_model_of, IsPartBySketch};
+ghost use Rattle.cadf_tool.specs.SketchInput.{sketch_spec};
 ghost use Rattle.cadf_tool.specs.Rule.{ruled_of};
 ghost use Rattle.cadf_tool.specs.Rehearse.{script_spec, final_sites};
 ghost use Rattle.cadf_tool.specs.Sites.{sites_text};
 ghost use Rattle.cadf_tool.specs.Join.{join_of};
 ghost use Rattle.cadf_tool.specs.WrittenFile.{file};
 ghost use Rattle.cadf_memory.specs.Memory.{bytes_of, slice_left};
-ghost use Rattle.cadf_memory.specs.Made.{IsMadeOf, IsMadeOfTwo, IsMadeOfAll};
-ghost use Rattle.cadf_memory.specs.Refused.{IsFirstOf, IsFirstOfTwo, IsFirstOfAll};
+ghost use Rattle.cadf_memory.specs.Handed.{IsHandedOut};
+ghost use Rattle.cadf_memory.specs.Made.{IsMadeOf, IsMadeOfTwo, IsMadeOfTwoBy, IsMadeOfAll};
+ghost use Rattle.cadf_memory.specs.Refused.{is_of_memory, IsFirstOf, IsFirstOfTwo, IsFirstOfTwoBy, IsFirstOfAll};
 
+use crate::buffer::Buffer;
 use crate::output::unwritten;
 use crate::slice_source::SliceSource;
-use crate::vec_sink::VecSink;
 use cadf_event::Name;
+use cadf_sketch::{Cells, Salt};
 use cadf_tool::{
-    ToolFault, run_check, run_inventory, run_join, run_missing, run_missing_by, run_rehearse,
-    run_rule, run_show,
+    ToolFault, run_check, run_inventory, run_join, run_missing, run_missing_by,
+    run_missing_by_sketch, run_rehearse, run_rule, run_show, run_sketch,
 };
 use std::alloc::{AllocError as Memory, Global};
 
-/// Returns the log that the input tells, or with `conflicts` the list of its conflicts.
-pub fn show(alloc: Global, conflicts: bool, input: &[u8]) -> Result<Vec<u8>, ToolFault>
-    ensures ok { IfOk result (λ text. IsMadeOf input_spec replica_model_of (shown_text conflicts) input.now text.items) }
+/// Writes the log that the input tells, or with `conflicts` the list of its conflicts.
+pub fn show(
+    alloc: Global,
+    conflicts: bool,
+    input: &[u8],
+    output: &mut [u8],
+) -> Result<usize, ToolFault>
+    ensures ok { IfOk result (IsHandedOut (IsMadeOf input_spec replica_model_of (shown_text conflicts) input.now) output.old output.new) }
     ensures err { IfErr result (λ fault. IsFirstOf input_spec replica_model_of input.now fault) }
+    ensures only { IfErr result (λ fault. is_of_memory fault ≡ true) }
 {
     let mut source = SliceSource::new(input);
-    let mut sink = VecSink::new(alloc);
-    match run_show(alloc, conflicts, &mut source, &mut sink) {
-        Ok(()) => Ok(sink.into_bytes()),
+    let mut buffer = Buffer::new(output);
+    match run_show(alloc, conflicts, &mut source, &mut buffer) {
+        Ok(()) => Ok(buffer.length()),
         Err(fault) => Err(unwritten(fault)),
     }
 }
 
-/// Returns the line that tells what the input holds.
-pub fn check(alloc: Global, input: &[u8]) -> Result<Vec<u8>, ToolFault>
-    ensures ok { IfOk result (λ text. IsMadeOf input_spec replica_model_of checked_text input.now text.items) }
+/// Writes the line that tells what the input holds.
+pub fn check(alloc: Global, input: &[u8], output: &mut [u8]) -> Result<usize, ToolFault>
+    ensures ok { IfOk result (IsHandedOut (IsMadeOf input_spec replica_model_of checked_text input.now) output.old output.new) }
     ensures err { IfErr result (λ fault. IsFirstOf input_spec replica_model_of input.now fault) }
+    ensures only { IfErr result (λ fault. is_of_memory fault ≡ true) }
 {
     let mut source = SliceSource::new(input);
-    let mut sink = VecSink::new(alloc);
-    match run_check(alloc, &mut source, &mut sink) {
-        Ok(()) => Ok(sink.into_bytes()),
+    let mut buffer = Buffer::new(output);
+    match run_check(alloc, &mut source, &mut buffer) {
+        Ok(()) => Ok(buffer.length()),
         Err(fault) => Err(unwritten(fault)),
     }
 }
 
-/// Returns the inventory file of the input.
-pub fn inventory(alloc: Global, input: &[u8]) -> Result<Vec<u8>, ToolFault>
-    ensures ok { IfOk result (λ text. IsMadeOf input_spec inventory_model_of inventory_file input.now text.items) }
+/// Writes the inventory file of the input.
+pub fn inventory(alloc: Global, input: &[u8], output: &mut [u8]) -> Result<usize, ToolFault>
+    ensures ok { IfOk result (IsHandedOut (IsMadeOf input_spec inventory_model_of inventory_file input.now) output.old output.new) }
     ensures err { IfErr result (λ fault. IsFirstOf input_spec inventory_model_of input.now fault) }
+    ensures only { IfErr result (λ fault. is_of_memory fault ≡ true) }
 {
     let mut source = SliceSource::new(input);
-    let mut sink = VecSink::new(alloc);
-    match run_inventory(alloc, &mut source, &mut sink) {
-        Ok(()) => Ok(sink.into_bytes()),
+    let mut buffer = Buffer::new(output);
+    match run_inventory(alloc, &mut source, &mut buffer) {
+        Ok(()) => Ok(buffer.length()),
         Err(fault) => Err(unwritten(fault)),
     }
 }
 
-/// Returns the replica file of the input with one ruling more, for the value at that place of the key's values.
+/// Writes the replica file of the input with one ruling more, for the value at that place of the key's values.
 pub fn rule(
     alloc: Global,
     letter: char,
     key: &Name,
     place: u64,
     input: &[u8],
-) -> Result<Vec<u8>, ToolFault>
-    ensures ok { IfOk result (λ text. IsMadeOf input_spec (ruled_of (encode_utf8 letter) key.now place) file input.now text.items) }
+    output: &mut [u8],
+) -> Result<usize, ToolFault>
+    ensures ok { IfOk result (IsHandedOut (IsMadeOf input_spec (ruled_of (encode_utf8 letter) key.now place) file input.now) output.old output.new) }
     ensures err { IfErr result (λ fault. IsFirstOf input_spec (ruled_of (encode_utf8 letter) key.now place) input.now fault) }
+    ensures only { IfErr result (λ fault. is_of_memory fault ≡ true) }
 {
     let mut source = SliceSource::new(input);
-    let mut sink = VecSink::new(alloc);
-    match run_rule(alloc, letter, key, place, &mut source, &mut sink) {
-        Ok(()) => Ok(sink.into_bytes()),
+    let mut buffer = Buffer::new(output);
+    match run_rule(alloc, letter, key, place, &mut source, &mut buffer) {
+        Ok(()) => Ok(buffer.length()),
         Err(fault) => Err(unwritten(fault)),
     }
 }
 
-/// Returns a line for each site of the log after the schedule of the script.
+/// Writes a line for each site of the log after the schedule of the script.
 pub fn rehearse(
     alloc: Global,
     log: &Name,
     sites: usize,
     script: &[u8],
-) -> Result<Vec<u8>, ToolFault>
-    ensures ok { IfOk result (λ text. IsMadeOf script_spec (final_sites log.now sites) sites_text script.now text.items) }
+    output: &mut [u8],
+) -> Result<usize, ToolFault>
+    ensures ok { IfOk result (IsHandedOut (IsMadeOf script_spec (final_sites log.now sites) sites_text script.now) output.old output.new) }
     ensures err { IfErr result (λ fault. IsFirstOf script_spec (final_sites log.now sites) script.now fault) }
+    ensures only { IfErr result (λ fault. is_of_memory fault ≡ true) }
 {
     let mut source = SliceSource::new(script);
-    let mut sink = VecSink::new(alloc);
-    match run_rehearse(alloc, log, sites, &mut source, &mut sink) {
-        Ok(()) => Ok(sink.into_bytes()),
+    let mut buffer = Buffer::new(output);
+    match run_rehearse(alloc, log, sites, &mut source, &mut buffer) {
+        Ok(()) => Ok(buffer.length()),
         Err(fault) => Err(unwritten(fault)),
     }
 }
 
-/// Returns the replica file of what `to` lacks of `from`. Inputs count from 1: `from` is the first.
-pub fn missing(alloc: Global, from: &[u8], to: &[u8]) -> Result<Vec<u8>, ToolFault>
-    ensures ok { IfOk result (λ text. IsMadeOfTwo input_spec input_spec part_of file from.now to.now text.items) }
+/// Writes the replica file of what `to` lacks of `from`. Inputs count from 1: `from` is the first.
+pub fn missing(alloc: Global, from: &[u8], to: &[u8], output: &mut [u8]) -> Result<usize, ToolFault>
+    ensures ok { IfOk result (IsHandedOut (IsMadeOfTwo input_spec input_spec part_of file from.now to.now) output.old output.new) }
     ensures err { IfErr result (λ fault. IsFirstOfTwo input_spec input_spec part_of from.now to.now fault) }
+    ensures only { IfErr result (λ fault. is_of_memory fault ≡ true) }
 {
     let mut first = SliceSource::new(from);
     let mut second = SliceSource::new(to);
-    let mut sink = VecSink::new(alloc);
-    match run_missing(alloc, &mut first, &mut second, &mut sink) {
-        Ok(()) => Ok(sink.into_bytes()),
+    let mut buffer = Buffer::new(output);
+    match run_missing(alloc, &mut first, &mut second, &mut buffer) {
+        Ok(()) => Ok(buffer.length()),
         Err(fault) => Err(unwritten(fault)),
     }
 }
 
-/// Returns the replica file of what `from` has beyond the inventory. Inputs count from 1: `from` is the first.
-pub fn missing_by(alloc: Global, from: &[u8], inventory: &[u8]) -> Result<Vec<u8>, ToolFault>
-    ensures ok { IfOk result (λ text. IsMadeOfTwo input_spec inventory_spec part_by file from.now inventory.now text.items) }
+/// Writes the replica file of what `from` has beyond the inventory. Inputs count from 1: `from` is the first.
+pub fn missing_by(
+    alloc: Global,
+    from: &[u8],
+    inventory: &[u8],
+    output: &mut [u8],
+) -> Result<usize, ToolFault>
+    ensures ok { IfOk result (IsHandedOut (IsMadeOfTwo input_spec inventory_spec part_by file from.now inventory.now) output.old output.new) }
     ensures err { IfErr result (λ fault. IsFirstOfTwo input_spec inventory_spec part_by from.now inventory.now fault) }
+    ensures only { IfErr result (λ fault. is_of_memory fault ≡ true) }
 {
     let mut first = SliceSource::new(from);
     let mut second = SliceSource::new(inventory);
-    let mut sink = VecSink::new(alloc);
-    match run_missing_by(alloc, &mut first, &mut second, &mut sink) {
-        Ok(()) => Ok(sink.into_bytes()),
+    let mut buffer = Buffer::new(output);
+    match run_missing_by(alloc, &mut first, &mut second, &mut buffer) {
+        Ok(()) => Ok(buffer.length()),
+        Err(fault) => Err(unwritten(fault)),
+    }
+}
+
+/// Writes the sketch file of the input: of 198 cells if no number is given, and with its own salt if none is given.
+pub fn sketch(
+    alloc: Global,
+    cells: Option<Cells>,
+    salt: Option<Salt>,
+    input: &[u8],
+    output: &mut [u8],
+) -> Result<usize, ToolFault>
+    ensures ok { IfOk result (IsHandedOut (IsMadeOf input_spec (sketch_model_of cells salt) sketch_file input.now) output.old output.new) }
+    ensures err { IfErr result (λ fault. IsFirstOf input_spec (sketch_model_of cells salt) input.now fault) }
+    ensures only { IfErr result (λ fault. is_of_memory fault ≡ true) }
+{
+    let mut source = SliceSource::new(input);
+    let mut buffer = Buffer::new(output);
+    match run_sketch(alloc, cells, salt, &mut source, &mut buffer) {
+        Ok(()) => Ok(buffer.length()),
+        Err(fault) => Err(unwritten(fault)),
+    }
+}
+
+/// Writes the replica file of what `from` has beyond the sketch. Inputs count from 1: `from` is the first.
+pub fn missing_by_sketch(
+    alloc: Global,
+    from: &[u8],
+    sketch: &[u8],
+    output: &mut [u8],
+) -> Result<usize, ToolFault>
+    ensures ok { IfOk result (IsHandedOut (IsMadeOfTwoBy input_spec sketch_spec IsPartBySketch file from.now sketch.now) output.old output.new) }
+    ensures err { IfErr result (λ fault. IsFirstOfTwoBy input_spec sketch_spec IsPartBySketch from.now sketch.now fault) }
+    ensures only { IfErr result (λ fault. is_of_memory fault ≡ true) }
+{
+    let mut first = SliceSource::new(from);
+    let mut second = SliceSource::new(sketch);
+    let mut buffer = Buffer::new(output);
+    match run_missing_by_sketch(alloc, &mut first, &mut second, &mut buffer) {
+        Ok(()) => Ok(buffer.length()),
         Err(fault) => Err(unwritten(fault)),
     }
 }
@@ -141,18 +206,24 @@ fn sources<'b>(alloc: Global, inputs: &[&'b [u8]]) -> Result<Vec<SliceSource<'b>
     Ok(sources)
 }
 
-/// Returns the replica file of what all inputs contribute, under the given log or else the first that an
+/// Writes the replica file of what all inputs contribute, under the given log or else the first that an
 /// input names.
-pub fn join(alloc: Global, log: Option<Name>, inputs: &[&[u8]]) -> Result<Vec<u8>, ToolFault>
-    ensures ok { IfOk result (λ text. IsMadeOfAll (join_of log) file (bytes_of inputs.now) text.items) }
+pub fn join(
+    alloc: Global,
+    log: Option<Name>,
+    inputs: &[&[u8]],
+    output: &mut [u8],
+) -> Result<usize, ToolFault>
+    ensures ok { IfOk result (IsHandedOut (IsMadeOfAll (join_of log) file (bytes_of inputs.now)) output.old output.new) }
     ensures err { IfErr result (λ fault. IsFirstOfAll (join_of log) (bytes_of inputs.now) fault) }
+    ensures only { IfErr result (λ fault. is_of_memory fault ≡ true) }
 {
     let Ok(mut sources) = sources(alloc, inputs) else {
         return Err(ToolFault::Memory);
     };
-    let mut sink = VecSink::new(alloc);
-    match run_join(alloc, log, sources.as_mut_slice(), &mut sink) {
-        Ok(()) => Ok(sink.into_bytes()),
+    let mut buffer = Buffer::new(output);
+    match run_join(alloc, log, sources.as_mut_slice(), &mut buffer) {
+        Ok(()) => Ok(buffer.length()),
         Err(fault) => Err(unwritten(fault)),
     }
 }

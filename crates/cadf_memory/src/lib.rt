@@ -1,11 +1,15 @@
 //! The engines over bytes in memory.
 #![tactic(auto)]
 
+mod buffer;
 mod engines;
+mod ghost_bytes;
 mod output;
 mod slice_source;
-mod vec_sink;
 
-pub use crate::engines::{check, inventory, join, missing, missing_by, rehearse, rule, show};
+pub use crate::engines::{
+    check, inventory, join, missing, missing_by, missing_by_sketch, rehearse, rule, show, sketch,
+};
 pub use cadf_event::Name;
+pub use cadf_sketch::{Cells, Salt};
 pub use cadf_tool::{ToolFault, status};

@@ -5,7 +5,7 @@ use Rattle.std.proofs.lemmas.Str.{IsUtf8-drop, IsUtf8-take, IsCharBoundary-start
 use Rattle.std.specs.Str.{IsUtf8, IsCharBoundary}
 use Rattle.cadf_join.specs.Contents.{Texts}
 use Rattle.cadf_pathset.specs.Block.{AreEnds, texts_from}
-use Rattle.cadf_pathset.proofs.Spans.{boundary_grown}
+use Rattle.cadf_pathset.proofs.Grown.{boundary_grown}
 
 pub texts_count : (s : ℕ) (es bs : List ℕ) → length (texts_from s es bs) ≡ length es
 texts_count s [] bs = refl

@@ -15,7 +15,7 @@ use Rattle.cadf_join.specs.Sets as set
 use Rattle.cadf_join.specs.Sets.{IsAntisymmetric, contains-from_list, Listed}
 use Rattle.cadf_join.specs.laws.Rising.{listed_any, contains-rising, rising-from_list, rising_is_sorted}
 use Rattle.cadf_join.specs.laws.Rising.{listed-rising, listed-AllByRecursion, AllByRecursion-listed}
-use Rattle.cadf_pathset.proofs.Spans.{all_turned}
+use Rattle.cadf_pathset.proofs.Grown.{all_turned}
 
 pub copied_some : {A : Type 0} (x : Option (Bor A)) → is_some x ≡ is_some (option_copied x)
 copied_some None = refl
@@ -26,7 +26,7 @@ module _ {K : Type 0} {R : K → K → Ordering} (o : IsTotalOrder R) (same : Is
   DoesNotFall [] = Unit {0}
   DoesNotFall (k ∷ ks) = AllByRecursion (λ x. R k x ≡ Greater → ⊥) ks × DoesNotFall ks
 
-  below_all : (k : K) (ks : List K) → AllByRecursion (λ x. R k x ≡ Less) ks → set.rising (set.from_list {R = R} (k ∷ ks)) ≡ k
+  pub below_all : (k : K) (ks : List K) → AllByRecursion (λ x. R k x ≡ Less) ks → set.rising (set.from_list {R = R} (k ∷ ks)) ≡ k
       ∷ set.rising (set.from_list {R = R} ks)
   unfolding IsStrictlySortedBy
   below_all k ks h =
@@ -48,7 +48,7 @@ module _ {K : Type 0} {R : K → K → Ordering} (o : IsTotalOrder R) (same : Is
       by x Equal e n = subst (λ z. R k z ≡ Less) (same j x e) less
       by x Greater e n = absurd (n e)
 
-  twice : (j : K) (ks : List K) → set.from_list {R = R} (j ∷ j ∷ ks) ≡ set.from_list (j ∷ ks)
+  pub twice : (j : K) (ks : List K) → set.from_list {R = R} (j ∷ j ∷ ks) ≡ set.from_list (j ∷ ks)
   twice j ks = set.same_set o same (set.from_list {R = R} (j ∷ j ∷ ks)) (set.from_list (j ∷ ks))
       (λ q. contains-from_list o (j ∷ j ∷ ks) q ∙ again (eq_by_cmp R q j) (list_any (eq_by_cmp R q) ks) ∙ sym (contains-from_list o (j ∷ ks) q))
     where

@@ -64,6 +64,14 @@ pub fork_found : (ls : List Texts) (f : Fork) (p q : ℕ) → list_at ls p ≡ l
 fork_found ls f p q e k n x y =
     k n x y ∙ ap (λ z. ordering_then (texts_cmp z (list_at ls q)) f.order) e ∙ ap (λ z. ordering_then z f.order) (tied_itself texts_total (list_at ls q))
 
+-- at children of one parent
+pub fork_at : (ls : List Texts) (a b p q : ℕ) (t u : Text) (r : Ordering) → list_at ls a ≡ list_at ls p ++ t ∷ [] → list_at ls b ≡ list_at ls q ++ u ∷ []
+    → p ≡ q → r ≡ text_cmp t u → IsFork ls (record { a = a; b = b; order = r })
+fork_at ls a b p q t u r ours theirs same is =
+    let f : Fork = record { a = a; b = b; order = r } in
+    let e = ap (list_at ls) same in
+    fork_found ls f p q e (λ n x y. here ls f f a b p q t u r ours theirs (ap length e) is n n x y)
+
 -- lists that go on from a fork
 pub fork_decides : (ls : List Texts) (f : Fork) (m n : ℕ) (x y : Texts) → IsFork ls f → (f.order ≡ Equal → ⊥) → list_at ls m ≡ list_at ls f.a ++ x
     → list_at ls n ≡ list_at ls f.b ++ y → f.order ≡ texts_cmp (list_at ls m) (list_at ls n)

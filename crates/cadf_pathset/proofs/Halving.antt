@@ -17,7 +17,7 @@ use Rattle.cadf_join.specs.Contents.{Texts, is_after, text_cmp, texts_cmp}
 use Rattle.cadf_join.specs.laws.Contents.{text_total, text_same, texts_total, texts_same, contents_same}
 use Rattle.cadf_join.specs.Sets as set
 use Rattle.cadf_join.specs.Sets.{contains-from_list, contains-insert}
-use Rattle.cadf_pathset.proofs.Spans.{all_more, all_turned}
+use Rattle.cadf_pathset.proofs.Grown.{all_more, all_turned}
 use Rattle.cadf_pathset.proofs.Inserts.{all_put}
 use Rattle.cadf_pathset.specs.Lists.{prefix_cmp, is_before, last_of, last_starts_with, is_above_last}
 
@@ -48,6 +48,22 @@ before_below (t ∷ p) more (u ∷ a) (v ∷ b) less h = by (text_cmp u v) refl 
       where
         never : Greater ≡ Less → ⊥
         never q = cc
+
+pub before_still : (p l : Texts) → is_before p false l ≡ true → is_before p true l ≡ true
+before_still p l h = by (prefix_cmp l p) h
+  where
+    by : (r : Ordering) → match_ordering r true false false ≡ true → match_ordering r true true false ≡ true
+    by Less k = refl
+    by Equal k = refl
+    by Greater k = k
+
+pub not_before_still : (p l : Texts) → is_before p true l ≡ false → is_before p false l ≡ false
+not_before_still p l h = by (prefix_cmp l p) h
+  where
+    by : (r : Ordering) → match_ordering r true true false ≡ false → match_ordering r true false false ≡ false
+    by Less k = k
+    by Equal k = refl
+    by Greater k = refl
 
 rising_from : (x : Texts) (xs : List Texts) (j : ℕ) → AllByRecursion (λ y. texts_cmp x y ≡ Less) xs → j < length xs → texts_cmp x (get_or xs j []) ≡ Less
 rising_from x [] j h l = absurd (omega (arith, l))

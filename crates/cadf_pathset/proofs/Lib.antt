@@ -4,6 +4,7 @@ pub mod Arena
 pub mod Behind
 pub mod Bounds
 pub mod CarrierLists
+pub mod Children
 pub mod Climbs
 pub mod Compared
 pub mod Copies
@@ -12,6 +13,7 @@ pub mod Ends
 pub mod FirstNodes
 pub mod Firsts
 pub mod Forks
+pub mod Grown
 pub mod Halving
 pub mod Inserts
 pub mod Merges
@@ -23,6 +25,5 @@ pub mod Ranges
 pub mod Replaced
 pub mod Several
 pub mod Sorts
-pub mod Spans
 pub mod Suffixes
 pub mod Threads

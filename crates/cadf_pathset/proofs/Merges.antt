@@ -14,7 +14,7 @@ use Rattle.cadf_join.specs.laws.Rising.{AllByRecursion-listed, listed-AllByRecur
 use Rattle.cadf_join.specs.Sets.{contains-from_list, contains-union, contains-difference}
 use Rattle.cadf_join.specs.laws.Rising.{any_listed, listed_any}
 use Rattle.cadf_join.specs.laws.Sets as sets
-use Rattle.cadf_pathset.proofs.Spans.{all_more}
+use Rattle.cadf_pathset.proofs.Grown.{all_more}
 use Rattle.cadf_pathset.specs.Merge.{sorted_merge, merge_step, sorted_without, without_step}
 
 module _ {K : Type 0} (R : K → K → Ordering) where

@@ -28,7 +28,7 @@ use Rattle.std.proofs.Common.{
 }
 use Rattle.std.proofs.lemmas.List.{append_assoc, drop-drop, drop-map, length-take, take-take, take_all, map-append, drop_more, drop_all}
 use Rattle.cadf_pathset.proofs.Merges.{alone, merge_skip}
-use Rattle.cadf_pathset.proofs.Spans.{map_more}
+use Rattle.cadf_pathset.proofs.Grown.{map_more}
 use Rattle.std.specs.List.{AllByRecursion}
 use Rattle.std.specs.declared.cmp.Ordering.{Ordering}
 use Rattle.std.specs.declared.cmp.Ordering.TheVariants.{Less, Equal, Greater}

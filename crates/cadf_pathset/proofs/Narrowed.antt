@@ -1,13 +1,11 @@
 -- The lists between two bounds, without one more text, are the suffixes after a text.
 use Rattle.std.proofs.Common.{◌≡◌, ℕ, suc, zero, true, false, List, [], ◌∷◌, refl, sym, ap, ◌∙◌, subst, take, drop, map}
 use Rattle.std.specs.List.{AllByRecursion, take-map, drop-map}
-use Rattle.std.specs.declared.cmp.Ordering.TheVariants.{Less}
-use Rattle.std.specs.List.Sorted.{IsStrictlySortedBy}
-use Rattle.cadf_join.specs.Contents.{Text, Texts, tails_of, texts_cmp}
+use Rattle.cadf_join.specs.Contents.{Text, Texts, tails_of}
 use Rattle.cadf_pathset.specs.Lists.{is_before}
 use Rattle.cadf_pathset.specs.Nodes.{rest_of, IsThere}
 use Rattle.cadf_pathset.proofs.Behind.{rests_between, rests_from, rests_up_to}
-use Rattle.cadf_pathset.proofs.Spans.{map_same}
+use Rattle.cadf_pathset.proofs.Grown.{map_same}
 
 pub all_of_first : {A : Type 0} (P : A → Type 0) (xs : List A) (n : ℕ) → AllByRecursion P xs → AllByRecursion P (take n xs)
 all_of_first P xs zero h = tt
@@ -19,11 +17,17 @@ all_of_last P xs zero h = h
 all_of_last P [] (suc n) h = tt
 all_of_last P (x ∷ xs) (suc n) h = all_of_last P xs n h.1
 
-pub take_sorted : (xs : List Texts) (n : ℕ) → IsStrictlySortedBy texts_cmp xs → IsStrictlySortedBy texts_cmp (take n xs)
-unfolding IsStrictlySortedBy
-take_sorted xs zero s = tt
-take_sorted [] (suc n) s = tt
-take_sorted (x ∷ xs) (suc n) s = (all_of_first (λ y. texts_cmp x y ≡ Less) xs n s.0, take_sorted xs n s.1)
+first_of_front : {A : Type 0} (P : A → Type 0) (xs : List A) (low high : ℕ) → AllByRecursion P (take low xs) → AllByRecursion P (take low (take high xs))
+first_of_front P xs zero high h = tt
+first_of_front P xs (suc low) zero h = tt
+first_of_front P [] (suc low) (suc high) h = tt
+first_of_front P (x ∷ xs) (suc low) (suc high) h = (h.0, first_of_front P xs low high h.1)
+
+last_of_front : {A : Type 0} (P : A → Type 0) (xs : List A) (low high : ℕ) → AllByRecursion P (drop low xs) → AllByRecursion P (drop low (take high xs))
+last_of_front P xs zero high h = all_of_first P xs high h
+last_of_front P xs (suc low) zero h = tt
+last_of_front P [] (suc low) (suc high) h = tt
+last_of_front P (x ∷ xs) (suc low) (suc high) h = last_of_front P xs low high h
 
 map_twice : {A B C : Type 0} (f : A → B) (g : B → C) (xs : List A) → map (λ x. g (f x)) xs ≡ map g (map f xs)
 map_twice f g [] = refl
@@ -31,7 +35,7 @@ map_twice f g (x ∷ xs) = ap (λ z. g (f x) ∷ z) (map_twice f g xs)
 
 module _ (ts : List Texts) (d : ℕ) (numbers : List ℕ) (ls : List Texts) (view : map (rest_of ts d) numbers ≡ ls) (high : ℕ) (front : List ℕ)
     (front_is : front ≡ take high numbers) where
-  pub front_view : map (rest_of ts d) front ≡ take high ls
+  front_view : map (rest_of ts d) front ≡ take high ls
   front_view = ap (map (rest_of ts d)) front_is ∙ sym (take-map (rest_of ts d) high numbers) ∙ ap (take high) view
 
   module _ (there : AllByRecursion (IsThere ts) numbers) (further low : ℕ) (lists : List ℕ) (lists_are : lists ≡ drop low front)
@@ -42,12 +46,15 @@ module _ (ts : List Texts) (d : ℕ) (numbers : List ℕ) (ls : List Texts) (vie
 
     pub section_view : (t : Text) → AllByRecursion (λ l. is_before (t ∷ []) true l ≡ true) (take high ls)
         → AllByRecursion (λ l. is_before (t ∷ []) true l ≡ false) (drop high ls)
-        → AllByRecursion (λ l. is_before (t ∷ []) false l ≡ true) (take low (take high ls))
-        → AllByRecursion (λ l. is_before (t ∷ []) false l ≡ false) (drop low (take high ls))
+        → AllByRecursion (λ l. is_before (t ∷ []) false l ≡ true) (take low ls)
+        → AllByRecursion (λ l. is_before (t ∷ []) false l ≡ false) (drop low ls)
         → map (rest_of ts further) lists ≡ tails_of t ls
     section_view t upto over below from =
         map_same (IsThere ts) (rest_of ts further) (λ r. drop 1 (rest_of ts d r)) lists deeper left_there
         ∙ map_twice (rest_of ts d) (λ l. drop 1 l) lists
         ∙ ap (map (λ l. drop 1 l)) (ap (map (rest_of ts d)) lists_are ∙ sym (drop-map (rest_of ts d) low front) ∙ ap (drop low) front_view)
-        ∙ sym (rests_between t (drop low (take high ls)) from (all_of_last (λ l. is_before (t ∷ []) true l ≡ true) (take high ls) low upto))
-        ∙ rests_from t (take high ls) low below ∙ rests_up_to t ls high over
+        ∙ sym (rests_between t (drop low (take high ls))
+        (last_of_front (λ l. is_before (t ∷ []) false l ≡ false) ls low high from)
+        (all_of_last (λ l. is_before (t ∷ []) true l ≡ true) (take high ls) low upto))
+        ∙ rests_from t (take high ls) low (first_of_front (λ l. is_before (t ∷ []) false l ≡ true) ls low high below)
+        ∙ rests_up_to t ls high over

@@ -12,7 +12,7 @@ use Rattle.cadf_join.specs.Sets.{contains-from_list, contains-insert, contains-u
 use Rattle.std.specs.Prelude.{◌||◌, Bool, false}
 use Rattle.cadf_pathset.specs.Merge.{sorted_merge}
 use Rattle.cadf_pathset.proofs.Merges.{merged_rises, merged_is_union}
-use Rattle.cadf_pathset.proofs.Spans.{all_turned}
+use Rattle.cadf_pathset.proofs.Grown.{all_turned}
 
 module _ {A : Type 0} (f : A → Texts) where
   rises_on : (rest : List A) (d e : A) → 2 ≤ length rest → texts_cmp (f (get_or rest 0 d)) (f (get_or (drop 1 rest) 0 e)) ≡ Less

@@ -40,7 +40,7 @@ use Rattle.std.proofs.lemmas.List.{
 use Rattle.cadf_join.specs.Contents.{Text, Texts}
 use Rattle.cadf_pathset.specs.Nodes.{list_at, last_node, last_text, place, lists_at, AreThere, IsLine, IsClimb, Agree}
 use Rattle.cadf_pathset.proofs.Arena.{at_grown, one_longer}
-use Rattle.cadf_pathset.proofs.Spans.{grown_by, map_same, map_more, all_more, all_turned}
+use Rattle.cadf_pathset.proofs.Grown.{grown_by, map_same, map_more, all_more, all_turned}
 
 pub place_of : (ls : List Texts) (ns : List ℕ) (l : Texts) → IsLine ls ns l → place ls ns ≡ l
 place_of ls [] l h = sym (nil_from_length l (sym h.long))

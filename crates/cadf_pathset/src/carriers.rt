@@ -16,7 +16,7 @@ pub trait Carrier {
     /// The carrier of a list.
     ghost carrier: { Texts → Texts };
 
-    /// How many texts the carrier of the list has.
+    /// Counts the texts of the list's carrier.
     fn length(list: &[&str]) -> usize
         ensures within { result ≤ length list.now }
         ensures first { take result (texts_at list.now) ≡ carrier (texts_at list.now) };
@@ -25,7 +25,7 @@ pub trait Carrier {
     ghost in_order: { (x y : Texts) → texts_cmp x y ≡ Less → texts_cmp (carrier x) (carrier y) ≡ Greater → ⊥ };
 }
 
-/// The carriers of the lists, each once, in order.
+/// Returns the carriers of the lists, each once, in order.
 fn carriers_of<C: Carrier>(alloc: Global, rows: &PathVec) -> Result<PathVec, Memory>
     ensures { IfOk result (λ all. all ≡ carriers_in C.carrier [] rows.now) }
 {

@@ -94,7 +94,7 @@ fn cmp_up<W: AsText>(
     (found, agreed)
 }
 
-/// Whether the node's list begins with the prefix.
+/// Returns whether the node's list begins with the prefix.
 pub(crate) fn begins_with<W: AsText>(nodes: &Nodes, node: usize, prefix: &[W]) -> bool
     requires { node ≤ length nodes.now }
     ensures { result ≡ is_eq (prefix_cmp (list_at nodes.now node) (map W.bytes prefix.now)) }
@@ -104,7 +104,7 @@ pub(crate) fn begins_with<W: AsText>(nodes: &Nodes, node: usize, prefix: &[W]) -
     order.is_eq()
 }
 
-/// Whether nodes of two arenas have the same list.
+/// Returns whether nodes of two arenas have the same list.
 pub(crate) fn same_list(nodes: &Nodes, node: usize, others: &Nodes, other: usize) -> bool
     requires ours { node ≤ length nodes.now }
     requires theirs { other ≤ length others.now }

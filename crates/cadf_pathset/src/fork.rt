@@ -17,9 +17,10 @@ pub(crate) struct Fork {
 }
 
 impl Fork {
-    /// None are known.
+    /// Makes a fork that knows no nodes.
     pub fn unknown() -> Fork
-        ensures { result.order ≡ Equal }
+        ensures order { result.order ≡ Equal }
+        ensures root { (result.a ≡ 0) × (result.b ≡ 0) }
     {
         Fork {
             a: 0,
@@ -28,7 +29,7 @@ impl Fork {
         }
     }
 
-    /// These nodes, if their texts differ, else the ones before.
+    /// Returns the fork at these nodes, if their texts differ, else the one before.
     fn or_nearer(self, a: usize, b: usize, order: Ordering) -> Fork
         ensures same { order ≡ Equal → result ≡ self }
         ensures other { (order ≡ Equal → ⊥) → result ≡ record { a = a; b = b; order = order } }
@@ -40,7 +41,7 @@ impl Fork {
         }
     }
 
-    /// Whether the lists of the two nodes go on from these.
+    /// Returns whether the lists of the two nodes go on from these.
     fn decides(self, nodes: &Nodes, node: usize, other: usize) -> bool
         requires ours { node ≤ length nodes.now }
         requires theirs { other ≤ length nodes.now }
@@ -51,7 +52,7 @@ impl Fork {
     }
 }
 
-/// Whether the climb from the node comes to the other one, with which its list then begins.
+/// Returns whether the climb from the node comes to the other one, with which its list then begins.
 fn goes_on(nodes: &Nodes, node: usize, front: usize) -> bool
     requires { node ≤ length nodes.now }
     ensures { result ≡ true → (rest : Texts) × (list_at nodes.now node ≡ list_at nodes.now front ++ rest) }
@@ -73,7 +74,7 @@ pub(crate) fn node_cmp(nodes: &Nodes, node: usize, other: usize) -> Ordering
     parting_cmp(nodes, node, other, &mut fork)
 }
 
-/// Does so at once where the lists go on from nodes that are known, and else finds those where they part.
+/// Compares them at once where the lists go on from nodes that are known, and else finds those where they part.
 pub(crate) fn next_cmp(nodes: &Nodes, node: usize, other: usize, fork: &mut Fork) -> Ordering
     requires ours { node ≤ length nodes.now }
     requires theirs { other ≤ length nodes.now }
@@ -88,19 +89,57 @@ pub(crate) fn next_cmp(nodes: &Nodes, node: usize, other: usize, fork: &mut Fork
     parting_cmp(nodes, node, other, fork)
 }
 
-/// Compares the lists of two nodes, and finds the nodes where they part. The difference nearest to the root decides.
+/// Climbs from two nodes to children of one parent, and compares their texts. Unknown if one of the lists begins with the other.
+/// Since parents have smaller numbers than their children, it climbs from whichever number is greater.
+fn sibling_fork(nodes: &Nodes, node: usize, other: usize) -> Fork
+    requires ours { node ≤ length nodes.now }
+    requires theirs { other ≤ length nodes.now }
+    ensures known { IsFork nodes.now result }
+    ensures ours { (rest : Texts) × (list_at nodes.now node ≡ list_at nodes.now result.a ++ rest) }
+    ensures theirs { (rest : Texts) × (list_at nodes.now other ≡ list_at nodes.now result.b ++ rest) }
+{
+    let mut ours: usize = 0;
+    let mut theirs: usize = 0;
+    let mut a = node;
+    let mut b = other;
+    while a != b {
+        if a > b {
+            ours = a;
+            a = nodes.parent(a);
+        } else {
+            theirs = b;
+            b = nodes.parent(b);
+        }
+    }
+    if ours > 0 && theirs > 0 {
+        let order = nodes.text(ours).cmp(nodes.text(theirs));
+        return Fork {
+            a: ours,
+            b: theirs,
+            order,
+        };
+    }
+    Fork::unknown()
+}
+
+/// Compares the lists of two nodes, and finds the nodes where they part. The difference nearest to the root decides: it is at children of
+/// one parent, unless these have the same text.
 fn parting_cmp(nodes: &Nodes, node: usize, other: usize, fork: &mut Fork) -> Ordering
     requires ours { node ≤ length nodes.now }
     requires theirs { other ≤ length nodes.now }
     ensures order { result ≡ texts_cmp (list_at nodes.now node) (list_at nodes.now other) }
     ensures known { IsFork nodes.now fork.new }
 {
+    let mut near = sibling_fork(nodes, node, other);
+    if !near.order.is_eq() {
+        *fork = near;
+        return near.order;
+    }
     let has = depth(nodes, node);
     let its = depth(nodes, other);
     let mut found = has.cmp(&its);
     let mut a = ancestor(nodes, node, has, its);
     let mut b = ancestor(nodes, other, its, has);
-    let mut near = Fork::unknown();
     while a != b && a > 0 && b > 0 {
         let order = nodes.text(a).cmp(nodes.text(b));
         found = order.then(found);

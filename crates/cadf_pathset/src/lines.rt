@@ -185,7 +185,7 @@ fn line_to<W: AsText>(
     Ok(end_of(line.as_slice()))
 }
 
-/// Inserts the path's node before the number at that place, by new nodes as above.
+/// Makes the line that of the path, as above, and inserts its node before the number at that place.
 fn put<W: AsText>(
     nodes: &mut Nodes,
     line: &mut Vec<usize>,
@@ -210,7 +210,8 @@ fn put<W: AsText>(
     Ok(())
 }
 
-/// Does so, or takes back the nodes: after an `Err` the nodes and the numbers are as before, and the line is that of the empty list.
+/// Inserts the path's node so, or takes back its new nodes: after an `Err` the nodes and the numbers are as before, and the line is that
+/// of the empty list.
 pub(crate) fn put_or_restore<W: AsText>(
     nodes: &mut Nodes,
     line: &mut Vec<usize>,
@@ -257,7 +258,7 @@ pub(crate) fn known_of(line: &[usize], numbers: &[usize], shared: usize) -> usiz
     if is_of_last(line, numbers) { shared } else { 0 }
 }
 
-/// Whether the line's list begins with the prefix.
+/// Returns whether the line's list begins with the prefix.
 pub(crate) fn line_starts_with<W: AsText>(nodes: &Nodes, line: &[usize], prefix: &[W]) -> bool
     requires { IsLine nodes.now line.now (place nodes.now line.now) }
     ensures { result ≡ is_eq (prefix_cmp (place nodes.now line.now) (map W.bytes prefix.now)) }

@@ -1,6 +1,7 @@
 //! An arena of nodes: each is one text after its parent.
 ghost use Rattle.std.specs.Prelude.{◌≡◌, ◌<◌, ◌≤◌, ◌+◌, ◌++◌, [], ◌∷◌, ℕ, OnOk, OnErr, IfOk, length, take, drop};
 ghost use Rattle.std.specs.Option.{option_copied};
+ghost use Rattle.cadf_join.specs.Prefixes.{chain_texts};
 ghost use Rattle.cadf_pathset.specs.Lists.{first_text};
 ghost use Rattle.cadf_pathset.specs.Nodes.{last_text, list_at, rest_of};
 
@@ -141,4 +142,27 @@ pub(crate) fn text_after(nodes: &Nodes, node: usize, skipped: usize) -> Option<&
         return Some(nodes.text(ancestor(nodes, node, has, skipped + 1)));
     }
     None
+}
+
+/// Copies the texts after the first `skipped` texts of the node's list.
+pub(crate) fn copy_after(
+    alloc: Global,
+    nodes: &Nodes,
+    node: usize,
+    skipped: usize,
+) -> Result<Vec<String>, Memory>
+    requires { node ≤ length nodes.now }
+    ensures { IfOk result (λ copied. chain_texts copied.items ≡ rest_of nodes.now skipped node) }
+{
+    let mut left = depth(nodes, node);
+    let kept = skipped.min(left);
+    let mut texts = Vec::with_capacity(alloc, left - kept)?;
+    let mut at = node;
+    while left > kept && at > 0 {
+        texts.push(String::from_str(alloc, nodes.text(at))?)?;
+        at = nodes.parent(at);
+        left -= 1;
+    }
+    texts.as_mut_slice().reverse();
+    Ok(texts)
 }

@@ -1,5 +1,5 @@
 //! The order of lists of texts, and their prefixes.
-ghost use Rattle.std.specs.Prelude.{◌≡◌, ◌++◌, IfOk, drop};
+ghost use Rattle.std.specs.Prelude.{◌≡◌, ◌++◌, IfOk};
 ghost use Rattle.cadf_join.specs.Contents.{texts_cmp};
 ghost use Rattle.cadf_join.specs.Prefixes.{chain_texts, texts_at};
 ghost use Rattle.cadf_pathset.specs.Nodes.{Agree};
@@ -41,16 +41,4 @@ pub(crate) fn continued(
         list.push(String::from_str(alloc, *text)?)?;
     }
     Ok(list)
-}
-
-/// Copies the path without its first `skipped` texts.
-pub(crate) fn copied_after(
-    alloc: Global,
-    path: &[&str],
-    skipped: usize,
-) -> Result<Vec<String>, Memory>
-    ensures { IfOk result (λ list. chain_texts list.items ≡ drop skipped (texts_at path.now)) }
-{
-    let (_, rest) = path.split_at(skipped.min(path.len()));
-    continued(alloc, &[], rest)
 }

@@ -146,7 +146,7 @@ impl PathVec {
         self.is_behind(self.count() - 1, prefix)
     }
 
-    /// Whether the list of that number begins with the prefix.
+    /// Returns whether the list of that number begins with the prefix.
     fn is_behind<W: AsText>(&self, number: usize, prefix: &[W]) -> bool
         requires { number < length self.now }
         ensures { result ≡ is_eq (prefix_cmp (get_or self.now number []) (map W.bytes prefix.now)) }
@@ -251,7 +251,7 @@ impl PathVec {
         (low, back)
     }
 
-    /// Whether the list of that number is this one, if they are known to share `known` texts.
+    /// Returns whether the list of that number is this one, if they are known to share `known` texts.
     fn is_at<W: AsText>(&self, number: usize, list: &[W], known: usize) -> bool
         requires within { number < length self.now }
         requires known { Agree known (get_or self.now number []) (map W.bytes list.now) }
@@ -303,14 +303,14 @@ impl PathVec {
         }
     }
 
-    /// Whether there are no lists.
+    /// Returns whether there are no lists.
     pub fn is_empty(&self) -> bool
         ensures { IsTrue result ↔ (self.now ≡ []) }
     {
         self.numbers.is_empty()
     }
 
-    /// Whether both have the same lists.
+    /// Returns whether both have the same lists.
     pub fn same(&self, other: &PathVec) -> bool
         ensures { IsTrue result ↔ (self.now ≡ other.now) }
     {
@@ -330,7 +330,7 @@ impl PathVec {
     }
 }
 
-/// Whether the nodes of two arenas have the same lists, one by one.
+/// Returns whether the nodes of two arenas have the same lists, one by one.
 fn same_lists(nodes: &Nodes, numbers: &[usize], others: &Nodes, its: &[usize]) -> bool
     requires ours { AreThere nodes.now numbers.now }
     requires theirs { AreThere others.now its.now }

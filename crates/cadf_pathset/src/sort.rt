@@ -12,7 +12,7 @@ use crate::nodes::Nodes;
 use std::alloc::Global;
 use std::cmp::Ordering;
 
-/// Whether each list is below the next. If not, there are two or more.
+/// Returns whether each list is below the next. If not, there are two or more.
 fn is_rising(nodes: &Nodes, numbers: &[usize]) -> bool
     requires { AreThere nodes.now numbers.now }
     ensures rises { result ≡ true → IsStrictlySortedBy texts_cmp (lists_at nodes.now numbers.now) }

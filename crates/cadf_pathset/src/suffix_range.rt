@@ -1,5 +1,5 @@
 //! Suffixes: lists of a range, each without its first texts.
-ghost use Rattle.std.specs.Prelude.{◌≡◌, ◌≤◌, ◌<◌, ℕ, [], ◌∷◌, IfOk, IfSome, None, true, false, length, take, drop, get_or, map, nat_le};
+ghost use Rattle.std.specs.Prelude.{◌≡◌, ◌≤◌, ◌<◌, ℕ, [], ◌∷◌, IfOk, IfSome, None, true, false, length, take, drop, get_or, map, nat_le, string_bytes};
 ghost use Rattle.std.specs.List.{AllByRecursion, find};
 ghost use Rattle.std.specs.List.Sorted.{IsStrictlySortedBy};
 ghost use Rattle.std.specs.Option.{option_copied, option_map};
@@ -10,13 +10,11 @@ ghost use Rattle.cadf_join.specs.Longest.{longer_than, longest_of};
 ghost use Rattle.cadf_join.specs.Maps.{firsts, heads};
 ghost use Rattle.cadf_join.specs.Prefixes.{all_texts, chain_texts};
 ghost use Rattle.cadf_join.specs.Sets as set;
-ghost use Rattle.cadf_pathset.specs.Lists.{first_text, is_before};
+ghost use Rattle.cadf_pathset.specs.Lists.{first_text, is_before, prefix_cmp};
 ghost use Rattle.cadf_pathset.specs.Nodes.{AreThere, rest_of};
 
 use crate::Memory;
-use crate::cursor::Cursor;
-use crate::nodes::{Nodes, depth, text_after};
-use crate::order::copied_after;
+use crate::nodes::{Nodes, copy_after, depth, text_after};
 use std::alloc::Global;
 use std::cmp::Ordering;
 use std::marker::Model;
@@ -61,19 +59,98 @@ impl<'a> SuffixRange<'a> {
         self.numbers.len()
     }
 
-    /// Returns the number of the first suffix that begins with the text, or, if `passed`, of the first above those.
-    /// Checks the last suffix first, then uses binary search.
-    pub fn bound(&self, text: &str, passed: bool) -> usize
+    /// Returns the numbers of the first suffix that begins with the text and of the first above those: one number if none does.
+    /// Binary search.
+    fn bounds(&self, text: &str) -> (usize, usize)
         requires { IsStrictlySortedBy texts_cmp self.now }
-        ensures within { result ≤ length self.now }
-        ensures below { AllByRecursion (λ l. is_before (text.now ∷ []) passed l ≡ true) (take result self.now) }
-        ensures above { AllByRecursion (λ l. is_before (text.now ∷ []) passed l ≡ false) (drop result self.now) }
+        ensures order { result.0 ≤ result.1 }
+        ensures within { result.1 ≤ length self.now }
+        ensures below { AllByRecursion (λ l. is_before (text.now ∷ []) false l ≡ true) (take result.0 self.now) }
+        ensures from { AllByRecursion (λ l. is_before (text.now ∷ []) false l ≡ false) (drop result.0 self.now) }
+        ensures upto { AllByRecursion (λ l. is_before (text.now ∷ []) true l ≡ true) (take result.1 self.now) }
+        ensures above { AllByRecursion (λ l. is_before (text.now ∷ []) true l ≡ false) (drop result.1 self.now) }
     {
-        let count = self.count();
-        if count > 0 && self.is_before(count - 1, text, passed) {
-            return self.binary_search(text, passed, count, count);
+        let mut low: usize = 0;
+        let mut high = self.count();
+        while low < high {
+            let middle = low + (high - low) / 2;
+            match self.text_cmp(middle, text) {
+                Ordering::Less => low = middle + 1,
+                Ordering::Equal => {
+                    let first = self.lower_bound(text, low, middle);
+                    return (first, self.upper_bound(text, middle + 1, high));
+                }
+                Ordering::Greater => high = middle,
+            }
         }
-        self.binary_search(text, passed, 0, count)
+        (low, low)
+    }
+
+    /// Returns the number of the first suffix that begins with the text, or is above those that do, between `low` and `high`. Checks `low`
+    /// first, then uses binary search.
+    fn lower_bound(&self, text: &str, low: usize, high: usize) -> usize
+        requires rising { IsStrictlySortedBy texts_cmp self.now }
+        requires order { low ≤ high }
+        requires ends { high ≤ length self.now }
+        requires below { (k : ℕ) → k < low → is_before (text.now ∷ []) false (get_or self.now k []) ≡ true }
+        requires above { (k : ℕ) → high ≤ k → k < length self.now → is_before (text.now ∷ []) false (get_or self.now k []) ≡ false }
+        ensures upto { result ≤ high }
+        ensures below { AllByRecursion (λ l. is_before (text.now ∷ []) false l ≡ true) (take result self.now) }
+        ensures above { AllByRecursion (λ l. is_before (text.now ∷ []) false l ≡ false) (drop result self.now) }
+    {
+        if low == high {
+            return self.binary_search(text, false, low, high);
+        }
+        if self.is_before(low, text, false) {
+            return self.binary_search(text, false, low + 1, high);
+        }
+        self.binary_search(text, false, low, low)
+    }
+
+    /// Returns the number of the first suffix above those that begin with the text, between `low` and `high`. Checks the last one below
+    /// `high` first, then uses binary search.
+    fn upper_bound(&self, text: &str, low: usize, high: usize) -> usize
+        requires rising { IsStrictlySortedBy texts_cmp self.now }
+        requires order { low ≤ high }
+        requires ends { high ≤ length self.now }
+        requires below { (k : ℕ) → k < low → is_before (text.now ∷ []) true (get_or self.now k []) ≡ true }
+        requires above { (k : ℕ) → high ≤ k → k < length self.now → is_before (text.now ∷ []) true (get_or self.now k []) ≡ false }
+        ensures from { low ≤ result }
+        ensures within { result ≤ length self.now }
+        ensures below { AllByRecursion (λ l. is_before (text.now ∷ []) true l ≡ true) (take result self.now) }
+        ensures above { AllByRecursion (λ l. is_before (text.now ∷ []) true l ≡ false) (drop result self.now) }
+    {
+        if low == high {
+            return self.binary_search(text, true, low, high);
+        }
+        if self.is_before(high - 1, text, true) {
+            return self.binary_search(text, true, high, high);
+        }
+        self.binary_search(text, true, low, high - 1)
+    }
+
+    /// Returns the number of the first suffix above those that begin with the text, which is `from` or higher. Galloping search: fast if it
+    /// is close behind `from`.
+    fn gallop(&self, text: &str, from: usize) -> usize
+        requires rising { IsStrictlySortedBy texts_cmp self.now }
+        requires within { from ≤ length self.now }
+        requires below { (k : ℕ) → k < from → is_before (text.now ∷ []) true (get_or self.now k []) ≡ true }
+        ensures from { from ≤ result }
+        ensures within { result ≤ length self.now }
+        ensures below { AllByRecursion (λ l. is_before (text.now ∷ []) true l ≡ true) (take result self.now) }
+        ensures above { AllByRecursion (λ l. is_before (text.now ∷ []) true l ≡ false) (drop result self.now) }
+    {
+        let mut low = from;
+        let mut step: usize = 1;
+        while step <= self.count() - low {
+            let probe = low + (step - 1);
+            if !self.is_before(probe, text, true) {
+                return self.binary_search(text, true, low, probe);
+            }
+            low = probe + 1;
+            step = step.saturating_mul(2);
+        }
+        self.binary_search(text, true, low, self.count())
     }
 
     /// Finds that number between `low` and `high`.
@@ -83,6 +160,8 @@ impl<'a> SuffixRange<'a> {
         requires ends { high ≤ length self.now }
         requires below { (k : ℕ) → k < low → is_before (text.now ∷ []) passed (get_or self.now k []) ≡ true }
         requires above { (k : ℕ) → high ≤ k → k < length self.now → is_before (text.now ∷ []) passed (get_or self.now k []) ≡ false }
+        ensures from { low ≤ result }
+        ensures upto { result ≤ high }
         ensures within { result ≤ length self.now }
         ensures below { AllByRecursion (λ l. is_before (text.now ∷ []) passed l ≡ true) (take result self.now) }
         ensures above { AllByRecursion (λ l. is_before (text.now ∷ []) passed l ≡ false) (drop result self.now) }
@@ -100,41 +179,24 @@ impl<'a> SuffixRange<'a> {
         low
     }
 
-    /// Returns the number of the first suffix that begins with the text or is above those that do. Checks the first suffix first,
-    /// then uses galloping search from the end: fast if all begin with it, or few.
-    fn gallop_back(&self, text: &str) -> usize
-        requires { IsStrictlySortedBy texts_cmp self.now }
-        ensures within { result ≤ length self.now }
-        ensures below { AllByRecursion (λ l. is_before (text.now ∷ []) false l ≡ true) (take result self.now) }
-        ensures above { AllByRecursion (λ l. is_before (text.now ∷ []) false l ≡ false) (drop result self.now) }
-    {
-        let mut high = self.count();
-        if high > 0 && !self.is_before(0, text, false) {
-            return self.binary_search(text, false, 0, 0);
-        }
-        let mut step: usize = 1;
-        while step <= high {
-            let probe = high - step;
-            if self.is_before(probe, text, false) {
-                return self.binary_search(text, false, probe + 1, high);
-            }
-            high = probe;
-            step = step.saturating_mul(2);
-        }
-        self.binary_search(text, false, 0, high)
-    }
-
-    /// Whether the suffix of that number is below those that begin with the text, or begins with it, if `passed`.
+    /// Returns whether the suffix of that number is below those that begin with the text, or begins with it, if `passed`.
     fn is_before(&self, number: usize, text: &str, passed: bool) -> bool
         ensures { result ≡ is_before (text.now ∷ []) passed (get_or self.now number []) }
     {
+        match self.text_cmp(number, text) {
+            Ordering::Less => true,
+            Ordering::Equal => passed,
+            Ordering::Greater => false,
+        }
+    }
+
+    /// Compares the first text of the suffix of that number with the text. A suffix that has none is below.
+    fn text_cmp(&self, number: usize, text: &str) -> Ordering
+        ensures { result ≡ prefix_cmp (get_or self.now number []) (text.now ∷ []) }
+    {
         match self.text(number) {
-            Some(first) => match first.cmp(text) {
-                Ordering::Less => true,
-                Ordering::Equal => passed,
-                Ordering::Greater => false,
-            },
-            None => true,
+            Some(first) => first.cmp(text),
+            None => Ordering::Less,
         }
     }
 
@@ -148,25 +210,24 @@ impl<'a> SuffixRange<'a> {
         }
     }
 
-    /// Returns what follows the text in the suffixes that begin with it.
+    /// Returns what follows the text in the suffixes that begin with it. Binary search.
     pub fn section(&self, text: &str) -> SuffixRange<'a>
         requires { IsStrictlySortedBy texts_cmp self.now }
         ensures { result ≡ tails_of text.now self.now }
     {
-        let high = self.bound(text, true);
+        let (low, high) = self.bounds(text);
         let (front, _) = self.numbers.split_at(high);
-        let low = SuffixRange::new(self.nodes, front, self.depth).gallop_back(text);
         let (_, numbers) = front.split_at(low);
         SuffixRange::new(self.nodes, numbers, self.nodes.next_depth(self.depth))
     }
 
-    /// Returns the least first text above the given one. For `None`, the least of all. Binary search.
+    /// Returns the least first text above the given one. For `None`, the least of all. Checks the last suffix first, then uses binary search.
     pub fn next_child(&self, text: Option<&str>) -> Option<&'a str>
         requires { IsStrictlySortedBy texts_cmp self.now }
         ensures { option_copied result ≡ next_after (heads (set.from_list self.now)) (option_copied text.entry) }
     {
         match text {
-            Some(text) => self.text(self.bound(text, true)),
+            Some(text) => self.text(self.upper_bound(text, 0, self.count())),
             None => self.least_text(),
         }
     }
@@ -209,7 +270,7 @@ impl<'a> SuffixRange<'a> {
         best
     }
 
-    /// Whether the suffix of that number is longer than the best so far, if there is one.
+    /// Returns whether the suffix of that number is longer than the best so far, if there is one.
     fn is_longer(&self, number: usize, best: Option<usize>) -> bool
         requires within { number < length self.now }
         requires found { IfSome best (λ n. n < length self.now) }
@@ -231,14 +292,32 @@ impl<'a> SuffixRange<'a> {
         }
     }
 
+    /// Copies the first texts, each once, in order. Galloping search from each to the next.
+    pub fn child_texts(&self, alloc: Global) -> Result<Vec<String>, Memory>
+        requires { IsStrictlySortedBy texts_cmp self.now }
+        ensures { IfOk result (λ found. map string_bytes found.items ≡ set.rising (heads (set.from_list self.now))) }
+    {
+        let mut texts = Vec::new(alloc);
+        let mut number: usize = 0;
+        while number < self.count() {
+            match self.text(number) {
+                Some(text) => {
+                    texts.push(String::from_str(alloc, text)?)?;
+                    number = self.gallop(text, number + 1);
+                }
+                None => number += 1,
+            }
+        }
+        Ok(texts)
+    }
+
     /// Copies the suffixes, in order.
     pub fn copy_all(&self, alloc: Global) -> Result<Vec<Vec<String>>, Memory>
         ensures { IfOk result (λ lists. all_texts lists.items ≡ self.now) }
     {
         let mut lists = Vec::with_capacity(alloc, self.count())?;
-        let mut cursor = Cursor::new(alloc, self.nodes, self.numbers);
-        while cursor.next()? {
-            lists.push(copied_after(alloc, cursor.path(), self.depth)?)?;
+        for node in self.numbers {
+            lists.push(copy_after(alloc, self.nodes, *node, self.depth)?)?;
         }
         Ok(lists)
     }
@@ -248,9 +327,6 @@ impl<'a> SuffixRange<'a> {
         requires { number < length self.now }
         ensures { IfOk result (λ list. chain_texts list.items ≡ get_or self.now number []) }
     {
-        let (_, numbers) = self.numbers.split_at(number);
-        let mut cursor = Cursor::new(alloc, self.nodes, numbers);
-        cursor.next()?;
-        copied_after(alloc, cursor.path(), self.depth)
+        copy_after(alloc, self.nodes, self.numbers[number], self.depth)
     }
 }

@@ -61,13 +61,7 @@ impl<'a> SuffixSet<'a> {
     pub fn child_texts(&self) -> Result<Vec<String>, Memory>
         ensures { IfOk result (λ found. map string_bytes found.items ≡ set.rising (heads self.now)) }
     {
-        let mut texts = Vec::new(self.alloc);
-        let mut last = None;
-        while let Some(text) = self.next_child(last) {
-            texts.push(String::from_str(self.alloc, text)?)?;
-            last = Some(text);
-        }
-        Ok(texts)
+        self.range.child_texts(self.alloc)
     }
 
     /// Copies the suffixes, in order.

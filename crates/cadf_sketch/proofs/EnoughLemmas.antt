@@ -31,6 +31,7 @@ use Rattle.cadf_set.specs.Inventory.{InventoryModel, AreDigests}
 use Rattle.cadf_line.specs.Missing.{Digests}
 use Rattle.cadf_set.proofs.Inventories.{AreDigests-listed}
 use Rattle.cadf_file.proofs.InventoryVerdictLemmas.{each_digest}
+use Rattle.cadf_file.specs.InventoryFile.{inventory_digest}
 use Rattle.cadf_sketch.specs.Layouts.{LayoutModel}
 use Rattle.cadf_sketch.specs.Cells.{cell_at, is_lone, turned, turned_all, nothing}
 use Rattle.cadf_sketch.specs.Enough.{IsEnough}
@@ -38,7 +39,6 @@ use Rattle.cadf_sketch.specs.Flips.{apart, flipped}
 use Rattle.cadf_sketch.specs.Peeling.{Peels, none, more}
 use Rattle.cadf_sketch.specs.Refusals.{differing, HasTooFewCells}
 use Rattle.cadf_sketch.specs.Sketches.{cells_of, sketch_of}
-use Rattle.cadf_sketch.specs.Texts.{inventory_digest}
 use Rattle.cadf_sketch.specs.declared.cell.Cell.{Cell}
 use Rattle.cadf_sketch.proofs.CellLemmas.{length-turned_all}
 use Rattle.cadf_sketch.proofs.FlipLemmas.{either, one, in_one, in_apart, by_members, told, apart_none, apart-insert, first_is_new, rest_sorted}

@@ -16,3 +16,9 @@ peels_more layout place start cells cells' taken taken' cell at within lone t c 
     subst (λ ds. Peels layout start ds cells') (sym t) (subst (Peels layout start (taken ++ cell.digest ∷ [])) (sym c)
     (subst (λ (x : Cell). Peels layout start (taken ++ x.digest ∷ []) (turned cells x.digest layout)) (sym at)
     (more place chain within (subst (λ (x : Cell). is_lone x place layout ≡ true) at lone))))
+
+-- the same of an equal layout and of equal cells
+pub peels_same : (l layout : LayoutModel) (cells start : List Cell) (taken : List (List ℕ)) (rest : List Cell) → l ≡ layout → cells ≡ start
+    → Peels l cells taken rest → Peels layout start taken rest
+peels_same l layout cells start taken rest same from chain =
+    subst (λ (k : LayoutModel). Peels k start taken rest) same (subst (λ (cs : List Cell). Peels l cs taken rest) from chain)

@@ -1,29 +1,5 @@
 -- What a sketch of an inventory has, its file can hold.
-use Rattle.std.proofs.Common.{
-  ◌≡◌,
-  ℕ,
-  zero,
-  suc,
-  ◌+◌,
-  ◌*◌,
-  ◌/◌,
-  ◌%◌,
-  ◌^◌,
-  ◌<◌,
-  List,
-  [],
-  ◌∷◌,
-  length,
-  replicate,
-  get_or,
-  set,
-  refl,
-  sym,
-  ap,
-  ◌∙◌,
-  subst,
-  arith,
-}
+use Rattle.std.proofs.Common.{◌≡◌, ℕ, zero, suc, ◌+◌, ◌*◌, ◌/◌, ◌%◌, ◌^◌, ◌<◌, List, [], ◌∷◌, length, replicate, refl, sym, ap, ◌∙◌, arith}
 use Rattle.std.specs.Prelude.{slice_index, bit_xor}
 use Rattle.std.specs.List.{AllByRecursion}
 use Rattle.std.specs.Simd.Lanes.{zip2}
@@ -31,18 +7,22 @@ use Rattle.std.proofs.lemmas.Nat.{xor_of_8, xor_lt, mod_below}
 use Rattle.std.proofs.lemmas.List.{length-replicate}
 use Rattle.cadf_join.specs.Sets.{rising}
 use Rattle.cadf_set.specs.Inventory.{InventoryModel, AreDigests}
+use Rattle.cadf_join.specs.Contents.{Text}
 use Rattle.cadf_line.specs.Digest.{IsDigest}
 use Rattle.cadf_file.proofs.InventoryVerdictLemmas.{each_digest}
+use Rattle.cadf_file.proofs.RisingLists.{digests_push}
 use Rattle.sha2.specs.Sha256.{sha256, digest_bytes, final_hash, initial_hash_256}
 use Rattle.sha2.proofs.Facts256.{length-sha256}
+use Rattle.cadf_file.specs.InventoryFile.{inventory_text, inventory_digest}
 use Rattle.cadf_sketch.specs.Layouts.{LayoutModel, IsLayout}
 use Rattle.cadf_sketch.specs.Cells.{word, check, place_in, each_xor, nothing, mixed, mixed_at, cell_at, turned, turned_all}
-use Rattle.cadf_sketch.specs.Sketches.{cells_of, sketch_of}
+use Rattle.cadf_sketch.specs.Peeling.{Peels, none, more}
+use Rattle.cadf_sketch.specs.Refusals.{differing}
+use Rattle.cadf_sketch.specs.Sketches.{SketchModel, cells_of, sketch_of}
 use Rattle.cadf_sketch.specs.SketchFile.{AreWords64, IsTally, IsCell, HasParts}
 use Rattle.cadf_sketch.specs.Tallies.{with_bits, tallied, tallied_all, tally_of}
 use Rattle.cadf_sketch.specs.declared.cell.Cell.{Cell}
 use Rattle.cadf_sketch.specs.declared.tally.Tally.{Tally}
-use Rattle.cadf_sketch.specs.Texts.{inventory_text, inventory_digest}
 use Rattle.cadf_sketch.proofs.CellLemmas.{length-turned_all}
 use Rattle.cadf_sketch.proofs.LineLemmas.{append_fits, high_fits}
 
@@ -89,6 +69,28 @@ turned_cells cells d l p q =
 all_turned : (cells : List Cell) (ds : List (List ℕ)) (l : LayoutModel) → AreCells cells → AllByRecursion IsDigest ds → AreCells (turned_all cells ds l)
 all_turned cells [] l p q = p
 all_turned cells (d ∷ ds) l p q = all_turned (turned cells d l) ds l (turned_cells cells d l p q.0) q.1
+
+cell_is : (cells : List Cell) (place : ℕ) → AreCells cells → place < length cells → IsCell (cell_at cells place)
+cell_is [] place p below = absurd (omega (arith, below))
+cell_is (c ∷ cells) zero p below = p.0
+cell_is (c ∷ cells) (suc place) p below = cell_is cells place p.1 (omega (arith, below))
+
+-- what is taken out of cells is a digest each time
+taken_are : (l : LayoutModel) (start : List Cell) (taken : List Text) (rest : List Cell) → AreCells start → Peels l start taken rest
+    → AllByRecursion IsDigest taken × AreCells rest
+taken_are l start [] start' p none = (tt, p)
+taken_are l start taken rest p (more {taken = before} {cells = cells} place chain within lone) =
+    let both = taken_are l start before cells p chain in
+    let d = (cell_at cells place).digest in
+    let is = (cell_is cells place both.1 within).digest in
+    (digests_push IsDigest before d both.0 is, turned_cells cells d l both.1 is)
+
+-- so it is of the cells of a sketch that an inventory was put into
+pub peeled_are : (own : InventoryModel) (sketch : SketchModel) (taken : List Text) (rest : List Cell) → AreDigests own.digests → HasParts sketch
+    → Peels sketch.layout (differing own sketch) taken rest → AllByRecursion IsDigest taken
+peeled_are own sketch taken rest are parts chain =
+    (taken_are sketch.layout (differing own sketch) taken rest
+    (all_turned sketch.cells (rising own.digests) sketch.layout parts.cells (each_digest own.digests are)) chain).0
 
 zeros_fit : (n i : ℕ) → slice_index (replicate n 0) i < 256
 zeros_fit zero i = omega arith

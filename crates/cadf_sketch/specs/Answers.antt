@@ -6,9 +6,8 @@ use Rattle.cadf_line.specs.Digest.{atom_digest}
 use Rattle.cadf_set.specs.Inventory.{InventoryModel}
 use Rattle.cadf_line.specs.Missing.{digests_of, missing_by}
 use Rattle.cadf_set.specs.Replica.{ReplicaModel}
-use Rattle.cadf_file.specs.InventoryFile.{IsInventory}
+use Rattle.cadf_file.specs.InventoryFile.{IsInventory, inventory_digest}
 use Rattle.cadf_sketch.specs.Sketches.{SketchModel}
-use Rattle.cadf_sketch.specs.Texts.{inventory_digest}
 
 abbrev pub inventory_of : ReplicaModel → InventoryModel
 inventory_of held = record { log = held.log; digests = digests_of atom_digest held.atoms }

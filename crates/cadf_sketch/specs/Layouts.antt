@@ -1,6 +1,7 @@
 -- How the cells of a sketch are laid out: the cells of each of three tables, and the salt.
 --     IsLayout l             from 1 to 2^22 cells a table, and an odd salt
 --     are_cells n            a sketch can have that many cells in all
+--     default_cells          how many it has, where no number is given
 --     is_salt n              the number can be a salt
 --     layout_with cells salt the layout of that many cells in all
 --     layout_of cells salt   the same, if there is one
@@ -22,6 +23,9 @@ pub record IsLayout (l : LayoutModel) : Type 0 where
 -- a multiple of 3, from 3 to 3 * 2^22
 abbrev pub are_cells : ℕ → Bool
 are_cells n = nat_eq (n % 3) 0 && nat_le 3 n && nat_le n (3 * 2 ^ 22)
+
+abbrev pub default_cells : ℕ
+default_cells = 198
 
 abbrev pub is_salt : ℕ → Bool
 is_salt n = nat_eq (n % 2) 1

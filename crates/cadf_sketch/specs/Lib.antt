@@ -11,5 +11,4 @@ pub mod SketchReads
 pub mod SketchVerdict
 pub mod Sketches
 pub mod Tallies
-pub mod Texts
 pub mod Words

@@ -8,12 +8,12 @@ use Rattle.std.specs.Prelude.{◌≡◌, ◌≤◌, ◌*◌, ◌≢◌, ◌⊎�
 use Rattle.cadf_join.specs.Sets.{rising}
 use Rattle.cadf_join.specs.Contents.{Text}
 use Rattle.cadf_set.specs.Inventory.{InventoryModel}
+use Rattle.cadf_file.specs.InventoryFile.{inventory_digest}
 use Rattle.cadf_sketch.specs.Cells.{turned_all}
 use Rattle.cadf_sketch.specs.Flips.{flipped}
 use Rattle.cadf_sketch.specs.Peeling.{Peels, HasNoLone}
 use Rattle.cadf_sketch.specs.Sketches.{SketchModel}
 use Rattle.cadf_sketch.specs.Tallies.{tally_of, cells_to_ask}
-use Rattle.cadf_sketch.specs.Texts.{inventory_digest}
 use Rattle.cadf_sketch.specs.declared.cell.Cell.{Cell}
 use Rattle.cadf_sketch.specs.declared.reading.ReadFault.{ReadFault}
 use Rattle.cadf_sketch.specs.declared.reading.ReadFault.TheVariants.{OtherLog, TooFewCells, Memory}

@@ -1,6 +1,8 @@
 //! Flips digests in an inventory.
 ghost use Rattle.std.specs.Prelude.{◌≡◌, ◌∷◌, [], OnOk, IfOk};
+ghost use Rattle.std.specs.List.{AllByRecursion};
 ghost use Rattle.cadf_join.specs.Sets as set;
+ghost use Rattle.cadf_line.specs.Digest.{IsDigest};
 ghost use Rattle.cadf_sketch.specs.Flips.{apart};
 
 use cadf_json::Memory;
@@ -11,15 +13,12 @@ use std::alloc::Global;
 pub(crate) fn of_taken(
     alloc: Global,
     own: &Inventory,
-    taken: &[[u8; 32]],
+    taken: Vec<[u8; 32]>,
 ) -> Result<Inventory, Memory>
-    ensures { IfOk result (λ i. i ≡ record { log = own.now.log; digests = set.from_list taken.now }) }
+    requires { AllByRecursion IsDigest taken.items }
+    ensures { IfOk result (λ i. i ≡ record { log = own.now.log; digests = set.from_list taken.items }) }
 {
-    let mut made = Inventory::new(alloc, own.log().copy(alloc)?);
-    for digest in taken {
-        made.put(digest)?;
-    }
-    Ok(made)
+    Inventory::of(alloc, own.log().copy(alloc)?, taken)
 }
 
 /// Takes the digest out where it is there, and puts it in where it isn't.

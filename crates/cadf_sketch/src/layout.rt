@@ -1,7 +1,7 @@
 //! How the cells of a sketch are laid out.
 ghost use Rattle.std.specs.Prelude.{◌≡◌, ◌<◌, ◌≤◌, ◌*◌, ◌/◌, ◌+◌, ◌^◌, if◌then◌else◌, Some, None};
 ghost use Rattle.cadf_sketch.specs.Cells.{word};
-ghost use Rattle.cadf_sketch.specs.Layouts.{are_cells, is_salt, layout_with, IsLayout};
+ghost use Rattle.cadf_sketch.specs.Layouts.{are_cells, default_cells, is_salt, layout_with, IsLayout};
 
 use crate::cell::word;
 use std::marker::Model;
@@ -42,9 +42,9 @@ impl Cells {
         }
     }
 
-    /// Returns 198 cells: enough for some 100 differences.
+    /// Returns the number of cells of a sketch for which none is given: enough for some 100 differences.
     pub fn by_default() -> Cells
-        ensures { result ≡ 198 }
+        ensures { result ≡ default_cells }
     {
         Cells { count: 198 }
     }

@@ -3,7 +3,6 @@
 
 mod answer;
 mod cell;
-mod digest;
 mod flip;
 mod head;
 mod laws;
@@ -21,7 +20,6 @@ mod turn;
 
 pub use answer::missing_by_sketch;
 pub use cell::Cell;
-pub use digest::inventory_digest;
 pub use head::Head;
 pub use laws::{
     accepted_bytes_are_sketches, cells_are_what_stands_there, enough_cells_are_read,

@@ -68,7 +68,7 @@ pub(crate) fn peel(
 ) -> Result<Vec<[u8; 32]>, Memory>
     requires { length cells.old ≡ 3 * layout.size }
     ensures chain { IfOk result (λ taken. Peels layout cells.old taken.items cells.new) }
-    ensures stops { IfOk result (λ taken. HasNoLone layout cells.new ⊎ (3 * layout.size ≤ vec_len taken)) }
+    ensures stops { IfOk result (λ taken. HasNoLone layout cells.new ⊎ (3 * layout.size ≤ length taken.items)) }
 {
     let mut pending = all_places(alloc, cells.len())?;
     let mut taken = Vec::new(alloc);

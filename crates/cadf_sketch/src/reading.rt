@@ -1,16 +1,16 @@
 //! Finds the inventory that a sketch was made of.
 ghost use Rattle.std.specs.Prelude.{◌≡◌, ◌*◌, ◌↔◌, IfOk, IfErr, IsTrue, OnOk, vec_len};
 ghost use Rattle.cadf_join.specs.Sets.{rising};
+ghost use Rattle.cadf_file.specs.InventoryFile.{inventory_digest};
 ghost use Rattle.cadf_sketch.specs.Flips.{apart};
-ghost use Rattle.cadf_sketch.specs.Texts.{inventory_digest};
 ghost use Rattle.cadf_sketch.specs.Tallies.{tally_of, cells_to_ask};
 ghost use Rattle.cadf_sketch.specs.Refusals.{differing, IsPeeled, IsReadFault};
 
 use crate::cell::Cell;
-use crate::digest::inventory_digest;
 use crate::flip::{flip, of_taken};
 use crate::peel::peel;
 use crate::sketch::{Sketch, tally, turn_all};
+use cadf_file::inventory_digest;
 use cadf_json::Memory;
 use cadf_set::Inventory;
 use std::alloc::Global;
@@ -56,9 +56,12 @@ fn flip_peeled(alloc: Global, own: &mut Inventory, sketch: &Sketch) -> Result<In
     ensures peeled { OnOk result (IsPeeled own.old sketch.now own.new) }
     ensures back { IfOk result (λ taken. apart own.new.digests taken.digests ≡ own.old.digests) }
 {
+    own.type_invariant();
+    sketch.type_invariant();
     let mut cells = differing(alloc, own, sketch)?;
     let found = peel(alloc, &mut cells, sketch.layout())?;
-    let taken = of_taken(alloc, own, found.as_slice())?;
+    drop(cells);
+    let taken = of_taken(alloc, own, found)?;
     flip(own, &taken)?;
     Ok(taken)
 }

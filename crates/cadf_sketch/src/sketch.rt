@@ -1,21 +1,21 @@
 //! A sketch of an inventory.
 ghost use Rattle.std.specs.Prelude.{◌≡◌, ◌*◌, ◌/◌, ◌+◌, IfOk, length, replicate, unwrap_or};
 ghost use Rattle.cadf_join.specs.Sets.{rising};
+ghost use Rattle.cadf_file.specs.InventoryFile.{inventory_digest};
 ghost use Rattle.cadf_sketch.specs.Cells.{nothing, turned_all, word};
 ghost use Rattle.cadf_event.specs.Known.{IsNameText};
 ghost use Rattle.cadf_sketch.specs.SketchFile.{HasParts};
 ghost use Rattle.cadf_sketch.specs.Sketches.{sketch_of, asked};
 ghost use Rattle.cadf_sketch.specs.SketchVerdict.{sketch_of_parts};
 ghost use Rattle.cadf_sketch.specs.Tallies.{tally_of};
-ghost use Rattle.cadf_sketch.specs.Texts.{inventory_digest};
 
 use crate::cell::Cell;
-use crate::digest::inventory_digest;
 use crate::head::Head;
 use crate::layout::{Cells, Layout, Salt};
 use crate::tally::Tally;
 use crate::turn::turn;
 use cadf_event::Name;
+use cadf_file::inventory_digest;
 use cadf_json::Memory;
 use cadf_set::Inventory;
 use std::alloc::Global;

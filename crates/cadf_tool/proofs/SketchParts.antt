@@ -5,11 +5,10 @@ use Rattle.cadf_line.specs.Digest.{atom_digest}
 use Rattle.cadf_line.specs.Missing.{missing_by}
 use Rattle.cadf_set.specs.Inventory.{InventoryModel}
 use Rattle.cadf_set.specs.Replica.{ReplicaModel}
-use Rattle.cadf_file.specs.InventoryFile.{IsInventory}
+use Rattle.cadf_file.specs.InventoryFile.{IsInventory, inventory_digest, ShareNoDigest}
 use Rattle.cadf_sketch.specs.Answers.{IsAnswer}
-use Rattle.cadf_sketch.specs.Layouts.{LayoutModel, are_cells, layout_with}
+use Rattle.cadf_sketch.specs.Layouts.{LayoutModel, are_cells, default_cells, layout_with}
 use Rattle.cadf_sketch.specs.Sketches.{SketchModel, sketch_of, own_salt, asked}
-use Rattle.cadf_sketch.specs.Texts.{inventory_digest, ShareNoDigest}
 use Rattle.cadf_sketch.proofs.AskedLemmas.{asked_is}
 use Rattle.cadf_sketch.proofs.DigestLemmas.{same_inventory}
 use Rattle.cadf_sketch.proofs.SketchFileLemmas.{sketch-file-tells}
@@ -46,7 +45,7 @@ sketched_digest n layout = refl
 
 -- the sketch of an input is that of its inventory
 pub sketched_is : (cells salt : Option ℕ) (loaded : Loaded) (sketch : SketchModel) → sketch_model_of cells salt loaded ≡ Ok sketch
-    → (noted : InventoryModel) × (inventory_model_of loaded ≡ Ok noted) × (sketch ≡ asked noted (unwrap_or cells 198) salt)
+    → (noted : InventoryModel) × (inventory_model_of loaded ≡ Ok noted) × (sketch ≡ asked noted (unwrap_or cells default_cells) salt)
 sketched_is cells salt loaded sketch e = by (inventory_model_of loaded) refl e
   where
     same_sketch : (s : SketchModel) → ◌≡◌ {A = Result SketchModel ToolFault} (Ok s) (Ok sketch) → sketch ≡ s
@@ -56,11 +55,11 @@ sketched_is cells salt loaded sketch e = by (inventory_model_of loaded) refl e
     no_sketch fault e = cc
 
     by : (r : Result InventoryModel ToolFault) → inventory_model_of loaded ≡ r → sketch_of_result cells salt r ≡ Ok sketch
-        → (noted : InventoryModel) × (inventory_model_of loaded ≡ Ok noted) × (sketch ≡ asked noted (unwrap_or cells 198) salt)
-    by (Ok noted) is k = (noted, is, same_sketch (asked noted (unwrap_or cells 198) salt) k)
+        → (noted : InventoryModel) × (inventory_model_of loaded ≡ Ok noted) × (sketch ≡ asked noted (unwrap_or cells default_cells) salt)
+    by (Ok noted) is k = (noted, is, same_sketch (asked noted (unwrap_or cells default_cells) salt) k)
     by (Err fault) is k = absurd (no_sketch fault k)
 
-cells_asked : (cells : Option ℕ) → IfSome cells (λ n. are_cells n ≡ true) → are_cells (unwrap_or cells 198) ≡ true
+cells_asked : (cells : Option ℕ) → IfSome cells (λ n. are_cells n ≡ true) → are_cells (unwrap_or cells default_cells) ≡ true
 cells_asked None h = refl
 cells_asked (Some n) h = h
 
@@ -70,7 +69,7 @@ pub sketched_by : (to : List ℕ → Type 0) (noted : InventoryModel) (sketch : 
 sketched_by to noted sketch (bytes, (other, cells, salt, given, read, made, is), input) =
     let n : Notes other noted = notes other noted made in
     let inventory = notes_inventory read.0 other noted read.2 n in
-    let many = unwrap_or cells 198 in
+    let many = unwrap_or cells default_cells in
     let same : asked noted many salt ≡ sketch =
     sketch-file-tells (asked noted many salt) sketch (asked_is noted many salt inventory (cells_asked cells given.number) given.odd) input.holds
     (sym is ∙ input.is) in

@@ -7,7 +7,7 @@ use Rattle.std.specs.Prelude.{◌≡◌, ◌<◌, ◌≤◌, ◌^◌, ℕ, true,
 use Rattle.cadf_set.specs.Inventory.{InventoryModel}
 use Rattle.cadf_set.specs.Replica.{ReplicaModel}
 use Rattle.cadf_sketch.specs.Answers.{inventory_of, IsAnswer}
-use Rattle.cadf_sketch.specs.Layouts.{are_cells, is_salt}
+use Rattle.cadf_sketch.specs.Layouts.{are_cells, default_cells, is_salt}
 use Rattle.cadf_sketch.specs.Refusals.{IsReadFault}
 use Rattle.cadf_sketch.specs.SketchFile.{sketch_file, IsSketch}
 use Rattle.cadf_sketch.specs.Sketches.{SketchModel, asked}
@@ -23,9 +23,9 @@ pub record AreAsked (cells salt : Option ℕ) : Type 0 where
   pub number : IfSome cells (λ n. are_cells n ≡ true)
   pub odd : IfSome salt (λ a. (is_salt a ≡ true) × (a < 2 ^ 64))
 
--- of 198 cells, where no number is given, and with the inventory's own salt, where none is given
+-- of the default number of cells, where none is given, and with the inventory's own salt, where none is given
 abbrev pub sketch_of_result : Option ℕ → Option ℕ → Result InventoryModel ToolFault → Result SketchModel ToolFault
-sketch_of_result cells salt (Ok noted) = Ok (asked noted (unwrap_or cells 198) salt)
+sketch_of_result cells salt (Ok noted) = Ok (asked noted (unwrap_or cells default_cells) salt)
 sketch_of_result cells salt (Err fault) = Err fault
 
 -- THE SKETCH of an input

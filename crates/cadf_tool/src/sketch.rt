@@ -1,6 +1,7 @@
 //! A short sketch of what an input has, as a sketch file.
 ghost use Rattle.std.specs.Prelude.{◌≡◌, IfOk, unwrap_or};
 ghost use Rattle.cadf_sketch.specs.Answers.{inventory_of};
+ghost use Rattle.cadf_sketch.specs.Layouts.{default_cells};
 ghost use Rattle.cadf_sketch.specs.SketchFile.{sketch_file};
 ghost use Rattle.cadf_sketch.specs.Sketches.{asked};
 ghost use Rattle.cadf_tool.specs.Sketch.{sketch_model_of};
@@ -14,9 +15,9 @@ use cadf_replica::Replica;
 use cadf_sketch::{Cells, Salt, Sketch, write_sketch};
 use std::alloc::Global;
 
-/// Returns the cells, or 198.
+/// Returns the cells, or those of a sketch for which no number is given.
 fn cells_or_default(cells: Option<Cells>) -> Cells
-    ensures { result ≡ unwrap_or cells 198 }
+    ensures { result ≡ unwrap_or cells default_cells }
 {
     match cells {
         Some(cells) => cells,
@@ -24,15 +25,15 @@ fn cells_or_default(cells: Option<Cells>) -> Cells
     }
 }
 
-/// Makes the sketch of the replica's inventory: of 198 cells if no number is given, with the inventory's own salt if
-/// none is given. `Memory` if an allocation fails.
+/// Makes the sketch of the replica's inventory: of `Cells::by_default` if no number is given, with the inventory's own
+/// salt if none is given. `Memory` if an allocation fails.
 fn sketch_of(
     alloc: Global,
     cells: Option<Cells>,
     salt: Option<Salt>,
     replica: &Replica,
 ) -> Result<Sketch, Memory>
-    ensures { IfOk result (λ sketch. sketch ≡ asked (inventory_of replica.now) (unwrap_or cells 198) salt) }
+    ensures { IfOk result (λ sketch. sketch ≡ asked (inventory_of replica.now) (unwrap_or cells default_cells) salt) }
 {
     let inventory = replica.inventory()?;
     Sketch::of(alloc, &inventory, cells_or_default(cells), salt)
@@ -77,9 +78,9 @@ fn write_sketched<W: Sink>(alloc: Global, sketch: &Sketch, output: &mut W) -> Re
     answered(write_sketch(alloc, sketch, output))
 }
 
-/// Writes the sketch file of an input's inventory: of 198 cells if no number is given, and with the salt that the
-/// inventory's digest makes if none is given, so that one set has one sketch. `Err`: why nothing was written, or only a
-/// prefix.
+/// Writes the sketch file of an input's inventory: of `Cells::by_default` if no number is given, and with the salt that
+/// the inventory's digest makes if none is given, so that one set has one sketch. `Err`: why nothing was written, or
+/// only a prefix.
 pub fn run_sketch<R: Source, W: Sink>(
     alloc: Global,
     cells: Option<Cells>,

@@ -3,7 +3,7 @@
 use crate::reads::Reading;
 use crate::streams::{sink_of, written};
 use cadf_event::Name;
-use cadf_file::{FileFault, read_inventory, write_inventory};
+use cadf_file::{FileFault, inventory_digest, read_inventory, write_inventory};
 use cadf_json::Memory;
 use cadf_replica::Inventory;
 use calls::{Call, answer, push, refused};
@@ -57,4 +57,15 @@ pub(crate) fn write(alloc: Global, call: &Call) -> Result<String, Memory> {
     let mut sink = sink_of(alloc, call, 1);
     let done = write_inventory(alloc, &inventory, &mut sink);
     written(alloc, done, &sink)
+}
+
+/// Answers `inventory_digest`: a log and digests.
+pub(crate) fn digest(alloc: Global, call: &Call) -> Result<String, Memory> {
+    match inventory_of(alloc, call, 1) {
+        Some(inventory) => {
+            let digest = inventory_digest(alloc, &inventory)?;
+            answer(alloc, "ok", &[hex::encode(alloc, &digest)?.as_str()])
+        }
+        None => answer(alloc, "no inventory", &[]),
+    }
 }

@@ -28,12 +28,12 @@ pub fn answered(alloc: Global, call: &Call) -> Result<String, Memory> {
         "read_rest" => feeds::read_rest_of(alloc, call),
         "read_inventory" => inventories::read(alloc, call),
         "write_inventory" => inventories::write(alloc, call),
+        "inventory_digest" => inventories::digest(alloc, call),
         "write_log" | "write_conflicts" => texts::write(alloc, call),
         "read_sketch" => sketches::read(alloc, call),
         "write_sketch" => sketches::write(alloc, call),
         "read_by" => sketches::read_by(alloc, call),
         "missing_by_sketch" => sketches::missing(alloc, call),
-        "inventory_digest" => sketches::digest(alloc, call),
         "fault_text" => faults::fault_text(alloc, call),
         _ => calls::answer(alloc, "no such call", &[]),
     }

@@ -6,9 +6,7 @@ use crate::replicas::{replica_of, shown as replica_shown};
 use crate::streams::{sink_of, written};
 use cadf_file::FileFault;
 use cadf_json::Memory;
-use cadf_sketch::{
-    Cell, Cells, Salt, Sketch, inventory_digest, missing_by_sketch, read_sketch, write_sketch,
-};
+use cadf_sketch::{Cell, Cells, Salt, Sketch, missing_by_sketch, read_sketch, write_sketch};
 use calls::{Call, answer, push, push_number, refused};
 use std::alloc::Global;
 
@@ -96,16 +94,5 @@ pub(crate) fn missing(alloc: Global, call: &Call) -> Result<String, Memory> {
     match missing_by_sketch(alloc, &own, &sketch) {
         Ok(part) => replica_shown(alloc, &part),
         Err(fault) => refused(alloc, &fault),
-    }
-}
-
-/// Answers `inventory_digest`: a log and digests.
-pub(crate) fn digest(alloc: Global, call: &Call) -> Result<String, Memory> {
-    match inventory_of(alloc, call, 1) {
-        Some(inventory) => {
-            let digest = inventory_digest(alloc, &inventory)?;
-            answer(alloc, "ok", &[hex::encode(alloc, &digest)?.as_str()])
-        }
-        None => answer(alloc, "no inventory", &[]),
     }
 }

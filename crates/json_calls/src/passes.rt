@@ -1,5 +1,6 @@
 //! Texts of which nothing is kept.
 
+use json::Scratch;
 use std::alloc::{AllocError as Memory, Global};
 
 /// Tells whether the text is a list that can be passed over.
@@ -22,6 +23,16 @@ pub(crate) fn is_canonical(alloc: Global, text: &str, depth: &str) -> Result<Str
         return calls::answer(alloc, "no such depth", &[]);
     };
     let is = cadf_json::is_canonical(alloc, text, depth)?;
+    format!(in alloc; "{is}")
+}
+
+/// Answers whether the value of a canonical text nests no deeper than the number.
+pub(crate) fn nests_within(alloc: Global, text: &str, depth: &str) -> Result<String, Memory> {
+    let Ok(depth) = depth.parse::<u8>() else {
+        return calls::answer(alloc, "no such depth", &[]);
+    };
+    let mut scratch = Scratch::new(alloc);
+    let is = cadf_json::nests_within(&mut scratch, text, depth)?;
     format!(in alloc; "{is}")
 }
 

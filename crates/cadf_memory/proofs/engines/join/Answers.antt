@@ -1,9 +1,10 @@
-use Rattle.std.proofs.Common.{Some, ap, sym, refl, map, ◌∙◌}
+use Rattle.std.proofs.Common.{Some, ap, refl, rules, map, ◌∙◌}
 use Rattle.cadf_tool.specs.Join.{join_of}
 use Rattle.cadf_tool.specs.WrittenFile.{file}
 use Rattle.cadf_memory.specs.Memory.{slice_left}
 use Rattle.cadf_memory.proofs.Lists.{lefts, none_has_failed, refused_unread}
 use Rattle.cadf_memory.proofs.Made.{run_made_all}
+use Rattle.cadf_memory.proofs.OfMemory.{first_of_memory_all}
 use Rattle.cadf_memory.proofs.Refused.{run_refused_all}
 use Rattle.cadf_memory.proofs.engines.join.Goals as goal
 
@@ -12,7 +13,8 @@ returns-in_default-clause-err c = refused_unread (join_of _) _
 
 pub returns-in-Ok-run_join-clause-ok : goal.returns-in-Ok-run_join-clause-ok
 returns-in-Ok-run_join-clause-ok c =
-    run_made_all file _ _ _ _ _ (ap Some c.new-sink.ensures) (ap Some (sym c.into_bytes.ensures)) _ (join_of _)
+    run_made_all file _ _ _ _ c.new-buffer.result c.run_join.new.output refl refl _ _ _ c.new-buffer.ensures.before c.new-buffer.ensures.text
+    c.length.ensures (λ same. search rules) _ (join_of _)
     c.as_mut_slice.result.now c.run_join.new.inputs _
     (lefts _ slice_left (λ s. refl) c.as_mut_slice.result.now
     ∙ ap (map Some) (ap (map slice_left) c.as_mut_slice.ensures.value ∙ c.in-Ok.ensures)) c.in-Ok-run_join.ensures
@@ -24,3 +26,6 @@ returns-clause-err c =
     (lefts _ slice_left (λ s. refl) c.as_mut_slice.result.now
     ∙ ap (map Some) (ap (map slice_left) c.as_mut_slice.ensures.value ∙ c.in-Ok.ensures))
     (none_has_failed _ (λ s. refl) c.as_mut_slice.result.now) (none_has_failed _ (λ s. refl) c.run_join.new.inputs) c.in-Err.ensures
+
+pub returns-clause-only : goal.returns-clause-only
+returns-clause-only c = first_of_memory_all (join_of _) _ _ (returns-clause-err c)

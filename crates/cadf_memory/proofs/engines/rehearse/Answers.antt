@@ -1,14 +1,16 @@
-use Rattle.std.proofs.Common.{Some, ap, sym, refl}
+use Rattle.std.proofs.Common.{Some, ap, refl, rules}
 use Rattle.cadf_tool.specs.Rehearse.{script_spec, final_sites}
 use Rattle.cadf_tool.specs.Sites.{sites_text}
 use Rattle.cadf_memory.proofs.Made.{run_made}
+use Rattle.cadf_memory.proofs.OfMemory.{first_of_memory, script_safe}
 use Rattle.cadf_memory.proofs.Refused.{run_refused}
 use Rattle.cadf_memory.proofs.States.{slice_transition}
 use Rattle.cadf_memory.proofs.engines.rehearse.Goals as goal
 
 pub returns-in-Ok-clause-ok : goal.returns-in-Ok-clause-ok
 returns-in-Ok-clause-ok c =
-    run_made sites_text _ _ _ _ _ (ap Some c.new-sink.ensures) (ap Some (sym c.into_bytes.ensures)) script_spec (final_sites _ _)
+    run_made sites_text _ _ _ _ c.new-buffer.result c.run_rehearse.new.output refl refl _ _ _ c.new-buffer.ensures.before c.new-buffer.ensures.text
+    c.length.ensures (λ same. search rules) script_spec (final_sites _ _)
     (slice_transition c.new-source.result c.run_rehearse.new.script) _
     (ap Some c.new-source.ensures) c.in-Ok.ensures.final_sites
 
@@ -16,4 +18,7 @@ pub returns-in-Err-clause-err : goal.returns-in-Err-clause-err
 returns-in-Err-clause-err c =
     run_refused sites_text _ _ _ c.in-Err.fault c.unwritten.result c.unwritten.ensures script_spec (final_sites _ _)
     (slice_transition c.new-source.result c.run_rehearse.new.script) _
-    (ap Some c.new-source.ensures) refl c.in-Err.ensures.final_sites
+    (ap Some c.new-source.ensures) refl refl c.in-Err.ensures.final_sites
+
+pub returns-in-Err-clause-only : goal.returns-in-Err-clause-only
+returns-in-Err-clause-only c = first_of_memory script_spec script_safe _ _ _ (returns-in-Err-clause-err c)

@@ -1,9 +1,7 @@
-use Rattle.std.proofs.Common.{◌≡◌, ◌++◌, drop, length, map}
+use Rattle.std.proofs.Common.{◌≡◌, ◌++◌, drop, map}
 use Rattle.cadf_join.specs.Prefixes.{all_texts}
+use Rattle.cadf_pathset.specs.Nodes.{rest_of}
 use Rattle.cadf_pathset.proofs.suffix_range.SuffixRange.copy_all.Given as goal
 
-abbrev pub invariant-loop-cursor : goal.invariant-loop-cursor
-invariant-loop-cursor l = all_texts l.lists.items ++ map (drop l.self-inside.depth) l.cursor.1 ≡ l.self
-
-abbrev pub decreases-loop-cursor : goal.decreases-loop-cursor
-decreases-loop-cursor l = length l.cursor.1
+abbrev pub invariant-loop-node : goal.invariant-loop-node
+invariant-loop-node l = all_texts l.lists.items ++ map (rest_of l.self-inside.nodes.now l.self-inside.depth) (drop l.node-index l.node-items) ≡ l.self

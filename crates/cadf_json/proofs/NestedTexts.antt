@@ -1,0 +1,46 @@
+-- How deep the value of a canonical text nests, seen by skipping it.
+use Rattle.std.proofs.Common.{◌≡◌, ℕ, ◌≤◌, List, [], Bool, true, false, Option, Some, None, option_map, refl, sym, ap, ◌∙◌, arith}
+use Rattle.std.specs.Prelude.{nat_le}
+use Rattle.json.specs.Token.{Token}
+use Rattle.json.specs.Lex.{tokens}
+use Rattle.json.specs.Json as json
+use Rattle.json.specs.Json.{value, skip_value}
+use Rattle.json.specs.Tree as tree
+use Rattle.json.proofs.Found.{one_reading}
+use Rattle.json.proofs.Nesting.{value-depth}
+use Rattle.serde_json.specs.Data.{Data, depth}
+use Rattle.serde_json.specs.Written.{outline}
+use Rattle.cadf_json.specs.Value.{IsValue, text}
+use Rattle.cadf_json.proofs.Canonicals.{canonical_value}
+use Rattle.cadf_json.proofs.Texts.{depth-outline}
+
+depth_at : (n : ℕ) (s : List ℕ) (d : Data) (p : json.Json × List Token) → IsValue d → s ≡ text d → value n (tokens s) ≡ Some p → depth d ≤ n
+depth_at n s d p v e read =
+    let same = one_reading n 127 (tokens s) p (outline d, []) read (canonical_value 127 s d v v.1 e) in
+    let first : p.0 ≡ outline d = cc in
+    let low = value-depth n (tokens s) p.1 p.0 read in
+    let here = ap tree.depth first in
+    omega (arith, low, here, depth-outline d)
+
+some_at : (n : ℕ) (s : List ℕ) (d : Data) (o : Option (json.Json × List Token)) (r : List Token) → IsValue d → s ≡ text d → value n (tokens s) ≡ o
+    → option_map (λ p. p.1) o ≡ Some r → depth d ≤ n
+some_at n s d None r v e read h = absurd cc
+some_at n s d (Some p) r v e read h = depth_at n s d p v e read
+
+-- a text that can be skipped nests no deeper
+pub skipped_within : (n : ℕ) (s : List ℕ) (r : List Token) → skip_value n (tokens s) ≡ Some r → (d : Data) → IsValue d → s ≡ text d → true ≡ nat_le (depth d) n
+skipped_within n s r h d v e =
+    let deep = some_at n s d (value n (tokens s)) r v e refl h in
+    grind arith
+
+deeper_at : (n : ℕ) (s : List ℕ) (d : Data) (b : Bool) → skip_value n (tokens s) ≡ None → IsValue d → s ≡ text d → nat_le (depth d) n ≡ b → false ≡ b
+deeper_at n s d false h v e is = refl
+deeper_at n s d true h v e is =
+    let shallow : depth d ≤ n = grind arith in
+    let read = ap (option_map (λ p. p.1)) (canonical_value n s d v shallow e) in
+    let bad : ◌≡◌ {A = Option (List Token)} None (Some []) = sym h ∙ read in
+    absurd cc
+
+-- one that can't be skipped nests deeper
+pub not_skipped_within : (n : ℕ) (s : List ℕ) → skip_value n (tokens s) ≡ None → (d : Data) → IsValue d → s ≡ text d → false ≡ nat_le (depth d) n
+not_skipped_within n s h d v e = deeper_at n s d (nat_le (depth d) n) h v e refl

@@ -1,0 +1,14 @@
+use Rattle.std.proofs.Common.{◌∷◌, ◌≡◌, ◌≤◌, ◌<◌, ◌-◌, ℕ, true, false, [], length, get_or}
+use Rattle.cadf_pathset.specs.Lists.{is_before}
+use Rattle.cadf_pathset.proofs.suffix_range.SuffixRange.bounds.Given as goal
+
+abbrev pub invariant-loop-low : goal.invariant-loop-low
+invariant-loop-low l = record {
+  within : l.low ≤ l.high;
+  ends : l.high ≤ length l.self;
+  below : (k : ℕ) → k < l.low → is_before (l.text ∷ []) false (get_or l.self k []) ≡ true;
+  above : (k : ℕ) → l.high ≤ k → k < length l.self → is_before (l.text ∷ []) true (get_or l.self k []) ≡ false;
+}
+
+abbrev pub decreases-loop-low : goal.decreases-loop-low
+decreases-loop-low l = l.high - l.low

@@ -1,0 +1,14 @@
+use Rattle.std.proofs.Common.{◌∷◌, ◌≡◌, ◌≤◌, ◌<◌, ◌-◌, ℕ, true, [], length, get_or}
+use Rattle.cadf_pathset.specs.Lists.{is_before}
+use Rattle.cadf_pathset.proofs.suffix_range.SuffixRange.gallop.Given as goal
+
+abbrev pub invariant-loop-step : goal.invariant-loop-step
+invariant-loop-step l = record {
+  from : l.from ≤ l.low;
+  within : l.low ≤ length l.self;
+  some : 1 ≤ l.step;
+  below : (k : ℕ) → k < l.low → is_before (l.text ∷ []) true (get_or l.self k []) ≡ true;
+}
+
+abbrev pub decreases-loop-step : goal.decreases-loop-step
+decreases-loop-step l = length l.self - l.low
