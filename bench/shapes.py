@@ -71,6 +71,11 @@ def falling(numbers):
     return "{%s}" % ",".join('"m%08d":1' % number for number in reversed(numbers))
 
 
+def nested_falling(numbers):
+    """A list of numbers in objects of which each has its members in falling order."""
+    return '{"b":0,"a":' * 98 + "[%s]" % ",".join(map(str, numbers)) + "}" * 98
+
+
 def step(reporter):
     return {"reporterId": reporter, "role": "relay"}
 
@@ -105,6 +110,11 @@ SHAPES = {
     "tiny": Shape(8, lambda numbers: properties({"x": tiny(numbers)}), memory=TINY),
     "tiny-events": Shape(8, lambda numbers: {"events": tiny(numbers)}, status=1, forms=("document",), memory=TINY),
     "falling": Shape(13, lambda numbers: properties({"x": falling(numbers)}), forms=("document",)),
+    "nested-falling": Shape(7, lambda numbers: properties({"x": nested_falling(numbers)}), forms=("document",)),
+    "nested-resources": Shape(220, lambda numbers: {"events": [], "resources": (
+        '{"id":"r%07d","x":%s}' % (n, "[" * 98 + "0" + "]" * 98) for n in numbers)}, forms=("document",)),
+    "tiny-resource": Shape(8, lambda numbers: {"events": [], "resources": ['{"id":"r","x":[%s]}' % ",".join(tiny(numbers))]},
+                           forms=("document",), memory=TINY),
     "fraction": Shape(8, lambda numbers: properties({"x": fraction(numbers)}),
                       lambda numbers: [("P", "x", "[%s]" % ",".join(fraction(numbers)))], status=1, memory=TINY),
 }
