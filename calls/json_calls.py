@@ -25,6 +25,7 @@ CALLS = {
     "find_fraction": ["find_fraction"],
     "is_canonical": ["is_canonical"],
     "spells_object": ["spells_object"],
+    "nests_within": ["nests_within"],
     "has_text_at": ["has_text_at"],
     "read_to_limit": ["read_to_limit", "MemorySource::new", "Source::read"],
     "read_rest": ["cadf_json::read_rest"],
@@ -126,15 +127,22 @@ FOUND = [
     ('{"x":1,"id":1,"tags":[]}', ["rewritten_text", "time", "t", "id", "tags"], ["ok", '{"x":1}']),
 ]
 
-# Objects of which `list` is taken: what is left, and the items.
+# Objects of which `list` is taken: the tree, which has `kept` too, the items, and the texts of the other members.
 AROUND = [
-    (' { "z" : [1,2], "list" : [ {"b":1,"a":[]} , null , 7, "\\u0041" ] , "a":{"list":[3]} } ',
-     '{"a":{"list":[3]},"list":[],"z":[1,2]}', ['{"a":[],"b":1}', "null", "7", '"A"']),
-    ('{"list":[]}', '{"list":[]}', []),
+    (' { "kept" : [1,{"c":2,"b":3}], "list" : [ {"b":1,"a":[]} , null , 7, "\\u0041" ] , "a":{"list":[3]} , "Z" : -1 } ',
+     '{"kept":[1,{"b":3,"c":2}],"list":[]}', ['{"a":[],"b":1}', "null", "7", '"A"'], {"Z": "-1", "a": '{"list":[3]}'}),
+    ('{"list":[]}', '{"list":[]}', [], {}),
+    # Of two members the later one counts, also as a text, and a fraction that it replaces doesn't.
+    ('{"é":1,"list":[],"é":[ { "x" : 1.5 , "y" : [ 1 ] , "x" : { "b" : "\\u0041\\n" , "a" : true , "b" : { } } } ]}',
+     '{"list":[]}', [], {"é": '[{"x":{"a":true,"b":{}},"y":[1]}]'}),
+    ('{"b":{"z":"\\"","y":{"d":[{}],"c":[],"":null}},"list":[],"a":%s}' % LATE[65], '{"list":[]}', [],
+     {"a": '{"a":1,' + LATE[65][1:].replace(',"a":1', ""), "b": '{"y":{"":null,"c":[],"d":[{}]},"z":"\\""}'}),
+    ('{"list":[],"x":%s}' % nested(126), '{"list":[]}', [], {"x": nested(126)}),
 ]
-WITHOUT_LIST = [("{}", "{}"), (' {"b":{"list":[1]},"a":[{}]} ', '{"a":[{}],"b":{"list":[1]}}')]
+WITHOUT_LIST = ["{}", ' {"b":{"list":[1]},"a":[{}]} ', '{"b":1,"b":2}']
 NO_SPLIT = ["", "[]", '{"list":[]', '{"list":[]} {}', '{"list":[1.5]}', '{"list":{}}', '{"list":null}', '{"a":1} 2',
-            '{"b":1,"b":2}', '{"b":[0.5]}', '{"list":[],"list":[]}', '{"a":1,"list":[],"a":1}']
+            '{"kept":1,"kept":2}', '{"b":[0.5]}', '{"list":[],"list":[]}', '{"list":[],"b":{"c":[-0]}}',
+            '{"list":[],"x":%s}' % nested(127), '{"list":[],"x":{"a":1e400,"a":1}}', '{"list":[],"x":[1,]}']
 
 # Lists that are passed over with nothing kept, and texts that aren't.
 PASSED = ["[]", ' [ { "a" : 1 } , { "a" : [ ] } ] ', "[-9223372036854775808,18446744073709551615,0,-1]",
@@ -269,10 +277,11 @@ def made():
 
 def passed():
     """Objects of which a list is taken, lists that are passed over, and texts that may be JSON."""
-    for text, rest, items in AROUND:
-        yield "split", [text, "list"], ["around", rest, *items], VALUES
-    for text, whole in WITHOUT_LIST:
-        yield "split", [text, "list"], ["whole", whole], VALUES
+    for text, tree, items, texts in AROUND:
+        beside = [word for member in texts.items() for word in member]
+        yield "split", [text, "list"], ["around", tree, *items, *beside], VALUES
+    for text in WITHOUT_LIST:
+        yield "split", [text, "list"], ["none"], VALUES
     for text in NO_SPLIT:
         yield "split", [text, "list"], ["err", "NeedsFullParse"], VALUES
     for text in PASSED:
@@ -292,7 +301,9 @@ def passed():
         yield "is_canonical", [text, depth], [True], CANONICAL
         yield "is_canonical", [text, 255], [True], CANONICAL
         yield "spells_object", [text], [text.startswith("{")], VALUES
+        yield "nests_within", [text, depth], [True], VALUES
         if depth:
+            yield "nests_within", [text, depth - 1], [False], VALUES
             yield "is_canonical", [text, depth - 1], [False], CANONICAL
     for text in NOT_JUDGED:
         yield "is_canonical", [text, 255], [False], CANONICAL

@@ -25,6 +25,7 @@ pub fn answered(alloc: Global, call: &Call) -> Result<String, Memory> {
         "find_fraction" => passes::find_fraction(alloc, call.text(1)),
         "is_canonical" => passes::is_canonical(alloc, call.text(1), call.text(2)),
         "spells_object" => passes::spells_object(alloc, call.text(1)),
+        "nests_within" => passes::nests_within(alloc, call.text(1), call.text(2)),
         "has_text_at" => passes::has_text_at(alloc, call.text(1), call.text(2), call.text(3)),
         "read_to_limit" => streams::whole(alloc, call),
         "read_rest" => streams::rest(alloc, call),

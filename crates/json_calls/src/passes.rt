@@ -1,5 +1,6 @@
 //! Texts of which nothing is kept.
 
+use json::Scratch;
 use std::alloc::{AllocError as Memory, Global};
 
 /// Tells whether the text is a list that can be passed over.
@@ -40,6 +41,16 @@ pub(crate) fn has_text_at(
 ) -> Result<String, Memory> {
     let has = cadf_json::has_text_at(alloc, text, name, expected)?;
     format!(in alloc; "{has}")
+}
+
+/// Answers whether the value of a canonical text nests no deeper than the number.
+pub(crate) fn nests_within(alloc: Global, text: &str, depth: &str) -> Result<String, Memory> {
+    let Ok(depth) = depth.parse::<u8>() else {
+        return calls::answer(alloc, "no such depth", &[]);
+    };
+    let mut scratch = Scratch::new(alloc);
+    let does = cadf_json::nests_within(&mut scratch, text, depth)?;
+    format!(in alloc; "{does}")
 }
 
 /// Answers whether a number of the text that counts isn't whole, as far as that is told.
