@@ -34,12 +34,17 @@ pub fn has_text_at(alloc: Global, text: &str, name: &str, expected: &str) -> Res
     Ok(finds_text(&mut reader, name, expected))
 }
 
-/// Returns whether the value of a canonical text nests at most `depth` deep. The scratch keeps the parser's memory.
+/// Returns whether the value of a canonical text nests at most `depth` deep. Each level takes two bytes, so a short text
+/// isn't read. The scratch keeps the parser's memory.
 pub fn nests_within(scratch: &mut Scratch, text: &str, depth: u8) -> Result<bool, Memory>
     ensures { IfOk result (λ b. (d : Data) → IsValue d → text.now ≡ text_of d → b ≡ nat_le (nesting d) depth) }
 {
+    let levels = usize::from(depth);
+    if text.len() <= 2 * levels {
+        return Ok(true);
+    }
     let mut reader = Reader::new(text, scratch)?;
-    match reader.skip_value(usize::from(depth)) {
+    match reader.skip_value(levels) {
         Ok(()) => Ok(true),
         Err(_) => Ok(false),
     }
