@@ -34,7 +34,6 @@ use Rattle.std.proofs.Common.{
   take_all,
 }
 use Rattle.std.proofs.Common.{Ordering, Less, Equal, Greater, nat_cmp, ◌+◌, ◌&&◌, is_some}
-use Rattle.std.specs.Ordering.{is_lt}
 use Rattle.std.specs.Prelude.{slice_range, ⊤}
 use Rattle.std.specs.Borrow.{Bor}
 use Rattle.std.specs.Ordering.{match_ordering}
@@ -59,6 +58,7 @@ use Rattle.cadf_json.specs.declared.spelling.Place.{Place}
 use Rattle.cadf_json.proofs.Orders.{AreBelow, joined, joined-none, joined-one, push_if_last, AreBelow-further, AreBelow-joined}
 use Rattle.cadf_json.proofs.Passing.{followed, followed-none, followed-last, with_last, further, parsed_none}
 use Rattle.cadf_json.proofs.PassedOver.{or_shift, float-with_last}
+use Rattle.cadf_json.proofs.RisingRows.{less_from, both_true}
 use Rattle.cadf_json.proofs.Settled.{IsWhole-data_in, number_in_is, number_of-whole}
 use Rattle.cadf_json.proofs.Texts.{has_float-IsWhole}
 use Rattle.cadf_json.proofs.Turns.{item_read, items_over, member_read, members_over}
@@ -212,11 +212,6 @@ pub record Rising (got : Members) (last : Option (List ℕ)) (before out : List 
   pub spelled : (rest : Members) → out ++ members_text (is_some last) rest ≡ before ++ members_text false (joined got rest)
   pub has : members_have_float got ≡ had
 
-less_from : (o : Ordering) → is_lt o ≡ true → o ≡ Less
-less_from Less h = refl
-less_from Equal h = absurd cc
-less_from Greater h = absurd cc
-
 below_next : (got : Members) (last : Option (List ℕ)) (k : List ℕ) → IsLast got last → is_name_above last k ≡ true → AreBelow got k
 below_next got None k h above = subst (λ ms. AreBelow ms k) (sym h) tt
 below_next got (Some l) k h above = h k (less_from (slice_cmp nat_cmp l k) above)
@@ -262,10 +257,6 @@ pub record MembersSpelled (p : Parse json.Json) (start now : List Token) (before
   pub in_order : rising ≡ true → Rising got last before out had
   pub left : converted (λ ms. of_members ms no_members) (members p (length start) start) ≡ converted (λ ms. of_members ms got) (members p bound now)
   pub shorter : length now ≤ length start
-
-both_true : (a b : Bool) → (a && b) ≡ true → (a ≡ true) × (b ≡ true)
-both_true true b h = (refl, h)
-both_true false b h = absurd cc
 
 module _ (p : Parse json.Json) (start : List Token) (before : List ℕ) where
   pub members_start : MembersSpelled p start start before before [] None true false
