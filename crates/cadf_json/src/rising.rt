@@ -1,11 +1,20 @@
 //! Pairs of a name and a value, kept in a row as long as their names rise, and in a map from then on.
-ghost use Rattle.std.specs.Prelude.{◌≡◌, ◌++◌, ◌∷◌, [], true, false, OnOk, IfOk};
+ghost use Rattle.std.specs.Prelude.{◌≡◌, ◌++◌, ◌∷◌, ◌&&◌, [], true, false, option_map, OnOk, IfOk};
 ghost use Rattle.std.specs.BTreeMap.{insert_entry};
+ghost use Rattle.cadf_json.specs.Canonical.{is_name_above};
 ghost use Rattle.cadf_json.specs.Rising.{name_cmp, AreRising, AreUnder, IsEither};
 
 use crate::Memory;
+use crate::canonical::is_above;
 use std::alloc::Global;
 use std::collections::BTreeMap;
+
+/// Returns whether the names rise, if they did up to the last one.
+pub(crate) fn rises_to(rising: bool, last: Option<&str>, name: &str) -> bool
+    ensures { result ≡ rising && is_name_above (option_map (λ s. s.now) last.entry) name.now }
+{
+    rising && is_above(last, name)
+}
 
 /// Puts a further pair among the others: behind them in the row if the names rise up to this one, or into the map.
 pub(crate) fn put_pair<'a, V: Drop>(
