@@ -1,5 +1,5 @@
 -- How deep the value of a canonical text nests, seen by skipping it.
-use Rattle.std.proofs.Common.{◌≡◌, ℕ, ◌≤◌, ◌+◌, ◌*◌, List, [], ◌∷◌, ◌++◌, length, Bool, true, false, Option, Some, None, option_map, refl, sym, ap, ◌∙◌, arith, length-append}
+use Rattle.std.proofs.Common.{◌≡◌, ◌≢◌, ℕ, ◌<◌, ◌≤◌, get_or, ◌+◌, ◌*◌, List, [], ◌∷◌, ◌++◌, length, Bool, true, false, Option, Some, None, option_map, refl, sym, ap, ◌∙◌, arith, length-append}
 use Rattle.std.specs.Prelude.{nat_le}
 use Rattle.json.specs.Token.{Token}
 use Rattle.json.specs.Lex.{tokens}
@@ -92,3 +92,32 @@ short_within n s short d v e =
     let same = ap length e in
     let deep : depth d ≤ n = omega (arith, long, same, short) in
     grind arith
+
+-- ---- a text that opens no level
+
+no_level : (x : ℕ) (xs : List ℕ) (d : Data) → x ≢ 91 → x ≢ 123 → x ∷ xs ≡ text d → depth d ≡ 0
+no_level x xs null p q e = refl
+no_level x xs (boolean b) p q e = refl
+no_level x xs (number n) p q e = refl
+no_level x xs (string s) p q e = refl
+no_level x xs (array ds) p q e = absurd (p cc)
+no_level x xs (object ms) p q e = absurd (q cc)
+
+empty_level : (d : Data) → ◌≡◌ {A = List ℕ} [] (text d) → depth d ≡ 0
+empty_level null e = refl
+empty_level (boolean b) e = refl
+empty_level (number n) e = refl
+empty_level (string s) e = refl
+empty_level (array ds) e = absurd cc
+empty_level (object ms) e = absurd cc
+
+pub flat_within : (n : ℕ) (d : Data) → depth d ≡ 0 → true ≡ nat_le (depth d) n
+flat_within n d e = rw e (grind arith)
+
+pub flat_text : (s : List ℕ) (d : Data) → get_or s 0 0 ≢ 91 → get_or s 0 0 ≢ 123 → s ≡ text d → depth d ≡ 0
+flat_text [] d p q e = empty_level d e
+flat_text (x ∷ xs) d p q e = no_level x xs d p q e
+
+pub flat_empty : (s : List ℕ) (d : Data) → length s < 1 → s ≡ text d → depth d ≡ 0
+flat_empty [] d h e = empty_level d e
+flat_empty (x ∷ xs) d h e = absurd (omega arith)

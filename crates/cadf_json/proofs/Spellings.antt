@@ -34,7 +34,7 @@ use Rattle.std.proofs.Common.{
   take_all,
 }
 use Rattle.std.proofs.Common.{Ordering, Less, Equal, Greater, nat_cmp, ◌+◌, ◌&&◌, is_some}
-use Rattle.std.specs.Prelude.{slice_range, ⊤}
+use Rattle.std.specs.Prelude.{slice_range}
 use Rattle.std.specs.Borrow.{Bor}
 use Rattle.std.specs.Ordering.{match_ordering}
 use Rattle.std.specs.BTreeMap.{insert_entry}
@@ -45,7 +45,7 @@ use Rattle.json.specs.Token.{Token}
 use Rattle.json.specs.Json as json
 use Rattle.json.specs.Json.{Parse, parse_map, after_end_array, read_key, items, members}
 use Rattle.json.specs.Print.{quoted}
-use Rattle.serde_json.specs.Data.{Num, unsigned, negative, float, Data, number, array, object, Items, no_items, item, Members, no_members, member, put}
+use Rattle.serde_json.specs.Data.{Num, unsigned, negative, float, Data, number, array, Items, no_items, item, Members, no_members, member, put}
 use Rattle.serde_json.specs.Read.{number_of, of_json, of_items, of_members, converted}
 use Rattle.serde_json.specs.Find.{is_float}
 use Rattle.serde_json.specs.Written.{number_text, has_float, items_have_float, members_have_float, items_text, members_text, comma_if}

@@ -2,7 +2,7 @@ use Rattle.std.proofs.Common.{◌≡◌, ◌≤◌, ◌*◌, length, true, false
 use Rattle.std.specs.Prelude.{nat_le}
 use Rattle.json.specs.Json.{skip_value}
 use Rattle.serde_json.specs.Data.{depth}
-use Rattle.cadf_json.proofs.NestedTexts.{skipped_within, not_skipped_within, short_within}
+use Rattle.cadf_json.proofs.NestedTexts.{skipped_within, not_skipped_within, short_within, flat_within}
 use Rattle.cadf_json.proofs.object_text.nests_within.Goals as goal
 
 pub returns-in-Ok : goal.returns-in-Ok
@@ -23,3 +23,8 @@ returns-then-text-levels c d v e =
     let most : c.from-levels.result ≡ c.args.depth = search rules in
     let short : length c.args.text.now ≤ 2 * c.args.depth = omega (arith, most) in
     short_within c.args.depth c.args.text.now short d v e
+
+pub returns-then-not-opens_level : goal.returns-then-not-opens_level
+returns-then-not-opens_level c d v e =
+    let flat = c.if-not-opens_level.ensures (grind arith) d (c.as_bytes.ensures.value ∙ e) in
+    flat_within c.args.depth d flat

@@ -1,6 +1,6 @@
 use Rattle.std.proofs.Common.{◌≡◌, ◌∷◌, sym, subst, rules}
 use Rattle.std.specs.Vec.Iter.{into_iter_items}
-use Rattle.cadf_json.proofs.RisingRows.{Pair, Moving, moving_start, moving_more, either_order}
+use Rattle.cadf_json.proofs.RisingRows.{Pair, Moving, moving_more}
 use Rattle.cadf_json.proofs.rising.move_row.Goals as goal
 
 pub loop-name-preserved-in_ok-insert : goal.loop-name-preserved-in_ok-insert

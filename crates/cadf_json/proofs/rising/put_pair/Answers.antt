@@ -1,4 +1,4 @@
-use Rattle.std.proofs.Common.{◌≡◌, ◌++◌, ◌∷◌, [], ap, sym, ◌∙◌, append-nil}
+use Rattle.std.proofs.Common.{◌++◌, ◌∷◌, [], ap, sym, ◌∙◌, append-nil}
 use Rattle.std.specs.BTreeMap.{insert_entry}
 use Rattle.cadf_json.specs.Rising.{name_cmp}
 use Rattle.cadf_json.proofs.RisingRows.{insert_last}

@@ -12,7 +12,7 @@ use Rattle.cadf_json.specs.Canonical.{is_name_above}
 use Rattle.cadf_json.specs.Spelling.{AreAt, name_text}
 use Rattle.cadf_json.specs.Value.{text}
 use Rattle.cadf_json.proofs.Turns.{converted-array, converted-object}
-use Rattle.cadf_json.proofs.RisingRows.{Kept, kept_none, kept_next, kept_under}
+use Rattle.cadf_json.proofs.RisingRows.{Kept, kept_none, kept_next}
 use Rattle.cadf_json.proofs.Spellings.{Entry, ItemsSpelled, MembersSpelled, items_start, one_more_item, all_items}
 use Rattle.cadf_json.proofs.Spellings.{members_start, bytes_length, one_more_member, all_members, bytes_are, in_order_text}
 use Rattle.cadf_json.proofs.spelling.+write_value.Goals as goal

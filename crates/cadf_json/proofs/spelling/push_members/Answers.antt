@@ -1,6 +1,5 @@
 use Rattle.std.proofs.Common.{◌≡◌, ◌∷◌, ◌++◌, ◌||◌, true, rules, ap, ◌∙◌, sym, subst}
 use Rattle.std.specs.Prelude.{slice_range}
-use Rattle.cadf_json.specs.Spelling.{name_text}
 use Rattle.cadf_json.proofs.Spellings.{Entry, Walked, walk_step}
 use Rattle.cadf_json.proofs.spelling.push_members.Goals as goal
 

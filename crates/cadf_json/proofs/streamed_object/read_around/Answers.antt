@@ -1,4 +1,4 @@
-use Rattle.std.proofs.Common.{◌≡◌, ◌<◌, ◌++◌, [], length, Some, None, option_map, true, false, bytes_eq, string_bytes, refl, ap, ◌∙◌, subst, sym, arith, rules}
+use Rattle.std.proofs.Common.{◌≡◌, ◌<◌, ◌++◌, length, Some, None, option_map, true, false, bytes_eq, refl, ap, ◌∙◌, subst, sym, arith, rules}
 use Rattle.std.proofs.lemmas.Slice.Eq.{bytes_eq-Decides}
 use Rattle.json.specs.Json as json
 use Rattle.json.specs.Json.{value, read_key}
@@ -10,7 +10,6 @@ use Rattle.serde_json.specs.Data.{array, no_items, no_members, put}
 use Rattle.cadf_json.specs.Rewritten.{is_one_of, texts_of}
 use Rattle.cadf_json.specs.StreamedObjects.{merged, AreBeside}
 use Rattle.cadf_json.specs.Tree.{data_in, named_in, AreMembersWithin}
-use Rattle.cadf_json.specs.Value.{text}
 use Rattle.cadf_json.proofs.Around.{Around, around_start, around_other, around_list, around_over}
 use Rattle.cadf_json.proofs.Beside.{beside_none, beside_text, beside_named, merged_other, around_text}
 use Rattle.cadf_json.proofs.RisingRows.{kept_none, kept_next}
