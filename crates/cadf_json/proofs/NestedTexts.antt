@@ -82,8 +82,14 @@ mutual
   members_long : (later : Bool) (ms : Members) → 2 * members_depth ms + 1 ≤ length (members_text later ms)
   members_long later no_members = omega arith
   members_long later (member k d ms) =
-      omega (arith, long_enough d, members_long true ms, length-append (comma_if later) (quoted k ++ 58 ∷ (text d ++ members_text true ms)),
-      length-append (quoted k) (58 ∷ (text d ++ members_text true ms)), length-append (text d) (members_text true ms))
+      omega (
+        arith,
+        long_enough d,
+        members_long true ms,
+        length-append (comma_if later) (quoted k ++ 58 ∷ (text d ++ members_text true ms)),
+        length-append (quoted k) (58 ∷ (text d ++ members_text true ms)),
+        length-append (text d) (members_text true ms),
+      )
 
 -- a short text nests no deeper
 pub short_within : (n : ℕ) (s : List ℕ) → length s ≤ 2 * n → (d : Data) → IsValue d → s ≡ text d → true ≡ nat_le (depth d) n

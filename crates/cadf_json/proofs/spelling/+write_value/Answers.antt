@@ -104,10 +104,13 @@ write_members-members-init t c =
     let found = c.new-found.result.entries in
     let no_row : row ≡ [] = c.new-row.ensures.items in
     let none : row ++ found ≡ [] = ap (λ xs. xs ++ found) no_row ∙ c.new-found.ensures.empty in
-    let kept : Kept row found None true = rw (no_row, c.new-found.ensures.empty) kept_none in
-    (subst (λ xs. MembersSpelled (value c.args.depth) c.args.reader.now c.args.reader.now begun xs (row ++ found) None true false) (sym added)
-    (subst (λ es. MembersSpelled (value c.args.depth) c.args.reader.now c.args.reader.now begun begun es None true false) (sym none)
-    (members_start (value c.args.depth) c.args.reader.now begun)), grind arith, kept)
+    let kept : Kept row found None true = rw (no_row, c.new-found.ensures.empty) kept_none in (
+      subst (λ xs. MembersSpelled (value c.args.depth) c.args.reader.now c.args.reader.now begun xs (row ++ found) None true false) (sym added)
+          (subst (λ es. MembersSpelled (value c.args.depth) c.args.reader.now c.args.reader.now begun begun es None true false) (sym none)
+          (members_start (value c.args.depth) c.args.reader.now begun)),
+      grind arith,
+      kept,
+    )
 
 -- the end of members whose names rise, and of others
 module _ (p : Parse json.Json) (start now s : List Token) (old out after : List ℕ) (row map : List Entry) (last : Option (List ℕ)) (had has : Bool) where
@@ -135,8 +138,7 @@ module _ (p : Parse json.Json) (start now s : List Token) (old out after : List 
       → (rising ≡ false → (ms : Members) → AreAt (drop n out) map ms → (after ≡ take n out ++ members_text false ms) × (members_have_float ms ≡ has)) → Ended
   ended true n h e kept key ascending sorted =
       let done = ascending refl in
-      let text = in_order_text p start (old ++ 123 ∷ []) now out es last had h in
-      (
+      let text = in_order_text p start (old ++ 123 ∷ []) now out es last had h in (
         h.got,
         all_members p start (old ++ 123 ∷ []) now s out es last true had h key,
         text.1 ∙ sym done.1,
@@ -144,8 +146,7 @@ module _ (p : Parse json.Json) (start now s : List Token) (old out after : List 
       )
   ended false n h e kept key ascending sorted =
       let are = bytes_are p start (old ++ 123 ∷ []) now out es last false had h n e in
-      let done = sorted refl h.got (in_map n h e (kept.sorted refl)) in
-      (
+      let done = sorted refl h.got (in_map n h e (kept.sorted refl)) in (
         h.got,
         all_members p start (old ++ 123 ∷ []) now s out es last false had h key,
         done.1,
@@ -205,13 +206,16 @@ write_members-members-preserved t c =
     let kept = kept_next l.row.items l.found.entries c.put_pair.new.row.items c.put_pair.new.map.entries last l.rising k place c.rises_to-rising.result
     c.rises_to-rising.ensures l.invariant.2 put.rising put.sorted in
     let one = one_more_member p start before l.reader s r k read.0 place l.out.items es last l.rising l.fraction has l.invariant.0 named read.1
-    less from to read.2 placed.2 in
-    (subst (λ b. MembersSpelled p start r before c.write_value.new.out.items next (Some k.now) b (l.fraction || has))
-    (sym c.rises_to-rising.ensures)
-    (subst (λ xs. MembersSpelled p start r before xs next (Some k.now) (l.rising && is_name_above last k.now) (l.fraction || has))
-    (sym whole)
-    (subst (λ es. MembersSpelled p start r before ((l.out.items ++ name_text (is_some last) k.now) ++ text read.0) es (Some k.now)
-    (l.rising && is_name_above last k.now) (l.fraction || has)) (sym put.entries) one)), began, kept)
+    less from to read.2 placed.2 in (
+      subst (λ b. MembersSpelled p start r before c.write_value.new.out.items next (Some k.now) b (l.fraction || has))
+          (sym c.rises_to-rising.ensures)
+          (subst (λ xs. MembersSpelled p start r before xs next (Some k.now) (l.rising && is_name_above last k.now) (l.fraction || has))
+          (sym whole)
+          (subst (λ es. MembersSpelled p start r before ((l.out.items ++ name_text (is_some last) k.now) ++ text read.0) es (Some k.now)
+          (l.rising && is_name_above last k.now) (l.fraction || has)) (sym put.entries) one)),
+      began,
+      kept,
+    )
 
 pub write_members-end_members-requires-clause-places : goal.write_members-end_members-requires-clause-places
 write_members-end_members-requires-clause-places t c =
