@@ -5,7 +5,7 @@ use Rattle.sha2.specs.Sha256.{sha256}
 use Rattle.cadf_set.specs.Inventory.{InventoryModel}
 use Rattle.cadf_linefile.specs.Lines.{with_line_feed, text_of_lines}
 use Rattle.cadf_linefile.specs.Verdict.{digest_line}
-use Rattle.cadf_file.specs.InventoryFile.{inventory_body, inventory_text, inventory_file, IsInventory, ShareNoDigest}
+use Rattle.cadf_file.specs.InventoryFile.{inventory_body, inventory_text, inventory_file, IsInventory, DoNotCollide}
 use Rattle.cadf_file.proofs.InventoryVerdictLemmas.{inventory-file-tells}
 
 text_of_more : (ls : List (List ℕ)) (l : List ℕ) → text_of_lines (ls ++ l ∷ []) ≡ text_of_lines ls ++ with_line_feed l
@@ -19,5 +19,5 @@ file_is n = text_of_more (inventory_body n) (digest_line (inventory_body n))
 pub same_file : (m n : InventoryModel) → inventory_text m ≡ inventory_text n → inventory_file m ≡ inventory_file n
 same_file m n e = file_is m ∙ ap (λ (t : List ℕ). t ++ with_line_feed (codes "Z " ++ encode_lower (sha256 t))) e ∙ sym (file_is n)
 
-pub same_inventory : (m n : InventoryModel) → IsInventory m → IsInventory n → ShareNoDigest m n → sha256 (inventory_text m) ≡ sha256 (inventory_text n) → m ≡ n
+pub same_inventory : (m n : InventoryModel) → IsInventory m → IsInventory n → DoNotCollide m n → sha256 (inventory_text m) ≡ sha256 (inventory_text n) → m ≡ n
 same_inventory m n im in_n share same = inventory-file-tells m n im in_n (same_file m n (share same))

@@ -13,7 +13,7 @@ ghost use Rattle.cadf_sketch.specs.Enough.{IsEnough};
 ghost use Rattle.cadf_sketch.specs.Flips.{apart};
 ghost use Rattle.cadf_sketch.specs.Refusals.{differing, HasTooFewCells};
 ghost use Rattle.cadf_sketch.specs.Answers.{IsAnswer};
-ghost use Rattle.cadf_file.specs.InventoryFile.{IsInventory, inventory_digest, ShareNoDigest};
+ghost use Rattle.cadf_file.specs.InventoryFile.{IsInventory, inventory_digest, DoNotCollide};
 ghost use Rattle.cadf_line.specs.Digest.{atom_digest};
 ghost use Rattle.cadf_set.specs.Replica.{ReplicaModel};
 ghost use Rattle.cadf_sketch.specs.SketchFile.{IsSketch, SketchFileIsInjective, sketch_file};
@@ -21,26 +21,26 @@ ghost use Rattle.cadf_sketch.specs.SketchVerdict.{AcceptsSketches, sketch_verdic
 
 use crate::sketch::Sketch;
 
-/// What is read from a sketch is the inventory that it was made of, where the files of the two, if they differ, share no digest.
+/// States that what is read from a sketch is the inventory that it was made of, if the texts of the two do not collide.
 pub fn read_is_what_was_sketched()
-    ensures inventory { (layout : LayoutModel) (n m : InventoryModel) → IsInventory n → IsInventory m → ShareNoDigest m n
+    ensures inventory { (layout : LayoutModel) (n m : InventoryModel) → IsInventory n → IsInventory m → DoNotCollide m n
         → inventory_digest m ≡ (sketch_of n layout).digest → m ≡ n }
     ensures missing { (layout : LayoutModel) (n m : InventoryModel) (digest : Texts → Text) (a b : Contents)
-        → IsInventory n → IsInventory m → ShareNoDigest m n → inventory_digest m ≡ (sketch_of n layout).digest → n.digests ≡ digests_of digest b
+        → IsInventory n → IsInventory m → DoNotCollide m n → inventory_digest m ≡ (sketch_of n layout).digest → n.digests ≡ digests_of digest b
         → NoCollision digest (set.union a b) → missing_by digest a m.digests ≡ missing a b }
     ensures answer { (n : InventoryModel) (layout : LayoutModel) (held part : ReplicaModel) → (answer : IsAnswer held (sketch_of n layout) part)
-        → IsInventory n → ShareNoDigest answer.theirs n
+        → IsInventory n → DoNotCollide answer.theirs n
         → part ≡ record { log = held.log; atoms = missing_by atom_digest held.atoms n.digests } }
 {}
 
-/// A sketch has three tables of cells, and each cell has those digests mixed that stand there, in their order.
+/// States that a sketch has three tables of cells, and that each cell has those digests mixed that stand there, in order.
 pub fn cells_are_what_stands_there()
     ensures count { (n : InventoryModel) (layout : LayoutModel) → length (sketch_of n layout).cells ≡ 3 * layout.size }
     ensures each { (n : InventoryModel) (layout : LayoutModel) (place : ℕ) → 0 < layout.size → place < 3 * layout.size
         → cell_at (sketch_of n layout).cells place ≡ mixed_all nothing (filter (λ d. stands d place layout) (rising n.digests)) }
 {}
 
-/// What both have cancels, and a sketch with cells enough for what differs is not refused.
+/// States that what both have cancels, and that a sketch with enough cells for what differs is not refused.
 pub fn enough_cells_are_read()
     ensures cancels { (own n : InventoryModel) (layout : LayoutModel) → 0 < layout.size → AreDigests own.digests → AreDigests n.digests
         → differing own (sketch_of n layout) ≡ cells_of (apart n.digests own.digests) layout }
@@ -58,7 +58,7 @@ pub fn accepted_bytes_are_sketches()
     ensures { AcceptsSketches }
 {}
 
-/// The file of a sketch is accepted if it is within the limit, and read as that sketch.
+/// States that the file of a sketch is accepted if it is within the limit, and is read as that sketch.
 pub fn sketch_is_read_back(sketch: &Sketch)
     ensures sketch { IsSketch sketch.now }
     ensures read { (limit : ℕ) → length (sketch_file sketch.now) ≤ limit

@@ -11,7 +11,7 @@ use cadf_json::Source;
 use cadf_linefile::{FILE_LIMIT, FileFault};
 use std::alloc::Global;
 
-/// The sketch whose file the source gives, of at most `limit` bytes, and never more than `FILE_LIMIT`.
+/// Reads a sketch file of at most `limit` bytes, and never more than `FILE_LIMIT`. `Err`: the first fault.
 pub fn read_sketch<S: Source>(
     alloc: Global,
     source: &mut S,
@@ -20,7 +20,7 @@ pub fn read_sketch<S: Source>(
     ensures verdict { ReadsSketch (min limit FILE_LIMIT) (S.left source.old) (S.left source.new)
         (S.failures source.old) (S.failures source.new) result }
 
-    // Where no read failed, the answer is the verdict on all bytes that were left.
+    // If no read failed, the result is the verdict on all bytes that were left.
     ensures whole { S.failures source.new ≡ S.failures source.old → S.failures source.old + 1 < 2 ^ 64 → (bytes : List ℕ)
         → S.left source.old ≡ Some bytes → AnswersSketch result (sketch_verdict (min limit FILE_LIMIT) false bytes) }
 
@@ -29,7 +29,7 @@ pub fn read_sketch<S: Source>(
     sketch_of(cadf_linefile::read_file(alloc, source, limit))
 }
 
-/// The sketch that the lines come to.
+/// Returns the sketch that the lines come to.
 fn sketch_of(read: Result<SketchLines, FileFault>) -> Result<Sketch, FileFault>
     requires { IsAccepted read }
     ensures { IsSketchOfRead read result }

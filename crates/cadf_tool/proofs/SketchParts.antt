@@ -5,7 +5,7 @@ use Rattle.cadf_line.specs.Digest.{atom_digest}
 use Rattle.cadf_line.specs.Missing.{missing_by}
 use Rattle.cadf_set.specs.Inventory.{InventoryModel}
 use Rattle.cadf_set.specs.Replica.{ReplicaModel}
-use Rattle.cadf_file.specs.InventoryFile.{IsInventory, inventory_digest, ShareNoDigest}
+use Rattle.cadf_file.specs.InventoryFile.{IsInventory, inventory_digest, DoNotCollide}
 use Rattle.cadf_sketch.specs.Answers.{IsAnswer}
 use Rattle.cadf_sketch.specs.Layouts.{LayoutModel, are_cells, default_cells, layout_with}
 use Rattle.cadf_sketch.specs.Sketches.{SketchModel, sketch_of, own_salt, asked}
@@ -96,11 +96,11 @@ part_by_read_is from sketch read part (held, is, answer, same) =
 
 -- where the files of both share no digest, what was read is what was sketched
 pub part_by_sketched : (from : Loaded) (sketch : SketchModel) (sketched read : InventoryModel) (part : ReplicaModel) → IsInventory sketched
-    → sketch.digest ≡ inventory_digest sketched → ShareNoDigest read sketched → IsPartByRead from sketch read part → IsPartBy from sketched part
+    → sketch.digest ≡ inventory_digest sketched → DoNotCollide read sketched → IsPartByRead from sketch read part → IsPartBy from sketched part
 unfolding inventory_digest
 part_by_sketched from sketch sketched read part inventory is share (held, told, answer, same) =
     let true_read : answer.theirs ≡ sketched =
-    same_inventory answer.theirs sketched answer.inventory inventory (subst (λ m. ShareNoDigest m sketched) (sym same) share) (answer.digest ∙ is) in
+    same_inventory answer.theirs sketched answer.inventory inventory (subst (λ m. DoNotCollide m sketched) (sym same) share) (answer.digest ∙ is) in
     part_by_read_is from sketch sketched part (held, told, answer, true_read)
 
 -- the answer of an engine, with the inventory that was read
