@@ -22,6 +22,9 @@ source_piece s = s.piece
 abbrev pub failing_read_of : MemorySource → ℕ
 failing_read_of s = s.failing_read
 
+abbrev pub can_be_borrowed : MemorySource → Bool
+can_be_borrowed s = s.is_borrowable
+
 abbrev pub memory_written : MemorySink → List ℕ
 memory_written s = s.bytes.items
 

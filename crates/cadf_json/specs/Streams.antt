@@ -5,6 +5,7 @@ use Rattle.std.specs.Prelude.{
   ◌+◌,
   ◌-◌,
   ◌^◌,
+  ◌<◌,
   ◌≤◌,
   ◌==◌,
   ◌&&◌,
@@ -19,11 +20,14 @@ use Rattle.std.specs.Prelude.{
   false,
   if◌then◌else◌,
   Option,
+  Some,
+  None,
   Result,
   Ok,
   Err,
 }
-use Rattle.std.specs.Io.KnownBytes.{Appends, Consumes}
+use Rattle.std.specs.Borrow.{Bor}
+use Rattle.std.specs.Io.KnownBytes.{Appends, Consumes, IsAtEnd}
 use Rattle.cadf_json.specs.declared.transfer.ReadLimitFault.{ReadLimitFault}
 use Rattle.cadf_json.specs.declared.transfer.ReadLimitFault.TheVariants.{TooLarge, ReadFault, Memory}
 use Rattle.cadf_json.specs.declared.transfer.OutFault.{OutFault}
@@ -41,6 +45,11 @@ counted failed n = if failed then one_more n else n
 abbrev pub write_fails : {E : Type 0} → Result ℕ E → List ℕ → Bool
 write_fails (Ok n) bytes = (n == 0) && nat_lt 0 (length bytes)
 write_fails (Err e) bytes = true
+
+-- the next bytes were borrowed, `limit` of them or all that were left; or none were, and nothing changed
+abbrev pub Borrows : Option (List ℕ) → Option (List ℕ) → ℕ → Option (Bor (List ℕ)) → Type 0
+Borrows old new limit None = new ≡ old
+Borrows old new limit (Some bytes) = Consumes old new bytes.now × (length bytes.now < limit → IsAtEnd new)
 
 -- some bytes were read, at most n of them
 abbrev pub ConsumesAtMost : Option (List ℕ) → Option (List ℕ) → ℕ → Type 0

@@ -1,28 +1,31 @@
 //! Sources and sinks in memory, for tests. They move bytes in pieces, and fail when asked to.
-ghost use Rattle.std.specs.Prelude.{◌≡◌, ◌<◌, ◌==◌, if◌then◌else◌, true, [], Some, IfOk, is_err, length, min};
+ghost use Rattle.std.specs.Prelude.{◌≡◌, ◌<◌, ◌≤◌, ◌-◌, ◌^◌, ◌==◌, if◌then◌else◌, true, false, [], Some, IfOk, IfSome, is_err, is_some, length, min, take};
+ghost use Rattle.std.specs.Borrow.{sem};
 ghost use Rattle.std.specs.Io.{ReadsAtMost, WritesAtMost};
+ghost use Rattle.std.specs.Io.BufRead.{Rests};
 ghost use Rattle.std.specs.Io.KnownBytes.{ReadConsumes, WriteAppends};
-ghost use Rattle.cadf_json.specs.Streams.{one_more, counted, write_fails};
+ghost use Rattle.cadf_json.specs.Streams.{one_more, counted, write_fails, Borrows};
 
 use crate::stream::{Failed, Sink, Source};
 use std::alloc::Global;
 
-/// Bytes that are read in pieces. One read can be made to fail.
+/// Bytes that are read in pieces, or borrowed. One read can be made to fail.
 #[derive(Drop)]
 pub struct MemorySource<'b> {
     bytes: &'b [u8],
     piece: usize,
     failing_read: u64,
+    is_borrowable: bool,
     reads: u64,
     failures: u64,
     ghost has_piece: { 0 < piece },
 }
 
 impl<'b> MemorySource<'b> {
-    ghost use Rattle.cadf_json.specs.Memory.{memory_left, memory_reads, memory_read_failures, source_piece, failing_read_of};
+    ghost use Rattle.cadf_json.specs.Memory.{memory_left, memory_reads, memory_read_failures, source_piece, failing_read_of, can_be_borrowed};
 
     /// Makes a source whose reads give at most `piece` bytes each. Read number `failing_read`, from 1, fails; with 0
-    /// none does.
+    /// none does. Its bytes can't be borrowed.
     pub fn new(bytes: &'b [u8], piece: usize, failing_read: u64) -> MemorySource<'b>
         requires { 0 < piece }
         ensures bytes { memory_left result ≡ bytes.now }
@@ -30,11 +33,32 @@ impl<'b> MemorySource<'b> {
         ensures failures { memory_read_failures result ≡ 0 }
         ensures piece { source_piece result ≡ piece }
         ensures failing { failing_read_of result ≡ failing_read }
+        ensures borrowable { can_be_borrowed result ≡ false }
     {
         MemorySource {
             bytes,
             piece,
             failing_read,
+            is_borrowable: false,
+            reads: 0,
+            failures: 0,
+        }
+    }
+
+    /// Makes a source whose bytes can be borrowed. No read fails, and each gives as many bytes as there is room for.
+    pub fn borrowable(bytes: &'b [u8]) -> MemorySource<'b>
+        ensures bytes { memory_left result ≡ bytes.now }
+        ensures reads { memory_reads result ≡ 0 }
+        ensures failures { memory_read_failures result ≡ 0 }
+        ensures piece { source_piece result ≡ 2 ^ 64 - 1 }
+        ensures failing { failing_read_of result ≡ 0 }
+        ensures borrowable { can_be_borrowed result ≡ true }
+    {
+        MemorySource {
+            bytes,
+            piece: usize::MAX,
+            failing_read: 0,
+            is_borrowable: true,
             reads: 0,
             failures: 0,
         }
@@ -42,7 +66,9 @@ impl<'b> MemorySource<'b> {
 }
 
 impl<'b> Source for MemorySource<'b> {
-    ghost use Rattle.cadf_json.specs.Memory.{memory_left, memory_reads, memory_read_failures, source_piece, failing_read_of};
+    ghost use Rattle.cadf_json.specs.Memory.{memory_left, memory_reads, memory_read_failures, source_piece, failing_read_of, can_be_borrowed};
+    ghost use Rattle.cadf_json.specs.contracts.memory.MemorySource.{the_row};
+    ghost use mir.Syntax.{named};
 
     ghost left = { λ s. Some s.bytes.now };
 
@@ -62,6 +88,7 @@ impl<'b> Source for MemorySource<'b> {
             ≡ min (min (source_piece self.old) (length (memory_left self.old))) (length buffer.old)) }
         ensures piece { source_piece self.new ≡ source_piece self.old }
         ensures failing { failing_read_of self.new ≡ failing_read_of self.old }
+        ensures borrowable { can_be_borrowed self.new ≡ can_be_borrowed self.old }
     {
         self.reads = self.reads.saturating_add(1);
         if self.reads == self.failing_read {
@@ -73,6 +100,22 @@ impl<'b> Source for MemorySource<'b> {
         buffer[..count].copy_from_slice(given);
         self.bytes = left;
         Ok(count)
+    }
+
+    fn borrow_next(&mut self, limit: usize) -> Option<&[u8]>
+        ensures bound { IfSome result (λ bytes. length bytes.now ≤ limit) }
+        ensures* borrowed { sem 𝓛 (Rests (the_row (record { mir = named 1; lft = [] })) self.entry (λ new.
+            Borrows (Some (memory_left self.old)) (Some (memory_left new)) limit result
+            × (memory_reads new ≡ memory_reads self.old) × (memory_read_failures new ≡ memory_read_failures self.old))) }
+        ensures some { is_some result ≡ can_be_borrowed self.old }
+        ensures value { IfSome result (λ bytes. bytes.now ≡ take limit (memory_left self.old)) }
+    {
+        if !self.is_borrowable {
+            return None;
+        }
+        let (borrowed, left) = self.bytes.split_at(limit.min(self.bytes.len()));
+        self.bytes = left;
+        Some(borrowed)
     }
 }
 
