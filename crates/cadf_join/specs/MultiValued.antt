@@ -1,5 +1,5 @@
--- The first texts that have two or more next texts.
---     multi_valued_keys s       the first texts that two or more different texts follow, ascending
+-- The first texts that two or more different texts follow.
+--     multi_valued_keys s       these texts, ascending
 use Rattle.std.specs.Prelude.{List, length, nat_le}
 use Rattle.std.specs.List.{filter}
 use Rattle.cadf_join.specs.Sets as set

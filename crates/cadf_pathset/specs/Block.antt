@@ -1,6 +1,6 @@
--- Texts one after another in one block of bytes.
---     texts_from s ends bs   the texts of the bytes bs, the first of which begins at s and which end at these places
---     AreEnds s ends bs      these places are cuts between characters, and bs ends at the last of them
+-- Texts in one block of bytes, one after another.
+--     texts_from s ends bs   the texts in the bytes bs: the first begins at offset s, and each ends at its offset in `ends`
+--     AreEnds s ends bs      the offsets are ascending, lie on character boundaries, and bs ends at the last of them
 use Rattle.std.specs.Prelude.{◌≡◌, ◌≤◌, ◌-◌, ℕ, List, [], ◌∷◌, take, drop}
 use Rattle.std.specs.Str.{IsCharBoundary}
 use Rattle.cadf_join.specs.Contents.{Texts}

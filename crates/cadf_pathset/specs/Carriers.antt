@@ -1,6 +1,6 @@
--- What lists need with them: their carriers.
---     with_carriers carrier s         the set with the carriers of its members
---     carriers_in carrier found ls    the carriers found, and then those of the lists that are above the last one
+-- The carriers of lists.
+--     with_carriers carrier s         the set, and the carriers of its members
+--     carriers_in carrier found ls    the carriers found so far, then for each list its carrier if that is above the last one found
 use Rattle.std.specs.Prelude.{List, [], ◌∷◌, ◌++◌, cond, map}
 use Rattle.cadf_join.specs.Sets as set
 use Rattle.cadf_join.specs.Contents.{Texts, Contents}

@@ -1,6 +1,6 @@
--- Where the lists of two nodes part.
---     IsForkAt ls f p q    lists that begin with those of the fork's nodes have its order, but for the lists of p and q, which come first
---     IsFork ls f          lists that begin with those of the fork's nodes have its order, where it has one
+-- The order of the lists of two nodes, decided at the nodes at which they diverge.
+--     IsForkAt ls f p q    if f has an order, lists with the fork's nodes as prefixes compare as the lists of p and q, ties as f's order
+--     IsFork ls f          if f has an order, lists with the lists of the fork's nodes as prefixes compare in that order
 use Rattle.std.specs.Prelude.{◌≡◌, ℕ, List, ◌++◌}
 use Rattle.std.specs.declared.cmp.Ordering.TheVariants.{Equal}
 use Rattle.std.specs.Ordering.{ordering_then}

@@ -1,12 +1,12 @@
 -- Lists of texts: their prefixes, and the last of some lists.
 --     first_text l           the first text of a list
---     prefix_cmp l p         whether a list is below those that begin with p, one of them, or above
---     is_before p more l     whether it is below them, or one of them if they count too
---     strip p l              the suffix after the prefix, if the list begins with it
---     last_of p ls           the last of the lists, or p
---     is_above_last ls q     whether q is above the last of the lists, as it is if there is none
+--     prefix_cmp l p         whether l is below the lists that begin with p, is one of them, or is above them
+--     is_before p more l     whether l is below the lists that begin with p, or is one of them and `more` is set
+--     strip p l              the suffix of l after the prefix p; none if l doesn't begin with p
+--     last_of p ls           the last of the lists, or p if there is none
+--     is_above_last ls q     whether q is above the last of the lists, or there is none
 --     last_starts_with ls p  whether the last of the lists begins with p
---     last_list s            the last list of a set in order, or the empty one if there is none
+--     last_list s            the last list of a set in its order; the empty list if there is none
 --     chosen_of flags ls     the lists whose flags are set
 use Rattle.std.specs.Prelude.{Bool, true, false, cond, List, [], ◌∷◌, Option, Some, None}
 use Rattle.std.specs.declared.cmp.Ordering.{Ordering}

@@ -1,6 +1,6 @@
--- What two rising lists make together, and what one has and the other lacks.
---     sorted_merge cmp true xs ys    those of both, each once, in order
---     sorted_without cmp xs ys       those of the first that the second lacks, in order
+-- The merge of two ascending lists, and the difference of two.
+--     sorted_merge cmp true xs ys    the members of both, each once, ascending
+--     sorted_without cmp xs ys       the members of the first that the second lacks, ascending
 use Rattle.std.specs.Prelude.{List, [], ◌∷◌}
 use Rattle.std.specs.declared.cmp.Ordering.{Ordering}
 use Rattle.std.specs.Ordering.{match_ordering}

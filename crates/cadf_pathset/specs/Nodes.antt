@@ -1,16 +1,16 @@
 -- Lists of texts as the nodes of an arena. A node is one text after its parent: another node, or the root, which has the number 0 and is the empty list.
---     lists ps ts                                   the lists of the nodes 1, 2, .., whose parents are ps and whose texts are ts
---     list_at ls n                                  the list of the node n, the lists of all nodes being ls
---     rest_of ls d n                                that list without its first d texts
---     ParentsFirst n ps                             each parent comes before its child, if the first child has the number n
---     AreNodes ps ts                                as many texts as parents, and each parent before its child
+--     lists ps ts                                   the lists of the nodes 1, 2, .. that have the parents ps and the texts ts
+--     list_at ls n                                  the list of the node n, if ls has the lists of all nodes
+--     rest_of ls d n                                the list of the node n without its first d texts
+--     ParentsFirst n ps                             each parent's number is less than its child's, if the first child has the number n
+--     AreNodes ps ts                                as many texts as parents, and each parent's number is less than its child's
 --     last_text l                                   the last text of a list
---     IsLine ls ns l                                the nodes ns are those of the first 1, 2, .. texts of the list l
---     last_node ns, place ls ns                     the last of some nodes, or the root, and its list
---     IsThere ls n, AreThere ls ns, lists_at ls ns  there is such a node, are such nodes, and their lists
---     Agree n a b                                   two lists have n texts or more, and the same first n
---     IsClimb ls up l d                             the nodes up are those of l, of l without its last text, and so on, down to d + 1 texts
---     shared a b                                    how many first texts two lists share
+--     IsLine ls ns l                                the nodes ns have as lists the first text, the first 2 texts, .. and all texts of l
+--     last_node ns, place ls ns                     the last of the nodes, or the root if there is none, and its list
+--     IsThere ls n, AreThere ls ns, lists_at ls ns  the node exists, the nodes exist, and the lists of the nodes
+--     Agree n a b                                   both lists have n texts or more, and the same first n
+--     IsClimb ls up l d                             the nodes up have as lists l, l without its last text, .. down to d + 1 texts
+--     shared a b                                    the length of the longest common prefix of two lists
 use Rattle.std.specs.Prelude.{◌≡◌, ℕ, ◌+◌, ◌-◌, ◌<◌, ◌≤◌, List, [], ◌∷◌, ◌++◌, length, take, drop, get_or, map}
 use Rattle.std.specs.List.{AllByRecursion}
 use Rattle.std.specs.Ordering.{match_ordering}

@@ -1,6 +1,6 @@
 -- The suffixes that follow a list of texts in a set.
---     suffixes_after s p  the tails of the lists of s that begin with p
---     behind p ls         the same of lists
+--     suffixes_after s p  the suffixes, after p, of the lists of s that begin with p
+--     behind p ls         the same of a list of lists
 use Rattle.std.specs.Prelude.{List, [], ◌∷◌}
 use Rattle.cadf_join.specs.Contents.{Texts, Contents, suffixes_of, tails_of}
 

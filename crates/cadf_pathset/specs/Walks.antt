@@ -1,9 +1,9 @@
--- Going over lists.
---     Place                  a list that a cursor is at, and the lists ahead of it
---     Advances found a b     a cursor moved to the next list, which shares so many texts with the one before, or there is none
---     Moves more a b         the same, without the number
---     Steps more a b n m     the same: as many of n first texts are left in m as the two lists share
---     ahead more a           the list that a cursor is at, if it is at one, and those ahead
+-- Cursors that visit lists in order.
+--     Place                  the list at which a cursor is, and the lists after it
+--     Advances found a b     a cursor moved to the next list, which has `found` texts in common with the one before, or there is none
+--     Moves more a b         the same, without that number
+--     Steps more a b n m     the same; m is n, reduced to the number of texts in common
+--     ahead more a           the list at which a cursor is, if it is at one, and those after it
 --     Entered, IsLinePrefix  the invariants of a merge, below
 use Rattle.std.specs.Prelude.{◌≡◌, ℕ, Bool, true, false, List, [], ◌∷◌, length, take, min, Option, Some, None}
 use Rattle.cadf_join.specs.Contents.{Texts}
@@ -28,12 +28,12 @@ abbrev pub ahead : Bool → Place → List Texts
 ahead true a = a.0 ∷ a.1
 ahead false a = []
 
--- a cursor moved to the next list, or there is none: of some nodes and of a number as much is left as the two lists share
+-- the cursor moved to the next list, or there is none; the nodes and the number are cut to the texts in common
 abbrev pub Entered : Bool → Place → Place → List ℕ → List ℕ → ℕ → ℕ → Type 0
 Entered true old new ns ms n m = (old.1 ≡ new.0 ∷ new.1) × (ms ≡ take (shared new.0 old.0) ns) × (m ≡ min n (shared new.0 old.0))
 Entered false old new ns ms n m = (old.1 ≡ []) × (new ≡ old) × (ms ≡ ns) × (m ≡ n)
 
--- the line of the list of ours that was compared last, which shares n texts with theirs, and the line of ours of some first texts of theirs
+-- ns is the line of our list compared last, which has n texts in common with theirs; ms is the output's line of a prefix of theirs
 pub record IsLinePrefix (ls : List Texts) (ns ms : List ℕ) (n : ℕ) (theirs : Texts) : Type 0 where
   pub line : IsLine ls ns (place ls ns)
   pub agrees : Agree n (place ls ns) theirs

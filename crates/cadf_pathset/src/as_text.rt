@@ -4,7 +4,7 @@ ghost use Rattle.cadf_join.specs.Contents.{Text};
 
 /// A text, borrowed or owned.
 pub trait AsText {
-    /// Its bytes.
+    /// The bytes of the text.
     ghost bytes: { Self → Text };
 
     /// Returns the text.
@@ -28,7 +28,7 @@ impl AsText for String {
     }
 }
 
-/// Returns the text of that number.
+/// Returns the text at index `number`.
 pub(crate) fn text_at<W: AsText>(list: &[W], number: usize) -> &str
     requires { number < length list.now }
     ensures { result.now ≡ get_or (map W.bytes list.now) number [] }

@@ -26,7 +26,7 @@ impl PathSet {
         }
     }
 
-    /// Returns whether the last of the lists in order begins with the prefix. Searches nothing.
+    /// Returns whether the last of the lists in order begins with the prefix. Compares with that list alone.
     pub fn last_starts_with(&self, prefix: &[String]) -> bool
         ensures { result ≡ last_starts_with (set.rising self.now) (chain_texts prefix.now) }
     {
@@ -45,7 +45,8 @@ impl PathSet {
         Ok(None)
     }
 
-    /// Returns the least of the prefix's next texts above the given one. For `None`, the least of all. Binary search.
+    /// Returns the least of the texts that follow the prefix directly and are above the given one. For `None`, the
+    /// least of all. Binary search.
     pub fn next_child(&self, prefix: &[&str], text: Option<&str>) -> Option<&str>
         ensures { option_copied result ≡ next_after (heads (suffixes_after self.now (texts_at prefix.now))) (option_copied text.entry) }
     {
@@ -59,7 +60,8 @@ impl PathSet {
         self.suffix_set(prefix).child_texts()
     }
 
-    /// Counts the next texts of the prefix that have two or more next texts themselves. `u64::MAX` if there are more.
+    /// Counts the texts directly after the prefix that two or more different texts follow. `u64::MAX` if there are
+    /// more.
     pub fn multi_valued_count_at(&self, prefix: &[&str]) -> u64
         ensures { result ≡ saturated (length (multi_valued_keys (suffixes_after self.now (texts_at prefix.now)))) }
     {

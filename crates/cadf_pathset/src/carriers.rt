@@ -1,4 +1,4 @@
-//! What lists need with them: their carriers.
+//! The carriers of lists.
 ghost use Rattle.std.specs.Prelude.{◌≡◌, ◌≤◌, [], IfOk, length, take};
 ghost use Rattle.std.specs.List.Sorted.{IsStrictlySortedBy};
 ghost use Rattle.std.specs.declared.cmp.Ordering.TheVariants.{Less, Greater};
@@ -11,7 +11,7 @@ use crate::Memory;
 use crate::path_vec::PathVec;
 use std::alloc::Global;
 
-/// Which list each list needs with it, its carrier: the first texts of the list, or all of them.
+/// Determines the carrier of each list: a prefix of the list, or the whole list.
 pub trait Carrier {
     /// The carrier of a list.
     ghost carrier: { Texts → Texts };
@@ -21,11 +21,11 @@ pub trait Carrier {
         ensures within { result ≤ length list.now }
         ensures first { take result (texts_at list.now) ≡ carrier (texts_at list.now) };
 
-    /// Carriers stand in the order of their lists.
+    /// The carriers of ascending lists don't descend.
     ghost in_order: { (x y : Texts) → texts_cmp x y ≡ Less → texts_cmp (carrier x) (carrier y) ≡ Greater → ⊥ };
 }
 
-/// Returns the carriers of the lists, each once, in order.
+/// Returns the carriers of the lists, ascending, each once.
 fn carriers_of<C: Carrier>(alloc: Global, rows: &PathVec) -> Result<PathVec, Memory>
     ensures { IfOk result (λ all. all ≡ carriers_in C.carrier [] rows.now) }
 {
@@ -43,7 +43,7 @@ fn carriers_of<C: Carrier>(alloc: Global, rows: &PathVec) -> Result<PathVec, Mem
     Ok(all)
 }
 
-/// Returns the rising lists and their carriers, in order.
+/// Returns the lists, which are strictly ascending, with their carriers, in order.
 pub(crate) fn with_carriers<C: Carrier>(alloc: Global, lists: PathVec) -> Result<PathVec, Memory>
     requires { IsStrictlySortedBy texts_cmp lists }
     ensures rising { IfOk result (λ all. IsStrictlySortedBy texts_cmp all) }

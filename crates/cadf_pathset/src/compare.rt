@@ -1,4 +1,4 @@
-//! The order of the lists of nodes, without memory and without recursion.
+//! Compares the lists of nodes, without allocation and without recursion.
 ghost use Rattle.std.specs.Prelude.{◌≡◌, ◌≤◌, ◌↔◌, IsTrue, length, map};
 ghost use Rattle.cadf_join.specs.Contents.{texts_cmp};
 ghost use Rattle.std.specs.Ordering.{is_eq};
@@ -9,11 +9,12 @@ use crate::as_text::{AsText, text_at};
 use crate::nodes::{Nodes, ancestor, depth};
 use std::cmp::Ordering;
 
-/// Up to so many texts are compared from the front, each by a climb of its own; more of them in one climb.
+/// Up to this many texts are compared from the first on, each after a climb of its own. More texts are compared in one
+/// climb.
 const NEAR: usize = 8;
 
-/// Compares the node's list with another, if they are known to share `known` texts. Returns their order, and a number of texts
-/// that they share.
+/// Compares the node's list with another, if both are known to share their first `known` texts. Returns the order, and
+/// a number of first texts that both share.
 pub(crate) fn list_cmp<W: AsText>(
     nodes: &Nodes,
     node: usize,
@@ -32,7 +33,7 @@ pub(crate) fn list_cmp<W: AsText>(
     cmp_down(nodes, node, has, list, known)
 }
 
-/// Compares from the front: the first difference decides.
+/// Compares from the first texts on: the first difference decides.
 fn cmp_down<W: AsText>(
     nodes: &Nodes,
     node: usize,
@@ -58,7 +59,8 @@ fn cmp_down<W: AsText>(
     (has.cmp(&list.len()), agreed)
 }
 
-/// Returns how many texts two lists share: `here` if the texts after so many differ, else what was found `behind` them.
+/// Returns how many first texts two lists share: `here` if the texts at that index differ, otherwise `behind`, the
+/// number found so far after them.
 fn parted(order: Ordering, here: usize, behind: usize) -> usize
     ensures same { order ≡ Ordering.Equal → result ≡ behind }
     ensures other { (order ≡ Ordering.Equal → ⊥) → result ≡ here }
@@ -66,7 +68,7 @@ fn parted(order: Ordering, here: usize, behind: usize) -> usize
     if order.is_eq() { behind } else { here }
 }
 
-/// Compares in one climb: the difference nearest to the root decides.
+/// Compares in one climb from the last texts up: the difference nearest to the root decides.
 fn cmp_up<W: AsText>(
     nodes: &Nodes,
     node: usize,

@@ -1,4 +1,4 @@
-//! Copies of some of the lists that a cursor goes over.
+//! Copies some of the lists that a cursor visits.
 ghost use Rattle.std.specs.Prelude.{◌≡◌, ◌++◌, [], ◌∷◌, OnOk, IfOk};
 ghost use Rattle.cadf_join.specs.Prefixes.{texts_at};
 ghost use Rattle.cadf_pathset.specs.Lists.{chosen_of};
@@ -10,12 +10,13 @@ use crate::path_vec::PathVec;
 use std::alloc::Global;
 use std::marker::Model;
 
-/// A cursor, and copies of some of the lists that it came to. What a list shares with the last copy is not compared again.
+/// A cursor, and copies of some of the lists that it has visited. Texts that a list shares with the last copy are not
+/// compared again.
 #[derive(Drop)]
 pub(crate) struct Copier<'a> {
     cursor: Cursor<'a>,
     copies: PathVec,
-    /// So many first texts of the cursor's list are known to be those of the last copy.
+    /// The cursor's list is known to share this many first texts with the last copy.
     shared: usize,
 }
 
@@ -46,14 +47,15 @@ impl<'a> Copier<'a> {
         }
     }
 
-    /// Returns the list that the cursor is at.
+    /// Returns the list at the cursor.
     pub fn path(&self) -> &[&'a str]
         ensures { texts_at result.now ≡ self.now.0.0 }
     {
         self.cursor.path()
     }
 
-    /// Goes to the next list, and returns whether there is one. If the list before shared `agreed` texts with another, so does the next one then.
+    /// Moves to the next list, and returns whether there is one. If the list before shared its first `agreed` texts
+    /// with another list, `agreed` becomes the number that the next list shares with it.
     pub fn step(&mut self, agreed: &mut usize) -> Result<bool, Memory>
         ensures place { IfOk result (λ more. Steps more self.old.0 self.new.0 agreed.old agreed.new) }
         ensures same { self.new.1 ≡ self.old.1 }
@@ -72,7 +74,7 @@ impl<'a> Copier<'a> {
         }
     }
 
-    /// Goes to the next list, and returns whether there is one.
+    /// Moves to the next list, and returns whether there is one.
     pub fn next(&mut self) -> Result<bool, Memory>
         ensures place { IfOk result (λ more. Moves more self.old.0 self.new.0) }
         ensures same { self.new.1 ≡ self.old.1 }
@@ -81,7 +83,7 @@ impl<'a> Copier<'a> {
         self.step(&mut agreed)
     }
 
-    /// Copies the list that the cursor is at.
+    /// Copies the list at the cursor.
     pub fn copy(&mut self) -> Result<(), Memory>
         ensures place { self.new.0 ≡ self.old.0 }
         ensures more { OnOk result (self.new.1 ≡ self.old.1 ++ self.old.0.0 ∷ []) }
@@ -92,7 +94,7 @@ impl<'a> Copier<'a> {
         Ok(())
     }
 
-    /// Copies the list that the cursor is at, if `at_list`, and those ahead.
+    /// Copies the list at the cursor, if `at_list`, and all lists after it.
     pub fn copy_rest(&mut self, at_list: bool) -> Result<(), Memory>
         ensures { OnOk result (self.new.1 ≡ self.old.1 ++ ahead at_list self.old.0) }
     {
@@ -112,7 +114,7 @@ impl<'a> Copier<'a> {
     }
 }
 
-/// Returns the lists whose flags are set: the first flag is that of the first list.
+/// Returns the lists whose flags are set. Flags and lists are in the same order.
 pub(crate) fn chosen(alloc: Global, rows: &PathVec, flags: &[bool]) -> Result<PathVec, Memory>
     ensures { IfOk result (λ some. some ≡ chosen_of flags.now rows.now) }
 {

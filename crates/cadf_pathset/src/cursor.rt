@@ -1,4 +1,4 @@
-//! A place among lists, in order.
+//! Visits lists in order.
 ghost use Rattle.std.specs.Prelude.{◌≡◌, ◌≤◌, [], OnOk, IfOk, length};
 ghost use Rattle.cadf_join.specs.Prefixes.{texts_at};
 ghost use Rattle.cadf_pathset.specs.Nodes.{AreThere, IsLine, list_at, lists_at, shared};
@@ -10,7 +10,7 @@ use crate::nodes::Nodes;
 use std::alloc::Global;
 use std::marker::Model;
 
-/// A place among lists: the list that it is at, and those ahead.
+/// A cursor: the list at which it is, and the lists after it.
 #[derive(Drop)]
 pub struct Cursor<'a> {
     nodes: &'a Nodes,
@@ -34,7 +34,7 @@ impl<'a> Model for Cursor<'a> {
 }
 
 impl<'a> Cursor<'a> {
-    /// Starts before the first of the nodes' lists. Allocates nothing.
+    /// Makes a cursor before the first of the nodes' lists. Allocates nothing.
     pub(crate) fn new(alloc: Global, nodes: &'a Nodes, numbers: &'a [usize]) -> Cursor<'a>
         requires { AreThere nodes.now numbers.now }
         ensures path { result.0 ≡ [] }
@@ -49,14 +49,15 @@ impl<'a> Cursor<'a> {
         }
     }
 
-    /// Returns the list that the cursor is at.
+    /// Returns the list at the cursor.
     pub fn path(&self) -> &[&'a str]
         ensures { texts_at result.now ≡ self.now.0 }
     {
         self.path.as_slice()
     }
 
-    /// Goes to the next list. Returns how many texts it shares with the list before, or with the empty list; `None` if there is no next one.
+    /// Moves to the next list. Returns how many first texts it shares with the list before, or with the empty list.
+    /// `None` if there is no next list.
     pub fn advance(&mut self) -> Result<Option<usize>, Memory>
         ensures { IfOk result (λ found. Advances found self.old self.new) }
     {
@@ -84,7 +85,7 @@ impl<'a> Cursor<'a> {
         }
     }
 
-    /// Goes to the next list, and returns whether there is one.
+    /// Moves to the next list, and returns whether there is one.
     pub fn next(&mut self) -> Result<bool, Memory>
         ensures { IfOk result (λ more. Moves more self.old self.new) }
     {
@@ -94,7 +95,8 @@ impl<'a> Cursor<'a> {
         }
     }
 
-    /// Goes to the next list, and returns whether there is one. If the list before shared `agreed` texts with another, so does the next one then.
+    /// Moves to the next list, and returns whether there is one. If the list before shared its first `agreed` texts
+    /// with another list, `agreed` becomes the number that the next list shares with it.
     pub fn step(&mut self, agreed: &mut usize) -> Result<bool, Memory>
         ensures { IfOk result (λ more. Steps more self.old self.new agreed.old agreed.new) }
     {
@@ -108,7 +110,7 @@ impl<'a> Cursor<'a> {
     }
 }
 
-/// Goes from the line and the path of one list to those of the node, and returns how many texts the two lists share.
+/// Replaces the line and the path of one list by those of the node. Returns how many first texts the two lists share.
 fn advance<'a>(
     nodes: &'a Nodes,
     number: usize,

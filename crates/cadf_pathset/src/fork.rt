@@ -1,4 +1,5 @@
-//! The order of the lists of two nodes, and where they part: lists that go on from there have the same order.
+//! The order of the lists of two nodes, and the nodes at which they diverge: lists that extend those of such nodes have
+//! the same order.
 ghost use Rattle.std.specs.Prelude.{◌≡◌, ◌≤◌, ◌++◌, true, length};
 ghost use Rattle.std.specs.declared.cmp.Ordering.TheVariants.{Equal};
 ghost use Rattle.cadf_join.specs.Contents.{Texts, texts_cmp};
@@ -8,7 +9,8 @@ ghost use Rattle.cadf_pathset.specs.Nodes.{list_at};
 use crate::nodes::{Nodes, ancestor, depth};
 use std::cmp::Ordering;
 
-/// Two nodes whose lists part at their last texts, and the order of these; `Equal` if none are known.
+/// Two nodes whose lists differ in their last texts alone, and the order of these texts. `Equal` if no such nodes are
+/// known.
 #[derive(Clone, Copy, Drop)]
 pub(crate) struct Fork {
     a: usize,
@@ -17,7 +19,7 @@ pub(crate) struct Fork {
 }
 
 impl Fork {
-    /// Makes a fork that knows no nodes.
+    /// Makes a fork without nodes.
     pub fn unknown() -> Fork
         ensures order { result.order ≡ Equal }
         ensures root { (result.a ≡ 0) × (result.b ≡ 0) }
@@ -29,7 +31,7 @@ impl Fork {
         }
     }
 
-    /// Returns the fork at these nodes, if their texts differ, else the one before.
+    /// Returns the fork at these nodes if their order isn't `Equal`, otherwise the fork before.
     fn or_nearer(self, a: usize, b: usize, order: Ordering) -> Fork
         ensures same { order ≡ Equal → result ≡ self }
         ensures other { (order ≡ Equal → ⊥) → result ≡ record { a = a; b = b; order = order } }
@@ -41,7 +43,8 @@ impl Fork {
         }
     }
 
-    /// Returns whether the lists of the two nodes go on from these.
+    /// Returns whether the lists of the two nodes begin with those of the fork's nodes, so that the fork decides their
+    /// order.
     fn decides(self, nodes: &Nodes, node: usize, other: usize) -> bool
         requires ours { node ≤ length nodes.now }
         requires theirs { other ≤ length nodes.now }
@@ -52,7 +55,8 @@ impl Fork {
     }
 }
 
-/// Returns whether the climb from the node comes to the other one, with which its list then begins.
+/// Returns whether `front` is an ancestor of the node, or the node itself: the node's list then begins with that of
+/// `front`.
 fn goes_on(nodes: &Nodes, node: usize, front: usize) -> bool
     requires { node ≤ length nodes.now }
     ensures { result ≡ true → (rest : Texts) × (list_at nodes.now node ≡ list_at nodes.now front ++ rest) }
@@ -64,7 +68,7 @@ fn goes_on(nodes: &Nodes, node: usize, front: usize) -> bool
     at == front
 }
 
-/// Compares the lists of two nodes. Their nearest common ancestor ends it.
+/// Compares the lists of two nodes. Climbs no further than their nearest common ancestor.
 pub(crate) fn node_cmp(nodes: &Nodes, node: usize, other: usize) -> Ordering
     requires ours { node ≤ length nodes.now }
     requires theirs { other ≤ length nodes.now }
@@ -74,7 +78,8 @@ pub(crate) fn node_cmp(nodes: &Nodes, node: usize, other: usize) -> Ordering
     parting_cmp(nodes, node, other, &mut fork)
 }
 
-/// Compares them at once where the lists go on from nodes that are known, and else finds those where they part.
+/// Compares the lists of two nodes: at once if the fork decides, otherwise by a search for the nodes at which they
+/// diverge.
 pub(crate) fn next_cmp(nodes: &Nodes, node: usize, other: usize, fork: &mut Fork) -> Ordering
     requires ours { node ≤ length nodes.now }
     requires theirs { other ≤ length nodes.now }
@@ -89,8 +94,9 @@ pub(crate) fn next_cmp(nodes: &Nodes, node: usize, other: usize, fork: &mut Fork
     parting_cmp(nodes, node, other, fork)
 }
 
-/// Climbs from two nodes to children of one parent, and compares their texts. Unknown if one of the lists begins with the other.
-/// Since parents have smaller numbers than their children, it climbs from whichever number is greater.
+/// Climbs from two nodes to children of one parent, and compares the children's texts. `Equal` leaves the order open:
+/// one list may begin with the other. Since parents have smaller numbers than their children, it climbs from the
+/// greater number.
 fn sibling_fork(nodes: &Nodes, node: usize, other: usize) -> Fork
     requires ours { node ≤ length nodes.now }
     requires theirs { other ≤ length nodes.now }
@@ -122,8 +128,8 @@ fn sibling_fork(nodes: &Nodes, node: usize, other: usize) -> Fork
     Fork::unknown()
 }
 
-/// Compares the lists of two nodes, and finds the nodes where they part. The difference nearest to the root decides: it is at children of
-/// one parent, unless these have the same text.
+/// Compares the lists of two nodes, and finds the nodes at which they diverge. The difference nearest to the root
+/// decides: it is at two children of one parent, unless these have the same text.
 fn parting_cmp(nodes: &Nodes, node: usize, other: usize, fork: &mut Fork) -> Ordering
     requires ours { node ≤ length nodes.now }
     requires theirs { other ≤ length nodes.now }

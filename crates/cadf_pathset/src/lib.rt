@@ -1,4 +1,4 @@
-//! Sets of lists of texts that share their beginnings.
+//! Sets of lists of texts that share the storage of common prefixes.
 #![tactic(auto)]
 
 mod as_text;

@@ -21,8 +21,8 @@ pub(crate) fn end_of(line: &[usize]) -> usize
     }
 }
 
-/// Truncates the line to the ancestors that it shares with the node, and collects in `up` the nodes between, from the node upwards.
-/// Since parents have smaller numbers than their children, it steps back from whichever number is greater.
+/// Truncates the line to the ancestors that it shares with the node. Collects in `up` the nodes below them, from the
+/// node upwards. Since parents have smaller numbers than their children, it steps back from the greater number.
 fn climb(
     nodes: &Nodes,
     node: usize,
@@ -53,7 +53,8 @@ fn climb(
     Ok(())
 }
 
-/// Makes the line that of the node, and returns how many nodes of the line it kept. After an `Err` the line is that of no list.
+/// Replaces the line by that of the node, and returns how many nodes of the line it kept. After an `Err` the line is
+/// that of no list.
 pub(crate) fn follow(
     nodes: &Nodes,
     node: usize,
@@ -74,7 +75,8 @@ pub(crate) fn follow(
     Ok(common)
 }
 
-/// Compares the line's list with the path, if they are known to share `known` texts. Returns their order, and how many texts they share.
+/// Compares the line's list with the path, if both are known to share their first `known` texts. Returns the order, and
+/// how many first texts they share.
 pub(crate) fn cmp_from<W: AsText>(
     nodes: &Nodes,
     line: &[usize],
@@ -98,7 +100,7 @@ pub(crate) fn cmp_from<W: AsText>(
     (line.len().cmp(&path.len()), agreed)
 }
 
-/// Appends to the path the texts that the line has after it.
+/// Appends to the path the texts of the line's list that follow it.
 pub(crate) fn spell<'a>(
     nodes: &'a Nodes,
     line: &[usize],
@@ -144,7 +146,7 @@ pub(crate) fn extend<W: AsText>(
     Ok(())
 }
 
-/// Makes the line that of the node. After an `Err` it is the line of the empty list.
+/// Replaces the line by that of the node. After an `Err` it is the line of the empty list.
 pub(crate) fn lead(
     nodes: &Nodes,
     node: usize,
@@ -164,8 +166,8 @@ pub(crate) fn lead(
     }
 }
 
-/// Makes the line that of the path, by new nodes after the texts that the two share, and returns the path's node. They are known to share
-/// `known` texts.
+/// Replaces the line by that of the path, with new nodes after the texts that both share, and returns the path's node.
+/// The first `known` texts are known to be shared.
 fn line_to<W: AsText>(
     nodes: &mut Nodes,
     line: &mut Vec<usize>,
@@ -185,7 +187,7 @@ fn line_to<W: AsText>(
     Ok(end_of(line.as_slice()))
 }
 
-/// Makes the line that of the path, as above, and inserts its node before the number at that place.
+/// Replaces the line by that of the path, like `line_to`, and inserts the path's node at index `at` of the numbers.
 fn put<W: AsText>(
     nodes: &mut Nodes,
     line: &mut Vec<usize>,
@@ -210,8 +212,8 @@ fn put<W: AsText>(
     Ok(())
 }
 
-/// Inserts the path's node so, or takes back its new nodes: after an `Err` the nodes and the numbers are as before, and the line is that
-/// of the empty list.
+/// Inserts the path's node like `put`. After an `Err` it has removed its new nodes: nodes and numbers are as
+/// before, and the line is that of the empty list.
 pub(crate) fn put_or_restore<W: AsText>(
     nodes: &mut Nodes,
     line: &mut Vec<usize>,
@@ -251,7 +253,8 @@ pub(crate) fn is_of_last(line: &[usize], numbers: &[usize]) -> bool
     }
 }
 
-/// Returns how many texts the line's list is known to share with a path that shares `shared` texts with the list of the last of the nodes.
+/// Returns how many first texts the line's list is known to share with a path, of which the last node's list shares
+/// `shared`.
 pub(crate) fn known_of(line: &[usize], numbers: &[usize], shared: usize) -> usize
     ensures { (ls : List Texts) (p : Texts) → Agree shared (last_of [] (lists_at ls numbers.now)) p → Agree result (place ls line.now) p }
 {

@@ -11,7 +11,7 @@ use crate::path_vec::PathVec;
 use std::alloc::Global;
 use std::cmp::Ordering;
 
-/// Copies those lists ahead of the first cursor that the second lacks.
+/// Copies the lists ahead of the first cursor that are not ahead of the second.
 fn copy_lacking(ours: &mut Copier<'_>, theirs: &mut Cursor<'_>) -> Result<(), Memory>
     ensures { OnOk result (ours.new.1 ≡ ours.old.1 ++ sorted_without texts_cmp ours.old.0.1 theirs.old.1) }
 {
@@ -38,7 +38,7 @@ fn copy_lacking(ours: &mut Copier<'_>, theirs: &mut Cursor<'_>) -> Result<(), Me
     ours.copy_rest(more)
 }
 
-/// Returns the lists of the first that the second lacks.
+/// Returns the lists of the first set that the second lacks.
 pub(crate) fn without(alloc: Global, a: &PathVec, b: &PathVec) -> Result<PathVec, Memory>
     ensures { IfOk result (λ left. left ≡ sorted_without texts_cmp a.now b.now) }
 {

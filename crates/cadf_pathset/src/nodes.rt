@@ -1,4 +1,4 @@
-//! An arena of nodes: each is one text after its parent.
+//! An arena of nodes, each of which adds one text to the list of its parent.
 ghost use Rattle.std.specs.Prelude.{◌≡◌, ◌<◌, ◌≤◌, ◌+◌, ◌++◌, [], ◌∷◌, ℕ, OnOk, OnErr, IfOk, length, take, drop};
 ghost use Rattle.std.specs.Option.{option_copied};
 ghost use Rattle.cadf_join.specs.Prefixes.{chain_texts};
@@ -10,7 +10,8 @@ use crate::pool::Pool;
 use std::alloc::Global;
 use std::marker::Model;
 
-/// Nodes, numbered from 1. A node is one text after its parent, which comes before it, or after the root, 0.
+/// Nodes, numbered from 1. A node adds one text to the list of its parent: a node of a smaller number, or the root,
+/// which has the number 0.
 #[derive(Drop)]
 pub struct Nodes {
     parents: Vec<usize>,
@@ -40,7 +41,7 @@ impl Nodes {
         }
     }
 
-    /// Returns one more than `depth`, or `depth` if no list has more texts.
+    /// Returns `depth + 1`, or `depth` if no list has more texts.
     pub fn next_depth(&self, depth: usize) -> usize
         ensures { (n : ℕ) → n ≤ length self.now → rest_of self.now result n ≡ drop 1 (rest_of self.now depth n) }
     {
@@ -116,7 +117,8 @@ pub(crate) fn depth(nodes: &Nodes, node: usize) -> usize
     depth
 }
 
-/// Returns the node of the first `wanted` texts of the node's list, which has `has` texts, or the node itself if it has fewer.
+/// Returns the ancestor whose list is the first `wanted` texts of the node's list, which has `has` texts. Returns the
+/// node itself if it has no more.
 pub(crate) fn ancestor(nodes: &Nodes, node: usize, has: usize, wanted: usize) -> usize
     requires there { node ≤ length nodes.now }
     requires has { has ≡ length (list_at nodes.now node) }
@@ -132,7 +134,7 @@ pub(crate) fn ancestor(nodes: &Nodes, node: usize, has: usize, wanted: usize) ->
     at
 }
 
-/// Returns the text after the first `skipped` texts of the node's list. `None` if it has no more.
+/// Returns the text at index `skipped` of the node's list. `None` if the list is shorter.
 pub(crate) fn text_after(nodes: &Nodes, node: usize, skipped: usize) -> Option<&str>
     requires { node ≤ length nodes.now }
     ensures { option_copied result ≡ first_text (rest_of nodes.now skipped node) }
@@ -144,7 +146,7 @@ pub(crate) fn text_after(nodes: &Nodes, node: usize, skipped: usize) -> Option<&
     None
 }
 
-/// Copies the texts after the first `skipped` texts of the node's list.
+/// Copies the texts of the node's list from index `skipped` on.
 pub(crate) fn copy_after(
     alloc: Global,
     nodes: &Nodes,

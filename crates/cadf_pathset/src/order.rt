@@ -10,8 +10,8 @@ use cadf_join::prefix::copy_texts;
 use std::alloc::Global;
 use std::cmp::Ordering;
 
-/// Compares two lists that are known to share `known` texts: text by text, by their bytes, a prefix first. Returns their order, and a
-/// number of texts that they share.
+/// Compares two lists that are known to share their first `known` texts: text by text, by their bytes, a prefix first.
+/// Returns the order, and a number of first texts that both share.
 pub(crate) fn texts_cmp(a: &[&str], b: &[&str], known: usize) -> (Ordering, usize)
     requires { Agree known (texts_at a.now) (texts_at b.now) }
     ensures order { result.0 ≡ texts_cmp (texts_at a.now) (texts_at b.now) }
@@ -28,7 +28,7 @@ pub(crate) fn texts_cmp(a: &[&str], b: &[&str], known: usize) -> (Ordering, usiz
     (a.len().cmp(&b.len()), agreed)
 }
 
-/// Copies the prefix with the path after it.
+/// Copies the prefix, followed by the path.
 pub(crate) fn continued(
     alloc: Global,
     prefix: &[String],

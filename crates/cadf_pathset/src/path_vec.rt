@@ -1,4 +1,4 @@
-//! Lists of texts, each reached by its number.
+//! A vector of lists of texts that share the storage of common prefixes.
 ghost use Rattle.std.specs.Prelude.{◌≡◌, ◌≤◌, ◌+◌, ◌<◌, ◌++◌, [], ◌∷◌, ◌↔◌, OnOk, OnErr, IfOk, IfSome, IsTrue, None, Some, true, false};
 ghost use Rattle.std.specs.Prelude.{length, take, drop, get_or, map};
 ghost use Rattle.std.specs.Cmp.Lexicographic.{pointwise};
@@ -28,12 +28,12 @@ use std::alloc::Global;
 use std::cmp::Ordering;
 use std::marker::Model;
 
-/// Lists of texts, each the number of its last node. Lists that begin alike share nodes.
+/// Lists of texts, each as the number of its last node. Lists with a common prefix share its nodes.
 #[derive(Drop)]
 pub struct PathVec {
     nodes: Nodes,
     numbers: Vec<usize>,
-    /// The line of the list that was added last, or of another list.
+    /// The line of the list added last, or of another list.
     line: Vec<usize>,
     alloc: Global,
 }
@@ -89,7 +89,7 @@ impl PathVec {
         )
     }
 
-    /// Inserts the list before the one of that number. After an `Err` the lists are as before.
+    /// Inserts the list at index `at`. After an `Err` the lists are as before.
     pub fn insert(&mut self, at: usize, path: &[&str]) -> Result<(), Memory>
         requires { at ≤ length self.old }
         ensures ok { OnOk result (self.new ≡ take at self.old ++ texts_at path.now ∷ drop at self.old) }
@@ -108,7 +108,8 @@ impl PathVec {
         )
     }
 
-    /// Returns whether the list, whose first `shared` texts are those of the last one, is above that one. True if there is none.
+    /// Returns whether the list is above the last one, with which it shares its first `shared` texts. True if there is
+    /// none.
     pub fn is_above_last<W: AsText>(&self, path: &[W], shared: usize) -> bool
         requires { Agree shared (last_of [] self.now) (map W.bytes path.now) }
         ensures { result ≡ is_above_last self.now (map W.bytes path.now) }
@@ -119,7 +120,7 @@ impl PathVec {
         self.last_cmp(path, shared).is_lt()
     }
 
-    /// Compares the last list with another, if they are known to share `shared` texts.
+    /// Compares the last list with another, with which it is known to share its first `shared` texts.
     fn last_cmp<W: AsText>(&self, path: &[W], shared: usize) -> Ordering
         requires some { 0 < length self.now }
         requires shared { Agree shared (last_of [] self.now) (map W.bytes path.now) }
@@ -146,7 +147,7 @@ impl PathVec {
         self.is_behind(self.count() - 1, prefix)
     }
 
-    /// Returns whether the list of that number begins with the prefix.
+    /// Returns whether the list at that index begins with the prefix.
     fn is_behind<W: AsText>(&self, number: usize, prefix: &[W]) -> bool
         requires { number < length self.now }
         ensures { result ≡ is_eq (prefix_cmp (get_or self.now number []) (map W.bytes prefix.now)) }
@@ -154,8 +155,8 @@ impl PathVec {
         begins_with(&self.nodes, self.numbers[number], prefix)
     }
 
-    /// Compares the list of that number with another, if they are known to share `known` texts. Returns their order, and a number of texts
-    /// that they share.
+    /// Compares the list at that index with another, with which it is known to share its first `known` texts. Returns
+    /// the order, and a number of first texts that both share.
     fn cmp_at<W: AsText>(&self, number: usize, list: &[W], known: usize) -> (Ordering, usize)
         requires within { number < length self.now }
         requires known { Agree known (get_or self.now number []) (map W.bytes list.now) }
@@ -165,7 +166,8 @@ impl PathVec {
         list_cmp(&self.nodes, self.numbers[number], list, known)
     }
 
-    /// Merges the lists of the other into these, each once. Copies no text of these. After an `Err` the lists are as before.
+    /// Merges the lists of `other` into these, each once. Copies no text of its own. After an `Err` the lists are as
+    /// before.
     pub fn join(&mut self, other: &PathVec) -> Result<(), Memory>
         requires ours { IsStrictlySortedBy texts_cmp self.old }
         requires theirs { IsStrictlySortedBy texts_cmp other.now }
@@ -195,7 +197,7 @@ impl PathVec {
         Cursor::new(self.alloc, &self.nodes, self.numbers.as_slice())
     }
 
-    /// Returns a cursor before the list of that number.
+    /// Returns a cursor before the list at that index.
     pub fn cursor_from(&self, at: usize) -> Cursor<'_>
         requires { at ≤ length self.now }
         ensures { result.1 ≡ drop at self.now }
@@ -204,14 +206,14 @@ impl PathVec {
         Cursor::new(self.alloc, &self.nodes, numbers)
     }
 
-    /// Returns all lists, whole.
+    /// Borrows all lists as suffixes of the empty prefix.
     pub fn whole(&self) -> SuffixRange<'_>
         ensures { result ≡ self.now }
     {
         SuffixRange::new(&self.nodes, self.numbers.as_slice(), 0)
     }
 
-    /// Returns the suffixes after the prefix.
+    /// Borrows the suffixes after the prefix.
     pub fn suffixes(&self, prefix: &[&str]) -> SuffixRange<'_>
         requires { IsStrictlySortedBy texts_cmp self.now }
         ensures behind { result ≡ behind (texts_at prefix.now) self.now }
@@ -224,8 +226,8 @@ impl PathVec {
         range
     }
 
-    /// Returns the number of the first list that is not below this one, and a number of texts that the two share.
-    /// Binary search, which skips the texts that the lists at both ends share with this one.
+    /// Returns the index of the first list that is not below this one, and a number of first texts that the two share.
+    /// Binary search, which skips the texts that the lists at both bounds share with this one.
     fn seek<W: AsText>(&self, list: &[W]) -> (usize, usize)
         requires { IsStrictlySortedBy texts_cmp self.now }
         ensures within { result.0 ≤ length self.now }
@@ -251,7 +253,7 @@ impl PathVec {
         (low, back)
     }
 
-    /// Returns whether the list of that number is this one, if they are known to share `known` texts.
+    /// Returns whether the list at that index is this one, with which it is known to share its first `known` texts.
     fn is_at<W: AsText>(&self, number: usize, list: &[W], known: usize) -> bool
         requires within { number < length self.now }
         requires known { Agree known (get_or self.now number []) (map W.bytes list.now) }
@@ -261,7 +263,7 @@ impl PathVec {
         order.is_eq()
     }
 
-    /// Returns the number before which the list is to be inserted. `None` if it is there.
+    /// Returns the index at which the list is to be inserted. `None` if the set has it.
     pub fn place<W: AsText>(&self, list: &[W]) -> Option<usize>
         requires { IsStrictlySortedBy texts_cmp self.now }
         ensures held { result ≡ None → list_any (eq_by_cmp texts_cmp (map W.bytes list.now)) self.now ≡ true }
@@ -276,7 +278,7 @@ impl PathVec {
         Some(at)
     }
 
-    /// Returns the number of the first list above this one.
+    /// Returns the index of the first list above this one.
     pub fn above<W: AsText>(&self, list: &[W]) -> usize
         requires { IsStrictlySortedBy texts_cmp self.now }
         ensures within { result ≤ length self.now }
@@ -290,7 +292,7 @@ impl PathVec {
         at
     }
 
-    /// Returns the number of the first list above the given one. For `None`, that of the first list.
+    /// Returns the index of the first list above the given one. For `None`, that of the first list.
     pub fn after(&self, given: Option<&[String]>) -> usize
         requires { IsStrictlySortedBy texts_cmp self.now }
         ensures within { result ≤ length self.now }
@@ -330,7 +332,7 @@ impl PathVec {
     }
 }
 
-/// Returns whether the nodes of two arenas have the same lists, one by one.
+/// Returns whether the nodes of two arenas have the same lists, pair by pair.
 fn same_lists(nodes: &Nodes, numbers: &[usize], others: &Nodes, its: &[usize]) -> bool
     requires ours { AreThere nodes.now numbers.now }
     requires theirs { AreThere others.now its.now }
@@ -353,7 +355,8 @@ fn same_lists(nodes: &Nodes, numbers: &[usize], others: &Nodes, its: &[usize]) -
     rest.is_empty()
 }
 
-/// Returns that node of the lists beside that place whose list shares more texts with the path, or the root.
+/// Returns, of the lists before and after that index, the node of the one that shares more texts with the path. The
+/// root if there is none.
 fn nearest(nodes: &Nodes, numbers: &[usize], at: usize, path: &[&str]) -> usize
     requires there { AreThere nodes.now numbers.now }
     requires within { at ≤ length numbers.now }

@@ -5,7 +5,7 @@ use crate::Memory;
 use std::alloc::Global;
 use std::marker::Model;
 
-/// Texts in the order in which they were appended: each begins where the one before ends.
+/// Texts in the order in which they were appended: each begins at the end of the text before.
 #[derive(Drop)]
 pub(crate) struct Pool {
     block: String,
@@ -61,7 +61,7 @@ impl Pool {
         }
     }
 
-    /// Returns the text of that number.
+    /// Returns the text at index `number`.
     pub fn text(&self, number: usize) -> &str
         requires { number < length self.now }
         ensures { result.now ≡ get_or self.now number [] }
@@ -73,7 +73,7 @@ impl Pool {
     }
 }
 
-/// Returns where the text of that number begins.
+/// Returns the offset at which the text at that index begins.
 fn start_of(ends: &[usize], number: usize) -> usize
     requires { number ≤ length ends.now }
     ensures { result ≡ get_or (0 ∷ ends.now) number 0 }

@@ -30,7 +30,7 @@ fn is_rising(nodes: &Nodes, numbers: &[usize]) -> bool
     true
 }
 
-/// Returns the lists of both, each once, in order.
+/// Merges two lists of nodes by their lists of texts, each once, in order.
 fn merged(alloc: Global, nodes: &Nodes, a: &[usize], b: &[usize]) -> Result<Vec<usize>, Memory>
     requires ours { AreThere nodes.now a.now }
     requires theirs { AreThere nodes.now b.now }

@@ -1,4 +1,4 @@
-//! Suffixes: lists of a range, each without its first texts.
+//! Suffixes: a range of lists, each without its first texts.
 ghost use Rattle.std.specs.Prelude.{◌≡◌, ◌≤◌, ◌<◌, ℕ, [], ◌∷◌, IfOk, IfSome, None, true, false, length, take, drop, get_or, map, nat_le, string_bytes};
 ghost use Rattle.std.specs.List.{AllByRecursion, find};
 ghost use Rattle.std.specs.List.Sorted.{IsStrictlySortedBy};
@@ -19,7 +19,7 @@ use std::alloc::Global;
 use std::cmp::Ordering;
 use std::marker::Model;
 
-/// Lists of a range, each without its first texts.
+/// A range of lists, each without its first texts.
 #[derive(Drop)]
 pub struct SuffixRange<'a> {
     nodes: &'a Nodes,
@@ -40,7 +40,7 @@ impl<'a> Model for SuffixRange<'a> {
 }
 
 impl<'a> SuffixRange<'a> {
-    /// Takes the nodes' lists, each without its first `depth` texts.
+    /// Makes the range of the nodes' lists, each without its first `depth` texts.
     pub fn new(nodes: &'a Nodes, numbers: &'a [usize], depth: usize) -> SuffixRange<'a>
         requires { AreThere nodes.now numbers.now }
         ensures { result ≡ map (rest_of nodes.now depth) numbers.now }
@@ -59,8 +59,8 @@ impl<'a> SuffixRange<'a> {
         self.numbers.len()
     }
 
-    /// Returns the numbers of the first suffix that begins with the text and of the first above those: one number if none does.
-    /// Binary search.
+    /// Returns the bounds of the suffixes that begin with the text: the index of the first one, and that of the first
+    /// above them. Both are equal if none begins with it. Binary search.
     fn bounds(&self, text: &str) -> (usize, usize)
         requires { IsStrictlySortedBy texts_cmp self.now }
         ensures order { result.0 ≤ result.1 }
@@ -86,8 +86,8 @@ impl<'a> SuffixRange<'a> {
         (low, low)
     }
 
-    /// Returns the number of the first suffix that begins with the text, or is above those that do, between `low` and `high`. Checks `low`
-    /// first, then uses binary search.
+    /// Returns the index, from `low` to `high`, of the first suffix that begins with the text or is above those that
+    /// do. Checks `low` first, then uses binary search.
     fn lower_bound(&self, text: &str, low: usize, high: usize) -> usize
         requires rising { IsStrictlySortedBy texts_cmp self.now }
         requires order { low ≤ high }
@@ -107,8 +107,8 @@ impl<'a> SuffixRange<'a> {
         self.binary_search(text, false, low, low)
     }
 
-    /// Returns the number of the first suffix above those that begin with the text, between `low` and `high`. Checks the last one below
-    /// `high` first, then uses binary search.
+    /// Returns the index, from `low` to `high`, of the first suffix above those that begin with the text. Checks the
+    /// last one below `high` first, then uses binary search.
     fn upper_bound(&self, text: &str, low: usize, high: usize) -> usize
         requires rising { IsStrictlySortedBy texts_cmp self.now }
         requires order { low ≤ high }
@@ -129,8 +129,8 @@ impl<'a> SuffixRange<'a> {
         self.binary_search(text, true, low, high - 1)
     }
 
-    /// Returns the number of the first suffix above those that begin with the text, which is `from` or higher. Galloping search: fast if it
-    /// is close behind `from`.
+    /// Returns the index, from `from` on, of the first suffix above those that begin with the text. Galloping search:
+    /// fast if it is close to `from`.
     fn gallop(&self, text: &str, from: usize) -> usize
         requires rising { IsStrictlySortedBy texts_cmp self.now }
         requires within { from ≤ length self.now }
@@ -153,7 +153,7 @@ impl<'a> SuffixRange<'a> {
         self.binary_search(text, true, low, self.count())
     }
 
-    /// Finds that number between `low` and `high`.
+    /// Finds that index by binary search, from `low` to `high`.
     fn binary_search(&self, text: &str, passed: bool, low: usize, high: usize) -> usize
         requires rising { IsStrictlySortedBy texts_cmp self.now }
         requires order { low ≤ high }
@@ -179,7 +179,8 @@ impl<'a> SuffixRange<'a> {
         low
     }
 
-    /// Returns whether the suffix of that number is below those that begin with the text, or begins with it, if `passed`.
+    /// Returns whether the suffix at that index is below those that begin with the text. One that begins with it counts
+    /// too, if `passed`.
     fn is_before(&self, number: usize, text: &str, passed: bool) -> bool
         ensures { result ≡ is_before (text.now ∷ []) passed (get_or self.now number []) }
     {
@@ -190,7 +191,7 @@ impl<'a> SuffixRange<'a> {
         }
     }
 
-    /// Compares the first text of the suffix of that number with the text. A suffix that has none is below.
+    /// Compares the first text of the suffix at that index with the text. An empty suffix is less.
     fn text_cmp(&self, number: usize, text: &str) -> Ordering
         ensures { result ≡ prefix_cmp (get_or self.now number []) (text.now ∷ []) }
     {
@@ -200,7 +201,7 @@ impl<'a> SuffixRange<'a> {
         }
     }
 
-    /// Returns the first text of the suffix of that number. `None` if it has none, or if there is no such suffix.
+    /// Returns the first text of the suffix at that index. `None` if the suffix is empty, or there is none.
     fn text(&self, number: usize) -> Option<&'a str>
         ensures { option_copied result ≡ first_text (get_or self.now number []) }
     {
@@ -210,7 +211,7 @@ impl<'a> SuffixRange<'a> {
         }
     }
 
-    /// Returns what follows the text in the suffixes that begin with it. Binary search.
+    /// Returns the suffixes that follow the text: those that begin with it, without it. Binary search.
     pub fn section(&self, text: &str) -> SuffixRange<'a>
         requires { IsStrictlySortedBy texts_cmp self.now }
         ensures { result ≡ tails_of text.now self.now }
@@ -243,7 +244,7 @@ impl<'a> SuffixRange<'a> {
         }
     }
 
-    /// Returns whether there are two or more first texts.
+    /// Returns whether there are two or more different first texts.
     pub fn has_multiple(&self) -> bool
         requires { IsStrictlySortedBy texts_cmp self.now }
         ensures { result ≡ nat_le 2 (length (set.rising (heads (set.from_list self.now)))) }
@@ -254,7 +255,7 @@ impl<'a> SuffixRange<'a> {
         }
     }
 
-    /// Returns the number of the first of the longest suffixes. `None` if there are none.
+    /// Returns the index of the first of the longest suffixes. `None` if there are no suffixes.
     pub fn longest(&self) -> Option<usize>
         ensures within { IfSome result (λ n. n < length self.now) }
         ensures longest { option_map (λ n. get_or self.now n []) result ≡ longest_of self.now }
@@ -270,7 +271,7 @@ impl<'a> SuffixRange<'a> {
         best
     }
 
-    /// Returns whether the suffix of that number is longer than the best so far, if there is one.
+    /// Returns whether the suffix at that index is longer than the best so far, or there is none so far.
     fn is_longer(&self, number: usize, best: Option<usize>) -> bool
         requires within { number < length self.now }
         requires found { IfSome best (λ n. n < length self.now) }
@@ -282,7 +283,7 @@ impl<'a> SuffixRange<'a> {
         }
     }
 
-    /// Counts the texts of the suffix of that number.
+    /// Counts the texts of the suffix at that index.
     fn length(&self, number: usize) -> usize
         ensures { result ≡ length (get_or self.now number []) }
     {
@@ -322,7 +323,7 @@ impl<'a> SuffixRange<'a> {
         Ok(lists)
     }
 
-    /// Copies the suffix of that number.
+    /// Copies the suffix at that index.
     pub fn to_strings(&self, alloc: Global, number: usize) -> Result<Vec<String>, Memory>
         requires { number < length self.now }
         ensures { IfOk result (λ list. chain_texts list.items ≡ get_or self.now number []) }

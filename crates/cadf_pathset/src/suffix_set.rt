@@ -1,4 +1,4 @@
-//! The suffixes after a prefix in a set, as they stand there.
+//! The suffixes after a prefix in a set, borrowed from the set.
 ghost use Rattle.std.specs.Prelude.{◌≡◌, IfOk, map, string_bytes};
 ghost use Rattle.std.specs.List.Sorted.{IsStrictlySortedBy};
 ghost use Rattle.std.specs.Option.{option_copied};
@@ -12,7 +12,7 @@ use crate::suffix_range::SuffixRange;
 use std::alloc::Global;
 use std::marker::Model;
 
-/// The suffixes after a prefix in a set, as they stand there: no text is copied.
+/// The suffixes after a prefix in a set, borrowed from the set. No text is copied.
 #[derive(Drop)]
 pub struct SuffixSet<'a> {
     range: SuffixRange<'a>,
@@ -35,7 +35,7 @@ impl<'a> Model for SuffixSet<'a> {
 }
 
 impl<'a> SuffixSet<'a> {
-    /// Takes the suffixes of the range.
+    /// Wraps the suffixes of the range.
     pub(crate) fn new(alloc: Global, range: SuffixRange<'a>) -> SuffixSet<'a>
         requires { IsStrictlySortedBy texts_cmp range }
         ensures { result ≡ set.from_list range.entry }
@@ -43,7 +43,7 @@ impl<'a> SuffixSet<'a> {
         SuffixSet { range, alloc }
     }
 
-    /// Returns what follows the text in the suffixes that begin with it. Binary search.
+    /// Returns the suffixes that follow the text: those that begin with it, without it. Binary search.
     pub fn section(&self, text: &str) -> SuffixSet<'a>
         ensures { result ≡ suffixes_of self.now text.now }
     {

@@ -19,7 +19,7 @@ use crate::path_vec::PathVec;
 use std::alloc::Global;
 use std::cmp::Ordering;
 
-/// Compares one of our lists with theirs. Skips the texts that they are known to share.
+/// Compares one of our lists with theirs. Skips the first texts that both are known to share.
 fn compare(
     nodes: &Nodes,
     number: usize,
@@ -46,7 +46,7 @@ fn compare(
     Ok(order)
 }
 
-/// Goes to their next list, and returns whether there is one.
+/// Moves to their next list, and returns whether there is one.
 fn enter(cursor: &mut Cursor<'_>, out: &mut Vec<usize>, agreed: &mut usize) -> Result<bool, Memory>
     ensures { IfOk result (λ more. Entered more cursor.old cursor.new out.old.items out.new.items agreed.old agreed.new) }
 {
@@ -60,7 +60,7 @@ fn enter(cursor: &mut Cursor<'_>, out: &mut Vec<usize>, agreed: &mut usize) -> R
     }
 }
 
-/// Appends their list, by new nodes for the texts that our nodes lack.
+/// Appends their list, with new nodes for the texts that our nodes lack.
 fn append(
     nodes: &mut Nodes,
     out: &mut Vec<usize>,
@@ -79,7 +79,7 @@ fn append(
     Ok(())
 }
 
-/// Returns a number of ours from `from` on, all lists between being below theirs. Galloping search.
+/// Returns an index from `from` on: the lists of ours from `from` up to it are below theirs. Galloping search.
 fn gallop(nodes: &Nodes, numbers: &[usize], from: usize, path: &[&str]) -> usize
     requires there { AreThere nodes.now numbers.now }
     requires rises { IsStrictlySortedBy texts_cmp (lists_at nodes.now numbers.now) }
@@ -103,7 +103,8 @@ fn gallop(nodes: &Nodes, numbers: &[usize], from: usize, path: &[&str]) -> usize
     low
 }
 
-/// Appends those of ours that a galloping search finds below theirs, except the last of them. Returns the number of the next of ours.
+/// Appends those of our lists that a galloping search finds below theirs, except the last of them. Returns the index of
+/// our next list.
 fn skip(
     nodes: &Nodes,
     numbers: &[usize],
@@ -130,11 +131,11 @@ fn skip(
     Ok(last)
 }
 
-/// So many of ours in a row are compared one by one before a galloping search.
+/// After this many comparisons of our lists in a row, a galloping search begins.
 const LONG: usize = 8;
 
-/// Appends to `all` our lists and those ahead of the cursor, each once, in order. Copies no text of ours, and appends no node for a text that
-/// our lists beside have.
+/// Appends to `all` our lists and those after the cursor, each once, in order. Copies no text of ours, and appends no
+/// node for a text that an adjacent list of ours has.
 fn merge(
     nodes: &mut Nodes,
     numbers: &[usize],
@@ -192,7 +193,7 @@ fn merge(
     Ok(())
 }
 
-/// Returns the lists of both, each once, in order, within our nodes. After an `Err` our nodes are as before.
+/// Returns the lists of both, each once, in order, with nodes of our arena. After an `Err` our nodes are as before.
 pub(crate) fn merge_into(
     alloc: Global,
     nodes: &mut Nodes,

@@ -1,14 +1,14 @@
--- The cells of a sketch, in three tables of one l. A digest stands in one cell of each table.
---     word d from          the number that eight bytes of the digest spell
---     check d              the check of a digest
+-- The cells of a sketch, in three tables of a layout l. A digest is in one cell of each table.
+--     word d from          the big-endian number in the eight bytes of the digest from that offset on
+--     check d              the checksum of a digest
 --     place_in table d l    the digest's place in the table
 --     cell_at cells place  the cell at that place
---     mixed cell d         the cell with the digest put in, or taken out
---     turned cells d l  the cells with the digest put into its three cells, or taken out of them
+--     mixed cell d         the cell with the digest XORed in, which adds or removes it
+--     turned cells d l  the cells with the digest XORed into its three cells
 --     turned_all           the same with each of the digests in turn
---     mixed_all cell ds    the cell with each of the digests put in
---     stands d place l  the digest stands in the cell at that place
---     is_lone cell place l  one digest alone stands in the cell at that place
+--     mixed_all cell ds    the cell with each of the digests XORed in
+--     stands d place l  one of the digest's three cells is at that place
+--     is_lone cell place l  the cell seems to have one digest alone: its check is that of its digest, which has a cell at that place
 use Rattle.std.specs.Prelude.{ℕ, ◌+◌, ◌*◌, ◌%◌, ◌^◌, Bool, ◌&&◌, ◌||◌, nat_eq, ◌/◌, List, [], ◌∷◌, set, get_or, replicate, slice_range, bit_xor}
 use Rattle.std.specs.Int.{w64, from_be_bytes}
 use Rattle.std.specs.Simd.Lanes.{zip2}
@@ -18,11 +18,11 @@ use Rattle.cadf_sketch.specs.declared.cell.Cell.{Cell}
 unfoldable pub word : List ℕ → ℕ → ℕ
 word d from = from_be_bytes w64 (slice_range d from (from + 8))
 
--- the products of the words by two, and one
+-- the products of the words two by two, and 1, added modulo 2^64
 unfoldable pub check : List ℕ → ℕ
 check d = (word d 0 * word d 8 + word d 16 * word d 24 + 1) % 2 ^ 64
 
--- the upper half of a word by the salt, spread over the places of a table
+-- the upper half of the product of a word and the salt, scaled to the size of a table
 unfoldable pub place_in : ℕ → List ℕ → LayoutModel → ℕ
 place_in table d l = table * l.size + ((l.salt * word d (8 * table)) % 2 ^ 64 / 2 ^ 32 * l.size) / 2 ^ 32
 
@@ -54,7 +54,7 @@ stands d place l = nat_eq place (place_in 0 d l) || nat_eq place (place_in 1 d l
 abbrev pub is_lone : Cell → ℕ → LayoutModel → Bool
 is_lone cell place l = nat_eq (check cell.digest) cell.check && stands cell.digest place l
 
--- the cell with each of the digests put in
+-- the cell with each of the digests XORed in
 abbrev pub mixed_all : Cell → List (List ℕ) → Cell
 mixed_all cell [] = cell
 mixed_all cell (d ∷ ds) = mixed_all (mixed cell d) ds

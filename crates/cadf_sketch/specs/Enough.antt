@@ -1,5 +1,5 @@
--- When a sketch has cells enough for what differs.
---     IsEnough layout s      of each part of the digests one stands alone, nothing else looks as if it did, and there are more cells than digests
+-- When a sketch has enough cells for a set of digests that two inventories don't share.
+--     IsEnough layout s      each non-empty subset has a lone cell, lone cells have digests of the subset, and there are more cells than digests
 use Rattle.std.specs.Prelude.{◌≡◌, ◌<◌, ◌*◌, ◌≢◌, ℕ, true, length}
 use Rattle.cadf_join.specs.Sets as set
 use Rattle.cadf_join.specs.Sets.{rising}

@@ -1,10 +1,10 @@
--- How the cells of a sketch are laid out: the cells of each of three tables, and the salt.
+-- How the cells of a sketch are laid out: the number of cells in each of three tables, and the salt.
 --     IsLayout l             from 1 to 2^22 cells a table, and an odd salt
 --     are_cells n            a sketch can have that many cells in all
---     default_cells          how many it has, where no number is given
+--     default_cells          the number of cells in all, if none is given
 --     is_salt n              the number can be a salt
 --     layout_with cells salt the layout of that many cells in all
---     layout_of cells salt   the same, if there is one
+--     layout_of cells salt   that layout, if both numbers are allowed
 use Rattle.std.specs.Prelude.{◌≡◌, ◌<◌, ◌≤◌, ◌*◌, ◌/◌, ◌%◌, ◌^◌, ◌&&◌, ℕ, Bool, nat_eq, nat_le, if◌then◌else◌, Option, Some, None, refl}
 use Rattle.std.specs.Coded.{Coded, coded_ℕ, coded×, code_by}
 

@@ -1,8 +1,8 @@
--- Digests that are taken out of the cells of a sketch, each where it stands alone.
---     Peels layout start taken rest      taking the digests in turn leads from the cells start to the cells rest
+-- Peeling: digests are removed from the cells of a sketch, each found in a cell that seems to have it alone.
+--     Peels layout start taken rest      removing the digests `taken` in turn leads from the cells start to the cells rest
 --     Awaits layout cells pending        each place whose cell has a lone digest is among the pending
---     ArePlaces count pending            the pending are below the count
---     HasNoLone layout cells             no digest stands alone in a cell
+--     ArePlaces count pending            the pending places are below the count
+--     HasNoLone layout cells             no cell has a lone digest
 use Rattle.std.specs.Prelude.{◌≡◌, ◌<◌, ℕ, List, [], ◌∷◌, ◌++◌, length, true, false, nat_eq}
 use Rattle.std.specs.List.{All, list_any}
 use Rattle.cadf_sketch.specs.Layouts.{LayoutModel}
@@ -18,7 +18,7 @@ pub data Peels (layout : LayoutModel) (start : List Cell) : List (List ℕ) → 
 abbrev pub HasNoLone : LayoutModel → List Cell → Type 0
 HasNoLone layout cells = (place : ℕ) → place < length cells → is_lone (cell_at cells place) place layout ≡ false
 
--- the places of the digest's cells
+-- the places of the digest's three cells
 abbrev pub places_of : List ℕ → LayoutModel → List ℕ
 places_of d layout = place_in 0 d layout ∷ place_in 1 d layout ∷ place_in 2 d layout ∷ []
 

@@ -1,9 +1,9 @@
--- When no inventory is read from a sketch.
---     differing own sketch     the sketch's cells with the own digests put in: those of both sides cancel
---     IsPeeled own sketch theirs   digests were taken out until none stood alone, or as many as there are cells,
+-- Why no inventory is decoded from a sketch.
+--     differing own sketch     the sketch's cells with the own digests XORed in: those of both sides cancel
+--     IsPeeled own sketch theirs   digests were removed until no cell had a lone one, or until as many as there are cells,
 --                                  and theirs is the own inventory with these flipped
---     HasTooFewCells own sketch    a peel led to another inventory than the sketch is of
---     IsReadFault own sketch f     f is why no inventory is read
+--     HasTooFewCells own sketch    peeling led to an inventory whose digest is not the sketch's
+--     IsReadFault own sketch f     f is why no inventory is decoded
 use Rattle.std.specs.Prelude.{◌≡◌, ◌≤◌, ◌*◌, ◌≢◌, ◌⊎◌, List, length}
 use Rattle.cadf_join.specs.Sets.{rising}
 use Rattle.cadf_join.specs.Contents.{Text}
@@ -34,7 +34,7 @@ pub record HasTooFewCells (own : InventoryModel) (sketch : SketchModel) : Type 0
   pub peeled : IsPeeled own sketch theirs
   pub other : inventory_digest theirs ≢ sketch.digest
 
--- an allocation may fail at any time
+-- `Memory` says nothing: an allocation may fail at any time
 abbrev pub IsReadFault : InventoryModel → SketchModel → ReadFault → Type 0
 IsReadFault own sketch OtherLog = own.log ≢ sketch.log
 IsReadFault own sketch (TooFewCells cells) = HasTooFewCells own sketch × (cells ≡ cells_to_ask (tally_of (rising own.digests)) sketch.tally)

@@ -1,11 +1,11 @@
 -- The file of a sketch.
---     spelled n ns         numbers in decimal, parted by one blank
+--     spelled n ns         numbers in decimal, separated by one space
 --     head_line h          the line with the number of cells, the salt and the digest of the inventory's file
---     counts_line t        the line with the number of digests, and with how many have each of the first 64 bits set
---     cell_line c          the line of a cell: its digest, and its check of eight bytes with the most significant first
+--     counts_line t        the line with the number of digests and, for each of the first 64 bits, how many digests have it set
+--     cell_line c          the line of a cell: the hexadecimal digits of its digest and of its check, both big-endian
 --     sketch_body s        the lines before the digest line
 --     sketch_file s        the file
---     IsSketch s           what a sketch can hold
+--     IsSketch s           the invariant of a sketch
 use Rattle.std.specs.Prelude.{◌≡◌, ◌<◌, ◌*◌, ◌^◌, ℕ, List, [], ◌∷◌, ◌++◌, length, map, flat_map, codes, decimal, true}
 use Rattle.std.specs.Int.{w64, to_be_bytes}
 use Rattle.std.specs.List.{AllByRecursion}
@@ -47,9 +47,9 @@ sketch_body s = sketch_header ∷ log_line s.log ∷ cell_lines s
 abbrev pub sketch_file : SketchModel → List ℕ
 sketch_file s = text_of_lines (with_digest_line (sketch_body s))
 
--- ---- what a sketch can hold
+-- ---- the invariant of a sketch
 
--- a layout with a salt of 64 bits, and a digest
+-- the layout is one, its salt has 64 bits, and the digest has the form of one
 pub record IsHead (h : Head) : Type 0 where
   pub layout : IsLayout h.layout
   pub salt : h.layout.salt < 2 ^ 64
@@ -58,7 +58,7 @@ pub record IsHead (h : Head) : Type 0 where
 abbrev pub AreWords64 : List ℕ → Type 0
 AreWords64 ns = AllByRecursion (λ n. n < 2 ^ 64) ns
 
--- numbers of 64 bits, one for each of 64 bits and one more
+-- the number of digests and 64 counts, each of 64 bits
 pub record IsTally (t : Tally) : Type 0 where
   pub digests : t.digests < 2 ^ 64
   pub size : length t.ones ≡ 64
@@ -68,7 +68,7 @@ pub record IsCell (c : Cell) : Type 0 where
   pub digest : IsDigest c.digest
   pub check : c.check < 2 ^ 64
 
--- all but the log
+-- the invariant of all but the log
 pub record HasParts (s : SketchModel) : Type 0 where
   pub head : IsHead (head_of s)
   pub tally : IsTally s.tally
@@ -79,6 +79,6 @@ pub record IsSketch (s : SketchModel) : Type 0 where
   pub log : is_name_text s.log ≡ true
   pub parts : HasParts s
 
--- equal files are of one sketch
+-- sketches with equal files are equal
 abbrev pub SketchFileIsInjective : Type 0
 SketchFileIsInjective = (s t : SketchModel) → IsSketch s → IsSketch t → sketch_file s ≡ sketch_file t → s ≡ t

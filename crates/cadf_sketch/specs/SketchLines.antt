@@ -1,9 +1,9 @@
--- What a contract sees of the lines of a sketch's file, as they come.
---     told_lines told          the lines after the log line
---     lines_so_far log told    all lines
---     AreTold told             what they can have told so far
---     IsMore told l more       one more line came
---     IsSketchOfLines ls s     the lines are those of the sketch, before its digest line
+-- The lines of a sketch's file that have been read so far, and the values decoded from them.
+--     told_lines told          the lines after the log line that have these values
+--     lines_so_far log told    all lines so far
+--     AreTold told             the invariant of the values so far
+--     IsMore told l more       the line l is allowed next, and `more` has its value too
+--     IsSketchOfLines ls s     the lines are those of the sketch's file before its digest line
 use Rattle.std.specs.Prelude.{◌≡◌, ◌≤◌, ◌<◌, ◌*◌, ℕ, List, [], ◌∷◌, ◌++◌, length, map, true, Some, None}
 use Rattle.std.specs.List.{AllByRecursion}
 use Rattle.cadf_join.specs.Contents.{Text}
@@ -26,7 +26,7 @@ told_lines (Cells head tally cells) = head_line head ∷ counts_line tally ∷ m
 abbrev pub lines_so_far : Text → Told → List (List ℕ)
 lines_so_far log told = sketch_header ∷ log_line log ∷ told_lines told
 
--- cells of a layout, at most as many as it has
+-- the parts satisfy their invariants, and there are at most as many cells as the layout has
 pub record AreCellsOf (h : Head) (t : Tally) (cs : List Cell) : Type 0 where
   pub head : IsHead h
   pub tally : IsTally t
@@ -38,11 +38,11 @@ AreTold Nothing = Unit {0}
 AreTold (Beginning head) = IsHead head
 AreTold (Cells head tally cells) = AreCellsOf head tally cells.items
 
--- one more line came
+-- the line is allowed after those so far, and `more` are the values with that of the line
 abbrev pub IsMore : Told → List ℕ → Told → Type 0
 IsMore told line more = (cause_after (told_lines told) line ≡ None) × (told_lines more ≡ told_lines told ++ line ∷ []) × AreTold more
 
--- the cell of the line came, which was still to come
+-- a further cell was still to come, and the cell of the line is appended
 pub record IsCellPut (head : Head) (old new : List Cell) (line : List ℕ) : Type 0 where
   pub more : length old < 3 * head.layout.size
   pub cell : Cell

@@ -11,14 +11,14 @@ use Rattle.cadf_sketch.specs.SketchLines.{IsSketchOfLines}
 use Rattle.cadf_sketch.specs.declared.sketch_lines.SketchLines.{SketchLines}
 use Rattle.cadf_sketch.specs.declared.sketch.Sketch.{Sketch}
 
--- the answer is the verdict
+-- the result is the verdict
 abbrev pub AnswersSketch : Result Sketch FileFault → Result SketchModel FileFault → Type 0
 AnswersSketch (Ok sketch) verdict = verdict ≡ Ok sketch
 AnswersSketch (Err e) verdict = UnlessMemory (λ fault. verdict ≡ Err fault) e
 
--- of a source that had `old` left to read and has `new`, some bytes were read, and one read failed or none; the answer
--- is the verdict on them; and unless they decide a fault the source was read to its end.
--- A failed read is answered as such, but where bytes came after the digest line
+-- Of a source that had `old` left to read and has `new`, some bytes were read, and at most one read failed. The result is the verdict on
+-- them. Unless they decide a fault, the source was read to its end. A failed read is returned as such, except if bytes came after the
+-- digest line.
 pub record ReadsSketch (limit : ℕ) (old new : Option (List ℕ)) (before after : ℕ) (answer : Result Sketch FileFault) : Type 0 where
   pub failed : Bool
   pub bytes : List ℕ
@@ -28,12 +28,12 @@ pub record ReadsSketch (limit : ℕ) (old new : Option (List ℕ)) (before after
   pub failure : failed ≡ true → (answer ≡ Err ReadFault) ⊎ (answer ≡ Err Trailing)
   pub end : failed ≡ false → sketch_decided limit bytes ≡ None → (answer ≡ Err Memory) ⊎ IsAtEnd new
 
--- lines that were read to their digest line have all cells
+-- lines that were accepted up to their digest line include all cells
 abbrev pub IsAccepted : Result SketchLines FileFault → Type 0
 IsAccepted (Ok lines) = is_whole (drop 2 lines) ≡ true
 IsAccepted (Err fault) = Unit {0}
 
--- the sketch is that of the lines, and a fault stays
+-- the sketch is that of the lines; a fault is returned unchanged
 abbrev pub IsSketchOfRead : Result SketchLines FileFault → Result Sketch FileFault → Type 0
 IsSketchOfRead (Ok lines) (Ok sketch) = IsSketchOfLines lines sketch
 IsSketchOfRead (Ok lines) (Err fault) = ⊥

@@ -1,11 +1,11 @@
--- What the reader of a sketch file answers, as a function of its bytes, of the limit and of how the reader ended.
---     number_in word            the number whose decimal digits the word is
---     numbers_in k text         so many numbers and one more, parted by one blank
---     head_in, tally_in, cell_in   what a line is the line of
---     cause_after before line   what is wrong with a line after the lines behind the log line
---     is_whole lines            the lines behind the log line have all cells
---     sketch_decided            the fault that the bytes decide by themselves, before the reader ends
---     sketch_verdict            the sketch that the bytes are the file of, or the first fault
+-- The result of reading a sketch file, as a function of its bytes, of the limit and of whether a read failed.
+--     number_in word            the number of 64 bits whose decimal digits are the word
+--     numbers_in k text         k + 1 such numbers, separated by one space
+--     head_in, tally_in, cell_in   the value that the line encodes, if it is such a line
+--     cause_after before line   what is wrong with the line, if `before` are the lines between it and the log line
+--     is_whole lines            these lines, which follow the log line, include all cells
+--     sketch_decided            the fault that the bytes decide by themselves, before the source ends
+--     sketch_verdict            the sketch whose file the bytes are, or the first fault
 use Rattle.std.specs.Prelude.{◌≡◌, ◌↔◌, ◌≤◌, ◌+◌, ◌*◌, ◌^◌, ◌==◌, ℕ, zero, suc, nat_eq, nat_lt, List, [], ◌∷◌, length, take, drop, codes, decimal}
 use Rattle.std.specs.Prelude.{Bool, true, false, ◌&&◌, not, is_some, if◌then◌else◌, Option, Some, None, option_map, unwrap_or, Result, Ok, Err}
 use Rattle.std.specs.Int.{w64, from_be_bytes}
@@ -36,7 +36,7 @@ number_if word n = if bytes_eq word (decimal n) && nat_lt n (2 ^ 64) then Some n
 unfoldable pub number_in : List ℕ → Option ℕ
 number_in word = number_if word (digits_value 10 word)
 
--- what stands before the first blank, and what stands behind it
+-- the bytes before the first space, and those after it
 abbrev pub first_word : List ℕ → List ℕ
 first_word text = take (position_or_len (λ x. x == 32) text) text
 
@@ -92,12 +92,12 @@ cell_in line = option_map cell_of_bytes (if_spelled line (decode_sized line 40))
 abbrev pub shape_unless : Bool → Option Cause
 shape_unless ok = if ok then None else Some Shape
 
--- how many cells there are to be, by their line
+-- the number of cells that the head line states
 abbrev pub cells_of_head : Option Head → ℕ
 cells_of_head None = 0
 cells_of_head (Some h) = 3 * h.layout.size
 
--- the line of a cell after so many of so many
+-- the cause at the line of a cell, if `before` cells of `all` precede it
 abbrev pub cause_of_cell : ℕ → ℕ → List ℕ → Option Cause
 cause_of_cell before all line = shape_unless (nat_lt before all && is_some (cell_in line))
 
@@ -114,7 +114,7 @@ is_whole (head ∷ counts ∷ cells) = nat_eq (length cells) (cells_of_head (hea
 abbrev pub cause_of_end : Bool → Option Cause
 cause_of_end whole = if whole then None else Some Unended
 
--- the digest line comes after the last cell
+-- the digest line follows the last cell
 abbrev pub sketch_grammar : LineGrammar
 sketch_grammar = record {
   is_first = λ line. bytes_eq line sketch_header;
@@ -153,7 +153,7 @@ sketch_model_or_fault (Err fault) = Err fault
 abbrev pub sketch_verdict : ℕ → Bool → List ℕ → Result SketchModel FileFault
 sketch_verdict limit failed bytes = sketch_model_or_fault (frame.verdict sketch_grammar limit failed bytes)
 
--- accepted is exactly the file of a sketch, within the limit
+-- bytes are accepted if and only if they are the file of a sketch, within the limit
 abbrev pub AcceptsSketches : Type 0
 AcceptsSketches = (limit : ℕ) (bytes : List ℕ) (s : SketchModel) →
     (sketch_verdict limit false bytes ≡ Ok s) ↔ ((bytes ≡ sketch_file s) × (length bytes ≤ limit) × IsSketch s)

@@ -1,8 +1,8 @@
--- What contracts see of a sketch.
+-- The model of a sketch.
 --     cells_of s layout      the cells of a set of digests
 --     sketch_of n layout     the sketch of an inventory
---     own_salt n             the salt that the digest of an inventory makes
---     asked n cells salt     the sketch of so many cells, with that salt or with the inventory's own
+--     own_salt n             the salt made of the inventory's digest
+--     asked n cells salt     the sketch with that many cells, and with that salt or, if none is given, the inventory's own
 use Rattle.std.specs.Prelude.{◌+◌, ◌*◌, ◌/◌, ℕ, List, replicate, Option, unwrap_or, refl}
 use Rattle.std.specs.Coded.{Coded, coded_ℕ, coded_list, coded×, code_by}
 use Rattle.cadf_join.specs.Sets.{rising}
@@ -38,7 +38,7 @@ coded_sketch =
     (λ s. (s.log, (s.layout, (s.digest, (s.tally, s.cells)))))
     (λ p. record { log = p.0; layout = p.1.0; digest = p.1.1.0; tally = p.1.1.1.0; cells = p.1.1.1.1 }) (λ _. refl)
 
--- three tables of cells with the digests put in
+-- three tables of empty cells, with each of the digests XORed in
 unfoldable pub cells_of : Digests → LayoutModel → List Cell
 cells_of s layout = turned_all (replicate (3 * layout.size) nothing) (rising s) layout
 

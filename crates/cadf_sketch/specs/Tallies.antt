@@ -1,12 +1,12 @@
--- Counts of a set's digests, by which another set guesses how far the two differ.
---     tallied t d             the counts with one digest more
+-- Counts over a set's digests, from which the holder of another set estimates how many digests the two don't share.
+--     tallied t d             the counts with one digest added
 --     tally_of ds             the counts of the digests
---     cells_to_ask ours theirs    the cells to ask for: twice the guess, and 30, as a multiple of 3, within what a sketch may have
+--     cells_to_ask ours theirs    the cells to ask for: twice the estimate plus 30, rounded up to a multiple of 3, at most 3 * 2^22
 use Rattle.std.specs.Prelude.{ℕ, zero, suc, ◌+◌, ◌-◌, ◌*◌, ◌/◌, ◌%◌, ◌^◌, min, List, [], ◌∷◌, length, get_or, replicate}
 use Rattle.cadf_sketch.specs.Cells.{word}
 use Rattle.cadf_sketch.specs.declared.tally.Tally.{Tally}
 
--- each count with a bit of the word more, the highest bit first; a count has 64 bits
+-- adds each bit of the word to its count, modulo 2^64, the highest bit first
 abbrev pub with_bits : List ℕ → ℕ → List ℕ
 with_bits [] w = []
 with_bits (n ∷ ns) w = ((n + w / 2 ^ length ns % 2) % 2 ^ 64) ∷ with_bits ns w
@@ -23,7 +23,7 @@ tally_of ds = tallied_all (record { digests = 0; ones = replicate 64 0 }) ds
 
 -- ---- the guess
 
--- how far the bit's sum of +1 and -1 over the digests of one set is from that over the other, up to 2 ^ 24
+-- the distance, at most 2^24, of two sums: over each set's digests, +1 if the bit is set and -1 if not
 abbrev pub apart_at : Tally → Tally → ℕ → ℕ
 apart_at t u bit = min ((2 * get_or t.ones bit 0 + u.digests - (2 * get_or u.ones bit 0 + t.digests))
     + (2 * get_or u.ones bit 0 + t.digests - (2 * get_or t.ones bit 0 + u.digests))) (2 ^ 24)
@@ -32,7 +32,7 @@ abbrev pub squares : Tally → Tally → ℕ → ℕ
 squares t u zero = 0
 squares t u (suc bit) = squares t u bit + apart_at t u bit * apart_at t u bit
 
--- the mean of the squares
+-- the mean of the squares, an estimate of how many digests the sets don't share
 abbrev pub guess : Tally → Tally → ℕ
 guess t u = squares t u 64 / 64
 

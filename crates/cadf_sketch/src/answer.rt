@@ -1,4 +1,4 @@
-//! What the sender of a sketch lacks.
+//! The delta for the sender of a sketch.
 ghost use Rattle.std.specs.Prelude.{◌≡◌, IfOk, IfErr, map};
 ghost use Rattle.std.specs.List.{AllByRecursion};
 ghost use Rattle.cadf_join.specs.Sets.{rising};
@@ -11,7 +11,7 @@ use cadf_json::Memory;
 use cadf_set::{Inventory, Replica};
 use std::alloc::Global;
 
-/// Makes the replica's inventory of the digests of its atoms.
+/// Makes the replica's inventory from the digests of its atoms.
 fn inventory_of(alloc: Global, replica: &Replica, digests: &[[u8; 32]]) -> Result<Inventory, Memory>
     requires atoms { digests.now ≡ map atom_digest (rising replica.now.atoms) }
     requires each { AllByRecursion IsDigest digests.now }
@@ -23,7 +23,7 @@ fn inventory_of(alloc: Global, replica: &Replica, digests: &[[u8; 32]]) -> Resul
     Ok(own)
 }
 
-/// Returns the least replica that holds the atoms whose digest the sketched inventory lacks. Each atom is hashed once.
+/// Returns the least replica that has the atoms whose digest the sketched inventory lacks. Each atom is hashed once.
 /// Its errors are those of `read`.
 pub fn missing_by_sketch(
     alloc: Global,

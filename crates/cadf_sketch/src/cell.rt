@@ -12,7 +12,7 @@ pub struct Cell {
     pub check: u64,
 }
 
-/// Returns the number that eight bytes of the digest encode from that byte on, the most significant first.
+/// Returns the big-endian number in the eight bytes of the digest from offset `from` on.
 #[tactic(auto, unfolding(crate::specs::Cells::word))]
 pub(crate) fn word(digest: &[u8; 32], from: usize) -> u64
     requires { from ≤ 24 }
@@ -23,7 +23,7 @@ pub(crate) fn word(digest: &[u8; 32], from: usize) -> u64
     u64::from_be_bytes(bytes)
 }
 
-/// Computes the check of a digest: no XOR of checks is the check of an XOR, but by chance.
+/// Computes the check of a digest. The XOR of several checks is the check of the digests' XOR only by chance.
 pub(crate) fn check(digest: &[u8; 32]) -> u64
     ensures { result ≡ check digest.now }
 {
@@ -32,7 +32,7 @@ pub(crate) fn check(digest: &[u8; 32]) -> u64
     first.wrapping_add(second).wrapping_add(1)
 }
 
-/// Returns the digest's place among all cells, in the table of that number.
+/// Returns the place, among all cells, of the digest in the table of that number.
 #[tactic(auto, unfolding(crate::specs::Cells::place_in))]
 pub(crate) fn place_in(table: usize, digest: &[u8; 32], layout: Layout) -> usize
     requires { table < 3 }
@@ -58,7 +58,7 @@ impl Cell {
         check: 0,
     };
 
-    /// Puts the digest in, or takes it out.
+    /// XORs the digest into the cell, which adds or removes it.
     pub(crate) fn mix(&mut self, digest: &[u8; 32])
         ensures { self.new ≡ mixed self.old digest.now }
     {
@@ -67,7 +67,7 @@ impl Cell {
         self.check ^= check;
     }
 
-    /// Returns whether this cell, at that place of all, has one digest alone, by its check.
+    /// Returns whether this cell, at that place, seems to have one digest alone: its check is that of its digest.
     pub(crate) fn is_lone(&self, place: usize, layout: Layout) -> bool
         ensures { result ≡ is_lone self.now place layout }
     {
@@ -75,7 +75,7 @@ impl Cell {
     }
 }
 
-/// Returns whether the digest is in the cell at that place.
+/// Returns whether one of the digest's three cells is at that place.
 fn stands(digest: &[u8; 32], place: usize, layout: Layout) -> bool
     ensures { result ≡ stands digest.now place layout }
 {

@@ -21,7 +21,7 @@ pub(crate) fn of_taken(
     Inventory::of(alloc, own.log().copy(alloc)?, taken)
 }
 
-/// Takes the digest out where it is there, and puts it in where it isn't.
+/// Removes the digest if the inventory has it, otherwise adds it.
 fn flip_one(inventory: &mut Inventory, digest: &[u8; 32]) -> Result<(), Memory>
     ensures log { inventory.new.log ≡ inventory.old.log }
     ensures ok { OnOk result (inventory.new.digests ≡ apart inventory.old.digests (set.from_list (digest.now ∷ []))) }
@@ -34,7 +34,7 @@ fn flip_one(inventory: &mut Inventory, digest: &[u8; 32]) -> Result<(), Memory>
     Ok(())
 }
 
-/// Takes those of the digests out that are there, and puts the others in.
+/// Removes those of the digests that the inventory has, and adds the others.
 pub(crate) fn flip(inventory: &mut Inventory, taken: &Inventory) -> Result<(), Memory>
     ensures log { inventory.new.log ≡ inventory.old.log }
     ensures ok { OnOk result (inventory.new.digests ≡ apart inventory.old.digests taken.now.digests) }

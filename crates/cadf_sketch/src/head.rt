@@ -1,8 +1,8 @@
-//! What the third line of a sketch's file has.
+//! The contents of the third line of a sketch's file.
 
 use crate::layout::Layout;
 
-/// How the cells of a sketch are laid out, and the digest of the inventory's file.
+/// The layout of the cells, and the digest of the inventory's file.
 #[derive(Clone, Copy)]
 pub struct Head {
     pub layout: Layout,

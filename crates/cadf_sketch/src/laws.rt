@@ -21,7 +21,8 @@ ghost use Rattle.cadf_sketch.specs.SketchVerdict.{AcceptsSketches, sketch_verdic
 
 use crate::sketch::Sketch;
 
-/// States that what is read from a sketch is the inventory that it was made of, if the texts of the two do not collide.
+/// States that what is decoded from a sketch is the inventory that it was made from, if the texts of the two don't
+/// collide.
 pub fn read_is_what_was_sketched()
     ensures inventory { (layout : LayoutModel) (n m : InventoryModel) → IsInventory n → IsInventory m → DoNotCollide m n
         → inventory_digest m ≡ (sketch_of n layout).digest → m ≡ n }
@@ -33,14 +34,14 @@ pub fn read_is_what_was_sketched()
         → part ≡ record { log = held.log; atoms = missing_by atom_digest held.atoms n.digests } }
 {}
 
-/// States that a sketch has three tables of cells, and that each cell has those digests mixed that stand there, in order.
+/// States that a sketch has three tables of cells, and that in each cell the digests that have it are XORed, in order.
 pub fn cells_are_what_stands_there()
     ensures count { (n : InventoryModel) (layout : LayoutModel) → length (sketch_of n layout).cells ≡ 3 * layout.size }
     ensures each { (n : InventoryModel) (layout : LayoutModel) (place : ℕ) → 0 < layout.size → place < 3 * layout.size
         → cell_at (sketch_of n layout).cells place ≡ mixed_all nothing (filter (λ d. stands d place layout) (rising n.digests)) }
 {}
 
-/// States that what both have cancels, and that a sketch with enough cells for what differs is not refused.
+/// States that digests that both sides have cancel, and that a sketch with enough cells for the others is not refused.
 pub fn enough_cells_are_read()
     ensures cancels { (own n : InventoryModel) (layout : LayoutModel) → 0 < layout.size → AreDigests own.digests → AreDigests n.digests
         → differing own (sketch_of n layout) ≡ cells_of (apart n.digests own.digests) layout }
@@ -48,7 +49,7 @@ pub fn enough_cells_are_read()
         → AreDigests own.digests → AreDigests n.digests → IsEnough layout (apart n.digests own.digests) → HasTooFewCells own (sketch_of n layout) → ⊥ }
 {}
 
-/// States that a sketch's file is injective: equal bytes have the same sketch.
+/// States that a sketch's file is injective: sketches with equal files are equal.
 pub fn sketch_file_is_injective()
     ensures { SketchFileIsInjective }
 {}

@@ -6,7 +6,7 @@ ghost use Rattle.cadf_sketch.specs.Layouts.{are_cells, default_cells, is_salt, l
 use crate::cell::word;
 use std::marker::Model;
 
-/// How many cells a sketch has in all three tables: a multiple of 3, from 3 to 3 * 2^22.
+/// The number of cells of a sketch in all three tables: a multiple of 3, from 3 to 3 * 2^22.
 #[derive(Clone, Copy, Debug)]
 pub struct Cells {
     count: u32,
@@ -29,7 +29,7 @@ impl Model for Cells {
 }
 
 impl Cells {
-    /// Returns that many cells. `None` if no sketch has as many.
+    /// Returns that number of cells. `None` if no sketch can have it.
     pub fn of(count: u64) -> Option<Cells>
         ensures { result ≡ if are_cells count then Some count else None }
     {
@@ -42,7 +42,7 @@ impl Cells {
         }
     }
 
-    /// Returns the number of cells of a sketch for which none is given: enough for some 100 differences.
+    /// Returns the number of cells if none is given: enough for some 100 digests that two inventories don't share.
     pub fn by_default() -> Cells
         ensures { result ≡ default_cells }
     {
@@ -50,7 +50,7 @@ impl Cells {
     }
 }
 
-/// The number by which a digest finds its cells: an odd one.
+/// The odd number that determines, with a digest, the digest's cells.
 #[derive(Clone, Copy, Debug)]
 pub struct Salt {
     number: u64,
@@ -94,7 +94,7 @@ impl Salt {
     }
 }
 
-/// How many cells each of a sketch's three tables has, and the salt by which a digest finds its cells.
+/// The number of cells of each of a sketch's three tables, and the salt that determines a digest's cells.
 #[derive(Clone, Copy, Debug, PartialEq, Eq)]
 pub struct Layout {
     size: u32,
@@ -116,7 +116,7 @@ impl Model for Layout {
 }
 
 impl Layout {
-    /// Returns the layout of these cells with that salt.
+    /// Makes the layout with these cells and that salt.
     pub(crate) fn of(cells: Cells, salt: Salt) -> Layout
         ensures { result ≡ layout_with cells salt }
     {

@@ -1,4 +1,4 @@
-//! A short sketch of an inventory, from which someone who has most of it finds the rest.
+//! A short sketch of an inventory, from which the holder of a similar inventory computes it.
 #![tactic(auto)]
 
 mod answer;

@@ -1,4 +1,4 @@
-//! What the lines of a sketch's file tell.
+//! Decodes the lines of a sketch's file.
 
 ghost use Rattle.std.specs.Prelude.{◌≡◌, ◌∷◌, IfOk, length};
 ghost use Rattle.cadf_sketch.specs.Layouts.{layout_of};
@@ -13,7 +13,7 @@ use cadf_file::digest_of;
 use cadf_json::Memory;
 use std::alloc::Global;
 
-/// Returns the layout of that many cells with that salt, by their words.
+/// Returns the layout whose number of cells and salt these words are. `None` if there is none.
 fn layout_in(cells: &[u8], salt: &[u8]) -> Option<Layout>
     ensures { result ≡ laid_out (number_in cells.now) (number_in salt.now) }
 {
@@ -39,7 +39,7 @@ fn layout_of(cells: u64, salt: u64) -> Option<Layout>
     Some(Layout::of(cells, salt))
 }
 
-/// Reads the number of cells, the salt and the digest. `None` if the words are other than these.
+/// Decodes the number of cells, the salt and the digest. `None` for any other words.
 fn head_in_words(words: &[u8]) -> Option<Head>
     ensures { result ≡ head_in_words words.now }
 {
@@ -58,7 +58,7 @@ fn head_in_words(words: &[u8]) -> Option<Head>
     Some(Head { layout, digest })
 }
 
-/// Reads the line with the number of cells, the salt and the digest. `None` if it is no such line.
+/// Decodes the line with the number of cells, the salt and the digest. `None` if it is no such line.
 pub(crate) fn head_in(line: &[u8]) -> Option<Head>
     ensures { result ≡ head_in line.now }
 {
@@ -69,7 +69,7 @@ pub(crate) fn head_in(line: &[u8]) -> Option<Head>
     }
 }
 
-/// Makes counts of 65 numbers.
+/// Makes the counts from 65 numbers: the number of digests, then one for each bit.
 fn tally_of(numbers: &[u64]) -> Tally
     requires { length numbers.now ≡ 65 }
     ensures { numbers.now ≡ result.digests ∷ result.ones }
@@ -82,7 +82,7 @@ fn tally_of(numbers: &[u64]) -> Tally
     }
 }
 
-/// Reads the counts. `None` if the words are other than 65 numbers.
+/// Decodes the counts. `None` if the words are not 65 numbers.
 fn tally_in_words(alloc: Global, words: &[u8]) -> Result<Option<Tally>, Memory>
     ensures { IfOk result (λ found. found ≡ counts_in_words words.now) }
 {
@@ -92,7 +92,7 @@ fn tally_in_words(alloc: Global, words: &[u8]) -> Result<Option<Tally>, Memory>
     Ok(Some(tally_of(numbers.as_slice())))
 }
 
-/// Reads the line of the counts. `None` if it is no such line.
+/// Decodes the line of the counts. `None` if it is no such line.
 pub(crate) fn tally_in(alloc: Global, line: &[u8]) -> Result<Option<Tally>, Memory>
     ensures { IfOk result (λ found. found ≡ tally_in line.now) }
 {
@@ -117,7 +117,7 @@ fn cell_of_bytes(bytes: &[u8; 40]) -> Cell
     }
 }
 
-/// Reads the line of a cell. `None` if it is no such line.
+/// Decodes the line of a cell. `None` if it is no such line.
 #[tactic(auto, unfolding(crate::specs::SketchVerdict::cell_in))]
 pub(crate) fn cell_in(line: &[u8]) -> Option<Cell>
     ensures { result ≡ cell_in line.now }

@@ -1,4 +1,4 @@
-//! Numbers in decimal, parted by blanks.
+//! Decimal numbers, separated by spaces.
 
 ghost use Rattle.std.specs.Prelude.{◌≡◌, ◌↔◌, IfOk, IsTrue, decimal, option_map};
 ghost use Rattle.cadf_sketch.specs.SketchVerdict.{number_in, numbers_in};
@@ -8,14 +8,14 @@ use cadf_json::Memory;
 use memchr::memchr;
 use std::alloc::Global;
 
-/// What stands before the first blank, and what stands behind it.
+/// The bytes before the first space, and the bytes after it.
 #[derive(Clone, Copy)]
 pub(crate) struct Cut<'a> {
     pub(crate) word: &'a [u8],
     pub(crate) rest: &'a [u8],
 }
 
-/// Parts the text at its first blank. `None` if it has none.
+/// Splits the text at its first space. `None` if it has none.
 pub(crate) fn cut_at_blank(text: &[u8]) -> Option<Cut<'_>>
     ensures { IsCutAt text.now result }
 {
@@ -28,7 +28,7 @@ pub(crate) fn cut_at_blank(text: &[u8]) -> Option<Cut<'_>>
     })
 }
 
-/// Returns the number of 64 bits whose decimal digits the word is. `None` if it is no such number's.
+/// Returns the number of 64 bits whose decimal digits are the word. `None` if there is none.
 pub(crate) fn number_in(word: &[u8]) -> Option<u64>
     ensures { result ≡ number_in word.now }
 {
@@ -45,7 +45,7 @@ pub(crate) fn number_in(word: &[u8]) -> Option<u64>
     }
 }
 
-/// Returns whether the word is the number in decimal.
+/// Returns whether the word is the decimal spelling of the number.
 fn spells(word: &[u8], number: u64) -> bool
     ensures { IsTrue result ↔ (word.now ≡ decimal number) }
 {
@@ -53,7 +53,7 @@ fn spells(word: &[u8], number: u64) -> bool
     word == buffer.format(number).as_bytes()
 }
 
-/// Reads that many numbers and one more. `None` if the text is other than these.
+/// Reads `count + 1` numbers, separated by single spaces. `None` for any other text.
 pub(crate) fn numbers_in(
     alloc: Global,
     text: &[u8],

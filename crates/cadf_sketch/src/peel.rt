@@ -1,4 +1,4 @@
-//! Takes lone digests out of the cells of a sketch, one after another.
+//! Removes lone digests from the cells of a sketch, one after another.
 ghost use Rattle.std.specs.Prelude.{◌≡◌, ◌<◌, ◌≤◌, ◌*◌, ◌+◌, ◌⊎◌, ◌++◌, ◌∷◌, [], List, length, vec_len, OnOk, IfOk};
 ghost use Rattle.cadf_sketch.specs.Peeling.{Peels, HasNoLone, Awaits, ArePlaces, places_of};
 ghost use Rattle.cadf_sketch.specs.Layouts.{LayoutModel};
@@ -33,7 +33,8 @@ fn push_places(pending: &mut Vec<usize>, digest: &[u8; 32], layout: Layout) -> R
     Ok(())
 }
 
-/// Takes the digest out that stands alone at that place, if one does, and has its places looked at again.
+/// Removes the digest of the cell at that place from its three cells, if it is lone there, and appends their places to
+/// `pending`.
 fn take_lone(
     cells: &mut [Cell],
     taken: &mut Vec<[u8; 32]>,
@@ -60,7 +61,7 @@ fn take_lone(
     Ok(())
 }
 
-/// Takes digests out that stand alone, until none does or as many were taken as there are cells.
+/// Removes lone digests until no cell has one, or as many were removed as there are cells. Returns the digests removed.
 pub(crate) fn peel(
     alloc: Global,
     cells: &mut [Cell],

@@ -1,4 +1,4 @@
-//! Finds the inventory that a sketch was made of.
+//! Finds the inventory of which a sketch was made.
 ghost use Rattle.std.specs.Prelude.{◌≡◌, ◌*◌, ◌↔◌, IfOk, IfErr, IsTrue, OnOk, vec_len};
 ghost use Rattle.cadf_join.specs.Sets.{rising};
 ghost use Rattle.cadf_file.specs.InventoryFile.{inventory_digest};
@@ -16,13 +16,14 @@ use cadf_set::Inventory;
 use std::alloc::Global;
 use thiserror::Error;
 
-/// Why no inventory is read from a sketch.
+/// Why no inventory is decoded from a sketch.
 #[derive(Clone, Copy, Debug, PartialEq, Eq, Drop, Error)]
 pub enum ReadFault {
     /// The sketch is of another log.
     #[error("other log")]
     OtherLog,
-    /// The sketch has too few cells for what differs, and how many to ask for, by a guess.
+    /// The sketch has too few cells for the digests that differ. Its number is an estimate of how many cells to ask
+    /// for.
     #[error("too few cells: ask for {0}")]
     TooFewCells(u32),
     /// An allocation failed.
@@ -40,7 +41,7 @@ impl From<Memory> for ReadFault {
     }
 }
 
-/// Puts the own digests into the sketch's cells: those of both sides cancel.
+/// Returns the sketch's cells with the own digests XORed in: those of both sides cancel.
 fn differing(alloc: Global, own: &Inventory, sketch: &Sketch) -> Result<Vec<Cell>, Memory>
     ensures cells { IfOk result (λ cells. cells.items ≡ differing own.now sketch.now) }
     ensures length { IfOk result (λ cells. vec_len cells ≡ 3 * sketch.now.layout.size) }
@@ -50,7 +51,7 @@ fn differing(alloc: Global, own: &Inventory, sketch: &Sketch) -> Result<Vec<Cell
     Ok(cells)
 }
 
-/// Flips in the own inventory the digests that a peel finds, and returns them: flipped again they lead back.
+/// Flips the digests that peeling finds in the own inventory, and returns them. Flipping them again restores it.
 fn flip_peeled(alloc: Global, own: &mut Inventory, sketch: &Sketch) -> Result<Inventory, Memory>
     ensures log { own.new.log ≡ own.old.log }
     ensures peeled { OnOk result (IsPeeled own.old sketch.now own.new) }
@@ -66,7 +67,7 @@ fn flip_peeled(alloc: Global, own: &mut Inventory, sketch: &Sketch) -> Result<In
     Ok(taken)
 }
 
-/// Returns whether the inventory is the sketched one, by its digest.
+/// Returns whether the inventory is the sketched one, by the digest of its file.
 fn is_of(alloc: Global, sketch: &Sketch, theirs: &Inventory) -> Result<bool, Memory>
     ensures { IfOk result (λ is. IsTrue is ↔ (inventory_digest theirs.now ≡ sketch.now.digest)) }
 {
@@ -74,26 +75,26 @@ fn is_of(alloc: Global, sketch: &Sketch, theirs: &Inventory) -> Result<bool, Mem
     Ok(digest == *sketch.digest())
 }
 
-/// Returns whether both are of one log.
+/// Returns whether both have the same log.
 fn is_log_of(own: &Inventory, sketch: &Sketch) -> bool
     ensures { IsTrue result ↔ (own.now.log ≡ sketch.now.log) }
 {
     own.log().as_str() == sketch.log().as_str()
 }
 
-/// Guesses how many cells are enough for what differs.
+/// Estimates how many cells are enough for the digests that differ.
 fn cells_to_ask(own: &Inventory, sketch: &Sketch) -> u32
     ensures { result ≡ cells_to_ask (tally_of (rising own.now.digests)) sketch.now.tally }
 {
     tally(own).cells_to_ask(sketch.tally())
 }
 
-/// Finds the inventory that the sketch was made of, by one that has most of it, which becomes it: memory holds one.
+/// Turns the own inventory into the one of which the sketch was made. Only one inventory is in memory.
 ///
 /// # Errors
 ///
-/// `OtherLog` if the sketch is of another log, `TooFewCells` if what a peel finds doesn't lead to the sketched
-/// inventory, `Memory` if an allocation fails.
+/// `OtherLog` if the sketch is of another log, `TooFewCells` if peeling doesn't lead to the sketched inventory,
+/// `Memory` if an allocation fails.
 pub fn read(alloc: Global, own: Inventory, sketch: &Sketch) -> Result<Inventory, ReadFault>
     ensures log { IfOk result (λ theirs. (own.log ≡ sketch.now.log) × (theirs.log ≡ sketch.now.log)) }
     ensures digest { IfOk result (λ theirs. inventory_digest theirs ≡ sketch.now.digest) }

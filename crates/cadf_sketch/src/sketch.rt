@@ -21,7 +21,7 @@ use cadf_set::Inventory;
 use std::alloc::Global;
 use std::marker::Model;
 
-/// What a sketch has of an inventory: its log, its digest, counts of its digests, and the cells of three tables.
+/// A sketch of an inventory: its log, its digest, counts of its digests, and the cells of three tables.
 #[derive(Drop)]
 pub struct Sketch {
     log: Name,
@@ -51,7 +51,7 @@ fn empty_cells(alloc: Global, count: usize) -> Result<Vec<Cell>, Memory>
     Ok(Vec::from_elem(alloc, Cell::EMPTY, count)?)
 }
 
-/// Puts each digest of the inventory into its cells, or takes it out of them.
+/// XORs each digest of the inventory into its cells.
 pub(crate) fn turn_all(cells: &mut [Cell], inventory: &Inventory, layout: Layout)
     requires { length cells.old ≡ 3 * layout.size }
     ensures cells { cells.new ≡ turned_all cells.old (rising inventory.now.digests) layout }
@@ -74,7 +74,7 @@ pub(crate) fn tally(inventory: &Inventory) -> Tally
     tally
 }
 
-/// Returns the salt, or that which the inventory's digest makes.
+/// Returns the salt; if none is given, the one that the inventory's digest determines.
 fn salt_or_own(salt: Option<Salt>, digest: &[u8; 32]) -> Salt
     ensures { result ≡ unwrap_or salt (word digest.now 0 / 2 * 2 + 1) }
 {
@@ -85,8 +85,8 @@ fn salt_or_own(salt: Option<Salt>, digest: &[u8; 32]) -> Salt
 }
 
 impl Sketch {
-    /// Makes the sketch of the inventory with so many cells. Without a salt its digest makes one: so one inventory has
-    /// one sketch of that many cells.
+    /// Makes the sketch of the inventory with that many cells. If no salt is given, the inventory's digest determines
+    /// it: an inventory then has one sketch of that many cells.
     pub fn of(
         alloc: Global,
         inventory: &Inventory,
@@ -138,7 +138,7 @@ impl Sketch {
         }
     }
 
-    /// States the type invariant of a sketch: what its file can hold. Does nothing.
+    /// States the type invariant of a sketch. Does nothing.
     pub fn type_invariant(&self)
         ensures log { IsNameText self.now.log }
         ensures parts { HasParts self.now }

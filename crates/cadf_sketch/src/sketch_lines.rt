@@ -19,11 +19,11 @@ use std::marker::Model;
 
 const HEADER: &[u8; 13] = b"CADF-SKETCH 1";
 
-/// The one first line that a sketch's file has.
+/// The first line, which is the same in every sketch's file.
 #[derive(Drop)]
 pub struct SketchStart;
 
-/// What the lines after the log line told so far.
+/// The values decoded from the lines after the log line, so far.
 #[derive(Drop)]
 pub(crate) enum Told {
     Nothing,
@@ -31,7 +31,7 @@ pub(crate) enum Told {
     Cells(Head, Tally, Vec<Cell>),
 }
 
-/// The lines so far, as what they tell.
+/// The values decoded from the lines so far.
 #[derive(Drop)]
 pub struct SketchLines {
     log: Name,
@@ -52,7 +52,7 @@ impl Model for SketchLines {
     ghost invariant = { λ l. AreSoFar l.log l.told };
 }
 
-/// Reads one more line.
+/// Decodes the next line after the log line.
 fn told_more(alloc: Global, told: Told, line: &[u8]) -> Result<Told, LineFault>
     requires { AreTold told }
     ensures ok { IfOk result (IsMore told line.now) }
@@ -65,7 +65,7 @@ fn told_more(alloc: Global, told: Told, line: &[u8]) -> Result<Told, LineFault>
     }
 }
 
-/// Reads the line after the log line.
+/// Decodes the line after the log line.
 fn after_log(line: &[u8]) -> Result<Told, LineFault>
     ensures ok { IfOk result (IsMore told.Nothing line.now) }
     ensures err { IfErr result (λ e. CauseIs e (cause_after [] line.now)) }
@@ -76,7 +76,7 @@ fn after_log(line: &[u8]) -> Result<Told, LineFault>
     }
 }
 
-/// Reads the line of the counts.
+/// Decodes the line of the counts.
 fn after_head(alloc: Global, head: Head, line: &[u8]) -> Result<Told, LineFault>
     requires { IsHead head }
     ensures ok { IfOk result (IsMore (told.Beginning head) line.now) }
@@ -88,7 +88,7 @@ fn after_head(alloc: Global, head: Head, line: &[u8]) -> Result<Told, LineFault>
     }
 }
 
-/// Reads the line of a cell.
+/// Decodes the line of a cell.
 fn after_counts(head: Head, tally: Tally, cells: Vec<Cell>, line: &[u8]) -> Result<Told, LineFault>
     requires { AreCellsOf head tally cells.items }
     ensures ok { IfOk result (IsMore (told.Cells head tally cells) line.now) }
@@ -101,7 +101,7 @@ fn after_counts(head: Head, tally: Tally, cells: Vec<Cell>, line: &[u8]) -> Resu
     }
 }
 
-/// Adds the cell of a line, if one is still to come.
+/// Appends the cell of a line, if a further cell is due.
 fn put_cell(cells: &mut Vec<Cell>, head: &Head, line: &[u8]) -> Result<(), LineFault>
     requires { length cells.old.items ≤ 3 * head.now.layout.size }
     ensures ok { OnOk result (IsCellPut head.now cells.old.items cells.new.items line.now) }
@@ -117,7 +117,7 @@ fn put_cell(cells: &mut Vec<Cell>, head: &Head, line: &[u8]) -> Result<(), LineF
     Ok(())
 }
 
-/// Returns whether all cells came.
+/// Returns whether all cells were read.
 fn is_whole(told: &Told) -> bool
     requires { AreTold told.now }
     ensures { result ≡ is_whole (told_lines told.now) }

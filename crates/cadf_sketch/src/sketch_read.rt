@@ -20,7 +20,7 @@ pub fn read_sketch<S: Source>(
     ensures verdict { ReadsSketch (min limit FILE_LIMIT) (S.left source.old) (S.left source.new)
         (S.failures source.old) (S.failures source.new) result }
 
-    // If no read failed, the result is the verdict on all bytes that were left.
+    // If no read failed, the result is the verdict on all bytes that the source had left.
     ensures whole { S.failures source.new ≡ S.failures source.old → S.failures source.old + 1 < 2 ^ 64 → (bytes : List ℕ)
         → S.left source.old ≡ Some bytes → AnswersSketch result (sketch_verdict (min limit FILE_LIMIT) false bytes) }
 
@@ -29,7 +29,7 @@ pub fn read_sketch<S: Source>(
     sketch_of(cadf_linefile::read_file(alloc, source, limit))
 }
 
-/// Returns the sketch that the lines come to.
+/// Returns the sketch that the lines encode.
 fn sketch_of(read: Result<SketchLines, FileFault>) -> Result<Sketch, FileFault>
     requires { IsAccepted read }
     ensures { IsSketchOfRead read result }

@@ -1,10 +1,10 @@
-//! Counts of a set's digests, by which another set guesses how far the two differ.
+//! Counts over a set's digests, from which the holder of another set estimates how many digests the two don't share.
 ghost use Rattle.std.specs.Prelude.{◌≡◌, ◌≤◌, ◌<◌, ◌^◌};
 ghost use Rattle.cadf_sketch.specs.Tallies.{with_bits, tallied, apart_at, squares, cells_to_ask};
 
 use crate::cell::word;
 
-/// How many digests a set has, and for each of the first 64 bits of a digest, how many have it set.
+/// The number of digests of a set, and for each of the first 64 bits the number of digests that have it set.
 #[derive(Clone, Copy)]
 pub struct Tally {
     pub digests: u64,
@@ -18,7 +18,7 @@ impl Tally {
         ones: [0; 64],
     };
 
-    /// Counts one digest more.
+    /// Counts one further digest.
     #[tactic(auto, unfolding(crate::specs::Tallies::tallied))]
     pub(crate) fn count(&mut self, digest: &[u8; 32])
         ensures { self.new ≡ tallied self.old digest.now }
@@ -27,7 +27,7 @@ impl Tally {
         add_bits(&mut self.ones, word(digest, 0));
     }
 
-    /// Returns the number of cells to ask for, by the counts of one's own digests and those of a sketch.
+    /// Returns the number of cells to ask for, from the counts of the own digests and those of a sketch.
     #[tactic(auto, unfolding(crate::specs::Tallies::cells_to_ask))]
     pub(crate) fn cells_to_ask(&self, theirs: &Tally) -> u32
         ensures { result ≡ cells_to_ask self.now theirs.now }
@@ -47,7 +47,7 @@ fn add_bits(ones: &mut [u64; 64], word: u64)
     }
 }
 
-/// Returns how far apart the two sets are at that bit, at most 2^24.
+/// Returns the distance of the two sets' counts at that bit, at most 2^24.
 fn apart_at(ours: &Tally, theirs: &Tally, bit: usize) -> u64
     requires { bit < 64 }
     ensures value { result ≡ apart_at ours.now theirs.now bit }
@@ -58,7 +58,7 @@ fn apart_at(ours: &Tally, theirs: &Tally, bit: usize) -> u64
     here.abs_diff(there).min(16_777_216) as u64
 }
 
-/// Returns the sum of the squares of how far apart the two sets are at each bit.
+/// Returns the sum over all bits of the squared distances of the two sets' counts.
 fn squares(ours: &Tally, theirs: &Tally) -> u64
     ensures value { result ≡ squares ours.now theirs.now 64 }
     ensures most { result ≤ 2 ^ 54 }

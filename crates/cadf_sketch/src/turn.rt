@@ -1,11 +1,11 @@
-//! Puts digests into the cells of a sketch, or takes them out.
+//! XORs digests into the cells of a sketch, which adds or removes them.
 ghost use Rattle.std.specs.Prelude.{◌≡◌, ◌<◌, ◌*◌, ◌^◌, length};
 ghost use Rattle.cadf_sketch.specs.Cells.{mixed_at, turned};
 
 use crate::cell::{Cell, place_in};
 use crate::layout::Layout;
 
-/// Puts the digest into the cell at that place, or takes it out.
+/// XORs the digest into the cell at that place.
 fn mix_at(cells: &mut [Cell], place: usize, digest: &[u8; 32])
     requires { place < length cells.old }
     ensures { cells.new ≡ mixed_at cells.old place digest.now }
@@ -13,7 +13,7 @@ fn mix_at(cells: &mut [Cell], place: usize, digest: &[u8; 32])
     cells[place].mix(digest);
 }
 
-/// Puts the digest into its cell of each table, or takes it out.
+/// XORs the digest into its cell of each table.
 #[tactic(auto, unfolding(crate::specs::Cells::turned))]
 pub(crate) fn turn(cells: &mut [Cell], digest: &[u8; 32], layout: Layout)
     requires cells { length cells.old ≡ 3 * layout.size }

@@ -1,4 +1,4 @@
--- How the faults of the engines come of other faults, and which exit status each has.
+-- How other faults become faults of the engines, and the exit status of each.
 use Rattle.std.specs.Prelude.{ℕ, Bool, true, false, Result, Ok, Err}
 use Rattle.cadf_json.specs.declared.transfer.OutFault.{OutFault}
 use Rattle.cadf_json.specs.declared.transfer.OutFault.TheVariants.{WriteFault as OutWriteFault, Memory as OutMemory}
@@ -27,13 +27,13 @@ of_load n (Json f) = Input n (Json f)
 of_load n (Document f) = Input n (Document f)
 of_load n Memory = OutOfMemory
 
--- of a text that was written
+-- the result of writing a text
 abbrev pub of_out : {T : Type 0} → Result T OutFault → Result T ToolFault
 of_out (Ok v) = Ok v
 of_out (Err OutWriteFault) = Err WriteFault
 of_out (Err OutMemory) = Err OutOfMemory
 
--- 1 where the input is refused, 3 where a read or a write failed, 4 if out of memory
+-- 1 if the input or the request is refused, 3 if a read or a write failed, 4 if out of memory
 abbrev pub status_of : ToolFault → ℕ
 status_of (Input n f) = 1
 status_of NoLog = 1
@@ -46,14 +46,14 @@ status_of (ReadFailed n) = 3
 status_of WriteFault = 3
 status_of OutOfMemory = 4
 
--- when an engine gives up: a source is refused, the work is, a write fails, or there is no memory
+-- the stage at which an engine fails: a source is refused, the work fails, a write fails, or it is out of memory
 pub data FaultStage : Type 0 where
   Reading : ℕ → LoadFault → FaultStage
   Working : FaultStage
   Writing : FaultStage
   OutOfMemoryStage : FaultStage
 
--- a fault that is none of these is the work's own
+-- every other fault is one of the work
 abbrev pub fault_stage : ToolFault → FaultStage
 fault_stage (Input n f) = Reading n f
 fault_stage (ReadFailed n) = Reading n ReadFault
@@ -67,7 +67,7 @@ is_writing Working = false
 is_writing Writing = true
 is_writing OutOfMemoryStage = false
 
--- the text was not written whole, since a write failed
+-- the text was not written in full, since a write failed
 abbrev pub is_write_fault : {T : Type 0} → Result T ToolFault → Bool
 is_write_fault (Ok v) = false
 is_write_fault (Err fault) = is_writing (fault_stage fault)

@@ -1,7 +1,7 @@
--- A source that is read as a file of one kind, whatever it begins with.
---     FileKind M                   how bytes are judged as files of a kind: what they decide by themselves, and the verdict
---     RefusesKind kind old new f   the source is refused for what its bytes are as such a file
---     kind_spec kind is            how it is read, where that is what its bytes are
+-- A source that is read as a file of one given kind, whatever bytes it begins with.
+--     FileKind M                   the verdict on bytes as a file of the kind, and the fault that a prefix of them decides
+--     RefusesKind kind old new f   the source is refused for the fault of its bytes as a file of the kind
+--     kind_spec kind is            how the source is read, if `is` relates bytes to the value that they encode
 use Rattle.std.specs.Prelude.{◌≡◌, ◌≢◌, ◌⊎◌, ℕ, List, Bool, true, false, Option, None, Result, Err}
 use Rattle.std.specs.Io.KnownBytes.{Consumes, IsAtEnd}
 use Rattle.cadf_json.specs.Streams.{counted}
@@ -17,7 +17,7 @@ pub record FileKind (M : Type 0) : Type 0 where
   pub decided : ℕ → List ℕ → Option FileFault
   pub verdict : ℕ → Bool → List ℕ → Result M FileFault
 
--- the verdict on the bytes that were read, which are all unless they decide it or a read failed
+-- the verdict on the bytes read, which are all bytes unless they decide a fault or a read failed
 pub record RefusesKind {M : Type 0} (kind : FileKind M) (old new : SourceState) (fault : FileFault) : Type 0 where
   pub failed : Bool
   pub bytes : List ℕ
@@ -27,7 +27,7 @@ pub record RefusesKind {M : Type 0} (kind : FileKind M) (old new : SourceState) 
   pub failure : failed ≡ true → (fault ≡ ReadFault) ⊎ (fault ≡ Trailing)
   pub end : failed ≡ false → kind.decided FILE_LIMIT bytes ≡ None → IsAtEnd new.left
 
--- a fault of a file is the input's; `Memory` says nothing of the bytes
+-- a fault of the file is a fault of the input; `Memory` says nothing about the bytes
 abbrev pub IsKindRefusal : {M : Type 0} → FileKind M → SourceState → SourceState → LoadFault → Type 0
 IsKindRefusal kind old new f = (fault : FileFault) × (fault ≢ Memory) × (f ≡ of_file fault) × RefusesKind kind old new fault
 

@@ -1,5 +1,5 @@
--- The delta of one input against another, as one function of what was loaded.
---     missing_of from to       what TO lacks of FROM, under their log, or why there is no delta
+-- The delta of one input against another, as one function of the inputs loaded.
+--     missing_of from to       the delta of FROM against TO, under their log, or why there is none
 --     part_of both             the same of a pair, FROM first
 use Rattle.std.specs.Prelude.{if◌then◌else◌, Option, Some, None, Result, Ok, Err}
 use Rattle.cadf_join.specs.Contents.{Text, Contents}
@@ -11,7 +11,7 @@ use Rattle.cadf_tool.specs.declared.fault.ToolFault.TheVariants.{NoLog, OtherLog
 use Rattle.cadf_tool.specs.Told.{log_named, atoms_loaded}
 use Rattle.cadf_tool.specs.Join.{is_other}
 
--- atoms under the log of FROM, if both inputs name a log, and it is the same
+-- the atoms under the log of FROM, if both inputs name the same log
 abbrev pub under_one_log : Option Text → Option Text → Contents → Result ReplicaModel ToolFault
 under_one_log None to atoms = Err NoLog
 under_one_log (Some log) None atoms = Err NoLog

@@ -1,7 +1,7 @@
--- The inventory of an input, and what an input has whose digest an inventory lacks.
+-- The inventory of an input, and the delta of an input against an inventory.
 --     inventory_model_of loaded   the log of an input, and the digests of its atoms; or why there are none
---     missing_by_of from noted    the atoms of FROM whose digest isn't in it, under their log, or why there is no such part
---     part_by both                the same of both
+--     missing_by_of from noted    the delta: the atoms of FROM whose digest the inventory lacks, under their log, or why there is none
+--     part_by both                the same of a pair, FROM first
 --     IsInventoryInput limit b n  the bytes are the file of this inventory, within the limit
 use Rattle.std.specs.Prelude.{◌≡◌, ◌≤◌, ℕ, List, length, Option, Some, None, Result, Ok, Err}
 use Rattle.cadf_join.specs.Contents.{Text}
@@ -16,7 +16,7 @@ use Rattle.cadf_tool.specs.declared.fault.ToolFault.TheVariants.{NoLog}
 use Rattle.cadf_tool.specs.Told.{log_named, atoms_loaded}
 use Rattle.cadf_tool.specs.Missing.{under_one_log}
 
--- digests under a log, where it is named
+-- the digests under the log, if one is named
 abbrev pub inventory_model_under : Option Text → Digests → Result InventoryModel ToolFault
 inventory_model_under None digests = Err NoLog
 inventory_model_under (Some log) digests = Ok (record { log = log; digests = digests })
@@ -25,7 +25,7 @@ inventory_model_under (Some log) digests = Ok (record { log = log; digests = dig
 abbrev pub inventory_model_of : Loaded → Result InventoryModel ToolFault
 inventory_model_of loaded = inventory_model_under (log_named loaded) (digests_of atom_digest (atoms_loaded loaded))
 
--- THE MISSING PART BY AN INVENTORY: the least grounded set that contains the atoms of FROM whose digest isn't in it
+-- THE DELTA AGAINST AN INVENTORY: the least grounded set that contains the atoms of FROM whose digest the inventory lacks
 abbrev pub missing_by_of : Loaded → InventoryModel → Result ReplicaModel ToolFault
 missing_by_of from noted = under_one_log (log_named from) (Some noted.log) (missing_by atom_digest (atoms_loaded from) noted.digests)
 

@@ -1,7 +1,7 @@
--- A script that is read whole, and what its schedule leaves.
+-- A script that is read in full, and the replicas at the end of its schedule.
 --     script_spec                   how a source is read as a script: its turns, or the first line that is no turn
---     left_of log sites turns       the replicas that the turns leave, or the first that can't be taken
---     final_sites log sites script  the same of a script, or its first line that is no turn
+--     left_of log sites turns       the replicas after these turns, or the first turn that fails
+--     final_sites log sites script  the same for a script, or its first line that is no turn
 use Rattle.std.specs.Prelude.{◌≡◌, ◌≤◌, ◌+◌, ℕ, List, length, reverse, true, false, Result, Ok, Err}
 use Rattle.cadf_json.specs.Streams.{counted, ConsumesAtMost, ConsumesExactly}
 use Rattle.cadf_join.specs.Contents.{Text}
@@ -21,7 +21,7 @@ use Rattle.cadf_tool.specs.declared.fault.ToolFault.TheVariants.{Script, Rehears
 use Rattle.cadf_tool.specs.Inputs.{SourceState}
 use Rattle.cadf_tool.specs.Run.{InputSpec}
 
--- the bytes are these turns, or the line of that number is the first that is no turn
+-- the bytes encode these turns, or the line of that number is the first that is no turn
 abbrev pub IsScriptJudged : List ℕ → Result (List Turn) ℕ → Type 0
 IsScriptJudged bytes (Ok turns) = IsScript bytes turns
 IsScriptJudged bytes (Err line) = IsFirstBad (lines_of bytes) line
@@ -29,7 +29,7 @@ IsScriptJudged bytes (Err line) = IsFirstBad (lines_of bytes) line
 abbrev pub IsScriptInput : List ℕ → Result (List Turn) ℕ → Type 0
 IsScriptInput bytes judged = (length bytes ≤ FILE_LIMIT) × IsScriptJudged bytes judged
 
--- one byte more than the limit was read, and no read failed, or one did
+-- one byte more than the limit was read, and no read failed; or a read failed within the limit
 abbrev pub RefusesScript : SourceState → SourceState → LoadFault → Type 0
 RefusesScript old new TooLarge = ConsumesExactly old.left new.left (FILE_LIMIT + 1) × (new.failures ≡ counted false old.failures)
 RefusesScript old new ReadFault = ConsumesAtMost old.left new.left FILE_LIMIT × (new.failures ≡ counted true old.failures)
@@ -42,7 +42,7 @@ script_spec = record { limit = FILE_LIMIT; is = IsScriptInput; refuses = Refuses
 abbrev pub bytes_spec : InputSpec (List ℕ)
 bytes_spec = record { limit = FILE_LIMIT; is = λ bytes v. (bytes ≡ v) × (length bytes ≤ FILE_LIMIT); refuses = RefusesScript }
 
--- the turns of a script, all of them or none
+-- all turns of a script, or the fault of its first line that is no turn
 abbrev pub turns_of : Result (List Turn) ℕ → Result (List Turn) ToolFault
 turns_of (Ok turns) = Ok turns
 turns_of (Err line) = Err (Script line)
@@ -51,7 +51,7 @@ abbrev pub left_in : Text → ℕ → Result World RehearseFault → Result (Lis
 left_in log sites (Ok world) = Ok (left_by log sites world)
 left_in log sites (Err fault) = Err (Rehearse fault)
 
--- the fault of a schedule is the engine's, and so is `Memory`
+-- the engine has the faults of a schedule, and `Memory`
 abbrev pub of_rehearsal : RehearseFault → ToolFault
 of_rehearsal (NoSite turn) = Rehearse (NoSite turn)
 of_rehearsal (NoMessage turn) = Rehearse (NoMessage turn)
@@ -60,7 +60,7 @@ of_rehearsal (WrongAddressee turn) = Rehearse (WrongAddressee turn)
 of_rehearsal (OtherLog turn) = Rehearse (OtherLog turn)
 of_rehearsal Memory = OutOfMemory
 
--- WHAT THE TURNS LEAVE at that many sites of the log
+-- THE REPLICAS AFTER THE TURNS, with that many sites of the log
 abbrev pub left_of : Text → ℕ → List Turn → Result (List ReplicaModel) ToolFault
 left_of log sites turns = left_in log sites (after atom_digest log sites (reverse turns))
 
@@ -68,6 +68,6 @@ abbrev pub played_in : Text → ℕ → Result (List Turn) ToolFault → Result 
 played_in log sites (Ok turns) = left_of log sites turns
 played_in log sites (Err fault) = Err fault
 
--- WHAT A SCRIPT LEAVES
+-- THE REPLICAS AFTER A SCRIPT
 abbrev pub final_sites : Text → ℕ → Result (List Turn) ℕ → Result (List ReplicaModel) ToolFault
 final_sites log sites judged = played_in log sites (turns_of judged)

@@ -1,8 +1,8 @@
--- What `rule` makes of an input: its set, with a further ruling.
---     value_at vs place                    the value at that place of a list; places count from 1
+-- The result of `rule` for an input: its set, with a further ruling.
+--     value_at vs place                    the value at that place in a list; places are counted from 1
 --     ruling_on letter key value           the ruling that names this value of the key
---     ruling_at s letter key place         the ruling that names the value at that place of a key's values, or that there is no such value
---     ruled_of letter key place loaded     the log of an input, and its atoms with that ruling, or why there are none
+--     ruling_at s letter key place         the ruling that names the value at that place among a key's values, or that there is none
+--     ruled_of letter key place loaded     the log of an input, and its atoms with that ruling, or why there is no result
 use Rattle.std.specs.Prelude.{ℕ, zero, suc, List, Option, Some, None, Result, Ok, Err, slice_get}
 use Rattle.cadf_join.specs.Contents.{Text, Contents}
 use Rattle.cadf_atom.specs.Contributions.{ARuling, taken}
@@ -18,7 +18,7 @@ abbrev pub value_at : List Text → ℕ → Option Text
 value_at vs zero = None
 value_at vs (suc n) = slice_get vs n
 
--- of the key's values the one to show, by the digest of its text
+-- the ruling to show this value of the key, by the digest of its text
 abbrev pub ruling_on : (letter key value : Text) → RulingParts
 ruling_on letter key value = record { letter = letter; key = key; digest = value_digest value }
 
@@ -26,7 +26,7 @@ abbrev pub ruling_for : (letter key : Text) → Option Text → Result RulingPar
 ruling_for letter key None = Err NoValue
 ruling_for letter key (Some value) = Ok (ruling_on letter key value)
 
--- all values of the key have a place, ascending, those that are ruled too
+-- places count all values of the key in ascending order, also those that are ruled
 abbrev pub ruling_at : Contents → (letter key : Text) → ℕ → Result RulingParts ToolFault
 ruling_at s letter key place = ruling_for letter key (value_at (values s letter key) place)
 

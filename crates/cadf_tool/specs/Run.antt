@@ -1,10 +1,10 @@
--- THE RUN of an engine: its sources are read in turn, one thing is made of them, and the text of that is written.
---     one, two, all                             what came of one source, of two, of a list of them
---     IsExpectedBy sources work expected        the expected result: what the work allows of the sources, or the first fault
+-- THE RUN of an engine: it reads its sources one after another, computes one result from them, and writes the text of the result.
+--     one, two, all                             the outcome of reading one source, two sources, or a list of them
+--     IsExpectedBy sources work expected        the expected result: one that the work allows for the sources, or the first fault
 --     IsWritten sink old new text r             all of the text was written, or a prefix of it
---     IsRunBy sources work tell sink old new r  the run, and its answer
--- A source is refused before the work is begun, and what is written begins when the work is done. The work is a relation: which
--- results it allows of what was read. Of a function it is the one value, and the names without `By` are of a function.
+--     IsRunBy sources work tell sink old new r  the run has the result r
+-- All sources are read before the work begins, and the work is done before anything is written. The work is a relation between what was
+-- read and the results allowed. A function allows one result, its value; the names without `By` are for functions.
 use Rattle.std.specs.Prelude.{◌≡◌, ◌≤◌, ◌+◌, ◌⊎◌, ℕ, List, [], ◌∷◌, map, length, take, drop, Result, Ok, Err, OnOk, OnErr, IfErr}
 use Rattle.std.specs.Io.KnownBytes.{Appends}
 use Rattle.cadf_json.specs.declared.stream.Source.{Ghosts as Source}
@@ -30,7 +30,7 @@ pub record SourceTransition : Type 0 where
 abbrev pub transition_of : {S : Type 0} → Source S → S → S → SourceTransition
 transition_of source old new = record { old = source_state source old; new = source_state source new }
 
--- how a source is read as a T: the most bytes it may have, what its bytes are, and why it is refused
+-- how a source is read as a T: the limit on its bytes, the values that bytes encode, and why a source is refused
 pub record InputSpec (T : Type 0) : Type 1 where
   pub limit : ℕ
   pub is : List ℕ → T → Type 0
@@ -43,7 +43,7 @@ input_spec_within limit = record { limit = limit; is = IsInputWithin limit; refu
 abbrev pub input_spec : InputSpec Loaded
 input_spec = input_spec_within FILE_LIMIT
 
--- the source gave all its bytes, no read failed, and they are this
+-- all bytes of the source were read, no read failed, and the bytes encode this value
 abbrev pub IsReadAs : {T : Type 0} → InputSpec T → SourceTransition → T → Type 0
 IsReadAs reader t value =
     GivesAll t.old.left t.new.left (λ bytes. reader.is bytes value) × (t.new.failures ≡ t.old.failures)
@@ -54,18 +54,18 @@ IsUnfailed t = t.new.failures ≡ t.old.failures
 abbrev pub IsReadWithin : ℕ → SourceTransition → Type 0
 IsReadWithin limit t = t.new.reads ≤ t.old.reads + limit + 2
 
--- what came of the sources of a run: they are an A, or one is refused. Numbers count from 1
+-- the outcome of reading a run's sources: they encode an A, or one of them is refused. Sources are counted from 1
 pub record Sources (A : Type 0) : Type 1 where
-  -- all were read, and together they are this
+  -- all were read, and together they encode this value
   pub are : A → Type 0
-  -- the source of that number is refused so; those before it were read, and those behind it are as they were
+  -- the source of that number is refused for that fault; those before it were read, and those after it were not
   pub refused : ℕ → LoadFault → Type 0
-  -- no read of any failed
+  -- no read of any source failed
   pub unfailed : Type 0
-  -- each was read at most as often as its limit says, and twice more
+  -- the number of reads of each source is at most its limit and 2
   pub bounded : Type 0
 
--- one source alone, which has that number
+-- one source, which has that number
 abbrev pub numbered : {T : Type 0} → ℕ → InputSpec T → SourceTransition → Sources T
 numbered number reader t = record {
   are = IsReadAs reader t;
@@ -77,7 +77,7 @@ numbered number reader t = record {
 abbrev pub one : {T : Type 0} → InputSpec T → SourceTransition → Sources T
 one reader t = numbered 1 reader t
 
--- the second is read where the first was
+-- the second is read if the first was accepted
 abbrev pub two : {T U : Type 0} → InputSpec T → SourceTransition → InputSpec U → SourceTransition → Sources (T × U)
 two {T} reader t other u = record {
   are = λ both. IsReadAs reader t both.0 × IsReadAs other u both.1;
@@ -90,7 +90,7 @@ two {T} reader t other u = record {
 
 -- ---- inputs in a list
 
--- each source was read as the input that stands in its place
+-- each source was read as the input at the same place in the list
 abbrev pub AreLoaded : List SourceState → List SourceState → List Loaded → Type 0
 AreLoaded [] [] [] = Unit {0}
 AreLoaded [] [] (l ∷ ls) = ⊥
@@ -99,13 +99,13 @@ AreLoaded (o ∷ os) [] ls = ⊥
 AreLoaded (o ∷ os) (n ∷ ns) [] = ⊥
 AreLoaded (o ∷ os) (n ∷ ns) (l ∷ ls) = IsReadAs input_spec (record { old = o; new = n }) l × AreLoaded os ns ls
 
--- the first source was refused, and the others are as they were
+-- the first source was refused, and the others were not read
 abbrev pub IsRefusedFirst : List SourceState → List SourceState → LoadFault → Type 0
 IsRefusedFirst [] ns f = ⊥
 IsRefusedFirst (o ∷ os) [] f = ⊥
 IsRefusedFirst (o ∷ os) (n ∷ ns) f = IsRefusedAs o n f × (ns ≡ os)
 
--- the source of that number was refused, after those before it were read. Numbers count from 1
+-- the source of that number was refused, after those before it were read. Sources are counted from 1
 pub record IsRefusedAt (old new : List SourceState) (number : ℕ) (f : LoadFault) : Type 0 where
   pub before : List Loaded
   pub counted : number ≡ length before + 1
@@ -122,12 +122,12 @@ all source old new = record {
 
 -- ---- the expected result
 
--- the value of a function is the one result that it allows
+-- a function allows one result: its value
 abbrev pub IsValue : {A M : Type 0} → (A → Result M ToolFault) → A → Result M ToolFault → Type 0
 IsValue work a result = work a ≡ result
 
--- the fault comes first: of a source, or of the work where all were read.
--- `Memory` may come at any time, but not for a read that failed
+-- the first fault: of a source, or of the work if all sources were read.
+-- `Memory` may occur at any time, but not after a failed read
 abbrev pub IsFirstFaultBy : {A M : Type 0} → Sources A → (A → Result M ToolFault → Type 0) → ToolFault → FaultStage → Type 0
 IsFirstFaultBy sources work fault (Reading n f) = (fault ≡ of_load n f) × sources.refused n f
 IsFirstFaultBy {A} sources work fault Working = (a : A) × sources.are a × work a (Err fault)
@@ -137,7 +137,7 @@ IsFirstFaultBy sources work fault OutOfMemoryStage = sources.unfailed
 abbrev pub IsFirstFault : {A M : Type 0} → Sources A → (A → Result M ToolFault) → ToolFault → FaultStage → Type 0
 IsFirstFault sources work fault stage = IsFirstFaultBy sources (IsValue work) fault stage
 
--- no work is asked for: a source was refused, or there was no memory to read it
+-- the work doesn't begin: a source was refused, or an allocation failed while it was read
 abbrev pub IsUnread : {A : Type 0} → Sources A → ToolFault → Type 0
 IsUnread sources fault = IsFirstFault sources Ok fault (fault_stage fault)
 
@@ -158,7 +158,7 @@ IsExpected sources work expected = IsExpectedBy sources (IsValue work) expected
 
 -- ---- the work
 
--- the work was done as it should, or there was no memory for it
+-- the work allows the fault, or an allocation failed
 abbrev pub IsWorkFaultBy : {M : Type 0} → (Result M ToolFault → Type 0) → ToolFault → FaultStage → Type 0
 IsWorkFaultBy allowed fault (Reading n f) = ⊥
 IsWorkFaultBy allowed fault Working = allowed (Err fault)
@@ -181,7 +181,7 @@ pub record IsWritten {W T : Type 0} (sink : Sink W) (old new : W) (text : Text)
   pub only : IfErr result (λ fault. (fault ≡ WriteFault) ⊎ (fault ≡ Memory))
   pub failures : sink.failures new ≡ counted (is_write_fault result) (sink.failures old)
 
--- what is made is told, and a fault is answered with nothing written
+-- the text of the result is written; after a fault nothing is written, and the fault is returned
 abbrev pub IsAnswer : {W M T : Type 0} → (M → Text) → Sink W → W → W → Result M ToolFault → Result T ToolFault → Type 0
 IsAnswer tell sink old new (Ok made) result = IsWritten sink old new (tell made) result
 IsAnswer tell sink old new (Err fault) result = (result ≡ Err fault) × (new ≡ old)

@@ -1,7 +1,7 @@
--- What `rehearse` writes of the replicas of all sites.
---     is_same h k        both are of the same log and have the same atoms
---     place_of h sites   how many sites come before the first that is the same as h
---     sites_text sites   a line for each site: its number, how many atoms it has, and the least site that is the same
+-- The text that `rehearse` writes for the replicas of all sites.
+--     is_same h k        both have the same log and the same atoms
+--     place_of h sites   the index of the first site that is the same as h
+--     sites_text sites   a line for each site: its number, the number of its atoms, and the least site that is the same
 use Rattle.std.specs.Prelude.{ℕ, ◌+◌, Bool, ◌&&◌, List, [], ◌∷◌, ◌++◌, length, codes, decimal}
 use Rattle.std.specs.List.{position_or_len}
 use Rattle.cadf_join.specs.Contents.{Text}
@@ -20,7 +20,7 @@ abbrev pub site_line : ℕ → ℕ → ℕ → Text
 site_line site atoms same =
     codes "site " ++ (decimal site ++ (codes " atoms " ++ (decimal atoms ++ (codes " as " ++ (decimal same ++ 10 ∷ [])))))
 
--- the line of the site of that number; a count above those of 64 bits as the greatest
+-- the line of the site of that number; the count is at most the greatest `u64`
 abbrev pub line_at : List ReplicaModel → ℕ → ReplicaModel → Text
 line_at sites i h = site_line i (saturated (length (set.rising h.atoms))) (place_of h sites)
 

@@ -1,7 +1,7 @@
--- The sketch of an input's inventory, and what an input has beyond a sketch.
---     AreAsked cells salt                 a sketch can have these, where they are given
+-- The sketch of an input's inventory, and the delta of an input against a sketch.
+--     AreAsked cells salt                 a sketch can have this number of cells and this salt, as far as they are given
 --     sketch_model_of cells salt loaded   the sketch of an input's inventory, or why there is none
---     IsPartBySketch both answer          what an input is answered against a sketch, as a relation: which digests a peel finds is open
+--     IsPartBySketch both answer          a result for an input and a sketch; a relation, since it leaves open which digests peeling finds
 --     IsSketchInput limit b s             the bytes are the file of this sketch, within the limit
 use Rattle.std.specs.Prelude.{◌≡◌, ◌<◌, ◌≤◌, ◌^◌, ℕ, true, List, length, Option, IfSome, unwrap_or, Result, Ok, Err}
 use Rattle.cadf_set.specs.Inventory.{InventoryModel}
@@ -23,7 +23,7 @@ pub record AreAsked (cells salt : Option ℕ) : Type 0 where
   pub number : IfSome cells (λ n. are_cells n ≡ true)
   pub odd : IfSome salt (λ a. (is_salt a ≡ true) × (a < 2 ^ 64))
 
--- of the default number of cells, where none is given, and with the inventory's own salt, where none is given
+-- with the default number of cells, if none is given, and with the inventory's own salt, if none is given
 abbrev pub sketch_of_result : Option ℕ → Option ℕ → Result InventoryModel ToolFault → Result SketchModel ToolFault
 sketch_of_result cells salt (Ok noted) = Ok (asked noted (unwrap_or cells default_cells) salt)
 sketch_of_result cells salt (Err fault) = Err fault
@@ -46,7 +46,7 @@ abbrev pub IsAnswerOfResult : SketchModel → Result ReplicaModel ToolFault → 
 IsAnswerOfResult sketch (Ok held) answer = IsAnswerTo sketch held answer
 IsAnswerOfResult sketch (Err fault) answer = answer ≡ Err fault
 
--- THE MISSING PART BY A SKETCH: the atoms of FROM whose digest isn't in an inventory that has the sketch's digest
+-- THE DELTA AGAINST A SKETCH: the one against an inventory that has the sketch's digest
 abbrev pub IsPartBySketch : Loaded × SketchModel → Result ReplicaModel ToolFault → Type 0
 IsPartBySketch both answer = IsAnswerOfResult both.1 (replica_model_of both.0) answer
 

@@ -1,5 +1,5 @@
--- A source that is read as a sketch file, whatever it begins with.
---     sketch_spec                 how it is read
+-- A source that is read as a sketch file, whatever bytes it begins with.
+--     sketch_spec                 how the source is read
 use Rattle.cadf_linefile.specs.declared.file_feed.TheConstants.{FILE_LIMIT}
 use Rattle.cadf_sketch.specs.Sketches.{SketchModel}
 use Rattle.cadf_sketch.specs.SketchVerdict.{sketch_decided, sketch_verdict}

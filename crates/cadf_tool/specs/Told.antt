@@ -1,6 +1,6 @@
--- What an engine with one input writes, as one function of the bytes of its input.
+-- The log and the atoms of an input, from which the result of an engine with one input is computed.
 --     log_named loaded, atoms_loaded loaded  the log that an input names, and the atoms that it contributes
---     IsHeld bytes h                         the bytes are an input that names a log, and h is this log and the input's atoms
+--     IsHeld bytes h                         the bytes encode an input that names a log; h is this log with the input's atoms
 use Rattle.std.specs.Prelude.{◌≡◌, List, ℕ, Option, Some, None, Result, Ok, Err}
 use Rattle.cadf_join.specs.Contents.{Text, Contents}
 use Rattle.cadf_atom.specs.Contributions.{document_atoms}
@@ -11,7 +11,7 @@ use Rattle.cadf_tool.specs.declared.fault.ToolFault.{ToolFault}
 use Rattle.cadf_tool.specs.declared.fault.ToolFault.TheVariants.{NoLog}
 use Rattle.cadf_tool.specs.Input.{IsInput}
 
--- an event by itself names none
+-- an event outside a document names no log
 abbrev pub log_named : Loaded → Option Text
 log_named (Replica h) = Some h.log
 log_named (Document doc) = doc.log
@@ -25,7 +25,7 @@ abbrev pub under_log : Option Text → Contents → Result ReplicaModel ToolFaul
 under_log None atoms = Err NoLog
 under_log (Some log) atoms = Ok (record { log = log; atoms = atoms })
 
--- THE REPLICA that an input is
+-- THE REPLICA that an input encodes
 abbrev pub replica_model_of : Loaded → Result ReplicaModel ToolFault
 replica_model_of loaded = under_log (log_named loaded) (atoms_loaded loaded)
 
