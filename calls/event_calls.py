@@ -169,6 +169,13 @@ PARTS = [
     (event("tags", "[]"), ["no log", "event", *seen()]),
     (event("tags", '["x"]'), ["no log", "event", *seen(B1, "tag", "x")]),
     ('{"id":"g","events":[],"events":[]}', ["log", "g"]),
+    # The name `events` within a member, or spelled with an escape.
+    (event("x", '{"events":[]}'), ["no log", "event", *seen(body("x", '{"events":[]}'))]),
+    (event("x", '"\\u0041"'), ["no log", "event", *seen(body("x", '"A"'))]),
+    ('{"id":"g","\\u0065vents":[%s]}' % V1, ["log", "g", "event", *seen()]),
+    # Properties whose names rise, then don't.
+    ('{"b":{"d":1,"c":{"z":0,"y":[]}},"id":"g","c":2,"events":[],"a":{"c":0,"b":1},"b":4,"d":[]}',
+     ["log", "g", "property", "a", '{"b":1,"c":0}', "property", "b", "4", "property", "c", "2", "property", "d", "[]"]),
 ]
 
 # Texts of values that are no documents. What is judged first is told first.

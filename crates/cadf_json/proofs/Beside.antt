@@ -1,33 +1,5 @@
 -- Members beside others that are kept as texts.
-use Rattle.std.proofs.Common.{
-  ◌≡◌,
-  ℕ,
-  ◌<◌,
-  List,
-  length,
-  Some,
-  subst,
-  [],
-  ◌∷◌,
-  Bool,
-  if◌then◌else◌,
-  true,
-  false,
-  true≢false,
-  not,
-  bytes_eq,
-  string_bytes,
-  Global,
-  refl,
-  sym,
-  ap,
-  ◌∙◌,
-  Ordering,
-  Less,
-  Equal,
-  Greater,
-  nat_cmp,
-}
+use Rattle.std.proofs.Common.{◌≡◌, ℕ, ◌<◌, List, length, Some, subst, [], Bool, if◌then◌else◌, true, false, not, bytes_eq, string_bytes, Global, refl, sym, ap, ◌∙◌, Ordering, Less, Equal, Greater, nat_cmp}
 use Rattle.std.proofs.lemmas.Bool.{and_parts, or_parts}
 use Rattle.std.specs.Prelude.{String}
 use Rattle.std.specs.Borrow.{Bor}

@@ -34,8 +34,7 @@ use Rattle.std.proofs.Common.{
   take_all,
 }
 use Rattle.std.proofs.Common.{Ordering, Less, Equal, Greater, nat_cmp, ◌+◌, ◌&&◌, is_some}
-use Rattle.std.specs.Ordering.{is_lt}
-use Rattle.std.specs.Prelude.{slice_range, ⊤}
+use Rattle.std.specs.Prelude.{slice_range}
 use Rattle.std.specs.Borrow.{Bor}
 use Rattle.std.specs.Ordering.{match_ordering}
 use Rattle.std.specs.BTreeMap.{insert_entry}
@@ -46,7 +45,7 @@ use Rattle.json.specs.Token.{Token}
 use Rattle.json.specs.Json as json
 use Rattle.json.specs.Json.{Parse, parse_map, after_end_array, read_key, items, members}
 use Rattle.json.specs.Print.{quoted}
-use Rattle.serde_json.specs.Data.{Num, unsigned, negative, float, Data, number, array, object, Items, no_items, item, Members, no_members, member, put}
+use Rattle.serde_json.specs.Data.{Num, unsigned, negative, float, Data, number, array, Items, no_items, item, Members, no_members, member, put}
 use Rattle.serde_json.specs.Read.{number_of, of_json, of_items, of_members, converted}
 use Rattle.serde_json.specs.Find.{is_float}
 use Rattle.serde_json.specs.Written.{number_text, has_float, items_have_float, members_have_float, items_text, members_text, comma_if}
@@ -55,10 +54,11 @@ use Rattle.cadf_json.specs.Tree.{IsWholeText, number_in}
 use Rattle.cadf_json.specs.Passed.{IsNumberPassed}
 use Rattle.cadf_json.specs.Spelling.{IsNumberSpelled, IsAt, AreEntries, AreAt, name_text}
 use Rattle.cadf_json.specs.Canonical.{is_name_above}
-use Rattle.cadf_json.specs.declared.spelling.Place.{Place}
+use Rattle.cadf_json.specs.declared.spelling.Span.{Span}
 use Rattle.cadf_json.proofs.Orders.{AreBelow, joined, joined-none, joined-one, push_if_last, AreBelow-further, AreBelow-joined}
 use Rattle.cadf_json.proofs.Passing.{followed, followed-none, followed-last, with_last, further, parsed_none}
 use Rattle.cadf_json.proofs.PassedOver.{or_shift, float-with_last}
+use Rattle.cadf_json.proofs.RisingRows.{less_from, both_true}
 use Rattle.cadf_json.proofs.Settled.{IsWhole-data_in, number_in_is, number_of-whole}
 use Rattle.cadf_json.proofs.Texts.{has_float-IsWhole}
 use Rattle.cadf_json.proofs.Turns.{item_read, items_over, member_read, members_over}
@@ -139,16 +139,16 @@ module _ (p : Parse json.Json) (start : List Token) (before : List ℕ) where
     h.spelled no_items ∙ ap (λ es. before ++ 91 ∷ items_text false es) (followed-none h.got),
   )
 
--- ---- places
+-- ---- spans
 
 abbrev pub Entry : Type 0
-Entry = Bor (List ℕ) × Place
+Entry = Bor (List ℕ) × Span
 
 range_append : (xs ys : List ℕ) (a b : ℕ) → a ≤ b → b ≤ length xs → slice_range (xs ++ ys) a b ≡ slice_range xs a b
 range_append xs ys a b h k =
     ap (take (b - a)) (drop-append-le a xs ys (omega arith)) ∙ take-append-le (b - a) (drop a xs) ys (omega (arith, length-drop a xs))
 
-is_at_append : (bytes more : List ℕ) (p : Place) (d : Data) → IsAt bytes p d → IsAt (bytes ++ more) p d
+is_at_append : (bytes more : List ℕ) (p : Span) (d : Data) → IsAt bytes p d → IsAt (bytes ++ more) p d
 is_at_append bytes more p d h =
     let within = h.within in
     record {
@@ -158,15 +158,15 @@ is_at_append bytes more p d h =
       fraction = h.fraction;
     }
 
--- places stay where they are if bytes are appended
+-- spans stay as they are if bytes are appended
 pub at_append : (bytes more : List ℕ) (es : List Entry) (ms : Members) → AreAt bytes es ms → AreAt (bytes ++ more) es ms
 at_append bytes more [] no_members h = tt
 at_append bytes more [] (member k d ms) h = absurd h
 at_append bytes more (e ∷ es) no_members h = absurd h
 at_append bytes more (e ∷ es) (member k d ms) h = (h.0, is_at_append bytes more e.1 d h.1, at_append bytes more es ms h.2)
 
--- the place of what was appended last
-pub is_at_last : (bytes : List ℕ) (p : Place) (d : Data) → p.start ≡ length bytes → p.end ≡ length (bytes ++ text d) → has_float d ≡ p.fraction
+-- the span of what was appended last
+pub is_at_last : (bytes : List ℕ) (p : Span) (d : Data) → p.start ≡ length bytes → p.end ≡ length (bytes ++ text d) → has_float d ≡ p.fraction
     → IsAt (bytes ++ text d) p d
 is_at_last bytes p d start stop fraction =
     let long = length-append bytes (text d) in
@@ -212,11 +212,6 @@ pub record Rising (got : Members) (last : Option (List ℕ)) (before out : List 
   pub spelled : (rest : Members) → out ++ members_text (is_some last) rest ≡ before ++ members_text false (joined got rest)
   pub has : members_have_float got ≡ had
 
-less_from : (o : Ordering) → is_lt o ≡ true → o ≡ Less
-less_from Less h = refl
-less_from Equal h = absurd cc
-less_from Greater h = absurd cc
-
 below_next : (got : Members) (last : Option (List ℕ)) (k : List ℕ) → IsLast got last → is_name_above last k ≡ true → AreBelow got k
 below_next got None k h above = subst (λ ms. AreBelow ms k) (sym h) tt
 below_next got (Some l) k h above = h k (less_from (slice_cmp nat_cmp l k) above)
@@ -258,14 +253,10 @@ pub record MembersSpelled (p : Parse json.Json) (start now : List Token) (before
   pub got : Members
   pub bytes : List ℕ
   pub kept : out ≡ before ++ bytes
-  pub places : AreAt bytes es got
+  pub spans : AreAt bytes es got
   pub in_order : rising ≡ true → Rising got last before out had
   pub left : converted (λ ms. of_members ms no_members) (members p (length start) start) ≡ converted (λ ms. of_members ms got) (members p bound now)
   pub shorter : length now ≤ length start
-
-both_true : (a b : Bool) → (a && b) ≡ true → (a ≡ true) × (b ≡ true)
-both_true true b h = (refl, h)
-both_true false b h = absurd cc
 
 module _ (p : Parse json.Json) (start : List Token) (before : List ℕ) where
   pub members_start : MembersSpelled p start start before before [] None true false
@@ -275,7 +266,7 @@ module _ (p : Parse json.Json) (start : List Token) (before : List ℕ) where
     got = no_members;
     bytes = [];
     kept = sym (append-nil before);
-    places = tt;
+    spans = tt;
     in_order = λ r. rises_none before;
     left = refl;
     shorter = omega arith;
@@ -286,14 +277,14 @@ module _ (p : Parse json.Json) (start : List Token) (before : List ℕ) where
       → (h : MembersSpelled p start now before out es last rising had) → length out ≡ length before + length h.bytes
   bytes_length now out es last rising had h = ap length h.kept ∙ length-append before h.bytes
 
-  pub one_more_member : (now s r : List Token) (k : Bor (List ℕ)) (d : Data) (place : Place) (out : List ℕ) (es : List Entry) (last : Option (List ℕ))
+  pub one_more_member : (now s r : List Token) (k : Bor (List ℕ)) (d : Data) (span : Span) (out : List ℕ) (es : List Entry) (last : Option (List ℕ))
       (rising had has : Bool) → (h : MembersSpelled p start now before out es last rising had) → read_key now ≡ Some (Some k.now, s)
       → converted of_json (p s) ≡ Some (d, r) → length r < length now
-      → place.start + length before ≡ length (out ++ name_text (is_some last) k.now)
-      → place.end + length before ≡ length ((out ++ name_text (is_some last) k.now) ++ text d) → has_float d ≡ has → place.fraction ≡ has
-      → MembersSpelled p start r before ((out ++ name_text (is_some last) k.now) ++ text d) (insert_entry (λ a b. slice_cmp nat_cmp a.now b.now) es k place)
+      → span.start + length before ≡ length (out ++ name_text (is_some last) k.now)
+      → span.end + length before ≡ length ((out ++ name_text (is_some last) k.now) ++ text d) → has_float d ≡ has → span.fraction ≡ has
+      → MembersSpelled p start r before ((out ++ name_text (is_some last) k.now) ++ text d) (insert_entry (λ a b. slice_cmp nat_cmp a.now b.now) es k span)
       (Some k.now) (rising && is_name_above last k.now) (had || has)
-  one_more_member now s r k d place out es last rising had has h key read less from to is marked =
+  one_more_member now s r k d span out es last rising had has h key read less from to is marked =
       let enough = h.enough in
       let shorter = h.shorter in
       let lead = name_text (is_some last) k.now in
@@ -309,9 +300,9 @@ module _ (p : Parse json.Json) (start : List Token) (before : List ℕ) where
         bytes = (h.bytes ++ lead) ++ text d;
         kept = ap (λ xs. (xs ++ lead) ++ text d) h.kept ∙ ap (λ xs. xs ++ text d) (append_assoc before h.bytes lead)
             ∙ append_assoc before (h.bytes ++ lead) (text d);
-        places = entries_insert (IsAt ((h.bytes ++ lead) ++ text d)) es h.got k place d
-            (at_append (h.bytes ++ lead) (text d) es h.got (at_append h.bytes lead es h.got h.places))
-            (is_at_last (h.bytes ++ lead) place d (omega (arith, from, long, led, led_bytes)) (omega (arith, to, long, led, whole, led_bytes, whole_bytes))
+        spans = entries_insert (IsAt ((h.bytes ++ lead) ++ text d)) es h.got k span d
+            (at_append (h.bytes ++ lead) (text d) es h.got (at_append h.bytes lead es h.got h.spans))
+            (is_at_last (h.bytes ++ lead) span d (omega (arith, from, long, led, led_bytes)) (omega (arith, to, long, led, whole, led_bytes, whole_bytes))
             (is ∙ sym marked));
         in_order = λ still. let both = both_true rising (is_name_above last k.now) still in
             rises_further h.got last before out had k.now d has (h.in_order both.0) both.1 is;
@@ -343,12 +334,12 @@ module _ (p : Parse json.Json) (start : List Token) (before : List ℕ) where
 
 pub record Walked (old out bytes : List ℕ) (es : List Entry) (ms : Members) (later had : Bool) : Type 0 where
   pub left : Members
-  pub places : AreAt bytes es left
+  pub spans : AreAt bytes es left
   pub spelled : out ++ members_text later left ≡ old ++ members_text false ms
   pub has : (had || members_have_float left) ≡ members_have_float ms
 
 pub walk_start : (out bytes : List ℕ) (es : List Entry) (ms : Members) → AreAt bytes es ms → Walked out out bytes es ms false false
-walk_start out bytes es ms h = record { left = ms; places = h; spelled = refl; has = refl }
+walk_start out bytes es ms h = record { left = ms; spans = h; spelled = refl; has = refl }
 
 member_spelled : (out value rest name : List ℕ) (later : Bool) → ((out ++ name_text later name) ++ value) ++ rest
     ≡ out ++ (comma_if later ++ (quoted name ++ 58 ∷ (value ++ rest)))
@@ -364,7 +355,7 @@ step_at : (old out bytes : List ℕ) (e : Entry) (es : List Entry) (ms : Members
 step_at old out bytes e es ms later had no_members h spelled has = absurd h
 step_at old out bytes e es ms later had (member k d left) h spelled has = record {
   left = left;
-  places = h.2;
+  spans = h.2;
   spelled = member_spelled out (slice_range bytes e.1.start e.1.end) (members_text true left) e.0.now later
       ∙ ap₂ (λ (name value : List ℕ). out ++ (comma_if later ++ (quoted name ++ 58 ∷ (value ++ members_text true left)))) h.0 h.1.spelled ∙ spelled;
   has = sym (or_shift had e.1.fraction (members_have_float left)) ∙ ap (λ b. had || (b || members_have_float left)) (sym h.1.fraction) ∙ has;
@@ -372,7 +363,7 @@ step_at old out bytes e es ms later had (member k d left) h spelled has = record
 
 pub walk_step : (old out bytes : List ℕ) (e : Entry) (es : List Entry) (ms : Members) (later had : Bool) → Walked old out bytes (e ∷ es) ms later had
     → Walked old ((out ++ name_text later e.0.now) ++ slice_range bytes e.1.start e.1.end) bytes es ms true (had || e.1.fraction)
-walk_step old out bytes e es ms later had h = step_at old out bytes e es ms later had h.left h.places h.spelled h.has
+walk_step old out bytes e es ms later had h = step_at old out bytes e es ms later had h.left h.spans h.spelled h.has
 
 over_at : (old out bytes : List ℕ) (ms : Members) (later had : Bool) (left : Members) → AreAt bytes [] left
     → out ++ members_text later left ≡ old ++ members_text false ms → (had || members_have_float left) ≡ members_have_float ms
@@ -382,4 +373,4 @@ over_at old out bytes ms later had (member k d left) h spelled has = absurd h
 
 pub walk_over : (old out bytes : List ℕ) (ms : Members) (later had : Bool) → Walked old out bytes [] ms later had
     → (out ++ 125 ∷ [] ≡ old ++ members_text false ms) × (members_have_float ms ≡ had)
-walk_over old out bytes ms later had h = over_at old out bytes ms later had h.left h.places h.spelled h.has
+walk_over old out bytes ms later had h = over_at old out bytes ms later had h.left h.spans h.spelled h.has

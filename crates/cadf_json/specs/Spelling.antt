@@ -10,7 +10,7 @@ use Rattle.serde_json.specs.Read.{number_of, of_json, of_items, of_members, conv
 use Rattle.json.specs.Print.{quoted}
 use Rattle.serde_json.specs.Written.{has_float, items_have_float, members_have_float, comma_if}
 use Rattle.cadf_json.specs.Value.{text}
-use Rattle.cadf_json.specs.declared.spelling.Place.{Place}
+use Rattle.cadf_json.specs.declared.spelling.Span.{Span}
 
 -- the tokens begin with a value that nests at most `depth` deep; its text was appended, and the flag says whether a number of it isn't whole
 abbrev pub IsSpelled : ℕ → List Token → List Token → List ℕ → List ℕ → Bool → Type 0
@@ -38,8 +38,8 @@ IsNumberSpelled s before after fraction =
 abbrev pub name_text : Bool → List ℕ → List ℕ
 name_text later name = comma_if later ++ (quoted name ++ 58 ∷ [])
 
--- the value's text is at that place among the bytes
-pub record IsAt (bytes : List ℕ) (p : Place) (d : Data) : Type 0 where
+-- the value's text is at that span of the bytes
+pub record IsAt (bytes : List ℕ) (p : Span) (d : Data) : Type 0 where
   pub rise : p.start ≤ p.end
   pub within : p.end ≤ length bytes
   pub spelled : slice_range bytes p.start p.end ≡ text d
@@ -52,8 +52,8 @@ AreEntries stands [] (member k d ms) = ⊥
 AreEntries stands (e ∷ es) no_members = ⊥
 AreEntries stands (e ∷ es) (member k d ms) = (e.0.now ≡ k) × stands e.1 d × AreEntries stands es ms
 
--- the texts of the members' values are at these places
-abbrev pub AreAt : List ℕ → List (Bor (List ℕ) × Place) → Members → Type 0
+-- the texts of the members' values are at these spans
+abbrev pub AreAt : List ℕ → List (Bor (List ℕ) × Span) → Members → Type 0
 AreAt bytes es ms = AreEntries (IsAt bytes) es ms
 
 -- the text is that of the value

@@ -75,6 +75,6 @@ pub record IsSplit {T : Type 0} (took : T → List Data → Type 0) (old new : T
   pub items : Items
   pub in_tree : o.tree ≡ object members
   pub rise : Rises members
-  pub beside : AreBeside names o.texts.entries others members
+  pub beside : AreBeside names o.texts.items others members
   pub taken : AreTaken took old new items
   pub spells : SpellsValue text (object (put name (array items) (merged others members)))

@@ -15,6 +15,7 @@ mod part_rewrite;
 mod place;
 mod read;
 mod rewrite;
+mod rising;
 mod skip;
 mod spelling;
 mod stream;

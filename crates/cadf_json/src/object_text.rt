@@ -1,6 +1,6 @@
 //! Answers about the value of a canonical text, found among its tokens without building a tree.
 
-ghost use Rattle.std.specs.Prelude.{◌≡◌, IfOk, nat_le, option_map};
+ghost use Rattle.std.specs.Prelude.{◌≡◌, false, IfOk, nat_le, option_map};
 ghost use Rattle.json.specs.Reads.{token_of};
 ghost use Rattle.serde_json.specs.Data.{Data, depth as nesting};
 ghost use Rattle.serde_json.specs.Find.{get};
@@ -35,15 +35,33 @@ pub fn has_text_at(alloc: Global, text: &str, name: &str, expected: &str) -> Res
     Ok(finds_text(&mut reader, name, expected))
 }
 
-/// Returns whether the value of a canonical text nests at most `depth` deep. The scratch keeps the parser's memory.
+/// Returns whether the value of a canonical text nests at most `depth` deep. A text without brackets isn't read, nor a
+/// short one: each level takes two bytes. The scratch keeps the parser's memory.
 pub fn nests_within(scratch: &mut Scratch, text: &str, depth: u8) -> Result<bool, Memory>
     ensures { IfOk result (λ b. (d : Data) → IsValue d → text.now ≡ text_of d → b ≡ nat_le (nesting d) depth) }
 {
+    let levels = usize::from(depth);
+    if text.len() <= 2 * levels {
+        return Ok(true);
+    }
+    if !opens_level(text.as_bytes()) {
+        return Ok(true);
+    }
     let mut reader = Reader::new(text, scratch)?;
-    match reader.skip_value(usize::from(depth)) {
+    match reader.skip_value(levels) {
         Ok(()) => Ok(true),
         Err(_) => Ok(false),
     }
+}
+
+/// Returns whether the text begins with an opening bracket or brace.
+fn opens_level(text: &[u8]) -> bool
+    ensures { result ≡ false → (d : Data) → text.now ≡ text_of d → nesting d ≡ 0 }
+{
+    let [first, ..] = text else {
+        return false;
+    };
+    *first == b'[' || *first == b'{'
 }
 
 /// Returns whether the next members have this text at that name.

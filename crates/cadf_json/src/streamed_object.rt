@@ -10,6 +10,7 @@ ghost use Rattle.cadf_json.specs.StreamedObjects.{PassesItems, PassesList, AreSp
 
 use crate::read::{TreeFault, put_member, read};
 use crate::rewrite::is_listed;
+use crate::rising::{pairs_in_order, put_pair, rises_to};
 use crate::spelling::read_text;
 use crate::tree::Tree;
 use crate::view::View;
@@ -29,7 +30,7 @@ pub trait ItemVisitor {
         ensures { OnOk result ((ds : List Data) → took self.old ds → took self.new (ds ++ item.now ∷ [])) };
 }
 
-// Passes the items up to the closing bracket to the visitor.
+/// Passes the items up to the closing bracket to the visitor.
 fn pass_items<'a, T: ItemVisitor>(
     alloc: Global,
     reader: &mut Reader<'a>,
@@ -48,7 +49,7 @@ fn pass_items<'a, T: ItemVisitor>(
     Ok(())
 }
 
-// Passes the items of the next list to the visitor. `NeedsFullParse` if no list comes next.
+/// Passes the items of the next list to the visitor. `NeedsFullParse` if no list comes next.
 fn pass_list<'a, T: ItemVisitor>(
     alloc: Global,
     reader: &mut Reader<'a>,
@@ -70,16 +71,16 @@ fn pass_list<'a, T: ItemVisitor>(
     Ok(())
 }
 
-/// The members of an object, as a tree those of some names, as canonical texts the others, and whether one of them is an
-/// empty list in place of a list that was taken.
+/// The members of an object: those of some names in a tree, the others as canonical texts. `taken` says whether the tree
+/// has an empty list in place of the list whose items were taken.
 #[derive(Drop)]
 struct MembersAround<'a> {
     members: Vec<(&'a str, Value<'a>)>,
-    texts: BTreeMap<&'a str, String>,
+    texts: Vec<(&'a str, String)>,
     taken: bool,
 }
 
-// Reads the members up to the closing brace, with an empty list in place of the one whose items the visitor took.
+/// Reads the members up to the closing brace, with an empty list in place of the one whose items the visitor took.
 fn read_around<'a, T: ItemVisitor>(
     alloc: Global,
     reader: &mut Reader<'a>,
@@ -90,12 +91,15 @@ fn read_around<'a, T: ItemVisitor>(
 ) -> Result<MembersAround<'a>, TreeFault>
     requires depth { (1 ≤ depth) × (depth ≤ 127) }
     requires named { is_one_of (texts_of in_tree.now) name.now ≡ true }
-    ensures ok { IfOk result (λ a. AreSplit T.took taker.old taker.new name.now (texts_of in_tree.now) a.taken a.texts.entries
+    ensures ok { IfOk result (λ a. AreSplit T.took taker.old taker.new name.now (texts_of in_tree.now) a.taken a.texts.items
         (named_in (members_view a.members.items)) depth reader.old reader.new) }
     ensures within { IfOk result (λ a. AreMembersWithin depth (members_view a.members.items)) }
 {
     let mut members = Vec::new(alloc);
-    let mut texts: BTreeMap<&'a str, String> = BTreeMap::new(alloc);
+    let mut row: Vec<(&'a str, String)> = Vec::new(alloc);
+    let mut map: BTreeMap<&'a str, String> = BTreeMap::new(alloc);
+    let mut last: Option<&'a str> = None;
+    let mut rising = true;
     let mut buffer = Vec::new(alloc);
     let mut taken = false;
     'members: loop {
@@ -105,13 +109,15 @@ fn read_around<'a, T: ItemVisitor>(
         let Some(key) = key else {
             return Ok(MembersAround {
                 members,
-                texts,
+                texts: pairs_in_order(row, map)?,
                 taken,
             });
         };
         if !is_listed(in_tree, key) {
             let text = read_text(alloc, reader, depth, &mut buffer)?;
-            texts.insert(key, text)?;
+            rising = rises_to(rising, last, key);
+            put_pair(alloc, rising, &mut row, &mut map, key, text)?;
+            last = Some(key);
         } else if key != name {
             let member = read(alloc, reader, depth)?;
             put_member(&mut members, key, member, depth)?;
@@ -130,8 +136,8 @@ fn read_around<'a, T: ItemVisitor>(
 pub struct ObjectAround<'a> {
     /// The members of the given names, with an empty list in place of the one that was taken.
     pub tree: Tree<'a>,
-    /// The canonical texts of the other members, by their names.
-    pub texts: BTreeMap<&'a str, String>,
+    /// The names of the other members, in their order, and the canonical texts of these.
+    pub texts: Vec<(&'a str, String)>,
 }
 
 /// Reads the object that the text encodes: a tree of the members whose names are in `in_tree`, and the canonical texts

@@ -1,5 +1,6 @@
 use Rattle.std.proofs.Common.{◌≡◌, ◌+◌, ◌*◌, ◌++◌, ◌∷◌, [], length, option_map}
 use Rattle.json.specs.Json.{value}
+use Rattle.cadf_json.proofs.RisingRows.{Kept}
 use Rattle.cadf_json.proofs.Spellings.{ItemsSpelled, MembersSpelled}
 use Rattle.cadf_json.proofs.spelling.+write_value.Given as goal
 
@@ -21,9 +22,9 @@ decreases-write_items-items l = length l.reader
 
 abbrev pub invariant-write_members-members : goal.invariant-write_members-members
 invariant-write_members-members l =
-    MembersSpelled (value l.depth) l.fn.reader l.reader (l.fn.out.items ++ 123 ∷ []) l.out.items l.found.entries (option_map (λ s. s.now) l.last) l.rising
-    l.fraction
-    × (l.start ≡ length (l.fn.out.items ++ 123 ∷ []))
+    MembersSpelled (value l.depth) l.fn.reader l.reader (l.fn.out.items ++ 123 ∷ []) l.out.items (l.row.items ++ l.found.entries)
+    (option_map (λ s. s.now) l.last) l.rising l.fraction
+    × (l.start ≡ length (l.fn.out.items ++ 123 ∷ [])) × Kept l.row.items l.found.entries (option_map (λ s. s.now) l.last) l.rising
 
 abbrev pub decreases-write_members-members : goal.decreases-write_members-members
 decreases-write_members-members l = length l.reader
