@@ -1,4 +1,4 @@
-//! Replica files that come in pieces.
+//! Replica files that are given in pieces.
 
 ghost use Rattle.std.specs.Prelude.{◌≡◌, OnOk, None};
 
