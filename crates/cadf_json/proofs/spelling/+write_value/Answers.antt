@@ -105,7 +105,7 @@ write_members-members-init t c =
       grind arith,
     )
 
--- the end of members whose names rise, and of others
+-- the end of members whose names are ascending, and of others
 module _ (p : Parse json.Json) (start now s : List Token) (old out after : List ℕ) (es : List Entry) (last : Option (List ℕ)) (had has : Bool) where
   abbrev Ended : Type 0
   Ended = (ms : Members) × (converted (λ ms. of_members ms no_members) (members p (length start) start) ≡ Some (ms, s)) × (members_have_float ms ≡ has)
