@@ -20,8 +20,8 @@ fn open<R: Files>(rt: &R, path: &str, number: usize) -> Result<FromStd<R::File>,
     }
 }
 
-/// Opens the files at these paths in turn, which are the inputs from 1. `ReadFault` names the first that can't be
-/// opened, `Memory` if an allocation fails.
+/// Opens the files at these paths, which are the inputs from 1 on. `ReadFault` names the first that can't be opened,
+/// `Memory` if an allocation fails.
 fn open_all<R: Files>(
     rt: &R,
     alloc: Global,

@@ -1,4 +1,4 @@
-//! Reads the words that are no files: names, numbers and letters.
+//! Parses the words other than files: names, numbers and letters.
 use cadf_arguments::{
     ArgumentFault, check_cells, check_letter, check_place, check_salt, check_sites, read_log,
 };

@@ -26,7 +26,7 @@ fn flushed<W: Write + Drop>(
 }
 
 /// Runs the request's engine on standard output. Returns a report if the output is larger than an input may be. `Err`:
-/// why the engine gave up.
+/// why the engine failed.
 fn run_out(rt: &HostRuntime, request: &Request<'_>) -> Result<Option<OverLimit>, Stop> {
     let Ok(buffer) = BufWriter::new(rt.alloc(), io::writer(rt)) else {
         return Err(Stop::Tool(ToolFault::Memory));

@@ -1,4 +1,4 @@
-//! Why a command didn't do its work, and what is reported of it.
+//! Why a command failed, and how that is reported.
 use cadf_arguments::ArgumentFault;
 use cadf_tool::{ToolFault, status};
 use std::process::ExitCode;
@@ -6,7 +6,7 @@ use std::process::ExitCode;
 /// The exit status if the command line is refused.
 pub(crate) const REFUSED: u8 = 2;
 
-/// Why a command didn't do its work.
+/// Why a command failed.
 #[derive(Drop)]
 pub(crate) enum Stop {
     Tool(ToolFault),
@@ -28,7 +28,7 @@ impl From<ArgumentFault> for Stop {
     }
 }
 
-/// Reports on standard error why the command gave up, and returns the exit status.
+/// Reports on standard error why the command failed, and returns the exit status.
 pub(crate) fn report(rt: &HostRuntime, stop: &Stop) -> ExitCode {
     match stop {
         Stop::Tool(fault) => {

@@ -1,4 +1,4 @@
-//! The arguments of the engines that are no inputs: names, numbers and letters.
+//! Arguments of the engines other than inputs: names, numbers and letters.
 #![tactic(auto)]
 
 mod fault;

@@ -8,7 +8,7 @@ use cadf_atom::KeyKind;
 use cadf_event::{Name, NameFault};
 use std::alloc::Global;
 
-/// Returns what an engine answers for a text that is no name.
+/// Returns an engine's fault for a text that is no name.
 fn refused(fault: NameFault, otherwise: ArgumentFault) -> ArgumentFault
     ensures { (result ≡ otherwise) ⊎ (result ≡ ArgumentFault.Memory) }
 {

@@ -6,10 +6,10 @@ ghost use Rattle.cadf_sketch.specs.Layouts.{are_cells, is_salt};
 use crate::fault::ArgumentFault;
 use cadf_sketch::{Cells, Salt};
 
-/// Bounds the number of sites of a rehearsal.
+/// The greatest number of sites of a rehearsal.
 const MAX_SITES: u64 = 64;
 
-/// Bounds the place of a value that can be ruled. Places count from 1.
+/// The greatest place of a value that can be ruled. Places are counted from 1.
 const MAX_PLACE: u64 = 999_999_999;
 
 /// Returns the number of sites of a rehearsal. `Sites`: it isn't 1 to 64.

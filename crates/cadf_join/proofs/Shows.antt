@@ -1,5 +1,5 @@
--- What a visitor was shown so far, of all that it is to be shown.
---     Shown takes old new rest all     the state was led from the old one to the new one by all but the rest
+-- The lists that a visitor has visited so far, of all that it is to visit.
+--     Shown takes old new rest all     visiting all lists but the rest leads from the old state to the new one
 use Rattle.std.proofs.Common.{◌≡◌, List, [], ◌++◌, sym, ap, subst, ◌∙◌, append_assoc}
 use Rattle.cadf_join.specs.Contents.{Texts}
 use Rattle.cadf_join.proofs.Walks.{append_nothing}
@@ -29,7 +29,7 @@ module _ {S : Type 0} (takes : S → List Texts → S → Type 0)
     split = append_assoc s.done here rest ∙ ap (λ r. s.done ++ r) (sym e) ∙ s.split;
   }
 
--- a visitor that stops at the rest, or at the first of it, stops while it was to be shown all
+-- a visitor that stops at the rest, or at the first of it, stops in its walk of all lists
 module _ {S F : Type 0} (takes : S → List Texts → S → Type 0) (stops : S → List Texts → F → S → Type 0)
     (later : (u v w : S) (xs ys : List Texts) (f : F) → takes u xs v → stops v ys f w → stops u (xs ++ ys) f w) where
   pub shown_stops : (u v w : S) (rest all : List Texts) (f : F) → Shown takes u v rest all → stops v rest f w → stops u all f w

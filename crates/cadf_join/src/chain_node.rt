@@ -68,7 +68,8 @@ impl Node {
         }
     }
 
-    /// Adds `chain` to those at and below this node, and returns whether it is new. After `Memory` the node is as before.
+    /// Adds `chain` to those at and below this node, and returns whether it is new. After `Memory` the node is as
+    /// before.
     #[cycle(insert)]
     pub(crate) fn insert(&mut self, alloc: Global, chain: &[String]) -> Result<bool, Memory>
         ensures added { IfOk result (λ new. new ≡ not (set.contains self.old (chain_texts chain.now))) }

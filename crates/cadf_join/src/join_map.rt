@@ -1,4 +1,4 @@
-//! A map from texts to values that join.
+//! A map from texts to values of `Join`.
 ghost use Rattle.std.specs.Prelude.{◌≡◌, OnOk, OnErr, IfSome, IsSome};
 ghost use Rattle.std.specs.Option.{option_copied};
 ghost use Rattle.std.specs.FinMap as fin;
@@ -15,8 +15,8 @@ use std::alloc::Global;
 use std::collections::BTreeMap;
 use std::marker::Model;
 
-/// A map from keys to values; maps nest. Its contents are those of each value, each list after its key. No key has an
-/// empty value.
+/// A map from keys to values; maps nest. Its contents are the lists of each value, each after the value's key. No key
+/// has an empty value.
 #[derive(Drop)]
 pub struct JoinMap<V: Join> {
     parts: BTreeMap<String, V>,
@@ -56,7 +56,7 @@ impl<V: Join> JoinMap<V> {
     }
 
     /// Joins a value into that of the key. An empty value changes nothing. After an `Err` the other keys are as before,
-    /// and this one lies between.
+    /// and the value of this one is between its old contents and the union.
     pub fn join_at(&mut self, key: &str, value: &V) -> Result<(), Memory>
         ensures ok { OnOk result (contents_at V.contents self.new ≡ set.union (contents_at V.contents self.old) (under key.now (V.contents value.now))) }
         ensures err { OnErr result (IsBetween (contents_at V.contents self.old) (contents_at V.contents self.new)
@@ -149,8 +149,8 @@ impl<V: Join> JoinMap<V> {
     }
 }
 
-/// Returns what the value has and the other one lacks, or a copy of it if there is no other. `None` if nothing is
-/// missing.
+/// Returns the least value that has what `other` lacks, or a copy of the value if there is no other. `None` if nothing
+/// is missing.
 fn missing_part<V: Join>(part: &V, other: Option<&V>) -> Result<Option<V>, Memory>
     requires { V.contents part.now ≡ set.empty → ⊥ }
     ensures { IfOk result (PartMissing V.contents V.is_contents (Some part.now) (option_copied other.entry)) }

@@ -1,4 +1,4 @@
-//! Sets of lists of texts that join: a set of texts, a map of such sets, and a set of chains.
+//! The trait `Join`, and values that implement it: a set of texts, a map of such values, and a set of chains.
 #![tactic(auto)]
 
 mod chain_node;
@@ -25,8 +25,8 @@ pub type Memory = AllocError;
 
 /// A grow-only set of lists of texts, a join-semilattice: `join` is commutative, associative and idempotent.
 ///
-/// A call returns `Memory` if an allocation failed. What it was to change then lies between what it was and what it was
-/// to be, and the same call may succeed later.
+/// A call returns `Memory` if an allocation failed. The value is then between its old contents and those after an `Ok`,
+/// and the same call may succeed later.
 pub trait Join: Drop {
     /// The lists that a value holds.
     ghost contents: { Self → Contents };
@@ -39,7 +39,7 @@ pub trait Join: Drop {
         ensures ok { OnOk result (contents self.new ≡ set.union (contents self.old) (contents other.now)) }
         ensures err { OnErr result (IsBetween (contents self.old) (contents self.new) (set.union (contents self.old) (contents other.now))) };
 
-    /// Returns the least value that has what `other` lacks. `None` if and only if `other` lacks nothing.
+    /// Returns the least value that has the lists that `other` lacks. `None` if and only if `other` lacks nothing.
     fn missing_from(&self, other: &Self) -> Result<Option<Self>, Memory>
         ensures some { IfOk result (λ part. is_some part ≡ not (set.is_subset (contents self.now) (contents other.now))) }
         ensures least { IfOk result (λ part. IfSome part (λ v. IsLeastWith is_contents
@@ -66,6 +66,6 @@ pub trait Join: Drop {
         ensures { OnOk result (all_texts lists.new.items
             ≡ all_texts lists.old.items ++ continued (chain_texts prefix.now) (set.rising (contents self.now))) };
 
-    /// The contents of each value are among those that are named.
+    /// The contents of each value are of that kind.
     ghost contents_are: { (x : Self) → is_contents (contents x) };
 }

@@ -1,4 +1,4 @@
-//! A value's lists in order, each shown to a visitor without a copy.
+//! A walk over a value's lists in order: each is passed to a visitor without a copy.
 ghost use Rattle.std.specs.Prelude.{◌≡◌, ◌≤◌, ◌++◌, ◌∷◌, [], ℕ, List, OnOk, IfErr, length, take};
 ghost use Rattle.std.specs.declared.alloc.AllocError.{AllocError};
 ghost use Rattle.cadf_join.specs.Contents.{Texts};
@@ -8,19 +8,20 @@ use crate::{Join, Memory};
 
 /// A visitor of lists.
 pub trait Visitor {
-    /// Why it stops: a reason of its own, or `Memory`.
+    /// Why the visitor stops: a reason of its own, or `Memory`.
     type Fault: From<Memory>;
 
-    /// Being shown those lists leads from the one state to the other.
+    /// Visiting these lists leads from the first state to the second.
     ghost takes: { Self → List Texts → Self → Type 0 };
 
-    /// Stopping for that reason, while those lists were to be shown, leads from the one state to the other.
+    /// Stopping for that reason, while these lists were to be visited, leads from the first state to the second.
     ghost stops: { Self → List Texts → Self.Fault → Self → Type 0 };
 
-    /// What the visitor has kept of the previous list is true of the first texts of this list, of that many of them.
+    /// What the visitor keeps of the previous list is valid for the first texts of this list, as many as `shared`
+    /// counts.
     ghost keeps: { Self → ℕ → Texts → Type 0 };
 
-    /// Takes the list, whose first `shared` texts are those of the previous list; 0 for the first list of a walk.
+    /// Visits the list, whose first `shared` texts are those of the previous list; 0 for the first list of a walk.
     fn visit(&mut self, list: &[&str], shared: usize) -> Result<(), Self::Fault>
         requires within { shared ≤ length list.now }
         requires keeps { keeps self.old shared (texts_at list.now) }
@@ -28,33 +29,33 @@ pub trait Visitor {
         ensures err { IfErr result (λ f. stops self.old (texts_at list.now ∷ []) f self.new) }
         ensures keeps { OnOk result (keeps self.new (length list.now) (texts_at list.now)) };
 
-    /// The visitor need not have kept anything for a list that shares nothing.
+    /// Nothing kept has to be valid for a list that shares no texts.
     ghost keeps_none: { (v : Self) (list : Texts) → keeps v 0 list };
 
-    /// What is true of a list is true of the first texts that another shares with it.
+    /// What is valid for a list is valid for the first texts that another list shares with it.
     ghost keeps_shared: { (v : Self) (before list : Texts) (n : ℕ) → keeps v (length before) before → n ≤ length before → n ≤ length list
         → take n before ≡ take n list → keeps v n list };
 
-    /// If no list is shown, the state stays.
+    /// If no list is visited, the state stays the same.
     ghost takes_none: { (v : Self) → takes v [] v };
 
-    /// What is shown in two turns is shown in one.
+    /// Visiting two runs of lists, one after the other, is visiting all of them.
     ghost takes_more: { (u v w : Self) (xs ys : List Texts) → takes u xs v → takes v ys w → takes u (xs ++ ys) w };
 
-    /// Any list may be refused with `Memory` before it is shown.
+    /// Any visit may be refused with `Memory`.
     ghost stops_at_once: { (v : Self) (xs : List Texts) (m : AllocError) (f : Self.Fault) → Self.Fault.from_gives m f → stops v xs f v };
 
-    /// What stops after some lists were shown stops while all were to be shown.
+    /// Stopping in the second of two runs of lists is stopping in both together.
     ghost stops_later: { (u v w : Self) (xs ys : List Texts) (f : Self.Fault) → takes u xs v → stops v ys f w → stops u (xs ++ ys) f w };
 
-    /// What stops before some lists are shown stops while all were to be shown.
+    /// Stopping in the first of two runs of lists is stopping in both together.
     ghost stops_before: { (u v : Self) (xs ys : List Texts) (f : Self.Fault) → stops u xs f v → stops u (xs ++ ys) f v };
 }
 
-/// A value of `Join` whose lists a visitor can be shown.
+/// A value of `Join` whose lists can be walked.
 pub trait Walk: Join {
-    /// Shows each list, after the path, in order, with the number of texts that it shares with the previous list. Stops
-    /// at the visitor's first fault. Copies no text.
+    /// Passes each list, after the path, in order to the visitor, with the number of texts that it shares with the
+    /// previous list. Stops at the visitor's first fault. Copies no text.
     fn walk<'a, S: Visitor>(
         &'a self,
         path: &mut Vec<&'a str>,

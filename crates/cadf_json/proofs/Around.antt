@@ -1,4 +1,4 @@
--- Members that are read around a list whose items are taken in turn.
+-- Members that are read around a list whose items are visited one after another.
 use Rattle.std.proofs.Common.{
   ◌≡◌,
   ℕ,
@@ -34,7 +34,7 @@ use Rattle.cadf_json.proofs.Rewriting.{get-put}
 use Rattle.cadf_json.proofs.Turns.{member_read, members_over}
 use Rattle.cadf_json.proofs.Splits.{put-again, put-swaps}
 
--- the members with the list that was taken, if one was
+-- the members with the list that was visited, if one was
 abbrev pub with_list : List ℕ → Option Items → Members → Members
 with_list name None ms = ms
 with_list name (Some es) ms = put name (array es) ms
@@ -111,7 +111,7 @@ module _ {T : Type 0} (took : T → List Data → Type 0) (name : List ℕ) (p :
   list_put None es found told = sym (put-again name (array es) (array no_items) found)
   list_put (Some fs) es found told = absurd (true≢false (sym told))
 
-  -- the list, whose items are taken in turn
+  -- the list, whose items are visited one after another
   pub around_list : (old mid new : T) (now s r : List Token) (found : Members) → Around took old mid name p start now found false → read_key now
       ≡ Some (Some name, s)
       → (es : Items) × (AreTaken took mid new es × (converted of_json (p s) ≡ Some (array es, r))) → length r < length now

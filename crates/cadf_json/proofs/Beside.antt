@@ -77,7 +77,7 @@ module _ (names : List (List ℕ)) (texts : List (Bor (List ℕ) × String Globa
 pub beside_none : (names : List (List ℕ)) → AreBeside names [] no_members no_members
 beside_none names = record { spelled = tt; rise = tt; away = refl; named = refl }
 
--- a member that is read as a text is put among the others
+-- a member that is read as a text is inserted among the others
 pub around_text : {T : Type 0} (took : T → List Data → Type 0) (name : List ℕ) (names : List (List ℕ)) (p : Parse json.Json) (start : List Token) (old new : T)
     (k : List ℕ) (now s r : List Token) (d : Data) (us ms : Members) (taken : Bool) → Around took old new name p start now (merged us ms) taken
     → is_one_of names name ≡ true → is_one_of names k ≡ false → read_key now ≡ Some (Some k, s) → converted of_json (p s) ≡ Some (d, r)

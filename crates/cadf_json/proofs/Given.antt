@@ -1,4 +1,4 @@
--- What holds of an optional value whenever there is one.
+-- Properties of an optional value, if there is one.
 use Rattle.std.proofs.Common.{Option, Some, None, option_map, option_and_then}
 use Rattle.std.specs.Prelude.{⊤}
 

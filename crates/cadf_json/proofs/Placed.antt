@@ -1,4 +1,4 @@
--- A member that is put in its place.
+-- A member that is inserted at its place.
 use Rattle.std.proofs.Common.{◌≡◌, ℕ, zero, suc, ◌<◌, ◌≤◌, List, [], ◌∷◌, length, get_or, Less, Greater, IsUtf8, refl, ap, arith, nat_cmp}
 use Rattle.std.proofs.lemmas.Cmp.{nat_list_cmp_total}
 use Rattle.std.specs.List.{insert}
@@ -51,7 +51,7 @@ module _ {A : Type 0} where
     depth_insert n xs p m h s.1 all.1,
   )
 
-  -- ---- where a place is found from the end
+  -- ---- a place that is found from the end
 
   below_later : (a : List ℕ) (xs : List (Entry A)) (i : ℕ) (k : List ℕ) (d : Entry A) → RisesFrom a (named_in (members_view xs)) → i < length xs
       → slice_cmp nat_cmp k (name (get_or xs i d)) ≡ Greater → slice_cmp nat_cmp a k ≡ Less

@@ -1,4 +1,4 @@
--- A member that is put twice, and members that are put in either order.
+-- A member that is inserted twice, and members that are inserted in either order.
 use Rattle.std.proofs.Common.{◌≡◌, ℕ, List, false, is_eq, Ordering, Less, Equal, Greater, nat_cmp, refl, sym, ap, ◌∙◌}
 use Rattle.std.proofs.lemmas.Bool.{or_parts}
 use Rattle.std.proofs.lemmas.Cmp.{nat_list_cmp_total}
@@ -99,7 +99,7 @@ pub put-swaps : (k n : List ℕ) (d e : Data) (ms : Members) → (k ≡ n → �
 put-swaps k n d e no_members apart = swaps_none _ k n d e refl apart
 put-swaps k n d e (member l f ms) apart = swaps_at k n l d e f ms _ _ refl refl apart (put-swaps k n d e ms apart)
 
--- ---- what is put has no fraction
+-- ---- an inserted member has no fraction
 
 float-put_at : (o : Ordering) (k l : List ℕ) (d e : Data) (ms : Members) → has_float d ≡ false → has_float e ≡ false → members_have_float ms ≡ false
     → members_have_float (put k d ms) ≡ false

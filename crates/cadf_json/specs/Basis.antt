@@ -1,4 +1,4 @@
--- What a part belongs to: an owned value, or a tree that borrows its text.
+-- The value of which a view borrows a part: an owned value, or a tree that borrows its text.
 use Rattle.serde_json.specs.Data.{Data}
 use Rattle.serde_json.specs.View.{view}
 use Rattle.cadf_json.specs.declared.view.Basis.{Basis}

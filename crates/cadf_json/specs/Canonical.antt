@@ -21,22 +21,22 @@ IsCanonicalWithin n s = (d : Data) × IsValue d × (depth d ≤ n) × (s ≡ tex
 abbrev pub IsOrdered : ℕ → List Token → List Token → Type 0
 IsOrdered depth ts rest = (j : json.Json) × (value depth ts ≡ Some (j, rest)) × IsNormalized j
 
--- they begin with no such value
+-- the tokens begin with no such value
 abbrev pub IsUnordered : ℕ → List Token → Type 0
 IsUnordered depth ts = (j : json.Json) (rest : List Token) → value depth ts ≡ Some (j, rest) → ¬ IsNormalized j
 
--- they begin with such items, up to the closing bracket
+-- the tokens begin with such items, up to the closing bracket
 abbrev pub AreItemsOrdered : ℕ → List Token → List Token → Type 0
 AreItemsOrdered depth ts rest = (js : json.Items) × (items (value depth) (length ts) ts ≡ Some (js, rest)) × ItemsAreNormalized js
 
 abbrev pub AreItemsUnordered : ℕ → List Token → Type 0
 AreItemsUnordered depth ts = (js : json.Items) (rest : List Token) → items (value depth) (length ts) ts ≡ Some (js, rest) → ¬ ItemsAreNormalized js
 
--- the values of members are such, and their names are strictly ascending
+-- the values of the members are such, and their names are strictly ascending
 abbrev pub MembersRise : json.Members → Type 0
 MembersRise ms = MembersAreNormalized ms × Rises (named_in ms)
 
--- they begin with such members, up to the closing brace
+-- the tokens begin with such members, up to the closing brace
 abbrev pub AreMembersOrdered : ℕ → List Token → List Token → Type 0
 AreMembersOrdered depth ts rest = (ms : json.Members) × (members (value depth) (length ts) ts ≡ Some (ms, rest)) × MembersRise ms
 
@@ -96,7 +96,7 @@ is_text s (Some (string t)) = bytes_eq t s
 is_text s (Some (array ds)) = false
 is_text s (Some (object ms)) = false
 
--- for members that nest at most 126 deep: whether they have this text at that name
+-- for members that nest at most 126 deep: whether the member at that name is this text
 abbrev pub FindsText : List ℕ → List ℕ → List Token → Bool → Type 0
 FindsText expected name ts found =
     (ms : Members) (rest : List Token) → members_depth ms ≤ 126 → ts ≡ members_tokens (members_outline ms) ++ rest

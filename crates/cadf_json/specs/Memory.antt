@@ -14,7 +14,7 @@ memory_reads s = s.reads
 abbrev pub memory_read_failures : MemorySource → ℕ
 memory_read_failures s = s.failures
 
--- the greatest number of bytes that a read gives
+-- the greatest number of bytes that a read returns
 abbrev pub source_piece : MemorySource → ℕ
 source_piece s = s.piece
 
@@ -34,7 +34,7 @@ memory_writes s = s.writes
 abbrev pub memory_write_failures : MemorySink → ℕ
 memory_write_failures s = s.failures
 
--- the greatest number of bytes that a write takes
+-- the greatest number of bytes that a write accepts
 abbrev pub sink_piece : MemorySink → ℕ
 sink_piece s = s.piece
 
@@ -47,7 +47,7 @@ refuses_at Never n = false
 refuses_at (Refuses k) n = k == n
 refuses_at (TakesNothing k) n = false
 
--- write number n takes nothing
+-- write number n writes nothing
 abbrev pub takes_nothing_at : FailingWrite → ℕ → Bool
 takes_nothing_at Never n = false
 takes_nothing_at (Refuses k) n = false

@@ -1,4 +1,4 @@
--- Values that are skipped, of which nothing is kept: where they end, and whether a number that counts has a fraction.
+-- Values that are skipped without being kept: their ends, and whether a number that counts has a fraction.
 use Rattle.std.specs.Prelude.{◌≡◌, ℕ, List, length, Bool, true, false, Option, Some, None, option_map, IsUtf8}
 use Rattle.json.specs.Token.{Token}
 use Rattle.json.specs.Json.{value, items, members}

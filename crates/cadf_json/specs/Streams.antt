@@ -33,7 +33,7 @@ use Rattle.cadf_json.specs.declared.transfer.ReadLimitFault.TheVariants.{TooLarg
 use Rattle.cadf_json.specs.declared.transfer.OutFault.{OutFault}
 use Rattle.cadf_json.specs.declared.transfer.OutFault.TheVariants.{WriteFault, Memory as OutOfMemory}
 
--- a count of 64 bits, which stays at its greatest value
+-- a count of 64 bits, at most its greatest value
 abbrev pub one_more : ℕ → ℕ
 one_more n = min (n + 1) (2 ^ 64 - 1)
 
@@ -41,7 +41,7 @@ one_more n = min (n + 1) (2 ^ 64 - 1)
 abbrev pub counted : Bool → ℕ → ℕ
 counted failed n = if failed then one_more n else n
 
--- the write returned an error, or took nothing of a piece that has bytes
+-- the write returned an error, or wrote nothing of a piece that has bytes
 abbrev pub write_fails : {E : Type 0} → Result ℕ E → List ℕ → Bool
 write_fails (Ok n) bytes = (n == 0) && nat_lt 0 (length bytes)
 write_fails (Err e) bytes = true
@@ -71,14 +71,14 @@ ConsumesWithin old new start n = (bytes : List ℕ) × Consumes old new bytes ×
 abbrev pub AppendsPrefix : Option (List ℕ) → Option (List ℕ) → List ℕ → Type 0
 AppendsPrefix old new bytes = (n : ℕ) × Appends old new (take n bytes)
 
--- the source was not read whole, since a read failed
+-- the source was not read to its end, since a read failed
 abbrev pub is_read_fault : {T : Type 0} → Result T ReadLimitFault → Bool
 is_read_fault (Ok v) = false
 is_read_fault (Err TooLarge) = false
 is_read_fault (Err ReadFault) = true
 is_read_fault (Err Memory) = false
 
--- the text was not written whole, since a write failed
+-- the text was not written in full, since a write failed
 abbrev pub is_write_fault : {T : Type 0} → Result T OutFault → Bool
 is_write_fault (Ok v) = false
 is_write_fault (Err WriteFault) = true

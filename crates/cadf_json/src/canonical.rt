@@ -102,7 +102,7 @@ pub(crate) fn is_above(last: Option<&str>, name: &str) -> bool
     }
 }
 
-/// Returns whether the text is what its tokens are written as: without blanks, and with canonical escapes.
+/// Returns whether the text is exactly what its tokens are encoded as: without whitespace, and with canonical escapes.
 fn is_respelled(alloc: Global, scratch: &mut Scratch, text: &str) -> Result<bool, Memory>
     ensures yes { IfOk result (λ b. b ≡ true → text.now ≡ print (tokens text.now)) }
     ensures no { IfOk result (λ b. b ≡ false → ArePrintable (tokens text.now) → text.now ≢ print (tokens text.now)) }

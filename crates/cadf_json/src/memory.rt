@@ -1,4 +1,4 @@
-//! Sources and sinks in memory, for tests. They move bytes in pieces, and fail when asked to.
+//! Sources and sinks in memory, for tests. They transfer bytes in pieces, and can be made to fail.
 ghost use Rattle.std.specs.Prelude.{◌≡◌, ◌<◌, ◌≤◌, ◌-◌, ◌^◌, ◌==◌, if◌then◌else◌, true, false, [], Some, IfOk, IfSome, is_err, is_some, length, min, take};
 ghost use Rattle.std.specs.Borrow.{sem};
 ghost use Rattle.std.specs.Io.{ReadsAtMost, WritesAtMost};
@@ -24,7 +24,7 @@ pub struct MemorySource<'b> {
 impl<'b> MemorySource<'b> {
     ghost use Rattle.cadf_json.specs.Memory.{memory_left, memory_reads, memory_read_failures, source_piece, failing_read_of, can_be_borrowed};
 
-    /// Makes a source whose reads give at most `piece` bytes each. Read number `failing_read`, from 1, fails; with 0
+    /// Makes a source whose reads return at most `piece` bytes each. Read number `failing_read`, from 1, fails; with 0
     /// none does. Its bytes can't be borrowed.
     pub fn new(bytes: &'b [u8], piece: usize, failing_read: u64) -> MemorySource<'b>
         requires { 0 < piece }
@@ -119,13 +119,13 @@ impl<'b> Source for MemorySource<'b> {
     }
 }
 
-/// What a sink in memory does at one of its writes.
+/// The behaviour of a sink in memory at one of its writes.
 #[derive(Clone, Copy, Drop)]
 pub enum FailingWrite {
     Never,
     /// The write of this number returns an error.
     Refuses(u64),
-    /// The write of this number takes nothing.
+    /// The write of this number writes nothing.
     TakesNothing(u64),
 }
 
@@ -143,7 +143,7 @@ pub struct MemorySink {
 impl MemorySink {
     ghost use Rattle.cadf_json.specs.Memory.{memory_written, memory_writes, memory_write_failures, sink_piece, failing_write_of};
 
-    /// Makes an empty sink, each write of which takes at most `piece` bytes.
+    /// Makes an empty sink that accepts at most `piece` bytes at each write.
     pub fn new(alloc: Global, piece: usize, failing_write: FailingWrite) -> MemorySink
         requires { 0 < piece }
         ensures bytes { memory_written result ≡ [] }

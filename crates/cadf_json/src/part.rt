@@ -18,8 +18,8 @@ use json::{Value, Writer, to_vec};
 use std::alloc::Global;
 use std::marker::Model;
 
-/// Most bodies of events are shorter: their texts are written without reallocation, and then copied at their exact
-/// length.
+/// The initial capacity for a canonical text. Most bodies of events are shorter: their texts are written without
+/// reallocation, and then copied at their exact length.
 const ORDINARY: usize = 1000;
 
 /// A part of a `Tree`.
@@ -53,7 +53,7 @@ impl<'v, 'a> Part<'v, 'a> {
         Part { value }
     }
 
-    /// Returns the text, or `None` if the part is none.
+    /// Returns the text, or `None` if the part is no text.
     pub(crate) fn as_text(&self) -> Option<&'a str>
         ensures { option_map (λ s. s.now) result ≡ as_str self.now }
     {
@@ -63,21 +63,21 @@ impl<'v, 'a> Part<'v, 'a> {
         }
     }
 
-    /// Returns whether it is `null`; an absent member is no part at all.
+    /// Returns whether the part is `null`. An absent member is no part at all.
     pub(crate) fn is_null(&self) -> bool
         ensures { result ≡ is_some (as_null self.now) }
     {
         matches!(self.value, Value::Null)
     }
 
-    /// Returns whether it is an object, which may be empty.
+    /// Returns whether the part is an object, which may be empty.
     pub(crate) fn is_object(&self) -> bool
         ensures { result ≡ is_object self.now }
     {
         matches!(self.value, Value::Object(_))
     }
 
-    /// Returns whether it is a list, which may be empty.
+    /// Returns whether the part is a list, which may be empty.
     pub(crate) fn is_list(&self) -> bool
         ensures { result ≡ is_some (as_array self.now) }
     {
@@ -199,7 +199,7 @@ impl<'v, 'a> Part<'v, 'a> {
     }
 }
 
-// Returns the item, or the value of the member, at `index`. `None` past the last, and for a scalar.
+/// Returns the item, or the value of the member, at `index`. `None` past the last, and for a scalar.
 fn part_at<'v, 'a>(value: &'v Value<'a>, index: usize) -> Option<&'v Value<'a>>
     requires { IsNormalizedWithin 127 (value_view value.now) }
     ensures part { option_map (λ v. data_in (value_view v.now)) result
@@ -213,7 +213,7 @@ fn part_at<'v, 'a>(value: &'v Value<'a>, index: usize) -> Option<&'v Value<'a>>
     }
 }
 
-// Returns the value of the member `name`, or `None` if there is none.
+/// Returns the value of the member `name`, or `None` if there is none.
 fn part_named<'v, 'a>(value: &'v Value<'a>, name: &str) -> Option<&'v Value<'a>>
     requires { IsNormalizedWithin 127 (value_view value.now) }
     ensures part { option_map (λ v. data_in (value_view v.now)) result

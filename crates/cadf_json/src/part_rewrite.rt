@@ -13,7 +13,7 @@ use crate::Memory;
 use crate::rewrite::is_listed;
 use json::{Value, Writer};
 
-// Writes one member, unless its name is in `left_out`. The tokens of the members after it may be any.
+/// Writes one member, unless its name is in `left_out`. The tokens of the members after it may be any.
 fn write_member(
     writer: &mut Writer,
     key: &str,
@@ -41,7 +41,7 @@ fn write_member(
     Ok(())
 }
 
-// Writes the members that stay, then the closing brace.
+/// Writes the members that are not omitted, then the closing brace.
 fn write_members(
     writer: &mut Writer,
     members: &Vec<(&str, Value<'_>)>,
@@ -61,7 +61,7 @@ fn write_members(
     Ok(())
 }
 
-/// Writes the object with the members that stay. Anything else counts as an object without members. `Memory` if an
+/// Writes the object without the omitted members. Anything else counts as an object without members. `Memory` if an
 /// allocation fails.
 pub(crate) fn write_object(
     writer: &mut Writer,

@@ -8,7 +8,7 @@ ghost use Rattle.cadf_json.specs.Place.{IsPlace};
 use json::Value;
 use std::cmp::Ordering;
 
-// How many members may follow the place: further ones would be moved too often.
+/// Bounds the members after the place: more of them would be moved too often.
 const REACH: usize = 64;
 
 /// Finds the place of `name`. `None` if a member has that name, or if more than 64 members would be moved.

@@ -13,13 +13,13 @@ use json::{Reader, Token, Value};
 use std::alloc::{AllocFailed, Global};
 use thiserror::Error;
 
-/// A vector that has grown has room for at least four.
+/// Vectors of at most this many items are shrunk: a vector that has grown has capacity for at least four.
 const FEW: usize = 2;
 
 /// Why a text has no tree.
 #[derive(Clone, Copy, Debug, Drop, PartialEq, Eq, Error)]
 pub enum TreeFault {
-    /// The streaming parser can't decide what the text is; use the full parser.
+    /// The streaming parser can't decide about the text; use the full parser.
     #[error("not plain")]
     NeedsFullParse,
     /// An allocation failed.

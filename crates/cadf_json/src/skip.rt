@@ -15,8 +15,8 @@ use json::{Reader, Scratch, Token};
 use serde_json::Value;
 use std::alloc::Global;
 
-// Skips the next value and returns whether a number that counts has a fraction. Lists and objects may nest `depth`
-// deep. Of two members with the same name the later one counts.
+/// Skips the next value and returns whether a number that counts has a fraction. Lists and objects may nest `depth`
+/// deep. Of two members with the same name the later one counts.
 #[cycle(skip_any)]
 fn skip_any(alloc: Global, reader: &mut Reader<'_>, depth: usize) -> Result<bool, TreeFault>
     ensures ok { IfOk result (IsPassed depth reader.old reader.new) }
@@ -85,8 +85,8 @@ fn skip_members<'a>(alloc: Global, reader: &mut Reader<'a>, depth: usize) -> Res
     }
 }
 
-// Returns the name of a member with a fraction, after the member `name` was added. `NeedsFullParse` if that member has
-// none, and replaces the one that has.
+/// Returns the name of a member with a fraction, after the member `name` was added. `NeedsFullParse` if that member has
+/// none, and replaces the one that has.
 fn counted_with<'a>(
     counted: Option<&'a str>,
     name: &'a str,
@@ -107,7 +107,7 @@ fn counted_with<'a>(
     Ok(Some(other))
 }
 
-// Returns whether the number has a fraction, or is out of range. `NeedsFullParse` if it has no value.
+/// Returns whether the number has a fraction, or is out of range. `NeedsFullParse` if it has no value.
 pub(crate) fn is_fraction(alloc: Global, text: &str) -> Result<bool, TreeFault>
     requires { IsNumber text.now }
     ensures { IfOk result (IsNumberPassed text.now) }
@@ -122,7 +122,7 @@ pub(crate) fn is_fraction(alloc: Global, text: &str) -> Result<bool, TreeFault>
     }
 }
 
-/// Checks that the whole text is a list, and keeps nothing of it. `NeedsFullParse` for any other text, and for a list
+/// Checks that the whole text is a list, without keeping any of it. `NeedsFullParse` for any other text, and for a list
 /// with a number that isn't written as a whole one.
 pub fn check_list(alloc: Global, text: &str) -> Result<(), TreeFault>
     ensures { OnOk result (SpellsList text.now) }
@@ -141,8 +141,8 @@ pub fn check_list(alloc: Global, text: &str) -> Result<(), TreeFault>
     Ok(())
 }
 
-/// Returns whether a number that counts isn't whole in the value that the text spells, and keeps nothing of it. `None`:
-/// this parser can't decide, or the text spells no value.
+/// Returns whether, in the value that the text spells, a number that counts isn't whole. Keeps nothing of the value.
+/// `None`: this parser can't decide, or the text spells no value.
 pub fn find_fraction(alloc: Global, text: &str) -> Result<Option<bool>, Memory>
     ensures { IfOk result (λ found. IfSome found (λ fraction. IsValueWith fraction text.now)) }
 {

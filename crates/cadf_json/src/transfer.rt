@@ -1,4 +1,4 @@
-//! Functions that read a source to its end, and write a whole text.
+//! Functions that read a source to its end, and write a text in full.
 ghost use Rattle.std.specs.Prelude.{◌≡◌, ◌≤◌, ◌+◌, ◌-◌, ◌<◌, ◌^◌, length, IfOk, OnOk, OnErr, is_err};
 ghost use Rattle.std.specs.Io.KnownBytes.{Consumes, Appends, IsAtEnd};
 ghost use Rattle.cadf_json.specs.Streams.{counted, ConsumesAtMost, ConsumesExactly, ConsumesAfter, ConsumesWithin, AppendsPrefix, is_read_fault};
@@ -8,7 +8,7 @@ use crate::stream::{Failed, Sink, Source};
 use std::alloc::Global;
 use thiserror::Error;
 
-// The number of bytes that one read asks for.
+/// The number of bytes that one read asks for.
 const PIECE: usize = 4096;
 
 /// Why a source was not read to its end.
@@ -25,7 +25,7 @@ pub enum ReadLimitFault {
     Memory,
 }
 
-/// Why a text was not written whole.
+/// Why a text was not written in full.
 #[derive(Clone, Copy, Debug, Drop, PartialEq, Eq, Error)]
 pub enum OutFault {
     /// A write failed.
@@ -121,7 +121,7 @@ pub fn read_rest<S: Source>(
     Err(ReadLimitFault::TooLarge)
 }
 
-/// Writes all the bytes. `Err`: a write failed or took nothing, after a prefix was written.
+/// Writes all the bytes. `Err`: a write failed or wrote nothing, after a prefix was written.
 pub fn write_all<S: Sink>(sink: &mut S, bytes: &[u8]) -> Result<(), Failed>
     ensures bytes { OnOk result (Appends (S.written sink.old) (S.written sink.new) bytes.now) }
     ensures front { OnErr result

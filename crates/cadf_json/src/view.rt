@@ -16,7 +16,7 @@ use serde_json::Value;
 use std::alloc::Global;
 use std::marker::Model;
 
-/// What a part belongs to.
+/// The value of which a view borrows a part.
 #[derive(Drop)]
 pub(crate) enum Basis<'v, 'a> {
     /// An owned value.
@@ -68,7 +68,7 @@ impl<'v, 'a> View<'v, 'a> {
         }
     }
 
-    /// Returns the text, or `None` if the part is none.
+    /// Returns the text, or `None` if the part is no text.
     pub fn as_text(&self) -> Option<&'v str>
         ensures { option_map (λ s. s.now) result ≡ as_str self.now }
     {
@@ -78,7 +78,7 @@ impl<'v, 'a> View<'v, 'a> {
         }
     }
 
-    /// Returns whether it is `null`; an absent member is no part at all.
+    /// Returns whether the part is `null`. An absent member is no part at all.
     pub fn is_null(&self) -> bool
         ensures { result ≡ is_some (as_null self.now) }
     {
@@ -88,7 +88,7 @@ impl<'v, 'a> View<'v, 'a> {
         }
     }
 
-    /// Returns whether it is an object, which may be empty.
+    /// Returns whether the part is an object, which may be empty.
     pub fn is_object(&self) -> bool
         ensures { result ≡ is_object self.now }
     {
@@ -98,7 +98,7 @@ impl<'v, 'a> View<'v, 'a> {
         }
     }
 
-    /// Returns whether it is a list, which may be empty.
+    /// Returns whether the part is a list, which may be empty.
     pub fn is_list(&self) -> bool
         ensures { result ≡ is_some (as_array self.now) }
     {

@@ -1,4 +1,4 @@
--- A list above the last of rising lists is above each of them.
+-- A list above the last of ascending lists is above each of them.
 use Rattle.std.proofs.Common.{◌≡◌, true, List, [], ◌∷◌, refl, sym, ap, ◌∙◌, subst, inl, inr}
 use mathlib.Core.Bool.{true≢false}
 use Rattle.std.specs.declared.cmp.Ordering.{Ordering}

@@ -46,7 +46,7 @@ agree_through i j a b c h k =
 pub agree_turned : (i : ℕ) (a b : Texts) → Agree i a b → Agree i b a
 agree_turned i a b h = record { ours = h.theirs; theirs = h.ours; same = sym h.same }
 
--- where they part
+-- at the text at which they diverge
 pub parted : (i : ℕ) (a b : Texts) (r : Ordering) → Agree i a b → i < length a → i < length b → text_cmp (get_or a i []) (get_or b i []) ≡ r
     → (r ≡ Equal → ⊥) → (texts_cmp a b ≡ r) × (shared a b ≡ i)
 parted i [] b r h l m e n = absurd (omega (arith, l))
@@ -60,7 +60,7 @@ parted (suc i) (t ∷ a) (u ∷ b) r h l m e n =
     let many = rest.1 in
     (ap (λ z. ordering_then z (texts_cmp a b)) first ∙ rest.0, ap (λ z. match_ordering z 0 (shared a b + 1) 0) first ∙ omega (arith, many))
 
--- where one of them ends
+-- if one of them ends
 pub ended : (i : ℕ) (a b : Texts) → Agree i a b → min (length a) (length b) ≤ i → (texts_cmp a b ≡ nat_cmp (length a) (length b)) × (shared a b ≡ i)
 ended zero [] [] h l = (nat_cmp_is 0 0 Equal refl, refl)
 ended zero [] (u ∷ b) h l = (nat_cmp_is 0 (length (u ∷ b)) Less (omega arith), refl)
@@ -88,7 +88,7 @@ not_itself t e = equal_not (sym (tied_itself text_total t) ∙ e)
 not_both : (t u : Text) → text_cmp t u ≡ Less → text_cmp u t ≡ Less → ⊥
 not_both t u e f = not_itself t (text_total.trans t u t e f)
 
--- what lies between two lists begins as both do
+-- a list between two lists has their common prefix
 pub between : (n : ℕ) (a x b : Texts) → Agree n a b → texts_cmp a x ≡ Less → texts_cmp x b ≡ Less → Agree n a x
 between zero a x b h l m = record { ours = omega arith; theirs = omega arith; same = refl }
 between (suc n) [] x b h l m = let k = h.ours in absurd (omega (arith, k))

@@ -1,4 +1,4 @@
--- What nodes stand for, one by one and when one is put.
+-- The lists of the nodes of an arena, one by one and after a node is appended.
 use Rattle.std.proofs.Common.{◌≡◌, ℕ, ◌+◌, ◌-◌, ◌<◌, ◌≤◌, List, [], ◌∷◌, ◌++◌, refl, sym, ap, ◌∙◌, suc, zero, length, get_or, arith}
 use Rattle.std.proofs.lemmas.List.{length_push, get_or_append_left, get_or_push, get_or_read}
 use Rattle.cadf_join.specs.Contents.{Text, Texts}

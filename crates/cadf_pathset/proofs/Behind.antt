@@ -1,4 +1,4 @@
--- What stands behind a text in rising lists, and their first texts.
+-- The suffixes after a text in ascending lists, and the first texts of the lists.
 use Rattle.std.proofs.Common.{
   ◌≡◌,
   ℕ,

@@ -1,4 +1,4 @@
--- What halving finds of a list.
+-- The result of a binary search in a list.
 use Rattle.std.proofs.Common.{◌≡◌, ℕ, Bool, true, false, ◌+◌, ◌-◌, ◌<◌, ◌≤◌, min, suc, zero, List, [], refl, sym, ap, ◌∙◌, length, take, drop, get_or, arith}
 use mathlib.Core.Bool.{true≢false}
 use Rattle.std.specs.declared.cmp.Ordering.{Ordering}
@@ -65,7 +65,7 @@ module _ (q : Texts) (xs : List Texts) (s : IsStrictlySortedBy texts_cmp xs) (i 
   pub from_here : b ≡ false → (k : ℕ) → j ≤ k → k < length xs → is_before q false (get_or xs k []) ≡ false
   from_here t = none_before xs s q false j fits (not_lower (get_or xs j []) q r b h t e)
 
--- what the lists at both ends share with a list, each between them shares
+-- each list between two bounds shares with a list the texts that the lists at both bounds share with it
 pub known_between : (q : Texts) (xs : List Texts) → IsStrictlySortedBy texts_cmp xs → (low high middle front back known : ℕ)
     → (0 < front → (0 < low) × Agree front (get_or xs (low - 1) []) q) → (0 < back → (high < length xs) × Agree back (get_or xs high []) q)
     → low ≤ middle → middle < high → known ≡ min front back → Agree known (get_or xs middle []) q

@@ -1,4 +1,4 @@
--- The carriers of rising lists rise, and are those of the set.
+-- The carriers of strictly ascending lists, each once, are strictly ascending, and are those of the set.
 use Rattle.std.proofs.Common.{◌≡◌, Bool, true, false, cond, List, [], ◌∷◌, ◌++◌, refl, sym, ap, ◌∙◌, subst, inl, inr, ◌⊎◌, map}
 use mathlib.Core.Bool.{true≢false}
 use Rattle.std.specs.declared.cmp.Ordering.{Ordering}
@@ -37,7 +37,7 @@ pub last-more : (p : Texts) (xs : List Texts) (x : Texts) → last_of p (xs ++ x
 last-more p [] x = refl
 last-more p (y ∷ xs) x = last-more y xs x
 
--- nothing that comes is below the last that was found
+-- no further carrier is below the last one found
 abbrev pub IsNotBelow : (Texts → Texts) → List Texts → List Texts → Type 0
 IsNotBelow carrier found ls = AllByRecursion (λ x. texts_cmp (last_of [] found) (carrier x) ≡ Greater → ⊥) ls
 

@@ -1,4 +1,4 @@
--- The first texts of rising lists, each once, from some list on.
+-- The first texts of strictly ascending lists, each once, from some list on.
 --     children ls    the first texts of the lists, each once, in order
 use Rattle.std.proofs.Common.{
   ◌≡◌,
@@ -63,7 +63,7 @@ module _ (t : Text) where
   itself : (more : _) (c : Texts) → is_before (t ∷ []) more (t ∷ c) ≡ more
   itself more c = ap (λ r. match_ordering (match_ordering r Less Equal Greater) true more false) (tied_itself text_total t)
 
-  -- the list that it was taken of
+  -- the list of which it is the first text
   pub begins_before : (l : Texts) → first_text l ≡ Some t → is_before (t ∷ []) true l ≡ true
   begins_before [] e = absurd (none_is_not_some t e)
   begins_before (u ∷ c) e = ap (λ z. is_before (t ∷ []) true (z ∷ c)) (some_is u t e) ∙ itself true c

@@ -41,7 +41,7 @@ text_up a l i fits front =
     let e : (i + 1) - 1 ≡ i = omega arith in
     last_front a l (i + 1) (omega arith) (omega (arith, fits)) front ∙ ap (λ k. get_or a k []) e
 
--- the order once both are known to share what was not looked at
+-- the order, once both are known to share the texts that were not compared
 pub cmp_known : (a b l : Texts) (d known : ℕ) (found r : Ordering) → l ≡ take d a → Agree known a b → d ≤ known
     → r ≡ ordering_then (texts_cmp l (take d b)) found → found ≡ r
 cmp_known a b l d known found r front g less h = sym (cmp_same r found l (take d b) (front ∙ (agree_less known d a b less g).same) h)

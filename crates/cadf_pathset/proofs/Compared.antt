@@ -51,7 +51,7 @@ cut_path p q n l e h =
     let k : n ≡ length q = omega (arith, a, b, m, f) in
     ap texts_at e ∙ sym (take-map (λ t. t.now) n p) ∙ h.same ∙ ap (λ j. take j l) k
 
--- the same of two lists, of which one tells its length
+-- the same of two lists, if the length of one is known
 module _ (l q : Texts) (len : ℕ) (long : length q ≡ len) (i : ℕ) (k : Agree i l q) where
   module _ (b : i < length l) (d : i < len) (t u : Text) (r : Ordering) (ours : t ≡ get_or l i []) (theirs : u ≡ get_or q i []) (is : r ≡ text_cmp t u) where
     text_here : text_cmp (get_or l i []) (get_or q i []) ≡ r

@@ -1,4 +1,4 @@
--- What lists share that are gone over and copied.
+-- The texts that lists share which are visited and copied.
 use Rattle.std.proofs.Common.{◌≡◌, ℕ, Bool, true, false, cond, ◌≤◌, ◌<◌, ◌-◌, nat_eq, get_or, List, [], ◌∷◌, ◌++◌, refl, sym, ap, ◌∙◌, subst, suc, zero, length, min, map, take, arith}
 use Rattle.std.proofs.lemmas.List.{append_assoc}
 use Rattle.std.proofs.lemmas.Bool.Decides.{nat_tests}
@@ -21,7 +21,7 @@ pub stepped_ahead : (more : Bool) (a b : Place) (n m : ℕ) → Steps more a b n
 stepped_ahead true a b n m h = sym h.0
 stepped_ahead false a b n m h = sym h.0
 
--- what a list shares with another, and the next list with it
+-- the texts that a list shares with another, and the next list with it
 pub advanced_agrees : (n s m : ℕ) (q a b : Texts) → Agree n q a → s ≡ shared b a → m ≡ min n s → Agree m q b
 advanced_agrees n s m q a b h e f =
     agree_less (min n (shared b a)) m q b (omega (arith, e, f))
@@ -31,7 +31,7 @@ pub stepped_agrees : (more : Bool) (a b : Place) (n m : ℕ) (q : Texts) → Ste
 stepped_agrees true a b n m q h k = agree_turned m q b.0 (advanced_agrees n (shared b.0 a.0) m q a.0 b.0 (agree_turned n a.0 q k) refl h.1)
 stepped_agrees false a b n m q h k = subst (λ p. Agree m p.0 q) (sym h.1) (subst (λ j. Agree j a.0 q) (sym h.2) k)
 
--- the last of some lists is the one that was put
+-- the last of some lists is the one appended
 pub last_agrees : (xs now : List Texts) (p q : Texts) (n : ℕ) → now ≡ xs ++ p ∷ [] → q ≡ p → n ≡ length q → Agree n (last_of [] now) q
 last_agrees xs now p q n put same long =
     subst (λ z. Agree n z q) (same ∙ sym (ap (last_of []) put ∙ last-more [] xs p))
@@ -77,7 +77,7 @@ front_place ls ns ms k m h e cut =
     ap (place ls) cut ∙ place_of ls (take k ns) (take k (place ls ns)) (line_cut ls ns (place ls ns) h k)
     ∙ take_least k m (place ls ns) (omega (arith, e, long))
 
--- one flag more
+-- one further flag
 pub chosen_on : (acc : List Texts) (bs : List Bool) (b : Bool) (l : Texts) (ls total : List Texts) → acc ++ chosen_of (b ∷ bs) (l ∷ ls) ≡ total
     → (b ≡ true → (acc ++ l ∷ []) ++ chosen_of bs ls ≡ total) × (b ≡ false → acc ++ chosen_of bs ls ≡ total)
 chosen_on acc bs b l ls total h = (
@@ -89,7 +89,7 @@ pub chosen_none : (bs : List Bool) → chosen_of bs [] ≡ []
 chosen_none [] = refl
 chosen_none (b ∷ bs) = refl
 
--- flags that a test gives
+-- the flags that a test returns
 pub chosen_by : (test : Texts → Bool) (ls : List Texts) → chosen_of (map test ls) ls ≡ filter test ls
 chosen_by test [] = refl
 chosen_by test (l ∷ ls) = ap (λ z. cond (test l) (l ∷ z) z) (chosen_by test ls)
@@ -113,7 +113,7 @@ agree_at n p q a b h e f = subst (λ z. Agree n a z) f (subst (λ z. Agree n z q
 pub order_at : (p q a b : Texts) (r s : Ordering) → p ≡ a → q ≡ b → r ≡ texts_cmp p q → r ≡ s → texts_cmp a b ≡ s
 order_at p q a b r s e f o is = (λ i. texts_cmp (sym e i) (sym f i)) ∙ sym o ∙ is
 
--- the turns of a difference
+-- the steps of a difference
 module _ (acc total : List Texts) (more others : Bool) (a b : Place) (is : more ≡ true) (are : others ≡ true)
     (h : acc ++ sorted_without texts_cmp (ahead more a) (ahead others b) ≡ total) where
   turn : (r : Ordering) → texts_cmp a.0 b.0 ≡ r → acc ++ match_ordering r (a.0 ∷ sorted_without texts_cmp a.1 (b.0 ∷ b.1)) (sorted_without texts_cmp a.1 b.1)

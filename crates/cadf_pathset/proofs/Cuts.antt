@@ -1,4 +1,4 @@
--- Texts one after another: one of them, one more, and the first of them.
+-- Texts one after another in a block: one of them, a further one, and the first of them.
 use Rattle.std.proofs.Common.{◌≡◌, ℕ, ◌+◌, ◌-◌, ◌<◌, ◌≤◌, List, [], ◌∷◌, ◌++◌, refl, sym, ap, ◌∙◌, subst, suc, zero, length, take, drop, get_or, arith}
 use Rattle.std.proofs.lemmas.List.{drop-drop, drop-take, length-take, length-drop, take-append-le, drop-append-le, take-take, take_all}
 use Rattle.std.proofs.lemmas.Str.{IsUtf8-drop, IsUtf8-take, IsCharBoundary-start, IsCharBoundary-end, IsCharBoundary-from_rest, IsCharBoundary-from_take}
@@ -55,7 +55,7 @@ text_cut s (e ∷ es) bs (suc n) u h l =
     text_cut e es (drop (e - s) bs) n v h.2 (omega (arith, l))
     ∙ ap (take (get_or es n 0 - a)) (drop-drop (a - e) (e - s) bs ∙ ap (λ j. drop j bs) whole)
 
--- one more
+-- a further text
 module _ (t : List ℕ) (e : ℕ) where
   ends_more : (s : ℕ) (es bs : List ℕ) → IsUtf8 bs → IsUtf8 (bs ++ t) → AreEnds s es bs → e ≡ s + (length bs + length t) → AreEnds s (es ++ e ∷ []) (bs ++ t)
   ends_more s [] bs u v h is =

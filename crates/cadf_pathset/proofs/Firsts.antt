@@ -1,4 +1,4 @@
--- The members of a set that come after one, told from a list of them that does not fall.
+-- The members of a set after a given one, from an ascending list of them that may have duplicates.
 use Rattle.std.proofs.Common.{◌≡◌, Bool, true, false, cond, List, [], ◌∷◌, Option, Some, None, refl, sym, ap, ◌∙◌, subst, length, ◌||◌, le-leb, arith, inl, inr}
 use mathlib.Core.Bool.{true≢false}
 use Rattle.std.specs.Prelude.{nat_le, is_some}
@@ -56,7 +56,7 @@ module _ {K : Type 0} {R : K → K → Ordering} (o : IsTotalOrder R) (same : Is
       again true c = refl
       again false c = refl
 
-  -- what the members of its set tell, the list tells
+  -- searching the members of its set is searching the list
   pub find_rising : (f : K → Bool) (ks : List K) → DoesNotFall ks → find f (set.rising (set.from_list {R = R} ks)) ≡ find f ks
   unfolding IsStrictlySortedBy
   find_rising f [] h = ap (find f) (rising-from_list o same [] tt)

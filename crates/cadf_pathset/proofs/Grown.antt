@@ -1,4 +1,4 @@
--- Lists that have grown, and where a text that has grown may be cut.
+-- Lists that were appended to, and the character boundaries of a text that was appended to.
 use Rattle.std.proofs.Common.{◌≡◌, ℕ, Bool, true, false, List, [], ◌∷◌, ◌++◌, refl, sym, ap, ◌∙◌, subst, length, take, drop, map, arith}
 use Rattle.std.proofs.lemmas.List.{length-append, take-append-drop, take-append-le}
 use Rattle.std.proofs.lemmas.Str.{IsUtf8-take, IsCharBoundary-from_take}
@@ -31,7 +31,7 @@ module _ {A : Type 0} (xs ys : List A) (kept : take (length xs) ys ≡ xs) where
   pub grown_by : ys ≡ xs ++ drop (length xs) ys
   grown_by = sym (take-append-drop (length xs) ys) ∙ ap (λ z. z ++ drop (length xs) ys) kept
 
--- what a cursor is at and what is behind it was to come
+-- the list at a cursor and those after it were ahead before
 pub ahead-moved : (more : Bool) (old new : Place) → Moves more old new → ahead more new ≡ old.1
 ahead-moved true old new h = sym h
 ahead-moved false old new h = sym h

@@ -1,4 +1,4 @@
--- What halving over rising lists finds.
+-- The result of a binary search in strictly ascending lists.
 use Rattle.std.proofs.Common.{◌≡◌, ℕ, ◌+◌, ◌-◌, ◌≤◌, ◌<◌, Bool, true, false, List, [], ◌∷◌, ◌++◌}
 use Rattle.std.proofs.Common.{refl, sym, ap, ◌∙◌, subst, suc, zero, length, take, drop, get_or, ◌||◌, arith, Some}
 use Rattle.std.proofs.Math.Numerals.{add-one}
@@ -21,7 +21,7 @@ use Rattle.cadf_pathset.proofs.Grown.{all_more, all_turned}
 use Rattle.cadf_pathset.proofs.Inserts.{all_put}
 use Rattle.cadf_pathset.specs.Lists.{prefix_cmp, is_before, last_of, last_starts_with, is_above_last}
 
--- what is below a list that is before the bound is before it
+-- lists below a list that is before the bound are before the bound
 pub before_below : (p : Texts) (more : Bool) (a b : Texts) → texts_cmp a b ≡ Less → is_before p more b ≡ true → is_before p more a ≡ true
 before_below [] more a b less h = h
 before_below (t ∷ p) more [] b less h = refl
@@ -157,7 +157,7 @@ before_is_less (u ∷ a) (t ∷ q) h = by (text_cmp u t) h (before_is_less a q)
 pub turned : (a q : Texts) → texts_cmp a q ≡ Greater → texts_cmp q a ≡ Less
 turned a q h = texts_total.antisymm q a ∙ ap ordering_reverse h
 
--- what stands from the bound on is above the list, where the first of it is another
+-- the lists from the bound on are above the list, if the first of them is another
 above_bound : (q : Texts) (xs : List Texts) → IsStrictlySortedBy texts_cmp xs → AllByRecursion (λ l. is_before q false l ≡ false) xs
     → (texts_cmp (get_or xs 0 []) q ≡ Equal → 0 < length xs → ⊥) → AllByRecursion (λ l. texts_cmp q l ≡ Less) xs
 unfolding IsStrictlySortedBy
@@ -244,7 +244,7 @@ lists_decide = pointwise_decides (λ x y. (
   λ e. subst (λ z. eq_by_cmp texts_cmp x z ≡ true) e (ap is_eq (tied_itself texts_total x)),
 ))
 
--- where the lists above one begin: at its place, or behind it where it is there
+-- the first index above a list: its own index, or the next one if it is present
 pub not_after : (q : Texts) (xs : List Texts) → AllByRecursion (λ l. is_before q false l ≡ true) xs
     → AllByRecursion (λ l. is_after texts_cmp (Some q) l ≡ false) xs
 not_after q xs h = all_turned (λ l. is_before q false l ≡ true) (λ l. is_after texts_cmp (Some q) l ≡ false) xs

@@ -1,4 +1,4 @@
--- The sets of two rising lists merged, and of the first without the second.
+-- The sets of two strictly ascending lists merged, and of the first without the second.
 use Rattle.std.proofs.Common.{◌≡◌, true, List, [], ◌∷◌, ◌++◌, refl, sym, ap, ◌∙◌, subst, inl, inr, ◌⊎◌, ℕ, suc, zero, take, drop}
 use mathlib.Core.Bool.{true≢false}
 use Rattle.std.specs.declared.cmp.Ordering.{Ordering}

@@ -1,4 +1,4 @@
--- Steps of a merge of two orders, and what is kept between them.
+-- Steps of a merge of two ascending lists, and its invariants.
 use Rattle.std.proofs.Common.{
   ◌≡◌,
   ℕ,
@@ -143,7 +143,7 @@ pub there_both : (ls : List Texts) (ns ms : List ℕ) → AreThere ls ns → Are
 there_both ls [] ms h k = k
 there_both ls (n ∷ ns) ms h k = (h.0, there_both ls ns ms h.1 k)
 
--- the turns of a merge
+-- the steps of a merge
 module _ (first : List Texts) (numbers : List ℕ) (at : ℕ) (acc total : List Texts) (more : Bool) (a : Place) (is : more ≡ true)
     (h : acc ++ both (lists_at first (drop at numbers)) (ahead more a) ≡ total) where
   module _ (lt : at < length numbers) (n : ℕ) (read : n ≡ get_or numbers at 0) where
@@ -177,13 +177,13 @@ module _ (first : List Texts) (numbers : List ℕ) (at : ℕ) (acc total : List 
       (λ i. e i ++ both (lists_at first (drop_all at numbers past i)) (f i))
       ∙ step_alone acc a.0 a.1 total ((λ i. acc ++ both (lists_at first (sym (drop_all at numbers past) i)) (ahead (sym is i) a)) ∙ h)
 
--- one of ours behind those that were put
+-- one of our lists appended
 pub ours_put : (ls first : List Texts) (kept : take (length first) ls ≡ first) (ns ms : List ℕ) (n : ℕ) → ms ≡ ns ++ n ∷ [] → n ≤ length first
     → lists_at ls ms ≡ lists_at ls ns ++ list_at first n ∷ []
 ours_put ls first kept ns ms n more there =
     ap (lists_at ls) more ∙ map_more (list_at ls) ns n ∙ ap (λ z. lists_at ls ns ++ z ∷ []) (at_kept first ls kept n there)
 
--- and all of ours that are left
+-- all of our lists that are left appended
 pub rest_put : (ls first : List Texts) (kept : take (length first) ls ≡ first) (ns ms rest : List ℕ) (more : Bool) (a : Place) (total : List Texts)
     → ms ≡ ns ++ rest → AreThere first rest → more ≡ false → lists_at ls ns ++ both (lists_at first rest) (ahead more a) ≡ total → lists_at ls ms ≡ total
 rest_put ls first kept ns ms rest more a total put there is h =
@@ -191,12 +191,12 @@ rest_put ls first kept ns ms rest more a total put there is h =
     ∙ ap (λ z. lists_at ls ns ++ z) (sym (alone texts_cmp (lists_at first rest)))
     ∙ ap (λ z. lists_at ls ns ++ both (lists_at first rest) (ahead z a)) (sym is) ∙ h
 
--- what is kept once one of ours was compared
+-- the invariants after one of our lists was compared
 pub front_compared : (ls : List Texts) (ns ms : List ℕ) (n : ℕ) (theirs here : Texts) → theirs ≡ here → IsLinePrefix ls ns ms n theirs
     → IsLinePrefix ls ns ms n here
 front_compared ls ns ms n theirs same e f = subst (IsLinePrefix ls ns ms n) e f
 
--- ours for as many first texts of theirs as are shared
+-- our nodes for as many first texts of theirs as are shared
 pub front_out : (ls : List Texts) (ns ms : List ℕ) (k : ℕ) (l b : Texts) → IsLine ls ns l → ms ≡ take k ns → Agree k l b → IsLine ls ms (take (length ms) b)
 front_out ls ns ms k l b h e g =
     let x = ap length e in
@@ -220,7 +220,7 @@ front_none ls ns ms q e f = record {
   out = subst (λ z. IsLine ls z (take (length z) q)) (sym f) (no_line ls);
 }
 
--- all that is kept, once the turn was taken, of a merge's front
+-- all invariants after a step of a merge
 pub front_ours : (more : Bool) (ls : List Texts) (ns ms ks : List ℕ) (n k : ℕ) (a b : Place) (theirs : Texts) → theirs ≡ a.0 → IsLinePrefix ls ns ms n theirs
     → Entered more a b ms ks n k → IsLinePrefix ls ns ks k b.0
 front_ours more ls ns ms ks n k a b theirs e f m = front_after more ls ns ms ks n k a b (subst (IsLinePrefix ls ns ms n) e f) m
@@ -237,7 +237,7 @@ pub order_is : (ls first : List Texts) (kept : take (length first) ls ≡ first)
     → r ≡ texts_cmp (list_at ls n) path → r ≡ s → texts_cmp (list_at first n) b ≡ s
 order_is ls first kept n path b r s there p e f = (λ i. texts_cmp (sym (at_kept first ls kept n there) i) (sym p i)) ∙ sym e ∙ f
 
--- some of ours passed over
+-- some of our lists skipped
 pub turn_skip : (first : List Texts) (numbers : List ℕ) (at to : ℕ) (acc total : List Texts) (more : Bool) (a : Place) → more ≡ true
     → acc ++ both (lists_at first (drop at numbers)) (ahead more a) ≡ total → at ≤ to → (now : List Texts)
     → now ≡ acc ++ take (to - at) (drop at (lists_at first numbers))

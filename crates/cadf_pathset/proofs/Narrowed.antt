@@ -1,4 +1,4 @@
--- The lists between two bounds, without one more text, are the suffixes after a text.
+-- The lists between two bounds, each without one further text, are the suffixes after a text.
 use Rattle.std.proofs.Common.{◌≡◌, ℕ, suc, zero, true, false, List, [], ◌∷◌, refl, sym, ap, ◌∙◌, subst, take, drop, map}
 use Rattle.std.specs.List.{AllByRecursion, take-map, drop-map}
 use Rattle.cadf_join.specs.Contents.{Text, Texts, tails_of}

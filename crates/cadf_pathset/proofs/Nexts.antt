@@ -1,4 +1,4 @@
--- The list that goes on from the front of another by one text.
+-- The list that extends a prefix of another by one text.
 use Rattle.std.proofs.Common.{◌≡◌, ℕ, true, ◌+◌, ◌<◌, ◌≤◌, [], ◌∷◌, ◌++◌, refl, sym, ap, ◌∙◌, length, take, drop, get_or}
 use Rattle.std.proofs.lemmas.List.{append-nil, drop_more, take-append-drop, take_all}
 use Rattle.std.specs.declared.cmp.Ordering.{Ordering}

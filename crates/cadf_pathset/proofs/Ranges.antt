@@ -1,4 +1,4 @@
--- A test that the lists from some place on pass, and none before.
+-- A test that the lists from some index on pass, and none before it.
 use Rattle.std.proofs.Common.{◌≡◌, ℕ, Bool, true, false, cond, List, [], ◌∷◌, Some, None, refl, sym, ap, ◌∙◌, suc, zero, take, drop}
 use Rattle.std.specs.List.{AllByRecursion, find}
 use Rattle.cadf_join.specs.Contents.{Texts}

@@ -1,4 +1,4 @@
--- A path whose end is replaced by a list that shares first texts with it.
+-- A path whose suffix is replaced by a list that shares first texts with it.
 use Rattle.std.proofs.Common.{◌≡◌, ℕ, ◌+◌, ◌≤◌, List, [], ◌∷◌, ◌++◌, sym, ap, subst, Some, ◌∙◌, suc, zero, append_assoc, length, take, drop, arith}
 use Rattle.std.proofs.lemmas.List.{length-append, length-map, length-take-le, map-append, take-append-drop, take-append-le, take-take, take-map, drop-map, take_at}
 use Rattle.std.specs.Borrow.{Bor}
@@ -20,7 +20,7 @@ front_both (t ∷ p) c (suc n) k e =
     let one : suc n + k ≡ suc (n + k) = omega arith in
     ap (λ j. take j (t ∷ p ++ c)) one ∙ ap (λ z. t ∷ z) (front_both p c n k (omega (arith, e)))
 
--- what the path shares with the next list
+-- the texts that the path shares with the next list
 pub shares_front : (all p c l : Texts) (n k : ℕ) → n ≡ length p → all ≡ p ++ c → Agree k l c → take (n + k) all ≡ p ++ take k l
 shares_front all p c l n k e is g = ap (take (n + k)) is ∙ front_both p c n k e ∙ ap (λ z. p ++ z) (sym g.same)
 
@@ -40,14 +40,14 @@ path_replaced old new list rest n k p e r h =
     ∙ append_assoc p (take k (texts_at list)) (drop k (texts_at list))
     ∙ ap (λ z. p ++ z) (take-append-drop k (texts_at list))
 
--- what a cursor shares with the list that it goes to
+-- the texts that a cursor's list shares with the next one
 pub agrees_next : (n : ℕ) (a b : Place) → Advances (Some n) a b → Agree n b.0 a.0
 agrees_next n a b m = subst (λ k. Agree k b.0 a.0) (sym m.1) (agree_shared b.0 a.0)
 
 pub front_is : (all p c : Texts) (n : ℕ) → n ≡ length p → all ≡ p ++ c → take n all ≡ p
 front_is all p c n e is = ap (take n) is ∙ take_at p c n (sym e)
 
--- what is true of the path is true of what it shares with the path to the next list
+-- what is valid for the path is valid for the texts that it shares with the path to the next list
 pub keeps_behind : (K : ℕ → Texts → Type 0) (p c : Texts) (b : ℕ) → b ≡ length p
     → ((list : Texts) (n : ℕ) → K (length (p ++ c)) (p ++ c) → n ≤ length (p ++ c) → n ≤ length list → take n (p ++ c) ≡ take n list → K n list)
     → K (length (p ++ c)) (p ++ c) → (list : Texts) (n : ℕ) → Agree n list c → K (b + n) (p ++ list)
@@ -67,7 +67,7 @@ keeps_first K none p c list b n zero_b empty g =
     let same : 0 ≡ b + n = omega (arith, theirs, long, zero_b) in
     subst (λ k. K k (p ++ list)) same (none (p ++ list))
 
--- what is kept of all texts, counted where they stand
+-- a property of the texts of a list, stated for each index
 pub keeps_whole : (K : ℕ → Texts → Type 0) (list : List (Bor (List ℕ))) (path : Texts) → texts_at list ≡ path → K (length list) (texts_at list) → K (length path) path
 keeps_whole K list path is whole =
     let long = length-map list (λ t. t.now) in

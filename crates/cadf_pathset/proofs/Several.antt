@@ -1,4 +1,4 @@
--- Texts with several texts behind them, counted one by one.
+-- Texts that two or more texts follow, counted one by one.
 use Rattle.std.proofs.Common.{◌≡◌, suc, Bool, true, false, cond, List, ◌∷◌, ap}
 use Rattle.std.specs.Prelude.{length, nat_le}
 use Rattle.std.specs.List.{filter}

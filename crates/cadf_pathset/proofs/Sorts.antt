@@ -1,4 +1,4 @@
--- Lists put in order by merging their halves.
+-- Merge sort: lists sorted by merging their sorted halves.
 use Rattle.std.proofs.Common.{◌≡◌, ℕ, ◌≤◌, ◌<◌, true, List, [], ◌∷◌, ◌++◌, refl, sym, ap, ◌∙◌, subst, length, take, drop, map, get_or, arith}
 use Rattle.std.proofs.lemmas.List.{take-append-drop}
 use Rattle.std.specs.declared.cmp.Ordering.TheVariants.{Less}

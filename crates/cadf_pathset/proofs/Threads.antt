@@ -1,4 +1,4 @@
--- Lines of nodes: what they stand for, where they are cut, put together, and when nodes are put.
+-- Lines of nodes: their lists, their prefixes, lines joined, and lines after nodes are appended.
 use Rattle.std.proofs.Common.{
   ◌≡◌,
   ℕ,
@@ -80,7 +80,7 @@ module _ (ls : List Texts) (ns : List ℕ) (l : Texts) (h : IsLine ls ns l) wher
             ∙ sym (take-take (i + 1) k l (omega (arith, b, x)));
       }
 
-  -- one more node, of a list that is longer by one text
+  -- a further node, whose list is longer by one text
   pub line_more : (n : ℕ) (m : Texts) → n ≤ length ls → list_at ls n ≡ m → length m ≡ length l + 1 → take (length l) m ≡ l → IsLine ls (ns ++ n ∷ []) m
   line_more n m there is long front =
       let k = h.long in
@@ -108,7 +108,7 @@ module _ (ls : List Texts) (ns : List ℕ) (l : Texts) (h : IsLine ls ns l) wher
       let n : length (take (i + 1) l) - 1 ≡ i = let k = length-take-le (i + 1) l (omega (arith, b, m)) in omega (arith, k) in
       ap last_text (h.stands i b) ∙ ap (λ k. get_or (take (i + 1) l) k []) n ∙ get_or-take (i + 1) l i [] (omega arith)
 
--- nodes to which others were put
+-- nodes to which others were appended
 module _ (ls us : List Texts) (kept : take (length ls) us ≡ ls) where
   pub nodes_fit : length ls ≤ length us
   nodes_fit = let k = ap length kept in let m = length-take (length ls) us in omega (arith, k, m)
@@ -144,7 +144,7 @@ last_of_more ns n =
     let e : length (ns ++ n ∷ []) ≡ suc (length ns) = omega (arith, one) in
     ap (λ k. get_or (0 ∷ ns ++ n ∷ []) k 0) e ∙ get_or_push ns n 0 (length ns) refl
 
--- a node put behind the last of a line
+-- a node appended to a line
 pub line_grown : (ls us : List Texts) (ns ms : List ℕ) (p n : ℕ) (t : Text) → IsLine ls ns (place ls ns) → p ≡ last_node ns
     → us ≡ ls ++ (list_at ls p ++ t ∷ []) ∷ [] → n ≡ length ls + 1 → ms ≡ ns ++ n ∷ [] → IsLine us ms (place ls ns ++ t ∷ [])
 line_grown ls us ns ms p n t h at put number more =
@@ -196,7 +196,7 @@ module _ (ls : List Texts) (up : List ℕ) (l : Texts) (n p : ℕ) (t : Text) (h
       sym (take_at (list_at ls p) (t ∷ []) (length (list_at ls p)) refl) ∙ ap (take (length (list_at ls p))) (sym parent ∙ is)
       ∙ take-take (length (list_at ls p)) (length (list_at ls n)) l (omega (arith, m))
 
--- a line cut to where a climb met it
+-- a line truncated to the node that a climb reached
 module _ (ls : List Texts) (ns ms : List ℕ) (l : Texts) (h : IsLine ls ns (place ls ns)) (cut : ms ≡ take (length ms) ns) where
   pub cut_line : IsLine ls ms (take (length ms) (place ls ns))
   cut_line = subst (λ z. IsLine ls z (take (length ms) (place ls ns))) (sym cut) (line_cut ls ns (place ls ns) h (length ms))
@@ -258,7 +258,7 @@ module _ (ls : List Texts) (up rest ns : List ℕ) (l : Texts) (n : ℕ) (c : Is
       (omega (arith, x, y, one))
       (ap (λ j. take j (take (length (ns ++ n ∷ [])) l)) x ∙ take-take (length ns) (length (ns ++ n ∷ [])) l (omega (arith, one)))
 
--- a line that goes on with the next text of a path
+-- a line extended by the next text of a path
 pub line_on : (us : List Texts) (ns ms : List ℕ) (l p : Texts) (t : Text) → IsLine us ms (place us ms) → place us ms ≡ l ++ t ∷ [] → l ≡ take (length ns) p
     → length ns ≡ length l → length ns < length p → t ≡ get_or p (length ns) [] → IsLine us ms (take (length ms) p)
 line_on us ns ms l p t h is front long fits text = subst (IsLine us ms) (is ∙ whole ∙ ap (λ k. take k p) (sym count)) h
@@ -276,7 +276,7 @@ module _ (ls us : List Texts) (kept : take (length ls) us ≡ ls) (ns ms : List 
   pub put_lists : lists_at us ms ≡ lists_at ls ns ++ list_at us n ∷ []
   put_lists = ap (lists_at us) more ∙ map_more (list_at us) ns n ∙ ap (λ z. z ++ list_at us n ∷ []) (lists_kept ls us kept ns there)
 
--- a line cut to what its list shares with a path
+-- a line truncated to what its list shares with a path
 pub line_agreed : (ls : List Texts) (ns ms : List ℕ) (p : Texts) (k : ℕ) → IsLine ls ns (place ls ns) → Agree k (place ls ns) p → ms ≡ take k ns
     → IsLine ls ms (take (length ms) p)
 line_agreed ls ns ms p k h a cut =

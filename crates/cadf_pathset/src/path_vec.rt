@@ -355,8 +355,8 @@ fn same_lists(nodes: &Nodes, numbers: &[usize], others: &Nodes, its: &[usize]) -
     rest.is_empty()
 }
 
-/// Returns, of the lists before and after that index, the node of the one that shares more texts with the path. The
-/// root if there is none.
+/// Finds the lists before and after that index, and returns the node of the one that shares more texts with the path.
+/// Returns the root if there is none.
 fn nearest(nodes: &Nodes, numbers: &[usize], at: usize, path: &[&str]) -> usize
     requires there { AreThere nodes.now numbers.now }
     requires within { at ≤ length numbers.now }

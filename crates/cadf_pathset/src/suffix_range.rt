@@ -222,7 +222,8 @@ impl<'a> SuffixRange<'a> {
         SuffixRange::new(self.nodes, numbers, self.nodes.next_depth(self.depth))
     }
 
-    /// Returns the least first text above the given one. For `None`, the least of all. Checks the last suffix first, then uses binary search.
+    /// Returns the least first text above the given one. For `None`, the least of all. Checks the last suffix first,
+    /// then uses binary search.
     pub fn next_child(&self, text: Option<&str>) -> Option<&'a str>
         requires { IsStrictlySortedBy texts_cmp self.now }
         ensures { option_copied result ≡ next_after (heads (set.from_list self.now)) (option_copied text.entry) }

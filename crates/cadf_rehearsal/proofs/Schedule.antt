@@ -1,4 +1,4 @@
--- Each schedule of parts leaves what one of whole copies leaves.
+-- A schedule with deltas results in the same sets as one with whole copies.
 use Rattle.std.proofs.Common.{◌≡◌, ℕ, suc, ◌<◌, ◌≤◌, ◌≢◌, Bool, true, false, cond, List, [], ◌∷◌, refl, sym, ap, ◌∙◌, subst, inl, inr, arith, eq-eqb}
 use Rattle.std.proofs.Common.{ne_eqb, eqb-true, ltb-true, leb-true}
 use Rattle.std.proofs.lemmas.Bool.{eqb-false}
@@ -28,9 +28,9 @@ cond_ok false r c x h = cc
 Ok-same : {A C : Type 0} (x y : A) → ◌≡◌ {A = Result A C} (Ok x) (Ok y) → x ≡ y
 Ok-same x y h = cc
 
--- ---- what each plain set has, if each document has it and unions keep it
+-- ---- a property of each plain set, if each document has it and unions preserve it
 
--- P holds of each document
+-- P is true of each document
 abbrev AllLearnt : (DocumentParts → Type 0) → List Turn → Type 0
 AllLearnt P [] = Unit {0}
 AllLearnt P (Learn k d ∷ earlier) = P d × AllLearnt P earlier
@@ -127,7 +127,7 @@ is_message_at : (w : World) (m : ℕ) → is_message w m ≡ true → (0 < m) ×
 is_message_at w m h = (ltb-true 0 m (members.and_first _ _ h), leb-true m w.made (members.and_second (nat_lt 0 m) _ h))
 
 module _ (digest : Texts → Text) where
-  -- ---- what a message means, if no two atoms share a digest
+  -- ---- the meaning of a message, if no two atoms share a digest
   pub record Kept (turns : List Turn) (w : World) : Type 0 where
     pub made_is : w.made ≡ made_by turns
     pub sites_are : (j : ℕ) → w.sites j ≡ plain turns j
@@ -181,7 +181,7 @@ module _ (digest : Texts → Text) where
   at_either f k j s t true same is u = u (eqb-true k j same)
   at_either f k j s t false differs is u = is
 
-  -- site k takes what equals s there, and the others keep theirs
+  -- site k gets a set that equals s there, and the others keep theirs
   taken_at : (e : List Turn) (w : World) (kept : Kept e w) (k : ℕ) (p s : Contents) → set.union (plain e k) p ≡ set.union (plain e k) s → (j : ℕ)
       → with_at w.sites k (set.union (w.sites k) p) j ≡ cond (nat_eq k j) (set.union (plain e j) s) (plain e j)
   taken_at e w kept k p s is j = by (nat_eq k j) refl

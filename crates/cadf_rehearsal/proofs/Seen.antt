@@ -60,7 +60,7 @@ module _ {S M : Type 0} (contents : S → Contents) (message : M → Message) (d
   abbrev pub seen : List S → List M → World
   seen xs ms = record { sites = at_or sets.empty (map contents xs); made = length ms; messages = at_number d (map message ms) }
 
-  -- a site takes the set s
+  -- a site gets the set s
   pub seen_adds : (xs : List S) (ms : List M) (k : ℕ) (old new : S) (s : Contents) → k < length xs → old ≡ get_or xs k old
       → contents new ≡ sets.union (contents old) s → adds (seen xs ms) k s ≡ seen (set xs k new) ms
   seen_adds xs ms k old new s h at is =

@@ -1,4 +1,4 @@
--- What one turn changes in a federation: a site that takes something, a message that is kept.
+-- The effect of one turn on a federation: a site gets a set, or a message is added.
 use Rattle.std.proofs.Common.{◌≡◌, ℕ, zero, suc, replicate, ◌-◌, ◌<◌, ◌≤◌, Bool, true, false, cond, length, map, get_or, ◌++◌, ◌∷◌, [], List}
 use Rattle.std.proofs.Common.{refl, sym, ap, ◌∙◌, lt-ltb}
 use Rattle.std.specs.Prelude.{Result, Err, Option, Some, None, nat_lt}
@@ -23,7 +23,7 @@ use Rattle.cadf_rehearsal.proofs.Seen.{seen_adds, at_or_read, at_number_read, al
 abbrev pub none : schedule.Message
 none = schedule.Whole sets.empty
 
--- the federation with what one of its sites has now
+-- the federation after one of its sites changed
 abbrev pub with_site : Federation → ℕ → ReplicaModel → Federation
 with_site f k h = record { sites = with_item f.sites k h; messages = f.messages }
 
@@ -51,7 +51,7 @@ pub message_log : (log : Text) (f : Federation) (m : ℕ) (x : Message) → IsOn
     → x ≡ get_or f.messages.items (m - 1) x → log_of_message x ≡ log
 message_log log f m x one pos le at = sym (at_number_read log_of_message log f.messages.items m x pos le at) ∙ one.messages m
 
--- ---- a site takes the set s
+-- ---- a site gets the set s
 
 pub site_takes : (f : Federation) (k : ℕ) (old new : ReplicaModel) (s : Contents) → k < length f.sites.items → old ≡ get_or f.sites.items k old
     → new.atoms ≡ sets.union old.atoms s → schedule.adds (world_of f) k s ≡ world_of (with_site f k new)
@@ -64,7 +64,7 @@ site_later f k new h same = record {
   one_log = λ log one. record { sites = all_set log_at log f.sites.items k new h one.sites (same log one); messages = one.messages };
 }
 
--- ---- a message is kept
+-- ---- a message is added
 
 pub kept_later : (f g : Federation) (m : Message) → g.sites ≡ f.sites → g.messages.items ≡ f.messages.items ++ m ∷ []
     → ((log : Text) → IsOneLog log f → log_of_message m ≡ log) → IsLater f g

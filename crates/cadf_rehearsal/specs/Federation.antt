@@ -1,10 +1,10 @@
 -- A federation in the code, whose model is the world of its schedule.
 --     world_of f           the sets of its sites, and its messages
 --     IsOneLog log f       each site and each message is of that log
---     TurnsTo f n t g      the turn t of number n leaves the federation g of the federation f
---     IsTurnFault f n t e  the fault e is why that turn can't be taken, or memory ran out
+--     TurnsTo f n t g      the turn t of number n leads from the federation f to the federation g
+--     IsTurnFault f n t e  the fault e is why that turn fails, or memory ran out
 --     IsFaultDue fault r   the fault is r's, or memory ran out
---     left_by log count w  the replicas that the world leaves at the sites 0 to count - 1
+--     left_by log count w  the replicas of the sites 0 to count - 1 in the world
 use Rattle.std.specs.Prelude.{◌≡◌, ℕ, zero, suc, ◌∷◌, List, [], map, length, Result, Ok, Err, ◌⊎◌}
 use Rattle.std.specs.List.{range_with_len}
 use Rattle.cadf_join.specs.Sets as set
@@ -60,12 +60,12 @@ pub record IsOneLog (log : Text) (f : Federation) : Type 0 where
 abbrev pub HasOneLog : Federation → Type 0
 HasOneLog f = (log : Text) × IsOneLog log f
 
--- the federation after a turn that was taken: of the same log, and with as many sites
+-- the federation after a turn that succeeded: of the same log, and with as many sites
 pub record IsLater (old new : Federation) : Type 0 where
   pub count : length new.sites.items ≡ length old.sites.items
   pub one_log : (log : Text) → IsOneLog log old → IsOneLog log new
 
--- what the turn of that number leaves of a federation of that log
+-- the result of the turn of that number in a federation of that log
 abbrev pub turned_from : Text → Federation → ℕ → Turn → Result schedule.World RehearseFault
 turned_from log f turn t = schedule.world_after_turn atom_digest log (length f.sites.items) turn (world_of f) t
 

@@ -48,7 +48,7 @@ abbrev pub is_of_log : Text → Option Text → Bool
 is_of_log log None = true
 is_of_log log (Some named) = is_text named log
 
--- A turn that can't be taken is refused with its number. The reasons: no site has the number that it names; no message has it yet;
+-- A turn that fails is refused with its number. The reasons: no site has the number that it names; no message has it yet;
 -- the message to answer is no inventory; an answer goes to another site than the one that asked; the document names another log.
 abbrev pub delivered : ℕ → World → ℕ → Message → Result World RehearseFault
 delivered turn w j (Inventory a d) = Ok w
@@ -120,8 +120,8 @@ learnt_atoms (Answer k m ∷ earlier) = learnt_atoms earlier
 learnt_atoms (Send k ∷ earlier) = learnt_atoms earlier
 learnt_atoms (Deliver m k ∷ earlier) = learnt_atoms earlier
 
--- An inventory lists a set that its asker has from then on. A delta has nothing that its sender didn't have, and all of that which its
--- asker doesn't have from then on. A whole copy is what its sender had.
+-- An inventory lists a set that its asker has from then on. A delta has no atom that its sender didn't have, and all its sender's atoms that
+-- its asker doesn't have from then on. A whole copy is the sender's set.
 abbrev pub Means : (Texts → Text) → List Turn → ℕ → Message → Type 0
 Means digest turns m (Inventory a d) = (carried turns m ≡ set.empty) × ((b : Contents) × (d ≡ digests_of digest b) × IsWithin b (plain turns a))
 Means digest turns m (PartFor a p) = IsWithin p (carried turns m) × ((q : Texts) → Has (carried turns m) q → Has (plain turns a) q ⊎ Has p q)

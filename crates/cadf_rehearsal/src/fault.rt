@@ -2,7 +2,7 @@
 use cadf_json::Memory;
 use thiserror::Error;
 
-/// Why a turn can't be taken, with its number, from 1: the first of these in their order, or `Memory`.
+/// Why a turn fails, with its number, from 1: the first of these in their order, or `Memory`.
 #[derive(Clone, Copy, Debug, PartialEq, Eq, Drop, Error)]
 pub enum RehearseFault {
     /// No site has the number that the turn names.
@@ -14,7 +14,7 @@ pub enum RehearseFault {
     /// The message to answer is no inventory.
     #[error("line {0}: not an inventory")]
     NotInventory(usize),
-    /// An answer goes to the site that asked, and to no other.
+    /// The answer is delivered to a site other than the one that asked.
     #[error("line {0}: wrong addressee")]
     WrongAddressee(usize),
     /// The document names another log.

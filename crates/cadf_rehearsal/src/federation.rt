@@ -1,4 +1,4 @@
-//! The sites of one log and all messages so far, which take one turn after another.
+//! The state of a simulation: the sites of one log, and all messages so far.
 ghost use Rattle.std.specs.Prelude.{◌≡◌, ◌∷◌, [], ◌++◌, length, OnOk, IfOk, IfErr};
 ghost use Rattle.cadf_join.specs.Sets as set;
 ghost use Rattle.cadf_rehearsal.specs.Schedule.{start};
@@ -12,14 +12,14 @@ use cadf_json::Memory;
 use cadf_set::{Inventory, Replica, ReplicaFault};
 use std::alloc::Global;
 
-/// What a site sent.
+/// A message that a site sent.
 #[derive(Drop)]
 pub(crate) enum Message {
-    /// The inventory of the site of that number, which asks.
+    /// The inventory of the site of that number, which asks for a delta.
     Asked(usize, Inventory),
-    /// What was missing at the site of that number, by its inventory.
+    /// The delta for the site of that number, by its inventory.
     PartFor(usize, Replica),
-    /// All that a site had when it sent the message.
+    /// A copy of the sender's replica, as it was when it sent the message.
     Whole(Replica),
 }
 
@@ -63,7 +63,7 @@ impl Federation {
         })
     }
 
-    /// Lets the site learn a document. `NoSite` or `OtherLog` if the turn can't be taken.
+    /// Adds a document to the site. `NoSite` or `OtherLog` if the turn fails.
     fn learn(
         &mut self,
         number: usize,
@@ -99,7 +99,7 @@ impl Federation {
         Ok(())
     }
 
-    /// Posts a copy of all that the site has. `NoSite` if there is no such site.
+    /// Posts a copy of the site's replica. `NoSite` if there is no such site.
     fn send(&mut self, number: usize, site: usize) -> Result<(), RehearseFault>
         ensures ok { OnOk result (TurnsTo self.old number (turn.Send site) self.new) }
         ensures later { OnOk result (IsLater self.old self.new) }
@@ -113,8 +113,8 @@ impl Federation {
         Ok(())
     }
 
-    /// Posts what is missing at the site whose inventory the message is. `NoSite`, `NoMessage` or `NotInventory` if the
-    /// turn can't be taken.
+    /// Posts the delta for the site whose inventory the message is. `NoSite`, `NoMessage` or `NotInventory` if the turn
+    /// fails.
     fn answer(&mut self, number: usize, site: usize, message: usize) -> Result<(), RehearseFault>
         requires { HasOneLog self.old }
         ensures ok { OnOk result (TurnsTo self.old number (turn.Answer site message) self.new) }
@@ -140,8 +140,8 @@ impl Federation {
         Ok(())
     }
 
-    /// Joins what the message carries into the site. An inventory changes nothing. `NoSite`, `NoMessage` or
-    /// `WrongAddressee` if the turn can't be taken.
+    /// Joins the replica in the message into the site. An inventory changes nothing. `NoSite`, `NoMessage` or
+    /// `WrongAddressee` if the turn fails.
     fn deliver(&mut self, number: usize, message: usize, site: usize) -> Result<(), RehearseFault>
         requires { HasOneLog self.old }
         ensures ok { OnOk result (TurnsTo self.old number (turn.Deliver message site) self.new) }
@@ -170,7 +170,7 @@ impl Federation {
         }
     }
 
-    /// Takes the turn `number`. `Err`: why it can't be taken.
+    /// Performs the turn `number`. `Err`: why it fails.
     pub(crate) fn take(&mut self, number: usize, turn: &Turn) -> Result<(), RehearseFault>
         requires { HasOneLog self.old }
         ensures ok { OnOk result (TurnsTo self.old number turn.now self.new) }

@@ -12,9 +12,9 @@ use cadf_set::Replica;
 use std::alloc::Global;
 
 /// Simulates the turns in order over `sites` sites of the log, which begin without atoms. Returns the replicas of the
-/// sites after the last turn. `Err`: the fault of the first turn that can't be taken.
+/// sites after the last turn. `Err`: the fault of the first turn that fails.
 ///
-/// A delta is made when its turn comes, for the inventory that it answers. If an allocation fails in the join of a
+/// A delta is computed at its turn, for the inventory that it answers. If an allocation fails in the join of a
 /// delivery, the join is tried once more.
 pub fn rehearse(
     alloc: Global,

@@ -1,4 +1,4 @@
-//! Atoms, replicas, inventories, rulings and schedules under one name: what the crates below show of them.
+//! Atoms, replicas, inventories, rulings and schedules under one name: the public interface of the crates below.
 #![tactic(auto)]
 
 pub mod laws;

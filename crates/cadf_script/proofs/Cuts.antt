@@ -1,4 +1,4 @@
--- Words separated by a blank: there is one way to split them at the first.
+-- Words separated by a space: there is one way to split them at the first.
 use Rattle.std.proofs.Common.{
   ◌≡◌,
   ℕ,
@@ -91,7 +91,7 @@ module _ where
   pub decimal_unblank : (n : ℕ) → n < 10 ^ 9 → has_blank (decimal n) ≡ false
   decimal_unblank n small = digits_unblank (decimal n) (digits_decimal own n (omega (arith, small)))
 
--- ---- the first blank
+-- ---- the first space
 
 abbrev is_blank : ℕ → Bool
 is_blank x = x == 32
@@ -133,7 +133,7 @@ cut_at bytes i e within = record {
     short : (xs : List ℕ) (i : ℕ) → length (drop (i + 1) xs) ≤ length xs - (i + 1)
     short xs i = omega (arith, length-drop (i + 1) xs)
 
--- ---- a number and what follows it
+-- ---- a number and the bytes after it
 
 pub site_here : (words word rest : List ℕ) (n : ℕ) → IsCut words word rest → IsNumber word n → IsSiteAndText words n rest
 site_here words word rest n cut number = (number.0, cut.is ∙ ap (λ w. w ++ 32 ∷ rest) number.1)

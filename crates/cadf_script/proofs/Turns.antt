@@ -78,13 +78,13 @@ turn_found : (line word rest : List ℕ) (c : Command) (found : Option Turn) →
 turn_found line word rest c (Some t) cut e h = turn_some line word rest c t cut e h
 turn_found line word rest c None cut e h = turn_none line word rest c cut e h
 
--- what was found of the words after the command is what is found of the line
+-- the turn found in the words after the command is the turn found in the line
 pub turn_here : (line word rest : List ℕ) (c : Command) (r : Result (Option Turn) AllocError) → IsCut line word rest → word ≡ word_of c
     → IfOk r (HasArguments c rest) → IfOk r (λ found. MatchOption found (IsNoTurn line) (IsTurn line))
 turn_here line word rest c (Ok found) cut e h = turn_found line word rest c found cut e h
 turn_here line word rest c (Err f) cut e h = tt
 
--- ---- what a site learns
+-- ---- the document that a site learns
 
 pub no_learn_text : (words text : List ℕ) (site : ℕ) → IsSiteAndText words site text → SpellsNoDocument text
     → (t : Turn) → command_of t ≡ Learn → ¬ AreWords words t

@@ -1,7 +1,7 @@
--- A script: lines that spell a turn each.
---     IsTurn line t            the line spells the turn
+-- A script: lines that encode a turn each.
+--     IsTurn line t            the line encodes the turn
 --     lines_of bytes           the lines of the bytes; the last one's line feed may be absent
---     IsScript bytes turns     the bytes spell these turns
+--     IsScript bytes turns     the bytes encode these turns
 --     IsFirstBad lines n       the line of that number, from 1, is the first that is no turn
 use Rattle.std.specs.Prelude.{◌≡◌, ◌<◌, ◌^◌, ◌==◌, ◌⊎◌, ℕ, suc, List, [], ◌∷◌, ◌++◌, if◌then◌else◌, codes, decimal}
 pub use Rattle.cadf_event.specs.DocumentBytes.{IsDocumentOf}
@@ -34,15 +34,15 @@ command_of (Deliver message site) = command.Deliver
 abbrev pub IsNumber : List ℕ → ℕ → Type 0
 IsNumber word n = (n < 10 ^ 9) × (word ≡ decimal n)
 
--- two numbers, separated by one blank
+-- two numbers, separated by one space
 abbrev pub AreTwo : List ℕ → ℕ → ℕ → Type 0
 AreTwo words m n = (m < 10 ^ 9) × (n < 10 ^ 9) × (words ≡ decimal m ++ 32 ∷ decimal n)
 
--- a number, a blank, and any text
+-- a number, a space, and any text
 abbrev pub IsSiteAndText : List ℕ → ℕ → List ℕ → Type 0
 IsSiteAndText words n text = (n < 10 ^ 9) × (words ≡ decimal n ++ 32 ∷ text)
 
--- what follows the first word and its blank
+-- the bytes after the first word and its space
 abbrev pub AreWords : List ℕ → Turn → Type 0
 AreWords words (Learn site document) = (text : List ℕ) × IsSiteAndText words site text × IsDocumentOf text document
 AreWords words (Ask site) = IsNumber words site
@@ -52,7 +52,7 @@ AreWords words (Deliver message site) = AreTwo words message site
 
 -- ---- lines
 
--- THE TURN that a line spells
+-- THE TURN that a line encodes
 abbrev pub IsTurn : List ℕ → Turn → Type 0
 IsTurn line t = (words : List ℕ) × (line ≡ word_of (command_of t) ++ 32 ∷ words) × AreWords words t
 
@@ -71,7 +71,7 @@ lines_of (x ∷ xs) = if x == 10 then [] ∷ lines_of xs else put_into_first x (
 
 -- ---- scripts
 
--- THE TURNS that a script spells, a line each
+-- THE TURNS that a script encodes, a line each
 abbrev pub IsScript : List ℕ → List Turn → Type 0
 IsScript bytes turns = EachPair IsTurn (lines_of bytes) turns
 
@@ -80,7 +80,7 @@ IsFirstBad [] n = ⊥
 IsFirstBad (l ∷ ls) n =
     ((n ≡ 1) × IsNoTurn l) ⊎ ((m : ℕ) × (n ≡ suc m) × ((t : Turn) × IsTurn l t) × IsFirstBad ls m)
 
--- why the bytes are no script; `Memory` implies nothing about them
+-- why the bytes are no script; `Memory` says nothing about them
 abbrev pub IsScriptFault : List ℕ → ScriptFault → Type 0
 IsScriptFault bytes (Line n) = IsFirstBad (lines_of bytes) n
 IsScriptFault bytes Memory = Unit {0}

@@ -8,7 +8,7 @@ use Rattle.cadf_script.specs.Script.{Command, command_of, AreWords, IsDocumentOf
 abbrev pub has_blank : List ℕ → Bool
 has_blank bytes = list_any (λ x. x == 32) bytes
 
--- the bytes at their first blank
+-- the bytes, split at their first space
 pub record IsCut (bytes word rest : List ℕ) : Type 0 where
   pub is : bytes ≡ word ++ 32 ∷ rest
   pub first : has_blank word ≡ false
@@ -21,7 +21,7 @@ is_plain_number (x ∷ xs) = (not (x == 43) && (not (x == 48) || length xs == 0)
 abbrev pub SpellsNoDocument : List ℕ → Type 0
 SpellsNoDocument text = (document : DocumentParts) → ¬ IsDocumentOf text document
 
--- the turn of that command with these words, or that there is none
+-- the turn of that command with these words, or none
 abbrev pub HasArguments : Command → List ℕ → Option Turn → Type 0
 HasArguments command words found =
     MatchOption found ((t : Turn) → command_of t ≡ command → ¬ AreWords words t) (λ t. (command_of t ≡ command) × AreWords words t)

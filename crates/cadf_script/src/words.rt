@@ -1,4 +1,4 @@
-//! The words of a line: the part before the first blank, and numbers.
+//! The words of a line: the part before the first space, and numbers.
 ghost use Rattle.std.specs.Prelude.{◌≡◌, ◌==◌, ◌≤◌, length, ℕ, List, MatchOption, false};
 ghost use Rattle.std.specs.List.{position_or_len};
 ghost use Rattle.cadf_script.specs.Script.{IsNumber, AreTwo, IsSiteAndText};
@@ -18,14 +18,14 @@ pub(crate) fn place_of(mark: u8, bytes: &[u8]) -> usize
     bytes.len()
 }
 
-/// What comes before the first blank, and what follows it.
+/// The bytes before the first space, and the bytes after it.
 #[derive(Clone, Copy)]
 pub(crate) struct Cut<'a> {
     pub(crate) word: &'a [u8],
     pub(crate) rest: &'a [u8],
 }
 
-/// Splits the bytes at the first blank. `None` if there is none.
+/// Splits the bytes at the first space. `None` if there is none.
 pub(crate) fn cut_at_blank(bytes: &[u8]) -> Option<Cut<'_>>
     ensures { MatchOption result (has_blank bytes.now ≡ false) (λ c. IsCut bytes.now c.word.now c.rest.now) }
 {
@@ -68,7 +68,7 @@ pub(crate) fn number(word: &[u8]) -> Option<usize>
     }
 }
 
-/// Reads two numbers with one blank between them. `None` if the words are anything else.
+/// Reads two numbers with one space between them. `None` if the words are anything else.
 pub(crate) fn two_numbers(words: &[u8]) -> Option<(usize, usize)>
     ensures { MatchOption result ((m n : ℕ) → ¬ AreTwo words.now m n) (λ p. AreTwo words.now p.0 p.1) }
 {
@@ -84,7 +84,7 @@ pub(crate) fn two_numbers(words: &[u8]) -> Option<(usize, usize)>
     Some((first, second))
 }
 
-/// Reads the number before the first blank, and returns it with the text after the blank. `None` if the words are
+/// Reads the number before the first space, and returns it with the text after the space. `None` if the words are
 /// anything else.
 pub(crate) fn site_and_text(words: &[u8]) -> Option<(usize, &[u8])>
     ensures { MatchOption result ((n : ℕ) (text : List ℕ) → ¬ IsSiteAndText words.now n text)

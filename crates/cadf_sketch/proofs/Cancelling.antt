@@ -1,4 +1,4 @@
--- Digests that are put in cancel where they come twice, and come in any order.
+-- XORing digests into cells: equal digests cancel, and the order doesn't matter.
 use Rattle.std.proofs.Common.{◌≡◌, ◌∙◌, ◌<◌, ℕ, suc, Bool, true, false, cond, List, [], ◌∷◌, length, replicate, refl, ap, sym, subst, arith, inl, inr}
 use Rattle.std.specs.Prelude.{bit_xor}
 use Rattle.std.specs.List.{AllByRecursion}

@@ -1,4 +1,4 @@
--- The cells after digests were put in or taken out.
+-- The cells after digests were XORed into them.
 use Rattle.std.proofs.Common.{◌≡◌, ◌∙◌, ◌<◌, ◌≤◌, ◌+◌, ◌*◌, ◌/◌, ◌%◌, ◌^◌, ℕ}
 use Rattle.std.proofs.Common.{Bool, true, false, cond, List, [], ◌∷◌, length, replicate, refl, ap, sym, subst, arith}
 use Rattle.std.specs.Prelude.{◌||◌, nat_eq}
@@ -27,7 +27,7 @@ length-turned_all cells (d ∷ ds) layout = length-turned_all (turned cells d la
 
 -- ---- one place of the cells
 
--- the upper half of a number below 2 ^ 64, spread over so many places, is one of them
+-- the upper half of a number below 2 ^ 64, scaled to a number of places, is one of these places
 spread_below : (x size : ℕ) → 0 < size → (x % 2 ^ 64 / 2 ^ 32 * size) / 2 ^ 32 < size
 spread_below x size some =
     let high = x % 2 ^ 64 / 2 ^ 32 in
@@ -50,7 +50,7 @@ at_mixed true cells p q d is within =
 at_mixed false cells p q d is within =
     get_or-set_other cells p q (mixed (cell_at cells p) d) (record { digest = []; check = 0 }) (λ e. true≢false (sym (eq-eqb q p e) ∙ is))
 
--- of three places one at most is the one that is asked for
+-- at most one of three places is the one asked for
 pick : (a b c : Bool) (cell : Cell) (d : List ℕ) → (a ≡ true → b ≡ true → ⊥) → (a ≡ true → c ≡ true → ⊥) → (b ≡ true → c ≡ true → ⊥)
     → cond c (mixed (cond b (mixed (cond a (mixed cell d) cell) d) (cond a (mixed cell d) cell)) d)
     (cond b (mixed (cond a (mixed cell d) cell) d) (cond a (mixed cell d) cell))
@@ -99,7 +99,7 @@ mixed_rest : (b : Bool) (cell : Cell) (d : List ℕ) (ds : List (List ℕ)) → 
 mixed_rest true cell d ds = refl
 mixed_rest false cell d ds = refl
 
--- a cell has those of the digests mixed in that stand there
+-- a cell is the XOR of the digests that have it as one of their cells
 pub at_turned_all : (cells : List Cell) (ds : List (List ℕ)) (layout : LayoutModel) (q : ℕ) → 0 < layout.size → q < length cells
     → cell_at (turned_all cells ds layout) q ≡ mixed_all (cell_at cells q) (filter (λ d. stands d q layout) ds)
 at_turned_all cells [] layout q some within = refl

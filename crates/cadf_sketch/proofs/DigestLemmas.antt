@@ -1,4 +1,4 @@
--- The lines before the digest line tell an inventory's file.
+-- The lines before the digest line determine an inventory's file.
 use Rattle.std.proofs.Common.{◌≡◌, ◌∙◌, ℕ, List, [], ◌∷◌, ◌++◌, append_assoc, append-nil, sym, ap, codes}
 use Rattle.hex.specs.Hex.{encode_lower}
 use Rattle.sha2.specs.Sha256.{sha256}

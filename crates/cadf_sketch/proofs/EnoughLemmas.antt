@@ -1,4 +1,4 @@
--- A sketch with cells enough is read.
+-- A sketch with enough cells is decoded.
 use Rattle.std.proofs.Common.{◌≡◌, ◌∙◌, ◌<◌, ◌*◌, ◌+◌, ◌++◌, ℕ, suc, Bool, true, false}
 use Rattle.std.proofs.Common.{List, [], ◌∷◌, length, replicate, refl, ap, sym, subst, arith, inl, inr, length-append}
 use Rattle.std.specs.Prelude.{◌||◌, ◌&&◌, not}
@@ -52,7 +52,7 @@ back_again true false h = refl
 back_again false true h = absurd (true≢false (sym (h refl)))
 back_again false false h = refl
 
--- what has d is what lacks it, with d
+-- a set that has d is the set without d, with d inserted
 insert-apart : (s : Digests) (d : Text) → set.contains s d ≡ true → set.insert (apart s (one d)) d ≡ s
 insert-apart s d there = by_members (set.insert (apart s (one d)) d) s (λ q.
     set.contains-insert text_total (apart s (one d)) d q
@@ -127,7 +127,7 @@ length-cells_of : (s : Digests) (layout : LayoutModel) → length (cells_of s la
 unfolding cells_of
 length-cells_of s layout = length-turned_all (replicate (3 * layout.size) nothing) (rising s) layout ∙ length-replicate (3 * layout.size) nothing
 
--- a digest is put in where it lacks, and taken out where it is
+-- a digest is added if the set lacks it, and removed if the set has it
 cells_turned : (s : Digests) (d : Text) (layout : LayoutModel) → 0 < layout.size → AreDigests s → IsDigest d
     → turned (cells_of s layout) d layout ≡ cells_of (apart s (one d)) layout
 cells_turned s d layout some are digest = bool_cases (set.contains s d)
@@ -139,7 +139,7 @@ cells_turned s d layout some are digest = bool_cases (set.contains s d)
     ∙ turned_twice (cells_of rest layout) d layout some (wide-cells_of rest layout some rest_are) digest.size)
     (λ new. sym (cells_insert s d layout some new) ∙ ap (λ (t : Digests). cells_of t layout) (sym (apart-insert s d new)))
 
--- what both have cancels
+-- digests that both have cancel
 cells_apart : (s : Digests) (ds : List Text) (layout : LayoutModel) → 0 < layout.size → AreDigests s → AllByRecursion IsDigest ds
     → IsStrictlySortedBy text_cmp ds
     → turned_all (cells_of s layout) ds layout ≡ cells_of (apart s (set.from_list ds)) layout
@@ -157,7 +157,7 @@ differing_is own n layout some f g =
     cells_apart n.digests (rising own.digests) layout some g (each_digest own.digests f) (rising_is_sorted text_total text_same own.digests)
     ∙ ap (λ (t : Digests). cells_of (apart n.digests t) layout) (from_list-rising text_total text_same own.digests)
 
--- ---- what is left after a chain of takes
+-- ---- the digests left after some were removed
 
 abbrev left : Digests → List Text → Digests
 left all taken = set.difference all (set.from_list taken)
@@ -255,7 +255,7 @@ is_left layout all start [] start' some are enough e none = left_at_first layout
 is_left layout all start taken rest some are enough e (more {taken = before} {cells = cells} place chain within lone) =
     left_later layout place all before cells some are enough within lone (is_left layout all start before cells some are enough e chain)
 
--- ---- a peel that ends has found what differs
+-- ---- peeling that ends has found the digests that differ
 
 both_again : (a b : Bool) → either a (either b a) ≡ b
 both_again true true = refl

@@ -1,4 +1,4 @@
--- What flips digests in turn, and back.
+-- The result of flipping digests one after another, and of flipping them back.
 use Rattle.std.proofs.Common.{◌≡◌, ◌∙◌, Bool, true, false, List, [], ◌∷◌, refl, sym, ap}
 use Rattle.std.specs.Prelude.{◌||◌, ◌&&◌, not}
 use Rattle.std.specs.List.Sorted.{IsStrictlySortedBy}
@@ -42,7 +42,7 @@ by_members = set.same_set text_total text_same
 same_text : (q d : Text) → eq_by_cmp text_cmp q d ≡ true → q ≡ d
 same_text q d e = text_same q d ((Equal-is (text_cmp q d)).0 e)
 
--- what is told of d is told of what is d
+-- a property of d is a property of what equals d
 pub told : (s : Digests) (d q : Text) (b : Bool) → set.contains s d ≡ b → eq_by_cmp text_cmp q d ≡ true → set.contains s q ≡ b
 told s d q b h e = ap (set.contains s) (same_text q d e) ∙ h
 
@@ -78,7 +78,7 @@ apart-remove s d there = by_members (apart s (one d)) (remove s d) (λ q.
     in_apart s (one d) q ∙ ap (either (set.contains s q)) (in_one d q)
     ∙ apart_old (set.contains s q) (eq_by_cmp text_cmp q d) (told s d q true there) ∙ sym (contains-remove text_total s d q))
 
--- ---- digests in turn
+-- ---- digests one after another
 
 abbrev pub flipped_in_turn : Digests → List Text → Digests
 flipped_in_turn s [] = s

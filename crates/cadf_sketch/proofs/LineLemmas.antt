@@ -1,4 +1,4 @@
--- The lines of a sketch's file are read as what they are of, and as nothing else.
+-- Each line of a sketch's file decodes to the values that it encodes, and to no others.
 use Rattle.std.proofs.Common.{
   ◌≡◌,
   ℕ,
@@ -81,7 +81,7 @@ use Rattle.cadf_sketch.proofs.NumberLemmas.{
   AreNumbers,
 }
 
--- ---- a line that begins with a letter and a blank
+-- ---- a line that begins with a letter and a space
 
 pub begins_with : (x y : ℕ) (s : List ℕ) → starts_with nat_eq s (x ∷ y ∷ []) ≡ true → s ≡ x ∷ y ∷ drop 2 s
 begins_with x y [] h = absurd (true≢false (sym h))
@@ -325,7 +325,7 @@ cell-only l c e =
       }),
     )
 
--- ---- what the code finds on its way
+-- ---- intermediate results of the code
 
 pub head_uncut : (t : List ℕ) → words_after t ≡ [] → head_in_words t ≡ None
 unfolding head_in_words

@@ -83,7 +83,7 @@ number-again n small =
     ap (number_if (decimal n)) (digits_value-decimal own n small)
     ∙ (λ i. cond ((bytes_eq-Decides (decimal n) (decimal n)).1 refl i && lt-ltb n (2 ^ 64) small i) (Some n) None)
 
--- a word that is another number's, or no text, spells none
+-- a word that is not the spelling of a number of 64 bits, or is no text
 pub number_none : (w : List ℕ) → ((n : ℕ) → n < 2 ^ 64 → w ≡ decimal n → ⊥) → number_in w ≡ None
 number_none w none = by (number_in w) refl
   where
@@ -171,7 +171,7 @@ pub numbers_of_none : (k : ℕ) → numbers_in k [] ≡ None
 numbers_of_none zero = ap (λ o. put_before o (Some [])) number_of_none
 numbers_of_none (suc k) = ap (λ o. put_before o (numbers_in k [])) number_of_none
 
--- a text is its first word, a blank and the words after it, or nothing stands behind its first word
+-- a text is its first word, a space and the words after it, or nothing follows its first word
 pub cut_cases : (text : List ℕ) → (text ≡ first_word text ++ 32 ∷ words_after text) ⊎ (words_after text ≡ [])
 cut_cases text = by (nat_lt at (length text)) refl
   where
@@ -250,7 +250,7 @@ numbers-only (suc k) text ns e =
         cut ∙ (λ i. word i ++ 32 ∷ rest i) ∙ ap (λ l. decimal n ++ flat_map (λ m. 32 ∷ decimal m) l) (sym is)
     whole n m ms os (inr none) is word rest some = absurd (never ms some none)
 
--- ---- the first blank, as it is found
+-- ---- the first space, as it is found
 
 blank_at : (text : List ℕ) (k : ℕ) → IsFirstByte (is_byte 32) text (Some k) → position_or_len (λ x. x == 32) text ≡ k
 blank_at text k h =

@@ -1,4 +1,4 @@
--- How a chain of takes begins and goes on.
+-- How a run of removals begins and continues.
 use Rattle.std.proofs.Common.{◌≡◌, ◌<◌, ℕ, List, [], ◌∷◌, ◌++◌, length, true, sym, subst}
 use Rattle.cadf_sketch.specs.Layouts.{LayoutModel}
 use Rattle.cadf_sketch.specs.Cells.{cell_at, is_lone, turned}

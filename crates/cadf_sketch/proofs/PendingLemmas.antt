@@ -1,4 +1,4 @@
--- Which places are yet to be looked at.
+-- The places that are yet to be checked.
 use Rattle.std.proofs.Common.{◌≡◌, ◌∙◌, ◌<◌, ◌+◌, ◌++◌, ℕ, Bool, true, false, cond, List, [], ◌∷◌, length, refl, ap, sym, subst, below_more}
 use Rattle.std.specs.Prelude.{◌||◌, ◌&&◌, nat_eq}
 use Rattle.std.specs.List.{list_any}
@@ -32,7 +32,7 @@ has-places_below place places all = below_more _ _
     (list_any-append (nat_eq place) places (place ∷ [])
     ∙ ap (λ b. list_any (nat_eq place) places || (b || false)) (eq-eqb place place refl) ∙ or_true (list_any (nat_eq place) places))
 
--- what isn't the last is before it
+-- an element other than the last is before it
 before_last : (places : List ℕ) (place q : ℕ) → (nat_eq q place ≡ true → ⊥) → list_any (nat_eq q) (places ++ place ∷ []) ≡ true
     → list_any (nat_eq q) places ≡ true
 before_last places place q other h =

@@ -261,7 +261,7 @@ sketch_lines (x ∷ y ∷ zs) h =
     none_plus : (n : ℕ) → n ≡ 0 + n
     none_plus n = omega arith
 
--- ---- and the lines of a sketch are such
+-- ---- and the lines of a sketch are of that kind
 
 abbrev plain_cell : Cell → Plain
 plain_cell c = (cell_line c, plain_digest (c.digest ++ to_be_bytes w64 c.check))
@@ -315,7 +315,7 @@ plains_follow s is =
     none_plus : (n : ℕ) → 0 + n ≡ n
     none_plus n = omega arith
 
--- ---- no line is broken
+-- ---- no line contains a line feed
 
 digits_unbroken : (ds : List ℕ) → AllDigits 10 ds → is_unbroken ds ≡ true
 digits_unbroken [] p = refl
@@ -355,7 +355,7 @@ unbroken_sketch s p =
     (and_true (is_unbroken (counts_line s.tally)) _ (counts_unbroken s.tally p.tally)
     (cells_unbroken s.cells (digest_line (sketch_body s)) (unbroken_digest (sketch_body s)))))
 
--- ---- the lines tell the sketch
+-- ---- the lines determine the sketch
 
 digest_no_cell : (l : List ℕ) → begins_digest l ≡ true → cell_in l ≡ None
 digest_no_cell l is = by (cell_in l) refl
@@ -377,7 +377,7 @@ sketch_again s is =
     let cells = cells_again s.cells (digest_line (sketch_body s)) p.cells refl in
     λ i. sketch_of_parts (log i) (head i) (tally i) (cells i)
 
--- ---- what is accepted is the file of a sketch
+-- ---- accepted bytes are the file of a sketch
 
 complete : (limit : ℕ) (s : SketchModel) → length (sketch_file s) ≤ limit → IsSketch s → sketch_verdict limit false (sketch_file s) ≡ Ok s
 complete limit s short is =
@@ -437,6 +437,6 @@ sketch-file-tells s t p q e =
     ∙ ap (λ k. k.lines) (cut-lines (with_digest_line (sketch_body t)) (unbroken_sketch t q.parts)) in
     sym (sketch_again s p) ∙ ap sketch_model_in lines ∙ sketch_again t q
 
--- what is known of a sketch's log and parts
+-- the invariants of a sketch's log and parts
 pub sketch_is : (s : SketchModel) → IsNameText s.log → HasParts s → IsSketch s
 sketch_is s name parts = record { log = ap (λ b. b && is_name s.log) (is_utf8-from_IsUtf8 s.log name.utf8) ∙ name.a_name; parts = parts }

@@ -1,4 +1,4 @@
--- One more line of a sketch's file, and what all of them come to.
+-- Decoding one further line of a sketch's file, and the sketch of all lines.
 use Rattle.std.proofs.Common.{
   ◌≡◌,
   inl,
@@ -75,7 +75,7 @@ use Rattle.cadf_sketch.specs.declared.tally.Tally.{Tally}
 use Rattle.cadf_sketch.proofs.LineLemmas.{head-again, head-only, tally-again, tally-only, cell-again, cell-only}
 use Rattle.cadf_sketch.proofs.SketchFileLemmas.{sketch_again, accepted}
 
--- ---- one more line
+-- ---- one further line
 
 pub head_told : (l : List ℕ) (h : Head) → Some h ≡ head_in l → (cause_after [] l ≡ None) × (head_line h ∷ [] ≡ l ∷ []) × IsHead h
 head_told l h e =

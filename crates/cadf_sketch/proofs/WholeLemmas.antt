@@ -1,4 +1,4 @@
--- What a sketch of an inventory has, its file can hold.
+-- The sketch of an inventory satisfies the invariant of sketches.
 use Rattle.std.proofs.Common.{◌≡◌, ℕ, zero, suc, ◌+◌, ◌*◌, ◌/◌, ◌%◌, ◌^◌, ◌<◌, List, [], ◌∷◌, length, replicate, refl, sym, ap, ◌∙◌, arith}
 use Rattle.std.specs.Prelude.{slice_index, bit_xor}
 use Rattle.std.specs.List.{AllByRecursion}
@@ -75,7 +75,7 @@ cell_is [] place p below = absurd (omega (arith, below))
 cell_is (c ∷ cells) zero p below = p.0
 cell_is (c ∷ cells) (suc place) p below = cell_is cells place p.1 (omega (arith, below))
 
--- what is taken out of cells is a digest each time
+-- each value removed from cells is a digest
 taken_are : (l : LayoutModel) (start : List Cell) (taken : List Text) (rest : List Cell) → AreCells start → Peels l start taken rest
     → AllByRecursion IsDigest taken × AreCells rest
 taken_are l start [] start' p none = (tt, p)
@@ -85,7 +85,7 @@ taken_are l start taken rest p (more {taken = before} {cells = cells} place chai
     let is = (cell_is cells place both.1 within).digest in
     (digests_push IsDigest before d both.0 is, turned_cells cells d l both.1 is)
 
--- so it is of the cells of a sketch that an inventory was put into
+-- the same for the cells of a sketch into which an inventory was XORed
 pub peeled_are : (own : InventoryModel) (sketch : SketchModel) (taken : List Text) (rest : List Cell) → AreDigests own.digests → HasParts sketch
     → Peels sketch.layout (differing own sketch) taken rest → AllByRecursion IsDigest taken
 peeled_are own sketch taken rest are parts chain =

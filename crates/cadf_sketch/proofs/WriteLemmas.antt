@@ -1,4 +1,4 @@
--- Three parts that were written one after another, and what was hashed of them.
+-- Three parts that were written one after another, and the hash of them.
 use Rattle.std.proofs.Common.{◌≡◌, ◌∙◌, ◌+◌, ◌<◌, ◌≤◌, ℕ, List, [], ◌∷◌, ◌++◌, map, length, drop, get_or, Option, sym, subst, ap, append_assoc, append-nil}
 use Rattle.std.specs.Prelude.{decimal, flat_map}
 use Rattle.std.proofs.lemmas.List.{drop_more}

@@ -58,7 +58,7 @@ impl Cell {
         check: 0,
     };
 
-    /// XORs the digest into the cell, which adds or removes it.
+    /// Mixes the digest into the cell by XOR, which adds or removes it.
     pub(crate) fn mix(&mut self, digest: &[u8; 32])
         ensures { self.new ≡ mixed self.old digest.now }
     {

@@ -51,7 +51,7 @@ fn empty_cells(alloc: Global, count: usize) -> Result<Vec<Cell>, Memory>
     Ok(Vec::from_elem(alloc, Cell::EMPTY, count)?)
 }
 
-/// XORs each digest of the inventory into its cells.
+/// Mixes each digest of the inventory into its cells by XOR.
 pub(crate) fn turn_all(cells: &mut [Cell], inventory: &Inventory, layout: Layout)
     requires { length cells.old ≡ 3 * layout.size }
     ensures cells { cells.new ≡ turned_all cells.old (rising inventory.now.digests) layout }

@@ -1,11 +1,11 @@
-//! XORs digests into the cells of a sketch, which adds or removes them.
+//! Mixes digests into the cells of a sketch by XOR, which adds or removes them.
 ghost use Rattle.std.specs.Prelude.{◌≡◌, ◌<◌, ◌*◌, ◌^◌, length};
 ghost use Rattle.cadf_sketch.specs.Cells.{mixed_at, turned};
 
 use crate::cell::{Cell, place_in};
 use crate::layout::Layout;
 
-/// XORs the digest into the cell at that place.
+/// Mixes the digest into the cell at that place by XOR.
 fn mix_at(cells: &mut [Cell], place: usize, digest: &[u8; 32])
     requires { place < length cells.old }
     ensures { cells.new ≡ mixed_at cells.old place digest.now }
@@ -13,7 +13,7 @@ fn mix_at(cells: &mut [Cell], place: usize, digest: &[u8; 32])
     cells[place].mix(digest);
 }
 
-/// XORs the digest into its cell of each table.
+/// Mixes the digest into its cell of each table by XOR.
 #[tactic(auto, unfolding(crate::specs::Cells::turned))]
 pub(crate) fn turn(cells: &mut [Cell], digest: &[u8; 32], layout: Layout)
     requires cells { length cells.old ≡ 3 * layout.size }

@@ -1,4 +1,4 @@
--- Whatever was run, a file bears its log, and holds no atoms but those that came from outside.
+-- Whatever was run, a file has its log, and no atoms but those of its external inputs.
 use Rattle.std.proofs.Common.{◌≡◌, ℕ, List, [], ◌∷◌, ◌++◌, Option, Some, Ok, refl, sym, ap, ◌∙◌, subst}
 use Rattle.std.specs.Option.{option_or}
 use Rattle.cadf_join.specs.Contents.{Text, Contents, Has, IsWithin}
@@ -47,7 +47,7 @@ empty_read log bytes l made input =
     let same = one_loaded bytes l made.loaded input made.input in
     read_same (Empty log) l (ap log_named same ∙ made.named) (ap atoms_loaded same ∙ sym made.atoms)
 
--- the ruling, and what was read of the file before it
+-- the ruling, and the replica that was read from the file before it
 pub ruled_within : (place : ℕ) (ruling : RulingParts) (m : Derivation) (loaded : Loaded) (h : ReplicaModel) → IsReadWithin m loaded
     → ruling_at (atoms_loaded loaded) ruling.letter ruling.key place ≡ Ok ruling → ruled_of ruling.letter ruling.key place loaded ≡ Ok h
     → HoldsAtMost (Ruled place ruling m) h
@@ -68,7 +68,7 @@ joined_within log operands inputs h joined names low =
     let j : IsJoin log inputs h = join_is log inputs h joined in
     record { log = sym (ap (option_or log) names) ∙ j.log; atoms = λ q k. low q (subst (λ s. Has s q) j.atoms k) }
 
--- ---- what was read is kept
+-- ---- a replica that is read satisfies its invariant
 
 inputs_kept : (operands : Operands) (inputs : List Loaded) → AreRead operands inputs → IsReplicaSet (union_of inputs)
 inputs_kept End [] read = kept_empty
@@ -90,7 +90,7 @@ pub join_kept : (log : Option Text) (operands : Operands) (inputs : List Loaded)
     → IsReplicaSet h.atoms
 join_kept log operands inputs h read joined = subst IsReplicaSet (sym (join_is log inputs h joined).atoms) (inputs_kept operands inputs read)
 
--- ---- parts
+-- ---- deltas
 
 part_of_read : (from : Derivation) (one l : Loaded) (h : ReplicaModel) (bytes : List ℕ) → IsReadWithin from one → log_named one ≡ Some h.log
     → IsWithin h.atoms (atoms_loaded one) → IsReplicaSet h.atoms
@@ -117,7 +117,7 @@ part_by_sketch_read from to sketched read l f (bytes, (one, sketch, h, r, s, e, 
     let p = part_by_read_is one sketch read h e in
     part_of_read from one l h bytes (f one r) p.log (part_by_within r.0 one read h r.2 p) (part_by_kept r.0 one read h r.2 p) is input
 
--- ---- what is read of a file
+-- ---- the replica that is read from a file
 
 first_within : (m : Derivation) (cs : List Contribution) (l : Loaded) (ls : List Loaded) → IsReadWithin m l → IsWithin (union_of ls) (brought_by cs)
     → IsWithin (union_of (l ∷ ls)) (brought_by (external_inputs m ++ cs))

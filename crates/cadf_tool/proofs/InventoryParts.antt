@@ -1,4 +1,4 @@
--- What `inventory` and `missing-by` answer of inputs.
+-- The results of `inventory` and `missing-by` for inputs.
 use Rattle.std.proofs.Common.{◌≡◌, ℕ, Bool, true, false, cond, List, Option, None, Some, Result, Ok, Err, refl, sym, ap, ◌∙◌, subst}
 use Rattle.cadf_join.specs.Sets as set
 use Rattle.cadf_join.specs.Contents.{Text, Contents, IsWithin}
@@ -49,7 +49,7 @@ notes loaded noted e = by (log_named loaded) refl e
         let same = noted_same name (digests_of atom_digest (atoms_loaded loaded)) noted k in
         record { log = is ∙ ap Some same.0; digests = same.1 }
 
--- what was noted of an input is an inventory
+-- the inventory made from an input satisfies its invariant
 pub notes_inventory : (bytes : List ℕ) (loaded : Loaded) (noted : InventoryModel) → IsInput bytes loaded → Notes loaded noted → IsInventory noted
 notes_inventory bytes loaded noted input n =
     let held : IsHeld bytes (record { log = noted.log; atoms = atoms_loaded loaded }) = record {
@@ -63,14 +63,14 @@ notes_inventory bytes loaded noted input n =
       digests = subst AreDigests (sym n.digests) (are_digests (atoms_loaded loaded));
     }
 
--- what was read of an inventory's file is what was noted of the input
+-- the inventory read from an inventory's file is the one made from the input
 pub noted_by : (to : List ℕ → Type 0) (noted : InventoryModel) → IsInventoryReadOf to noted → (other : Loaded) × IsReadOf to other × Notes other noted
 noted_by to noted (bytes, (other, written, read, made, is), input) =
     let n : Notes other written = notes other written made in
     let same : written ≡ noted = inventory-file-tells written noted (notes_inventory read.0 other written read.2 n) input.inventory (sym is ∙ input.is) in
     (other, read, subst (Notes other) same n)
 
--- ---- the part that an inventory doesn't note
+-- ---- the delta against an inventory
 
 pub record IsPartBy (from : Loaded) (noted : InventoryModel) (part : ReplicaModel) : Type 0 where
   pub log : log_named from ≡ Some part.log
@@ -113,7 +113,7 @@ part_by_kept bytes from noted part is p = record {
   are_atoms = λ q h. (input_kept bytes from is).are_atoms q (part_by_within bytes from noted part is p q h);
 }
 
--- where no two different atoms share a digest, it is the missing part
+-- if no two different atoms share a digest, it is the delta against the input itself
 pub part_by_part : (from to : Loaded) (noted : InventoryModel) (part : ReplicaModel) → NoCollision atom_digest (set.union (atoms_loaded from) (atoms_loaded to))
     → Notes to noted → IsPartBy from noted part → IsPart from to part
 part_by_part from to noted part apart i p = record {

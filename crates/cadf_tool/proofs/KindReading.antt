@@ -12,12 +12,12 @@ use Rattle.cadf_tool.specs.Faults.{of_load}
 use Rattle.cadf_tool.specs.FileKind.{FileKind, RefusesKind, kind_spec}
 use Rattle.cadf_tool.specs.Run.{SourceTransition, numbered, IsUnfailed, IsUnread}
 
--- the answer is the verdict
+-- the result is the verdict
 abbrev pub AnswersKind : {M : Type 0} → Result M FileFault → Result M FileFault → Type 0
 AnswersKind (Ok m) verdict = verdict ≡ Ok m
 AnswersKind (Err e) verdict = UnlessMemory (λ fault. verdict ≡ Err fault) e
 
--- what a reader of such files ensures of its answer
+-- the postcondition of a reader of such files
 pub record ReadsKind {M : Type 0} (kind : FileKind M) (t : SourceTransition) (answer : Result M FileFault) : Type 0 where
   pub failed : Bool
   pub bytes : List ℕ
@@ -27,7 +27,7 @@ pub record ReadsKind {M : Type 0} (kind : FileKind M) (t : SourceTransition) (an
   pub failure : failed ≡ true → (answer ≡ Err ReadFault) ⊎ (answer ≡ Err Trailing)
   pub end : failed ≡ false → kind.decided FILE_LIMIT bytes ≡ None → (answer ≡ Err Memory) ⊎ IsAtEnd t.new.left
 
--- what is decided is the verdict
+-- a fault that is decided is the verdict
 abbrev pub IsDecidedFirst : {M : Type 0} → FileKind M → Type 0
 IsDecidedFirst kind = (limit : ℕ) (failed : Bool) (bytes : List ℕ) (f : FileFault) → kind.decided limit bytes ≡ Some f
     → kind.verdict limit failed bytes ≡ Err f
@@ -43,7 +43,7 @@ module _ {M : Type 0} where
   clash m f v a b = cc
 
 module _ {M : Type 0} (kind : FileKind M) (t : SourceTransition) where
-  -- ---- it is one
+  -- ---- the source is such a file
 
   module _ (first : IsDecidedFirst kind) (m : M) (r : ReadsKind kind t (Ok m)) where
     unfailed : (b : Bool) → r.failed ≡ b → r.failed ≡ false
@@ -65,7 +65,7 @@ module _ {M : Type 0} (kind : FileKind M) (t : SourceTransition) where
           r.failures ∙ ap (λ b. counted b t.old.failures) whole,
         )
 
-  -- ---- it is none
+  -- ---- the source is no such file
 
   refuses : (f : FileFault) → f ≢ Memory → (r : ReadsKind kind t (Err f)) → kind.verdict FILE_LIMIT r.failed r.bytes ≡ Err f
       → RefusesKind kind t.old t.new f

@@ -1,4 +1,4 @@
--- What engines write of files that were made.
+-- What engines write for derived files.
 use Rattle.std.proofs.Common.{◌≡◌, ℕ, List, map, ◌++◌, Option, Some, None, Ok, Err, Result, IfSome, refl, sym, ap, subst}
 use Rattle.std.specs.Io.KnownBytes.{Appends}
 use Rattle.std.proofs.KnownBytes.{Consumes-whole}
@@ -51,7 +51,7 @@ module _ {A M W T : Type 0} (sources : Sources A) (work : A → Result M ToolFau
   never : (fault : ToolFault) → ◌≡◌ {A = Result T ToolFault} (Ok t) (Err fault) → ⊥
   never fault e = cc
 
-  -- its sources are something, of which the work allows what was stated
+  -- the sources encode some value, for which the work allows the result
   abbrev pub HasRun : Type 0
   HasRun = (a : A) × (made : M) × sources.are a × work a (Ok made) × Appends (sink.written old) (sink.written new) (tell made)
 

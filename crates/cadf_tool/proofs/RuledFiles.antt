@@ -1,4 +1,4 @@
--- What a file has that `rule` wrote.
+-- The contents of a file that `rule` wrote.
 use Rattle.std.proofs.Common.{◌≡◌, ℕ, List, Some, Result, Ok, sym, ap, ◌∙◌}
 use Rattle.cadf_join.specs.laws.Contents.{texts_total, texts_same}
 use Rattle.cadf_join.specs.laws.Sets as laws

@@ -1,4 +1,4 @@
--- A further ruling: what `rule` makes of a set of atoms.
+-- A further ruling: the result of `rule` for a set of atoms.
 use Rattle.std.proofs.Common.{
   ◌≡◌,
   ◌≤◌,
@@ -88,7 +88,7 @@ listed_held s letter key v l =
 
 -- ---- the ruling for a value in the set
 
--- what holds of every atom of three texts
+-- a property of every atom of three texts
 pub held_passes : (letter key v : Text) → IsAtom atom_rules (letter ∷ key ∷ v ∷ []) → IsTrue (is_value_letter letter) × IsTrue (is_name_text key)
 held_passes _ key _ (property p) = (refl, members.and_first _ _ p)
 held_passes _ key _ (resource p) = (refl, members.and_first _ _ p)
@@ -104,7 +104,7 @@ ruling_is letter key value atom =
     let h = held_passes letter key value atom in
     members.and_both _ _ h.0 (members.and_both _ _ h.1 (digest_is value))
 
--- ---- what `rule` makes
+-- ---- the result of `rule`
 
 -- the value that is ruled, and the set with its ruling
 pub record IsRuled (letter key : Text) (place : ℕ) (named : Option Text) (s : Contents) (h : ReplicaModel) : Type 0 where
@@ -142,7 +142,7 @@ ruled_kept letter key place named s h kept r =
     subst IsReplicaSet (sym r.atoms)
     (kept_union s (one_atom (ruling_atom rule)) kept (ruling_kept rule (ruling_is letter key r.value (kept.are_atoms (letter ∷ key ∷ r.value ∷ []) r.held))))
 
--- ---- no key has other values for it
+-- ---- the values of every key stay the same
 
 -- four texts are no value of a key
 no_value : (l k a b c d : Text) → is_some (only (strip (l ∷ k ∷ []) (a ∷ b ∷ c ∷ d ∷ []))) ≡ false
@@ -164,7 +164,7 @@ kept_by {A} {B} f (x ∷ xs) = by (kept_by f xs) (f x) refl
     by same None is = same
     by same (Some y) is = λ i. cons_option (is i) (same i)
 
--- what has no value changes no values
+-- adding what is no value of a key changes no values
 module _ (s t : Contents) (l k : Text) where
   abbrev is_value : Texts → Bool
   is_value q = is_some (only (strip (l ∷ k ∷ []) q))
@@ -227,7 +227,7 @@ ruled_again letter key place named s h r =
 
 -- ---- for the code
 
--- reading the ruling of a value in the set gives it
+-- making the ruling of a value in the set returns it
 read_is : (letter key value : Text) (r : RulingParts) → ruling_of letter key (value_digest value) ≡ Ok r → ruling_on letter key value ≡ r
 read_is letter key value r e = by (is_value_letter letter) (is_name_text key) (is_digest_text (value_digest value)) e
   where
@@ -263,7 +263,7 @@ ruling_there s letter key place xs x r are one lt at read =
     ∙ ap (ruling_for letter key) (some_at xs place x one lt at)
     ∙ ap Ok (read_is letter key (string_bytes x) r read)
 
--- a replica of which no value is ruled is refused for that
+-- a replica without such a value is refused with `NoValue`
 pub ruling_refused : (h : ReplicaModel) (letter key text : Text) (place : ℕ) (fault : ToolFault) → text ≡ key
     → IsWorked (ruling_at h.atoms letter text place) (Err fault) → IsWorked (ruled_in letter key place (Ok h)) (Err fault)
 ruling_refused h letter key text place fault same worked =

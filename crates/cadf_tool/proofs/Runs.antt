@@ -1,4 +1,4 @@
--- The parts of a run, put together.
+-- The parts of a run, combined.
 use Rattle.std.proofs.Common.{◌≡◌, Result, Ok, Err, inr}
 use Rattle.cadf_tool.specs.declared.fault.ToolFault.{ToolFault}
 use Rattle.cadf_tool.specs.Faults.{FaultStage, Reading, Working, Writing, OutOfMemoryStage, fault_stage}
@@ -28,7 +28,7 @@ module _ {A M : Type 0} (sources : Sources A) (work : A → Result M ToolFault �
   not_read_at fault Writing h = h
   not_read_at fault OutOfMemoryStage h = h
 
-  -- sources that are not all read give nothing to any work
+  -- if not all sources are read, the fault of the source is the expected result
   pub not_read : (fault : ToolFault) → sources.bounded → IsUnread sources fault → IsExpectedBy sources work (Err fault)
   not_read fault bounded h = record { is = not_read_at fault (fault_stage fault) h; bounded = bounded }
 
@@ -50,7 +50,7 @@ module _ {A M : Type 0} (sources : Sources A) (work : A → Result M ToolFault �
 
 module _ {T U M : Type 0} (reader : InputSpec T) (t : SourceTransition) (other : InputSpec U) (u : SourceTransition)
     (work : T × U → Result M ToolFault → Type 0) (within : IsReadWithin reader.limit t) where
-  -- the work on both
+  -- the work on both sources
   pub both_worked : (value : T) (value' : U) (expected : Result M ToolFault) → IsReadAs reader t value
       → IsReadAs other u value' → IsReadWithin other.limit u
       → IsWorkedBy (work (value, value')) expected → IsExpectedBy (two reader t other u) work expected

@@ -1,4 +1,4 @@
--- The lines of what each site has.
+-- The lines that describe each site.
 use Rattle.std.proofs.Common.{
   ◌≡◌,
   ℕ,
@@ -66,7 +66,7 @@ same_itself h =
     within : set.is_subset h.atoms h.atoms ≡ true
     within = subset-from_IsWithin texts_total h.atoms h.atoms (λ q w. w)
 
--- the test of whether two are the same is the definition
+-- the test of whether two sites are the same decides the definition
 pub decided : (r : Bool) (h k : ReplicaModel) → (IsTrue r ↔ (h ≡ k)) → r ≡ is_same h k
 decided true h k w = sym (subst (λ x. is_same h x ≡ true) (w.0 refl) (same_itself h))
 decided false h k w = by (is_same h k) refl
@@ -75,7 +75,7 @@ decided false h k w = by (is_same h k) refl
     by true e = w.1 (same_is h k e)
     by false e = refl
 
--- one more line
+-- one further line
 pub next_line : (sites : List ReplicaModel) (i : ℕ) (h : ReplicaModel) → i < length sites → h ≡ get_or sites i h
     → lines_from sites i (drop i sites) ≡ line_at sites i h ++ lines_from sites (i + 1) (drop (i + 1) sites)
 next_line sites i h within e =

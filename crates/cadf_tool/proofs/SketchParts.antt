@@ -1,4 +1,4 @@
--- What `sketch` and `missing-by-sketch` answer of inputs.
+-- The results of `sketch` and `missing-by-sketch` for inputs.
 use Rattle.std.proofs.Common.{◌≡◌, ◌⊎◌, ℕ, List, Option, None, Some, IfSome, unwrap_or, Result, Ok, Err, true, refl, sym, ap, ◌∙◌, subst, inl, inr}
 use Rattle.cadf_join.specs.Contents.{Text, Contents}
 use Rattle.cadf_line.specs.Digest.{atom_digest}
@@ -23,13 +23,13 @@ use Rattle.cadf_tool.specs.Told.{log_named, atoms_loaded, under_log, replica_mod
 use Rattle.cadf_tool.proofs.InventoryParts.{Notes, notes, notes_inventory, IsPartBy}
 
 module _ (loaded : Loaded) (sketch : SketchModel) where
-  -- it is what the replica has that the input tells
+  -- the result is that for the replica of the input
   pub part_held : (h : ReplicaModel) (result : Result ReplicaModel ToolFault) → log_named loaded ≡ Some h.log → h.atoms ≡ atoms_loaded loaded
       → IsWorkedBy (IsAnswerTo sketch h) result → IsWorkedBy (IsPartBySketch (loaded, sketch)) result
   part_held h result named atoms worked =
       subst (λ (held : Result ReplicaModel ToolFault). IsWorkedBy (IsAnswerOfResult sketch held) result) (λ i. under_log (sym named i) (atoms i)) worked
 
-  -- an input that tells no replica has no part
+  -- an input that names no log has no delta
   pub part_unheld : (fault : ToolFault) → (fault ≡ NoLog) ⊎ (fault ≡ Memory) → (fault ≡ NoLog → log_named loaded ≡ None)
       → IsWorkedBy (IsPartBySketch (loaded, sketch)) (Err fault)
   part_unheld fault (inl is) none =
@@ -76,7 +76,7 @@ sketched_by to noted sketch (bytes, (other, cells, salt, given, read, made, is),
     let layout = layout_with many (unwrap_or salt (own_salt noted)) in
     (other, read, n, inventory, ap (λ (s : SketchModel). s.digest) (sym same) ∙ sketched_digest noted layout)
 
--- ---- the part that a sketch doesn't show
+-- ---- the delta against a sketch
 
 pub held_named : (o : Option Text) (atoms : Contents) (h : ReplicaModel) → under_log o atoms ≡ Ok h → (o ≡ Some h.log) × (h.atoms ≡ atoms)
 held_named None atoms h e = absurd (cc)
@@ -84,7 +84,7 @@ held_named (Some log) atoms h e =
     let is : record { log = log; atoms = atoms } ≡ h = cc in
     (ap (λ (k : ReplicaModel). Some k.log) is, sym (ap (λ (k : ReplicaModel). k.atoms) is))
 
--- an answer is what the input has beyond the inventory that was read
+-- a result is the delta of the input against the inventory that was decoded
 pub part_by_read_is : (from : Loaded) (sketch : SketchModel) (read : InventoryModel) (part : ReplicaModel) → IsPartByRead from sketch read part
     → IsPartBy from read part
 part_by_read_is from sketch read part (held, is, answer, same) =
@@ -94,7 +94,7 @@ part_by_read_is from sketch read part (held, is, answer, same) =
       atoms = ap (λ (k : ReplicaModel). k.atoms) answer.missing ∙ (λ i. missing_by atom_digest (named.1 i) (same i).digests);
     }
 
--- where the files of both share no digest, what was read is what was sketched
+-- if the files of both don't collide, the inventory decoded is the one sketched
 pub part_by_sketched : (from : Loaded) (sketch : SketchModel) (sketched read : InventoryModel) (part : ReplicaModel) → IsInventory sketched
     → sketch.digest ≡ inventory_digest sketched → DoNotCollide read sketched → IsPartByRead from sketch read part → IsPartBy from sketched part
 unfolding inventory_digest
@@ -103,7 +103,7 @@ part_by_sketched from sketch sketched read part inventory is share (held, told, 
     same_inventory answer.theirs sketched answer.inventory inventory (subst (λ m. DoNotCollide m sketched) (sym same) share) (answer.digest ∙ is) in
     part_by_read_is from sketch sketched part (held, told, answer, true_read)
 
--- the answer of an engine, with the inventory that was read
+-- the result of an engine, with the inventory that was decoded
 pub answer_read : (from : Loaded) (sketch : SketchModel) (part : ReplicaModel) → IsPartBySketch (from, sketch) (Ok part)
     → (read : InventoryModel) × IsPartByRead from sketch read part
 answer_read from sketch part answer = by (replica_model_of from) refl answer

@@ -1,4 +1,4 @@
-//! A sink that counts what it takes, and reports an output that is larger than an input may be.
+//! A sink that counts its bytes, and reports an output that is larger than an input may be.
 ghost use Rattle.std.specs.Prelude.{◌≡◌};
 ghost use Rattle.std.specs.Io.{WritesAtMost};
 ghost use Rattle.std.specs.Io.KnownBytes.{WriteAppends};
@@ -15,7 +15,7 @@ pub struct OverLimit {
     limit: u64,
 }
 
-/// Counts the bytes that a sink takes.
+/// Counts the bytes that are written to a sink.
 #[derive(Drop)]
 pub struct CountingSink<W> {
     sink: W,
@@ -25,7 +25,7 @@ pub struct CountingSink<W> {
 impl<W> CountingSink<W> {
     ghost use Rattle.cadf_tool.specs.CountingSink.{counting_sink_inner, counting_sink_taken, report_of};
 
-    /// Wraps a sink, and starts to count at 0.
+    /// Wraps a sink. The count begins at 0.
     pub fn new(sink: W) -> CountingSink<W>
         ensures sink { counting_sink_inner result ≡ sink }
         ensures taken { counting_sink_taken result ≡ 0 }
@@ -33,14 +33,14 @@ impl<W> CountingSink<W> {
         CountingSink { sink, taken: 0 }
     }
 
-    /// Returns how many bytes the sink took; the count stays at 2^64-1.
+    /// Returns the number of bytes written, at most 2^64-1.
     pub fn bytes_written(&self) -> u64
         ensures { result ≡ counting_sink_taken self.now }
     {
         self.taken
     }
 
-    /// Reports the bytes if they are more than `limit`. `None` if they are not.
+    /// Reports the number of bytes written if it is more than `limit`, otherwise `None`.
     pub fn over_limit(&self, limit: u64) -> Option<OverLimit>
         ensures { result ≡ report_of (counting_sink_taken self.now) limit }
     {
@@ -53,7 +53,7 @@ impl<W> CountingSink<W> {
         None
     }
 
-    /// Returns the sink.
+    /// Returns the sink without its count.
     pub fn into_inner(self) -> W
         ensures { result ≡ counting_sink_inner self }
     {

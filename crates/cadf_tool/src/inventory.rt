@@ -1,4 +1,4 @@
-//! The digests of what an input has, as an inventory file.
+//! The engine of `inventory`: the digests of an input's atoms, as an inventory file.
 ghost use Rattle.cadf_file.specs.InventoryFile.{inventory_file};
 ghost use Rattle.cadf_tool.specs.MissingBy.{inventory_model_of};
 ghost use Rattle.cadf_tool.specs.Run.{one, transition_of, input_spec, IsExpected, IsWorked, IsWritten, IsRun};

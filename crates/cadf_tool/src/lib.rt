@@ -1,4 +1,4 @@
-//! The engines of the command: what each writes for the inputs that it read.
+//! The engines of the command: what each of them writes for its inputs.
 #![tactic(auto)]
 
 mod check;

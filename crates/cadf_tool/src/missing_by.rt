@@ -51,9 +51,9 @@ fn missing_by<R: Source>(
     part(alloc, first, &second)
 }
 
-/// Writes the replica file of what `from` has beyond `inventory`: the least replica that holds each atom whose digest
-/// the inventory hasn't. Inputs count from 1: `from` is the first. The second is read as an inventory file, whatever it
-/// begins with. `Err`: why nothing was written, or only a prefix.
+/// Writes the replica file of the delta of `from` against `inventory`: the least replica that has each atom whose
+/// digest the inventory lacks. Inputs are counted from 1: `from` is the first. The second is read as an inventory file,
+/// whatever bytes it begins with. `Err`: why nothing was written, or only a prefix.
 pub fn run_missing_by<R: Source, W: Sink>(
     alloc: Global,
     from: &mut R,

@@ -1,4 +1,4 @@
-//! What an input has beyond a sketch, as a replica file.
+//! The engine of `missing-by-sketch`: the delta of an input against a sketch, as a replica file.
 ghost use Rattle.cadf_tool.specs.WrittenFile.{file};
 ghost use Rattle.cadf_tool.specs.Sketch.{IsAnswerTo, IsPartBySketch};
 ghost use Rattle.cadf_tool.specs.SketchInput.{sketch_spec};
@@ -15,7 +15,7 @@ use cadf_sketch::{ReadFault, Sketch, missing_by_sketch};
 use std::alloc::Global;
 
 /// Returns the delta of the replica for the sketch. `OtherLog` if they are of different logs, `TooFewCells` if the
-/// sketch has too few cells for what differs, `Memory` if an allocation fails.
+/// sketch has too few cells, `Memory` if an allocation fails.
 fn beyond(alloc: Global, from: &Replica, sketch: &Sketch) -> Result<Replica, ToolFault>
     ensures { IsWorkedBy (IsAnswerTo sketch.now from.now) result }
 {
@@ -48,9 +48,9 @@ fn load_part<R: Source>(alloc: Global, from: &mut R, sketch: &mut R) -> Result<R
     part(alloc, first, &second)
 }
 
-/// Writes the replica file of what `from` has beyond `sketch`: what `run_missing_by` writes for the inventory that was
-/// sketched. Inputs count from 1: `from` is the first. The second is read as a sketch file, whatever it begins with.
-/// `Err`: why nothing was written, or only a prefix.
+/// Writes the replica file of the delta of `from` against `sketch`: what `run_missing_by` writes for the inventory that
+/// was sketched. Inputs are counted from 1: `from` is the first. The second is read as a sketch file, whatever bytes it
+/// begins with. `Err`: why nothing was written, or only a prefix.
 pub fn run_missing_by_sketch<R: Source, W: Sink>(
     alloc: Global,
     from: &mut R,

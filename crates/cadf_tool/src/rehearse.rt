@@ -1,4 +1,4 @@
-//! The engine of `rehearse`: the schedule of a script, and what it leaves at each site.
+//! The engine of `rehearse`: simulates the schedule of a script, and writes the state of each site.
 ghost use Rattle.std.specs.Prelude.{◌≡◌, IfOk, IfErr, Ok, string_bytes};
 ghost use Rattle.cadf_tool.specs.Rehearse.{bytes_spec, script_spec, turns_of, of_rehearsal, left_of, final_sites as played_of};
 ghost use Rattle.cadf_tool.specs.Run.{one, transition_of, IsReadAs, IsReadWithin, IsUnread, IsExpected, IsWorked, IsWritten, IsRun};
@@ -13,7 +13,7 @@ use cadf_replica::{RehearseFault, Replica, Turn, rehearse};
 use cadf_script::{ScriptFault, read_script};
 use std::alloc::Global;
 
-/// Reads the bytes of a script. `Err`: it is too large, a read failed, or an allocation.
+/// Reads the bytes of a script. `Err`: it is too large, a read failed, or an allocation failed.
 fn bytes_of<R: Source>(alloc: Global, script: &mut R) -> Result<Vec<u8>, ToolFault>
     ensures ok { IfOk result (λ v. IsReadAs bytes_spec (transition_of R.Source script.old script.new) v.items) }
     ensures err { IfErr result (IsUnread (one script_spec (transition_of R.Source script.old script.new))) }
@@ -27,8 +27,7 @@ fn bytes_of<R: Source>(alloc: Global, script: &mut R) -> Result<Vec<u8>, ToolFau
     }
 }
 
-/// Reads the turns of a script, which is read whole before the first. `Err`: the script is refused, or a line of it is
-/// no turn.
+/// Reads the turns of a script, after all of its bytes. `Err`: the script is refused, or a line of it is no turn.
 fn turns<R: Source>(alloc: Global, script: &mut R) -> Result<Vec<Turn>, ToolFault>
     ensures ok { IfOk result (λ v. IsExpected (one script_spec (transition_of R.Source script.old script.new)) turns_of (Ok v.items)) }
     ensures err { IfErr result (λ f. IsExpected (one script_spec (transition_of R.Source script.old script.new)) turns_of (Err f)) }
@@ -51,8 +50,7 @@ fn refused(fault: RehearseFault) -> ToolFault
     }
 }
 
-/// Simulates the turns, and returns the replicas that they leave at the sites. `Err`: the first turn that can't be
-/// taken.
+/// Simulates the turns, and returns the replicas of the sites after the last. `Err`: the first turn that fails.
 fn left(alloc: Global, log: &Name, sites: usize, turns: &[Turn]) -> Result<Vec<Replica>, ToolFault>
     ensures ok { IfOk result (λ v. IsWorked (left_of log.now sites turns.now) (Ok v.items)) }
     ensures err { IfErr result (λ f. IsWorked (left_of log.now sites turns.now) (Err f)) }
@@ -63,8 +61,8 @@ fn left(alloc: Global, log: &Name, sites: usize, turns: &[Turn]) -> Result<Vec<R
     }
 }
 
-/// Reads a script, and returns the replicas that it leaves at the sites. `Err`: the script is refused, or a turn of it
-/// can't be taken.
+/// Reads a script, and returns the replicas of the sites after its last turn. `Err`: the script is refused, or a turn
+/// of it fails.
 fn final_sites<R: Source>(
     alloc: Global,
     log: &Name,
@@ -80,14 +78,14 @@ fn final_sites<R: Source>(
     }
 }
 
-/// Returns whether both are of the same log and have the same atoms.
+/// Returns whether both have the same log and the same atoms.
 fn are_same(site: &Replica, other: &Replica) -> bool
     ensures { result ≡ is_same site.now other.now }
 {
     site.same(other)
 }
 
-/// Counts the sites before the first that is the same.
+/// Counts the sites before the first that is the same as `site`.
 fn place_of(site: &Replica, sites: &[Replica]) -> usize
     ensures { result ≡ place_in site.now sites.now }
 {
@@ -134,9 +132,8 @@ fn write_lines<W: Sink>(alloc: Global, sites: &[Replica], output: &mut W) -> Res
     }
 }
 
-/// Simulates the schedule of a script over `sites` sites of the log, and writes a line for each site from 0:
-/// `site I atoms N as J`, where J is the least site with the same atoms. `Err`: why nothing was written, or only a
-/// prefix.
+/// Simulates the schedule of a script with `sites` sites of the log, and writes a line for each site from 0: `site I
+/// atoms N as J`, in which J is the least site with the same atoms. `Err`: why nothing was written, or only a prefix.
 pub fn run_rehearse<R: Source, W: Sink>(
     alloc: Global,
     log: &Name,

@@ -1,4 +1,4 @@
-//! A short sketch of what an input has, as a sketch file.
+//! The engine of `sketch`: a short sketch of an input's inventory, as a sketch file.
 ghost use Rattle.std.specs.Prelude.{◌≡◌, IfOk, unwrap_or};
 ghost use Rattle.cadf_sketch.specs.Answers.{inventory_of};
 ghost use Rattle.cadf_sketch.specs.Layouts.{default_cells};
@@ -15,7 +15,7 @@ use cadf_replica::Replica;
 use cadf_sketch::{Cells, Salt, Sketch, write_sketch};
 use std::alloc::Global;
 
-/// Returns the cells, or those of a sketch for which no number is given.
+/// Returns the number of cells, the default if none is given.
 fn cells_or_default(cells: Option<Cells>) -> Cells
     ensures { result ≡ unwrap_or cells default_cells }
 {
@@ -78,9 +78,9 @@ fn write_sketched<W: Sink>(alloc: Global, sketch: &Sketch, output: &mut W) -> Re
     answered(write_sketch(alloc, sketch, output))
 }
 
-/// Writes the sketch file of an input's inventory: of `Cells::by_default` if no number is given, and with the salt that
-/// the inventory's digest makes if none is given, so that one set has one sketch. `Err`: why nothing was written, or
-/// only a prefix.
+/// Writes the sketch file of an input's inventory. The number of cells is `Cells::by_default` if none is given. If no
+/// salt is given, the inventory's digest determines it, so that one set has one sketch. `Err`: why nothing was written,
+/// or only a prefix.
 pub fn run_sketch<R: Source, W: Sink>(
     alloc: Global,
     cells: Option<Cells>,

@@ -1,6 +1,7 @@
-//! The command line: which words `cadf` takes, what they ask for, and what is printed of them.
+//! The command line: the words that `cadf` accepts, the request that they are parsed to, and the texts printed for
+//! them.
 //!
-//! The commands and their words stand in two tables. The crate `clap` reads the words and makes all texts.
+//! Two tables define the commands and their words. The crate `clap` parses the words and makes all texts.
 #![tactic(auto)]
 
 mod reply;

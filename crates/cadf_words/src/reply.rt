@@ -1,4 +1,4 @@
-//! What is answered in place of a request.
+//! The reply to words that are not parsed to a request.
 use clap::Error;
 use clap::error::ErrorKind;
 use std::alloc::AllocError;
@@ -23,16 +23,16 @@ impl fmt::Display for Message {
     }
 }
 
-/// What the words are answered where they ask for no work.
+/// The reply to words that are not parsed to a request.
 #[derive(Drop)]
 pub enum Reply {
     /// Memory ran out.
     Memory,
-    /// They ask for help or for the version.
+    /// The words ask for help or for the version.
     Help(Message),
-    /// They are refused.
+    /// The words are refused.
     Refused(Message),
-    /// They name no command. `clap` refuses such words, so this doesn't come about.
+    /// The words name no command. `clap` refuses such words, so this does not occur.
     Unnamed,
 }
 

@@ -1,10 +1,10 @@
-//! What a command line asks for.
+//! The request that a command line makes.
 use crate::reply::Reply;
 use crate::table::command;
 use clap::{ArgMatches, Error};
 use std::alloc::{AllocError, Global};
 
-/// What the words ask for. Each word stands as it was given, and nothing of it is checked yet.
+/// The request that the words make. Each word is kept as it was given, and is not checked yet.
 #[derive(Drop)]
 pub enum Request<'a> {
     Join {
@@ -122,13 +122,13 @@ fn request_of<'a>(
     })
 }
 
-/// Reads the words by `clap`.
+/// Parses the words by `clap`.
 fn matches_of<'a>(alloc: Global, words: &'a [String]) -> Result<ArgMatches<'a>, Error> {
     command(alloc)?.try_get_matches_from(words)
 }
 
-/// Reads the words of a command line, of which the first is the program's name. Answers what they ask for; else
-/// `Err` with what is to be printed of them, or `Reply::Memory`.
+/// Parses the words of a command line, of which the first is the program's name. Returns the request that they make;
+/// `Err`: the text to print for them, or `Reply::Memory`.
 pub fn parse<'a>(alloc: Global, words: &'a [String]) -> Result<Request<'a>, Reply> {
     let matches = matches_of(alloc, words)?;
     match matches.subcommand() {

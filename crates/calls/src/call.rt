@@ -9,7 +9,7 @@ pub struct Call {
 }
 
 impl Call {
-    /// Reads the call that the line spells: fields between tabs, the name first. `Err` if an allocation fails.
+    /// Parses the call in the line: fields between tabs, the name first. `Err` if an allocation fails.
     pub fn read(alloc: Global, line: &str) -> Result<Call, Memory> {
         let mut fields = Vec::new(alloc);
         for field in line.split('\t') {
@@ -36,7 +36,7 @@ impl Call {
         }
     }
 
-    /// Returns the number that word `place`, from 1, spells; 0 if it spells none.
+    /// Returns the number in word `place`, from 1; 0 if the word is no number.
     pub fn number(&self, place: usize) -> usize {
         text_of(&self.fields, place).parse().unwrap_or(0)
     }
@@ -55,16 +55,16 @@ fn text_of(fields: &[Vec<u8>], place: usize) -> &str {
     }
 }
 
-/// Appends the bytes that the field spells.
+/// Appends the bytes that the field encodes.
 fn push_decoded(alloc: Global, fields: &mut Vec<Vec<u8>>, field: &str) -> Result<(), Memory> {
     fields.push(decoded(alloc, field)?)?;
     Ok(())
 }
 
-/// What the bytes so far leave open.
+/// The state of the decoder of escapes.
 #[derive(Clone, Copy, Drop)]
 enum Open {
-    /// Nothing.
+    /// No escape is open.
     Plain,
     /// A backslash was read.
     Escape,
@@ -74,7 +74,7 @@ enum Open {
     Digit(u8),
 }
 
-/// Returns the bytes that the field spells.
+/// Returns the bytes that the field encodes.
 fn decoded(alloc: Global, field: &str) -> Result<Vec<u8>, Memory> {
     let mut bytes = Vec::new(alloc);
     let mut open = Open::Plain;
@@ -84,7 +84,7 @@ fn decoded(alloc: Global, field: &str) -> Result<Vec<u8>, Memory> {
     Ok(bytes)
 }
 
-/// Appends the byte that `byte` completes, if it completes one, and returns what is then open.
+/// Appends the byte that `byte` completes, if it completes one, and returns the next state.
 fn next(bytes: &mut Vec<u8>, open: Open, byte: u8) -> Result<Open, Memory> {
     let ended = match (open, byte) {
         (Open::Plain, b'\\') => return Ok(Open::Escape),

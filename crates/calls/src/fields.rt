@@ -1,4 +1,4 @@
-//! Answers: a line that grows field by field.
+//! Answers: lines to which fields are appended.
 
 use std::alloc::{AllocError as Memory, Global};
 use std::fmt::Debug;
@@ -48,7 +48,8 @@ pub fn push_truth(line: &mut String, truth: bool) -> Result<(), Memory> {
     push(line, if truth { "true" } else { "false" })
 }
 
-/// Makes the answer `err` with the fault's name and what it tells, each a field: `Event(1, Id)` gives `err`, `Event`, `1`, `Id`.
+/// Makes the answer `err` with the fault's name and its values, each a field: `Event(1, Id)` gives `err`, `Event`, `1`,
+/// `Id`.
 pub fn refused(alloc: Global, fault: &impl Debug) -> Result<String, Memory> {
     let shown = format!(in alloc; "{fault:?}")?;
     let mut line = String::from_str(alloc, "err\t")?;
@@ -67,7 +68,7 @@ fn push_shown(line: &mut String, c: char) -> Result<(), Memory> {
     }
 }
 
-/// Adds the text and the bytes that are none.
+/// Adds the text, and the bytes that are no UTF-8.
 fn push_chunk(line: &mut String, text: &str, bytes: &[u8]) -> Result<(), Memory> {
     push_escaped(line, text)?;
     for &byte in bytes {
@@ -76,7 +77,7 @@ fn push_chunk(line: &mut String, text: &str, bytes: &[u8]) -> Result<(), Memory>
     Ok(())
 }
 
-/// Adds the text in its spelling.
+/// Adds the text, encoded as a field.
 fn push_escaped(line: &mut String, text: &str) -> Result<(), Memory> {
     for c in text.chars() {
         push_char(line, c)?;
@@ -84,7 +85,7 @@ fn push_escaped(line: &mut String, text: &str) -> Result<(), Memory> {
     Ok(())
 }
 
-/// Adds a character in its spelling.
+/// Adds a character, encoded as in a field.
 fn push_char(line: &mut String, c: char) -> Result<(), Memory> {
     match c {
         '\\' => line.push_str("\\\\"),
@@ -96,14 +97,14 @@ fn push_char(line: &mut String, c: char) -> Result<(), Memory> {
     }
 }
 
-/// Adds a byte by its digits.
+/// Adds a byte by its hexadecimal digits.
 fn push_byte(line: &mut String, byte: u8) -> Result<(), Memory> {
     line.push_str("\\x")?;
     line.push(hex_digit(byte >> 4))?;
     line.push(hex_digit(byte & 15))
 }
 
-/// Answers a hexadecimal digit.
+/// Returns a hexadecimal digit.
 fn hex_digit(value: u8) -> char {
     char::from_digit(u32::from(value), 16).unwrap_or('0')
 }

@@ -49,7 +49,7 @@ fn told(alloc: Global, document: &Document) -> Result<String, Memory> {
     Ok(line)
 }
 
-/// Answers the document that the text's value is, or why it is none.
+/// Answers the document that the text spells, or why there is none.
 pub(crate) fn document(alloc: Global, text: &str) -> Result<String, Memory> {
     match Json::read(alloc, text.as_bytes()) {
         Ok(json) => match Document::read(alloc, &json.view()) {
@@ -60,7 +60,7 @@ pub(crate) fn document(alloc: Global, text: &str) -> Result<String, Memory> {
     }
 }
 
-/// Answers the document that the bytes are, or why they are none.
+/// Answers the document that the bytes spell, or why there is none.
 pub(crate) fn of_bytes(alloc: Global, bytes: &[u8]) -> Result<String, Memory> {
     match Document::read_bytes(alloc, bytes) {
         Ok(document) => told(alloc, &document),

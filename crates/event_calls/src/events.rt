@@ -61,7 +61,7 @@ fn told(alloc: Global, seen: &Sighting) -> Result<String, Memory> {
     Ok(line)
 }
 
-/// Answers what the event is read as, or why the text is none.
+/// Answers the event that the text spells, or why there is none.
 pub(crate) fn event(alloc: Global, text: &str) -> Result<String, Memory> {
     match Json::read(alloc, text.as_bytes()) {
         Ok(json) => match Sighting::read(alloc, &json.view()) {

@@ -1,4 +1,4 @@
-//! What faults are shown as.
+//! The texts of faults.
 
 use cadf_event::{Body, Document, Name, Property, Stamp};
 use cadf_json::{Json, Memory};
@@ -22,7 +22,7 @@ fn property(alloc: Global, name: &str, text: &str) -> Result<String, Memory> {
     }
 }
 
-/// Answers what the fault of a reading is shown as: the first word tells what is read, the second its text.
+/// Answers the text of the fault of a parse: the first word is the type to parse, the second its text.
 pub(crate) fn shown(alloc: Global, call: &Call) -> Result<String, Memory> {
     let text = call.text(2);
     match call.text(1) {

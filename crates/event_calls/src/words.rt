@@ -15,12 +15,12 @@ pub(crate) fn name(alloc: Global, text: &str) -> Result<String, Memory> {
     }
 }
 
-/// Tells whether the text is a name.
+/// Answers whether the text is a name.
 pub(crate) fn named(alloc: Global, text: &str) -> Result<String, Memory> {
     format!(in alloc; "{}", cadf_event::is_valid_name(text))
 }
 
-/// Tells whether the name is reserved.
+/// Answers whether the name is reserved.
 pub(crate) fn reserved(alloc: Global, text: &str) -> Result<String, Memory> {
     format!(in alloc; "{}", cadf_event::is_reserved(text))
 }

@@ -1,4 +1,4 @@
-//! Faults as they are shown.
+//! The texts of faults.
 
 use cadf_file::{Cause, FileFault};
 use cadf_json::Memory;

@@ -1,4 +1,4 @@
-//! Replica files that come in pieces.
+//! Replica files that are given in pieces.
 
 ghost use Rattle.std.specs.Prelude.{◌≡◌, OnOk, None};
 
@@ -35,7 +35,8 @@ fn push_fed(
     push_number(alloc, line, feed.pending() as i128)
 }
 
-/// Answers `feed`: a limit, whether the reader failed in the end, and the pieces. A piece after a refused one is fed too.
+/// Answers `feed`: a limit, whether the source failed at its end, and the pieces. A piece after a refused one is fed,
+/// too.
 pub(crate) fn feed(alloc: Global, call: &Call) -> Result<String, Memory> {
     let mut feed = ReplicaFeed::new(alloc, call.number(1) as u64);
     let mut line = answer(alloc, "fed", &[])?;

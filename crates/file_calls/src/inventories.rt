@@ -31,7 +31,7 @@ pub(crate) fn read(alloc: Global, call: &Call) -> Result<String, Memory> {
     }
 }
 
-/// Puts the digest that the word spells. `false` if it spells none.
+/// Adds the digest that the word encodes. `false` if it encodes none.
 fn put(inventory: &mut Inventory, word: &str) -> bool {
     let mut digest = [0u8; 32];
     hex::decode_to_slice(word, &mut digest).is_ok() && inventory.put(&digest).is_ok()

@@ -10,16 +10,16 @@ use std::alloc::Global;
 /// How a file is read.
 #[derive(Clone, Copy, Drop)]
 pub(crate) struct Reading {
-    /// The most bytes of the file.
+    /// The limit on the bytes of the file.
     pub(crate) limit: u64,
-    /// The most bytes of a read.
+    /// The greatest number of bytes that one read returns.
     pub(crate) piece: usize,
-    /// The number of the read that fails; 0 is none.
+    /// The number of the read that fails; with 0 none fails.
     pub(crate) failing: u64,
 }
 
 impl Reading {
-    /// Takes the first three words: the limit, the bytes of a read, the read that fails.
+    /// Parses the first three words: the limit, the bytes of a read, the read that fails.
     pub(crate) fn of(call: &Call) -> Reading {
         Reading {
             limit: call.number(1) as u64,

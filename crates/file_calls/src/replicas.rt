@@ -6,7 +6,7 @@ use cadf_replica::{Atom, Replica};
 use calls::{Call, answer, push};
 use std::alloc::Global;
 
-/// Puts the atom of that line. `false` if the line is none, or its carrier is not held.
+/// Adds the atom of that line. `false` if the line is no atom's, or its carrier is missing.
 fn put(alloc: Global, replica: &mut Replica, line: &str) -> bool {
     match Atom::read(alloc, line) {
         Ok(atom) => replica.put(&atom).is_ok(),

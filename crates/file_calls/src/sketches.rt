@@ -59,8 +59,8 @@ pub(crate) fn read(alloc: Global, call: &Call) -> Result<String, Memory> {
     }
 }
 
-/// Answers `write_sketch`: a writer, a number of cells, a salt, a log and digests. A number that is no salt stands for
-/// none.
+/// Answers `write_sketch`: a writer, a number of cells, a salt, a log and digests. A number that can't be a salt means
+/// that none is given.
 pub(crate) fn write(alloc: Global, call: &Call) -> Result<String, Memory> {
     let Some(cells) = Cells::of(call.number(4) as u64) else {
         return answer(alloc, "no cells", &[]);

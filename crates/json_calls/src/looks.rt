@@ -1,4 +1,4 @@
-//! Values that are held or read into a tree, and what is seen of either.
+//! Access to values, owned or parsed into a tree.
 
 use cadf_json::{Json, Member, Tree, View};
 use calls::Call;
@@ -22,7 +22,7 @@ pub(crate) fn tree(alloc: Global, call: &Call) -> Result<String, Memory> {
     }
 }
 
-/// Answers the value of a canonical text, spelled again.
+/// Answers the canonical text of the value that a canonical text spells.
 pub(crate) fn canonical(alloc: Global, text: &str) -> Result<String, Memory> {
     match Json::read_canonical(alloc, text) {
         Ok(json) => shown(alloc, "ok", &json.view()),
@@ -51,7 +51,7 @@ pub(crate) fn shown(alloc: Global, word: &str, view: &View<'_, '_>) -> Result<St
     calls::answer(alloc, word, &[text.as_str()])
 }
 
-/// Tells whether the part is null, an object, a list; how many parts it has, how deep it nests, and its text.
+/// Answers whether the part is null, an object, a list; how many parts it has, how deep it nests, and its text.
 fn kind(alloc: Global, view: &View<'_, '_>) -> Result<String, Memory> {
     let (null, object, list) = (view.is_null(), view.is_object(), view.is_list());
     let mut line = format!(in alloc;
@@ -65,7 +65,7 @@ fn kind(alloc: Global, view: &View<'_, '_>) -> Result<String, Memory> {
     Ok(line)
 }
 
-/// Answers a part that may be there.
+/// Answers a part, if there is one.
 fn found(alloc: Global, part: Option<View<'_, '_>>) -> Result<String, Memory> {
     match part {
         Some(view) => shown(alloc, "some", &view),
@@ -73,7 +73,7 @@ fn found(alloc: Global, part: Option<View<'_, '_>>) -> Result<String, Memory> {
     }
 }
 
-/// Answers a name that may be there.
+/// Answers a name, if there is one.
 fn name(alloc: Global, name: Option<&str>) -> Result<String, Memory> {
     match name {
         Some(name) => calls::answer(alloc, "some", &[name]),
@@ -96,7 +96,7 @@ fn push_member(alloc: Global, line: &mut String, member: &Member<'_, '_>) -> Res
     calls::push(line, member.value.text(alloc)?.as_str())
 }
 
-/// Tells whether each member nests within the limit of its name, or the one of others.
+/// Answers whether each member nests within the limit of its name, or the one for other names.
 fn within(alloc: Global, view: &View<'_, '_>, call: &Call) -> Result<String, Memory> {
     let limit = u8::try_from(call.number(4)).unwrap_or(0);
     let others = u8::try_from(call.number(5)).unwrap_or(0);

@@ -1,9 +1,9 @@
-//! Texts of which nothing is kept.
+//! Texts that are checked, and not kept.
 
 use json::Scratch;
 use std::alloc::{AllocError as Memory, Global};
 
-/// Tells whether the text is a list that can be passed over.
+/// Answers whether the text is a list that can be skipped.
 pub(crate) fn list(alloc: Global, text: &str) -> Result<String, Memory> {
     match cadf_json::check_list(alloc, text) {
         Ok(()) => calls::answer(alloc, "ok", &[]),
@@ -53,7 +53,7 @@ pub(crate) fn has_text_at(
     format!(in alloc; "{has}")
 }
 
-/// Answers whether a number of the text that counts isn't whole, as far as that is told.
+/// Answers whether a number of the text that counts isn't whole, if the parser can decide.
 pub(crate) fn find_fraction(alloc: Global, text: &str) -> Result<String, Memory> {
     match cadf_json::find_fraction(alloc, text)? {
         Some(fraction) => format!(in alloc; "some\t{fraction}"),

@@ -1,4 +1,4 @@
-//! Sources that give their bytes in pieces and fail when they are told to.
+//! Sources that return their bytes in pieces, and fail when asked to.
 
 ghost use Rattle.std.specs.Prelude.{◌<◌, ◌^◌};
 
@@ -47,7 +47,7 @@ pub(crate) fn rest(alloc: Global, call: &Call) -> Result<String, Memory> {
     told(alloc, bytes)
 }
 
-/// A reader of std that gives a byte a call. The call of number `failing` fails, and the next one goes on.
+/// A reader of std that returns one byte per call. Call number `failing` fails, and the next one continues.
 #[derive(Drop)]
 struct FailsOnce<'b> {
     left: &'b [u8],

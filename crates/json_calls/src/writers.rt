@@ -1,11 +1,11 @@
-//! Sinks that take bytes in pieces and fail when they are told to.
+//! Sinks that accept bytes in pieces, and fail when asked to.
 
 use cadf_json::{Failed, FailingWrite, FromStd, MemorySink, OutFault, write_all};
 use calls::Call;
 use std::alloc::{AllocError as Memory, Global};
 use std::io;
 
-/// Tells whether the bytes were written, and which.
+/// Answers whether the bytes were written, and which.
 fn told(alloc: Global, done: Result<(), Failed>, written: &[u8]) -> Result<String, Memory> {
     let mut line = match done {
         Ok(()) => calls::answer(alloc, "ok", &[])?,
@@ -32,7 +32,7 @@ pub(crate) fn whole(alloc: Global, call: &Call) -> Result<String, Memory> {
     told(alloc, done, sink.bytes())
 }
 
-/// A writer of std that takes a byte a call, up to a number of bytes, and nothing more.
+/// A writer of std that accepts one byte per call, up to a number of bytes, and no more.
 #[derive(Drop)]
 struct Full {
     bytes: Vec<u8>,
@@ -56,7 +56,7 @@ impl io::Write for Full {
     }
 }
 
-/// Writes the first word's bytes to a writer of std that has room for so many.
+/// Writes the first word's bytes to a writer of std that accepts that number of bytes.
 pub(crate) fn by_std(alloc: Global, call: &Call) -> Result<String, Memory> {
     let mut sink = FromStd::new(Full {
         bytes: Vec::new(alloc),

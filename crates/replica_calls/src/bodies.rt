@@ -1,4 +1,4 @@
-//! Calls of what came with a body. The words are the replica, the event's identifier, and the text of the body.
+//! Calls of the parts of a body. The words are the replica, the event's identifier, and the text of the body.
 
 use crate::spelled::{of_list, replica};
 use crate::told;

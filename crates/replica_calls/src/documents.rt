@@ -1,4 +1,4 @@
-//! Calls of a replica that takes a document, or the parts of one kind of it. The words are the replica and the document.
+//! Calls that add a document, or its parts of one kind, to a replica. The words are the replica and the document.
 
 use crate::spelled::replica;
 use crate::told;

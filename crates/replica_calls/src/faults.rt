@@ -1,4 +1,4 @@
-//! What faults are shown as. The word names the fault; a second one is its number.
+//! The texts of faults. The word names the fault; a second one is its number.
 
 use cadf_json::Memory;
 use cadf_replica::{AtomFault, RehearseFault, ReplicaFault, RulingFault};
@@ -6,7 +6,7 @@ use cadf_script::ScriptFault;
 use calls::{Call, answer};
 use std::alloc::Global;
 
-/// Answers what the fault of that kind is shown as.
+/// Answers the text of the fault of that kind.
 pub(crate) fn answered(alloc: Global, kind: &str, call: &Call) -> Result<String, Memory> {
     match kind {
         "atom" => atom(alloc, call.text(1)),

@@ -1,11 +1,11 @@
-//! A visitor that keeps what it is shown.
+//! A visitor that keeps the lists that it visits.
 ghost use Rattle.std.specs.Prelude.{⊤};
 
 use cadf_join::{Memory, Visitor};
 use cadf_replica::Replica;
 use std::alloc::Global;
 
-/// The lists that were shown.
+/// The lists that were visited.
 #[derive(Drop)]
 struct Kept {
     lists: Vec<Vec<String>>,
@@ -50,7 +50,7 @@ fn copied(alloc: Global, list: &[&str]) -> Result<Vec<String>, Memory> {
     Ok(texts)
 }
 
-/// Lists the atoms that a walk of the replica shows, each as its texts.
+/// Lists the atoms that a walk of the replica visits, each as its texts.
 pub(crate) fn lists(alloc: Global, replica: &Replica) -> Result<Vec<Vec<String>>, Memory> {
     let mut kept = Kept {
         lists: Vec::new(alloc),

@@ -1,7 +1,7 @@
 //! Calls of atoms, replicas, inventories, rulings, scripts and schedules.
 //!
-//! A replica is written as lines: its log's name, and after it the line of each atom. An inventory likewise: its log's name,
-//! and after it the digits of each digest.
+//! A replica is written as lines: its log's name, and after it the line of each atom. An inventory is written likewise:
+//! its log's name, and after it the digits of each digest.
 #![tactic(auto)]
 
 mod atoms;

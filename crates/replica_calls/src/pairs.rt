@@ -20,7 +20,7 @@ pub(crate) fn answered(alloc: Global, name: &str, call: &Call) -> Result<String,
     Ok(line)
 }
 
-/// Answers the part that the inventory of the word lacks.
+/// Answers the delta for the inventory of the word.
 fn missing_by(alloc: Global, ours: &Replica, word: &str) -> Result<String, Memory> {
     let theirs = inventory(alloc, word)?;
     told::part(alloc, ours.missing_by(&theirs))

@@ -1,4 +1,4 @@
-//! Calls of lists of texts: what they are among the atoms, what may follow an atom, and the name of a log.
+//! Calls of lists of texts: their kinds, the texts that may follow an atom, and the name of a log.
 
 use crate::told;
 use cadf_event::log_name;
@@ -42,7 +42,7 @@ fn kind(alloc: Global, kind: PathKind) -> Result<String, Memory> {
     answer(alloc, "ok", &[word])
 }
 
-/// Tells whether the texts may follow an atom of three texts with that letter.
+/// Answers whether the texts may follow an atom of three texts with that letter.
 fn follows(alloc: Global, letter: &str, more: &[String]) -> Result<String, Memory> {
     let mut scratch = Scratch::new(alloc);
     told::found_true(alloc, can_extend_atom(alloc, &mut scratch, letter, more)?)

@@ -101,7 +101,7 @@ fn put_parts(alloc: Global, ours: &mut Replica, atom: &Atom) -> Result<String, M
     told::changed(alloc, outcome, ours)
 }
 
-/// Tells whether the atom was put last, or why not, and what the replica then is.
+/// Answers whether the atom was appended, or why not, and the replica after it.
 fn push_if_last(alloc: Global, ours: &mut Replica, atom: &Atom) -> Result<String, Memory> {
     match ours.push_if_last(atom.parts()) {
         Ok(true) => told::replica(alloc, ours),

@@ -46,7 +46,7 @@ fn spelled(alloc: Global, ruling: &Ruling) -> Result<String, Memory> {
     Ok(line)
 }
 
-/// Answers what the replica is with the ruling.
+/// Answers the replica with the ruling.
 fn taken(
     alloc: Global,
     ours: Result<Replica, Memory>,
@@ -59,7 +59,7 @@ fn taken(
     }
 }
 
-/// Answers what the replica is with the ruling; if an allocation failed, also what it is when it takes it again.
+/// Answers the replica with the ruling; if an allocation failed, also the replica after a second try.
 fn with_ruling(alloc: Global, mut ours: Replica, ruling: &Ruling) -> Result<String, Memory> {
     let mut line = took(alloc, &mut ours, ruling)?;
     if is_refused(line.as_str()) {

@@ -1,4 +1,4 @@
-//! Calls of scripts, and of the schedules that they spell.
+//! Calls of scripts, and of their schedules.
 
 use crate::spelled::{name as log_of, of_replica};
 use cadf_event::Name;
@@ -22,7 +22,7 @@ pub(crate) fn answered(alloc: Global, name: &str, call: &Call) -> Result<String,
     }
 }
 
-/// Answers the turns of the script, each a field, or the first line that spells none.
+/// Answers the turns of the script, each a field, or the first line that is no turn.
 fn read(alloc: Global, script: &[u8]) -> Result<String, Memory> {
     match read_script(alloc, script) {
         Ok(turns) => listed(alloc, &turns),
@@ -38,7 +38,7 @@ fn listed(alloc: Global, turns: &[Turn]) -> Result<String, Memory> {
     Ok(line)
 }
 
-/// Answers the turn, with the log and the number of events of what is learnt.
+/// Answers the turn; for `learn` the document's log and its number of events.
 fn spelled(alloc: Global, turn: &Turn) -> Result<String, Memory> {
     match turn {
         Turn::Learn(site, document) => match document.log() {
@@ -56,7 +56,7 @@ fn spelled(alloc: Global, turn: &Turn) -> Result<String, Memory> {
     }
 }
 
-/// Answers what the script's turns leave at each site, a field each, or why they leave nothing.
+/// Answers the replica of each site after the script's turns, a field each, or the fault.
 fn rehearsed(alloc: Global, log: &Name, sites: usize, script: &[u8]) -> Result<String, Memory> {
     match read_script(alloc, script) {
         Ok(turns) => left(alloc, rehearse(alloc, log, sites, &turns)),

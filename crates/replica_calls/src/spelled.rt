@@ -1,4 +1,4 @@
-//! Values as words: what a word spells, and how a value is spelled.
+//! Values encoded as words, and words decoded to values.
 
 use crate::kept::lists;
 use cadf_event::Name;
@@ -25,7 +25,7 @@ pub(crate) fn atom(alloc: Global, line: &str) -> Result<Option<Atom>, Memory> {
     }
 }
 
-/// Puts the atom; one without its carrier is passed over.
+/// Adds the atom; an atom without its carrier is skipped.
 fn put(replica: &mut Replica, atom: &Atom) -> Result<(), Memory> {
     match replica.put(atom) {
         Err(ReplicaFault::Memory) => Err(Memory),
@@ -33,7 +33,7 @@ fn put(replica: &mut Replica, atom: &Atom) -> Result<(), Memory> {
     }
 }
 
-/// Puts the atom of the line; a line that is none is passed over.
+/// Adds the atom of the line; a line that is no atom's is skipped.
 fn put_line(alloc: Global, replica: &mut Replica, line: &str) -> Result<(), Memory> {
     match atom(alloc, line)? {
         Some(atom) => put(replica, &atom),
@@ -41,7 +41,7 @@ fn put_line(alloc: Global, replica: &mut Replica, line: &str) -> Result<(), Memo
     }
 }
 
-/// Answers the replica that the word spells.
+/// Answers the replica that the word encodes.
 pub(crate) fn replica(alloc: Global, word: &str) -> Result<Replica, Memory> {
     let (log, lines) = word.split_once('\n').unwrap_or((word, ""));
     let mut replica = Replica::new(alloc, name(alloc, log)?);
@@ -83,12 +83,12 @@ pub(crate) fn of_replica(alloc: Global, replica: &Replica) -> Result<String, Mem
     Ok(spelled)
 }
 
-/// Answers the digest that the digits spell; nothing but zeros if they spell none.
+/// Answers the digest that the digits encode; only zeros if they encode none.
 pub(crate) fn digest(digits: &str) -> [u8; 32] {
     <[u8; 32] as FromHex>::from_hex(digits).unwrap_or([0; 32])
 }
 
-/// Answers the inventory that the word spells.
+/// Answers the inventory that the word encodes.
 pub(crate) fn inventory(alloc: Global, word: &str) -> Result<Inventory, Memory> {
     let (log, lines) = word.split_once('\n').unwrap_or((word, ""));
     let mut inventory = Inventory::new(alloc, name(alloc, log)?);

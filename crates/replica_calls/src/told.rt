@@ -82,7 +82,7 @@ pub(crate) fn made(alloc: Global, made: Result<Replica, Memory>) -> Result<Strin
     replica(alloc, &made?)
 }
 
-/// Answers how a change came out, and what the replica then is.
+/// Answers the result of a change, and the replica after it.
 pub(crate) fn changed(
     alloc: Global,
     outcome: Result<(), ReplicaFault>,
@@ -94,7 +94,7 @@ pub(crate) fn changed(
     }
 }
 
-/// Answers how a change came out that only memory can refuse, and what the replica then is.
+/// Answers the result of a change that fails only for lack of memory, and the replica after it.
 pub(crate) fn grown(
     alloc: Global,
     outcome: Result<(), Memory>,
@@ -106,14 +106,14 @@ pub(crate) fn grown(
     }
 }
 
-/// Answers why it was refused, and what the replica still is.
+/// Answers why a change was refused, and the replica, which is as before.
 pub(crate) fn kept(alloc: Global, fault: ReplicaFault, after: &Replica) -> Result<String, Memory> {
     let mut line = refused(alloc, &fault)?;
     push(&mut line, of_replica(alloc, after)?.as_str())?;
     Ok(line)
 }
 
-/// Answers the part that was found, or why none was.
+/// Answers the delta, or why there is none.
 pub(crate) fn part(alloc: Global, found: Result<Replica, ReplicaFault>) -> Result<String, Memory> {
     match found {
         Ok(part) => replica(alloc, &part),

@@ -1,11 +1,11 @@
-//! A visitor that keeps what it is shown.
+//! A visitor that keeps the lists that it visits.
 ghost use Rattle.std.specs.Prelude.{⊤};
 
 use crate::told;
 use cadf_pathset::{Memory, PathSet, Visitor, Walk};
 use std::alloc::Global;
 
-/// The lists that were shown.
+/// The lists that were visited.
 #[derive(Drop)]
 struct Keeping {
     lists: Vec<Vec<String>>,
@@ -50,7 +50,7 @@ fn kept(alloc: Global, list: &[&str]) -> Result<Vec<String>, Memory> {
     Ok(texts)
 }
 
-/// Answers the lists that a walk of the set shows after a path.
+/// Answers the lists that a walk of the set visits after a path.
 pub(crate) fn walked<'a>(
     alloc: Global,
     set: &'a PathSet,

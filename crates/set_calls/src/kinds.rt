@@ -1,16 +1,16 @@
-//! The kinds of values, each made of lists.
+//! The kinds of values of `Join`, each made from lists.
 
 use crate::lists::{lent, lists};
 use cadf_join::{ChainTree, Join, JoinMap, Memory, TextSet};
 use cadf_pathset::PathSet;
 use std::alloc::Global;
 
-/// A value that is made of lists.
+/// A value that can be made from lists.
 pub(crate) trait Made: Join {
-    /// Makes a value that holds nothing.
+    /// Makes an empty value.
     fn empty(alloc: Global) -> Self;
 
-    /// Adds the list. One that no value of the kind holds is passed over.
+    /// Adds the list. A list that no value of the kind has is skipped.
     fn add(&mut self, alloc: Global, list: &[String]) -> Result<(), Memory>;
 }
 
@@ -65,7 +65,7 @@ impl Made for PathSet {
     }
 }
 
-/// Answers the value that holds the lists of the word.
+/// Answers the value with the lists of the word.
 pub(crate) fn value_of<J: Made>(alloc: Global, word: &str) -> Result<J, Memory> {
     let mut value = J::empty(alloc);
     for list in lists(alloc, word)? {

@@ -1,4 +1,5 @@
-//! Calls of sets of lists of texts. A list is written as the JSON list of its texts, and a set as the JSON list of its lists.
+//! Calls of sets of lists of texts. A list is written as the JSON list of its texts, and a set as the JSON list of its
+//! lists.
 #![tactic(auto)]
 
 mod example;

@@ -5,7 +5,8 @@ use cadf_json::{Json, Memory, View, quoted};
 use calls::{Call, answer};
 use std::alloc::Global;
 
-/// Reads the JSON value of the word, or that of an empty list if it is missing. A word that is none is answered as `Memory`.
+/// Reads the JSON value of the word, or that of an empty list if it is missing. A word that is none is answered as
+/// `Memory`.
 fn json(alloc: Global, word: &str) -> Result<Json, Memory> {
     let word = if word.is_empty() { "[]" } else { word };
     match Json::read(alloc, word.as_bytes()) {

@@ -44,7 +44,7 @@ fn told_of_map<V: Made>(
     }
 }
 
-/// Answers what the value at a key holds.
+/// Answers the contents of the value at a key.
 fn got<V: Made>(alloc: Global, value: Option<&V>) -> Result<String, Memory> {
     match value {
         Some(value) => answer(alloc, "some", &[told::contents(alloc, value)?.as_str()]),

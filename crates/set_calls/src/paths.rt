@@ -42,7 +42,7 @@ fn told_of(alloc: Global, name: &str, ours: &mut PathSet, call: &Call) -> Result
     }
 }
 
-/// Answers the lists that a walk of a set shows after a path.
+/// Answers the lists that a walk of a set visits after a path.
 fn shown(alloc: Global, call: &Call) -> Result<String, Memory> {
     let ours: PathSet = value_of(alloc, call.text(1))?;
     let given = list(alloc, call.text(2))?;
@@ -115,7 +115,7 @@ fn taken(alloc: Global, ours: &mut PathSet, word: &str) -> Result<String, Memory
     told::left(alloc, outcome, ours)
 }
 
-/// Lists that all have the empty list as their carrier.
+/// Determines as the carrier of every list the empty list.
 enum ByNothing {}
 
 impl Carrier for ByNothing {
@@ -128,12 +128,12 @@ impl Carrier for ByNothing {
     ghost in_order = { λ _ _ _ g. Prim.cc };
 }
 
-/// Answers what the first has and the second lacks, with its carriers.
+/// Answers the lists that the first has and the second lacks, with their carriers.
 fn missing(alloc: Global, ours: &PathSet, theirs: &PathSet) -> Result<String, Memory> {
     told::held(alloc, &ours.missing_with_carriers::<ByNothing>(theirs)?)
 }
 
-/// Answers the set of the lists, gathered in the order in which they stand.
+/// Answers the set of the lists, built from them in the order of the word.
 fn gathered(alloc: Global, word: &str) -> Result<String, Memory> {
     let mut gathered = PathSetBuilder::new(alloc);
     for list in lists(alloc, word)? {

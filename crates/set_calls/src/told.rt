@@ -48,19 +48,19 @@ pub(crate) fn lists(alloc: Global, lists: &[Vec<String>]) -> Result<String, Memo
     answer(alloc, "ok", &[all_spelled(alloc, lists)?.as_str()])
 }
 
-/// Answers the lists that the value holds.
+/// Answers the lists of the value.
 pub(crate) fn contents<J: Join>(alloc: Global, value: &J) -> Result<String, Memory> {
     let mut lists = Vec::new(alloc);
     value.append_lists(&[], &mut lists)?;
     all_spelled(alloc, &lists)
 }
 
-/// Answers `ok` with what the value holds.
+/// Answers `ok` with the contents of the value.
 pub(crate) fn held<J: Join>(alloc: Global, value: &J) -> Result<String, Memory> {
     left(alloc, Ok(()), value)
 }
 
-/// Answers how a change came out, and what the value then holds.
+/// Answers the result of a change, and the contents of the value after it.
 pub(crate) fn left<J: Join>(
     alloc: Global,
     outcome: Result<(), Memory>,
@@ -73,7 +73,7 @@ pub(crate) fn left<J: Join>(
     answer(alloc, word, &[contents(alloc, value)?.as_str()])
 }
 
-/// Answers how an insert came out: whether what was added is new; and what the value then holds.
+/// Answers the result of an insert: whether the list was new; and the contents of the value after it.
 pub(crate) fn added<J: Join>(
     alloc: Global,
     outcome: Result<bool, Memory>,

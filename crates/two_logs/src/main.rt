@@ -1,5 +1,5 @@
-//! An example: joins logs in memory, and lists each key on which they contradict, with its values. Each line of standard input
-//! is a document of the log `g`.
+//! An example: joins logs in memory, and lists each key on which they contradict, with its values. Each line of
+//! standard input is a document of the log `g`.
 #![tactic(auto)]
 
 use cadf_replica::{Document, KeyKind, Name, Replica};

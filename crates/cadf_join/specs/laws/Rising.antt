@@ -85,7 +85,7 @@ module _ {K : Type 0} {R : K → K → Ordering} (o : IsTotalOrder R) where
   unfolding rising
   contains-rising s q = contains-items s q ∙ sym (any_sorted_keys q (items s))
 
-  -- a member of s that t lacks, where s is no subset
+  -- a member of s that t lacks, if s is no subset
   pub lacking_member : (s t : FinSet R) → is_subset s t ≡ false → (q : K) × (contains s q ≡ true) × (contains t q ≡ false)
   lacking_member s t not_all =
       elim (one_lacks (items s)) as (λ _. (q : K) × (contains s q ≡ true) × (contains t q ≡ false)) [

@@ -112,7 +112,7 @@ write_members-members-init t c =
       kept,
     )
 
--- the end of members whose names rise, and of others
+-- the end of members whose names are ascending, and of others
 module _ (p : Parse json.Json) (start now s : List Token) (old out after : List ℕ) (row map : List Entry) (last : Option (List ℕ)) (had has : Bool) where
   abbrev es : List Entry
   es = row ++ map

@@ -4,7 +4,7 @@ use Rattle.cadf_file.proofs.FrameWriting.{Completes}
 use Rattle.cadf_sketch.specs.SketchFile.{cell_line}
 use Rattle.cadf_sketch.proofs.sketch_write.write_cells.Given as goal
 
--- what completes the lines that are left completes all
+-- writing the lines left completes the writing of all lines
 abbrev pub invariant-loop-cell : goal.invariant-loop-cell
 invariant-loop-cell g l =
     Completes (g.S.Sink.written l.fn.sink) (g.S.Sink.written l.sink) l.fn.hasher l.hasher (text_of_lines (map cell_line l.cells))
