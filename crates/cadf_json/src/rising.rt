@@ -17,8 +17,8 @@ pub(crate) fn rises_to(rising: bool, last: Option<&str>, name: &str) -> bool
     rising && is_above(last, name)
 }
 
-/// Appends the pair to the row if the names rise up to it. If not, moves the row into the map and inserts the pair there.
-/// Of two pairs with the same name the later one stays.
+/// Appends the pair to the row if the names rise up to it. If not, moves the row into the map, and inserts the pair
+/// there. Of two pairs with the same name the later one stays.
 pub(crate) fn put_pair<'a, V: Drop>(
     alloc: Global,
     rising: bool,

@@ -71,8 +71,8 @@ fn pass_list<'a, T: ItemVisitor>(
     Ok(())
 }
 
-/// The members of an object: those of some names in a tree, the others as canonical texts. `taken` says whether the tree
-/// has an empty list in place of the list whose items were taken.
+/// The members of an object: those of some names in a tree, the others as canonical texts. `taken` says whether the
+/// tree has an empty list in place of the list whose items were taken.
 #[derive(Drop)]
 struct MembersAround<'a> {
     members: Vec<(&'a str, Value<'a>)>,
