@@ -176,6 +176,18 @@ PARTS = [
     # Properties whose names rise, then don't.
     ('{"b":{"d":1,"c":{"z":0,"y":[]}},"id":"g","c":2,"events":[],"a":{"c":0,"b":1},"b":4,"d":[]}',
      ["log", "g", "property", "a", '{"b":1,"c":0}', "property", "b", "4", "property", "c", "2", "property", "d", "[]"]),
+    # Entities of tiny objects, of names that don't rise, and with a fraction that a later member of its name replaces.
+    ('{"resources":[{"x":[{"b":1,"a":2},{}],"id":"r1"},{"id":"r2","a":1.5,"a":[null]}],"b":1,"id":"g",'
+     '"metrics":null,"geolocations":[{"id":"p1","n":[{"a":1},{"a":1}]}],"a":{},"events":[]}',
+     ["log", "g", "resource", "r1", '{"id":"r1","x":[{"a":2,"b":1},{}]}', "resource", "r2", '{"a":[null],"id":"r2"}',
+      "geolocation", "p1", '{"id":"p1","n":[{"a":1},{"a":1}]}', "property", "a", "{}", "property", "b", "1"]),
+    ('{"metrics":[{"metricId":"m","metricId":"n"}],"id":"g","resources":[],"events":[%s]}' % V1,
+     ["log", "g", "event", *seen(), "metric", "n", '{"metricId":"n"}']),
+    # Lists that are null, and lists that a later member of their name replaces.
+    ('{"id":"g","events":[],"resources":null,"geolocations":null,"metrics":null}', ["log", "g"]),
+    ('{"id":"g","resources":[7],"events":[%s],"resources":[{"id":"r"}]}' % V1,
+     ["log", "g", "event", *seen(), "resource", "r", '{"id":"r"}']),
+    ('{"id":"g","resources":{"a":1.5},"events":[],"resources":[]}', ["log", "g"]),
 ]
 
 # Texts of values that are no documents. What is judged first is told first.
@@ -191,6 +203,14 @@ NO_DOCUMENTS = [
     ('{"id":"g","events":[],"resources":[{}]}', ["Entity", "Resource", 1, "Id"]),
     ('{"id":"g","events":[],"geolocations":[{"id":"p","a":%s}]}' % nested(100), ["Entity", "Geolocation", 1, "TooDeep"]),
     ('{"id":"g","events":[],"metrics":[{"metricId":"m"},7]}', ["Entity", "Metric", 2, "NotObject"]),
+    ('{"id":7,"events":[{}],"resources":7}', ["LogId"]),
+    ('{"id":"g","events":[{}],"resources":[{}],"metrics":7}', ["NotList", "Metrics"]),
+    ('{"id":"g","events":[],"resources":"null"}', ["NotList", "Resources"]),
+    ('{"metrics":[7],"geolocations":[7],"resources":[{"id":"r"},[]],"id":"g","events":[]}', ["Entity", "Resource", 2, "NotObject"]),
+    ('{"metrics":[7],"geolocations":[{"id":7}],"id":"g","events":[]}', ["Entity", "Geolocation", 1, "Id"]),
+    ('{"id":"g","events":[],"metrics":[{"id":"m"}],"b\\u0001":2}', ["Entity", "Metric", 1, "Id"]),
+    ('{"id":"g","events":[],"resources":[{"id":"r","id":""}]}', ["Entity", "Resource", 1, "Id"]),
+    ('{"id":"g","events":[],"resources":[{"a":%s}]}' % nested(100), ["Entity", "Resource", 1, "TooDeep"]),
     ('{"id":"g","events":[],"a":1,"b\\u0001":2}', ["Property", 2]),
     ('{"b\\u0001":2,"metrics":[7],"events":[],"id":"g"}', ["Entity", "Metric", 1, "NotObject"]),
     ("[]", ["Event", 0, "NotObject"]),
@@ -215,6 +235,7 @@ NO_VALUES = [
     ('{"id":"g","events":[]', "NotJson"),
     ('{"id":"g","events":[{}]} {}', "NotJson"),
     ('{"id":"g","events":[{}],"a":1.0}', "NotWhole"),
+    ('{"id":"g","events":[],"resources":[{"id":"r","a":1.5}]}', "NotWhole"),
     ('{"a":1.5,"id":"g","events":[', "NotJson"),
     ("[1.5,{]", "NotJson"),
     ("CADF-REPLICA 1\n", "NotJson"),

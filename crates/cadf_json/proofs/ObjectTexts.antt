@@ -29,7 +29,7 @@ use Rattle.serde_json.specs.Find.{get_member, get}
 use Rattle.serde_json.specs.Written.{number_text, outline, members_outline}
 use Rattle.cadf_json.specs.Parts.{is_object}
 use Rattle.cadf_json.specs.Value.{IsValue, text}
-use Rattle.cadf_json.specs.Canonical.{begins_object, is_string_token, is_text, FindsText}
+use Rattle.cadf_json.specs.Canonical.{begins_object, text_of_token, text_in, is_text, FindsText}
 use Rattle.cadf_json.proofs.Canonicals.{canonical_tokens}
 use Rattle.cadf_json.proofs.Looks.{member_here, member_passed}
 use Rattle.cadf_json.proofs.Texts.{depth-outline}
@@ -59,14 +59,14 @@ some_key : (ms : Members) (rest : List Token) → read_key (members_tokens (memb
 some_key no_members rest e = absurd cc
 some_key (member l d ns) rest e = absurd cc
 
-string_first : (s : List ℕ) (d : Data) (rest : List Token) (t : Token) (r : List Token) → json_tokens (outline d) ++ rest ≡ t ∷ r
-    → is_string_token s (Some t) ≡ is_text s (Some d)
-string_first s null rest t r e = let same : Token.null ≡ t = cc in ap (λ x. is_string_token s (Some x)) (sym same)
-string_first s (boolean b) rest t r e = let same : Token.boolean b ≡ t = cc in ap (λ x. is_string_token s (Some x)) (sym same)
-string_first s (number n) rest t r e = let same : Token.number (number_text n) ≡ t = cc in ap (λ x. is_string_token s (Some x)) (sym same)
-string_first s (string u) rest t r e = let same : Token.string u ≡ t = cc in ap (λ x. is_string_token s (Some x)) (sym same)
-string_first s (array ds) rest t r e = let same : Token.begin_array ≡ t = cc in ap (λ x. is_string_token s (Some x)) (sym same)
-string_first s (object ms) rest t r e = let same : Token.begin_object ≡ t = cc in ap (λ x. is_string_token s (Some x)) (sym same)
+string_first : (d : Data) (rest : List Token) (t : Token) (r : List Token) → json_tokens (outline d) ++ rest ≡ t ∷ r
+    → text_of_token (Some t) ≡ text_in (Some d)
+string_first null rest t r e = let same : Token.null ≡ t = cc in ap (λ x. text_of_token (Some x)) (sym same)
+string_first (boolean b) rest t r e = let same : Token.boolean b ≡ t = cc in ap (λ x. text_of_token (Some x)) (sym same)
+string_first (number n) rest t r e = let same : Token.number (number_text n) ≡ t = cc in ap (λ x. text_of_token (Some x)) (sym same)
+string_first (string u) rest t r e = let same : Token.string u ≡ t = cc in ap (λ x. text_of_token (Some x)) (sym same)
+string_first (array ds) rest t r e = let same : Token.begin_array ≡ t = cc in ap (λ x. text_of_token (Some x)) (sym same)
+string_first (object ms) rest t r e = let same : Token.begin_object ≡ t = cc in ap (λ x. text_of_token (Some x)) (sym same)
 
 -- o is the first of the tokens and r the rest; there is none if o is none
 abbrev pub IsNextToken : List Token → Option Token → List Token → Type 0
@@ -127,24 +127,23 @@ pub key_fails : (name : List ℕ) (start now : List Token) → IsAhead name star
     → (ms : Members) (rest : List Token) → members_depth ms ≤ 126 → start ≡ members_tokens (members_outline ms) ++ rest → ⊥
 key_fails name start now ahead key ms rest deep e = let left = ahead ms rest deep e in some_key left.0 rest (ap read_key (sym left.2) ∙ key)
 
-pub none_ahead : (expected name : List ℕ) (start now s : List Token) → IsAhead name start now → read_key now ≡ Some (None, s)
-    → FindsText expected name start false
-none_ahead expected name start now s ahead key ms rest deep e =
+pub none_ahead : (name : List ℕ) (start now s : List Token) → IsAhead name start now → read_key now ≡ Some (None, s) → FindsText name start None
+none_ahead name start now s ahead key ms rest deep e =
     let left = ahead ms rest deep e in
     let none = ended left.0 rest s (ap read_key (sym left.2) ∙ key) in
-    sym (ap (is_text expected) (left.3 ∙ ap (get_member name) none))
+    sym (ap text_in (left.3 ∙ ap (get_member name) none))
 
-pub text_ahead : (expected name k : List ℕ) (start now s : List Token) (o : Option Token) (r : List Token) → IsAhead name start now
-    → read_key now ≡ Some (Some k, s) → bytes_eq name k ≡ true → IsNextToken s o r → FindsText expected name start (is_string_token expected o)
-text_ahead expected name k start now s None r ahead key same next ms rest deep e =
+pub text_ahead : (name k : List ℕ) (start now s : List Token) (o : Option Token) (r : List Token) → IsAhead name start now
+    → read_key now ≡ Some (Some k, s) → bytes_eq name k ≡ true → IsNextToken s o r → FindsText name start (text_of_token o)
+text_ahead name k start now s None r ahead key same next ms rest deep e =
     let left = ahead ms rest deep e in
     let first = head_of left.0 rest k s (ap read_key (sym left.2) ∙ key) in
     absurd (some_tokens first.0 _ (sym first.3 ∙ next))
-text_ahead expected name k start now s (Some t) r ahead key same next ms rest deep e =
+text_ahead name k start now s (Some t) r ahead key same next ms rest deep e =
     let left = ahead ms rest deep e in
     let first = head_of left.0 rest k s (ap read_key (sym left.2) ∙ key) in
-    string_first expected first.0 _ t r (sym first.3 ∙ next)
-    ∙ sym (ap (is_text expected) (left.3 ∙ ap (get_member name) first.2 ∙ member_here name k first.0 first.1 same))
+    string_first first.0 _ t r (sym first.3 ∙ next)
+    ∙ sym (ap text_in (left.3 ∙ ap (get_member name) first.2 ∙ member_here name k first.0 first.1 same))
 
 -- ---- the first token
 
@@ -172,19 +171,38 @@ pub not_opened : (expected name s : List ℕ) (o : Option Token) (r : List Token
     → (d : Data) → IsValue d → s ≡ text d → false ≡ is_text expected (get name d)
 not_opened expected name s o r next other d v e = no_text expected name d (sym (opens s o r next d v e) ∙ other)
 
-found_in : (expected name : List ℕ) (o : Option Token) (r : List Token) (found : Bool) (d : Data) → depth d ≤ 127 → begins_object o ≡ true
-    → IsNextToken (json_tokens (outline d)) o r → FindsText expected name r found → found ≡ is_text expected (get name d)
-found_in expected name None r found d deep opened next h = absurd cc
-found_in expected name (Some t) r found (object ms) deep opened next h =
+found_in : (name : List ℕ) (o : Option Token) (r : List Token) (found : Option (List ℕ)) (d : Data) → depth d ≤ 127 → begins_object o ≡ true
+    → IsNextToken (json_tokens (outline d)) o r → FindsText name r found → found ≡ text_in (get name d)
+found_in name None r found d deep opened next h = absurd cc
+found_in name (Some t) r found (object ms) deep opened next h =
     let is : members_tokens (members_outline ms) ≡ r = cc in
     h ms [] (omega (arith, deep)) (sym is ∙ sym (append-nil _))
-found_in expected name (Some t) r found null deep opened next h = absurd (not_opening (opening_first null t r next) opened)
-found_in expected name (Some t) r found (boolean b) deep opened next h = absurd (not_opening (opening_first (boolean b) t r next) opened)
-found_in expected name (Some t) r found (number n) deep opened next h = absurd (not_opening (opening_first (number n) t r next) opened)
-found_in expected name (Some t) r found (string u) deep opened next h = absurd (not_opening (opening_first (string u) t r next) opened)
-found_in expected name (Some t) r found (array ds) deep opened next h = absurd (not_opening (opening_first (array ds) t r next) opened)
+found_in name (Some t) r found null deep opened next h = absurd (not_opening (opening_first null t r next) opened)
+found_in name (Some t) r found (boolean b) deep opened next h = absurd (not_opening (opening_first (boolean b) t r next) opened)
+found_in name (Some t) r found (number n) deep opened next h = absurd (not_opening (opening_first (number n) t r next) opened)
+found_in name (Some t) r found (string u) deep opened next h = absurd (not_opening (opening_first (string u) t r next) opened)
+found_in name (Some t) r found (array ds) deep opened next h = absurd (not_opening (opening_first (array ds) t r next) opened)
 
-pub found_text : (expected name s : List ℕ) (o : Option Token) (r : List Token) (found : Bool) → IsNextToken (tokens s) o r → begins_object o ≡ true
-    → FindsText expected name r found → (d : Data) → IsValue d → s ≡ text d → found ≡ is_text expected (get name d)
-found_text expected name s o r found next opened h d v e =
-    found_in expected name o r found d v.1 opened (subst (λ ts. IsNextToken ts o r) (canonical_tokens s d v e) next) h
+pub found_text : (name s : List ℕ) (o : Option Token) (r : List Token) (found : Option (List ℕ)) → IsNextToken (tokens s) o r → begins_object o ≡ true
+    → FindsText name r found → (d : Data) → IsValue d → s ≡ text d → found ≡ text_in (get name d)
+found_text name s o r found next opened h d v e =
+    found_in name o r found d v.1 opened (subst (λ ts. IsNextToken ts o r) (canonical_tokens s d v e) next) h
+
+-- the text is the one that was expected
+pub is_expected : (expected : List ℕ) (o : Option Data) (t : List ℕ) → Some t ≡ text_in o → bytes_eq t expected ≡ is_text expected o
+is_expected expected None t e = absurd cc
+is_expected expected (Some null) t e = absurd cc
+is_expected expected (Some (boolean b)) t e = absurd cc
+is_expected expected (Some (number n)) t e = absurd cc
+is_expected expected (Some (string u)) t e = let same : t ≡ u = cc in ap (λ x. bytes_eq x expected) same
+is_expected expected (Some (array ds)) t e = absurd cc
+is_expected expected (Some (object ms)) t e = absurd cc
+
+pub not_expected : (expected : List ℕ) (o : Option Data) → None ≡ text_in o → false ≡ is_text expected o
+not_expected expected None e = refl
+not_expected expected (Some null) e = refl
+not_expected expected (Some (boolean b)) e = refl
+not_expected expected (Some (number n)) e = refl
+not_expected expected (Some (string u)) e = absurd cc
+not_expected expected (Some (array ds)) e = refl
+not_expected expected (Some (object ms)) e = refl

@@ -72,19 +72,29 @@ begins_object (Some (Token.boolean b)) = false
 begins_object (Some Token.null) = false
 begins_object (Some Token.bad) = false
 
--- the token is this text
-abbrev pub is_string_token : List ℕ → Option Token → Bool
-is_string_token s None = false
-is_string_token s (Some Token.begin_object) = false
-is_string_token s (Some Token.end_object) = false
-is_string_token s (Some Token.begin_array) = false
-is_string_token s (Some Token.end_array) = false
-is_string_token s (Some (Token.key t)) = false
-is_string_token s (Some (Token.string t)) = bytes_eq t s
-is_string_token s (Some (Token.number t)) = false
-is_string_token s (Some (Token.boolean b)) = false
-is_string_token s (Some Token.null) = false
-is_string_token s (Some Token.bad) = false
+-- the text that the token is
+abbrev pub text_of_token : Option Token → Option (List ℕ)
+text_of_token None = None
+text_of_token (Some Token.begin_object) = None
+text_of_token (Some Token.end_object) = None
+text_of_token (Some Token.begin_array) = None
+text_of_token (Some Token.end_array) = None
+text_of_token (Some (Token.key t)) = None
+text_of_token (Some (Token.string t)) = Some t
+text_of_token (Some (Token.number t)) = None
+text_of_token (Some (Token.boolean b)) = None
+text_of_token (Some Token.null) = None
+text_of_token (Some Token.bad) = None
+
+-- the text that the member is
+abbrev pub text_in : Option Data → Option (List ℕ)
+text_in None = None
+text_in (Some null) = None
+text_in (Some (boolean b)) = None
+text_in (Some (number n)) = None
+text_in (Some (string t)) = Some t
+text_in (Some (array ds)) = None
+text_in (Some (object ms)) = None
 
 -- the member is this text
 abbrev pub is_text : List ℕ → Option Data → Bool
@@ -96,8 +106,8 @@ is_text s (Some (string t)) = bytes_eq t s
 is_text s (Some (array ds)) = false
 is_text s (Some (object ms)) = false
 
--- for members that nest at most 126 deep: whether the member at that name is this text
-abbrev pub FindsText : List ℕ → List ℕ → List Token → Bool → Type 0
-FindsText expected name ts found =
+-- for members that nest at most 126 deep: the text at that name
+abbrev pub FindsText : List ℕ → List Token → Option (List ℕ) → Type 0
+FindsText name ts found =
     (ms : Members) (rest : List Token) → members_depth ms ≤ 126 → ts ≡ members_tokens (members_outline ms) ++ rest
-    → found ≡ is_text expected (get_member name ms)
+    → found ≡ text_in (get_member name ms)

@@ -4,6 +4,7 @@
 
 mod canonical;
 mod laws;
+mod list_text;
 mod look;
 mod members;
 mod memory;
@@ -29,9 +30,10 @@ pub use crate::canonical::is_canonical;
 pub use crate::laws::{
     bytes_spell_values, text_is_injective, text_is_one_line, text_spells_its_value,
 };
+pub use crate::list_text::ListTexts;
 pub use crate::members::{Member, Members};
 pub use crate::memory::{FailingWrite, MemorySink, MemorySource};
-pub use crate::object_text::{has_text_at, nests_within, spells_object};
+pub use crate::object_text::{has_text_at, nests_within, spells_object, text_at};
 pub use crate::read::TreeFault;
 pub use crate::skip::{check_list, find_fraction, has_json_syntax};
 pub use crate::stream::{Failed, FromStd, Sink, Source};

@@ -1,12 +1,12 @@
 //! Answers about the value of a canonical text, found among its tokens without building a tree.
 
-ghost use Rattle.std.specs.Prelude.{◌≡◌, false, IfOk, nat_le, option_map};
+ghost use Rattle.std.specs.Prelude.{◌≡◌, true, false, IfOk, MatchOption, nat_le, option_map, string_bytes};
 ghost use Rattle.json.specs.Reads.{token_of};
 ghost use Rattle.serde_json.specs.Data.{Data, depth as nesting};
 ghost use Rattle.serde_json.specs.Find.{get};
 ghost use Rattle.cadf_json.specs.Parts.{is_object};
 ghost use Rattle.cadf_json.specs.Value.{IsValue, text as text_of};
-ghost use Rattle.cadf_json.specs.Canonical.{begins_object, is_string_token, is_text, FindsText};
+ghost use Rattle.cadf_json.specs.Canonical.{begins_object, text_of_token, text_in, is_text, FindsText};
 
 use crate::Memory;
 use crate::tree::MAX_DEPTH;
@@ -32,7 +32,31 @@ pub fn has_text_at(alloc: Global, text: &str, name: &str, expected: &str) -> Res
     if !is_opening(reader.next()) {
         return Ok(false);
     }
-    Ok(finds_text(&mut reader, name, expected))
+    match find_text(&mut reader, name) {
+        Some(text) => Ok(text == expected),
+        None => Ok(false),
+    }
+}
+
+/// Returns the text at that name in the object of a canonical text, or `None` for any other value. The inner `None`: no
+/// text is there. The scratch keeps the parser's memory.
+pub fn text_at(
+    alloc: Global,
+    scratch: &mut Scratch,
+    text: &str,
+    name: &str,
+) -> Result<Option<Option<String>>, Memory>
+    ensures { IfOk result (λ found. (d : Data) → IsValue d → text.now ≡ text_of d → MatchOption found (is_object d ≡ false)
+        (λ at. (is_object d ≡ true) × (option_map string_bytes at ≡ text_in (get name.now d)))) }
+{
+    let mut reader = Reader::new(text, scratch)?;
+    if !is_opening(reader.next()) {
+        return Ok(None);
+    }
+    match find_text(&mut reader, name) {
+        Some(found) => Ok(Some(Some(String::from_str(alloc, found)?))),
+        None => Ok(Some(None)),
+    }
 }
 
 /// Returns whether the value of a canonical text nests at most `depth` deep. A text without brackets isn't read, nor a
@@ -64,22 +88,22 @@ fn opens_level(text: &[u8]) -> bool
     *first == b'[' || *first == b'{'
 }
 
-/// Returns whether the next members have this text at that name.
-fn finds_text(reader: &mut Reader<'_>, name: &str, expected: &str) -> bool
-    ensures { FindsText expected.now name.now reader.old result }
+/// Returns the text at that name among the next members. `None` if none is there.
+fn find_text<'a>(reader: &mut Reader<'a>, name: &str) -> Option<&'a str>
+    ensures { FindsText name.now reader.old (option_map (λ s. s.now) result) }
 {
     'members: loop {
         let Ok(key) = reader.next_key() else {
-            return false;
+            return None;
         };
         let Some(key) = key else {
-            return false;
+            return None;
         };
         if name == key {
-            return is_string(reader.next(), expected);
+            return string_of(reader.next());
         }
         let Ok(()) = reader.skip_value(MAX_DEPTH) else {
-            return false;
+            return None;
         };
     }
 }
@@ -94,12 +118,12 @@ fn is_opening(token: Option<Token<'_>>) -> bool
     }
 }
 
-/// Returns whether the token is this text.
-fn is_string(token: Option<Token<'_>>, expected: &str) -> bool
-    ensures { result ≡ is_string_token expected.now (option_map token_of token.entry) }
+/// Returns the text that the token is, or `None` for any other token.
+fn string_of<'a>(token: Option<Token<'a>>) -> Option<&'a str>
+    ensures { option_map (λ s. s.now) result ≡ text_of_token (option_map token_of token.entry) }
 {
     match token {
-        Some(Token::String(text)) => text == expected,
-        _ => false,
+        Some(Token::String(text)) => Some(text),
+        _ => None,
     }
 }

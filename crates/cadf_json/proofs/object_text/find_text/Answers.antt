@@ -2,7 +2,7 @@ use Rattle.std.proofs.Common.{◌≡◌, Some, bytes_eq, true, false, option_map
 use Rattle.json.specs.Json.{read_key}
 use Rattle.json.specs.Reads.{token_of}
 use Rattle.cadf_json.proofs.ObjectTexts.{ahead_start, ahead_more, skipped_fails, key_fails, none_ahead, text_ahead, next_token}
-use Rattle.cadf_json.proofs.object_text.finds_text.Goals as goal
+use Rattle.cadf_json.proofs.object_text.find_text.Goals as goal
 
 pub members-init : goal.members-init
 members-init c = ahead_start c.args.name.now c.args.reader.now
@@ -14,18 +14,18 @@ returns-in_default c ms rest deep e =
 pub returns-in_default-key : goal.returns-in_default-key
 returns-in_default-key c =
     let s = c.next_key.new.self in
-    none_ahead c.args.expected.now c.args.name.now c.args.reader.now c.members.reader s c.members.invariant
+    none_ahead c.args.name.now c.args.reader.now c.members.reader s c.members.invariant
     (c.in-Ok.ensures.value ∙ ap (λ o. Some (option_map (λ x. x.now) o, s)) c.in_default-key.is)
 
 pub returns-then-eq : goal.returns-then-eq
-returns-then-eq c =
+returns-then-eq c ms rest deep e =
     let s = c.next_key.new.self in
     let k = c.in-Some.key.now in
     let named : read_key c.members.reader ≡ Some (Some k, s) = c.in-Ok.ensures.value ∙ ap (λ o. Some (option_map (λ x. x.now) o, s)) c.in-Some.is in
     let same : bytes_eq c.args.name.now k ≡ true = search rules in
-    let found = text_ahead c.args.expected.now c.args.name.now k c.args.reader.now c.members.reader s (option_map token_of c.next.result) c.next.new.self
+    let found = text_ahead c.args.name.now k c.args.reader.now c.members.reader s (option_map token_of c.next.result) c.next.new.self
     c.members.invariant named same (next_token s c.next.new.self c.next.result c.next.ensures.value) in
-    rw c.is_string.ensures found
+    c.string_of.ensures ∙ found ms rest deep e
 
 pub returns-in_default-skip_value : goal.returns-in_default-skip_value
 returns-in_default-skip_value c ms rest deep e =
