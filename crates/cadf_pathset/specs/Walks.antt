@@ -2,7 +2,7 @@
 --     Place                  the list at which a cursor is, and the lists after it
 --     Advances found a b     a cursor moved to the next list, which has `found` texts in common with the one before, or there is none
 --     Moves more a b         the same, without that number
---     Steps more a b n m     the same; m is n, reduced to the number of texts in common
+--     Steps more a b n m     the same; m is the minimum of n and the number of texts in common, or n if there is no next list
 --     ahead more a           the list at which a cursor is, if it is at one, and those after it
 --     Entered, IsLinePrefix  the invariants of a merge, below
 use Rattle.std.specs.Prelude.{◌≡◌, ℕ, Bool, true, false, List, [], ◌∷◌, length, take, min, Option, Some, None}

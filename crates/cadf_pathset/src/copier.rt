@@ -55,7 +55,7 @@ impl<'a> Copier<'a> {
     }
 
     /// Moves to the next list, and returns whether there is one. If the list before shared its first `agreed` texts
-    /// with another list, `agreed` becomes the number that the next list shares with it.
+    /// with another list, `agreed` becomes the number that the next one is known to share with it.
     pub fn step(&mut self, agreed: &mut usize) -> Result<bool, Memory>
         ensures place { IfOk result (λ more. Steps more self.old.0 self.new.0 agreed.old agreed.new) }
         ensures same { self.new.1 ≡ self.old.1 }

@@ -96,7 +96,7 @@ impl<'a> Cursor<'a> {
     }
 
     /// Moves to the next list, and returns whether there is one. If the list before shared its first `agreed` texts
-    /// with another list, `agreed` becomes the number that the next list shares with it.
+    /// with another list, `agreed` becomes the number that the next one is known to share with it.
     pub fn step(&mut self, agreed: &mut usize) -> Result<bool, Memory>
         ensures { IfOk result (λ more. Steps more self.old self.new agreed.old agreed.new) }
     {

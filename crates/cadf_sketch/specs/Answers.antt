@@ -1,6 +1,6 @@
 -- What the sender of a sketch lacks.
 --     inventory_of held            the inventory of a replica: the digests of its atoms
---     IsAnswer held sketch part    some inventory of the log has the sketch's digest, and part is the delta from held to it
+--     IsAnswer held sketch part    some inventory of the log has the sketch's digest, and part is the delta of held against it
 use Rattle.std.specs.Prelude.{◌≡◌}
 use Rattle.cadf_line.specs.Digest.{atom_digest}
 use Rattle.cadf_set.specs.Inventory.{InventoryModel}
