@@ -184,8 +184,13 @@ def clauses_of(text):
             depth = max(0, depth + line.count("{") - line.count("}"))
 
 
+def definitions_of(text):
+    """The lines of a file of definitions without blank lines and lines of comments."""
+    return [line for line in text.splitlines() if line.strip() and not line.lstrip().startswith("--")]
+
+
 def digest_of(crate):
-    """Returns the digest of a crate's clauses and definitions."""
+    """Returns the digest of a crate's clauses and definitions, whatever their comments say."""
     hasher = hashlib.sha256()
     base = os.path.join(TOP, "crates", crate)
     files = glob.glob(os.path.join(base, "src", "**", "*.rt"), recursive=True)
@@ -193,7 +198,7 @@ def digest_of(crate):
     for path in sorted(files):
         with open(path, encoding="utf-8") as file:
             text = file.read()
-        parts = clauses_of(text) if path.endswith(".rt") else [text]
+        parts = clauses_of(text) if path.endswith(".rt") else definitions_of(text)
         hasher.update("\n".join([os.path.relpath(path, base), *parts, ""]).encode())
     return hasher.hexdigest()
 
