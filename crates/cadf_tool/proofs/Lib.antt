@@ -1,6 +1,7 @@
 pub mod Starts
 pub mod FileReading
 pub mod AboveLimit
+pub mod WholeBytes
 pub mod DocumentReading
 pub mod LoadedLists
 pub mod Convergence
