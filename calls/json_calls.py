@@ -27,6 +27,8 @@ CALLS = {
     "spells_object": ["spells_object"],
     "nests_within": ["nests_within"],
     "has_text_at": ["has_text_at"],
+    "text_at": ["text_at"],
+    "list_texts": ["ListTexts::of", "ListTexts::next_text"],
     "read_to_limit": ["read_to_limit", "MemorySource::new", "Source::read"],
     "read_rest": ["cadf_json::read_rest"],
     "read_by_std": ["FromStd::new", "FromStd::into_inner"],
@@ -174,6 +176,12 @@ NOT_JUDGED = ['"\\u0041"', '"\\/"', '"\\u001F"', '"\\u000a"', '"\\ud83d\\ude00"'
               "18446744073709551616", "-9223372036854775809", "[1, 2]", "1\n", '{"b":1,"a":2}', '{"a":1,"a":2}',
               '{"a":1.5,"a":1}', "", "[", "[1,]", "{}{}", "nul", nested(128)]
 NAMED = '{"id":"r","name":{"id":"s"},"no":1}'
+TEXTS_AT = [("id", ["some", "r"]), ("name", ["none"]), ("no", ["none"]), ("other", ["none"])]
+
+# Canonical texts of lists and of null, with those of their items, and of values that are no list.
+LISTS = [("[]", []), ("null", []), ('[1,"a",{"b":[2]},[]]', ["1", '"a"', '{"b":[2]}', "[]"]), ('["\\n",-1]', ['"\\n"', "-1"]),
+         (nested(127), [nested(126)])]
+NO_LISTS = ["7", '"null"', "{}", "true", '{"a":[]}']
 
 BYTES = b"twenty-two bytes long!"
 LONG = b"\x07" * 10000
@@ -318,6 +326,14 @@ def passed():
         yield "has_text_at", [NAMED, name, expected], [has], VALUES
     yield "has_text_at", ['["id","r"]', "id", "r"], [False], VALUES
     yield "has_text_at", ['{"\\u0001":"\\n"}', "\x01", "\n"], [True], VALUES
+    for name, answer in TEXTS_AT:
+        yield "text_at", [NAMED, name], answer, VALUES
+    yield "text_at", ['["id","r"]', "id"], ["no object"], VALUES
+    yield "text_at", ['{"\\u0001":"\\n"}', "\x01"], ["some", "\n"], VALUES
+    for text, items in LISTS:
+        yield "list_texts", [text], ["some", *items], VALUES
+    for text in NO_LISTS:
+        yield "list_texts", [text], ["none"], VALUES
 
 
 def streams():

@@ -1,6 +1,7 @@
 //! Calls of JSON values, of sources and sinks, and of times.
 #![tactic(auto)]
 
+mod lists;
 mod looks;
 mod passes;
 mod quotes;
@@ -27,6 +28,8 @@ pub fn answered(alloc: Global, call: &Call) -> Result<String, Memory> {
         "spells_object" => passes::spells_object(alloc, call.text(1)),
         "nests_within" => passes::nests_within(alloc, call.text(1), call.text(2)),
         "has_text_at" => passes::has_text_at(alloc, call.text(1), call.text(2), call.text(3)),
+        "text_at" => lists::text_at(alloc, call.text(1), call.text(2)),
+        "list_texts" => lists::list_texts(alloc, call.text(1)),
         "read_to_limit" => streams::whole(alloc, call),
         "read_rest" => streams::rest(alloc, call),
         "read_by_std" => streams::by_std(alloc, call),
