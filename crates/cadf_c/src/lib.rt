@@ -20,7 +20,7 @@ ghost use Rattle.cadf_tool.specs.WrittenFile.{file};
 ghost use Rattle.cadf_memory.specs.Handed.{IsHandedOut};
 ghost use Rattle.cadf_memory.specs.Made.{IsMadeOf, IsMadeOfTwo, IsMadeOfTwoBy, IsMadeOfAll};
 ghost use Rattle.cadf_memory.specs.Refused.{IsFirstOf, IsFirstOfTwo, IsFirstOfTwoBy, IsFirstOfAll};
-ghost use Rattle.cadf_c.specs.Statuses.{IsRefused, IsStatus};
+ghost use Rattle.cadf_c.specs.Statuses.{IsRefused, IsEngineStatus, IsStatus};
 ghost use Rattle.cadf_c.specs.Arguments.{log_given, number_given};
 ghost use Rattle.cadf_c.specs.Inputs.{bytes_in};
 
@@ -50,7 +50,7 @@ pub extern "C" fn cadf_version() -> u32 {
     MAJOR * 65_536 + MINOR * 256 + PATCH
 }
 
-/// Hands out the log that the input tells, or with `conflicts` the list of its conflicts.
+/// Hands out the log of the input, or with `conflicts` the list of its conflicts.
 #[tactic(auto, using(crate::proofs::Statuses::refused))]
 #[unsafe(no_mangle)]
 pub extern "C" fn cadf_show(
@@ -64,13 +64,13 @@ pub extern "C" fn cadf_show(
         (IsMadeOf input_spec replica_model_of (shown_text conflicts) input.now.bytes.now)
         output.old output.new length.new }
     ensures refused { result ≡ pos 1 → IsRefused (IsFirstOf input_spec replica_model_of input.now.bytes.now) }
-    ensures only { IsStatus result }
+    ensures only { IsEngineStatus result }
 {
     let made = show(alloc, conflicts, input.bytes, output);
     answer(alloc, made, output, length)
 }
 
-/// Hands out the line that tells what the input holds.
+/// Hands out the line that says what the input holds.
 #[tactic(auto, using(crate::proofs::Statuses::refused))]
 #[unsafe(no_mangle)]
 pub extern "C" fn cadf_check(
@@ -83,7 +83,7 @@ pub extern "C" fn cadf_check(
         (IsMadeOf input_spec replica_model_of checked_text input.now.bytes.now)
         output.old output.new length.new }
     ensures refused { result ≡ pos 1 → IsRefused (IsFirstOf input_spec replica_model_of input.now.bytes.now) }
-    ensures only { IsStatus result }
+    ensures only { IsEngineStatus result }
 {
     let made = check(alloc, input.bytes, output);
     answer(alloc, made, output, length)
@@ -102,7 +102,7 @@ pub extern "C" fn cadf_inventory(
         (IsMadeOf input_spec inventory_model_of inventory_file input.now.bytes.now)
         output.old output.new length.new }
     ensures refused { result ≡ pos 1 → IsRefused (IsFirstOf input_spec inventory_model_of input.now.bytes.now) }
-    ensures only { IsStatus result }
+    ensures only { IsEngineStatus result }
 {
     let made = inventory(alloc, input.bytes, output);
     answer(alloc, made, output, length)
@@ -122,7 +122,7 @@ pub extern "C" fn cadf_missing(
         (IsMadeOfTwo input_spec input_spec part_of file from.now.bytes.now to.now.bytes.now)
         output.old output.new length.new }
     ensures refused { result ≡ pos 1 → IsRefused (IsFirstOfTwo input_spec input_spec part_of from.now.bytes.now to.now.bytes.now) }
-    ensures only { IsStatus result }
+    ensures only { IsEngineStatus result }
 {
     let made = missing(alloc, from.bytes, to.bytes, output);
     answer(alloc, made, output, length)
@@ -142,7 +142,7 @@ pub extern "C" fn cadf_missing_by(
         (IsMadeOfTwo input_spec inventory_spec part_by file from.now.bytes.now held.now.bytes.now)
         output.old output.new length.new }
     ensures refused { result ≡ pos 1 → IsRefused (IsFirstOfTwo input_spec inventory_spec part_by from.now.bytes.now held.now.bytes.now) }
-    ensures only { IsStatus result }
+    ensures only { IsEngineStatus result }
 {
     let made = missing_by(alloc, from.bytes, held.bytes, output);
     answer(alloc, made, output, length)
@@ -242,7 +242,7 @@ pub extern "C" fn cadf_missing_by_sketch(
         (IsMadeOfTwoBy input_spec sketch_spec IsPartBySketch file from.now.bytes.now held.now.bytes.now)
         output.old output.new length.new }
     ensures refused { result ≡ pos 1 → IsRefused (IsFirstOfTwoBy input_spec sketch_spec IsPartBySketch from.now.bytes.now held.now.bytes.now) }
-    ensures only { IsStatus result }
+    ensures only { IsEngineStatus result }
 {
     let made = missing_by_sketch(alloc, from.bytes, held.bytes, output);
     answer(alloc, made, output, length)

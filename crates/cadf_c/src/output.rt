@@ -3,13 +3,13 @@ ghost use Rattle.std.specs.Prelude.{◌≡◌, ◌⊎◌, true, pos, Ok, IfErr, 
 ghost use Rattle.cadf_tool.specs.Faults.{status_of};
 ghost use Rattle.cadf_memory.specs.Handed.{IsHandedOut};
 ghost use Rattle.cadf_memory.specs.Refused.{is_of_memory};
-ghost use Rattle.cadf_c.specs.Statuses.{IsStatus};
+ghost use Rattle.cadf_c.specs.Statuses.{IsEngineStatus};
 
 use cadf_arguments::ArgumentFault;
 use cadf_memory::{ToolFault, status};
 use std::alloc::{AllocError as Memory, Global};
 
-/// Copies what of the text fits, and tells how long it is.
+/// Copies what of the text fits, and sets `length` to that of the whole text.
 fn hand_out(text: &[u8], output: &mut [u8], length: &mut usize)
     ensures { IsHandedOut (λ t. t ≡ text.now) output.old output.new length.new }
 {
@@ -64,7 +64,7 @@ pub(crate) fn answer(
     requires { IfErr made (λ fault. is_of_memory fault ≡ true) }
     ensures written { result ≡ pos 0 → (made ≡ Ok length.new) × (output.new ≡ output.old) }
     ensures refused { result ≡ pos 1 → IsErrAnd made (λ fault. status_of fault ≡ 1) }
-    ensures only { IsStatus result }
+    ensures only { IsEngineStatus result }
 {
     match made {
         Ok(written) => {

@@ -1,5 +1,5 @@
 -- What an engine makes of bytes in memory.
---     IsMadeOf reader work tell bytes text              the bytes are what is read, and the text is what is told of the work on it
+--     IsMadeOf reader work tell bytes text              the bytes are read as a value; the text is `tell` of what `work` makes of it
 --     IsMadeOfTwo reader other work tell from to text   the same of two inputs; `By`: of a work that is a relation
 --     IsMadeOfAll work tell inputs text                 the same of a list of inputs
 use Rattle.std.specs.Prelude.{◌≡◌, ℕ, List, [], ◌∷◌, Result, Ok}

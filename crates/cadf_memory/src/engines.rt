@@ -1,5 +1,5 @@
-//! Each engine over bytes. It writes the text that it tells of the bytes to a buffer, as far as there is room, and returns
-//! how long it is; or it answers the first refusal.
+//! Each engine over bytes. It writes its output to a buffer as far as there is room, and returns the length of the output.
+//! `Err`: the first refusal.
 ghost use Rattle.std.specs.Prelude.{◌≡◌, true, IfOk, IfErr, map, encode_utf8};
 ghost use Rattle.cadf_file.specs.InventoryFile.{inventory_file};
 ghost use Rattle.cadf_tool.specs.Run.{input_spec};
@@ -32,7 +32,7 @@ use cadf_tool::{
 };
 use std::alloc::{AllocError as Memory, Global};
 
-/// Writes the log that the input tells, or with `conflicts` the list of its conflicts.
+/// Writes the log of the input, or with `conflicts` the list of its conflicts.
 pub fn show(
     alloc: Global,
     conflicts: bool,
@@ -51,7 +51,7 @@ pub fn show(
     }
 }
 
-/// Writes the line that tells what the input holds.
+/// Writes the line that says what the input holds.
 pub fn check(alloc: Global, input: &[u8], output: &mut [u8]) -> Result<usize, ToolFault>
     ensures ok { IfOk result (IsHandedOut (IsMadeOf input_spec replica_model_of checked_text input.now) output.old output.new) }
     ensures err { IfErr result (λ fault. IsFirstOf input_spec replica_model_of input.now fault) }

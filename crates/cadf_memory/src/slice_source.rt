@@ -3,7 +3,7 @@ ghost use Rattle.std.specs.Prelude.{◌≡◌, Some};
 
 use cadf_json::{Failed, Source};
 
-/// Bytes that are read. No read fails.
+/// Bytes that are read, or borrowed without a copy. No read fails.
 #[derive(Drop)]
 pub(crate) struct SliceSource<'b> {
     left: &'b [u8],
@@ -38,5 +38,11 @@ impl<'b> Source for SliceSource<'b> {
         buffer[..count].copy_from_slice(given);
         self.left = left;
         Ok(count)
+    }
+
+    fn borrow_next(&mut self, limit: usize) -> Option<&[u8]> {
+        let (borrowed, left) = self.left.split_at(limit.min(self.left.len()));
+        self.left = left;
+        Some(borrowed)
     }
 }
