@@ -29,6 +29,7 @@ pub fn answered(alloc: Global, call: &Call) -> Result<String, Memory> {
         "has_text_at" => passes::has_text_at(alloc, call.text(1), call.text(2), call.text(3)),
         "read_to_limit" => streams::whole(alloc, call),
         "read_rest" => streams::rest(alloc, call),
+        "borrow_next" => streams::borrowed(alloc, call),
         "read_by_std" => streams::by_std(alloc, call),
         "write_all" => writers::whole(alloc, call),
         "write_by_std" => writers::by_std(alloc, call),
