@@ -7,7 +7,8 @@ PREFIX is where install/install put the command and the library; gcc is needed. 
 
 - what a `check` of a small log takes from Python and by the command, over so many calls of each;
 - processor time and memory of `show` of a log document of SIZE MB, by the command and by a C program that reads the file and
-  calls the library with a buffer of the right size. It prints the ratio of each to the command's;
+  calls the library with a buffer of the right size. It prints the ratio of the times, and the memory beyond the command's: by
+  glibc's own choice of the blocks that it maps, which depends on those freed before, and with a fixed choice in both;
 - the memory that the same call takes from Python beyond its input, in lengths of the output.
 """
 import argparse
@@ -70,6 +71,12 @@ def small_calls(prefix, folder, calls):
     print("%d checks: %.1f us in process, %.0f us by the command" % (calls, here * 1e6, there * 1e6))
 
 
+def beyond(commands, size, runs):
+    """The memory that the second command takes beyond the first's, in so many bytes."""
+    there, here = (best_of([run_apart(command) for _ in range(runs)]).memory for command in commands)
+    return (here - there) * 2 ** 20 / size
+
+
 def large_call(prefix, folder, size, runs):
     """Times `show` of a large document by the command and by a C program, and weighs it from Python."""
     path, text, program = (os.path.join(folder, name) for name in ("log.json", "shown.json", "show"))
@@ -79,12 +86,15 @@ def large_call(prefix, folder, size, runs):
     words = ["gcc", "-O1", "-I" + os.path.join(prefix, "include"), "-x", "c", "-", "-x", "none", os.path.join(prefix, "lib", "libcadf.a")]
     subprocess.run([*words, "-o", program], input=PROGRAM.encode(), check=True)
     length = os.path.getsize(text)
-    there = best_of([run_apart(command) for _ in range(runs)])
-    here = best_of([run_apart([program, path, str(length)]) for _ in range(runs)])
+    call, both = [program, path, str(length)], length + os.path.getsize(path)
+    there, here = (best_of([run_apart(words) for _ in range(runs)]) for words in (command, call))
     print("show of %d MB: %.3f s and %.0f MB by the command, %.3f s (%.2f) and %.0f MB in process" % (
         size, there.processors, there.memory, here.processors, here.processors / there.processors, here.memory))
-    print("beyond the command's memory: %.2f times input and output" % (
-        (here.memory - there.memory) * 2 ** 20 / (length + os.path.getsize(path))))
+    found = beyond([command, call], both, runs)
+    os.environ["MALLOC_MMAP_THRESHOLD_"] = str(128 * 1024)
+    print("beyond the command's memory: %.2f times input and output; %.2f if glibc maps each block of 128 KB or more" % (
+        found, beyond([command, call], both, runs)))
+    del os.environ["MALLOC_MMAP_THRESHOLD_"]
     print("from Python: %s lengths of the output" % subprocess.check_output([sys.executable, "-c", FROM_PYTHON, path]).decode().strip()[:4])
 
 

@@ -1,7 +1,8 @@
 """Calls of the engines over memory: readers that cut and fail, writers that take few bytes and fail, limits.
 
-The worked calls of differential/rows.py are made here too, with each reader in pieces of 1 to 7 bytes. A row `each` makes
-its call for each number of a range, where `N` stands for the number; an answer tells what differs from the one before.
+The worked calls of differential/rows.py are made here too, with the bytes of each reader borrowed, and in pieces of 1 to 7
+bytes. A row `each` makes its call for each number of a range, where `N` stands for the number; an answer tells what differs
+from the one before.
 """
 import os
 import re
@@ -18,7 +19,7 @@ from texts import C1, C2, CF, K1, KF, V1, V2, digits, document, inventory, repli
 
 CALLS = {
     "each": [],
-    "load": ["load", "Loaded::log", "ReplicaFeed::after_magic"],
+    "load": ["load", "Loaded::log", "ReplicaFeed::after_magic", "Source::borrow_next", "MemorySource::borrowable"],
     "load_within": ["load_within"],
     "run_join": ["run_join"],
     "run_missing": ["run_missing"],
@@ -44,7 +45,8 @@ def data(text):
 
 
 def reader(text, piece=ALL, failing=0):
-    """The words of a reader: its bytes, the most bytes of a read, and the number of the read that fails."""
+    """The words of a reader: its bytes, the most bytes of a read, and the number of the read that fails. With 0 bytes of a read
+    they can be borrowed."""
     return [data(text), piece, failing]
 
 
@@ -83,7 +85,7 @@ def row(call, words, fields, heading):
     ROWS.append((call, words, fields, heading))
 
 
-# The worked calls of the command, with each reader in pieces of 1 to 7 bytes.
+# The worked calls of the command, with the bytes of each reader borrowed (0), and in pieces of 1 to 7 bytes.
 LARGE = 6000  # bytes of an input that is at a limit: the command alone reads it
 for name, words, files, wanted in worked.all_rows():
     inputs = [files[word] for word in words if word in files]
@@ -92,10 +94,10 @@ for name, words, files, wanted in worked.all_rows():
     command = " ".join(word.decode() for word in words if word not in files)
     call, asked = engine(command, [reader(text, "N") for text in inputs])
     if wanted.status == 0:
-        row("each", each(1, 7, call, asked), told(wanted.output.decode()), COMMANDS)
+        row("each", each(0, 7, call, asked), told(wanted.output.decode()), COMMANDS)
     else:
         text = wanted.error.decode()[len("cadf: "):-1]
-        row("each", each(1, 7, "fault", [call, *asked]), [wanted.status, text], FAULTS)
+        row("each", each(0, 7, "fault", [call, *asked]), [wanted.status, text], FAULTS)
 
 # What an input is: its bytes, and what loading it answers.
 LOADED = [
@@ -119,10 +121,10 @@ LOADS_REFUSED = [
 ]
 for text, fields in LOADED:
     row("load", reader(text), ["ok", *fields], COMMANDS)
-    row("each", each(1, 7, "load", reader(text, "N")), ["ok", *fields], COMMANDS)
+    row("each", each(0, 7, "load", reader(text, "N")), ["ok", *fields], COMMANDS)
 for text, fields in LOADS_REFUSED:
     row("load", reader(text), ["err", *fields], FAULTS)
-    row("each", each(1, 7, "load", reader(text, "N")), ["err", *fields], FAULTS)
+    row("each", each(0, 7, "load", reader(text, "N")), ["err", *fields], FAULTS)
 
 # A limit, an input, and why it is refused within it; nothing where it is accepted.
 NONE, DOCUMENT_LOADED = made.NOTHING, ["ok", "document", "some", "g", 0, 0, 0]
@@ -137,9 +139,9 @@ WITHIN = [
 ]
 for limit, text, fields in WITHIN:
     row("load_within", [limit, *reader(text)], fields, STREAMS)
-    row("each", each(1, 7, "load_within", [limit, *reader(text, "N")]), fields, STREAMS)
+    row("each", each(0, 7, "load_within", [limit, *reader(text, "N")]), fields, STREAMS)
 for text in (" " * 2000, "CADF-" + "x" * 2000):
-    row("load_within", [1000, *reader(text, 7)], LARGER, STREAMS)
+    row("each", each(0, 7, "load_within", [1000, *reader(text, "N")]), LARGER, STREAMS)
 
 # A failed read, where the bytes before it don't decide, and where they do.
 FAILED_READS = [
@@ -345,7 +347,7 @@ for command, inputs, output in COUNTED:
     for limit in (0, size - 1, size, size + 1, 2**30, 2**64 - 1):
         metered(limit, command, inputs, size, text)
     call, words = engine(command, map(reader, inputs), writer("N"))
-    row("each", each(1, 7, "metered", [size - 1, call, *words]), [*counted(size, size - 1), text], STREAMS)
+    row("each", each(0, 7, "metered", [size - 1, call, *words]), [*counted(size, size - 1), text], STREAMS)
     for way in ("refuses", "takes-nothing"):
         for limit in (3, 4):
             metered(limit, command, inputs, 4, text[:4], writer(1, way, 5))

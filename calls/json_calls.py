@@ -31,6 +31,7 @@ CALLS = {
     "list_texts": ["ListTexts::of", "ListTexts::next_text"],
     "read_to_limit": ["read_to_limit", "MemorySource::new", "Source::read"],
     "read_rest": ["cadf_json::read_rest"],
+    "borrow_next": ["Source::borrow_next", "MemorySource::borrowable"],
     "read_by_std": ["FromStd::new", "FromStd::into_inner"],
     "write_all": ["write_all", "MemorySink::new", "MemorySink::bytes", "Sink::write"],
     "write_by_std": ["FromStd::new", "FromStd::into_inner"],
@@ -345,6 +346,12 @@ def streams():
     for limit in (21, 4, 0):
         yield "read_rest", [BYTES[5:], 7, 0, limit, BYTES[:5]], ["err", "TooLarge"], STREAMS
     yield "read_rest", [BYTES[5:], 7, 1, 22, BYTES[:5]], ["err", "ReadFault"], STREAMS
+    # What is borrowed with a limit, and what is left to read then. Nothing is borrowed of a source that is read in pieces.
+    for limit in (0, 1, 21, 22, 23, 2**64 - 1):
+        taken, left = BYTES[:limit], BYTES[limit:]
+        yield "borrow_next", [BYTES, 0, limit], ["some", taken, left], STREAMS
+        yield "borrow_next", [BYTES, 7, limit], ["none", BYTES], STREAMS
+    yield "borrow_next", [b"", 0, 5], ["some", b"", b""], STREAMS
     # A reader of std that gives a byte a call: five take six calls, and a failed call isn't made again.
     for failing in range(1, 7):
         yield "read_by_std", [b"xxxxx", failing, 22], ["err", "ReadFault", failing], STREAMS

@@ -1,5 +1,5 @@
 """What the driver of engines answers: generated command lines as calls of engines over memory, with readers and writers
-that cut, and their answers by the second implementation.
+that cut, readers whose bytes can be borrowed, and their answers by the second implementation.
 
 Each of `KINDS` makes a driver's name, a call with its words and the fields of its answer.
 """
@@ -21,8 +21,8 @@ def engine(call):
 
 
 def reader(content, piece):
-    """The words of a reader; at a folder the first read fails."""
-    return [b"", piece, 1] if content is DIRECTORY else [content, piece, 0]
+    """The words of a reader, whose bytes can be borrowed if a piece has none; at a folder the first read fails."""
+    return [b"", max(piece, 1), 1] if content is DIRECTORY else [content, piece, 0]
 
 
 def called(case, pieces):
@@ -46,7 +46,7 @@ def called(case, pieces):
 
 def engines(chance):
     """A call of an engine; those of the command's cases that come to none are left out."""
-    pieces = iter(lambda: chance.randint(1, LONGEST_PIECE), 0)
+    pieces = iter(lambda: chance.randint(0, LONGEST_PIECE), -1)
     made = None
     while made is None:
         made = called(Case(KINDS_WITH_SKETCHES, chance.randrange(2 ** 32), 0), pieces)

@@ -47,12 +47,14 @@ impl<'a> Words<'a> {
         }
     }
 
-    /// Makes the reader of the three words from that place on.
+    /// Makes the reader of the three words from that place on. Its bytes can be borrowed if its pieces have none.
     pub(crate) fn source(self, place: usize) -> MemorySource<'a> {
         let bytes = self.call.bytes(self.first.saturating_add(place));
-        let piece = self.number(place.saturating_add(1));
         let failing = self.number(place.saturating_add(2));
-        MemorySource::new(bytes, piece.max(1), failing as u64)
+        match self.number(place.saturating_add(1)) {
+            0 => MemorySource::borrowable(bytes),
+            piece => MemorySource::new(bytes, piece, failing as u64),
+        }
     }
 
     /// Makes the writer of the three words from that place on.

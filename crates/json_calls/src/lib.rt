@@ -32,6 +32,7 @@ pub fn answered(alloc: Global, call: &Call) -> Result<String, Memory> {
         "list_texts" => lists::list_texts(alloc, call.text(1)),
         "read_to_limit" => streams::whole(alloc, call),
         "read_rest" => streams::rest(alloc, call),
+        "borrow_next" => streams::borrowed(alloc, call),
         "read_by_std" => streams::by_std(alloc, call),
         "write_all" => writers::whole(alloc, call),
         "write_by_std" => writers::by_std(alloc, call),

@@ -2,7 +2,7 @@
 
 ghost use Rattle.std.specs.Prelude.{◌<◌, ◌^◌};
 
-use cadf_json::{FromStd, MemorySource, ReadLimitFault, read_rest, read_to_limit};
+use cadf_json::{FromStd, MemorySource, ReadLimitFault, Source, read_rest, read_to_limit};
 use calls::Call;
 use std::alloc::{AllocError as Memory, Global};
 use std::io;
@@ -45,6 +45,30 @@ pub(crate) fn rest(alloc: Global, call: &Call) -> Result<String, Memory> {
     let start = call.bytes(5).to_vec(alloc)?;
     let bytes = read_rest(&mut source, start, limit(call, 4));
     told(alloc, bytes)
+}
+
+/// Makes the source of the first word's bytes: in pieces of that size, or of bytes that can be borrowed if it is 0.
+fn borrowable_or_not<'b>(call: &'b Call) -> MemorySource<'b> {
+    match call.number(2) {
+        0 => MemorySource::borrowable(call.bytes(1)),
+        piece => MemorySource::new(call.bytes(1), piece, 0),
+    }
+}
+
+/// Answers what is borrowed of the source, at most as many bytes as the third word says, and what is left to read then.
+pub(crate) fn borrowed(alloc: Global, call: &Call) -> Result<String, Memory> {
+    let mut source = borrowable_or_not(call);
+    let mut line = match source.borrow_next(call.number(3)) {
+        Some(bytes) => {
+            let mut line = calls::answer(alloc, "some", &[])?;
+            calls::push_bytes(&mut line, bytes)?;
+            line
+        }
+        None => calls::answer(alloc, "none", &[])?,
+    };
+    let left = read_to_limit(alloc, &mut source, 1 << 30).map_err(|_| Memory)?;
+    calls::push_bytes(&mut line, &left)?;
+    Ok(line)
 }
 
 /// A reader of std that returns one byte per call. Call number `failing` fails, and the next one continues.
