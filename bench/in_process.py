@@ -6,9 +6,10 @@
 PREFIX is where install/install put the command and the library; gcc is needed. Prints
 
 - what a `check` of a small log takes from Python and by the command, over so many calls of each;
-- processor time and memory of `show` of a log document of SIZE MB, by the command and by a C program that reads the file and
-  calls the library with a buffer of the right size. It prints the ratio of the times, and the memory beyond the command's: by
-  glibc's own choice of the blocks that it maps, which depends on those freed before, and with a fixed choice in both;
+- processor time and memory of `show` of a log document of SIZE MB, by the command, which writes to a file or to /dev/null, and
+  by a C program that reads the file and calls the library with a buffer of the right size. It prints the ratio of the times to
+  both, and the memory beyond the command's: by glibc's own choice of the blocks that it maps, which depends on those freed
+  before, and with a fixed choice in both;
 - the memory that the same call takes from Python beyond its input, in lengths of the output.
 """
 import argparse
@@ -87,9 +88,11 @@ def large_call(prefix, folder, size, runs):
     subprocess.run([*words, "-o", program], input=PROGRAM.encode(), check=True)
     length = os.path.getsize(text)
     call, both = [program, path, str(length)], length + os.path.getsize(path)
-    there, here = (best_of([run_apart(words) for _ in range(runs)]) for words in (command, call))
-    print("show of %d MB: %.3f s and %.0f MB by the command, %.3f s (%.2f) and %.0f MB in process" % (
-        size, there.processors, there.memory, here.processors, here.processors / there.processors, here.memory))
+    there, unseen, here = (best_of([run_apart(words, out) for _ in range(runs)])
+                           for words, out in ((command, text), (command, os.devnull), (call, os.devnull)))
+    print("show of %d MB: %.3f s and %.0f MB by the command, %.3f s (%.2f; %.2f of it to /dev/null) and %.0f MB in process" % (
+        size, there.processors, there.memory, here.processors, here.processors / there.processors,
+        here.processors / unseen.processors, here.memory))
     found = beyond([command, call], both, runs)
     os.environ["MALLOC_MMAP_THRESHOLD_"] = str(128 * 1024)
     print("beyond the command's memory: %.2f times input and output; %.2f if glibc maps each block of 128 KB or more" % (
