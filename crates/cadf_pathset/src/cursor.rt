@@ -1,12 +1,16 @@
 //! A place among lists, in order.
-ghost use Rattle.std.specs.Prelude.{◌≡◌, ◌≤◌, [], OnOk, IfOk, length};
+ghost use Rattle.std.specs.Prelude.{◌≡◌, ◌≤◌, ◌<◌, ℕ, [], OnOk, IfOk, length, drop, get_or, true, false};
+ghost use Rattle.std.specs.List.Sorted.{IsStrictlySortedBy};
+ghost use Rattle.cadf_join.specs.Contents.{texts_cmp};
 ghost use Rattle.cadf_join.specs.Prefixes.{texts_at};
+ghost use Rattle.cadf_pathset.specs.Lists.{is_before};
 ghost use Rattle.cadf_pathset.specs.Nodes.{AreThere, IsLine, list_at, lists_at, shared};
 ghost use Rattle.cadf_pathset.specs.Walks.{Advances, Moves, Steps};
 
 use crate::Memory;
 use crate::lines::{cmp_from, follow, spell};
 use crate::nodes::Nodes;
+use crate::union::gallop;
 use std::alloc::Global;
 use std::marker::Model;
 
@@ -105,6 +109,18 @@ impl<'a> Cursor<'a> {
             }
             None => Ok(false),
         }
+    }
+
+    /// Skips lists ahead that are below `list`, by a galloping search. Not all of them, and no other.
+    pub fn skip_below(&mut self, list: &[&str])
+        requires { IsStrictlySortedBy texts_cmp self.old.1 }
+        ensures path { self.new.0 ≡ self.old.0 }
+        ensures ahead { (n : ℕ) × (self.new.1 ≡ drop n self.old.1)
+            × ((k : ℕ) → k < n → is_before (texts_at list.now) false (get_or self.old.1 k []) ≡ true) }
+    {
+        let below = gallop(self.nodes, self.numbers, 0, list);
+        let (_, numbers) = self.numbers.split_at(below);
+        self.numbers = numbers;
     }
 }
 

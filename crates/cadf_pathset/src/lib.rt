@@ -24,5 +24,6 @@ mod union;
 pub use builder::PathSetBuilder;
 pub use cadf_join::{Join, Memory, Visitor, Walk};
 pub use carriers::Carrier;
+pub use cursor::Cursor;
 pub use path_set::PathSet;
 pub use suffix_set::SuffixSet;

@@ -80,7 +80,7 @@ fn append(
 }
 
 /// Returns a number of ours from `from` on, all lists between being below theirs. Galloping search.
-fn gallop(nodes: &Nodes, numbers: &[usize], from: usize, path: &[&str]) -> usize
+pub(crate) fn gallop(nodes: &Nodes, numbers: &[usize], from: usize, path: &[&str]) -> usize
     requires there { AreThere nodes.now numbers.now }
     requires rises { IsStrictlySortedBy texts_cmp (lists_at nodes.now numbers.now) }
     requires within { from ≤ length numbers.now }
