@@ -1,5 +1,5 @@
 -- An object that is parsed member by member, and one list of it item by item.
-use Rattle.std.specs.Prelude.{◌≡◌, ℕ, List, ◌++◌, length, Bool, true, false, not, Some, None}
+use Rattle.std.specs.Prelude.{◌≡◌, ℕ, List, [], ◌∷◌, ◌++◌, length, Bool, true, false, not, Some, None}
 use Rattle.std.specs.Borrow.{Bor}
 use Rattle.std.specs.declared.string.String.{String}
 use Rattle.std.specs.declared.alloc.Global.{Global}
@@ -8,7 +8,7 @@ use Rattle.json.specs.Json.{value, items, members}
 use Rattle.serde_json.specs.Data.{Data, array, object, Items, Members, no_members, member, put}
 use Rattle.serde_json.specs.Find.{get_member}
 use Rattle.serde_json.specs.Read.{of_json, of_items, of_members, converted}
-use Rattle.serde_json.specs.Written.{items_have_float, members_have_float}
+use Rattle.serde_json.specs.Written.{has_float, items_have_float, members_have_float}
 use Rattle.cadf_json.specs.Parts.{to_list}
 use Rattle.cadf_json.specs.Rewritten.{is_one_of, without, all_members}
 use Rattle.cadf_json.specs.Spelling.{AreTexts}
@@ -19,6 +19,12 @@ use Rattle.cadf_json.specs.declared.streamed_object.ObjectAround.{ObjectAround}
 abbrev pub AreTaken : {T : Type 0} → (T → List Data → Type 0) → T → T → Items → Type 0
 AreTaken {T} took old new es =
     ((ds : List Data) → took old ds → took new (ds ++ to_list es)) × (items_have_float es ≡ false)
+
+-- the value that the tokens begin with was taken
+abbrev pub TakesItem : {T : Type 0} → (T → List Data → Type 0) → T → T → ℕ → List Token → List Token → Type 0
+TakesItem {T} took old new depth ts rest =
+    (d : Data) × ((converted of_json (value depth ts) ≡ Some (d, rest)) × (has_float d ≡ false)
+    × ((ds : List Data) → took old ds → took new (ds ++ d ∷ [])))
 
 -- the items that the tokens begin with, up to the closing bracket, were taken in turn
 abbrev pub PassesItems : {T : Type 0} → (T → List Data → Type 0) → T → T → ℕ → List Token → List Token → Type 0

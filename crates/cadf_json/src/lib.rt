@@ -9,6 +9,7 @@ mod look;
 mod members;
 mod memory;
 mod number;
+mod object_row;
 mod object_text;
 mod owned;
 mod part;
@@ -33,7 +34,10 @@ pub use crate::laws::{
 pub use crate::list_text::ListTexts;
 pub use crate::members::{Member, Members};
 pub use crate::memory::{FailingWrite, MemorySink, MemorySource};
-pub use crate::object_text::{has_text_at, nests_within, spells_object, text_at};
+pub use crate::object_row::ObjectRow;
+pub use crate::object_text::{
+    has_text_at, nests_within, plain_text, spells_object, spells_object_with, text_at,
+};
 pub use crate::read::TreeFault;
 pub use crate::skip::{check_list, find_fraction, has_json_syntax};
 pub use crate::stream::{Failed, FromStd, Sink, Source};

@@ -4,16 +4,16 @@ ghost use Rattle.json.specs.Json.{value, members};
 ghost use Rattle.json.specs.Value.{members_view};
 ghost use Rattle.serde_json.specs.Data.{Data, Items, array, no_members, put};
 ghost use Rattle.serde_json.specs.Read.{of_members, converted};
+ghost use Rattle.cadf_json.specs.TokenUtf8.{HaveUtf8};
 ghost use Rattle.cadf_json.specs.Tree.{named_in, AreMembersWithin};
 ghost use Rattle.cadf_json.specs.Rewritten.{is_one_of, texts_of};
-ghost use Rattle.cadf_json.specs.StreamedObjects.{PassesItems, PassesList, AreSplit, IsSplit};
+ghost use Rattle.cadf_json.specs.StreamedObjects.{TakesItem, PassesItems, PassesList, AreSplit, IsSplit};
 
 use crate::read::{TreeFault, put_member, read};
 use crate::rewrite::is_listed;
 use crate::rising::{pairs_in_order, put_pair, rises_to};
 use crate::spelling::read_text;
 use crate::tree::Tree;
-use crate::view::View;
 use json::{Reader, Scratch, Token, Value};
 use std::alloc::Global;
 use std::collections::BTreeMap;
@@ -25,38 +25,41 @@ pub trait ItemVisitor {
     /// The visitor took these items.
     ghost took: { Self → List Data → Type 0 };
 
-    /// Takes a further item. `NeedsFullParse`: the visitor can't decide what the item is.
-    fn take(&mut self, item: &View<'_, '_>) -> Result<(), TreeFault>
-        ensures { OnOk result ((ds : List Data) → took self.old ds → took self.new (ds ++ item.now ∷ [])) };
+    /// Reads a further item, which may nest `depth` deep, and takes it. `NeedsFullParse`: the visitor can't decide what the
+    /// item is.
+    fn take(&mut self, reader: &mut Reader<'_>, depth: usize) -> Result<(), TreeFault>
+        requires depth { depth ≤ 127 }
+        requires utf8 { HaveUtf8 reader.old }
+        ensures ok { OnOk result (TakesItem took self.old self.new depth reader.old reader.new) }
+        ensures shorter { OnOk result (length reader.new < length reader.old) };
 }
 
 /// Passes the items up to the closing bracket to the visitor.
-fn pass_items<'a, T: ItemVisitor>(
-    alloc: Global,
-    reader: &mut Reader<'a>,
+fn pass_items<T: ItemVisitor>(
+    reader: &mut Reader<'_>,
     depth: usize,
     taker: &mut T,
 ) -> Result<(), TreeFault>
-    requires { depth ≤ 127 }
+    requires depth { depth ≤ 127 }
+    requires utf8 { HaveUtf8 reader.old }
     ensures ok { OnOk result
         (PassesItems T.took taker.old taker.new depth reader.old reader.new) }
     ensures shorter { OnOk result (length reader.new < length reader.old) }
 {
     'items: while !reader.take_end_array() {
-        let item = Tree::read(alloc, reader, depth)?;
-        taker.take(&item.view())?;
+        taker.take(reader, depth)?;
     }
     Ok(())
 }
 
 /// Passes the items of the next list to the visitor. `NeedsFullParse` if no list comes next.
-fn pass_list<'a, T: ItemVisitor>(
-    alloc: Global,
-    reader: &mut Reader<'a>,
+fn pass_list<T: ItemVisitor>(
+    reader: &mut Reader<'_>,
     depth: usize,
     taker: &mut T,
 ) -> Result<(), TreeFault>
-    requires { depth ≤ 127 }
+    requires depth { depth ≤ 127 }
+    requires utf8 { HaveUtf8 reader.old }
     ensures ok { OnOk result
         (PassesList T.took taker.old taker.new depth reader.old reader.new) }
     ensures shorter { OnOk result (length reader.new < length reader.old) }
@@ -67,7 +70,7 @@ fn pass_list<'a, T: ItemVisitor>(
     if depth == 0 {
         return Err(TreeFault::NeedsFullParse);
     }
-    pass_items(alloc, reader, depth - 1, taker)?;
+    pass_items(reader, depth - 1, taker)?;
     Ok(())
 }
 
@@ -91,6 +94,7 @@ fn read_around<'a, T: ItemVisitor>(
 ) -> Result<MembersAround<'a>, TreeFault>
     requires depth { (1 ≤ depth) × (depth ≤ 127) }
     requires named { is_one_of (texts_of in_tree.now) name.now ≡ true }
+    requires utf8 { HaveUtf8 reader.old }
     ensures ok { IfOk result (λ a. AreSplit T.took taker.old taker.new name.now (texts_of in_tree.now) a.taken a.texts.items
         (named_in (members_view a.members.items)) depth reader.old reader.new) }
     ensures within { IfOk result (λ a. AreMembersWithin depth (members_view a.members.items)) }
@@ -101,6 +105,7 @@ fn read_around<'a, T: ItemVisitor>(
     let mut last: Option<&'a str> = None;
     let mut rising = true;
     let mut buffer = Vec::new(alloc);
+    let mut budget = usize::MAX;
     let mut taken = false;
     'members: loop {
         let Ok(key) = reader.next_key() else {
@@ -119,12 +124,12 @@ fn read_around<'a, T: ItemVisitor>(
             put_pair(alloc, rising, &mut row, &mut map, key, text)?;
             last = Some(key);
         } else if key != name {
-            let member = read(alloc, reader, depth)?;
+            let member = read(alloc, reader, depth, &mut budget)?;
             put_member(&mut members, key, member, depth)?;
         } else if taken {
             return Err(TreeFault::NeedsFullParse);
         } else {
-            pass_list(alloc, reader, depth, taker)?;
+            pass_list(reader, depth, taker)?;
             put_member(&mut members, key, Value::Array(Vec::new(alloc)), depth)?;
             taken = true;
         }

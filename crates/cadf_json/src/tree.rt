@@ -45,8 +45,25 @@ impl<'a> Tree<'a> {
         ensures value { IfOk result IsValue }
         ensures shorter { OnOk result (length reader.new < length reader.old) }
     {
+        let mut budget = usize::MAX;
+        Tree::read_within(alloc, reader, depth, &mut budget)
+    }
+
+    /// Does the same for a value that has, with those inside it, at most `budget` values, and counts them down. There are
+    /// more if it ends with `NeedsFullParse` and a budget of 0.
+    pub fn read_within(
+        alloc: Global,
+        reader: &mut Reader<'a>,
+        depth: usize,
+        budget: &mut usize,
+    ) -> Result<Tree<'a>, TreeFault>
+        requires { depth ≤ 127 }
+        ensures ok { IfOk result (λ t. converted of_json (value_at depth reader.old) ≡ Some (t, reader.new)) }
+        ensures value { IfOk result IsValue }
+        ensures shorter { OnOk result (length reader.new < length reader.old) }
+    {
         Ok(Tree {
-            value: read(alloc, reader, depth)?,
+            value: read(alloc, reader, depth, budget)?,
         })
     }
 

@@ -12,6 +12,7 @@ use Rattle.cadf_json.specs.StreamedObjects.{merged, AreBeside}
 use Rattle.cadf_json.specs.Tree.{data_in, named_in, AreMembersWithin}
 use Rattle.cadf_json.proofs.Around.{Around, around_start, around_other, around_list, around_over}
 use Rattle.cadf_json.proofs.Beside.{beside_none, beside_text, beside_named, merged_other, around_text}
+use Rattle.cadf_json.proofs.ReadValues.{rest_utf8, key_utf8}
 use Rattle.cadf_json.proofs.RisingRows.{kept_none, kept_next}
 use Rattle.cadf_json.proofs.Splits.{float-put}
 use Rattle.cadf_json.proofs.streamed_object.read_around.Goals as goal
@@ -26,6 +27,7 @@ members-init g c =
       whole = refl;
       around = rw none (around_start g.T.ItemVisitor.took c.args.name.now (value c.args.depth) c.args.reader.now c.args.taker.now);
       kept = rw (c.new-row.ensures.items, c.new-map.ensures.empty) kept_none;
+      utf8 = c.requires.utf8;
       within = subst (λ xs. AreMembersWithin c.args.depth (members_view xs)) (sym c.new-members.ensures.items) ((tt, tt), omega arith);
     }
 
@@ -54,6 +56,7 @@ members-preserved-then-not-is_listed g c =
           inv.others ms l.taken inv.around c.requires.named out named read.1 less;
       kept = kept_next l.row.items l.map.entries c.put_pair.new.row.items c.put_pair.new.map.entries (option_map (λ x. x.now) l.last) l.rising k
           c.in_ok-text.text c.rises_to-rising.result c.rises_to-rising.ensures inv.kept added.rising added.sorted;
+      utf8 = rest_utf8 c.args.depth s r read.0 (key_utf8 l.reader s (Some k.now) inv.utf8 named) read.1;
       within = inv.within;
     }
 
@@ -88,6 +91,7 @@ members-preserved-in_ok-put_member g c =
           (around_other g.T.ItemVisitor.took c.args.name.now p c.args.reader.now c.args.taker.now l.taker k l.reader s r d (merged inv.others ms) l.taken
           inv.around other named done.ok less));
       kept = inv.kept;
+      utf8 = rest_utf8 c.args.depth s r d (key_utf8 l.reader s (Some k) inv.utf8 named) done.ok;
       within = c.in_ok-put_member.ensures.within;
     }
 
@@ -127,6 +131,7 @@ members-preserved g c =
           (around_list g.T.ItemVisitor.took name p c.args.reader.now c.args.taker.now l.taker c.pass_list.new.taker l.reader s r (merged inv.others found)
           so_far named done.ok less));
       kept = inv.kept;
+      utf8 = rest_utf8 c.args.depth s r (array done.ok.0) (key_utf8 l.reader s (Some name) inv.utf8 named) done.ok.1.1;
       within = c.in_ok-put_member-2.ensures.within;
     }
 
@@ -144,3 +149,11 @@ returns-in_default-key-clause-ok g c =
       around = around_over g.T.ItemVisitor.took c.args.name.now c.args.depth c.args.reader.now c.args.taker.now l.taker l.reader s
           (merged inv.others (named_in (members_view l.members.items))) l.taken inv.around over;
     }
+
+pub pass_list-requires-clause-utf8 : goal.pass_list-requires-clause-utf8
+pass_list-requires-clause-utf8 g c =
+    let l = c.members in
+    let s = c.next_key.new.self in
+    let k = c.in-Some.key.now in
+    let named : read_key l.reader ≡ Some (Some k, s) = c.in-Ok.ensures.value ∙ ap (λ o. Some (option_map (λ x. x.now) o, s)) c.in-Some.is in
+    key_utf8 l.reader s (Some k) l.invariant.utf8 named

@@ -5,6 +5,7 @@ use Rattle.serde_json.specs.Data.{Members}
 use Rattle.serde_json.specs.Written.{members_have_float}
 use Rattle.cadf_json.specs.Rewritten.{texts_of}
 use Rattle.cadf_json.specs.StreamedObjects.{merged, AreBeside}
+use Rattle.cadf_json.specs.TokenUtf8.{HaveUtf8}
 use Rattle.cadf_json.specs.Tree.{named_in, AreMembersWithin}
 use Rattle.cadf_json.proofs.Around.{Around}
 use Rattle.cadf_json.proofs.RisingRows.{Kept}
@@ -18,6 +19,7 @@ invariant-members g l = record {
   around : Around g.T.ItemVisitor.took l.initial.taker l.taker l.name (value l.depth) l.initial.reader l.reader
       (merged others (named_in (members_view l.members.items))) l.taken;
   kept : Kept l.row.items l.map.entries (option_map (λ s. s.now) l.last) l.rising;
+  utf8 : HaveUtf8 l.reader;
   within : AreMembersWithin l.depth (members_view l.members.items);
 }
 

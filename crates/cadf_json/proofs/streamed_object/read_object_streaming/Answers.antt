@@ -11,7 +11,9 @@ use Rattle.cadf_json.specs.StreamedObjects.{merged, AreAround}
 use Rattle.cadf_json.proofs.Beside.{merged_float}
 use Rattle.cadf_json.proofs.Settled.{MembersAreWhole-named_in}
 use Rattle.cadf_json.proofs.Splits.{float-put}
+use Rattle.cadf_json.specs.TokenUtf8.{HaveUtf8}
 use Rattle.cadf_json.proofs.Texts.{members_have_float-AreWhole}
+use Rattle.cadf_json.proofs.TokenTexts.{tokens_utf8}
 use Rattle.cadf_json.proofs.Turns.{converted-object, whole_read}
 use Rattle.cadf_json.proofs.streamed_object.read_object_streaming.Goals as goal
 
@@ -48,3 +50,8 @@ returns g c =
         );
       };
     }
+
+pub read_around-requires-clause-utf8 : goal.read_around-requires-clause-utf8
+read_around-requires-clause-utf8 g c =
+    let begins : tokens c.args.text.now ≡ Token.begin_object ∷ c.next.new.self = search rules in
+    (subst HaveUtf8 begins (tokens_utf8 c.args.text.now c.utf8.text)).1
