@@ -149,6 +149,8 @@ impl LineDecoder for SketchLines {
 
     type Start = SketchStart;
 
+    type Context = ();
+
     ghost start_line = { λ _. sketch_header };
 
     fn start(line: &[u8]) -> Option<SketchStart> {
@@ -159,7 +161,7 @@ impl LineDecoder for SketchLines {
         }
     }
 
-    fn new(_alloc: Global, _start: SketchStart, log: Name) -> SketchLines {
+    fn new(_alloc: Global, _context: (), _start: SketchStart, log: Name) -> SketchLines {
         SketchLines {
             log,
             told: Told::Nothing,
