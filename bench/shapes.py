@@ -58,6 +58,11 @@ def one_event(**parts):
     return {"events": [spelled(EVENT | parts)]}
 
 
+def with_list(items):
+    """An event with a member that is a list of these texts."""
+    return {"events": ['%s,"x":[%s]}' % (spelled(EVENT)[:-1], ",".join(items))]}
+
+
 def properties(texts):
     return {"events": []} | texts
 
@@ -108,6 +113,8 @@ SHAPES = {
     "escapes": Shape(99, lambda numbers: properties({"x": (r'"%s%07d"' % (r'\u0001\n\"' * 9, n) for n in numbers)})),
     "nesting": Shape(216, lambda numbers: properties({"p%07d" % n: "[" * 99 + str(n) + "]" * 99 for n in numbers})),
     "tiny": Shape(8, lambda numbers: properties({"x": tiny(numbers)}), memory=TINY),
+    "tiny-event": Shape(8, lambda numbers: with_list(tiny(numbers)), forms=("document",), memory=TINY),
+    "nested-event": Shape(196, lambda numbers: with_list("[" * 97 + "0" + "]" * 97 for _ in numbers), forms=("document",)),
     "tiny-events": Shape(8, lambda numbers: {"events": tiny(numbers)}, status=1, forms=("document",), memory=TINY),
     "falling": Shape(13, lambda numbers: properties({"x": falling(numbers)}), forms=("document",)),
     "nested-falling": Shape(7, lambda numbers: properties({"x": nested_falling(numbers)}), forms=("document",)),

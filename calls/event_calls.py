@@ -19,6 +19,10 @@ CALLS = {
     "property": ["Property::read", "Property::name", "Property::text"],
     "document": ["Document::read", "Document::log", "Document::sightings", "Document::entities", "Document::properties"],
     "document_bytes": ["Document::read_bytes"],
+    # On bytes of which a part is repeated: what is before it, the part, how often, what is after it.
+    "repeated document_bytes": ["Document::read_bytes"],
+    "repeated body_with": ["Body::read_with"],
+    "repeated step_with": ["Step::read_with"],
     # What the fault of a reading is shown as.
     "fault document": ["DocumentBytesFault::fmt", "DocumentFault::fmt", "EventFault::fmt", "EntityFault::fmt", "JsonFault::fmt"],
     "fault property": ["PropertyFault::fmt"],
@@ -48,6 +52,9 @@ def seen(text=B1, *came, name="e1", instant=NOON):
     """The parts of an event: its identifier, instant and body, and what came with it."""
     return [name, instant, text, *came]
 
+
+USUAL_PARTS = seen(USUAL_BODY, "chain", USUAL_STEP, "tag", "correlation_id?value=9", name="openstack:7f3e",
+                   instant=1392340847932842 * 1000)
 
 # Members of the usual event that are accepted: the body then, and what comes with it.
 ACCEPTED = [
@@ -241,6 +248,131 @@ NO_VALUES = [
     ("CADF-REPLICA 1\n", "NotJson"),
 ]
 
+# An event, a body or a step of at most so many values is read as a tree, a larger one as the texts of its members. The
+# answer is the same.
+MOST = 16384
+
+
+def large(text, member="typeURI"):
+    """The text of an event behind a member of more values, which a later member of its name replaces: what is repeated is
+    taken out."""
+    return '{"%s":[' % member, "0,", MOST, "0]," + text[1:]
+
+
+def within(before, repeated, after):
+    """A text of which a part is repeated, between others."""
+    start, part, count, end = repeated
+    return before + start, part, count, end + after
+
+
+def in_log(repeated, before="", after=""):
+    """A log with that event, behind others and before others."""
+    return within('{"id":"g","events":[' + before, repeated, after + "]}")
+
+
+# The beginnings of the usual event with a further member, a list.
+LISTED, CHAINED = V1[:-1] + ',"reporterchains":[', V1[:-1] + ',"reporterchain":[%s,' % S1
+TAGGED, ATTACHED = V1[:-1] + ',"tags":[', V1[:-1] + ',"attachments":['
+IN_STEP = '{"reporterId":"s1","role":"relay","a":['
+OF_STEP = '],"a":0,"reporterTime":"2024-03-01T12:00:00.10+0100"}'
+STEP = '{"a":0,"reporterId":"s1","reporterTime":"2024-03-01T12:00:00.1+01:00","role":"relay"}'
+NO_ACTION = event("action", "")
+
+# Documents with such an event that are accepted, and their parts.
+LARGE_PARTS = [
+    # As many values as a tree has, and one more: the object, nine members, the list and its items.
+    (in_log((LISTED, "null,", MOST - 12, "null]}")), ["log", "g", "event", *seen()]),
+    (in_log((LISTED, "null,", MOST - 11, "null]}")), ["log", "g", "event", *seen()]),
+    (in_log((LISTED, "null,", MOST, "[%s,%s]]}" % (S1, S2))), ["log", "g", "event", *seen(B1, "chain", S1, S2)]),
+    (in_log((V1[:-1] + ',"x":[', "0,", MOST, "0]}")), ["log", "g", "event", *seen(body("x", "[%s0]" % ("0," * MOST)))]),
+    # Many values in an attachment, in a step, and in both members with chains.
+    (in_log((ATTACHED + '{"b":[', "0,", MOST, '0],"b":2,"a":{}},{}]}')),
+     ["log", "g", "event", *seen(B1, "attachment", '{"a":{},"b":2}', "attachment", "{}")]),
+    (in_log((CHAINED + IN_STEP, "0,", MOST, "0" + OF_STEP + "]}")),
+     ["log", "g", "event", *seen(B1, "chain", S1, STEP)]),
+    (in_log((LISTED + "[%s],[" % S1 + IN_STEP, "0,", MOST, "0" + OF_STEP + '],[]],"reporterchain":[%s]}' % S2)),
+     ["log", "g", "event", *seen(B1, "chain", S2, "chain", S1, "chain", STEP)]),
+    # Other events before it and after it, and members of the log.
+    (in_log(large(V2), before=V1 + ",", after="," + USUAL),
+     ["log", "g", "event", *seen(), "event", *seen(name="e2"), "event", *USUAL_PARTS]),
+    (within('{"resources":[{"id":"r"}],"events":[', large(V1), '],"id":"h","id":"g","name":"north"}'),
+     ["log", "g", "event", *seen(), "resource", "r", '{"id":"r"}', "property", "name", '"north"']),
+    (within('{"id":"g","events":[', large(V1), '],"\\u0065vents":[%s]}' % V2), ["log", "g", "event", *seen(name="e2")]),
+    # Of two members of one name the later one counts, also if the other has a fraction.
+    (in_log(large(V1[:-1] + ',"outcome":"failure"}')), ["log", "g", "event", *seen(body("outcome", '"failure"'))]),
+    (in_log(large(V1[:-1] + ',"x":{"a":1.5,"a":1}}')), ["log", "g", "event", *seen(body("x", '{"a":1}'))]),
+    (in_log(large(V1[:-1] + ',"x":1.5,"x":1}')), ["log", "g", "event", *seen(body("x", "1"))]),
+    # Such an event by itself.
+    (large(V1), ["no log", "event", *seen()]),
+    ((LISTED, "null,", MOST, "[%s]]}" % S1), ["no log", "event", *seen(B1, "chain", S1)]),
+    (large(event("x", '"\\u0041"')), ["no log", "event", *seen(body("x", '"A"'))]),
+]
+
+# Documents with such an event that are refused.
+LARGE_REFUSED = [
+    (in_log((LISTED, "null,", MOST, "7]}")), ["Event", 1, "Chain", MOST + 1, 0]),
+    (in_log((LISTED, "[],", MOST, "[%s,{}]]}" % S1)), ["Event", 1, "Chain", MOST + 1, 2]),
+    (in_log((TAGGED, '"a",', MOST, '""]}')), ["Event", 1, "Tag", MOST + 1]),
+    (in_log((ATTACHED, "{},", MOST, "1]}")), ["Event", 1, "Attachment", MOST + 1]),
+    (in_log((CHAINED + IN_STEP, "0,", MOST, '0],"reporterTime":7}]}')), ["Event", 1, "Chain", 0, 2]),
+    (in_log((LISTED + "[%s],[" % S1 + IN_STEP, "0,", MOST, '0],"role":"sender"}]]}')), ["Event", 1, "Chain", 2, 1]),
+    (in_log(large(V1[:-1] + ',"id":""}')), ["Event", 1, "Id"]),
+    # A value of many values that is no event.
+    (in_log(("[", "0,", MOST, "0]")), ["Event", 1, "NotObject"]),
+    (in_log(("[", "0,", MOST, "0]"), before=V1 + ",", after="," + NO_ACTION), ["Event", 2, "NotObject"]),
+    # The first event that is refused is named, whichever is large; what is told before an event is told first.
+    (in_log(large(V1), before=V2 + ",", after="," + NO_ACTION), ["Event", 3, "Action"]),
+    (in_log(large(V1), after=",7"), ["Event", 2, "NotObject"]),
+    (in_log(large(event("outcome", "")), before=NO_ACTION + ","), ["Event", 1, "Action"]),
+    (in_log(large(V1), before=NO_ACTION + ","), ["Event", 1, "Action"]),
+    (in_log(large(event("outcome", "")), after="," + NO_ACTION), ["Event", 1, "Outcome"]),
+    (within('{"events":[', large(event("outcome", "")), "]}"), ["LogId"]),
+    (within('{"events":[', large(event("outcome", "")), '],"id":"g","metrics":{}}'), ["NotList", "Metrics"]),
+    (within('{"resources":[7],"id":"g","events":[', large(event("outcome", "")), "]}"), ["Event", 1, "Outcome"]),
+    (within('{"resources":[7],"id":"g","events":[', large(V1), "]}"), ["Entity", "Resource", 1, "NotObject"]),
+    (within('{"b\\u0001":2,"id":"g","events":[', large(V1), "]}"), ["Property", 1]),
+    # Such an event by itself.
+    (large(NO_ACTION), ["Event", 0, "Action"]),
+    (large(event("x", nested(100))), ["Event", 0, "TooDeep"]),
+    ((LISTED, "null,", MOST, "7]}"), ["Event", 0, "Chain", MOST + 1, 0]),
+    ((TAGGED, '"a",', MOST, '""]}'), ["Event", 0, "Tag", MOST + 1]),
+    ((ATTACHED, "{},", MOST, "1]}"), ["Event", 0, "Attachment", MOST + 1]),
+    (("[", "0,", MOST, "0]"), ["Event", 0, "NotObject"]),
+]
+
+# Texts with such an event that spell no value.
+LARGE_VALUES = [
+    (within('{"id":"g","events":[', large(V1), "]"), "NotJson"),
+    (within('{"id":"g","events":[', large(V1), "]} {}"), "NotJson"),
+    (('{"id":"g","events":[{"x":[', "0,", MOST, "0"), "NotJson"),
+    (in_log(large(V1[:-1] + ',"x":1.5}')), "NotWhole"),
+    (in_log(("[", "0,", MOST, "0.5]")), "NotWhole"),
+    (in_log(large(V1), after=',{"x":0.5}'), "NotWhole"),
+    (in_log(large(V1[:-1] + ',"x":0.5}'), after=",{]"), "NotJson"),
+    (large(V1[:-1] + ',"x":1.5}'), "NotWhole"),
+    (large(V1 + " {}"), "NotJson"),
+    (large(V1[:-1]), "NotJson"),
+]
+
+# Bodies and steps of many values, and texts that are none.
+NO_BODY_LISTS = [
+    (body("outcome", '"x"')[:-1] + ',"x":[', "0,", MOST, "0]}"),
+    (body("eventTime", '"2024-03-01T12:00:00.0Z"')[:-1] + ',"x":[', "0,", MOST, "0]}"),
+    (B1.replace('"init', '"id":"e1","init')[:-1] + ',"x":[', "0,", MOST, "0]}"),
+    (body("x", nested(100))[:-1] + ',"y":[', "0,", MOST, "0]}"),
+    (B1[:-1] + ',"x":[ ', "0,", MOST, "0]}"),
+    (B1[:-1] + ',"x":[', "0,", MOST, '0],"x":0}'),
+    (B1[:-1] + ',"x":[', "0,", MOST, "0.5]}"),
+    ("[", "0,", MOST, "0]"),
+]
+NO_STEP_LISTS = [
+    (S1.replace("observer", "sender")[:-1] + ',"x":[', "0,", MOST, "0]}"),
+    ('{"reporterId":"s1","reporterTime":"2024-03-01T12:00:00+00:00","role":"relay","x":[', "0,", MOST, "0]}"),
+    (S1[:-1] + ',"x":%s,"y":[' % nested(100), "0,", MOST, "0]}"),
+    (S1[:-1] + ',"x":[', "0 ,", MOST, "0]}"),
+    ("[", "0,", MOST, "0]"),
+]
+
 # Documents, and what the fault of each is shown as.
 SHOWN = [
     ("[]", "event 0: not an object"),
@@ -300,8 +432,7 @@ def words():
 def events():
     """Events and their parts."""
     yield "event", [V1], ["ok", *seen()], EVENTS
-    yield "event", [USUAL], ["ok", *seen(USUAL_BODY, "chain", USUAL_STEP, "tag", "correlation_id?value=9",
-                                         name="openstack:7f3e", instant=1392340847932842 * 1000)], EVENTS
+    yield "event", [USUAL], ["ok", *USUAL_PARTS], EVENTS
     for name, value, parts in ACCEPTED:
         yield "event", [event(name, value)], ["ok", *parts], EVENTS
     for name, value, fault in REFUSED:
@@ -353,6 +484,29 @@ def documents():
     yield "document_bytes", [b'{"id":"\xff"}'], ["err", "Json", "NotJson"], DOCUMENTS
 
 
+def large_documents():
+    """Documents with an event of more values than a tree has, and such bodies and steps."""
+    for name, value, found in ACCEPTED:
+        one = large(event(name, value), "id" if name == "typeURI" else "typeURI")
+        yield "repeated", ["document_bytes", *in_log(one)], ["ok", "log", "g", "event", *found], EVENTS
+    for name, value, fault in REFUSED:
+        one = large(event(name, value), "typeURI" if name == "id" else "id")
+        yield "repeated", ["document_bytes", *in_log(one)], ["err", "Document", "Event", 1, *fault], EVENTS
+    for text, found in LARGE_PARTS:
+        yield "repeated", ["document_bytes", *text], ["ok", *found], DOCUMENTS
+    for text, fault in LARGE_REFUSED:
+        yield "repeated", ["document_bytes", *text], ["err", "Document", *fault], DOCUMENTS
+    for text, fault in LARGE_VALUES:
+        yield "repeated", ["document_bytes", *text], ["err", "Json", fault], DOCUMENTS
+    for call, whole, text in (("body_with", [NOON], B1), ("step_with", [], S1)):
+        before, many = text[:-1] + ',"x":[', "0," * MOST
+        yield "repeated", [call, before, "0,", MOST, "0]}"], ["some", *whole, before + many + "0]}"], EVENTS
+    for text in NO_BODY_LISTS:
+        yield "repeated", ["body_with", *text], ["none"], EVENTS
+    for text in NO_STEP_LISTS:
+        yield "repeated", ["step_with", *text], ["none"], EVENTS
+
+
 def faults():
     """What faults are shown as."""
     for text, shown in SHOWN:
@@ -368,4 +522,4 @@ def faults():
     yield "fault", ["document", V1], ["none"], DOCUMENTS
 
 
-ROWS = [row for rows in (words, events, parts, documents, faults) for row in rows()]
+ROWS = [row for rows in (words, events, parts, documents, large_documents, faults) for row in rows()]

@@ -17,6 +17,13 @@ CALLS = {
     **{"%s %s" % (how, asked): calls for how in ("value", "tree") for asked, calls in ASKED.items()},
     "value text": ["Json::read", "Json::view", "View::text"],
     "tree text": ["Tree::of_text", "Tree::read", "Tree::view"],
+    # On a text of which a part is repeated: what is before it, the part, how often, what is after it.
+    "repeated tree": ["Tree::of_text", "Tree::read"],
+    "repeated split": ["Tree::read"],
+    "row member": ["ObjectRow::of_text", "ObjectRow::text"],
+    "row within": ["ObjectRow::members_nest_within"],
+    "row rewritten_text": ["ObjectRow::rewritten_text"],
+    "split_rows": ["ObjectRow::read", "ObjectRow::into_bytes"],
     "canonical": ["Json::read_canonical"],
     "quoted": ["quoted"],
     "split": ["read_object_streaming", "ItemVisitor::take"],
@@ -25,10 +32,13 @@ CALLS = {
     "find_fraction": ["find_fraction"],
     "is_canonical": ["is_canonical"],
     "spells_object": ["spells_object"],
+    "spells_object_with": ["spells_object_with"],
     "nests_within": ["nests_within"],
     "has_text_at": ["has_text_at"],
     "text_at": ["text_at"],
+    "plain_text": ["plain_text"],
     "list_texts": ["ListTexts::of", "ListTexts::next_text"],
+    "list_rows": ["ListTexts::next_row"],
     "read_to_limit": ["read_to_limit", "MemorySource::new", "Source::read"],
     "read_rest": ["cadf_json::read_rest"],
     "borrow_next": ["Source::borrow_next", "MemorySource::borrowable"],
@@ -130,27 +140,79 @@ FOUND = [
     ('{"x":1,"id":1,"tags":[]}', ["rewritten_text", "time", "t", "id", "tags"], ["ok", '{"x":1}']),
 ]
 
-# Objects of which `list` is taken: `id` and `list` as they are left, the items, and the names and texts of other members.
+# Objects that are read as the texts of their members, a member's name, and its text, if it is there. Of two members of one
+# name the later one counts.
+ROWS_OF = [
+    (PARTS, "b", ['[1,"x",null]']),
+    (PARTS, "c", []),
+    (PARTS, "", []),
+    ('{"a":1,"b":[],"a":{"c":2}}', "a", ['{"c":2}']),
+    ('{"a":1,"b":[],"a":{"c":2}}', "b", ["[]"]),
+    ('{"\\u0061":1,"":"\\u0041\\n"}', "a", ["1"]),
+    ('{"\\u0061":1,"":"\\u0041\\n"}', "", ['"A\\n"']),
+    ('{"a":{"y":1.5,"x":"\\/","y":-1},"é":7}', "a", ['{"x":"/","y":-1}']),
+    (LATE[65], "a", ["1"]),
+    (LATE[65], "b64", ["0"]),
+    (' { } ', "a", []),
+    ('{"a":%s}' % nested(126), "a", [nested(126)]),
+]
+OTHER_THAN_ROWS = ["null", "7", '"{}"', ' [ { "a" : 1 } ] ', "true", nested(127)]
+NO_ROWS = ["", "{", '{"a"', '{"a":1', '{"a":01}', '{"a":1,}', "[1,]", "1.5", "[-0]", '{"a":1.5}', '{"a":1.5,"a":1}', '{"a":1e400}',
+           '{"a":18446744073709551616}', '{"a":%s}' % nested(127), nested(128), "{} {}", "[] 1", '{"a":1}}']
+# Objects, and what the items of their member `list` have at `id`, each read over the memory of the one before.
+ROW_LISTS = [
+    ('{"list":[{"a":[1,2,3],"id":"x"},{"id":null},7,{"b":"a longer text"},{"id":1,"id":{"d":1,"c":[]}}],"id":0}',
+     ['"x"', "null", "no object", "absent", '{"c":[],"d":1}']),
+    (' { "list" : [ { } , [ { "id" : 1 } ] ] } ', ["absent", "no object"]),
+    ('{"list":[{"a":{"b":1.5,"b":1},"id":"\\u0041"}]}', ['"A"']),
+    ('{"list":[{"id":%s}]}' % nested(124), [nested(124)]),
+    ('{"list":[]}', []),
+]
+NO_ROW_LISTS = ['{"list":[{"id":1.5}]}', '{"list":[1.5]}', '{"list":[{"id":1},{"id"]}', '{"list":[{"id":1}],"list":[]}',
+                '{"list":[{"id":%s}]}' % nested(125)]
+
+# A tree has at most so many values.
+MOST = 16384
+# Texts of which a part is repeated, and what their trees are: those with as many values, and with one more.
+COUNTED = [
+    (("[", "0,", MOST - 2, "0]"), [False, False, True, MOST - 1, 1]),
+    (("[", "0,", MOST - 1, "0]"), ["err", "TooLarge"]),
+    (('{"a":[', "{},", MOST - 3, "{}]}"), [False, True, False, 1, 3]),
+    (('{"a":[', "{},", MOST - 2, "{}]}"), ["err", "TooLarge"]),
+    (("[", '{"":[]},', MOST // 2, "0]"), ["err", "TooLarge"]),
+]
+
+# Lists, a name, and the text there of each item, or that the item has no such member or is no object.
+LISTED = [
+    (' [ { "id" : 1 } , 7 , {"b":2} , [{"id":3}] , {"id":{"id":[]}} ] ', ["1", "no object", "absent", "no object", '{"id":[]}']),
+    ('[{"id":1,"id":"\\u0041"},null,{}]', ['"A"', "no object", "absent"]),
+    ("[]", []), ("null", []),
+    ('[{"id":%s}]' % nested(125), [nested(125)]),
+]
+
+# Objects of which `list` is taken: the items, and the names and texts of the other members.
 AROUND = [
     (' { "z" : [1,2], "list" : [ {"b":1,"a":[]} , null , 7, "\\u0041" ] , "id":{"b":3,"a":4}, "a":{"list":[3]} } ',
-     '{"id":{"a":4,"b":3},"list":[]}', ['{"a":[],"b":1}', "null", "7", '"A"'], ["a", '{"list":[3]}', "z", "[1,2]"]),
-    (' { "Z" : -1 , "list" : [ ] , "a":{"list":[3]} , "b" : { } } ', '{"list":[]}', [],
-     ["Z", "-1", "a", '{"list":[3]}', "b", "{}"]),
-    ('{"list":[]}', '{"list":[]}', [], []),
-    ('{"a":1,"list":[],"a":{"c":[],"b":"\\u0041","c":2}}', '{"list":[]}', [], ["a", '{"b":"A","c":2}']),
-    ('{"b":[{"b":1,"a":2},{}],"":null,"list":[0]}', '{"list":[]}', ["0"], ["", "null", "b", '[{"a":2,"b":1},{}]']),
-    ('{"a":{"b":1.5,"b":1},"list":[]}', '{"list":[]}', [], ["a", '{"b":1}']),
+     ['{"a":[],"b":1}', "null", "7", '"A"'], ["a", '{"list":[3]}', "id", '{"a":4,"b":3}', "z", "[1,2]"]),
+    (' { "Z" : -1 , "list" : [ ] , "a":{"list":[3]} , "b" : { } } ', [], ["Z", "-1", "a", '{"list":[3]}', "b", "{}"]),
+    ('{"list":[]}', [], []),
+    ('{"\\u006cist":[7]}', ["7"], []),
+    ('{"a":1,"list":[],"a":{"c":[],"b":"\\u0041","c":2}}', [], ["a", '{"b":"A","c":2}']),
+    ('{"id":1,"list":[],"id":"r"}', [], ["id", '"r"']),
+    ('{"b":[{"b":1,"a":2},{}],"":null,"list":[0]}', ["0"], ["", "null", "b", '[{"a":2,"b":1},{}]']),
+    ('{"a":{"b":1.5,"b":1},"list":[]}', [], ["a", '{"b":1}']),
     # Names that rise up to one that occurred before, or that is less than all.
     ('{"é":1,"list":[],"é":[ { "x" : 1.5 , "y" : [ 1 ] , "x" : { "b" : "\\u0041\\n" , "a" : true , "b" : { } } } ]}',
-     '{"list":[]}', [], ["é", '[{"x":{"a":true,"b":{}},"y":[1]}]']),
-    ('{"b":{"z":"\\"","y":{"d":[{}],"c":[],"":null}},"list":[],"a":%s}' % LATE[65], '{"list":[]}', [],
+     [], ["é", '[{"x":{"a":true,"b":{}},"y":[1]}]']),
+    ('{"b":{"z":"\\"","y":{"d":[{}],"c":[],"":null}},"list":[],"a":%s}' % LATE[65], [],
      ["a", '{"a":1,' + LATE[65][1:].replace(',"a":1', ""), "b", '{"y":{"":null,"c":[],"d":[{}]},"z":"\\""}']),
-    ('{"list":[],"x":%s}' % nested(126), '{"list":[]}', [], ["x", nested(126)]),
+    ('{"list":[],"x":%s}' % nested(126), [], ["x", nested(126)]),
+    ('{"list":[%s]}' % nested(125), [nested(125)], []),
 ]
 WITHOUT_LIST = ["{}", ' {"b":{"list":[1]},"a":[{}]} ', '{"b":1,"b":2}']
 NO_SPLIT = ["", "[]", '{"list":[]', '{"list":[]} {}', '{"list":[1.5]}', '{"list":{}}', '{"list":null}', '{"a":1} 2',
-            '{"b":[0.5],"list":[]}', '{"list":[],"list":[]}', '{"id":1,"list":[],"id":1}', '{"a":1.5,"a":1,"list":[]}',
-            '{"b":[0.5]}', '{"list":[],"b":{"c":[-0]}}', '{"list":[],"x":%s}' % nested(127),
+            '{"b":[0.5],"list":[]}', '{"list":[],"list":[]}', '{"list":[{"a":1,"a":1}]}', '{"a":1.5,"a":1,"list":[]}',
+            '{"b":[0.5]}', '{"list":[],"b":{"c":[-0]}}', '{"list":[],"x":%s}' % nested(127), '{"list":[%s]}' % nested(126),
             '{"list":[],"x":{"a":1e400,"a":1}}', '{"list":[],"x":[1,]}']
 
 # Lists that are passed over with nothing kept, and texts that aren't.
@@ -177,6 +239,9 @@ NOT_JUDGED = ['"\\u0041"', '"\\/"', '"\\u001F"', '"\\u000a"', '"\\ud83d\\ude00"'
               "18446744073709551616", "-9223372036854775809", "[1, 2]", "1\n", '{"b":1,"a":2}', '{"a":1,"a":2}',
               '{"a":1.5,"a":1}', "", "[", "[1,]", "{}{}", "nul", nested(128)]
 NAMED = '{"id":"r","name":{"id":"s"},"no":1}'
+# Canonical texts, and the text that the value is, if it is one.
+PLAIN_TEXTS = [('"r"', ["r"]), ('""', [""]), ('"\\n\\\\\\u0001\\""', ['\n\\\x01"']), ('"é😀\x7f"', ["é😀\x7f"]), ("null", []), ("7", []),
+               ('["r"]', []), ('{"id":"r"}', [])]
 TEXTS_AT = [("id", ["some", "r"]), ("name", ["none"]), ("no", ["none"]), ("other", ["none"])]
 
 # Canonical texts of lists and of null, with those of their items, and of values that are no list.
@@ -285,6 +350,29 @@ def looks():
             yield how, [asked[0], text, *asked[1:]], found, VALUES
 
 
+def objects():
+    """Objects that are read as the texts of their members, and trees with many values."""
+    for text, name, found in ROWS_OF:
+        yield "row", ["member", text, name], ["some", *found] if found else ["none"], VALUES
+    for text, asked, found in FOUND:
+        if asked[0] in ("within", "rewritten_text") and text.startswith("{"):
+            yield "row", [asked[0], text, *asked[1:]], found, VALUES
+    for text in OTHER_THAN_ROWS:
+        yield "row", ["member", text, "a"], ["none"], VALUES
+    for text in NO_ROWS:
+        yield "row", ["member", text, "a"], ["err", "NeedsFullParse"], VALUES
+    for text, found in ROW_LISTS:
+        yield "split_rows", [text, "id"], ["around", *found], VALUES
+    yield "split_rows", ['{"lists":[{"id":1}]}', "id"], ["none"], VALUES
+    for text in NO_ROW_LISTS:
+        yield "split_rows", [text, "id"], ["err", "NeedsFullParse"], VALUES
+    for text, kind in COUNTED:
+        yield "repeated", ["tree", *text], kind, VALUES
+    # The visitor reads a tree of each item. Other members may have more values.
+    yield "repeated", ["split", '{"list":[0,[', "0,", MOST - 1, "0],1]}"], ["err", "TooLarge"], VALUES
+    yield "repeated", ["split", '{"list":[7],"a":[', "0,", MOST, '0],"a":1}'], ["around", 1, "7", "a", "1"], VALUES
+
+
 def made():
     """The canonical text of a text."""
     yield "quoted", ['a"b\n'], ["ok", '"a\\"b\\n"'], CANONICAL
@@ -292,8 +380,8 @@ def made():
 
 def passed():
     """Objects of which a list is taken, lists that are passed over, and texts that may be JSON."""
-    for text, tree, items, texts in AROUND:
-        yield "split", [text], ["around", tree, len(items), *items, *texts], VALUES
+    for text, items, texts in AROUND:
+        yield "split", [text], ["around", len(items), *items, *texts], VALUES
     for text in WITHOUT_LIST:
         yield "split", [text], ["none"], VALUES
     for text in NO_SPLIT:
@@ -314,7 +402,8 @@ def passed():
     for text, depth in JUDGED:
         yield "is_canonical", [text, depth], [True], CANONICAL
         yield "is_canonical", [text, 255], [True], CANONICAL
-        yield "spells_object", [text], [text.startswith("{")], VALUES
+        for call in ("spells_object", "spells_object_with"):
+            yield call, [text], [text.startswith("{")], VALUES
         yield "nests_within", [text, depth], [True], VALUES
         yield "nests_within", [text, 255], [True], VALUES
         if depth:
@@ -331,10 +420,15 @@ def passed():
         yield "text_at", [NAMED, name], answer, VALUES
     yield "text_at", ['["id","r"]', "id"], ["no object"], VALUES
     yield "text_at", ['{"\\u0001":"\\n"}', "\x01"], ["some", "\n"], VALUES
+    for text, found in PLAIN_TEXTS:
+        yield "plain_text", [text], ["some", *found] if found else ["none"], VALUES
     for text, items in LISTS:
         yield "list_texts", [text], ["some", *items], VALUES
+    for text, found in LISTED:
+        yield "list_rows", [text, "id"], ["some", *found], VALUES
     for text in NO_LISTS:
         yield "list_texts", [text], ["none"], VALUES
+        yield "list_rows", [text, "id"], ["none"], VALUES
 
 
 def streams():
@@ -372,4 +466,4 @@ def times():
         yield "time", [text], ["err", fault], TIMES
 
 
-ROWS = [row for rows in (values, looks, made, passed, streams, times) for row in rows()]
+ROWS = [row for rows in (values, looks, objects, made, passed, streams, times) for row in rows()]

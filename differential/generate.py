@@ -546,6 +546,10 @@ def bare_documents(chance):
     return telling(chance, odd_documents.bare(chance))
 
 
+def large_events(chance):
+    return telling(chance, odd_documents.large(chance))
+
+
 def faults_in_turn(chance):
     return telling(chance, odd_documents.odd_in_turn(chance))
 
@@ -590,7 +594,7 @@ KINDS = {
     words: 5, large: 1, inventories: 10,
     damaged_inventories: 18, rules: 12,
     doubled_names: 12, numbers_anywhere: 8, escapes_anywhere: 10, depths_anywhere: 10, near_names: 10, far_members: 10,
-    bare_documents: 12, faults_in_turn: 12}
+    bare_documents: 12, faults_in_turn: 12, large_events: 6}
 KINDS_WITH_REHEARSALS = {**KINDS, rehearsals: 12}
 KINDS_WITH_SKETCHES = {**KINDS_WITH_REHEARSALS, sketches: 14, damaged_sketches: 16, misleading_sketches: 12, sketch_words: 5}
 

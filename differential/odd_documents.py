@@ -3,7 +3,7 @@
 A log document may be read an event at a time where it is plain, and as a whole where it isn't. Both readings must answer
 alike, so there is something here on either side of what could divide the plain from the rest, and close to it.
 """
-from odd_events import attachment, broken, event, step
+from odd_events import attachment, broken, chain, event, odd_chain, odd_step, step
 from odd_values import PIECES, good_name, nested, number, odd_name, odd_text, scalar
 from spelling import Members, Raw, spelled_oddly, spelled_text
 
@@ -22,6 +22,9 @@ LOOKED_FOR = EVENT_NAMES + [
     "eventTime", "initiator", "initiatorId", "outcome", "reporter", "reporterId", "reporterTime", "metricId"]
 NEAR_ENDS = ["\x00", " ", "!", '"', '"x', "#", "I", "\\", "/", "\x7f", "\u00e9", "\uffff", "\U00010000", "a", "s", "z", "0"]
 REACHES = [1, 2, 31, 32, 62, 63, 64, 65, 66, 127, 128, 129]
+# How many items a list has that makes an event large. An event of more than 16,384 values may be read in another way.
+COUNTS = [16000, 16300, 16384, 16400, 20000]
+ITEMS = [b"0", b"null", b"[]", b"{}", b'""', b'"a"', b'{"":0}']
 BLANKS = [b" ", b"\n", b"\r", b"\t", b"  ", b" \t\r\n"]
 NO_BLANKS = [b"\xef\xbb\xbf", b"\xef\xbb\xbf", b"\xfe\xff", b"\x0c", b"\x00", b"\x0b", b"\xc2\xa0", b"\x1a"]
 
@@ -220,6 +223,40 @@ def with_far_members(chance, value):
     return Members(members)
 
 
+def many_items(chance, items, last):
+    """A list of many equal items, and a last one."""
+    return Raw(b"[%s%s]" % ((chance.choice(items) + b",") * chance.choice(COUNTS), spelled_oddly(chance, last)))
+
+
+def large_member(chance, value):
+    """A member with a list of many items, or with a part that has such a list."""
+    kind, any_list = chance.randrange(10), many_items(chance, ITEMS, 0)
+    if kind < 3:
+        return chance.choice([*value, "x"]), any_list
+    if kind == 3:
+        return "x", {"b": any_list, "a": 1}
+    if kind == 4:
+        return "attachments", [attachment(chance), dict(attachment(chance), b=any_list)]
+    if kind == 5:
+        return "attachments", many_items(chance, [b"{}", b"{}", b"null"], chance.choice([{}, {"b": 1, "a": 2}, 7, []]))
+    if kind == 6:
+        return "tags", many_items(chance, [b'"a"', b'"a"', b'""'], chance.choice(["b", "b", "", 7, odd_name(chance)]))
+    if kind == 7:
+        last = chance.choice([chain, chain, odd_chain])(chance)
+        return "reporterchains", many_items(chance, [b"[]", b"null"], chance.choice([last, last, None, 7]))
+    made = chain(chance) + [dict(step(chance), x=any_list)] + chance.choice([[], [], [odd_step(chance)]])
+    return chance.choice([("reporterchain", made), ("reporterchains", [chain(chance), None, made])])
+
+
+def with_many_items(chance, value):
+    """The event with such a member, before a later one of its name or behind others."""
+    if not isinstance(value, dict):
+        return many_items(chance, ITEMS, value)
+    members = members_of(chance, value)
+    members.insert(chance.choice([0, 0, len(members)]), large_member(chance, value))
+    return Members(members)
+
+
 def spelled_in_some_way(chance, document):
     """The document as JSON, in most cases without blanks and with the members where they are."""
     return spelled_oddly(chance, document, chance.choice([0, 0, 0, 0.05, 0.3]))
@@ -265,6 +302,19 @@ def far(chance):
     document = full_document(chance)
     way = some_way(chance, document)
     return spelled_in_some_way(chance, changed_at(document, way, lambda value: with_far_members(chance, value)))
+
+
+def large(chance):
+    """A document with an event of many values, in which something may be odd, among other events."""
+    events = [chance.choice([full_event, event])(chance) for _ in range(chance.choice([1, 1, 2, 3]))]
+    for _ in range(chance.choice([0, 0, 1, 2])):
+        broken(chance, chance.choice(events))
+    if chance.random() < 0.1:
+        events[chance.randrange(len(events))] = chance.choice([7, None, [], "x"])
+    place = chance.randrange(len(events))
+    events[place] = with_many_items(chance, events[place])
+    document = {"id": "g", "events": events, "note": 1}
+    return spelled_in_some_way(chance, chance.choice([document] * 9 + [events[place]]))
 
 
 def some_events(chance):
@@ -327,4 +377,4 @@ def odd_in_turn(chance):
 
 
 def any_odd_document(chance):
-    return chance.choice([doubled, numbered, escaped, deep, near, far, bare, odd_in_turn])(chance)
+    return chance.choice([doubled, numbered, escaped, deep, near, far, bare, odd_in_turn] * 2 + [large])(chance)

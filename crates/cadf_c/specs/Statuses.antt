@@ -1,6 +1,6 @@
 -- The status that a call answers.
 --     IsEngineStatus status   0: the text was written; 1: an input is refused; 4: an allocation failed
---     IsStatus status         one of these, or 2: an argument is refused
+--     IsStatus status         as above, or 2: an argument is refused
 --     IsRefused P             an input is refused by a fault of which P holds
 use Rattle.std.specs.Prelude.{◌≡◌, ◌⊎◌, ℤ, pos}
 use Rattle.cadf_tool.specs.declared.fault.ToolFault.{ToolFault}

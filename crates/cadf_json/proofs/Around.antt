@@ -26,13 +26,13 @@ use Rattle.std.proofs.lemmas.Slice.Eq.{bytes_eq-Decides}
 use Rattle.json.specs.Token.{Token}
 use Rattle.json.specs.Json as json
 use Rattle.json.specs.Json.{Parse, read_key, members, value}
-use Rattle.serde_json.specs.Data.{Data, array, Items, no_items, Members, no_members, put}
+use Rattle.serde_json.specs.Data.{Data, array, Items, Members, no_members, put}
 use Rattle.serde_json.specs.Find.{get_member}
 use Rattle.serde_json.specs.Read.{of_json, of_members, converted}
 use Rattle.cadf_json.specs.StreamedObjects.{AreTaken, AreMembersRead, AreAround}
 use Rattle.cadf_json.proofs.Rewriting.{get-put}
 use Rattle.cadf_json.proofs.Turns.{member_read, members_over}
-use Rattle.cadf_json.proofs.Splits.{put-again, put-swaps}
+use Rattle.cadf_json.proofs.Splits.{put-swaps}
 
 -- the members with the list that was visited, if one was
 abbrev pub with_list : List ℕ → Option Items → Members → Members
@@ -107,15 +107,15 @@ module _ {T : Type 0} (took : T → List Data → Type 0) (name : List ℕ) (p :
   before_list old mid new (Some fs) es told h k = absurd (true≢false (sym told))
 
   list_put : (got : Option Items) (es : Items) (found : Members) → false ≡ is_some got → put name (array es) (with_list name got found)
-      ≡ put name (array es) (put name (array no_items) found)
-  list_put None es found told = sym (put-again name (array es) (array no_items) found)
+      ≡ put name (array es) found
+  list_put None es found told = refl
   list_put (Some fs) es found told = absurd (true≢false (sym told))
 
   -- the list, whose items are visited one after another
   pub around_list : (old mid new : T) (now s r : List Token) (found : Members) → Around took old mid name p start now found false → read_key now
       ≡ Some (Some name, s)
       → (es : Items) × (AreTaken took mid new es × (converted of_json (p s) ≡ Some (array es, r))) → length r < length now
-      → Around took old new name p start r (put name (array no_items) found) true
+      → Around took old new name p start r found true
   around_list old mid new now s r found h key list less =
       let enough = h.enough in
       let shorter = h.shorter in

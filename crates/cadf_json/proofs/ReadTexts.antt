@@ -30,7 +30,8 @@ use Rattle.json.specs.Json.{
   if_last,
 }
 use Rattle.cadf_json.proofs.Given.{Given}
-use Rattle.cadf_json.proofs.TokenTexts.{HaveUtf8, tokens_utf8}
+use Rattle.cadf_json.specs.TokenUtf8.{HaveUtf8}
+use Rattle.cadf_json.proofs.TokenTexts.{tokens_utf8}
 
 abbrev mutual
   pub JsonHasUtf8 : Json → Type 0
@@ -50,10 +51,10 @@ abbrev mutual
   MembersHaveUtf8 (member k j ms) = IsUtf8 k × JsonHasUtf8 j × MembersHaveUtf8 ms
 
 -- what is read has the property, and the tokens after it have UTF-8 texts
-abbrev ReadWell : {A : Type 0} → (A → Type 0) → Option (A × List Token) → Type 0
+abbrev pub ReadWell : {A : Type 0} → (A → Type 0) → Option (A × List Token) → Type 0
 ReadWell P o = Given (λ p. P p.0 × HaveUtf8 p.1) o
 
-abbrev Reads : {A : Type 0} → (A → Type 0) → Parse A → Type 0
+abbrev pub Reads : {A : Type 0} → (A → Type 0) → Parse A → Type 0
 Reads P parse = (ts : List Token) → HaveUtf8 ts → ReadWell P (parse ts)
 
 mapped : {A B : Type 0} (P : A → Type 0) (Q : B → Type 0) (f : A → B) → ((a : A) → P a → Q (f a)) → (o : Option (A × List Token)) → ReadWell P o
@@ -79,7 +80,7 @@ ends (Token.boolean b ∷ ts) h = tt
 ends (Token.null ∷ ts) h = tt
 ends (Token.bad ∷ ts) h = tt
 
-keys : Reads (Given IsUtf8) read_key
+pub keys : Reads (Given IsUtf8) read_key
 keys [] h = tt
 keys (Token.begin_object ∷ ts) h = tt
 keys (Token.end_object ∷ ts) h = (tt, h.1)
@@ -127,7 +128,7 @@ one_level a o p q (Token.boolean b ∷ ts) h = (tt, h.1)
 one_level a o p q (Token.null ∷ ts) h = (tt, h.1)
 one_level a o p q (Token.bad ∷ ts) h = tt
 
-value_reads : (depth : ℕ) → Reads JsonHasUtf8 (value depth)
+pub value_reads : (depth : ℕ) → Reads JsonHasUtf8 (value depth)
 unfolding value
 value_reads zero = one_level (λ ts. None) (λ ts. None) (λ ts h. tt) (λ ts h. tt)
 value_reads (suc depth) =

@@ -341,7 +341,7 @@ pub record Walked (old out bytes : List ℕ) (es : List Entry) (ms : Members) (l
 pub walk_start : (out bytes : List ℕ) (es : List Entry) (ms : Members) → AreAt bytes es ms → Walked out out bytes es ms false false
 walk_start out bytes es ms h = record { left = ms; spans = h; spelled = refl; has = refl }
 
-member_spelled : (out value rest name : List ℕ) (later : Bool) → ((out ++ name_text later name) ++ value) ++ rest
+pub member_spelled : (out value rest name : List ℕ) (later : Bool) → ((out ++ name_text later name) ++ value) ++ rest
     ≡ out ++ (comma_if later ++ (quoted name ++ 58 ∷ (value ++ rest)))
 member_spelled out value rest name later =
     append_assoc (out ++ name_text later name) value rest

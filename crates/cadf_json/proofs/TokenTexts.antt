@@ -41,24 +41,9 @@ use Rattle.json.specs.Lex.{
   punctuate,
   tokens,
 }
+use Rattle.cadf_json.specs.TokenUtf8.{HasUtf8, HaveUtf8}
 use Rattle.cadf_json.proofs.Given.{Given}
 use Rattle.cadf_json.proofs.StringContent.{behind_ascii, content_utf8}
-
--- a key and a string are UTF-8
-abbrev pub HasUtf8 : Token → Type 0
-HasUtf8 begin_object = ⊤
-HasUtf8 end_object = ⊤
-HasUtf8 begin_array = ⊤
-HasUtf8 end_array = ⊤
-HasUtf8 (key s) = IsUtf8 s
-HasUtf8 (string s) = IsUtf8 s
-HasUtf8 (number s) = ⊤
-HasUtf8 (boolean b) = ⊤
-HasUtf8 null = ⊤
-HasUtf8 bad = ⊤
-
-abbrev pub HaveUtf8 : List Token → Type 0
-HaveUtf8 ts = AllByRecursion HasUtf8 ts
 
 -- ---- lexemes
 

@@ -9,6 +9,7 @@ mod look;
 mod members;
 mod memory;
 mod number;
+mod object_row;
 mod object_text;
 mod owned;
 mod part;
@@ -33,11 +34,14 @@ pub use crate::laws::{
 pub use crate::list_text::ListTexts;
 pub use crate::members::{Member, Members};
 pub use crate::memory::{FailingWrite, MemorySink, MemorySource};
-pub use crate::object_text::{has_text_at, nests_within, spells_object, text_at};
+pub use crate::object_row::ObjectRow;
+pub use crate::object_text::{
+    has_text_at, nests_within, plain_text, spells_object, spells_object_with, text_at,
+};
 pub use crate::read::TreeFault;
 pub use crate::skip::{check_list, find_fraction, has_json_syntax};
 pub use crate::stream::{Failed, FromStd, Sink, Source};
-pub use crate::streamed_object::{ItemVisitor, ObjectAround, read_object_streaming};
+pub use crate::streamed_object::{ItemVisitor, read_object_streaming};
 pub use crate::transfer::{OutFault, ReadLimitFault, read_rest, read_to_limit, write_all};
 pub use crate::tree::Tree;
 pub use crate::value::{Json, JsonFault, quoted};

@@ -1,6 +1,6 @@
 //! Answers about the value of a canonical text, found among its tokens without building a tree.
 
-ghost use Rattle.std.specs.Prelude.{◌≡◌, true, false, IfOk, MatchOption, nat_le, option_map, string_bytes};
+ghost use Rattle.std.specs.Prelude.{◌≡◌, true, false, Some, IfOk, MatchOption, nat_le, option_map, string_bytes};
 ghost use Rattle.json.specs.Reads.{token_of};
 ghost use Rattle.serde_json.specs.Data.{Data, depth as nesting};
 ghost use Rattle.serde_json.specs.Find.{get};
@@ -18,8 +18,26 @@ pub fn spells_object(alloc: Global, text: &str) -> Result<bool, Memory>
     ensures { IfOk result (λ b. (d : Data) → IsValue d → text.now ≡ text_of d → b ≡ is_object d) }
 {
     let mut scratch = Scratch::new(alloc);
-    let mut reader = Reader::new(text, &mut scratch)?;
+    spells_object_with(&mut scratch, text)
+}
+
+/// Returns whether the value of a canonical text is an object. `Memory` if an allocation fails. The scratch keeps the
+/// parser's memory.
+pub fn spells_object_with(scratch: &mut Scratch, text: &str) -> Result<bool, Memory>
+    ensures { IfOk result (λ b. (d : Data) → IsValue d → text.now ≡ text_of d → b ≡ is_object d) }
+{
+    let mut reader = Reader::new(text, scratch)?;
     Ok(is_opening(reader.next()))
+}
+
+/// Returns the text that the value of a canonical text is, or `None` for any other value. `Memory` if an allocation
+/// fails. The scratch keeps the text, unless it is part of the canonical one.
+pub fn plain_text<'t>(scratch: &'t mut Scratch, text: &'t str) -> Result<Option<&'t str>, Memory>
+    ensures { IfOk result (λ found. (d : Data) → IsValue d → text.now ≡ text_of d
+        → option_map (λ s. s.now) found ≡ text_in (Some d)) }
+{
+    let mut reader = Reader::new(text, scratch)?;
+    Ok(string_of(reader.next()))
 }
 
 /// Returns whether the object of a canonical text has this text at that name. `false` for any other value. `Memory` if

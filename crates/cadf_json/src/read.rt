@@ -22,6 +22,9 @@ pub enum TreeFault {
     /// The streaming parser can't decide about the text; use the full parser.
     #[error("not plain")]
     NeedsFullParse,
+    /// It has more values than a tree may have.
+    #[error("too large")]
+    TooLarge,
     /// An allocation failed.
     #[error("out of memory")]
     Memory,
@@ -49,19 +52,24 @@ impl<T: Drop> From<AllocFailed<T>> for TreeFault {
     }
 }
 
-/// Reads the next value, with its members in order. Arrays and objects may nest `depth` deep.
-/// `NeedsFullParse` if this parser can't decide.
+/// Reads the next value, with its members in order. Arrays and objects may nest `depth` deep. Counts the values down from
+/// `budget`. `TooLarge` if there are more; `NeedsFullParse` if this parser can't decide.
 #[cycle(read)]
 pub(crate) fn read<'a>(
     alloc: Global,
     reader: &mut Reader<'a>,
     depth: usize,
+    budget: &mut usize,
 ) -> Result<Value<'a>, TreeFault>
     ensures ok { IfOk result
         (λ v. converted of_json (value depth reader.old) ≡ Some (data_in (value_view v), reader.new)) }
     ensures within { IfOk result (λ v. IsNormalizedWithin depth (value_view v)) }
     ensures shorter { OnOk result (length reader.new < length reader.old) }
 {
+    if *budget == 0 {
+        return Err(TreeFault::TooLarge);
+    }
+    *budget -= 1;
     let Some(token) = reader.next() else {
         return Err(TreeFault::NeedsFullParse);
     };
@@ -81,13 +89,13 @@ pub(crate) fn read<'a>(
             if depth == 0 {
                 return Err(TreeFault::NeedsFullParse);
             }
-            Ok(Value::Array(read_items(alloc, reader, depth - 1)?))
+            Ok(Value::Array(read_items(alloc, reader, depth - 1, budget)?))
         }
         Token::BeginObject => {
             if depth == 0 {
                 return Err(TreeFault::NeedsFullParse);
             }
-            Ok(Value::Object(read_members(alloc, reader, depth - 1)?))
+            Ok(Value::Object(read_members(alloc, reader, depth - 1, budget)?))
         }
     }
 }
@@ -99,6 +107,7 @@ fn read_items<'a>(
     alloc: Global,
     reader: &mut Reader<'a>,
     depth: usize,
+    budget: &mut usize,
 ) -> Result<Vec<Value<'a>>, TreeFault>
     ensures ok { IfOk result
         (λ v. converted of_items (items (value depth) (length reader.old) reader.old)
@@ -108,7 +117,7 @@ fn read_items<'a>(
 {
     let mut found = Vec::new(alloc);
     'items: while !reader.take_end_array() {
-        let item = read(alloc, reader, depth)?;
+        let item = read(alloc, reader, depth, budget)?;
         found.push(item)?;
     }
     Ok(trimmed(found))
@@ -121,6 +130,7 @@ fn read_members<'a>(
     alloc: Global,
     reader: &mut Reader<'a>,
     depth: usize,
+    budget: &mut usize,
 ) -> Result<Vec<(&'a str, Value<'a>)>, TreeFault>
     ensures ok { IfOk result
         (λ v. converted (λ ms. of_members ms no_members)
@@ -137,7 +147,7 @@ fn read_members<'a>(
         let Some(name) = key else {
             return Ok(trimmed(found));
         };
-        let member = read(alloc, reader, depth)?;
+        let member = read(alloc, reader, depth, budget)?;
         put_member(&mut found, name, member, depth)?;
     }
 }

@@ -150,7 +150,7 @@ pub fn find_fraction(alloc: Global, text: &str) -> Result<Option<bool>, Memory>
     let mut reader = Reader::new(text, &mut scratch)?;
     let fraction = match skip_any(alloc, &mut reader, MAX_DEPTH) {
         Ok(fraction) => fraction,
-        Err(TreeFault::NeedsFullParse) => return Ok(None),
+        Err(TreeFault::NeedsFullParse | TreeFault::TooLarge) => return Ok(None),
         Err(TreeFault::Memory) => return Err(Memory),
     };
     if reader.next().is_some() {

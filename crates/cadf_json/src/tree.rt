@@ -1,10 +1,7 @@
 //! A value that borrows its text.
 ghost use Rattle.std.specs.Prelude.{◌≡◌, ◌≤◌, Some, IfOk, OnOk, ◌<◌, length};
 ghost use Rattle.json.specs.Json.{value as value_at};
-ghost use Rattle.json.specs.Value.{members_view};
-ghost use Rattle.serde_json.specs.Data.{object};
 ghost use Rattle.serde_json.specs.Read.{of_json, converted};
-ghost use Rattle.cadf_json.specs.Tree.{named_in, AreMembersWithin};
 ghost use Rattle.cadf_json.specs.Value.{IsValue, SpellsValue, text as text_of};
 
 use crate::part::Part;
@@ -15,6 +12,9 @@ use std::alloc::Global;
 use std::marker::Model;
 
 pub(crate) const MAX_DEPTH: usize = 127;
+
+/// Bounds the values of a tree, which takes some 16 bytes of memory for each byte of tiny objects.
+const MAX_VALUES: usize = 16384;
 
 /// A whole-number JSON value that borrows the text that it was read from.
 #[derive(Drop)]
@@ -38,19 +38,22 @@ impl<'a> Model for Tree<'a> {
 }
 
 impl<'a> Tree<'a> {
-    /// Reads the next value. Lists and objects may nest `depth` deep. `NeedsFullParse` if this parser can't decide.
+    /// Reads the next value. Lists and objects may nest `depth` deep. `TooLarge` if it has, with those inside it, more than
+    /// `MAX_VALUES` values; `NeedsFullParse` if this parser can't decide.
     pub fn read(alloc: Global, reader: &mut Reader<'a>, depth: usize) -> Result<Tree<'a>, TreeFault>
         requires { depth ≤ 127 }
         ensures ok { IfOk result (λ t. converted of_json (value_at depth reader.old) ≡ Some (t, reader.new)) }
         ensures value { IfOk result IsValue }
         ensures shorter { OnOk result (length reader.new < length reader.old) }
     {
+        let mut budget = MAX_VALUES;
         Ok(Tree {
-            value: read(alloc, reader, depth)?,
+            value: read(alloc, reader, depth, &mut budget)?,
         })
     }
 
-    /// Reads the whole text as a value. `NeedsFullParse` if this parser can't decide.
+    /// Reads the whole text as a value. `TooLarge` if it has more than `MAX_VALUES` values; `NeedsFullParse` if this parser
+    /// can't decide.
     pub fn of_text(
         alloc: Global,
         text: &'a str,
@@ -65,16 +68,6 @@ impl<'a> Tree<'a> {
             return Err(TreeFault::NeedsFullParse);
         }
         Ok(tree)
-    }
-
-    /// Makes an object of these members.
-    pub(crate) fn of_members(members: Vec<(&'a str, Value<'a>)>) -> Tree<'a>
-        requires { AreMembersWithin 126 (members_view members.items) }
-        ensures { result ≡ object (named_in (members_view members.entry.items)) }
-    {
-        Tree {
-            value: Value::Object(members),
-        }
     }
 
     /// Borrows the whole value.

@@ -23,7 +23,7 @@ use Rattle.cadf_tool.specs.Join.{join_of}
 use Rattle.cadf_tool.specs.Missing.{part_of}
 use Rattle.cadf_tool.specs.MissingBy.{inventory_model_of, part_by, IsInventoryInput}
 use Rattle.cadf_tool.specs.Rule.{ruling_on, ruling_for, ruled_of}
-use Rattle.cadf_tool.specs.TwoTexts.{IsTextOf}
+use Rattle.cadf_tool.specs.TwoTexts.{IsTextOfFile}
 use Rattle.cadf_tool.specs.Exchange.{
   Derivation,
   Joined,
@@ -236,11 +236,11 @@ module _ {S W T : Type 0} (source : Source S) (sink : Sink W) (old new : W) (t :
     (begun : sink.written old ≡ Some before) (tell : ReplicaModel → Text) where
   pub text_makes : (m : Derivation) (input after : S) → GivesFile (λ b. IsDerived m b) (source_state source input)
       → IsRun (one input_spec (transition_of source input after)) replica_model_of tell sink old new (Ok t)
-      → (text : Text) × (sink.written new ≡ Some (before ++ text)) × IsTextOf tell m text
+      → (text : Text) × (sink.written new ≡ Some (before ++ text)) × IsTextOfFile tell m text
   text_makes m input after s run = by (run_ok (one input_spec (transition_of source input after)) (IsValue replica_model_of) tell sink old new t run)
     where
       by : HasRun (one input_spec (transition_of source input after)) (IsValue replica_model_of) tell sink old new t
-          → (text : Text) × (sink.written new ≡ Some (before ++ text)) × IsTextOf tell m text
+          → (text : Text) × (sink.written new ≡ Some (before ++ text)) × IsTextOfFile tell m text
       by (loaded, h, r, made, w) =
           let file_read = read_of (λ b. IsDerived m b) (source_state source input) (source_state source after) loaded s r in
           let named = held_named (log_named loaded) (atoms_loaded loaded) h made in (

@@ -41,6 +41,18 @@ impl Call {
         text_of(&self.fields, place).parse().unwrap_or(0)
     }
 
+    /// Returns the bytes that the words from the second on encode: the second, the third so often as the fourth says, and
+    /// the fifth.
+    pub fn repeated(&self, alloc: Global) -> Result<Vec<u8>, Memory> {
+        let mut bytes = Vec::new(alloc);
+        bytes.extend_from_slice(self.bytes(2))?;
+        for _ in 0..self.number(4) {
+            bytes.extend_from_slice(self.bytes(3))?;
+        }
+        bytes.extend_from_slice(self.bytes(5))?;
+        Ok(bytes)
+    }
+
     /// Counts the words.
     pub fn count(&self) -> usize {
         self.fields.len().saturating_sub(1)

@@ -32,6 +32,19 @@ pub fn answered(alloc: Global, call: &Call) -> Result<String, Memory> {
         "document" => documents::document(alloc, text),
         "document_bytes" => documents::of_bytes(alloc, call.bytes(1)),
         "fault" => faults::shown(alloc, call),
+        "repeated" => repeated(alloc, call),
+        _ => calls::answer(alloc, "no such call", &[]),
+    }
+}
+
+/// Makes the call of the first word on bytes of which a part is repeated.
+fn repeated(alloc: Global, call: &Call) -> Result<String, Memory> {
+    let bytes = call.repeated(alloc)?;
+    let text = str::from_utf8(bytes.as_slice()).unwrap_or("");
+    match call.text(1) {
+        "document_bytes" => documents::of_bytes(alloc, bytes.as_slice()),
+        "body_with" => parts::body_with(alloc, text),
+        "step_with" => parts::step_with(alloc, text),
         _ => calls::answer(alloc, "no such call", &[]),
     }
 }

@@ -3,6 +3,7 @@
 
 mod lists;
 mod looks;
+mod objects;
 mod passes;
 mod quotes;
 mod splits;
@@ -18,6 +19,8 @@ pub fn answered(alloc: Global, call: &Call) -> Result<String, Memory> {
     match call.name() {
         "value" => looks::value(alloc, call),
         "tree" => looks::tree(alloc, call),
+        "row" => objects::row(alloc, call),
+        "split_rows" => objects::split_rows(alloc, call.text(1), call.text(2)),
         "canonical" => looks::canonical(alloc, call.text(1)),
         "quoted" => quotes::quoted(alloc, call.text(1)),
         "split" => splits::split(alloc, call.text(1)),
@@ -26,10 +29,13 @@ pub fn answered(alloc: Global, call: &Call) -> Result<String, Memory> {
         "find_fraction" => passes::find_fraction(alloc, call.text(1)),
         "is_canonical" => passes::is_canonical(alloc, call.text(1), call.text(2)),
         "spells_object" => passes::spells_object(alloc, call.text(1)),
+        "spells_object_with" => passes::spells_object_with(alloc, call.text(1)),
         "nests_within" => passes::nests_within(alloc, call.text(1), call.text(2)),
         "has_text_at" => passes::has_text_at(alloc, call.text(1), call.text(2), call.text(3)),
         "text_at" => lists::text_at(alloc, call.text(1), call.text(2)),
+        "plain_text" => lists::plain_text(alloc, call.text(1)),
         "list_texts" => lists::list_texts(alloc, call.text(1)),
+        "list_rows" => lists::list_rows(alloc, call.text(1), call.text(2)),
         "read_to_limit" => streams::whole(alloc, call),
         "read_rest" => streams::rest(alloc, call),
         "borrow_next" => streams::borrowed(alloc, call),
@@ -37,6 +43,18 @@ pub fn answered(alloc: Global, call: &Call) -> Result<String, Memory> {
         "write_all" => writers::whole(alloc, call),
         "write_by_std" => writers::by_std(alloc, call),
         "time" => times::read(alloc, call.text(1)),
+        "repeated" => repeated(alloc, call),
+        _ => calls::answer(alloc, "no such call", &[]),
+    }
+}
+
+/// Makes the call of the first word on a text of which a part is repeated.
+fn repeated(alloc: Global, call: &Call) -> Result<String, Memory> {
+    let bytes = call.repeated(alloc)?;
+    let text = str::from_utf8(bytes.as_slice()).unwrap_or("");
+    match call.text(1) {
+        "tree" => looks::tree_kind(alloc, text),
+        "split" => splits::split(alloc, text),
         _ => calls::answer(alloc, "no such call", &[]),
     }
 }

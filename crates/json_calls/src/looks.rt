@@ -22,6 +22,15 @@ pub(crate) fn tree(alloc: Global, call: &Call) -> Result<String, Memory> {
     }
 }
 
+/// Answers what the tree of the text is, as `kind` does.
+pub(crate) fn tree_kind(alloc: Global, text: &str) -> Result<String, Memory> {
+    let mut scratch = Scratch::new(alloc);
+    match Tree::of_text(alloc, text, &mut scratch) {
+        Ok(tree) => kind(alloc, &tree.view()),
+        Err(fault) => calls::refused(alloc, &fault),
+    }
+}
+
 /// Answers the canonical text of the value that a canonical text spells.
 pub(crate) fn canonical(alloc: Global, text: &str) -> Result<String, Memory> {
     match Json::read_canonical(alloc, text) {

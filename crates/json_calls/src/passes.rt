@@ -42,6 +42,13 @@ pub(crate) fn spells_object(alloc: Global, text: &str) -> Result<String, Memory>
     format!(in alloc; "{is}")
 }
 
+/// Answers the same, by a parser whose memory is kept.
+pub(crate) fn spells_object_with(alloc: Global, text: &str) -> Result<String, Memory> {
+    let mut scratch = Scratch::new(alloc);
+    let is = cadf_json::spells_object_with(&mut scratch, text)?;
+    format!(in alloc; "{is}")
+}
+
 /// Answers whether the object of a canonical text has that text at that name.
 pub(crate) fn has_text_at(
     alloc: Global,

@@ -17,16 +17,19 @@ use Rattle.cadf_json.proofs.Spellings.{Entry, ItemsSpelled, MembersSpelled, item
 use Rattle.cadf_json.proofs.Spellings.{members_start, bytes_length, one_more_member, all_members, bytes_are, in_order_text}
 use Rattle.cadf_json.proofs.spelling.+write_value.Goals as goal
 
-pub write_value-returns-in_ok-push_quoted-in-String-clause-ok : goal.write_value-returns-in_ok-push_quoted-in-String-clause-ok
-write_value-returns-in_ok-push_quoted-in-String-clause-ok t c =
-    let rest = c.next.new.self in
-    let is = c.in-Some.ensures.value ∙ ap (λ k. token_of k ∷ rest) c.in-String.is in
+pub write_value-returns-clause-ok : goal.write_value-returns-clause-ok
+write_value-returns-clause-ok t c = rw c.in-Some.ensures.value c.write_token.ensures.ok
+
+pub write_token-returns-in_ok-push_quoted-in-String-clause-ok : goal.write_token-returns-in_ok-push_quoted-in-String-clause-ok
+write_token-returns-in_ok-push_quoted-in-String-clause-ok t c =
+    let rest = c.args.reader.now in
+    let is = ap (λ k. token_of k ∷ rest) c.in-String.is in
     (string c.in-String.text.now, ap (converted of_json) (ap (value c.args.depth) is ∙ value_is c.args.depth _), refl, c.in_ok-push_quoted-in-String.ensures)
 
-pub write_value-returns-in_ok-push_number-in-Number-clause-ok : goal.write_value-returns-in_ok-push_number-in-Number-clause-ok
-write_value-returns-in_ok-push_number-in-Number-clause-ok t c =
-    let rest = c.next.new.self in
-    let is = c.in-Some.ensures.value ∙ ap (λ k. token_of k ∷ rest) c.in-Number.is in
+pub write_token-returns-in_ok-push_number-in-Number-clause-ok : goal.write_token-returns-in_ok-push_number-in-Number-clause-ok
+write_token-returns-in_ok-push_number-in-Number-clause-ok t c =
+    let rest = c.args.reader.now in
+    let is = ap (λ k. token_of k ∷ rest) c.in-Number.is in
     let number = c.in_ok-push_number-in-Number.ensures in (
       number.0,
       ap (converted of_json) (ap (value c.args.depth) is ∙ value_is c.args.depth _) ∙ ap (λ n. option_map (λ d. (d, rest)) n) number.1,
@@ -34,32 +37,32 @@ write_value-returns-in_ok-push_number-in-Number-clause-ok t c =
       number.3,
     )
 
-pub write_value-returns-in_ok-push_bool-in-Bool-clause-ok : goal.write_value-returns-in_ok-push_bool-in-Bool-clause-ok
-write_value-returns-in_ok-push_bool-in-Bool-clause-ok t c =
-    let rest = c.next.new.self in
-    let is = c.in-Some.ensures.value ∙ ap (λ k. token_of k ∷ rest) c.in-Bool.is in
+pub write_token-returns-in_ok-push_bool-in-Bool-clause-ok : goal.write_token-returns-in_ok-push_bool-in-Bool-clause-ok
+write_token-returns-in_ok-push_bool-in-Bool-clause-ok t c =
+    let rest = c.args.reader.now in
+    let is = ap (λ k. token_of k ∷ rest) c.in-Bool.is in
     (boolean c.in-Bool.b, ap (converted of_json) (ap (value c.args.depth) is ∙ value_is c.args.depth _), refl, c.in_ok-push_bool-in-Bool.ensures)
 
-pub write_value-returns-in_ok-extend_from_slice-in-Null-clause-ok : goal.write_value-returns-in_ok-extend_from_slice-in-Null-clause-ok
-write_value-returns-in_ok-extend_from_slice-in-Null-clause-ok t c =
-    let rest = c.next.new.self in
-    let is = c.in-Some.ensures.value ∙ ap (λ k. token_of k ∷ rest) c.in-Null.is in
+pub write_token-returns-in_ok-extend_from_slice-in-Null-clause-ok : goal.write_token-returns-in_ok-extend_from_slice-in-Null-clause-ok
+write_token-returns-in_ok-extend_from_slice-in-Null-clause-ok t c =
+    let rest = c.args.reader.now in
+    let is = ap (λ k. token_of k ∷ rest) c.in-Null.is in
     let added : c.extend_from_slice.new.self.items ≡ c.args.out.now.items ++ text null = search rules in
     (null, ap (converted of_json) (ap (value c.args.depth) is ∙ value_is c.args.depth _), refl, added)
 
-pub write_value-returns-in_ok-write_items-in-BeginArray-clause-ok : goal.write_value-returns-in_ok-write_items-in-BeginArray-clause-ok
-write_value-returns-in_ok-write_items-in-BeginArray-clause-ok t c =
-    let rest = c.next.new.self in
-    let is = c.in-Some.ensures.value ∙ ap (λ k. token_of k ∷ rest) c.in-BeginArray.is in
+pub write_token-returns-in_ok-write_items-in-BeginArray-clause-ok : goal.write_token-returns-in_ok-write_items-in-BeginArray-clause-ok
+write_token-returns-in_ok-write_items-in-BeginArray-clause-ok t c =
+    let rest = c.args.reader.now in
+    let is = ap (λ k. token_of k ∷ rest) c.in-BeginArray.is in
     let opened = ap (converted of_json) (ap (value c.args.depth) is ∙ value-begin_array c.args.depth rest (omega arith))
     ∙ converted-array (items (value (c.args.depth - 1)) (length rest) rest) in
     let done = c.in_ok-write_items-in-BeginArray.ensures.ok in
     (array done.0, opened ∙ ap (parse_map array) done.1, done.2, done.3)
 
-pub write_value-returns-in_ok-write_members-in-BeginObject-clause-ok : goal.write_value-returns-in_ok-write_members-in-BeginObject-clause-ok
-write_value-returns-in_ok-write_members-in-BeginObject-clause-ok t c =
-    let rest = c.next.new.self in
-    let is = c.in-Some.ensures.value ∙ ap (λ k. token_of k ∷ rest) c.in-BeginObject.is in
+pub write_token-returns-in_ok-write_members-in-BeginObject-clause-ok : goal.write_token-returns-in_ok-write_members-in-BeginObject-clause-ok
+write_token-returns-in_ok-write_members-in-BeginObject-clause-ok t c =
+    let rest = c.args.reader.now in
+    let is = ap (λ k. token_of k ∷ rest) c.in-BeginObject.is in
     let opened = ap (converted of_json) (ap (value c.args.depth) is ∙ value-begin_object c.args.depth rest (omega arith))
     ∙ converted-object (members (value (c.args.depth - 1)) (length rest) rest) in
     let done = c.in_ok-write_members-in-BeginObject.ensures.ok in

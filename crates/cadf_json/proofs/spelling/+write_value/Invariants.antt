@@ -5,13 +5,16 @@ use Rattle.cadf_json.proofs.Spellings.{ItemsSpelled, MembersSpelled}
 use Rattle.cadf_json.proofs.spelling.+write_value.Given as goal
 
 abbrev pub decreases-write_value : goal.decreases-write_value
-decreases-write_value l = 2 * l.depth
+decreases-write_value l = 3 * l.depth + 1
+
+abbrev pub decreases-write_token : goal.decreases-write_token
+decreases-write_token l = 3 * l.depth
 
 abbrev pub decreases-write_items : goal.decreases-write_items
-decreases-write_items l = 2 * l.depth + 1
+decreases-write_items l = 3 * l.depth + 2
 
 abbrev pub decreases-write_members : goal.decreases-write_members
-decreases-write_members l = 2 * l.depth + 1
+decreases-write_members l = 3 * l.depth + 2
 
 abbrev pub invariant-write_items-items : goal.invariant-write_items-items
 invariant-write_items-items l =

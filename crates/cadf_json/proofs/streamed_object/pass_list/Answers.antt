@@ -1,4 +1,5 @@
-use Rattle.std.proofs.Common.{◌≡◌, ◌-◌, ◌∷◌, length, ap, ◌∙◌, arith, rules}
+use Rattle.std.proofs.Common.{◌≡◌, ◌-◌, ◌∷◌, length, ap, ◌∙◌, subst, arith, rules}
+use Rattle.cadf_json.specs.TokenUtf8.{HaveUtf8}
 use Rattle.json.specs.Token.{Token}
 use Rattle.json.specs.Json.{parse_map, items, value}
 use Rattle.json.proofs.Grammar.{value-begin_array}
@@ -15,3 +16,8 @@ returns-clause-ok g c =
     ∙ converted-array (items (value (c.args.depth - 1)) (length rest) rest) in
     let done = c.in_ok-pass_items.ensures.ok in
     (done.0, (done.1.0, opened ∙ ap (parse_map array) done.1.1))
+
+pub pass_items-requires-clause-utf8 : goal.pass_items-requires-clause-utf8
+pass_items-requires-clause-utf8 g c =
+    let begins : c.args.reader.now ≡ Token.begin_array ∷ c.next.new.self = search rules in
+    (subst HaveUtf8 begins c.requires.utf8).1

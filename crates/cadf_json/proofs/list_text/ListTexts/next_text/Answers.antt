@@ -1,6 +1,5 @@
 use Rattle.std.proofs.Common.{◌≡◌, None, Some, string_bytes, false, sym, subst, arith, rules}
 use Rattle.json.specs.Json.{after_end_array}
-use Rattle.serde_json.specs.Data.{Data}
 use Rattle.cadf_json.specs.ListTexts.{AreLeft, IsNextText}
 use Rattle.cadf_json.proofs.ItemTexts.{none_left, next_left}
 use Rattle.cadf_json.proofs.list_text.ListTexts.next_text.Goals as goal

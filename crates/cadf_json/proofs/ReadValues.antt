@@ -1,0 +1,135 @@
+-- A value that UTF-8 tokens begin with satisfies the invariant of values.
+use Rattle.std.proofs.Common.{◌≡◌, ℕ, ◌≤◌, List, ◌∷◌, false, Option, Some, None, option_map, Ordering, Less, Equal, Greater, sym, ap, ◌∙◌, subst, arith}
+use Rattle.std.specs.Prelude.{⊤}
+use Rattle.std.specs.Ordering.{match_ordering}
+use Rattle.json.specs.Token.{Token}
+use Rattle.json.specs.Json as json
+use Rattle.json.specs.Json.{Parse, value, read_key, parse_map, value_with}
+use Rattle.json.specs.Tree as tree
+use Rattle.json.proofs.Grammar.{value_is}
+use Rattle.json.proofs.Nesting.{value-depth}
+use Rattle.serde_json.specs.Data.{Num, Data, null, boolean, number, string, array, object, Items, item, Members, no_members, member, put, depth, items_depth, members_depth}
+use Rattle.serde_json.specs.Read.{number_of, of_json, of_items, of_members, converted}
+use Rattle.serde_json.specs.Written.{has_float}
+use Rattle.cadf_json.specs.Canonical.{begins_object}
+use Rattle.cadf_json.specs.Parts.{is_object}
+use Rattle.cadf_json.specs.TokenUtf8.{HaveUtf8}
+use Rattle.cadf_json.specs.Value.{IsValue}
+use Rattle.cadf_json.proofs.Formed.{IsFormed, formed_json}
+use Rattle.cadf_json.proofs.Given.{Given, Given-map, Given-and_then}
+use Rattle.cadf_json.proofs.ReadTexts.{JsonHasUtf8, keys, value_reads}
+use Rattle.cadf_json.proofs.Spelled.{whole}
+use Rattle.cadf_json.proofs.Turns.{converted_some}
+
+-- ---- how deep a value nests
+
+low_put_at : (o : Ordering) (a b c : Members) (n : ℕ) → members_depth a ≤ n → members_depth b ≤ n → members_depth c ≤ n
+    → members_depth (match_ordering o a b c) ≤ n
+low_put_at Less a b c n p q r = p
+low_put_at Equal a b c n p q r = q
+low_put_at Greater a b c n p q r = r
+
+low_put : (k : List ℕ) (d : Data) (ms : Members) (n : ℕ) → depth d ≤ n → members_depth ms ≤ n → members_depth (put k d ms) ≤ n
+low_put k d no_members n p q = omega arith
+low_put k d (member l e ms) n p q =
+    low_put_at _ (member k d (member l e ms)) (member l d ms) (member l e (put k d ms)) n (omega arith) (omega arith)
+    (omega (arith, low_put k d ms n p (omega arith)))
+
+any_number : (o : Option Num) → Given (λ x. ⊤) o
+any_number None = tt
+any_number (Some n) = tt
+
+mutual
+  low_json : (j : json.Json) (n : ℕ) → tree.depth j ≤ n → Given (λ d. depth d ≤ n) (of_json j)
+  low_json json.null n h = omega arith
+  low_json (json.boolean b) n h = omega arith
+  low_json (json.number s) n h = Given-map (λ x. ⊤) (λ d. depth d ≤ n) number (λ x k. omega arith) (number_of s) (any_number (number_of s))
+  low_json (json.string s) n h = omega arith
+  low_json (json.array js) n h =
+      Given-map (λ ds. items_depth ds ≤ tree.items_depth js) (λ d. depth d ≤ n) array (λ ds k. omega arith) (of_items js)
+      (low_items js (tree.items_depth js) (omega arith))
+  low_json (json.object ms) n h =
+      Given-map (λ os. members_depth os ≤ tree.members_depth ms) (λ d. depth d ≤ n) object (λ os k. omega arith) (of_members ms no_members)
+      (low_members ms no_members (tree.members_depth ms) (omega arith) (omega arith))
+
+  low_items : (js : json.Items) (n : ℕ) → tree.items_depth js ≤ n → Given (λ ds. items_depth ds ≤ n) (of_items js)
+  low_items json.no_items n h = omega arith
+  low_items (json.item j js) n h =
+      Given-and_then (λ d. depth d ≤ n) (λ ds. items_depth ds ≤ n) (λ d. option_map (item d) (of_items js))
+      (λ d x. Given-map (λ ds. items_depth ds ≤ n) (λ ds. items_depth ds ≤ n) (item d) (λ ds y. omega arith) (of_items js) (low_items js n (omega arith)))
+      (of_json j) (low_json j n (omega arith))
+
+  low_members : (ms : json.Members) (found : Members) (n : ℕ) → tree.members_depth ms ≤ n → members_depth found ≤ n
+      → Given (λ os. members_depth os ≤ n) (of_members ms found)
+  low_members json.no_members found n h k = k
+  low_members (json.member name j ms) found n h k =
+      Given-and_then (λ d. depth d ≤ n) (λ os. members_depth os ≤ n) (λ d. of_members ms (put name d found))
+      (λ d x. low_members ms (put name d found) n (omega arith) (low_put name d found n x k)) (of_json j) (low_json j n (omega arith))
+
+-- ---- a value that is read
+
+given_some : {A : Type 0} (P : A → Type 0) (o : Option A) (a : A) → Given P o → o ≡ Some a → P a
+given_some P o a h e = subst (Given P) e h
+
+pub value_read : (n : ℕ) (ts rest : List Token) (d : Data) → n ≤ 127 → HaveUtf8 ts → converted of_json (value n ts) ≡ Some (d, rest)
+    → has_float d ≡ false → IsValue d
+value_read n ts rest d low u e no_float =
+    let some = converted_some of_json (value n ts) d rest e in
+    let well = given_some (λ p. JsonHasUtf8 p.0 × HaveUtf8 p.1) (value n ts) (some.0, rest) (value_reads n ts u) some.1 in
+    let formed = given_some IsFormed (of_json some.0) d (formed_json some.0 well.0) some.2 in
+    let shallow = value-depth n ts rest some.0 some.1 in
+    let deep = given_some (λ x. depth x ≤ n) (of_json some.0) d (low_json some.0 n shallow) some.2 in
+    (whole d formed no_float, omega (arith, deep, low))
+
+-- the tokens after it are UTF-8
+pub rest_utf8 : (n : ℕ) (ts rest : List Token) (d : Data) → HaveUtf8 ts → converted of_json (value n ts) ≡ Some (d, rest) → HaveUtf8 rest
+rest_utf8 n ts rest d u e =
+    let some = converted_some of_json (value n ts) d rest e in
+    (given_some (λ p. JsonHasUtf8 p.0 × HaveUtf8 p.1) (value n ts) (some.0, rest) (value_reads n ts u) some.1).1
+
+-- those after a key, too
+pub key_utf8 : (ts rest : List Token) (k : Option (List ℕ)) → HaveUtf8 ts → read_key ts ≡ Some (k, rest) → HaveUtf8 rest
+key_utf8 ts rest k u e = (given_some (λ p. _ × HaveUtf8 p.1) (read_key ts) (k, rest) (keys ts u) e).1
+
+-- ---- a value that begins with no opening brace is no object
+
+no_object : (o : Option Num) (d : Data) → option_map number o ≡ Some d → is_object d ≡ false
+no_object None d e = absurd cc
+no_object (Some n) d e = let same : number n ≡ d = cc in ap is_object (sym same)
+
+no_array_object : (o : Option Items) (d : Data) → option_map array o ≡ Some d → is_object d ≡ false
+no_array_object None d e = absurd cc
+no_array_object (Some ds) d e = let same : array ds ≡ d = cc in ap is_object (sym same)
+
+abbrev IsOther : json.Json → Type 0
+IsOther j = (d : Data) → of_json j ≡ Some d → is_object d ≡ false
+
+other_array : (o : Option (json.Items × List Token)) (j : json.Json) (s : List Token) → parse_map json.array o ≡ Some (j, s) → IsOther j
+other_array None j s e = absurd cc
+other_array (Some p) j s e =
+    let both : ◌≡◌ {A = json.Json × List Token} (json.array p.0, p.1) (j, s) = cc in
+    subst IsOther (ap (λ x. x.0) both) (λ d f. no_array_object (of_items p.0) d f)
+
+first_json : (i j : json.Json) (r s : List Token) → ◌≡◌ {A = Option (json.Json × List Token)} (Some (i, r)) (Some (j, s)) → i ≡ j
+first_json i j r s e = let both : ◌≡◌ {A = json.Json × List Token} (i, r) (j, s) = cc in ap (λ x. x.0) both
+
+other_first : (a : Parse json.Items) (o : Parse json.Members) (t : Token) (r s : List Token) (j : json.Json) → begins_object (Some t) ≡ false
+    → value_with a o (t ∷ r) ≡ Some (j, s) → IsOther j
+other_first a o Token.begin_object r s j b e = absurd cc
+other_first a o Token.end_object r s j b e = absurd cc
+other_first a o Token.begin_array r s j b e = other_array (a r) j s e
+other_first a o Token.end_array r s j b e = absurd cc
+other_first a o (Token.key k) r s j b e = absurd cc
+other_first a o (Token.string t) r s j b e =
+    subst IsOther (first_json (json.string t) j r s e) (λ d f. let same : string t ≡ d = cc in ap is_object (sym same))
+other_first a o (Token.number t) r s j b e = subst IsOther (first_json (json.number t) j r s e) (λ d f. no_object (number_of t) d f)
+other_first a o (Token.boolean t) r s j b e =
+    subst IsOther (first_json (json.boolean t) j r s e) (λ d f. let same : boolean t ≡ d = cc in ap is_object (sym same))
+other_first a o Token.null r s j b e = subst IsOther (first_json json.null j r s e) (λ d f. let same : null ≡ d = cc in ap is_object (sym same))
+other_first a o Token.bad r s j b e = absurd cc
+
+pub other_value : (n : ℕ) (t : Token) (r s : List Token) (d : Data) → begins_object (Some t) ≡ false
+    → converted of_json (value n (t ∷ r)) ≡ Some (d, s) → is_object d ≡ false
+other_value n t r s d b e =
+    let some = converted_some of_json (value n (t ∷ r)) d s e in
+    other_first _ _ t r s some.0 b (sym (value_is n (t ∷ r)) ∙ some.1) d some.2
