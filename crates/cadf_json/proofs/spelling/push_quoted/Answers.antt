@@ -7,9 +7,11 @@ one_string : (s : List ℕ) → print (Token.string s ∷ []) ≡ quoted s
 unfolding print_from
 one_string s = append-nil (quoted s)
 
-pub returns : goal.returns
-returns c =
+pub returns-then-not-is_plain : goal.returns-then-not-is_plain
+returns-then-not-is_plain c =
     let s = c.args.text.now in
-    let before : c.string.new.self.before ≡ c.args.out.now.items = search rules in
+    let before : c.string.new.self.before ≡ [] = search rules in
     let tokens : c.string.new.self.tokens ≡ Token.string s ∷ [] = search rules in
-    c.into_inner.ensures.items ∙ ap₂ (λ xs ts. xs ++ print ts) before tokens ∙ ap (λ xs. c.args.out.now.items ++ xs) (one_string s)
+    let bytes : c.into_inner.result.items ≡ quoted s =
+    c.into_inner.ensures.items ∙ ap₂ (λ xs ts. xs ++ print ts) before tokens ∙ one_string s in
+    c.in_ok-extend_from_slice.ensures.items ∙ ap (λ xs. c.args.out.now.items ++ xs) (c.as_slice.ensures.value ∙ bytes)
