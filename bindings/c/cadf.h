@@ -11,7 +11,7 @@
  *
  * `*length` is the length of the text. If it is above `room`, the buffer has the first `room` bytes of it, and nothing
  * beyond the buffer is touched: call again with so much room. No text ends with a zero byte. For a status above 0, what the
- * buffer has behind the text is undefined.
+ * buffer holds after the text is undefined.
  *
  *     struct cadf_bytes log = cadf_bytes_of(text, strlen(text));
  *     size_t length;
@@ -19,11 +19,11 @@
  *     uint8_t *line = malloc(length);
  *     status = cadf_check(&log, line, length, &length);
  *
- * What each caller owes; nothing checks it:
+ * What each caller must ensure; nothing checks it:
  *
- *  - Each address is that of as many bytes as are told, for the whole call. The functions below take NULL for an output
- *    without room, for a log that isn't given, and for an input of no bytes. The elements of the array of cadf_join are
- *    taken as they are: fill them by cadf_bytes_of, or with addresses that aren't NULL.
+ *  - Each address is that of as many bytes as its length or room says, for the whole call. The functions below take NULL
+ *    for an output without room, for a log that isn't given, and for an input of no bytes. The elements of the array of
+ *    cadf_join are taken as they are: fill them by cadf_bytes_of, or with addresses that aren't NULL.
  *  - The output and `*length` overlap neither one another nor an input, and no other thread writes to an input meanwhile.
  *    What the buffer and `*length` held before isn't read.
  *  - A length or a room is at most 2^63-1. An input above 2^30 bytes is refused; a longer output is no input.
@@ -33,7 +33,7 @@
  *    Python's multiprocessing is to start its workers by `spawn` or `forkserver` if there are threads. Under eventlet
  *    and gevent a call is like any computation: other green threads wait for it.
  *
- * Any number of threads may call at the same time. There is nothing to initialise, and a call leaves nothing behind.
+ * Any number of threads may call at the same time. There is nothing to initialise, and a call leaves nothing allocated.
  *
  * The soname, libcadf.so.0, changes with the signature of a function, with the meaning of an argument or a status, and when a
  * function is removed. A function more, and other texts as FORMATS.md versions them, change the version alone.
