@@ -18,7 +18,7 @@ from typing import NamedTuple
 from measure import BINARY, instructions, is_valgrind_there, replica_file
 from show import document
 
-BASE_COMMIT = "76b187b"
+BASE_COMMIT = "02385ab"
 ATOMS = 10 ** 4
 LINE = "%-10s %-9s %10s %10s %6s %s"
 
@@ -42,13 +42,13 @@ class Case(NamedTuple):
 
 
 CASES = [
-    Case("show", "10 MB", ("log.json",), 1093.6, 0.8),
-    Case("join", "format 1", ("first.1", "second.1"), 1140.1, 0.8),
-    Case("join", "format 2", ("first.2", "second.2"), 884.3, 0.8),
-    Case("missing", "format 1", ("first.1", "second.1"), 995.2, 0.8),
-    Case("missing", "format 2", ("first.2", "second.2"), 737.8, 0.8),
-    Case("inventory", "format 1", ("first.1",), 670.0, 0.9),
-    Case("inventory", "format 2", ("first.2",), 541.6, 0.9),
+    Case("show", "10 MB", ("log.json",), 1179.0, 0.8),
+    Case("join", "format 1", ("first.1", "second.1"), 1531.0, 0.8),
+    Case("join", "format 2", ("first.2", "second.2"), 1247.0, 0.8),
+    Case("missing", "format 1", ("first.1", "second.1"), 1326.0, 0.8),
+    Case("missing", "format 2", ("first.2", "second.2"), 1044.0, 0.8),
+    Case("inventory", "format 1", ("first.1",), 879.0, 0.9),
+    Case("inventory", "format 2", ("first.2",), 736.0, 0.9),
 ]
 
 
