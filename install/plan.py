@@ -60,36 +60,45 @@ class Plan:
         above = [other for other in self.names if name in self.uses[other]]
         return self.costs[name] + max(map(self.chain, above), default=0)
 
-    def next(self, waiting, done, used, lanes):
-        """Yields the crates to begin where so many lanes are used, the longest chain first, each with its number of jobs.
+    def first(self, names):
+        """The crate of these from which the longest chain goes up: all others can wait for it."""
+        return min(names, key=lambda name: (-self.chain(name), name))
 
-        A proof has steps that only one job can do, and its chain waits for it: so on four lanes it gets two at least.
+    def next(self, waiting, done, running, lanes):
+        """Yields the crates to begin beside those that run, the longest chain first.
+
+        Half as many crates as lanes are proved at once, and one more: a proof has steps that only one job can do. Each
+        has a job on every lane; the first of them runs before the others, which get what it leaves idle.
         """
-        ready = sorted((name for name in waiting if done.issuperset(self.uses[name])), key=lambda name: (-self.chain(name), name))
-        idle, least = lanes - used, 2 if lanes >= 4 else 1
-        for place, name in enumerate(ready):
-            if idle < 1:
-                return
-            jobs = min(idle, 4, max(least, idle // (len(ready) - place)))
-            idle -= jobs
-            yield name, jobs
+        ready = [name for name in waiting if done.issuperset(self.uses[name])]
+        while ready and len(running) <= lanes // 2:
+            name = self.first(ready)
+            ready.remove(name)
+            running = {*running, name}
+            yield name
 
-    def seconds(self, name, jobs):
-        """The seconds that the crate's proof takes with so many jobs."""
-        return self.costs[name] / SPEED[jobs]
+    def speeds(self, names, lanes):
+        """How much sooner each of the crates ends than with one job by itself, where they run beside each other."""
+        speeds, idle = {}, lanes
+        for name in sorted(names, key=lambda name: (-self.chain(name), name)):
+            speeds[name] = max(0.1, min(idle, SPEED[min(lanes, 4)]))
+            idle -= speeds[name]
+        return speeds
 
     def left(self, running, done, lanes):
-        """The seconds until all is proved. `running` has the jobs of each crate that is begun and the seconds since."""
-        ends = {name: max(0, self.seconds(name, jobs) - since) for name, (jobs, since) in running.items()}
-        used = {name: jobs for name, (jobs, _) in running.items()}
+        """The seconds until all is proved. `running` has the seconds since each crate was begun."""
+        speeds = self.speeds(running, lanes)
+        todo = {name: max(0, self.costs[name] - since * speeds[name]) for name, since in running.items()}
         done, now = set(done), 0
         waiting = self.names - done - set(running)
-        while waiting or ends:
-            for name, jobs in self.next(waiting, done, sum(used.values()), lanes):
-                used[name], ends[name] = jobs, now + self.seconds(name, jobs)
-            waiting -= set(used)
-            name = min(ends, key=ends.get)
-            now = max(now, ends.pop(name))
-            del used[name]
-            done.add(name)
+        while waiting or todo:
+            for name in list(self.next(waiting, done, todo, lanes)):
+                todo[name] = self.costs[name]
+                waiting.discard(name)
+            speeds = self.speeds(todo, lanes)
+            ends = min(todo, key=lambda name: todo[name] / speeds[name])
+            step = todo[ends] / speeds[ends]
+            todo = {name: left - step * speeds[name] for name, left in todo.items() if name != ends}
+            now += step
+            done.add(ends)
         return now
