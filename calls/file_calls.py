@@ -4,6 +4,8 @@ and writers; of the two texts, whose rows are in log_rows.py, and of sketches, w
 Words: a reading is a limit, the bytes of a read and the number of the read that fails (0 is none); a writer is the
 bytes of a write, what it does (`never`, `refuses` or `takes-nothing`) and at which write.
 """
+import json
+
 import log_rows
 import sketched_rows
 from texts import (
@@ -12,6 +14,7 @@ from texts import (
 CALLS = {
     "read": ["read_replica", "read_file", "LineDecoder::start", "LineDecoder::new", "LineDecoder::accept", "LineDecoder::cause_of_previous", "EitherDecoder::into_chosen",
              "next_path_kind"],
+    "read_beside": ["read_replica_beside"],
     "each_failing_read": ["read_replica"],
     "each_prefix": ["read_replica"],
     "each_bit": ["read_replica"],
@@ -111,6 +114,11 @@ def deep(depth):
     return B1[:-1] + ',"x":%s}' % nested(depth)
 
 
+def last_byte(text):
+    """The text with its last byte, a brace, replaced."""
+    return text[:-1] + "]"
+
+
 # Files of format 1, and why they are refused.
 REFUSED_1 = [
     ("", "Truncated"),
@@ -139,6 +147,9 @@ REFUSED_1 = [
     (one(line("P", "id", "1")), "Line 3 Shape"),
     (one(line("E", "e1", exchanged(B1))), "Line 3 Shape"),
     (one(line("R", "r1", '{"id":"r2"}')), "Line 3 Shape"),
+    (one(line("E", "e1", last_byte(B1))), "Line 3 Shape"),
+    (one(C1, line("E", "e1", B1, "C", S1, last_byte(S2))), "Line 4 Shape"),
+    (one(C1, line("E", "e1", B1, "C", S1, S2, "x")), "Line 4 Shape"),
     (one(line("U", "E", "e1", "x")), "Line 3 Shape"),
     (one(line("U", "X", "e1", digits(BF))), "Line 3 Shape"),
     (one(line("U", "U", "e1", digits(BF))), "Line 3 Shape"),
@@ -228,6 +239,9 @@ REFUSED_2 = [
     (two(E, node(2, 1, "e1")), "Line 4 Shape"),
     (two(E, node(2, 0, "")), "Line 4 Shape"),
     (two(E, E1, node(3, 1, "{}")), "Line 5 Shape"),
+    (two(E, E1, node(3, 1, last_byte(B1))), "Line 5 Shape"),
+    (two(E, E1, BODY, CHAINS, STEP_1, node(6, 1, last_byte(S2))), "Line 8 Shape"),
+    (two(E, E1, BODY, CHAINS, STEP_1, node(6, 1, S2), node(7, 1, "x")), "Line 9 Shape"),
     (two(E, E1, BODY, node(4, 0, "X")), "Line 6 Shape"),
     (two(E, E1, BODY, node(4, 1, "C")), "Line 6 Shape"),
     (two(E, E1, BODY, TAGS, node(5, 1, "x"), node(6, 1, "y")), "Line 8 Shape"),
@@ -368,6 +382,18 @@ for text in (X, X_2):
     ROWS.append(("each_prefix", [LIMIT, 7, 0, text], refused("Truncated") + [len(text)], REFUSAL))
 for text in (CHAINED, CHAINED_2):
     ROWS.append(("each_bit", [*WHOLE, text], ["ok", 8 * len(text)], REFUSAL))
+
+# Files that are read beside a replica that is held: it has all atoms of the sets, some of them, or none.
+EVERY = sorted({atom for atoms, _ in SETS for atom in atoms}, key=lambda atom: [text.encode() for text in json.loads(atom)])
+HELD = replica(*EVERY)
+for atoms, nodes in SETS:
+    for held in (HELD, X, CHAINED, NOTHING, ""):
+        ROWS.append(("read_beside", [LIMIT, 7, 0, held, replica(*atoms)], read(atoms), ONE))
+        ROWS.append(("read_beside", [LIMIT, 7, 0, held, tree(*nodes)], read(atoms), TWO))
+for held in (X, CHAINED, NOTHING):
+    ROWS.append(("read_beside", [*WHOLE, held, HELD], read(EVERY), ONE))
+for text, fault in DAMAGED:
+    ROWS.append(("read_beside", [*WHOLE, HELD, text], refused(fault), REFUSAL))
 
 # Readers that fail: what was read before decides, or else the failed read does. A byte is read at a time.
 TWICE, LETTER_TWICE = one(C1, C1), two(E, E)

@@ -2,7 +2,7 @@
 #![tactic(auto)]
 
 ghost use Rattle.std.specs.Prelude.{◌≡◌, pos, encode_utf8};
-ghost use Rattle.cadf_file.specs.InventoryFile.{inventory_file};
+ghost use Rattle.cadf_inventory.specs.InventoryFile.{inventory_file};
 ghost use Rattle.cadf_tool.specs.Run.{input_spec};
 ghost use Rattle.cadf_tool.specs.InventoryInput.{inventory_spec};
 ghost use Rattle.cadf_tool.specs.Told.{replica_model_of};

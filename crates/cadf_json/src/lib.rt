@@ -40,6 +40,7 @@ pub use crate::object_text::{
 };
 pub use crate::read::TreeFault;
 pub use crate::skip::{check_list, find_fraction, has_json_syntax};
+pub use crate::spelling::push_quoted;
 pub use crate::stream::{Failed, FromStd, Sink, Source};
 pub use crate::streamed_object::{ItemVisitor, read_object_streaming};
 pub use crate::transfer::{OutFault, ReadLimitFault, read_rest, read_to_limit, write_all};

@@ -18,7 +18,7 @@ use Rattle.cadf_linefile.specs.declared.file_feed.TheConstants.{FILE_LIMIT}
 use Rattle.cadf_linefile.specs.Verdict as frame
 use Rattle.cadf_linefile.proofs.ReadingLemmas as reading
 use Rattle.cadf_linefile.proofs.RefusedLemmas as refused
-use Rattle.cadf_file.specs.InventoryVerdict.{inventory_grammar, inventory_model_or_fault}
+use Rattle.cadf_inventory.specs.InventoryVerdict.{inventory_grammar, inventory_model_or_fault}
 use Rattle.cadf_sketch.specs.Sketches.{SketchModel}
 use Rattle.cadf_sketch.specs.SketchVerdict.{sketch_grammar, sketch_model_or_fault}
 use Rattle.cadf_tool.specs.declared.input.Loaded.{Loaded}

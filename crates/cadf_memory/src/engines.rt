@@ -1,7 +1,7 @@
 //! Each engine over bytes. It writes its output to a buffer as far as there is room, and returns the length of the output.
 //! `Err`: the first refusal.
 ghost use Rattle.std.specs.Prelude.{◌≡◌, true, IfOk, IfErr, map, encode_utf8};
-ghost use Rattle.cadf_file.specs.InventoryFile.{inventory_file};
+ghost use Rattle.cadf_inventory.specs.InventoryFile.{inventory_file};
 ghost use Rattle.cadf_tool.specs.Run.{input_spec};
 ghost use Rattle.cadf_tool.specs.InventoryInput.{inventory_spec};
 ghost use Rattle.cadf_tool.specs.Told.{replica_model_of};

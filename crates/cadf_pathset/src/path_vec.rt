@@ -157,7 +157,7 @@ impl PathVec {
 
     /// Compares the list at that index with another, with which it is known to share its first `known` texts. Returns
     /// the order, and a number of first texts that both share.
-    fn cmp_at<W: AsText>(&self, number: usize, list: &[W], known: usize) -> (Ordering, usize)
+    pub fn cmp_at<W: AsText>(&self, number: usize, list: &[W], known: usize) -> (Ordering, usize)
         requires within { number < length self.now }
         requires known { Agree known (get_or self.now number []) (map W.bytes list.now) }
         ensures order { result.0 ≡ texts_cmp (get_or self.now number []) (map W.bytes list.now) }

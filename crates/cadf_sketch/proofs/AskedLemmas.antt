@@ -3,7 +3,7 @@ use Rattle.std.proofs.Common.{◌≡◌, ◌<◌, ◌≤◌, ◌+◌, ◌*◌, �
 use Rattle.std.proofs.Common.{List, [], ◌∷◌, take, slice_index, slice_range, Option, None, Some, IfSome}
 use Rattle.cadf_line.specs.Digest.{IsDigest}
 use Rattle.cadf_set.specs.Inventory.{InventoryModel}
-use Rattle.cadf_file.specs.InventoryFile.{IsInventory, inventory_digest, inventory_text}
+use Rattle.cadf_inventory.specs.InventoryFile.{IsInventory, inventory_digest, inventory_text}
 use Rattle.cadf_sketch.specs.Cells.{word}
 use Rattle.cadf_sketch.specs.Layouts.{IsLayout, are_cells, is_salt, layout_with}
 use Rattle.cadf_sketch.specs.SketchFile.{IsSketch}

@@ -5,8 +5,8 @@ use Rattle.sha2.specs.Sha256.{sha256}
 use Rattle.cadf_set.specs.Inventory.{InventoryModel}
 use Rattle.cadf_linefile.specs.Lines.{with_line_feed, text_of_lines}
 use Rattle.cadf_linefile.specs.Verdict.{digest_line}
-use Rattle.cadf_file.specs.InventoryFile.{inventory_body, inventory_text, inventory_file, IsInventory, DoNotCollide}
-use Rattle.cadf_file.proofs.InventoryVerdictLemmas.{inventory-file-tells}
+use Rattle.cadf_inventory.specs.InventoryFile.{inventory_body, inventory_text, inventory_file, IsInventory, DoNotCollide}
+use Rattle.cadf_inventory.proofs.InventoryVerdictLemmas.{inventory-file-tells}
 
 text_of_more : (ls : List (List ℕ)) (l : List ℕ) → text_of_lines (ls ++ l ∷ []) ≡ text_of_lines ls ++ with_line_feed l
 text_of_more [] l = append-nil (with_line_feed l)

@@ -30,8 +30,8 @@ use Rattle.cadf_line.specs.Digest.{IsDigest}
 use Rattle.cadf_set.specs.Inventory.{InventoryModel, AreDigests}
 use Rattle.cadf_line.specs.Missing.{Digests}
 use Rattle.cadf_set.proofs.Inventories.{AreDigests-listed}
-use Rattle.cadf_file.proofs.InventoryVerdictLemmas.{each_digest}
-use Rattle.cadf_file.specs.InventoryFile.{inventory_digest}
+use Rattle.cadf_inventory.proofs.InventoryVerdictLemmas.{each_digest}
+use Rattle.cadf_inventory.specs.InventoryFile.{inventory_digest}
 use Rattle.cadf_sketch.specs.Layouts.{LayoutModel}
 use Rattle.cadf_sketch.specs.Cells.{cell_at, is_lone, turned, turned_all, nothing}
 use Rattle.cadf_sketch.specs.Enough.{IsEnough}

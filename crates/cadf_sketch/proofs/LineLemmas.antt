@@ -46,8 +46,8 @@ use Rattle.hex.specs.Hex.{encode_lower, decode_sized, lower_digits}
 use Rattle.hex.proofs.HexLemmas.{length-encode_with}
 use Rattle.cadf_join.specs.Contents.{Text}
 use Rattle.cadf_line.specs.Digest.{IsDigest}
-use Rattle.cadf_file.specs.InventoryVerdict.{if_spelled, digest_of}
-use Rattle.cadf_file.proofs.DigestLines.{digest-again, digest-only, spelled-again, spelled-only}
+use Rattle.cadf_inventory.specs.InventoryVerdict.{if_spelled, digest_of}
+use Rattle.cadf_inventory.proofs.DigestLines.{digest-again, digest-only, spelled-again, spelled-only}
 use Rattle.cadf_sketch.specs.Layouts.{LayoutModel, IsLayout, is_layout, layout_of}
 use Rattle.cadf_sketch.specs.SketchFile.{spelled, head_line, counts_line, cell_line, AreWords64, IsHead, IsTally, IsCell}
 use Rattle.cadf_sketch.specs.SketchVerdict.{

@@ -70,8 +70,8 @@ use Rattle.cadf_linefile.proofs.BodyLines.{IsKind, AreAfter, body_of, same_bytes
 use Rattle.cadf_linefile.proofs.JudgeLemmas.{later_body, later_digest}
 use Rattle.cadf_linefile.proofs.LinesLemmas.{are_unbroken, cut-lines, and_true}
 use Rattle.cadf_linefile.proofs.VerdictLemmas.{good_log, first_none, unless_none}
-use Rattle.cadf_file.proofs.DigestLines.{plain_digest, unbroken_digest_of}
-use Rattle.cadf_file.proofs.FileLemmas.{unbroken_digest}
+use Rattle.cadf_inventory.proofs.DigestLines.{plain_digest, unbroken_digest_of}
+use Rattle.cadf_linefile.proofs.UnbrokenLines.{unbroken_digest}
 use Rattle.cadf_sketch.specs.Sketches.{SketchModel}
 use Rattle.cadf_sketch.specs.SketchFile.{
   spelled,

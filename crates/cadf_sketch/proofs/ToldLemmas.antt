@@ -50,7 +50,7 @@ use Rattle.cadf_linefile.specs.Reads as frame_reads
 use Rattle.cadf_linefile.specs.Lines.{cut, text_of_lines}
 use Rattle.cadf_linefile.specs.Verdict.{verdict, decided, fault_or, verdict_at_end, with_digest_line, digest_line, through_digest, has_digest}
 use Rattle.cadf_linefile.proofs.ReadingLemmas.{unless_map}
-use Rattle.cadf_file.proofs.LineLemmas.{last_apart}
+use Rattle.cadf_linefile.proofs.UnbrokenLines.{last_apart}
 use Rattle.cadf_sketch.specs.Sketches.{SketchModel}
 use Rattle.cadf_sketch.specs.SketchFile.{head_line, counts_line, cell_line, cell_lines, sketch_body, head_of, IsHead, IsTally, IsCell, HasParts, IsSketch}
 use Rattle.cadf_sketch.specs.SketchVerdict.{

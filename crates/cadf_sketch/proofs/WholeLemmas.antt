@@ -9,11 +9,11 @@ use Rattle.cadf_join.specs.Sets.{rising}
 use Rattle.cadf_set.specs.Inventory.{InventoryModel, AreDigests}
 use Rattle.cadf_join.specs.Contents.{Text}
 use Rattle.cadf_line.specs.Digest.{IsDigest}
-use Rattle.cadf_file.proofs.InventoryVerdictLemmas.{each_digest}
-use Rattle.cadf_file.proofs.RisingLists.{digests_push}
+use Rattle.cadf_inventory.proofs.InventoryVerdictLemmas.{each_digest}
+use Rattle.cadf_inventory.proofs.RisingLists.{digests_push}
 use Rattle.sha2.specs.Sha256.{sha256, digest_bytes, final_hash, initial_hash_256}
 use Rattle.sha2.proofs.Facts256.{length-sha256}
-use Rattle.cadf_file.specs.InventoryFile.{inventory_text, inventory_digest}
+use Rattle.cadf_inventory.specs.InventoryFile.{inventory_text, inventory_digest}
 use Rattle.cadf_sketch.specs.Layouts.{LayoutModel, IsLayout}
 use Rattle.cadf_sketch.specs.Cells.{word, check, place_in, each_xor, nothing, mixed, mixed_at, cell_at, turned, turned_all}
 use Rattle.cadf_sketch.specs.Peeling.{Peels, none, more}

@@ -9,7 +9,7 @@ use Rattle.sha2.specs.Hashers.{Holds256}
 use Rattle.sha2.specs.declared.Sha256.{Sha256}
 use Rattle.cadf_json.specs.Streams.{AppendsPrefix}
 use Rattle.cadf_linefile.specs.Lines.{with_line_feed, text_of_lines}
-use Rattle.cadf_file.specs.laws.Prefixes.{front_more, front_after}
+use Rattle.cadf_linefile.specs.laws.Prefixes.{front_more, front_after}
 
 -- two lines, and the text of those after them
 module _ (x y : List ℕ) (ls : List (List ℕ)) where

@@ -6,7 +6,7 @@ use Rattle.cadf_line.specs.Digest.{atom_digest}
 use Rattle.cadf_set.specs.Inventory.{InventoryModel}
 use Rattle.cadf_line.specs.Missing.{digests_of, missing_by}
 use Rattle.cadf_set.specs.Replica.{ReplicaModel}
-use Rattle.cadf_file.specs.InventoryFile.{IsInventory, inventory_digest}
+use Rattle.cadf_inventory.specs.InventoryFile.{IsInventory, inventory_digest}
 use Rattle.cadf_sketch.specs.Sketches.{SketchModel}
 
 abbrev pub inventory_of : ReplicaModel → InventoryModel

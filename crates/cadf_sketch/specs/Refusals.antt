@@ -8,7 +8,7 @@ use Rattle.std.specs.Prelude.{◌≡◌, ◌≤◌, ◌*◌, ◌≢◌, ◌⊎�
 use Rattle.cadf_join.specs.Sets.{rising}
 use Rattle.cadf_join.specs.Contents.{Text}
 use Rattle.cadf_set.specs.Inventory.{InventoryModel}
-use Rattle.cadf_file.specs.InventoryFile.{inventory_digest}
+use Rattle.cadf_inventory.specs.InventoryFile.{inventory_digest}
 use Rattle.cadf_sketch.specs.Cells.{turned_all}
 use Rattle.cadf_sketch.specs.Flips.{flipped}
 use Rattle.cadf_sketch.specs.Peeling.{Peels, HasNoLone}

@@ -20,7 +20,7 @@ use Rattle.cadf_linefile.specs.declared.fault.FileFault.{FileFault}
 use Rattle.cadf_linefile.specs.LineGrammar.{LineGrammar}
 use Rattle.cadf_linefile.specs.Verdict as frame
 use Rattle.cadf_linefile.specs.Verdict.{log_in_line, begins_digest}
-use Rattle.cadf_file.specs.InventoryVerdict.{if_spelled, digest_of}
+use Rattle.cadf_inventory.specs.InventoryVerdict.{if_spelled, digest_of}
 use Rattle.cadf_sketch.specs.Layouts.{LayoutModel, layout_of}
 use Rattle.cadf_sketch.specs.Sketches.{SketchModel}
 use Rattle.cadf_sketch.specs.SketchFile.{sketch_header, sketch_file, IsSketch}

@@ -9,7 +9,7 @@ use Rattle.cadf_join.specs.Sets.{rising}
 use Rattle.cadf_join.specs.Contents.{Text}
 use Rattle.cadf_set.specs.Inventory.{InventoryModel}
 use Rattle.cadf_line.specs.Missing.{Digests}
-use Rattle.cadf_file.specs.InventoryFile.{inventory_digest}
+use Rattle.cadf_inventory.specs.InventoryFile.{inventory_digest}
 use Rattle.cadf_sketch.specs.Layouts.{LayoutModel, coded_layout, layout_with}
 use Rattle.cadf_sketch.specs.Cells.{nothing, turned_all, word}
 use Rattle.cadf_sketch.specs.Tallies.{tally_of}

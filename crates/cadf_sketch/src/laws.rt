@@ -13,7 +13,7 @@ ghost use Rattle.cadf_sketch.specs.Enough.{IsEnough};
 ghost use Rattle.cadf_sketch.specs.Flips.{apart};
 ghost use Rattle.cadf_sketch.specs.Refusals.{differing, HasTooFewCells};
 ghost use Rattle.cadf_sketch.specs.Answers.{IsAnswer};
-ghost use Rattle.cadf_file.specs.InventoryFile.{IsInventory, inventory_digest, DoNotCollide};
+ghost use Rattle.cadf_inventory.specs.InventoryFile.{IsInventory, inventory_digest, DoNotCollide};
 ghost use Rattle.cadf_line.specs.Digest.{atom_digest};
 ghost use Rattle.cadf_set.specs.Replica.{ReplicaModel};
 ghost use Rattle.cadf_sketch.specs.SketchFile.{IsSketch, SketchFileIsInjective, sketch_file};

@@ -9,7 +9,7 @@ use crate::head::Head;
 use crate::layout::{Cells, Layout, Salt};
 use crate::numbers::{cut_at_blank, number_in, numbers_in};
 use crate::tally::Tally;
-use cadf_file::digest_of;
+use cadf_inventory::digest_of;
 use cadf_json::Memory;
 use std::alloc::Global;
 

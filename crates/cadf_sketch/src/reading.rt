@@ -1,7 +1,7 @@
 //! Finds the inventory of which a sketch was made.
 ghost use Rattle.std.specs.Prelude.{◌≡◌, ◌*◌, ◌↔◌, IfOk, IfErr, IsTrue, OnOk, vec_len};
 ghost use Rattle.cadf_join.specs.Sets.{rising};
-ghost use Rattle.cadf_file.specs.InventoryFile.{inventory_digest};
+ghost use Rattle.cadf_inventory.specs.InventoryFile.{inventory_digest};
 ghost use Rattle.cadf_sketch.specs.Flips.{apart};
 ghost use Rattle.cadf_sketch.specs.Tallies.{tally_of, cells_to_ask};
 ghost use Rattle.cadf_sketch.specs.Refusals.{differing, IsPeeled, IsReadFault};
@@ -10,7 +10,7 @@ use crate::cell::Cell;
 use crate::flip::{flip, of_taken};
 use crate::peel::peel;
 use crate::sketch::{Sketch, tally, turn_all};
-use cadf_file::inventory_digest;
+use cadf_inventory::inventory_digest;
 use cadf_json::Memory;
 use cadf_set::Inventory;
 use std::alloc::Global;

@@ -1,7 +1,7 @@
 //! A sketch of an inventory.
 ghost use Rattle.std.specs.Prelude.{◌≡◌, ◌*◌, ◌/◌, ◌+◌, IfOk, length, replicate, unwrap_or};
 ghost use Rattle.cadf_join.specs.Sets.{rising};
-ghost use Rattle.cadf_file.specs.InventoryFile.{inventory_digest};
+ghost use Rattle.cadf_inventory.specs.InventoryFile.{inventory_digest};
 ghost use Rattle.cadf_sketch.specs.Cells.{nothing, turned_all, word};
 ghost use Rattle.cadf_event.specs.Known.{IsNameText};
 ghost use Rattle.cadf_sketch.specs.SketchFile.{HasParts};
@@ -15,7 +15,7 @@ use crate::layout::{Cells, Layout, Salt};
 use crate::tally::Tally;
 use crate::turn::turn;
 use cadf_event::Name;
-use cadf_file::inventory_digest;
+use cadf_inventory::inventory_digest;
 use cadf_json::Memory;
 use cadf_set::Inventory;
 use std::alloc::Global;

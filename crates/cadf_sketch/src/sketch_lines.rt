@@ -1,7 +1,7 @@
 //! The lines of a sketch's file up to its digest line.
 
 ghost use Rattle.std.specs.Prelude.{◌≡◌, ◌≤◌, ◌*◌, ◌++◌, ◌∷◌, [], None, IfOk, IfErr, OnOk, true, drop, length};
-ghost use Rattle.cadf_file.specs.Answers.{CauseIs};
+ghost use Rattle.cadf_linefile.specs.Answers.{CauseIs};
 ghost use Rattle.cadf_sketch.specs.SketchFile.{sketch_header, head_line, IsHead};
 ghost use Rattle.cadf_sketch.specs.SketchVerdict.{sketch_grammar, is_whole, cause_after, cause_of_cell};
 ghost use Rattle.cadf_sketch.specs.SketchLines.{told_lines, AreTold, AreCellsOf, IsMore, IsCellPut, IsSketchOfLines};
@@ -149,6 +149,8 @@ impl LineDecoder for SketchLines {
 
     type Start = SketchStart;
 
+    type Held = ();
+
     ghost start_line = { λ _. sketch_header };
 
     fn start(line: &[u8]) -> Option<SketchStart> {
@@ -166,7 +168,12 @@ impl LineDecoder for SketchLines {
         }
     }
 
-    fn accept(self, alloc: Global, line: &[u8]) -> Result<SketchLines, LineFault> {
+    fn accept(
+        self,
+        alloc: Global,
+        _held: Option<&()>,
+        line: &[u8],
+    ) -> Result<SketchLines, LineFault> {
         let SketchLines { log, told } = self;
         let told = told_more(alloc, told, line)?;
         Ok(SketchLines { log, told })

@@ -26,7 +26,7 @@ pub fn read_sketch<S: Source>(
 
     ensures reads { S.reads source.new ≤ S.reads source.old + min limit FILE_LIMIT + 2 }
 {
-    sketch_of(cadf_linefile::read_file(alloc, source, limit))
+    sketch_of(cadf_linefile::read_file(alloc, None, source, limit))
 }
 
 /// Returns the sketch that the lines encode.

@@ -7,8 +7,8 @@ use Rattle.cadf_atom.specs.AtomSets.{IsReplicaSet}
 use Rattle.cadf_line.specs.Missing.{Digests, digests_of, unknown, missing_by, NoCollision}
 use Rattle.cadf_set.specs.Replica.{ReplicaModel}
 use Rattle.cadf_line.proofs.Missing.{with_carriers_grounded, with_carriers_least, unknown_has, missing_by_is}
-use Rattle.cadf_file.specs.InventoryFile.{IsInventory}
-use Rattle.cadf_file.proofs.InventoryVerdictLemmas.{inventory-file-tells}
+use Rattle.cadf_inventory.specs.InventoryFile.{IsInventory}
+use Rattle.cadf_inventory.proofs.InventoryVerdictLemmas.{inventory-file-tells}
 use Rattle.cadf_tool.specs.declared.input.Loaded.{Loaded}
 use Rattle.cadf_tool.specs.declared.fault.ToolFault.{ToolFault}
 use Rattle.cadf_tool.specs.declared.fault.ToolFault.TheVariants.{OtherLog}

@@ -3,9 +3,9 @@ use Rattle.std.proofs.Common.{ℕ, Result, Ok, Err, ap}
 use Rattle.cadf_set.specs.Inventory.{InventoryModel}
 use Rattle.cadf_linefile.specs.declared.fault.FileFault.{FileFault}
 use Rattle.cadf_linefile.proofs.ReadingLemmas.{refused_verdict}
-use Rattle.cadf_file.specs.InventoryReads.{ReadsInventory}
-use Rattle.cadf_file.specs.InventoryVerdict.{inventory_grammar, inventory_model_or_fault}
-use Rattle.cadf_file.proofs.InventoryVerdictLemmas.{accepts-inventories}
+use Rattle.cadf_inventory.specs.InventoryReads.{ReadsInventory}
+use Rattle.cadf_inventory.specs.InventoryVerdict.{inventory_grammar, inventory_model_or_fault}
+use Rattle.cadf_inventory.proofs.InventoryVerdictLemmas.{accepts-inventories}
 use Rattle.cadf_linefile.specs.declared.file_feed.TheConstants.{FILE_LIMIT}
 use Rattle.cadf_tool.specs.InputFault.{of_file}
 use Rattle.cadf_tool.specs.Faults.{of_load}

@@ -7,7 +7,7 @@ use Rattle.cadf_json.specs.declared.stream.Sink.{Ghosts as Sink}
 use Rattle.cadf_join.specs.Contents.{Text}
 use Rattle.cadf_set.specs.Inventory.{InventoryModel}
 use Rattle.cadf_set.specs.Replica.{ReplicaModel}
-use Rattle.cadf_file.specs.InventoryFile.{inventory_file}
+use Rattle.cadf_inventory.specs.InventoryFile.{inventory_file}
 use Rattle.cadf_sketch.specs.SketchFile.{sketch_file}
 use Rattle.cadf_sketch.specs.Sketches.{SketchModel}
 use Rattle.cadf_tool.specs.WrittenFile.{file}

@@ -5,7 +5,7 @@ use Rattle.cadf_line.specs.Digest.{atom_digest}
 use Rattle.cadf_line.specs.Missing.{missing_by}
 use Rattle.cadf_set.specs.Inventory.{InventoryModel}
 use Rattle.cadf_set.specs.Replica.{ReplicaModel}
-use Rattle.cadf_file.specs.InventoryFile.{IsInventory, inventory_digest, DoNotCollide}
+use Rattle.cadf_inventory.specs.InventoryFile.{IsInventory, inventory_digest, DoNotCollide}
 use Rattle.cadf_sketch.specs.Answers.{IsAnswer}
 use Rattle.cadf_sketch.specs.Layouts.{LayoutModel, are_cells, default_cells, layout_with}
 use Rattle.cadf_sketch.specs.Sketches.{SketchModel, sketch_of, own_salt, asked}

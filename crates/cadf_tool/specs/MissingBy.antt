@@ -9,7 +9,7 @@ use Rattle.cadf_line.specs.Digest.{atom_digest}
 use Rattle.cadf_set.specs.Inventory.{InventoryModel}
 use Rattle.cadf_line.specs.Missing.{Digests, digests_of, missing_by}
 use Rattle.cadf_set.specs.Replica.{ReplicaModel}
-use Rattle.cadf_file.specs.InventoryFile.{inventory_file, IsInventory}
+use Rattle.cadf_inventory.specs.InventoryFile.{inventory_file, IsInventory}
 use Rattle.cadf_tool.specs.declared.input.Loaded.{Loaded}
 use Rattle.cadf_tool.specs.declared.fault.ToolFault.{ToolFault}
 use Rattle.cadf_tool.specs.declared.fault.ToolFault.TheVariants.{NoLog}

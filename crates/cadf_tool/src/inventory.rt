@@ -1,12 +1,12 @@
 //! The engine of `inventory`: the digests of an input's atoms, as an inventory file.
-ghost use Rattle.cadf_file.specs.InventoryFile.{inventory_file};
+ghost use Rattle.cadf_inventory.specs.InventoryFile.{inventory_file};
 ghost use Rattle.cadf_tool.specs.MissingBy.{inventory_model_of};
 ghost use Rattle.cadf_tool.specs.Run.{one, transition_of, input_spec, IsExpected, IsWorked, IsWritten, IsRun};
 
 use crate::fault::{ToolFault, answered, refused};
 use crate::input::{Loaded, load};
 use crate::told::replica_of;
-use cadf_file::write_inventory;
+use cadf_inventory::write_inventory;
 use cadf_json::{Sink, Source};
 use cadf_replica::Inventory;
 use std::alloc::Global;

@@ -46,7 +46,7 @@ fn missing_by<R: Source>(
     ensures { IsExpected (two input_spec (transition_of R.Source from.old from.new) inventory_spec (transition_of R.Source inventory.old inventory.new))
         part_by result }
 {
-    let first = load_one(alloc, 1, from)?;
+    let first = load_one(alloc, 1, from, None)?;
     let second = load_inventory(alloc, 2, inventory)?;
     part(alloc, first, &second)
 }

@@ -43,7 +43,7 @@ fn load_part<R: Source>(alloc: Global, from: &mut R, sketch: &mut R) -> Result<R
     ensures { IsExpectedBy (two input_spec (transition_of R.Source from.old from.new) sketch_spec (transition_of R.Source sketch.old sketch.new))
         IsPartBySketch result }
 {
-    let first = load_one(alloc, 1, from)?;
+    let first = load_one(alloc, 1, from, None)?;
     let second = load_sketch(alloc, 2, sketch)?;
     part(alloc, first, &second)
 }

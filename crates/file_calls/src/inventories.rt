@@ -3,7 +3,8 @@
 use crate::reads::Reading;
 use crate::streams::{sink_of, written};
 use cadf_event::Name;
-use cadf_file::{FileFault, inventory_digest, read_inventory, write_inventory};
+use cadf_file::FileFault;
+use cadf_inventory::{inventory_digest, read_inventory, write_inventory};
 use cadf_json::Memory;
 use cadf_replica::Inventory;
 use calls::{Call, answer, push, refused};

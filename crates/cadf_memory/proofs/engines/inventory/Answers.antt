@@ -1,5 +1,5 @@
 use Rattle.std.proofs.Common.{Some, ap, refl, rules}
-use Rattle.cadf_file.specs.InventoryFile.{inventory_file}
+use Rattle.cadf_inventory.specs.InventoryFile.{inventory_file}
 use Rattle.cadf_tool.specs.Run.{input_spec}
 use Rattle.cadf_tool.specs.MissingBy.{inventory_model_of}
 use Rattle.cadf_memory.proofs.Made.{run_made}

@@ -1,5 +1,5 @@
 use Rattle.std.proofs.Common.{◌∙◌, ap, sym}
-use Rattle.cadf_file.proofs.InventoryVerdictLemmas.{inventory_is}
+use Rattle.cadf_inventory.proofs.InventoryVerdictLemmas.{inventory_is}
 use Rattle.cadf_sketch.proofs.answer.missing_by_sketch.Goals as goal
 
 pub returns-in-Ok-clause-ok : goal.returns-in-Ok-clause-ok

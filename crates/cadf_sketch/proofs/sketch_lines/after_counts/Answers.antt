@@ -1,5 +1,5 @@
 use Rattle.std.proofs.Common.{sym, subst}
-use Rattle.cadf_file.specs.Answers.{CauseIs}
+use Rattle.cadf_linefile.specs.Answers.{CauseIs}
 use Rattle.cadf_sketch.proofs.ToldLemmas.{cell_cause, cell_told}
 use Rattle.cadf_sketch.proofs.sketch_lines.after_counts.Goals as goal
 

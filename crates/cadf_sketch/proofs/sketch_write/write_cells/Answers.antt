@@ -2,7 +2,7 @@ use Rattle.std.proofs.Common.{◌≡◌, ◌∙◌, ◌++◌, ◌+◌, ◌<◌, 
 use Rattle.std.proofs.lemmas.List.{drop_more}
 use Rattle.std.proofs.lemmas.Result.{err_from_is_err_and}
 use Rattle.cadf_linefile.specs.Lines.{with_line_feed, text_of_lines}
-use Rattle.cadf_file.proofs.FrameWriting.{completes_more, front_of_line, front_so_far}
+use Rattle.cadf_linefile.proofs.WritingLemmas.{completes_more, front_of_line, front_so_far}
 use Rattle.cadf_sketch.specs.SketchFile.{cell_line}
 use Rattle.cadf_sketch.proofs.sketch_write.write_cells.Goals as goal
 

@@ -1,6 +1,6 @@
 use Rattle.std.proofs.Common.{◌≡◌, map, drop}
 use Rattle.cadf_linefile.specs.Lines.{text_of_lines}
-use Rattle.cadf_file.proofs.FrameWriting.{Completes}
+use Rattle.cadf_linefile.proofs.WritingLemmas.{Completes}
 use Rattle.cadf_sketch.specs.SketchFile.{cell_line}
 use Rattle.cadf_sketch.proofs.sketch_write.write_cells.Given as goal
 

@@ -4,7 +4,7 @@ use Rattle.cadf_json.specs.Streams.{AppendsPrefix}
 use Rattle.cadf_linefile.specs.Verdict.{with_digest_line, log_line}
 use Rattle.cadf_linefile.specs.Lines.{text_of_lines}
 use Rattle.cadf_sketch.specs.SketchFile.{sketch_header, cell_lines}
-use Rattle.cadf_file.proofs.FrameWriting.{on_ok, on_err}
+use Rattle.cadf_linefile.proofs.WritingLemmas.{on_ok, on_err}
 use Rattle.cadf_sketch.proofs.sketch_write.write_sketch.Goals as goal
 
 pub returns-clause-bytes : goal.returns-clause-bytes
