@@ -1,12 +1,12 @@
 """Which crates the command needs, and in which order they are proved.
 
     plan = Plan(TOP, "cadf")
-    for name, jobs in plan.next(waiting, done, used, lanes): ...
+    for name in plan.next(waiting, done, running, lanes): ...
 """
 import os
 
 # What a crate costs in seconds at one job on a usual machine, by its lines of code: enough for an order and an estimate.
-FIRST_SECONDS, LINES_A_SECOND = 50, 10
+FIRST_SECONDS, LINES_A_SECOND = 100, 10
 # How much sooner a proof ends with so many jobs.
 SPEED = {1: 1.0, 2: 1.5, 3: 1.7, 4: 1.8}
 
