@@ -1,4 +1,4 @@
-"""Which crates the command needs, and in which order they are proved.
+"""Which crates a program or a library for C needs, and in which order they are proved.
 
     plan = Plan(TOP, "cadf")
     for name in plan.next(waiting, done, running, lanes): ...
@@ -6,9 +6,9 @@
 import os
 
 # What a crate costs in seconds at one job on a usual machine, by its lines of code: enough for an order and an estimate.
-FIRST_SECONDS, LINES_A_SECOND = 100, 10
+FIRST_SECONDS, LINES_A_SECOND = 80, 7
 # How much sooner a proof ends with so many jobs.
-SPEED = {1: 1.0, 2: 1.5, 3: 1.7, 4: 1.8}
+SPEED = {1: 1.0, 2: 1.9, 3: 2.7, 4: 3.4}
 
 
 def listed(top):
@@ -40,11 +40,11 @@ def code_lines(folder):
 
 
 class Plan:
-    """The crates that a program needs."""
+    """The crates that a target needs, with the target."""
 
-    def __init__(self, top, program):
+    def __init__(self, top, target):
         self.uses = crates_of(top)
-        self.names = self.below(program) | {program}
+        self.names = self.below(target) | {target}
         self.costs = {name: FIRST_SECONDS + code_lines(os.path.join(top, "crates", name, "src")) / LINES_A_SECOND
                       for name in self.names}
 
@@ -67,11 +67,11 @@ class Plan:
     def next(self, waiting, done, running, lanes):
         """Yields the crates to begin beside those that run, the longest chain first.
 
-        Half as many crates as lanes are proved at once, and one more: a proof has steps that only one job can do. Each
-        has a job on every lane; the first of them runs before the others, which get what it leaves idle.
+        As many crates as lanes are proved at once: a proof has steps that only one job can do. The first of them runs before
+        the others, which get what it leaves idle.
         """
         ready = [name for name in waiting if done.issuperset(self.uses[name])]
-        while ready and len(running) <= lanes // 2:
+        while ready and len(running) < lanes:
             name = self.first(ready)
             ready.remove(name)
             running = {*running, name}
@@ -81,7 +81,7 @@ class Plan:
         """How much sooner each of the crates ends than with one job by itself, where they run beside each other."""
         speeds, idle = {}, lanes
         for name in sorted(names, key=lambda name: (-self.chain(name), name)):
-            speeds[name] = max(0.1, min(idle, SPEED[min(lanes, 4)]))
+            speeds[name] = max(0.1, min(idle, SPEED[min(lanes, max(SPEED))]))
             idle -= speeds[name]
         return speeds
 
