@@ -4,6 +4,7 @@ All is in one folder, where no other tool looks for sources. A library of statem
 over, so a mark names the marks of those.
 """
 import os
+import shutil
 import time
 
 import record
@@ -46,6 +47,15 @@ class Kept:
 
     def verdict(self, name):
         return record.read_file(self.mark(name))["verdict"]
+
+    def tidy(self):
+        """Removes all that is no crate's: what an earlier version or a killed proof left there."""
+        ours = {path for name in self.uses for path in (self.library(name), self.mark(name))}
+        for item in list(os.scandir(self.folder)) if os.path.isdir(self.folder) else []:
+            if item.path not in ours and item.is_dir(follow_symlinks=False):
+                shutil.rmtree(item.path)
+            elif item.path not in ours:
+                os.remove(item.path)
 
     def forget(self, name):
         """Removes the mark of a library that is about to be made anew."""

@@ -17,12 +17,10 @@ import time
 import record
 from compiler import Compiler
 from kept import Kept
-from plan import Plan
+from plan import SPEED, Plan
 
 # What a proof takes of memory at most, and what each of its jobs takes besides.
 PROOF_MEMORY, JOB_MEMORY = 3 * 2 ** 30, 2 ** 29
-# No proof gets faster with more jobs.
-MOST_JOBS = 4
 # The seconds after which the pace of a build says something of what is left.
 PACED = 60
 # The nice level of the proofs that another proof doesn't wait for.
@@ -110,10 +108,10 @@ class Build:
     """While it is open no other build works in the tree."""
 
     def __init__(self, top, target, lanes):
-        self.top, self.target, self.lanes, self.memory = top, target, lanes, free_memory()
+        self.top, self.target, self.lanes, self.memory = top, target, lanes, 0
         self.plan, self.kept, self.compiler = Plan(top, target), Kept(top), Compiler(top)
         self.running, self.verdicts, self.is_stopped = {}, {}, False
-        self.begun, self.kept_before = time.monotonic(), set()
+        self.begun, self.kept_before = 0, set()
         self.lock = self.usual = None
 
     def __enter__(self):
@@ -125,6 +123,8 @@ class Build:
             print("build: another build works here, and this one waits for it", flush=True)
             fcntl.flock(self.lock, fcntl.LOCK_EX)
         end(os.path.join(self.kept.folder, ""))
+        self.kept.tidy()
+        self.begun, self.memory = time.monotonic(), free_memory()
         self.usual = {sign: signal.signal(sign, self.stop) for sign in SIGNALS}
         return self
 
@@ -141,7 +141,7 @@ class Build:
     def jobs(self):
         """How many jobs a further proof gets, by the memory that the others may come to take."""
         left = self.memory - sum(PROOF_MEMORY + proof.jobs * JOB_MEMORY for proof in self.running.values())
-        return min(self.lanes, MOST_JOBS, (left - PROOF_MEMORY) // JOB_MEMORY)
+        return min(self.lanes, max(SPEED), (left - PROOF_MEMORY) // JOB_MEMORY)
 
     def words(self, name, jobs, make_target):
         """The call that proves the crate."""
