@@ -8,7 +8,7 @@ use crate::input::{Loaded, load};
 use crate::told::replica_of;
 use cadf_inventory::write_inventory;
 use cadf_json::{Sink, Source};
-use cadf_replica::Inventory;
+use cadf_set::Inventory;
 use std::alloc::Global;
 
 /// Makes the inventory of a loaded input. `NoLog` if the input names no log, `Memory` if an allocation fails.

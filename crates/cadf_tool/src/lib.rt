@@ -36,5 +36,6 @@ pub use crate::sketch::run_sketch;
 pub use cadf_event::{Document, DocumentFault, Name};
 pub use cadf_file::{FILE_LIMIT, FileFault};
 pub use cadf_json::{Failed, JsonFault, Memory, Sink, Source};
-pub use cadf_replica::{RehearseFault, Replica};
+pub use cadf_rehearsal::RehearseFault;
+pub use cadf_set::Replica;
 pub use cadf_sketch::{Cells, Salt};

@@ -11,7 +11,7 @@ use crate::inputs::{load_inventory, load_one};
 use crate::join::write_file;
 use crate::told::replica_of;
 use cadf_json::{Sink, Source};
-use cadf_replica::{Inventory, Replica, ReplicaFault};
+use cadf_set::{Inventory, Replica, ReplicaFault};
 use std::alloc::Global;
 
 /// Returns the delta of the replica for the inventory. `OtherLog` if they are of different logs, `Memory` if an

@@ -10,7 +10,7 @@ use crate::inputs::{load_one, load_sketch};
 use crate::join::write_file;
 use crate::told::replica_of;
 use cadf_json::{Sink, Source};
-use cadf_replica::Replica;
+use cadf_set::Replica;
 use cadf_sketch::{ReadFault, Sketch, missing_by_sketch};
 use std::alloc::Global;
 

@@ -9,8 +9,9 @@ use crate::fault::ToolFault;
 use crate::input::LoadFault;
 use cadf_event::Name;
 use cadf_json::{Memory, ReadLimitFault, Sink, Source, read_to_limit, write_all};
-use cadf_replica::{RehearseFault, Replica, Turn, rehearse};
+use cadf_rehearsal::{RehearseFault, Turn, rehearse};
 use cadf_script::{ScriptFault, read_script};
+use cadf_set::Replica;
 use std::alloc::Global;
 
 /// Reads the bytes of a script. `Err`: it is too large, a read failed, or an allocation failed.

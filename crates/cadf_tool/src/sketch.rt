@@ -11,7 +11,7 @@ use crate::fault::{ToolFault, answered, refused};
 use crate::input::{Loaded, load};
 use crate::told::replica_of;
 use cadf_json::{Memory, Sink, Source};
-use cadf_replica::Replica;
+use cadf_set::Replica;
 use cadf_sketch::{Cells, Salt, Sketch, write_sketch};
 use std::alloc::Global;
 
