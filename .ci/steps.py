@@ -17,10 +17,20 @@ import threading
 import time
 from typing import NamedTuple
 
+sys.dont_write_bytecode = True  # nothing is written beside the sources; so this stands before what is imported
 TOP = os.path.dirname(os.path.dirname(os.path.abspath(__file__)))
+sys.path.insert(0, os.path.join(TOP, "install"))
+
+from proving import JOB_MEMORY, PROOF_MEMORY, free_memory
+
 CADF = "crates/cadf/out/cadf"
-# The steps and all that they start run the Python that runs this, without a program that looks for one each time.
-ENVIRONMENT = dict(os.environ, PATH=os.path.dirname(sys.executable) + os.pathsep + os.environ["PATH"])
+# What the system says of a group of processes that may use all processors and all memory.
+UNLIMITED = {
+    "/sys/fs/cgroup/cpu.max": "max",
+    "/sys/fs/cgroup/memory.max": "max",
+    "/sys/fs/cgroup/cpu/cpu.cfs_quota_us": "-1",
+    "/sys/fs/cgroup/memory/memory.limit_in_bytes": str(2 ** 63 - 4096),
+}
 
 # Each stage: its steps, by name, and how many of them may run at once (0: as many as there are processors).
 STAGES = [
@@ -71,6 +81,30 @@ STAGES = [
         "producers": "examples/real-producers.py",
     }),
 ]
+
+
+def is_limited():
+    """Whether a control group has a share of the machine alone, as in a container."""
+    for path, unlimited in UNLIMITED.items():
+        if os.path.exists(path):
+            with open(path, encoding="ascii") as file:
+                if file.read().split()[0] != unlimited:
+                    return True
+    return False
+
+
+def lanes_of_proofs():
+    """Tells `rt ci` to run a proof on each processor, if memory has room for as many.
+
+    By itself it expects two to three times as much memory as a proof takes, and leaves processors idle.
+    """
+    lanes = len(os.sched_getaffinity(0))
+    has_room = free_memory() >= lanes * (PROOF_MEMORY + JOB_MEMORY)
+    return {"RT_JOBS": str(lanes)} if has_room and not is_limited() else {}
+
+
+# The steps and all that they start run the Python that runs this, without a program that looks for one each time.
+ENVIRONMENT = {**lanes_of_proofs(), **os.environ, "PATH": os.path.dirname(sys.executable) + os.pathsep + os.environ["PATH"]}
 
 
 class Ended(NamedTuple):
