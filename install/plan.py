@@ -6,9 +6,13 @@
 import os
 
 # What a crate costs in seconds at one job on a usual machine, by its lines of code: enough for an order and an estimate.
-FIRST_SECONDS, LINES_A_SECOND = 80, 7
-# How much sooner a proof ends with so many jobs. With more it ends no sooner.
-SPEED = {1: 1.0, 2: 1.9, 3: 2.7, 4: 3.4}
+FIRST_SECONDS, LINES_A_SECOND = 10, 6
+# What the target costs besides, whose code is made: the code of all crates.
+CODE_SECONDS = 240
+# How many processors a proof with so many jobs keeps busy. With more it ends no sooner.
+BUSY = {1: 1.0, 2: 1.9, 3: 2.7, 4: 3.4}
+# What a proof costs with several jobs, by what it costs with one.
+SEVERAL = 1.4
 
 
 def listed(top):
@@ -47,6 +51,11 @@ class Plan:
         self.names = self.below(target) | {target}
         self.costs = {name: FIRST_SECONDS + code_lines(os.path.join(top, "crates", name, "src")) / LINES_A_SECOND
                       for name in self.names}
+        self.costs[target] += CODE_SECONDS
+        self.chains = {}
+        for name in reversed([one for one in self.uses if one in self.names]):
+            above = [self.chains[other] for other in self.chains if name in self.uses[other]]
+            self.chains[name] = self.costs[name] + max(above, default=0)
 
     def below(self, name):
         """All crates that the crate depends on, directly or not."""
@@ -55,20 +64,20 @@ class Plan:
             found |= self.below(other)
         return found
 
-    def chain(self, name):
-        """The cost of the longest chain of crates from this one up."""
-        above = [other for other in self.names if name in self.uses[other]]
-        return self.costs[name] + max(map(self.chain, above), default=0)
-
     def first(self, names):
-        """The crate of these from which the longest chain goes up: all others can wait for it."""
-        return min(names, key=lambda name: (-self.chain(name), name))
+        """The crate of these from which the longest chain of crates goes up: all others can wait for it."""
+        return min(names, key=lambda name: (-self.chains[name], name))
+
+    def urgent(self, running, waiting):
+        """The crates of those that run that go before the others: the first, and what the first of those that wait needs."""
+        needed = self.below(self.first(waiting)) if waiting else set()
+        return {self.first(running)} | needed.intersection(running)
 
     def next(self, waiting, done, running, lanes):
         """Yields the crates to begin beside those that run, the longest chain first.
 
-        As many crates as lanes are proved at once: a proof has steps that only one job can do. The first of them runs before
-        the others, which get what it leaves idle.
+        As many crates as lanes are proved at once: a proof has steps that only one job can do. The urgent ones go before the
+        others, which get what those leave idle.
         """
         ready = [name for name in waiting if done.issuperset(self.uses[name])]
         while ready and len(running) < lanes:
@@ -77,25 +86,37 @@ class Plan:
             running = {*running, name}
             yield name
 
-    def speeds(self, names, lanes):
-        """How much sooner each of the crates ends than with one job by itself, where they run beside each other."""
-        speeds, idle = {}, lanes
-        for name in sorted(names, key=lambda name: (-self.chain(name), name)):
-            speeds[name] = max(0.1, min(idle, SPEED[min(lanes, max(SPEED))]))
-            idle -= speeds[name]
+    def jobs(self, name, others, lanes):
+        """How many jobs the crate gets where these others aren't proved yet.
+
+        One costs least, so it gets one where it and the chain above it then still take no longer than the longest chain of
+        the others.
+        """
+        most = min(lanes, max(BUSY))
+        longest = max((self.chains[other] for other in others), default=0)
+        late = self.costs[name] * (BUSY[most] / SEVERAL - 1)
+        return 1 if self.chains[name] + late <= longest else most
+
+    def speeds(self, jobs, waiting, lanes):
+        """How much sooner each crate that runs with so many jobs ends than by itself with one."""
+        urgent, speeds, idle = self.urgent(jobs, waiting), {}, lanes
+        for name in sorted(jobs, key=lambda name: (name not in urgent, -self.chains[name], name)):
+            busy = max(0.1, min(idle, BUSY[jobs[name]]))
+            idle -= busy
+            speeds[name] = busy / (SEVERAL if jobs[name] > 1 else 1)
         return speeds
 
     def left(self, running, done, lanes):
-        """The seconds until all is proved. `running` has the seconds since each crate was begun."""
-        speeds = self.speeds(running, lanes)
-        todo = {name: max(0, self.costs[name] - since * speeds[name]) for name, since in running.items()}
-        done, now = set(done), 0
-        waiting = self.names - done - set(running)
+        """The seconds until all is proved. `running` has the jobs of each crate that runs, and the seconds since it was begun."""
+        jobs, waiting, now = {name: jobs for name, (jobs, _) in running.items()}, self.names - set(done) - set(running), 0
+        speeds = self.speeds(jobs, waiting, lanes) if jobs else {}
+        todo = {name: max(0, self.costs[name] - since * speeds[name]) for name, (_, since) in running.items()}
+        done = set(done)
         while waiting or todo:
             for name in list(self.next(waiting, done, todo, lanes)):
-                todo[name] = self.costs[name]
                 waiting.discard(name)
-            speeds = self.speeds(todo, lanes)
+                todo[name], jobs[name] = self.costs[name], self.jobs(name, {*waiting, *todo}, lanes)
+            speeds = self.speeds({name: jobs[name] for name in todo}, waiting, lanes)
             ends = min(todo, key=lambda name: todo[name] / speeds[name])
             step = todo[ends] / speeds[ends]
             todo = {name: left - step * speeds[name] for name, left in todo.items() if name != ends}

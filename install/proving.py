@@ -17,13 +17,13 @@ import time
 import record
 from compiler import Compiler
 from kept import Kept
-from plan import SPEED, Plan
+from plan import Plan
 
 # What a proof takes of memory at most, and what each of its jobs takes besides.
 PROOF_MEMORY, JOB_MEMORY = 3 * 2 ** 30, 2 ** 29
 # The seconds after which the pace of a build says something of what is left.
 PACED = 60
-# The nice level of the proofs that another proof doesn't wait for.
+# The nice level of the proofs that aren't urgent.
 LATER = 19
 # What ends a build in an orderly way.
 SIGNALS = (signal.SIGINT, signal.SIGTERM, signal.SIGHUP)
@@ -69,10 +69,10 @@ def end(mark):
         time.sleep(0.1)
 
 
-def prioritize(group, is_first):
-    """Lets the first of the proofs run before the others. Who may not raise a priority leaves it low."""
+def prioritize(group, is_urgent):
+    """Lets an urgent proof go before the others. Who may not raise a priority leaves it low."""
     try:
-        os.setpriority(os.PRIO_PGRP, group, 0 if is_first else LATER)
+        os.setpriority(os.PRIO_PGRP, group, 0 if is_urgent else LATER)
     except OSError:
         pass
 
@@ -138,10 +138,11 @@ class Build:
     def stop(self, *_):
         self.is_stopped = True
 
-    def jobs(self):
-        """How many jobs a further proof gets, by the memory that the others may come to take."""
+    def jobs(self, name, waiting):
+        """How many jobs the crate's proof gets: as the plan says, or what memory has room for beside what the others may take."""
         left = self.memory - sum(PROOF_MEMORY + proof.jobs * JOB_MEMORY for proof in self.running.values())
-        return min(self.lanes, max(SPEED), (left - PROOF_MEMORY) // JOB_MEMORY)
+        planned = self.plan.jobs(name, {*waiting, *self.running} - {name}, self.lanes)
+        return min(planned, (left - PROOF_MEMORY) // JOB_MEMORY)
 
     def words(self, name, jobs, make_target):
         """The call that proves the crate."""
@@ -153,7 +154,7 @@ class Build:
     def start(self, waiting, make_target):
         """Begins the crates that can be proved now, as many as the plan has at once and memory has room for."""
         for name in list(self.plan.next(waiting, set(self.verdicts), self.running, self.lanes)):
-            jobs = max(self.jobs(), 0 if self.running else 1)
+            jobs = max(self.jobs(name, waiting), 0 if self.running else 1)
             if jobs < 1:
                 return
             self.kept.forget(name)
@@ -180,8 +181,8 @@ class Build:
 
     def left(self):
         """The seconds that are left, by the plan and by the pace so far."""
-        seconds, since = {name: proof.seconds() for name, proof in self.running.items()}, time.monotonic() - self.begun
-        left = self.plan.left(seconds, set(self.verdicts), self.lanes)
+        proofs = {name: (proof.jobs, proof.seconds()) for name, proof in self.running.items()}
+        left, since = self.plan.left(proofs, set(self.verdicts), self.lanes), time.monotonic() - self.begun
         planned = self.plan.left({}, self.kept_before, self.lanes) - left
         return left * since / planned if since > PACED and planned > PACED else left
 
@@ -206,9 +207,9 @@ class Build:
         while waiting or self.running:
             before = set(self.running)
             self.start(waiting, make_target)
-            first = self.plan.first(self.running)
+            urgent = self.plan.urgent(self.running, waiting)
             for name, proof in self.running.items():
-                prioritize(proof.child.pid, name == first)
+                prioritize(proof.child.pid, name in urgent)
             if sys.stdout.isatty() or set(self.running) - before:
                 self.progress(waiting)
             time.sleep(0.5)
