@@ -6,13 +6,13 @@
 import os
 
 # What a crate costs in seconds at one job on a usual machine, by its lines of code: enough for an order and an estimate.
-FIRST_SECONDS, LINES_A_SECOND = 10, 6
+FIRST_SECONDS, LINES_A_SECOND = 10, 7
 # What the target costs besides, whose code is made: the code of all crates.
 CODE_SECONDS = 240
 # How many processors a proof with so many jobs keeps busy. With more it ends no sooner.
 BUSY = {1: 1.0, 2: 1.9, 3: 2.7, 4: 3.4}
 # What a proof costs with several jobs, by what it costs with one.
-SEVERAL = 1.4
+SEVERAL = 1.3
 
 
 def listed(top):
