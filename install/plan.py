@@ -1,7 +1,8 @@
 """Which crates a program or a library for C needs, and in which order they are proved.
 
     plan = Plan(TOP, "cadf")
-    for name in plan.next(waiting, done, running, lanes): ...
+    for name in plan.next(waiting, done, running, lanes):
+        jobs = plan.jobs(name, others, lanes)
 """
 import os
 
@@ -52,6 +53,7 @@ class Plan:
         self.costs = {name: FIRST_SECONDS + code_lines(os.path.join(top, "crates", name, "src")) / LINES_A_SECOND
                       for name in self.names}
         self.costs[target] += CODE_SECONDS
+        # What the longest chain of crates from each one up costs. The file has a crate before those that use it.
         self.chains = {}
         for name in reversed([one for one in self.uses if one in self.names]):
             above = [self.chains[other] for other in self.chains if name in self.uses[other]]
@@ -93,9 +95,10 @@ class Plan:
         the others.
         """
         most = min(lanes, max(BUSY))
-        longest = max((self.chains[other] for other in others), default=0)
-        late = self.costs[name] * (BUSY[most] / SEVERAL - 1)
-        return 1 if self.chains[name] + late <= longest else most
+        speed, cost = BUSY[most] / SEVERAL, self.costs[name]
+        with_one = cost + (self.chains[name] - cost) / speed
+        longest = max((self.chains[other] for other in others), default=0) / speed
+        return 1 if with_one <= longest else most
 
     def speeds(self, jobs, waiting, lanes):
         """How much sooner each crate that runs with so many jobs ends than by itself with one."""
