@@ -19,9 +19,9 @@ from typing import NamedTuple
 
 sys.dont_write_bytecode = True  # nothing is written beside the sources; so this stands before what is imported
 TOP = os.path.dirname(os.path.dirname(os.path.abspath(__file__)))
-sys.path.insert(0, os.path.join(TOP, "install"))
+sys.path.insert(0, TOP)
 
-from proving import JOB_MEMORY, PROOF_MEMORY, free_memory
+from build.proving import JOB_MEMORY, PROOF_MEMORY, free_memory
 
 CADF = "crates/cadf/out/cadf"
 # What the system says of a group of processes that may use all processors and all memory.
@@ -35,47 +35,47 @@ UNLIMITED = {
 # Each stage: its steps, by name, and how many of them may run at once (0: as many as there are processors).
 STAGES = [
     ("before any build", 0, {
-        "test": "install/test",
-        "builds": ".ci/builds",
-        "calls": "calls/make --check",
+        "test": "python3 -m tests",
+        "builds": "python3 -m tests.package.builds",
+        "calls": "python3 -m tests.tables.make --check",
         "mutants": ".ci/mutants --placed",
-        "old-names": ".ci/old-names",
-        "pages": ".ci/pages",
-        "check-promises": ".ci/check-promises docs/PROMISES.md docs/ARCHITECTURE.md docs/AUDIT.md",
-        "declared": ".ci/bindings --declared",
+        "old-names": "python3 -m tests.docs.old_names",
+        "pages": "python3 -m tests.docs.pages",
+        "check-promises": "python3 -m tests.docs.promises docs/PROMISES.md docs/ARCHITECTURE.md docs/AUDIT.md",
+        "declared": "python3 -m tests.library.bindings --declared",
     }),
     ("proofs", 1, {
         "rt ci": "rt ci",
     }),
     ("built programs", 0, {
-        "bits": "differential/bits.py",
-        "bindings": ".ci/bindings",
-        "check-install": ".ci/check-install",
-        "package": ".ci/package",
-        "sandbox": ".ci/sandbox",
-        "units": ".ci/units",
-        "inject-faults": ".ci/inject-faults",
-        "take": ".ci/take",
-        "spool": ".ci/spool",
-        "listen": ".ci/listen",
-        "oom": ".ci/oom",
-        "plain-sets": ".ci/plain-sets",
-        "limits": ".ci/limits",
-        "compare": "differential/compare.py",
-        "drivers": "differential/calls.py",
-        "check-docs": ".ci/check-docs README.md docs/GUIDE.md docs/OPENSTACK.md docs/BUS.md docs/REPORT.md",
-        "openstack": ".ci/from-openstack",
-        "sites": ".ci/sites",
-        "report": ".ci/report",
-        "report-page": ".ci/report-page",
+        "bits": "python3 -m tests.generated.bits",
+        "bindings": "python3 -m tests.library.bindings",
+        "check-install": "tests/package/installed.sh",
+        "package": "python3 -m tests.package.packages",
+        "sandbox": "python3 -m tests.command.sandbox",
+        "units": "python3 -m tests.package.units",
+        "inject-faults": "python3 -m tests.command.inject_faults",
+        "take": "python3 -m tests.tools.take",
+        "spool": "python3 -m tests.tools.spool",
+        "listen": "python3 -m tests.tools.listen",
+        "oom": "python3 -m tests.library.oom",
+        "plain-sets": "python3 -m tests.library.plain_sets",
+        "limits": "python3 -m tests.command.limits",
+        "compare": "python3 -m tests.generated.compare",
+        "drivers": "python3 -m tests.generated.drivers",
+        "shown": "python3 -m tests.docs.shown README.md docs/GUIDE.md docs/OPENSTACK.md docs/BUS.md docs/REPORT.md",
+        "openstack": "python3 -m tests.tools.from_openstack",
+        "sites": "python3 -m tests.tools.sites",
+        "report": "python3 -m tests.tools.report",
+        "report-page": "python3 -m tests.tools.report_page",
         "week": "examples/week.sh",
-        "join-many": ".ci/join-many",
+        "join-many": "python3 -m tests.tools.join_many",
         "many-sites": "examples/many-sites.py",
         "parcelled": "examples/parcelled.py",
         "shapes": "bench/shapes.py --gate",
-        "exit-codes": ".ci/exit-codes",
-        "rows": "differential/rows.py " + CADF,
-        "vectors": "differential/vectors.py " + CADF,
+        "exit-codes": "tests/command/exit_codes.sh",
+        "rows": "python3 -m tests.tables.rows " + CADF,
+        "vectors": "python3 -m tests.command.vectors " + CADF,
         "two-sites": "examples/two-sites.sh",
         "real-pycadf": "examples/real-pycadf.py",
         "producers": "examples/real-producers.py",

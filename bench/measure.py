@@ -14,10 +14,10 @@ sys.dont_write_bytecode = True
 
 TOP = os.path.dirname(os.path.dirname(os.path.abspath(__file__)))
 BINARY = os.path.join(TOP, "crates", "cadf", "out", "cadf")
-sys.path.append(os.path.join(TOP, "differential"))
+sys.path.append(TOP)
 
-from replica_files import FIRST_LINES, lines_of
-from sealed_files import sealed
+from tests.reference.replica_files import FIRST_LINES, lines_of
+from tests.reference.sealed_files import sealed
 
 
 class Run(NamedTuple):

@@ -1,5 +1,5 @@
 #!/usr/bin/env python3
-"""Times `cadf rehearse` on a schedule of many turns, beside the second implementation in differential/.
+"""Times `cadf rehearse` on a schedule of many turns, beside the second implementation in tests/reference/.
 
     bench/rehearse.py [--turns 2000] [--sites 16] [--runs 5] [BINARY]
 
@@ -14,7 +14,7 @@ import tempfile
 
 from measure import BINARY, TOP, check_same_bytes, tell
 
-SECOND = os.path.join(TOP, "differential", "cadf")
+SECOND = os.path.join(TOP, "tests", "reference", "cadf")
 
 
 def event(number, random_turns):

@@ -26,9 +26,11 @@ from typing import NamedTuple
 
 from measure import BINARY, atoms_of, check_same_bytes, measured_in_turn, run_apart, write_replica, written_apart
 
-from command import answer
-from odd_sketches import path
-from sketch_files import CELLS, CHECK_BITS, Layout, Sketch, check_of, counts_of, file_digest, sketch_file, turn
+from tests.generated.odd_sketches import path
+from tests.reference.command import answer
+from tests.reference.sketch_files import (
+    CELLS, CHECK_BITS, Layout, Sketch, check_of, counts_of, file_digest, sketch_file, turn,
+)
 
 LOG = "openstack:audit"
 TOO_FEW = b"cadf: input 2: too few cells: ask for "

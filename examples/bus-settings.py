@@ -19,7 +19,7 @@ import time
 
 sys.dont_write_bytecode = True  # nothing is written beside the sources; so this stands before what is imported
 TOP = os.path.dirname(os.path.dirname(os.path.abspath(__file__)))
-sys.path.insert(0, os.path.join(TOP, ".ci"))
+sys.path.insert(0, TOP)
 SYSTEM = "/usr/bin/python3"  # where Debian's packages are
 SENT = 20
 DURABLE = "?amqp_durable_queues=true"
@@ -149,7 +149,7 @@ def tries_queues(rows):
 
 def tries_away(rows):
     """The broker is away when a service starts, and while it is connected."""
-    from broker import free_ports
+    from tests.tools.broker import free_ports
     service = Service(rows, "away", port=free_ports(1)[0])
     rows.row("broker away at start", service.sent(), SENT, service.errors(), SENT)
     made = subprocess.run([sys.executable, os.path.join(TOP, "tools", "cadf-from-openstack"), "--log", "audit", service.log], capture_output=True, text=True)
@@ -199,7 +199,7 @@ def deliveries(rows, limit):
 
 
 def main():
-    import broker
+    from tests.tools import broker
     missing = broker.missing()
     if missing is None and importlib.util.find_spec("oslo_messaging") is None:
         missing = "python3-oslo.messaging"

@@ -232,8 +232,8 @@ class Week:
 
 
 def main():
-    sys.path.insert(0, os.path.join(TOP, ".ci"))
-    import broker
+    sys.path.insert(0, TOP)
+    from tests.tools import broker
     missing = broker.missing()
     if missing is None and importlib.util.find_spec("keystonemiddleware") is None:
         missing = "python3-keystonemiddleware"

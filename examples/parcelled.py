@@ -14,9 +14,9 @@ import tempfile
 
 sys.dont_write_bytecode = True
 TOP = os.path.dirname(os.path.dirname(os.path.abspath(__file__)))
-sys.path.append(os.path.join(TOP, "differential"))
+sys.path.append(TOP)
 
-from replica_files import file_of, read_file
+from tests.reference.replica_files import file_of, read_file
 
 WAYS = 24
 

@@ -6,12 +6,12 @@ import os
 import subprocess
 from typing import NamedTuple
 
-import record
+from build import record
 
 # The pages keep the places that they name each other by, so TOP=PREFIX/share/doc/cadf serves the commands that they show.
 DOC = "share/doc/cadf"
 PAGES = ("README.md", "CHANGELOG.md", "bench/RESULTS.md")
-# These examples need differential/, which is not installed.
+# These examples need tests/, which is not installed.
 NOT_INSTALLED = ("examples/many-sites.py", "examples/parcelled.py")
 ZSH = "share/zsh/site-functions"
 
@@ -41,15 +41,12 @@ def names_below(top, folder):
 def files(top):
     """Yields what is installed, by its place under the prefix."""
     yield file_of(top, os.path.relpath(record.binary(top), top), "bin/cadf", 0o755)
-    yield file_of(top, "install/cadf.1", "share/man/man1/cadf.1")
     for name in names_below(top, "tools"):
         tool = os.path.basename(name)
         yield file_of(top, name, "bin/" + tool)
         yield File("share/man/man1/%s.1" % tool, 0o644, b".so man1/cadf.1\n")  # `man cadf-take` shows the one page
     for name in names_below(top, "share"):
         yield file_of(top, name, name)
-    yield file_of(top, "install/cadf.bash", "share/bash-completion/completions/cadf")
-    yield file_of(top, "install/_cadf", ZSH + "/_cadf")
     pages = names_below(top, "docs")
     examples = [name for name in names_below(top, "examples") if name not in NOT_INSTALLED]
     for name in (*PAGES, *pages, *examples):

@@ -9,7 +9,7 @@ import struct
 import tarfile
 import zlib
 
-from contents import File
+from install.contents import File
 
 FOLDER_MODE = 0o755
 

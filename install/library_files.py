@@ -1,7 +1,7 @@
 """The library for C: its archive, what is linked of it, and the files of it that are installed.
 
-The archive that is installed has the kit's allocator in it, so `-lcadf` alone links; it and the shared library show `cadf_*`
-and nothing else. install/library makes the archive that both are linked of.
+The archive that is installed has the kit's allocator in it, so `-lcadf` alone links; it and the shared library show
+`cadf_*` and nothing else. build/library makes the archive that both are linked of.
 """
 import os
 import re
@@ -11,8 +11,8 @@ import sys
 import tempfile
 from typing import NamedTuple
 
-import contents
-import record
+from build import record
+from install import contents
 
 CRATE = "cadf_c"
 BINDINGS, PACKAGE = "bindings/c", "bindings/python"
@@ -28,7 +28,7 @@ class Link(NamedTuple):
 
 
 def archive(top):
-    """What install/library makes."""
+    """What build/library makes."""
     return os.path.join(top, "crates", CRATE, "out", "lib%s.a" % CRATE)
 
 
@@ -49,7 +49,7 @@ def why_not(top, names):
     if not os.path.exists(archive(top)) or not found:
         return "there is no %s" % os.path.relpath(archive(top), top)
     if found.get("archive") != record.digest_of_file(archive(top)):
-        return "%s is not what install/library left there" % os.path.relpath(archive(top), top)
+        return "%s is not what build/library left there" % os.path.relpath(archive(top), top)
     if found.get("sources") != record.digest_of_sources(top, names):
         return "%s was built of other sources" % os.path.relpath(archive(top), top)
     return None

@@ -4,7 +4,7 @@
  *
  *     test VERSION
  *
- * VERSION is what `cadf --version` prints. What each call writes to memory is what differential/cadf writes for the same inputs.
+ * VERSION is what `cadf --version` prints. What each call writes to memory is what tests/reference/cadf writes for the same inputs.
  * All calls are made on a stack of the least size that cadf.h asks for.
  */
 #include "cadf.h"

@@ -55,7 +55,7 @@ def load(path: Optional[str] = None) -> ctypes.CDLL:
     try:
         library = ctypes.CDLL(path)
     except OSError as error:
-        raise ImportError("cadf: no library (%s): install it (install/library, install/install), or name it in the variable %s"
+        raise ImportError("cadf: no library (%s): install it (build/library, install/install), or name it in the variable %s"
                           % (error, VARIABLE)) from None
     for name, arguments in FUNCTIONS.items():
         function = getattr(library, "cadf_" + name)

@@ -1,0 +1,135 @@
+"""The commands of cadf, an entry each: their words, and the command lines on which the scripts of this folder run them.
+
+    python3 -m tests.command.commands    writes the command lines with too few or too many words, one a line
+
+A further command is an entry here (CONTRIBUTING.md). The script that runs its lines makes the files that they name.
+"""
+from typing import NamedTuple, Sequence
+
+
+class Command(NamedTuple):
+    """What the scripts know of a command."""
+    operands: str = ""  # as its help shows them
+    writes_pieces: bool = False  # as it goes, so that a refused allocation may leave a prefix of the output
+    small: Sequence[str] = ()  # tests/command/inject_faults.py: each place of a fault is tried
+    worked: Sequence[str] = ()  # likewise: a producer's event, chains, a conflict, deltas, facts of a log
+    large: Sequence[str] = ()  # tests/command/inject_faults.py: a sample of the places
+    limited: Sequence[str] = ()  # tests/command/limits.py: on inputs of about 1 MB
+    deep: Sequence[str] = ()  # tests/command/limits.py: on values that nest as deep as can be read
+
+COMMANDS = {
+    "join": Command(
+        operands='FILE...', writes_pieces=True,
+        small=["join log.json", "join log.json other.json", "join log.cadf other.cadf event.json",
+               "join event.json --log g", "join log.json stranger.json", "join log.cadf absent.cadf",
+               "join event.json", "join log.cadf longer.cadf", "join --log g log.json cut.json",
+               "join --log= log.json", "join log.1.cadf other.cadf", "join log.cadf other.1.cadf"],
+        worked=["join chain.json chains.json", "join chain.json failed.json", "join chains.cadf chains.cadf",
+                "join north.json south.json"],
+        large=["join many.json", "join many.cadf log.json", "join many.1.cadf many.cadf"],
+        limited=["join log.json", "join one.cadf two.cadf", "join one.1.cadf two.cadf"],
+        deep=["join deep.json", "join deep.cadf deep.json"],
+    ),
+    "missing": Command(
+        operands='FROM TO', writes_pieces=True,
+        small=["missing both.cadf log.cadf", "missing log.json other.json", "missing both.cadf both.cadf",
+               "missing log.cadf changed.cadf", "missing both.1.cadf log.cadf", "missing both.cadf log.1.cadf"],
+        worked=["missing tagged.cadf one.cadf", "missing chains.cadf one.cadf"],
+        large=["missing many.cadf log.cadf"],
+        limited=["missing one.cadf two.cadf", "missing one.cadf two.1.cadf"],
+        deep=["missing deep.cadf small.json"],
+    ),
+    "missing-by": Command(
+        operands='FROM INVENTORY', writes_pieces=True,
+        small=["missing-by both.cadf log.inventory", "missing-by both.1.cadf log.inventory",
+               "missing-by log.json log.inventory", "missing-by log.cadf cut.inventory"],
+        worked=["missing-by chains.cadf one.inventory", "missing-by one.cadf one.inventory"],
+        large=["missing-by many.cadf log.inventory"],
+        limited=["missing-by one.cadf two.inventory"],
+    ),
+    "inventory": Command(
+        operands='FILE', writes_pieces=True,
+        small=["inventory log.json", "inventory both.cadf", "inventory both.1.cadf", "inventory changed.cadf"],
+        worked=["inventory one.cadf"],
+        large=["inventory many.cadf"],
+        limited=["inventory one.cadf"],
+        deep=["inventory deep.cadf"],
+    ),
+    "sketch": Command(
+        operands='FILE', writes_pieces=True,
+        small=["sketch log.json", "sketch --cells 9 --salt 1 both.cadf", "sketch --cells=33 both.1.cadf", "sketch changed.cadf",
+               "sketch --cells 4 both.cadf", "sketch --salt 2 both.cadf"],
+        worked=["sketch --cells 12 one.cadf"],
+        large=["sketch many.cadf"],
+        limited=["sketch one.cadf", "sketch --cells 9999 one.1.cadf"],
+        deep=["sketch deep.cadf"],
+    ),
+    "missing-by-sketch": Command(
+        operands='FROM SKETCH', writes_pieces=True,
+        small=["missing-by-sketch both.cadf log.sketch", "missing-by-sketch both.1.cadf log.sketch",
+               "missing-by-sketch log.json log.sketch", "missing-by-sketch log.cadf cut.sketch",
+               "missing-by-sketch both.cadf few.sketch"],
+        worked=["missing-by-sketch chains.cadf one.sketch", "missing-by-sketch one.cadf one.sketch"],
+        large=["missing-by-sketch many.cadf log.sketch"],
+        limited=["missing-by-sketch one.cadf two.sketch"],
+    ),
+    "rule": Command(
+        operands='LETTER KEY PLACE FILE', writes_pieces=True,
+        small=["rule E e2 1 both.cadf", "rule P name 2 both.1.cadf", "rule E e1 2 both.cadf", "rule X e1 1 both.cadf"],
+        worked=["rule E e1 1 conflict.cadf", "rule E e1 2 ruled.cadf"],
+        limited=["rule E e7 1 one.cadf"],
+        deep=["rule E e1 1 deep.cadf"],
+    ),
+    "rehearse": Command(
+        operands='LOG SITES SCRIPT', writes_pieces=False,
+        small=["rehearse g 3 plan.script", "rehearse g 2 plan.script", "rehearse g 3 bad.script",
+               "rehearse g 3 absent.script"],
+        limited=["rehearse g 2 plan.script"],
+        deep=["rehearse g 2 deep.script"],
+    ),
+    "show": Command(
+        operands='FILE', writes_pieces=False,
+        small=["show log.json", "show --conflicts both.cadf", "show both.cadf", "show both.1.cadf", "show event.json",
+               "show cut.json", "show absent.json", "show ."],
+        worked=["show real.json", "show chains.cadf", "show conflict.cadf", "show --conflicts conflict.cadf",
+                "show facts.cadf", "show --conflicts facts.cadf", "show ruled.cadf", "show --conflicts ruled.1.cadf"],
+        large=["show many.json", "show --conflicts many.cadf"],
+        limited=["show log.json", "show one.cadf", "show --conflicts both.cadf"],
+        deep=["show deep.json", "show deeper.json", "show deep.cadf", "show deep.1.cadf"],
+    ),
+    "check": Command(
+        operands='FILE', writes_pieces=False,
+        small=["check log.json", "check both.cadf", "check changed.cadf", "check cut.cadf", "check longer.cadf",
+               "check short.cadf", "check both.1.cadf", "check changed.1.cadf", "check cut.1.cadf",
+               "check unended.cadf", "check siblings.cadf"],
+        worked=["check conflict.cadf"],
+        large=["check many.cadf"],
+        limited=["check one.cadf", "check one.1.cadf"],
+        deep=["check deep.cadf", "check deep.1.cadf"],
+    ),
+    "help": Command(
+        small=["--help", "join --help", "--version", "show", "shows log.json"],
+        limited=["--help"],
+    ),
+}
+PIECES = [name for name, command in COMMANDS.items() if command.writes_pieces]
+
+
+def lines(kind, listed):
+    """The command lines of one kind, of those commands that are listed."""
+    return [line for name, command in COMMANDS.items() if name in listed for line in getattr(command, kind)]
+
+
+def refused():
+    """The command lines with a word too few, and with one too many where a command takes no list of files."""
+    yield ""
+    for name, command in COMMANDS.items():
+        words = ["log.json" for _ in command.operands.split()]
+        if words:
+            yield " ".join([name] + words[1:])
+        if words and not command.operands.endswith("..."):
+            yield " ".join([name, "log.json"] + words)
+
+
+if __name__ == "__main__":
+    print("\n".join(refused()))

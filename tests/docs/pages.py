@@ -1,0 +1,270 @@
+"""Lints the pages: long sentences, refused phrases, links that lead nowhere, commands that nothing runs.
+
+    python3 -m tests.docs.pages
+
+The pages are README, CONTRIBUTING, docs/*.md, the manual page and the README of examples/vectors. Of each:
+
+- A sentence has at most 30 words. Code and tables are left out. An inline piece of code is one word, and so is a list
+  of them. A paragraph, a list item and a heading end a sentence. A dot ends one only if a blank follows it.
+- No phrase of tests/docs/phrases occurs, in text or in tables.
+- Each command that the page shows is run by somebody. `tests/docs/shown.py` runs the lines `$ command`, so the page is
+  in its step of .ci/steps.py. A command of a block ```sh is a script of the repository, or a line of
+  tests/docs/elsewhere names the script that runs it.
+
+README has at most 160 lines of at most 120 characters. docs/ARCHITECTURE.md has the picture of the crates that
+crates.txt makes. Each link of every Markdown file into the repository leads to a file, and to a heading of it. Before
+all this the script refuses wrong pages of its own, one for each fault.
+"""
+import os
+import re
+import subprocess
+import sys
+
+from tests import TOP
+from tests.docs.shown import can_run
+
+MOST_WORDS = 30
+PAGES = re.compile(r"(README|CONTRIBUTING|docs/\w+|examples/vectors/README)\.md|share/man/man1/cadf\.1")
+LINK = re.compile(r"\]\(([^)#\s]*)(?:#([^)\s]*))?\)")
+ITEM = re.compile(r"\s*(?:[-*]|\d+\.) ")
+SENTENCE_END = re.compile(r"(?<!\.)[.!?][)\"'*]*\s+")
+SH_BLOCK = re.compile(r"(?ms)^ *```sh\n(.*?)^ *```$")
+# Requests of a manual page: those whose words are text, joined with blanks or without, and those that go on with the text.
+ROFF_TEXT = {"B": " ", "I": " ", "SH": " ", "SS": " ", "BR": "", "BI": "", "RB": "", "RI": "", "IR": "", "IB": ""}
+ROFF_BREAKS = ("SH", "SS", "TP", "PP", "RS", "RE", "TH", "br")
+
+
+def read(name):
+    with open(os.path.join(TOP, name), encoding="utf-8") as file:
+        return file.read()
+
+
+def tracked():
+    """The names of the tracked files, and of those that a next commit may add."""
+    listed = subprocess.run(["git", "ls-files", "-co", "--exclude-standard"], cwd=TOP, check=True, capture_output=True, text=True)
+    return [name for name in listed.stdout.splitlines() if os.path.exists(os.path.join(TOP, name))]
+
+
+def plain(text):
+    """The text of a paragraph without marks: a list of inline pieces of code is one word, and a link its text."""
+    text = re.sub(r"`[^`]*`(?:,\s+`[^`]*`)*", "x", text)
+    return re.sub(r"!?\[([^\]]*)\]\([^)]*\)", r"\1", text).replace("*", "")
+
+
+def markdown_paragraphs(text, tables):
+    """The paragraphs, items and headings of a page as (number of the first line, text); the rows of tables if asked for."""
+    block, first, in_code = [], 1, False
+    for number, line in enumerate(text.splitlines() + [""], 1):
+        is_fence = line.lstrip().startswith("```")
+        is_apart = in_code or is_fence or line.startswith("    ") and not block
+        in_code ^= is_fence
+        is_row = line.startswith("|")
+        if block and (is_apart or is_row or not line.strip() or line.startswith("#") or ITEM.match(line)):
+            yield first, plain("\n".join(block))
+            block = []
+        if is_apart or is_row:
+            if is_row and tables:
+                yield number, plain(line)
+            continue
+        if not block:
+            first = number
+        if line.strip():
+            block.append(line)
+        if line.startswith("#"):
+            yield first, plain(line)
+            block = []
+
+
+def roff_paragraphs(text):
+    """The paragraphs of a manual page as (number of the first line, text), but for its synopses, which are code."""
+    block, first, is_synopsis = [], 1, False
+    for number, line in enumerate(text.splitlines() + [".PP"], 1):
+        request = re.match(r"\.(\w+) ?(.*)", line)
+        name = request.group(1) if request else ""
+        is_tag = bool(block) and block[-1] is None  # the line after .TP
+        if name in ROFF_BREAKS:
+            said = " ".join(words for words in block if words)
+            if said and not is_synopsis:
+                yield first, re.sub(r"\\f[A-Z]", "", said).replace("\\", "")
+            block, first = [None] if name == "TP" else [], number
+        if name in ("SH", "SS"):
+            is_synopsis = name == "SS" or "SYNOPSIS" in line
+        elif name == "PP":
+            is_synopsis = False
+        elif name in ROFF_TEXT:
+            words = re.findall(r'"([^"]*)"|(\S+)', request.group(2))
+            block.append(ROFF_TEXT[name].join(quoted or bare for quoted, bare in words))
+        elif not name:
+            block.append(line)
+        if is_tag:  # the tag of an item is no part of its text
+            block, first = [], number + 1
+
+
+def paragraphs(name, text, tables=False):
+    return markdown_paragraphs(text, tables) if name.endswith(".md") else roff_paragraphs(text)
+
+
+def count_words(sentence):
+    return sum(any(map(str.isalnum, word)) for word in sentence.split())
+
+
+def long_sentences(name, text):
+    """A line for each sentence of a page that is too long."""
+    for number, paragraph in paragraphs(name, text):
+        for sentence in SENTENCE_END.split(paragraph):
+            if count_words(sentence) > MOST_WORDS:
+                yield "%s:%d: %d words: %s .." % (name, number, count_words(sentence), " ".join(sentence.split())[:70])
+
+
+def refused_phrases():
+    """The phrases of tests/docs/phrases, each with what to write instead."""
+    lines = [line for line in read("tests/docs/phrases").splitlines() if line and not line.startswith("#")]
+    return [line.split(" -> ") for line in lines]
+
+
+def phrases(name, text):
+    """A line for each refused phrase of a page."""
+    found = list(paragraphs(name, text, tables=True))
+    for phrase, instead in refused_phrases():
+        pattern = re.compile(r"\b%s\b" % r"\s+".join(map(re.escape, phrase.split())), re.I)
+        for number, paragraph in found:
+            if pattern.search(paragraph):
+                yield "%s:%d: `%s`: write %s" % (name, number, phrase, instead)
+
+
+def anchors(text):
+    """What a link to a heading of a page says behind `#`."""
+    headings = re.findall(r"(?m)^#+ (.*)$", text)
+    return {re.sub(r"[^\w\- ]", "", heading.strip().lower()).replace(" ", "-") for heading in headings}
+
+
+def dead_links(name, text):
+    """A line for each link of a page into the repository that leads nowhere."""
+    for path, anchor in LINK.findall(text):
+        target = os.path.join(TOP, os.path.dirname(name), path) if path else None
+        if "://" in path:
+            continue
+        if target and not os.path.exists(target) or anchor and anchor not in anchors(read(target) if target else text):
+            yield "%s: the link %s leads nowhere" % (name, path + ("#" + anchor if anchor else ""))
+
+
+def elsewhere():
+    """The commands of tests/docs/elsewhere, each with the script that runs it."""
+    lines = [line for line in read("tests/docs/elsewhere").splitlines() if line and not line.startswith("#")]
+    return {command: script for script, command in (line.split(": ", 1) for line in lines)}
+
+
+def commands_of_blocks(text):
+    """The commands of a page's blocks ```sh, without their comments."""
+    lines = [line for block in SH_BLOCK.findall(text) for line in block.splitlines()]
+    return [re.sub(r"\s+#.*", "", line).strip() for line in lines if line.strip()]
+
+
+def idle_commands(name, text):
+    """A line for each command that a page shows and nobody runs."""
+    if re.search(r"(?m)^    \$ ", text) and name not in re.search(r'"python3 -m tests\.docs\.shown (.*?)"', read(".ci/steps.py")).group(1).split():
+        yield "%s: tests/docs/shown.py doesn't run its commands: see .ci/steps.py" % name
+    for command in commands_of_blocks(text):
+        if command not in elsewhere() and not can_run(command):
+            yield "%s: nothing runs `%s`: name in tests/docs/elsewhere the script that does" % (name, command)
+
+
+def stale_commands(names):
+    """A line for each command of tests/docs/elsewhere that no page shows, or whose script isn't there or in GATE."""
+    shown = {command for name in names for command in commands_of_blocks(read(name))}
+    for command, script in elsewhere().items():
+        if command not in shown:
+            yield "tests/docs/elsewhere: no page shows `%s`" % command
+        names = (script, script[:-len(".py")].replace("/", "."))  # by its place, or as a module
+        if not os.path.exists(os.path.join(TOP, script)) or not any(name in read("docs/GATE.md") for name in names):
+            yield "tests/docs/elsewhere: %s is no script that docs/GATE.md names" % script
+
+
+def long_readme(name, text):
+    """A line for a README that is too long or too wide."""
+    lines = text.splitlines()
+    if name == "README.md" and (len(lines) > 160 or max(map(len, lines)) > 120):
+        yield "%s: %d lines of at most %d characters: it may have 160 of 120" % (name, len(lines), max(map(len, lines)))
+
+
+def dependencies():
+    """Of each crate of the product, those of them that it depends on, as crates.txt says."""
+    lines = [line for line in read("crates.txt").split("# Tests")[0].splitlines() if line and not line.startswith("#")]
+    listed = dict(line.split(":") for line in lines)
+    return {name: [other for other in others.split() if other in listed] for name, others in listed.items()}
+
+
+def below(crates, name):
+    """All that a crate depends on."""
+    return set(crates[name]).union(*(below(crates, other) for other in crates[name]))
+
+
+def level(crates, name):
+    """How many crates are below a crate, one upon the other."""
+    return max((level(crates, other) + 1 for other in crates[name]), default=0)
+
+
+def picture():
+    """The crates by their levels, each with those that it depends on, but for those that it reaches by another."""
+    crates = dependencies()
+    width = max(map(len, crates))
+    lines, last = [], None
+    for name in sorted(crates, key=lambda name: -level(crates, name)):
+        reached = set().union(*(below(crates, other) for other in crates[name]))
+        others = ", ".join(other for other in crates[name] if other not in reached)
+        number = level(crates, name)
+        arrow = "--> " + others if others else ""
+        lines.append(("%3s  %-*s %s" % ("" if number == last else number, width, name, arrow)).rstrip())
+        last = number
+    return "```text\n%s\n```\n" % "\n".join(lines)
+
+
+def wrong_picture(name, text):
+    """A line for a page of the crates that hasn't their picture."""
+    if name.endswith("ARCHITECTURE.md") and picture() not in text:
+        yield "%s: the picture of the crates has to be\n%s" % (name, picture())
+
+FAULTS = (long_sentences, phrases, dead_links, idle_commands, wrong_picture, long_readme)
+LONG = " ".join(["word"] * MOST_WORDS)
+# A page, and how many faults each of FAULTS finds in it.
+TRIALS = [
+    ("right.md", LONG + ".\n- %s\n- %s\n# %s\n| %s | x |\n\n    %s x\n" % ((LONG,) * 5), (0, 0, 0, 0, 0, 0)),
+    ("right.md", "See `%s x` in [%s](#a-b), 1.5 or a.b too\n\n# A b!\n" % (LONG, "`x y`"), (0, 0, 0, 0, 0, 0)),
+    ("long.md", LONG + " x.\n", (1, 0, 0, 0, 0, 0)),
+    ("long.md", "  - x\n    " + LONG + "\n", (1, 0, 0, 0, 0, 0)),
+    ("long.md", LONG + "\nx e.txt 1.5 `a. b`.\n", (1, 0, 0, 0, 0, 0)),
+    ("long.1", ".SH NAME\n%s\n.B x\ny.\n.TP\n.B z\n%s\n" % (LONG, LONG), (1, 0, 0, 0, 0, 0)),
+    ("phrase.md", "A want\nof memory.\n\n| want of memory | `want of memory` |\n", (0, 2, 0, 0, 0, 0)),
+    ("link.md", "[a](docs/NOWHERE.md) [b](docs/GATE.md#nowhere) [c](#nowhere) [d](docs/GATE.md#the-budget)\n", (0, 0, 3, 0, 0, 0)),
+    ("command.md", "    $ cadf\n\n```sh\nno-such-command   # why\npython3 -m tests.no\npython3 -m tests\n```\n", (0, 0, 0, 3, 0, 0)),
+    ("ARCHITECTURE.md", "```text\n  0  cadf\n```\n", (0, 0, 0, 0, 1, 0)),
+    ("README.md", "x\n\n" * 81, (0, 0, 0, 0, 0, 1)),
+    ("README.md", "    " + "x" * 117 + "\n", (0, 0, 0, 0, 0, 1)),
+]
+
+
+def blind_faults():
+    """A line for each trial in which not just the right faults are found."""
+    for name, text, expected in TRIALS:
+        found = tuple(len(list(fault(name, text))) for fault in FAULTS)
+        if found != expected:
+            yield "the trial %s %r: found %r, not %r" % (name, text[:40], found, expected)
+
+
+def main():
+    names = tracked()
+    pages = [name for name in names if PAGES.fullmatch(name)]
+    found = [*blind_faults(), *stale_commands(pages)]
+    for name in names:
+        if name in pages:
+            found += [line for fault in FAULTS for line in fault(name, read(name))]
+        elif name.endswith(".md"):
+            found += dead_links(name, read(name))
+    print("".join("pages: %s\n" % line for line in found), end="")
+    if found:
+        sys.exit("pages: %d faults" % len(found))
+    print("pages: %d pages have no fault, and each of %d trials was judged rightly" % (len(pages), len(TRIALS)))
+
+
+if __name__ == "__main__":
+    main()

@@ -1,0 +1,147 @@
+"""Looks up the public calls, their clauses and the files of definitions that a page of the documentation names.
+
+    python3 -m tests.docs.promises PAGE...
+
+A call is named in backticks by its path, `crate::module::call`, or with its clauses, `call (clause, clause)`, or with
+others, `call, call (clause)`. Each such call must stand in the sources, with each of these clauses, where those outside
+its crate can reach it; so must each law of the sources, and each call and type that is named by one word, with `_` or a
+capital letter, and is no definition. Each file, `crate/specs/Name.antt` or `specs/Name.antt`, must stand in the folder
+of a crate.
+
+A table of definitions, as in docs/AUDIT.md, has rows with the names, the file and its length in lines without comments,
+imports and blanks. The names must be defined there, and the length and the sums above the tables must be right. What
+such a file imports of the crates must be in a table too.
+
+Then compares the list of public calls of docs/ARCHITECTURE.md with the sources and with the tables of calls, as
+tests/docs/public_calls.py says.
+"""
+import collections
+import glob
+import os
+import re
+import sys
+
+from tests import TOP
+from tests.docs.public_calls import uncalled
+from tests.docs.reachable import is_reachable, unreached_laws
+
+ITEM = re.compile(r"\b(?:fn|struct|enum|trait|mod) (\w+)")
+CLAUSE = re.compile(r"\bensures (\w+) \{")
+NAMED = re.compile(r"`((?:[\w:]+, )*[\w:]+) \(([\w,; ]+)\)`")
+PATH = re.compile(r"`(\w+(?:::\w+)+)`")
+SEVERAL = re.compile(r"`((?:[\w:]+, )+[\w:]+)`")
+WORD = re.compile(r"`(\w*[A-Z_]\w*)`")
+DEFINED = re.compile(r"(?m)^(?:abbrev |unfoldable )*pub (?:record |data )?(\w+)")
+FILE = re.compile(r"`((?:\w+/)?specs/[\w/]+\.antt)`")
+IMPORT = re.compile(r"(?m)^(?:pub )?use [^\n{]*(?:\{[^}]*\})?.*\n")
+AUDITED = re.compile(r"(?m)^\| (`.*`) \| `(\w+)/(specs/\w+\.antt)` \| (\d+) \|")
+IMPORTED = re.compile(r"use Rattle\.(cadf_\w+)\.(specs\.\w+)(?=\.\{| as |\s|$)", re.M)
+SUM = re.compile(r"([\d,]+) lines in (\d+) files")
+
+
+def clauses():
+    """Of each name of an item of the sources, the names of the clauses behind it, up to the next item."""
+    found = collections.defaultdict(set)
+    for path in glob.glob(os.path.join(TOP, "crates", "*", "src", "**", "*.rt"), recursive=True):
+        with open(path, encoding="utf-8") as file:
+            parts = ITEM.split(file.read())
+        for name, behind in zip(parts[1::2], parts[2::2]):
+            found[name] |= set(CLAUSE.findall(behind))
+        found[os.path.basename(path)[:-3]] |= set()
+    return found
+
+
+def definitions():
+    """The names that the crates define in specs/."""
+    found = set()
+    for path in glob.glob(os.path.join(TOP, "crates", "*", "specs", "**", "*.antt"), recursive=True):
+        with open(path, encoding="utf-8") as file:
+            found |= set(DEFINED.findall(file.read()))
+    return found
+
+
+def unreached(text, found):
+    """What the text names, and stands where nothing outside its crate can reach it."""
+    lists = [calls for calls, _ in NAMED.findall(text)] + SEVERAL.findall(text)
+    paths = {call for calls in lists for call in calls.split(", ")} | set(PATH.findall(text))
+    words = (set(WORD.findall(text)) & set(found)) - definitions()
+    for name in sorted(paths | words):
+        if name.split("::")[-1] in found and not is_reachable(name):
+            yield "nothing outside its crate reaches %s" % name
+
+
+def unnamed(text, found):
+    """What the text names, and doesn't stand."""
+    for calls, named in NAMED.findall(text):
+        for call in calls.split(", "):
+            name = call.split("::")[-1]
+            if name not in found:
+                yield "no call %s" % call
+            for clause in re.split("[,;] ", named):
+                if name in found and clause not in found[name]:
+                    yield "no clause %s of %s" % (clause, call)
+    for path in PATH.findall(text):
+        if path.split("::")[-1] not in found:
+            yield "nothing at %s" % path
+    for path in FILE.findall(text):
+        folder = "" if path.startswith("specs/") else path.split("/")[0]
+        pattern = os.path.join(TOP, "crates", "" if folder else "*", path)
+        if not glob.glob(pattern):
+            yield "no file %s" % path
+
+
+def audited(names, crate, path, length):
+    """What is wrong with a row of a table of definitions, whose file is there."""
+    with open(os.path.join(TOP, "crates", crate, path), encoding="utf-8") as file:
+        text = file.read()
+    for name in re.findall(r"`(\w+)`", names):
+        if not re.search(r"\bpub (?:record |data )?%s\b" % name, text):
+            yield "%s/%s doesn't define %s" % (crate, path, name)
+    lines = [line.strip() for line in IMPORT.sub("", text).splitlines()]
+    count = sum(bool(line) and not line.startswith("--") for line in lines)
+    if count != int(length):
+        yield "%s/%s has %d lines" % (crate, path, count)
+
+
+def unlisted(rows):
+    """The files that those of the rows import, and that no row names."""
+    listed = {(row[1], row[2]) for row in rows}
+    for crate, path in sorted(listed):
+        with open(os.path.join(TOP, "crates", crate, path), encoding="utf-8") as file:
+            for other, module in IMPORTED.findall(file.read()):
+                if (other, module.replace(".", "/") + ".antt") not in listed:
+                    yield "%s/%s imports %s of %s, which is in no table" % (crate, path, module, other)
+
+
+def unaudited(text):
+    """What is wrong with the tables of definitions, and with their sums."""
+    yield from unlisted(row for row in AUDITED.findall(text) if os.path.exists(os.path.join(TOP, "crates", *row[1:3])))
+    for section in text.split("\n## "):
+        rows = [row for row in AUDITED.findall(section) if os.path.exists(os.path.join(TOP, "crates", *row[1:3]))]
+        for row in rows:
+            yield from audited(*row)
+        right = (format(sum(int(row[3]) for row in rows), ","), str(len(rows)))
+        if rows and SUM.findall(section) != [right]:
+            yield "the definitions have %s lines in %s files" % right
+
+
+def main():
+    found, missing = clauses(), 0
+    found.update((name, set()) for name in os.listdir(os.path.join(TOP, "crates")))
+    for page in sys.argv[1:]:
+        with open(page, encoding="utf-8") as file:
+            text = file.read()
+        for line in [*unnamed(text, found), *unreached(text, found), *unaudited(text)]:
+            print("check-promises: %s: %s" % (page, line))
+            missing += 1
+        print("check-promises: %s names %d calls with clauses, %d paths, %d files" % (
+            page, len(NAMED.findall(text)), len(PATH.findall(text)), len(FILE.findall(text))))
+    for line in [*uncalled(), *("nothing outside %s reaches its law %s" % pair for pair in unreached_laws())]:
+        print("check-promises: %s" % line)
+        missing += 1
+    if missing:
+        sys.exit("check-promises: %d are missing" % missing)
+
+
+if __name__ == "__main__":
+    main()

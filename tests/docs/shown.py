@@ -1,0 +1,142 @@
+"""Runs the commands that a page of the documentation shows, and compares what they write with what it shows.
+
+    python3 -m tests.docs.shown [--commands] PAGE...
+
+A block is indented by four spaces. A line `$ command` is run by bash, in one folder for the whole page, with
+the built command first on the path; a here-document goes on to its line END. The lines below it, up to the
+next command or the block's end, are what the command writes to standard output and standard error together;
+a line `..` stands for any lines. The tools are on the path too. A block with a program that need not be on each machine
+is left out where it is not there, and the last line names the program.
+
+A block without `$ ` has commands for the top of the repository: other steps of CI run them, and here the file that each
+names first has to be one that can be run. With --commands that isn't looked at, and only the lines `$ command` are run:
+for pages that are installed. `tests/docs/pages.py` says which pages have to be here.
+"""
+import argparse
+import importlib.util
+import os
+import shutil
+import subprocess
+import sys
+import tempfile
+
+from tests import TOP
+
+FOLDERS = [os.path.join(TOP, "crates", "cadf", "out"), os.path.join(TOP, "tools")]
+NOT_EVERYWHERE = ("jq", "ssh-keygen")
+
+
+def blocks(page):
+    """The indented blocks of the page, as lists of (number, line)."""
+    block = []
+    with open(page, encoding="utf-8") as lines:
+        for number, line in enumerate(lines, 1):
+            if line.startswith("    "):
+                block.append((number, line[4:].rstrip("\n")))
+            elif block:
+                yield block
+                block = []
+    if block:
+        yield block
+
+
+def calls(block):
+    """The commands of a block, as (number, command, lines shown below it)."""
+    at = 0
+    while at < len(block):
+        number, line = block[at]
+        at += 1
+        if not line.startswith("$ "):
+            continue
+        command = [line[2:]]
+        if "<<'END'" in line:
+            while block[at][1] != "END":
+                command.append(block[at][1])
+                at += 1
+            command.append("END")
+            at += 1
+        shown = []
+        while at < len(block) and not block[at][1].startswith("$ "):
+            shown.append(block[at][1])
+            at += 1
+        yield number, "\n".join(command), shown
+
+
+def is_alike(written, shown):
+    """Whether the lines are those that are shown, where `..` stands for any."""
+    if not shown:
+        return not written
+    if shown[0] == "..":
+        return any(is_alike(written[at:], shown[1:]) for at in range(len(written) + 1))
+    return bool(written) and written[0] == shown[0] and is_alike(written[1:], shown[1:])
+
+
+def can_run(line):
+    """Whether the line runs a file of the repository: one that can be run by itself, or a module of the tests."""
+    words = line.split()
+    if words[:2] == ["python3", "-m"] and words[2].split(".")[0] == "tests":
+        return importlib.util.find_spec(words[2]) is not None
+    path = os.path.join(TOP, words[0])
+    return os.path.isfile(path) and os.access(path, os.X_OK)
+
+
+def absent_program(block):
+    """A program that a command of the block runs and that is not on this machine, or None."""
+    words = {word for _, line in block if line.startswith("$ ") for word in line.split()}
+    return next((name for name in NOT_EVERYWHERE if name in words and shutil.which(name) is None), None)
+
+
+def check_block(page, block):
+    """Ends with the first line that can't be run, of a block without `$ `."""
+    if not any(line.startswith("$ ") for _, line in block):
+        for number, line in block:
+            if not can_run(line):
+                sys.exit("check-docs: %s:%d: %s can't be run" % (page, number, line.split()[0]))
+
+
+def run_block(page, block, folder):
+    """Runs the block's commands; the number of them, or the first that writes something else."""
+    path = os.pathsep.join(FOLDERS + [os.environ["PATH"]])
+    count = 0
+    for count, (number, command, shown) in enumerate(calls(block), 1):
+        done = subprocess.run(["bash", "-c", command], cwd=folder, env=dict(os.environ, PATH=path, TOP=TOP),
+                              stdin=subprocess.DEVNULL, stdout=subprocess.PIPE, stderr=subprocess.STDOUT)
+        written = done.stdout.decode("utf-8", "replace").split("\n")
+        if written[-1] == "":
+            written.pop()
+        if not is_alike(written, shown):
+            sys.exit("check-docs: %s:%d: %s\nwrote:\n%s" % (page, number, command, "\n".join(written)))
+    return count
+
+
+def run_page(page, commands_alone):
+    """Runs the page's blocks; the number of commands, and the programs that are not here, whose blocks were left out."""
+    count, absent = 0, set()
+    with tempfile.TemporaryDirectory() as folder:
+        for block in blocks(page):
+            if not commands_alone:
+                check_block(page, block)
+            program = absent_program(block)
+            if program:
+                absent.add(program)
+            else:
+                count += run_block(page, block, folder)
+    return count, absent
+
+
+def main():
+    parser = argparse.ArgumentParser(description=__doc__, formatter_class=argparse.RawDescriptionHelpFormatter)
+    parser.add_argument("--commands", action="store_true", help="for pages that are installed")
+    parser.add_argument("pages", metavar="PAGE", nargs="+")
+    options = parser.parse_args()
+    absent = set()
+    for name in options.pages:
+        count, its = run_page(os.path.join(TOP, name), options.commands)
+        absent |= its
+        print("check-docs: %s: %d commands do what it shows" % (name, count))
+    if absent:
+        print("check-docs: blocks with programs that are not here were left out: %s" % " ".join(sorted(absent)))
+
+
+if __name__ == "__main__":
+    main()

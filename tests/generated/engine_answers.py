@@ -1,0 +1,55 @@
+"""What the driver of engines answers: generated command lines as calls of engines over memory, with readers and writers
+that cut, readers whose bytes can be borrowed, and their answers by the second implementation.
+
+Each of `KINDS` makes a driver's name, a call with its words and the fields of its answer.
+"""
+from tests.generated.generate import KINDS_WITH_SKETCHES, Case
+from tests.reference.command import DIRECTORY, OPTIONS, Call, Usage, answer
+
+LARGEST = 20000  # bytes of a file; a larger one takes too many reads
+LONGEST_PIECE = 9
+
+
+def engine(call):
+    """The name of the engine of a command line, and its own words."""
+    name = "run_" + call.command.decode().replace("-", "_")
+    own = {
+        b"join": lambda: [call.log or b""], b"rehearse": lambda: [call.log, call.sites], b"rule": lambda: call.ruling,
+        b"show": lambda: ["conflicts" if call.conflicts else "log"],
+        b"sketch": lambda: [call.given.get(option, b"") for option in OPTIONS[b"sketch"]]}
+    return name, own.get(call.command, lambda: [])()
+
+
+def reader(content, piece):
+    """The words of a reader, whose bytes can be borrowed if a piece has none; at a folder the first read fails."""
+    return [b"", max(piece, 1), 1] if content is DIRECTORY else [content, piece, 0]
+
+
+def called(case, pieces):
+    """The call that the case's command line stands for, with its words and the fields of its answer, or None.
+
+    Words that are refused before anything is read, and files that are not there, come to no engine."""
+    wanted = answer(case.words, case.files)
+    try:
+        call = Call(case.words)
+    except Usage:
+        return None
+    contents = [case.files.get(name) for name in call.files]
+    if wanted.status == 2 or None in contents or any(one is not DIRECTORY and len(one) > LARGEST for one in contents):
+        return None
+    name, own = engine(call)
+    words = [next(pieces), "never", 0, *own, *(word for one in contents for word in reader(one, next(pieces)))]
+    if wanted.status == 0:
+        return [name, *words], ["ok", wanted.output]
+    return ["fault", name, *words], [wanted.status, wanted.error.decode()[len("cadf: "):-1]]
+
+
+def engines(chance):
+    """A call of an engine; those of the command's cases that come to none are left out."""
+    pieces = iter(lambda: chance.randint(0, LONGEST_PIECE), -1)
+    made = None
+    while made is None:
+        made = called(Case(KINDS_WITH_SKETCHES, chance.randrange(2 ** 32), 0), pieces)
+    return ("engine", *made)
+
+KINDS = [engines]

@@ -1,0 +1,607 @@
+"""Generated cases: the words of a call, and the contents of the files in its folder."""
+import glob
+import os
+import random
+
+from tests import TOP
+from tests.generated import odd_documents, odd_events, odd_files, odd_inventories, odd_nodes, odd_sketches, schedules
+from tests.generated.odd_events import chain, event
+from tests.generated.odd_files import (
+    atoms_of, damaged, documents_told, file_with, grounded_part, resealed, some_carrier, some_file, some_file_of,
+    some_head, with_rulings,
+)
+from tests.generated.odd_values import (
+    any_value, good_name, good_time, nested, number, number_near_a_border, odd_name, odd_text, time,
+)
+from tests.generated.spelling import spelled_oddly
+from tests.reference.command import DIRECTORY, WORDS_WANTED
+from tests.reference.inventory_files import digest_of, inventory_of, inventory_with
+from tests.reference.json_text import quoted, read_canonical, spelled
+from tests.reference.sealed_files import sealed
+from tests.reference.shown_texts import log_text
+from tests.reference.sketch_files import sketch_file, sketch_with
+
+ODD_JSON = [
+    b"nul", b"nulL", b"True", b"tru", b"truex", b"falsee", b"[,]", b"[1,]", b"[1 2]", b"{,}", b'{"a"}', b'{"a":}',
+    b'{"a":1,}', b"{1:1}", b"{'a':1}", b'{"a" :1}', b"[1,,2]", b"[", b"]", b"{", b"}", b"[1}", b'{"a":1]', b"//x",
+    b"/**/1", b"#", b"\x0c1", b"\xc2\xa01", b"1;", b"undefined", b'{"a":1 "b":2}', b'"a""b"', b"[null true]",
+    b"{null:1}", b'{"":1}', b'{"a":{"a":{"a":1}},"a":2}', b'{"$serde_json::private::Number":"5"}',
+    b'{"$serde_json::private::Number":"1.5"}', b'{"$serde_json::private::RawValue":"[1]"}',
+    b'{"$serde_json::private::Number":"x","b":1}']
+ODD_INPUTS = [
+    b"", b" ", b"\n", b"CADF", b"CADF-", b"CADF-\n", b"cadf-\n", b" CADF-", b"CADF_REPLICA 1\n", b"CADF-REPLICA 1\n",
+    b'CADF-REPLICA 1\nL "g"\n', b"\xef\xbb\xbfCADF-REPLICA 1\n", b"CADF-REPLICA 1\n\n", b"\x00",
+    b'CADF-REPLICA 2\nL "g"\n', b"CADF-REPLICA 2\n", b"CADF-REPLICA 2", b'CADF-REPLICA 2\nL "g"\n[1,0,"E"]\n',
+    b'CADF-REPLICA 3\nL "g"\n', b"null", b"0", b'""', b"[]", b"{}"]
+NO_DIGESTS = inventory_of("g", [])
+TOKENS = [b"{", b"}", b"[", b"]", b",", b":", b'"', b'"id"', b'"events"', b'"g"', b"1", b" ", b"null"]
+LIKELY_WORDS = ["a", "b", "c", "g", "e", "i", "nothere", "folder", "-", "--", "--log", "--log=g", "--log="]
+WORDS = LIKELY_WORDS + [
+    "--log=\x7f", "--log=" + "x" * 1024, "--log=" + "x" * 1025, "--conflicts", "--conflicts=1", "--nope", "-l", b"\xff", "",
+    "-x", "--log=h", b"--log=\xff", "--log=-", "--log=-x", "--log=a=b", "--log=\u00e9", "--log=\n"]
+
+
+def example_contents():
+    contents = []
+    for path in sorted(glob.glob(os.path.join(TOP, "examples", "*.json"))):
+        with open(path, "rb") as file:
+            contents.append(file.read())
+    return contents
+
+EXAMPLES = example_contents()
+
+
+def reading(chance, data):
+    """A call that reads one input."""
+    return chance.choice([
+        ["show", "a"], ["show", "a"], ["show", "a"], ["show", "--conflicts", "a"], ["check", "a"], ["join", "a"],
+        ["join", "--log", "g", "a"], ["missing", "a", "a"], ["inventory", "a"], ["missing-by", "a", "i"]]), \
+        {"a": data, "i": NO_DIGESTS}
+
+
+def telling(chance, data):
+    """A call that reads one document, or joins it with another."""
+    return chance.choice([
+        ["show", "a"], ["show", "--conflicts", "a"], ["check", "a"], ["join", "a"], ["join", "a", "b"], ["join", "b", "a"]]), \
+        {"a": data, "b": spelled_oddly(chance, odd_events.document(chance))}
+
+
+def log_with(member):
+    return b'{"id":"g","events":[],' + member + b"}"
+
+
+def numbers(chance):
+    first = (number(chance) if chance.random() < 0.8 else number_near_a_border(chance)).encode()
+    second = number(chance).encode()
+    end = chance.choice([b"]}", b"]", b""])
+    return reading(chance, chance.choice([
+        first, log_with(b'"x":' + first), log_with(b'"x":%s,"x":%s' % (first, second)),
+        b'{"id":"g","events":[],"x":[' + first + b"," + second + end,
+        file_with(chance, ["P", "n", first.decode()]), sealed(some_head(chance) + [b'["P","n",%s]' % first]),
+        sealed(some_head(chance) + [b'[%s,0,"P"]' % first])]))
+
+
+def texts(chance):
+    text = odd_text(chance).data
+    try:
+        line = spelled(["P", "x", text.decode()]).encode()
+    except UnicodeDecodeError:
+        line = b'["P","x",%s]' % text
+    return reading(chance, chance.choice([
+        text, log_with(b'"x":' + text), log_with(text + b":1"), b'{"id":%s,"events":[]}' % text,
+        sealed([some_head(chance)[0], b"L " + text]), sealed(some_head(chance) + [b'["P",%s,"1"]' % text]),
+        sealed(some_head(chance) + [line]), sealed(some_head(chance) + [b'[1,0,"P"]', b"[2,0,%s]" % text, b'[3,1,"1"]'])]))
+
+
+def deep_document(chance):
+    deep = nested(chance, chance.choice([98, 99, 100]))
+    made = event(chance)
+    kind = chance.randrange(5)
+    if kind == 0:
+        return {"id": "g", "events": [], "p": nested(chance, chance.choice([99, 100, 101, 125, 126, 127, 128]))}
+    if kind == 1:
+        member, value = odd_events.deep_member(chance, [-1, 0, 1, 2, 22, 23, 24, 25])
+        made[member] = value
+        return chance.choice([made, {"id": "g", "events": [made]}])
+    if kind == 2:
+        member, key = chance.choice(odd_events.ENTITY_MEMBERS)
+        return {"id": "g", "events": [], member: [{key: "a", "d": deep}]}
+    if kind == 3:
+        step = {"role": "relay", "reporterId": "s", "d": deep}
+        made.update(chance.choice([{"reporterchain": [step]}, {"reporterchains": [[step]]}]))
+    else:
+        made.update({"attachments": [{"d": deep}], "x": nested(chance, chance.choice([98, 99, 99]))})
+    return {"id": "g", "events": [made]}
+
+
+def deep_file(chance):
+    deep = nested(chance, chance.choice([97, 98, 99, 100])).data.decode()
+    carrier = some_carrier(chance, "e")
+    kind = chance.randrange(4)
+    if kind == 0:
+        return file_with(chance, ["P", "n", nested(chance, chance.choice([99, 100, 101, 126, 127, 128])).data.decode()])
+    if kind == 1:
+        return file_with(chance, ["E", "e", spelled(dict(read_canonical(carrier[2]), zz="DEEP")).replace('"DEEP"', deep)])
+    if kind == 2:
+        step = '{"d":%s,"reporterId":"s","role":"relay"}' % deep
+        plain = '{"reporterId":"s","role":"relay"}'
+        return file_with(chance, carrier, carrier + chance.choice(
+            [["C", step], ["C", plain, step], ["A", '{"d":%s}' % deep], ["A", deep]]))
+    letter, key = chance.choice([("R", "id"), ("G", "id"), ("M", "metricId")])
+    return file_with(chance, [letter, "a", '{"d":%s,"%s":"a"}' % (deep, key)])
+
+
+def depths(chance):
+    kind = chance.randrange(10)
+    if kind == 0:
+        return reading(chance, nested(chance, chance.choice([99, 100, 126, 127, 128, 129, 200])).data)
+    return reading(chance, spelled_oddly(chance, deep_document(chance)) if kind < 6 else deep_file(chance))
+
+
+def times(chance):
+    made = event(chance)
+    step = {"role": "relay", "reporterId": "s", "reporterTime": time(chance)}
+    if chance.random() < 0.2:
+        carrier = some_carrier(chance, "e")
+        if chance.random() < 0.4:
+            return reading(chance, file_with(chance, carrier, carrier + ["C", spelled(step)]))
+        body = dict(read_canonical(carrier[2]), eventTime=time(chance))
+        return reading(chance, file_with(chance, ["E", "e", spelled(body)]))
+    if chance.random() < 0.7:
+        made["eventTime"] = time(chance)
+    else:
+        made["reporterchain"] = [step]
+    return reading(chance, spelled_oddly(chance, {"id": "g", "events": [made]}))
+
+
+def orders(chance):
+    """Events whose order is by their instants, and at one instant by their identifiers."""
+    made = []
+    for place in range(chance.randint(2, 8)):
+        made.append(event(chance, good_name(chance) + chance.choice(["", "a", str(place)])))
+        near = "2024-03-01T%02d:00:00" % chance.choice([11, 12, 13])
+        near += chance.choice(["", ".0", ".5", ".000000001"]) + chance.choice(["Z", "+01:00", "-01:00", "+0100"])
+        made[-1]["eventTime"] = chance.choice([near, good_time(chance)])
+    return reading(chance, spelled_oddly(chance, {"id": "g", "events": made}, chance.choice([0, 0.1])))
+
+
+def name_in_a_document(chance, name):
+    made = event(chance)
+    document = {"id": "g", "events": [made]}
+    party = chance.choice(odd_events.PARTIES)
+    chance.choice([
+        lambda: document.update(id=name),
+        lambda: made.update({chance.choice(["id", "action", "initiatorId", "targetId", "observerId"]): name}),
+        lambda: made.update({party: {"id": name}}),
+        lambda: made.update(tags=["a", name]),
+        lambda: made.update(reporterchain=[dict({"role": "relay"}, **chance.choice(
+            [{"reporterId": name}, {"reporter": {"id": name}}]))]),
+        lambda: document.update({name: any_value(chance, 1)}),
+        lambda: document.update(resources=[{"id": name}], metrics=[{"metricId": name}])])()
+    return spelled_oddly(chance, document, chance.choice([0, 0.3]))
+
+
+def names(chance):
+    name = odd_name(chance)
+    kind = chance.randrange(9)
+    if kind < 7:
+        return reading(chance, name_in_a_document(chance, name))
+    if kind == 7:
+        atom = chance.choice([["P", name, "1"], ["R", name, spelled({"id": name})], ["M", name, spelled({"metricId": name})],
+                              ["E", name, some_carrier(chance)[2]]])
+        log = quoted(chance.choice(["g", name])).encode()
+        made = file_with(chance, atom).split(b"\n")
+        made[1] = b"L " + log
+        return reading(chance, resealed(b"\n".join(made)))
+    word = chance.choice([name.replace("\x00", ""), name.replace("\x00", ""), "g"])  # no word has a zero byte
+    document = chance.choice([event(chance), {"id": name, "events": []}, {"id": word, "events": [event(chance)]}])
+    return chance.choice([["join", "--log=" + word, "a"], ["join", "--log", word, "a"]]), \
+        {"a": spelled_oddly(chance, document)}
+
+
+def events(chance):
+    made = event(chance)
+    for _ in range(chance.choice([0, 1, 1, 1, 2, 3])):
+        made = odd_events.broken(chance, made)
+    whole = chance.choice([
+        made, {"id": "g", "events": [made]}, {"id": "g", "events": [event(chance), made]},
+        {"id": "g", "events": [event(chance), made, odd_events.broken(chance, event(chance))]}])
+    if chance.random() < 0.1:
+        whole = odd_events.repeated(chance, whole)
+    return reading(chance, spelled_oddly(chance, whole, chance.choice([0, 0, 0.05, 0.3])))
+
+
+def documents(chance):
+    made = chance.choice([odd_events.odd_document, odd_events.document])(chance)
+    kind = chance.random()
+    if kind < 0.15:
+        made = odd_events.repeated(chance, made)
+    elif kind < 0.25:
+        made = chance.choice([[], [made], None, True, 7, "x", {}, {"events": []}, {"event": made}, {"id": "g"},
+                              {"events": None, "id": "g"}, {"Events": []}])
+    before = chance.choice([b""] * 8 + [b"\xef\xbb\xbf", b" ", b"\n\r\t "])
+    behind = chance.choice([b""] * 8 + [b"\n", b" \r\n\t", b"\x00", b"x", b",", b"\x0b", b"\xc2\xa0", b"{}"])
+    return reading(chance, before + spelled_oddly(chance, made, chance.choice([0, 0, 0.05, 0.3])) + behind)
+
+
+def as_input(chance, document):
+    """What the document tells, in one of the forms that an input may have."""
+    log = document["id"]
+    kind = chance.random()
+    if kind < 0.4:
+        return some_file_of(chance, log, atoms_of([document]))
+    if kind < 0.5 and document["events"]:
+        return spelled_oddly(chance, document["events"][0], chance.choice([0, 0.1]))
+    if kind < 0.6:
+        return log_text(log, atoms_of([document]))
+    return spelled_oddly(chance, document, chance.choice([0, 0.1]))
+
+
+def joins(chance):
+    files = {"folder": DIRECTORY}
+    for place, document in enumerate(documents_told(chance)):
+        if chance.random() < 0.06:
+            document["id"] = chance.choice(["h", "g ", "G", 'g"'])
+        data = as_input(chance, document)
+        files["f%d" % place] = damaged(chance, data) if chance.random() < 0.06 else data
+    inputs = [name for name in files if name != "folder"]
+    inputs += [chance.choice(inputs)] * chance.choice([0, 0, 1])
+    chance.shuffle(inputs)
+    for odd in ("nothere", "folder"):
+        if chance.random() < 0.03:
+            inputs.insert(chance.randint(0, len(inputs)), odd)
+    log = chance.choice([[]] * 12 + [["--log", "g"], ["--log=g"], ["--log", "g"], ["--log", "h"], ["--log", "g "]])
+    place = chance.choice([0, 1])
+    return ["join"] + inputs[:place] + log + inputs[place:], files
+
+
+def missings(chance):
+    told = documents_told(chance, 2, 5)
+    files = {}
+    for name in ("from", "to"):
+        atoms = atoms_of([document for document in told if chance.random() < 0.6])
+        if chance.random() < 0.3:
+            atoms = grounded_part(chance, atoms_of(told))
+        log = "g" if chance.random() < 0.96 else "h"
+        kind = chance.random()
+        if kind < 0.6:
+            files[name] = some_file_of(chance, log, atoms)
+        else:
+            document = dict(chance.choice(told), id=log)
+            files[name] = log_text(log, atoms) if kind < 0.75 else spelled_oddly(chance, document)
+        if chance.random() < 0.05:
+            files[name] = damaged(chance, files[name])
+        if chance.random() < 0.03:
+            files[name] = spelled_oddly(chance, event(chance))
+    operands = chance.choice([["from", "to"]] * 9 + [["to", "from"], ["from", "from"], ["from", "nothere"], ["nothere", "to"]])
+    return ["missing"] + operands, files
+
+
+def nearly(chance, digest):
+    """The digest with another digit, mostly behind its front."""
+    place = max(chance.randrange(64), chance.randrange(64))
+    other = b"f" if digest[place:place + 1] == b"0" else b"0"
+    return digest[:place] + other + digest[place + 1:]
+
+
+def some_digests(chance, atoms):
+    """Digests of a set, of a part of it or of other atoms."""
+    digests = sorted(digest_of(atom) for atom in atoms)
+    kind = chance.randrange(9)
+    if kind < 3:
+        return set(digests)
+    if kind == 3:
+        return {digest_of(atom) for atom in grounded_part(chance, atoms)}
+    if kind == 4:
+        return {digest for digest in digests if chance.random() < 0.5}
+    if kind == 5:
+        return set()
+    if kind == 6:
+        return {nearly(chance, digest) if chance.random() < 0.6 else digest for digest in digests}
+    others = {digest_of(atom) for atom in atoms_of(documents_told(chance))}
+    return others if kind == 7 else others | set(digests[::2])
+
+
+def inventories(chance):
+    """Calls of both commands, of which most are answered with a text."""
+    told = documents_told(chance, 1, 5)
+    atoms = atoms_of([document for document in told if chance.random() < 0.7])
+    files = {"folder": DIRECTORY, "from": as_input(chance, chance.choice(told))}
+    if chance.random() < 0.6:
+        files["from"] = some_file_of(chance, "g", atoms_of(told) if chance.random() < 0.7 else atoms)
+    if chance.random() < 0.05:
+        files["from"] = spelled_oddly(chance, event(chance))
+    if chance.random() < 0.3:
+        return ["inventory", "from" if chance.random() < 0.95 else chance.choice(["folder", "nothere"])], files
+    log = "g" if chance.random() < 0.94 else chance.choice(["h", "g ", "G"])
+    files["by"] = inventory_with(log, some_digests(chance, atoms))
+    operands = chance.choice([["from", "by"]] * 20 + [
+        ["by", "from"], ["by", "by"], ["from", "from"], ["from", "folder"], ["from", "nothere"], ["nothere", "by"],
+        ["folder", "by"], ["nothere", "folder"]])
+    return ["missing-by"] + operands, files
+
+
+def damaged_inventories(chance):
+    """An inventory with something odd in it, mostly where one is asked for."""
+    made = odd_inventories.odd_inventory(chance)
+    source = chance.choice([lambda: some_file(chance)] * 8 + [
+        lambda: some_file(chance, "h"), lambda: damaged(chance, some_file(chance), 1), lambda: made,
+        lambda: spelled_oddly(chance, event(chance))])()
+    return chance.choice([["missing-by", "a", "i"]] * 12 + [
+        ["missing-by", "i", "i"], ["inventory", "i"], ["check", "i"], ["join", "a", "i"], ["missing", "a", "i"]]), \
+        {"a": source, "i": made}
+
+
+def of_nearly(chance, told):
+    """The atoms of most of the documents, with some of the others."""
+    return atoms_of([document for document in told if chance.random() < chance.choice([0.2, 0.7, 0.9, 1])])
+
+
+def sketches(chance):
+    """Calls of both commands, of which most are answered with a text: sites that differ in much, in little and in nothing."""
+    told = documents_told(chance, 1, 5)
+    atoms, there = of_nearly(chance, told), of_nearly(chance, told)
+    if chance.random() < 0.2:
+        there = chance.choice([set(), atoms, grounded_part(chance, atoms)])
+    if chance.random() < 0.1:
+        atoms = set()
+    files = {"folder": DIRECTORY, "from": some_file_of(chance, "g", atoms)}
+    if chance.random() < 0.15:
+        files["from"] = as_input(chance, chance.choice(told))
+    if chance.random() < 0.3:
+        file = "from" if chance.random() < 0.95 else chance.choice(["folder", "nothere", "by"])
+        words = ["sketch", *odd_sketches.option_words(chance), file] if chance.random() < 0.5 else ["sketch", file]
+        if chance.random() < 0.3:
+            words.append(words.pop(1))
+        return words, dict(files, by=odd_sketches.some_sketch(chance))
+    digests = {digest_of(atom) for atom in there} if chance.random() < 0.9 else some_digests(chance, there)
+    layout = odd_sketches.some_layout(chance, len(atoms ^ there))
+    log = "g" if chance.random() < 0.94 else chance.choice(["h", "g ", "G"])
+    files["by"] = sketch_file(log, sketch_with(log, digests, *layout))
+    operands = chance.choice([["from", "by"]] * 20 + [
+        ["by", "from"], ["by", "by"], ["from", "from"], ["from", "folder"], ["from", "nothere"], ["nothere", "by"],
+        ["folder", "by"], ["nothere", "folder"]])
+    return ["missing-by-sketch"] + operands, files
+
+
+def damaged_sketches(chance):
+    """A sketch with something odd in it, mostly where one is asked for."""
+    made = odd_sketches.odd_sketch(chance)
+    source = chance.choice([lambda: some_file(chance)] * 8 + [
+        lambda: some_file(chance, "h"), lambda: damaged(chance, some_file(chance), 1), lambda: made,
+        lambda: spelled_oddly(chance, event(chance))])()
+    return chance.choice([["missing-by-sketch", "a", "i"]] * 12 + [
+        ["missing-by-sketch", "i", "i"], ["sketch", "i"], ["check", "i"], ["join", "a", "i"], ["missing", "a", "i"],
+        ["missing-by", "a", "i"]]), {"a": source, "i": made}
+
+
+def misleading_sketches(chance):
+    """A sketch whose cells, counts or digest are not those of one set."""
+    told = documents_told(chance, 1, 4)
+    atoms, there = of_nearly(chance, told), of_nearly(chance, told)
+    files = {"a": some_file_of(chance, "g", atoms), "i": odd_sketches.misleading_sketch(chance, there)}
+    if chance.random() < 0.25:
+        files = {"a": some_file_of(chance, "g", set()), "i": odd_sketches.single_cells(chance)}
+    return ["missing-by-sketch", "a", "i"], files
+
+
+def sketch_words(chance):
+    """Words of the two commands, of which some are no call."""
+    files = {"a": some_file(chance), "i": odd_sketches.some_sketch(chance), "g": NO_DIGESTS, "folder": DIRECTORY,
+             "e": spelled_oddly(chance, event(chance))}
+    command = chance.choice(["sketch"] * 6 + ["missing-by-sketch"] * 4 + ["sketc", "missing-by-", "inventory", "missing-by"])
+    options = odd_sketches.option_words(chance) if command == "sketch" or chance.random() < 0.1 else []
+    wanted = WORDS_WANTED.get(command.encode(), 1)
+    count = wanted if chance.random() < 0.8 else chance.randint(0, 3)
+    likely = ["a", "a", "a", "i", "i", "g", "e", "nothere", "folder", "-", "--"]
+    return [command, *options, *(chance.choice(likely) for _ in range(count))], files
+
+
+def shows(chance):
+    words = chance.choice([["show", "a"], ["show", "--conflicts", "a"], ["show", "--conflicts", "a"], ["show", "a", "--conflicts"],
+                           ["check", "a"]])
+    return words, {"a": some_file_of(chance, "g", atoms_of(documents_told(chance, 1, 6)))}
+
+
+def damages(chance):
+    if chance.random() < 0.5:
+        return reading(chance, odd_files.file_with_odd_lines(chance))
+    return reading(chance, odd_files.with_odd_end(chance, some_file(chance)))
+
+
+def atoms(chance):
+    return reading(chance, odd_files.odd_atoms_file(chance))
+
+
+def nodes(chance):
+    return reading(chance, odd_nodes.odd_nodes_file(chance))
+
+
+def bits(chance):
+    """A small file with one bit changed, its digest line made right again or not."""
+    documents = documents_told(chance, 1, 1)
+    whole = some_file_of(chance, "g", atoms_of(documents))
+    place = chance.randrange(len(whole))
+    changed = whole[:place] + bytes([whole[place] ^ 1 << chance.randrange(8)]) + whole[place + 1:]
+    return reading(chance, changed if chance.random() < 0.3 else resealed(changed))
+
+
+def formats(chance):
+    """The same few facts as files of both formats: the answer is that of one file of all of them."""
+    told = documents_told(chance, 2, 5)
+    parts = [atoms_of([document]) for document in told]
+    whole = set().union(*parts)
+    parts += [whole, grounded_part(chance, whole), set()]
+    files = {"f%d" % place: some_file_of(chance, "g", chance.choice(parts)) for place in range(chance.randint(2, 5))}
+    first, second = chance.sample(sorted(files), 2)
+    files["i"] = inventory_with("g", some_digests(chance, whole))
+    return chance.choice([
+        ["join", *files][:-1], ["join", *files][:-1], ["join", first], ["missing", first, second], ["missing", first, second],
+        ["missing-by", first, "i"], ["inventory", first], ["show", first], ["check", second]]), files
+
+
+def example_documents(chance):
+    data = chance.choice(EXAMPLES)
+    return reading(chance, data if chance.random() < 0.08 else damaged(chance, data))
+
+
+def example_joins(chance):
+    files = {}
+    for place, data in enumerate(chance.sample(EXAMPLES, chance.randint(1, 4))):
+        files["f%d" % place] = data if chance.random() < 0.8 else damaged(chance, data, 1)
+        if chance.random() < 0.3:
+            files["g%d" % place] = data.replace(b"success", b"failure").replace(b"unknown", b"pending")
+    return ["join"] + sorted(files), files
+
+
+def chains(chance):
+    made, long = event(chance), odd_events.long_chain(chance)
+    made.update(chance.choice([
+        {"reporterchain": long}, {"reporterchains": [chain(chance), long]},
+        {"reporterchain": long, "reporterchains": [long[:-1], long]}, {"reporterchains": [None] * 3 + [long]},
+        {"reporterchains": [[]] * 300 + [odd_events.odd_chain(chance)]},
+        {"reporterchains": [chain(chance) for _ in range(30)]}]))
+    return reading(chance, spelled_oddly(chance, {"id": "g", "events": [made]}))
+
+
+def json_texts(chance):
+    value = spelled_oddly(chance, any_value(chance, 4), chance.choice([0, 0.2]))
+    if chance.random() < 0.5:
+        value = damaged(chance, value, 1)
+    if chance.random() < 0.3:
+        value = chance.choice(ODD_JSON)
+    return reading(chance, chance.choice([value, log_with(b'"x":' + value), b'{"id":"g","x":' + value + b',"events":[]}']))
+
+
+def byte_texts(chance):
+    def some(pieces, least, most):
+        return b"".join(chance.choice(pieces) for _ in range(chance.randint(least, most)))
+
+    return reading(chance, chance.choice([
+        chance.choice([b"CADF-REPLICA 1\n", b"CADF-REPLICA 2\n"])[:chance.randint(0, 15)],
+        bytes(chance.randrange(256) for _ in range(chance.choice([0, 1, 2, 3, 5, 10, 50]))),
+        chance.choice(ODD_INPUTS),
+        b"CADF-" + some([bytes([byte]) for byte in b'REPLICA 12\n\rLgZ"[]'], 0, 40),
+        b"CADF-REPLICA %d\nL \"g\"\n" % chance.choice([1, 2]) + some([bytes([byte]) for byte in b'Z \n\r[]"PEn1,\xff0'], 0, 40),
+        some(TOKENS, 1, 14)]))
+
+
+def words(chance):
+    files = {"a": spelled_oddly(chance, odd_events.document(chance)), "b": some_file(chance), "c": b"{", "-": b"{}",
+             "-x": some_file(chance), "g": some_file(chance, "h"), "folder": DIRECTORY,
+             "e": spelled_oddly(chance, event(chance)), "i": NO_DIGESTS}
+    command = chance.choice([
+        "join", "join", "missing", "missing-by", "inventory", "show", "check", "rule", "Join", "", "joi", "missing-", "--log"])
+    behind = [chance.choice(LIKELY_WORDS if chance.random() < 0.6 else WORDS) for _ in range(chance.randint(0, 4))]
+    return [command] + behind, files
+
+
+def large(chance):
+    """Some hundred events in two inputs."""
+    count = chance.choice([50, 200, 600])
+    made = [event(chance, "e%d" % chance.randrange(count)) for _ in range(count)]
+    for one in made:
+        if chance.random() < 0.3:
+            one["reporterchains"] = [chain(chance) for _ in range(chance.randint(0, 6))]
+    cut = chance.randint(0, count)
+    first, second = {"id": "g", "events": made[:cut]}, {"id": "g", "events": made[cut:], "name": "x"}
+    mine, theirs = atoms_of([first]), atoms_of([second])
+    return chance.choice([
+        (["join", "a", "b"], {"a": spelled_oddly(chance, first), "b": spelled_oddly(chance, second)}),
+        (["missing", "a", "b"], {"a": some_file_of(chance, "g", mine | grounded_part(chance, theirs)),
+                                 "b": some_file_of(chance, "g", theirs)}),
+        (["join", "a", "b"], {"a": some_file_of(chance, "g", mine), "b": some_file_of(chance, "g", theirs)}),
+        (chance.choice([["show", "a"], ["show", "--conflicts", "a"], ["check", "a"]]),
+         {"a": some_file_of(chance, "g", mine | theirs)})])
+
+
+def doubled_names(chance):
+    return telling(chance, odd_documents.doubled(chance))
+
+
+def numbers_anywhere(chance):
+    return telling(chance, odd_documents.numbered(chance))
+
+
+def escapes_anywhere(chance):
+    return telling(chance, odd_documents.escaped(chance))
+
+
+def depths_anywhere(chance):
+    return telling(chance, odd_documents.deep(chance))
+
+
+def near_names(chance):
+    return telling(chance, odd_documents.near(chance))
+
+
+def far_members(chance):
+    return telling(chance, odd_documents.far(chance))
+
+
+def bare_documents(chance):
+    return telling(chance, odd_documents.bare(chance))
+
+
+def large_events(chance):
+    return telling(chance, odd_documents.large(chance))
+
+
+def faults_in_turn(chance):
+    return telling(chance, odd_documents.odd_in_turn(chance))
+
+
+def rules(chance):
+    """A call that rules, of which most name a value that is held."""
+    told = atoms_of(documents_told(chance, 2, 5))
+    atoms = with_rulings(chance, told)
+    keys = sorted({atom[:2] for atom in atoms if len(atom) == 3}) or [("E", "e1")]
+    letter, name = chance.choice(keys)
+    held = sum(atom[:2] == (letter, name) and len(atom) == 3 for atom in atoms)
+    place = str(chance.choice([*range(1, held + 1)] * 6 + [held + 1, 3]))
+    kind = chance.random()
+    if kind < 0.08:
+        letter = chance.choice(["", "e", "A", "C", "T", "U", "X", "EE", "EG", "\u0415", "G", "M", "P", "R", "-E"])
+    elif kind < 0.16:
+        name = chance.choice([odd_name(chance).replace("\x00", ""), "", "nothere", "\x7f", "events", "x" * 1024, "x" * 1025])
+    elif kind < 0.28:
+        place = chance.choice(["", "0", "00", "01", "9", "999999999", "1000000000", "+1", "-1", "1 ", " 1", "1.0", "1x", "x", "0x1",
+                               "\u0661", "18446744073709551617"])
+    elif kind < 0.31:
+        letter, name, place = chance.choice(["", "x", letter]), chance.choice(["", "\n", name]), chance.choice(["0", "x", place])
+    told_otherwise = as_input(chance, chance.choice(documents_told(chance)))
+    files = {"a": told_otherwise if chance.random() < 0.1 else some_file_of(chance, "g", atoms),
+             "d": damaged(chance, some_file(chance), 1), "folder": DIRECTORY}
+    file = chance.choice(["a"] * 20 + ["d", "folder", "nothere"])
+    words = ["rule", letter, name, place, file]
+    if chance.random() < 0.02:
+        words = chance.choice([words[:4], words + ["a"], ["rule", "--", *words[1:]], words[:1]])
+    return words, files
+
+
+def rehearsals(chance):
+    words, script = schedules.call(chance)
+    return words, {"script": script, "folder": DIRECTORY}
+
+# Each kind of case, and how many there are of it beside the others.
+KINDS = {
+    numbers: 8, texts: 8, depths: 8, times: 10, orders: 4, names: 8, events: 12, documents: 10, joins: 12, missings: 10,
+    shows: 10, damages: 12, atoms: 14, nodes: 20, bits: 8, formats: 8, example_documents: 8, example_joins: 2, chains: 3, json_texts: 8, byte_texts: 4,
+    words: 5, large: 1, inventories: 10,
+    damaged_inventories: 18, rules: 12,
+    doubled_names: 12, numbers_anywhere: 8, escapes_anywhere: 10, depths_anywhere: 10, near_names: 10, far_members: 10,
+    bare_documents: 12, faults_in_turn: 12, large_events: 6}
+KINDS_WITH_REHEARSALS = {**KINDS, rehearsals: 12}
+KINDS_WITH_SKETCHES = {**KINDS_WITH_REHEARSALS, sketches: 14, damaged_sketches: 16, misleading_sketches: 12, sketch_words: 5}
+
+
+class Case:
+    """The kind of a case, the words of its call and the contents of its files, all of whose names are bytes."""
+
+    def __init__(self, kinds, seed, number):
+        chance = random.Random("%d/%d" % (seed, number))  # a case depends on nothing but the kinds, its seed and number
+        kind, = chance.choices(list(kinds), list(kinds.values()))
+        words, files = kind(chance)
+        self.kind = kind.__name__
+        self.words = [word if isinstance(word, bytes) else word.encode() for word in words]
+        self.files = {name.encode(): content for name, content in files.items()}

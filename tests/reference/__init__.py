@@ -1,0 +1,1 @@
+"""The second implementation, written from docs/FORMATS.md alone."""

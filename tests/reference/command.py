@@ -1,0 +1,172 @@
+"""The command: what a call's words mean, and its exit status and streams."""
+from tests.reference import json_text
+from tests.reference.atoms import with_carriers
+from tests.reference.events import Fault, document, is_name
+from tests.reference.inventory_files import inventory_of, missing_by, read_inventory
+from tests.reference.rehearsal import read_script, rehearsal_text, sites_of
+from tests.reference.replica_files import file_of, read_file
+from tests.reference.rulings import check_key, place_of, ruled
+from tests.reference.shown_texts import check_line, conflict_text, log_text
+from tests.reference.sketch_files import cells_of, missing_by_sketch, read_sketch, salt_of, sketch_of
+
+DIRECTORY = object()  # stands for the content of a folder
+# How many words a command wants beside its options; `join` wants one or more.
+WORDS_WANTED = {b"missing": 2, b"missing-by": 2, b"inventory": 1, b"show": 1, b"check": 1, b"rehearse": 3,
+                b"rule": 4, b"sketch": 1, b"missing-by-sketch": 2}
+OPTIONS = {b"join": [b"--log"], b"sketch": [b"--cells", b"--salt"]}  # those with a value
+
+
+class Usage(Exception):
+    """The words are no call."""
+
+
+class Answer:
+    """An exit status and what was written; `error` is None where it is a text of clap's."""
+
+    def __init__(self, status, output, error):
+        self.status, self.output, self.error = status, output, error
+
+
+class Call:
+    """A call's command, options and files."""
+
+    def __init__(self, words):
+        try:
+            b"".join(word + b"\n" for word in words).decode()
+        except UnicodeDecodeError:
+            raise Usage
+        if not words or words[0] not in (b"join", *WORDS_WANTED):
+            raise Usage
+        self.command, self.given, self.conflicts, self.files = words[0], {}, False, []
+        self.rest = list(words[1:])
+        while self.rest:
+            self.take(self.rest.pop(0))
+        self.log = self.given.get(b"--log")
+        if len(self.files) != WORDS_WANTED.get(self.command, max(1, len(self.files))):
+            raise Usage
+        if self.command == b"rehearse":
+            self.log, self.sites, *self.files = self.files
+        if self.command == b"rule":
+            self.ruling = [word.decode() for word in self.files[:3]]
+            del self.files[:3]
+
+    def take(self, word):
+        """One word, and the one behind it where it is an option's value."""
+        option, is_joined, value = word.partition(b"=")
+        if word == b"-" or not word.startswith(b"-"):
+            self.files.append(word)
+        elif word == b"--":
+            self.files += self.rest
+            self.rest = []
+        elif self.command == b"show" and word == b"--conflicts" and not self.conflicts:
+            self.conflicts = True
+        elif option in OPTIONS.get(self.command, []) and option not in self.given:
+            self.given[option] = value if is_joined else self.value()
+        else:
+            raise Usage
+
+    def value(self):
+        if not self.rest or self.rest[0].startswith(b"-") and self.rest[0] != b"-":
+            raise Usage
+        return self.rest.pop(0)
+
+
+def read_input(data):
+    """The log and the atoms of an input."""
+    return read_file(data) if data.startswith(b"CADF-") else document(json_text.read(data))
+
+# What the second input of a command is read as, where it isn't read as any input.
+OF_A_KIND = {b"missing-by": read_inventory, b"missing-by-sketch": read_sketch}
+
+
+def loaded(number, data, read):
+    """What `read` makes of an input: its log, and its atoms or digests."""
+    if data is DIRECTORY:
+        raise Fault("input %d: read fault" % number, 3)
+    try:
+        return read(data)
+    except json_text.NotJson:
+        raise Fault("input %d: not JSON" % number)
+    except json_text.NotWhole:
+        raise Fault("input %d: a number is not whole" % number)
+    except Fault as fault:
+        raise Fault("input %d: %s" % (number, fault.said))
+
+
+def opened(call, files):
+    """The contents of a call's files; all are opened before one is read."""
+    for number, name in enumerate(call.files, 1):
+        if name not in files:
+            raise Fault("input %d: read fault" % number, 3)
+    return [files[name] for name in call.files]
+
+
+def inputs_of(call, files):
+    """The log and the contents of each input."""
+    reads = [read_input] * len(call.files)
+    reads[1:] = [OF_A_KIND[call.command]] if call.command in OF_A_KIND else reads[1:]
+    contents = opened(call, files)
+    return [loaded(number, data, read) for number, (data, read) in enumerate(zip(contents, reads), 1)]
+
+
+def log_written(call, logs):
+    """The log under which is written; every input that names a log must name that one."""
+    if call.command == b"join":
+        named = call.log.decode() if call.log is not None else next((log for log in logs if log is not None), None)
+    else:
+        named = None if None in logs else logs[0]
+    if named is None:
+        raise Fault("no log named")
+    for number, log in enumerate(logs, 1):
+        if log not in (None, named):
+            raise Fault("input %d: other log" % number)
+    return named
+
+
+def rehearsed(call, files):
+    count = sites_of(call.sites.decode())
+    script, = opened(call, files)
+    if script is DIRECTORY:
+        raise Fault("input 1: read fault", 3)
+    return rehearsal_text(call.log.decode(), count, read_script(script))
+
+
+def written(call, files):
+    if call.log is not None and not is_name(call.log.decode()):
+        raise Fault("log name", 2)
+    if call.command == b"rehearse":
+        return rehearsed(call, files)
+    if call.command == b"rule":
+        check_key(*call.ruling[:2])
+        call.ruling[2] = place_of(call.ruling[2])
+    cells, salt = cells_of(call.given.get(b"--cells")), salt_of(call.given.get(b"--salt"))
+    inputs = inputs_of(call, files)
+    log = log_written(call, [log for log, _ in inputs])
+    sets = [contents for _, contents in inputs]
+    if call.command == b"join":
+        return file_of(log, set().union(*sets))
+    if call.command == b"missing":
+        return file_of(log, with_carriers(sets[0] - sets[1]))
+    if call.command == b"missing-by":
+        return file_of(log, missing_by(*sets))
+    if call.command == b"missing-by-sketch":
+        return file_of(log, missing_by_sketch(log, *sets))
+    if call.command == b"sketch":
+        return sketch_of(log, *sets, cells, salt)
+    if call.command == b"rule":
+        return file_of(log, ruled(*sets, *call.ruling))
+    if call.command == b"inventory":
+        return inventory_of(log, *sets)
+    if call.command == b"check":
+        return check_line(log, *sets)
+    return conflict_text(log, *sets) if call.conflicts else log_text(log, *sets)
+
+
+def answer(words, files):
+    """What a call with these words answers where the files have these contents; all names are bytes."""
+    try:
+        return Answer(0, written(Call(words), files), b"")
+    except Usage:
+        return Answer(2, b"", None)
+    except Fault as fault:
+        return Answer(fault.status, b"", ("cadf: %s\n" % fault.said).encode())

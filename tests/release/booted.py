@@ -1,0 +1,253 @@
+"""Runs the units of examples/systemd under a systemd that is booted in a container, with a package installed there.
+
+    python3 -m tests.release.booted [--suite bookworm] [--root ROOT.tar] [--kills 20] PACKAGE
+
+Run as root, with mmdebstrap and systemd-nspawn. mmdebstrap makes a Debian with systemd from its usual mirror, and keeps
+it in ROOT.tar if that is given; a ROOT.tar that is there is taken. All else runs without a network. What is tried
+there:
+
+- The lines of docs/OPERATING.md put the units in place, and the timer runs them.
+- A sender's good files are taken; a cut one, a link, and one that can't be read are set aside, each with its reason.
+- A run has no capability, reaches no network, and writes nowhere but to its folders.
+- The command runs under the SystemCallFilter of that page, and is killed under one that lacks `openat`.
+- A run is killed KILLS times: the site's file is the old one or the new one, and at the end nothing is lost.
+"""
+import argparse
+import json
+import os
+import random
+import re
+import shutil
+import subprocess
+import sys
+import tempfile
+import time
+
+from tests import TOP
+from tests.release import debian
+
+TRIAL = "/trial"  # what is brought into the container, and what it says
+PROGRAMS = "systemd-sysv,dbus,python3"
+SITE, SPOOL = "/var/lib/cadf/audit/site.cadf", "/var/spool/cadf/audit"
+VECTORS = "/usr/share/doc/cadf/examples/vectors"
+PAGE = "/usr/share/doc/cadf/docs/OPERATING.md"
+UNIT = "cadf-spool@audit.service"
+EVENT = {"eventType": "activity", "eventTime": "2024-03-01T12:00:00Z", "action": "read", "outcome": "success",
+         "initiatorId": "u1", "targetId": "t1", "observerId": "s1"}
+STARTED = """[Unit]
+After=multi-user.target
+[Service]
+Type=oneshot
+WorkingDirectory=%s
+ExecStart=/usr/bin/python3 -m tests.release.booted --inside --kills %d
+ExecStopPost=/usr/bin/systemctl --force poweroff
+StandardOutput=append:%s/said
+StandardError=append:%s/said
+[Install]
+WantedBy=multi-user.target
+"""
+# What a run tries beside its work: each line is a call that has to fail, and at the end the capabilities are told.
+PROBE = """import os, socket
+def fails(what, call):
+    try:
+        call()
+    except OSError:
+        return
+    print("POSSIBLE: " + what)
+for place in ("/etc", "/usr", "/root", "/home", "/dev/shm", "/var/lib", "/var/spool/cadf", "/run", "/sys/fs/cgroup"):
+    fails("a file in " + place, lambda: open(os.path.join(place, "probe"), "w"))
+fails("a socket", lambda: socket.socket(socket.AF_INET, socket.SOCK_STREAM))
+fails("another user", lambda: os.setuid(65534))
+fails("its own program", lambda: os.execv("/var/spool/cadf/audit/taken/probe", ["probe"]))
+print([line.strip() for line in open("/proc/self/status") if line.startswith(("CapEff", "CapBnd", "NoNewPrivs", "Seccomp:"))])
+"""
+
+
+def run(*words, **options):
+    """The status of a command, and what it says."""
+    done = subprocess.run(words, check=False, stdin=subprocess.DEVNULL, stdout=subprocess.PIPE, stderr=subprocess.STDOUT, **options)
+    return done.returncode, done.stdout.decode("utf-8", "replace")
+
+
+def send(name, data, mode=0o644):
+    """Puts a file into the spool as a sender does."""
+    path = os.path.join(SPOOL, name)
+    script = 'import os, sys; file = open(%r, "wb"); file.write(%r); file.close(); os.chmod(%r, %d); os.rename(%r, %r)' % (
+        path + ".part", data, path + ".part", mode, path + ".part", path)
+    status, said = run("setpriv", "--reuid=sender", "--regid=sender", "--init-groups", "python3", "-c", script)
+    if status:
+        raise RuntimeError(said)
+
+
+def document(*keys):
+    return json.dumps({"id": "audit", "events": [dict(EVENT, id=key) for key in keys]}).encode()
+
+
+def atoms():
+    """How many facts the site's file holds; None where it is refused or isn't there."""
+    found = re.match(r'ok "audit" atoms (\d+) ', run("cadf", "check", SITE)[1])
+    return int(found.group(1)) if found else None
+
+
+def put_in_place(trial):
+    """Runs the lines of the page, with a sender that is in the group."""
+    with open(PAGE, encoding="utf-8") as file:
+        lines = re.search(r"```sh\n(cd /usr/share/doc/cadf/examples/systemd\n.*?)```", file.read(), re.S).group(1)
+    status, said = run("bash", "-ec", lines)
+    trial.say("the page's lines put the units in place", status == 0, said)
+    run("useradd", "sender")
+    run("usermod", "-aG", "cadf-in", "sender")
+
+
+def takes(trial):
+    """The timer runs the unit, which takes what is good and sets the rest aside."""
+    folder = "/etc/systemd/system/cadf-spool@.timer.d"
+    os.makedirs(folder)
+    with open(os.path.join(folder, "soon.conf"), "w", encoding="ascii") as file:
+        file.write("[Timer]\nOnCalendar=\nOnCalendar=*:*:0/5\nRandomizedDelaySec=0\nAccuracySec=1s\n")
+    send("one.json", document("e1", "e2"))
+    send("lines.jsonl", json.dumps(dict(EVENT, id="e3")).encode() + b"\n")
+    send("cut.json", document("e4")[:-3])
+    send("hidden.json", document("e5"), 0o600)
+    run("setpriv", "--reuid=sender", "--regid=sender", "--init-groups", "ln", "-s", "/etc/shadow", SPOOL + "/link.json")
+    run("systemctl", "daemon-reload")
+    run("systemctl", "restart", "cadf-spool@audit.timer")
+    end = time.monotonic() + 60
+    while time.monotonic() < end and len(os.listdir(SPOOL + "/set-aside")) < 6:
+        time.sleep(0.5)
+    run("systemctl", "stop", "cadf-spool@audit.timer")
+    wait_for_end()
+    trial.say("the timer's run takes what is good", atoms() == 3 and sorted(os.listdir(SPOOL + "/taken")) == ["lines.jsonl", "one.json"],
+              "" if atoms() == 3 else run("journalctl", "--no-pager", "-o", "cat", "-n", "20", "-u", UNIT)[1])
+    reasons = {}
+    for name in sorted(os.listdir(SPOOL + "/set-aside")):
+        if name.endswith(".reason"):
+            with open(os.path.join(SPOOL, "set-aside", name), encoding="utf-8") as file:
+                reasons[name[:-len(".reason")]] = file.read().strip()
+    wanted = {"cut.json": "not JSON", "hidden.json": "Permission denied", "link.json": "not a regular file"}
+    trial.say("it sets aside the rest with reasons", reasons == wanted, json.dumps(reasons))
+    journal = run("journalctl", "--no-pager", "-o", "cat", "-u", UNIT)[1]
+    trial.say("the journal has each reason, and that the run failed", "cut.json: set aside: not JSON" in journal and "Failed with result 'exit-code'" in journal)
+
+
+def wait_for_end():
+    """Waits until no run is under way."""
+    while run("systemctl", "is-active", UNIT)[1].strip() in ("active", "activating", "deactivating"):
+        time.sleep(0.1)
+
+
+def is_confined(trial):
+    """A run can do none of what it has no need for."""
+    folder = "/etc/systemd/system/cadf-spool@.service.d"
+    os.makedirs(folder)
+    with open(os.path.join(folder, "probe.conf"), "w", encoding="ascii") as file:
+        file.write("[Service]\nExecStartPost=/usr/bin/python3 %s/probe\nStandardOutput=append:%s/probed\n" % (TRIAL, TRIAL))
+    shutil.copy("/usr/bin/true", SPOOL + "/taken/probe")
+    run("chown", "cadf:cadf", SPOOL + "/taken/probe")
+    run("systemctl", "daemon-reload")
+    status, said = run("systemctl", "start", UNIT)
+    with open(TRIAL + "/probed", encoding="utf-8") as file:
+        probed = file.read()
+    trial.say("a run does nothing but its work", status == 0 and "POSSIBLE" not in probed and "CapEff:\\t0000000000000000" in probed, said + probed)
+    shutil.rmtree(folder)
+    run("systemctl", "daemon-reload")
+
+
+def is_filtered(trial):
+    """The command answers under the page's filter, and is killed under a filter that lacks a call."""
+    with open(PAGE, encoding="utf-8") as file:
+        calls = re.search(r"^SystemCallFilter=(.*)$", file.read(), re.M).group(1)
+    words = ["systemd-run", "--quiet", "--wait", "--pipe", "-p", "SystemCallArchitectures=native"]
+    status, said = run(*words, "-p", "SystemCallFilter=" + calls, "cadf", "check", VECTORS + "/both.cadf")
+    trial.say("the command under the page's SystemCallFilter", status == 0 and said.startswith("ok "), said)
+    without = calls.replace(" openat", "")  # systemd itself adds some of the others
+    status, said = run(*words, "-p", "SystemCallFilter=" + without, "cadf", "check", VECTORS + "/both.cadf")
+    trial.say("it is killed without `openat`", status != 0 and not said.startswith("ok "), "status %d %s" % (status, said))
+
+
+def survives(trial, kills):
+    """A run that is killed leaves the file as it was before or after, and all is taken at the end."""
+    sent = broken = killed = 0
+    for number in range(kills):
+        for part in range(5):
+            send("k%d-%d.json" % (number, part), document("k%d-%d" % (number, part)))
+            sent += 1
+        before = atoms()
+        run("systemctl", "start", "--no-block", UNIT)
+        time.sleep(random.uniform(0, 1.5))
+        run("systemctl", "kill", "--signal=KILL", UNIT)
+        wait_for_end()
+        killed += run("systemctl", "show", "-P", "Result", UNIT)[1] == "signal\n"
+        after = atoms()
+        broken += after is None or not before <= after <= 3 + sent
+    run("systemctl", "reset-failed", UNIT)
+    status, said = run("systemctl", "start", UNIT)
+    trial.say("%d of %d runs were killed: the file was never broken, and all is taken" % (killed, kills),
+              status == 0 and not broken and atoms() == 3 + sent, "%s broken %d, holds %s of %d" % (said, broken, atoms(), 3 + sent))
+
+
+def inside(kills):
+    """The trials, in the container."""
+    trial = debian.Trials()
+    try:
+        status, said = run("dpkg", "--install", TRIAL + "/cadf.deb")
+        trial.say("dpkg --install", status == 0, said if status else "")
+        put_in_place(trial)
+        takes(trial)
+        is_confined(trial)
+        is_filtered(trial)
+        survives(trial, kills)
+    except Exception as fault:  # what else went wrong is told outside
+        trial.say("the trial's own script", False, repr(fault))
+    return trial.end()
+
+
+def make(suite, folder, archive, package, kills):
+    """Makes the container's files, with the package and this script, which is started when it has booted."""
+    debian.make(suite, PROGRAMS, archive, folder)
+    trial = folder + TRIAL
+    os.mkdir(trial)
+    shutil.copy(package, trial + "/cadf.deb")
+    shutil.copytree(os.path.join(TOP, "tests"), trial + "/tests")
+    for place, text in ((trial + "/probe", PROBE), (folder + "/etc/systemd/system/trial.service", STARTED % (TRIAL, kills, TRIAL, TRIAL))):
+        with open(place, "w", encoding="utf-8") as file:
+            file.write(text)
+    os.chmod(trial, 0o777)
+    os.symlink("/etc/systemd/system/trial.service", folder + "/etc/systemd/system/multi-user.target.wants/trial.service")
+
+
+def boot(folder):
+    """Boots the container, and waits until it is off. Returns what it said."""
+    words = ["systemd-nspawn", "--quiet", "--boot", "--register=no", "--keep-unit", "--private-network", "--directory=" + folder]
+    try:
+        done = subprocess.run(words, check=False, timeout=1200, stdin=subprocess.DEVNULL, stdout=subprocess.PIPE, stderr=subprocess.STDOUT)
+        log = done.stdout.decode("utf-8", "replace")
+    except subprocess.TimeoutExpired as late:
+        log = (late.stdout or b"").decode("utf-8", "replace")
+    said = folder + TRIAL + "/said"
+    if not os.path.exists(said):
+        sys.exit("booted: the trial was not begun:\n" + log[-4000:])
+    with open(said, encoding="utf-8") as file:
+        return file.read()
+
+
+def main():
+    parser = argparse.ArgumentParser(description=__doc__, formatter_class=argparse.RawDescriptionHelpFormatter)
+    parser.add_argument("--suite", default="bookworm")
+    parser.add_argument("--root", metavar="ROOT.tar")
+    parser.add_argument("--kills", type=int, default=20)
+    parser.add_argument("--inside", action="store_true", help=argparse.SUPPRESS)
+    parser.add_argument("package", metavar="PACKAGE", nargs="?")
+    options = parser.parse_args()
+    if options.inside:
+        return inside(options.kills)
+    with tempfile.TemporaryDirectory(prefix="cadf-booted-") as folder:
+        root = os.path.join(folder, "root")
+        make(options.suite, root, options.root or os.path.join(folder, "root.tar"), options.package, options.kills)
+        said = boot(root)
+    print(said, end="")
+    return 0 if said.endswith(" ok, 0 bad\n") else 1
+
+
+if __name__ == "__main__":
+    sys.exit(main())

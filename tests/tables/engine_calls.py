@@ -1,0 +1,346 @@
+"""Calls of the engines over memory: readers that cut and fail, writers that take few bytes and fail, limits.
+
+The worked calls of tests/tables/rows.py are made here too, with the bytes of each reader borrowed, and in pieces of 1
+to 7 bytes. A row `each` makes its call for each number of a range, where `N` stands for the number; an answer tells
+what differs from the one before.
+"""
+import re
+
+from tests.tables import rows as worked, sketch_rows as sketched, worked_files as made
+from tests.tables.document_rows import BOTH, NORTH, conflicts, log
+from tests.tables.exchange_rows import OTHER_LOG
+from tests.tables.texts import C1, C2, CF, K1, KF, V1, V2, digits, document, inventory, replica
+
+CALLS = {
+    "each": [],
+    "load": ["load", "Loaded::log", "ReplicaFeed::after_magic", "Source::borrow_next", "MemorySource::borrowable"],
+    "load_within": ["load_within"],
+    "run_join": ["run_join"],
+    "run_missing": ["run_missing"],
+    "run_missing_by": ["run_missing_by"],
+    "run_inventory": ["run_inventory"],
+    "run_sketch": ["run_sketch", "Cells::by_default"],
+    "run_missing_by_sketch": ["run_missing_by_sketch"],
+    "run_rule": ["run_rule"],
+    "run_rehearse": ["run_rehearse"],
+    "run_show": ["run_show"],
+    "run_check": ["run_check"],
+    "fault": ["status"],
+    "metered": ["CountingSink::new", "CountingSink::bytes_written", "CountingSink::over_limit", "CountingSink::into_inner"],
+}
+
+COMMANDS, FAULTS, STREAMS = "What the commands write", "Fault lines", "ARCHITECTURE: Inputs and outputs"
+ALL = 4096  # more bytes than any reader here has
+EMPTY_LOG = document()
+
+
+def data(text):
+    return text.encode("utf-8", "surrogateescape")
+
+
+def reader(text, piece=ALL, failing=0):
+    """The words of a reader: its bytes, the most bytes of a read, and the number of the read that fails. With 0 bytes of a read
+    they can be borrowed."""
+    return [data(text), piece, failing]
+
+
+def writer(piece=ALL, way="never", number=0):
+    """The words of a writer: the most bytes that a write takes, and what it does at the write of that number."""
+    return [piece, way, number]
+
+
+def engine(command, readers, to=None):
+    """The engine's call that the words of a command stand for: its name and its words."""
+    name, *own = command.split()
+    if name == "join":
+        own = own[1:] or [""]
+    if name == "show":
+        own = ["conflicts" if own else "log"]
+    if name == "sketch":
+        given = dict(re.findall(r"--(\w+)[= ](\w+)", command))
+        own = [given.get(option, "") for option in ("cells", "salt")]
+    return "run_" + name.replace("-", "_"), [*(to or writer()), *own, *(word for one in readers for word in one)]
+
+
+def each(first, last, call, words):
+    """The words of a row `each`."""
+    return [first, last, call, *words]
+
+
+def told(output):
+    """The fields of an engine that writes this."""
+    return ["ok", data(output)] if output else ["ok"]
+
+ROWS = []
+
+
+def row(call, words, fields, heading):
+    ROWS.append((call, words, fields, heading))
+
+# The worked calls of the command, with the bytes of each reader borrowed (0), and in pieces of 1 to 7 bytes.
+LARGE = 6000  # bytes of an input that is at a limit: the command alone reads it
+for name, words, files, wanted in worked.all_rows():
+    inputs = [files[word] for word in words if word in files]
+    if wanted.status == 2 or max(len(text) for text in inputs) > LARGE:
+        continue
+    command = " ".join(word.decode() for word in words if word not in files)
+    call, asked = engine(command, [reader(text, "N") for text in inputs])
+    if wanted.status == 0:
+        row("each", each(0, 7, call, asked), told(wanted.output.decode()), COMMANDS)
+    else:
+        text = wanted.error.decode()[len("cadf: "):-1]
+        row("each", each(0, 7, "fault", [call, *asked]), [wanted.status, text], FAULTS)
+
+# What an input is: its bytes, and what loading it answers.
+LOADED = [
+    (document(V1, V2, more=',"name":"north"'), ["document", "some", "g", 2, 0, 1]),
+    (V1, ["document", "none", 1, 0, 0]),
+    (NORTH, ["document", "some", "g", 0, 1, 1]),
+    (made.CHAINS, ["replica", "some", "g", 3]),
+    (made.CONFLICT_TREE, ["replica", "some", "g", 4]),
+]
+TWICE = replica(C1, C1)
+# Why an input is refused, by name.
+LOADS_REFUSED = [
+    ("CADF-REPLICA 3\n", ["File", "Version"]),
+    ("CADF-REPLICA 1\n", ["File", "Truncated"]),
+    (inventory(), ["File", "Version"]),
+    (TWICE, ["File", "Line", 4, "Order"]),
+    ("CADF", ["Json", "NotJson"]),
+    ("[1.5]", ["Json", "NotWhole"]),
+    ('{"events":[]}', ["Document", "LogId"]),
+    ("[]", ["Document", "Event", 0, "NotObject"]),
+]
+for text, fields in LOADED:
+    row("load", reader(text), ["ok", *fields], COMMANDS)
+    row("each", each(0, 7, "load", reader(text, "N")), ["ok", *fields], COMMANDS)
+for text, fields in LOADS_REFUSED:
+    row("load", reader(text), ["err", *fields], FAULTS)
+    row("each", each(0, 7, "load", reader(text, "N")), ["err", *fields], FAULTS)
+
+# A limit, an input, and why it is refused within it; nothing where it is accepted.
+NONE, DOCUMENT_LOADED = made.NOTHING, ["ok", "document", "some", "g", 0, 0, 0]
+REPLICA_LOADED = ["ok", "replica", "some", "g", 0]
+LARGER, NOT_JSON, TRUNCATED = ["err", "TooLarge"], ["err", "Json", "NotJson"], ["err", "File", "Truncated"]
+WITHIN = [
+    (22, EMPTY_LOG, DOCUMENT_LOADED), (21, EMPTY_LOG, LARGER), (5, EMPTY_LOG, LARGER), (0, EMPTY_LOG, LARGER),
+    (2**64 - 1, EMPTY_LOG, DOCUMENT_LOADED), (88, NONE, REPLICA_LOADED), (87, NONE, LARGER),
+    (88, made.NOTHING_TREE, REPLICA_LOADED), (87, made.NOTHING_TREE, LARGER), (1000, "CADF", NOT_JSON),
+    (1000, "CADF-", TRUNCATED), (5, "CADF-", TRUNCATED), (4, "CADF-", LARGER), (3, "CADF-", LARGER),
+    (4, "CADF", NOT_JSON), (3, "CADF", LARGER), (1000, "", NOT_JSON), (0, "", NOT_JSON),
+]
+for limit, text, fields in WITHIN:
+    row("load_within", [limit, *reader(text)], fields, STREAMS)
+    row("each", each(0, 7, "load_within", [limit, *reader(text, "N")]), fields, STREAMS)
+for text in (" " * 2000, "CADF-" + "x" * 2000):
+    row("each", each(0, 7, "load_within", [1000, *reader(text, "N")]), LARGER, STREAMS)
+
+# A failed read, where the bytes before it don't decide, and where they do.
+FAILED_READS = [
+    (1, 3, "load", reader("CADF-REPLICA 1\n", 7, "N"), ["err", "ReadFault"]),
+    (1, 401, "load", reader(TWICE, 1, "N"), ["err", "ReadFault"]),  # byte 401 ends the second line of the atom
+    (402, 470, "load", reader(TWICE, 1, "N"), ["err", "File", "Line", 4, "Order"]),
+    (1, 22, "load_within", [21, *reader(EMPTY_LOG, 1, "N")], ["err", "ReadFault"]),
+    (23, 24, "load_within", [21, *reader(EMPTY_LOG, 1, "N")], LARGER),
+    (1, 88, "load_within", [87, *reader(NONE, 1, "N")], ["err", "ReadFault"]),
+    (89, 90, "load_within", [87, *reader(NONE, 1, "N")], LARGER),
+]
+for first, last, call, words, fields in FAILED_READS:
+    row("each", each(first, last, call, words), fields, STREAMS)
+
+# A command, its inputs, which are small, and what is written: each read of each input fails in turn.
+NAMED, TWO_SITES = made.NAMED_TREE, "ask 1\nsend 0\n"
+READ = [
+    ("show", [made.EVENT_TREE], log(V1)),
+    ("show", [EMPTY_LOG], log()),
+    ("show --conflicts", [NONE], conflicts()),
+    ("check", [NONE], 'ok "g" atoms 0 conflicts 0\n'),
+    ("inventory", [made.NOTHING_TREE], inventory()),
+    ("join", [NONE, EMPTY_LOG], made.NOTHING_TREE),
+    ("join", [EMPTY_LOG, made.NOTHING_TREE], made.NOTHING_TREE),
+    ("missing", [NONE, EMPTY_LOG], made.NOTHING_TREE),
+    ("missing-by", [EMPTY_LOG, inventory()], made.NOTHING_TREE),
+    ("sketch --cells 3", [NONE], sketched.EMPTY),
+    ("missing-by-sketch", [NONE, sketched.EMPTY], made.NOTHING_TREE),
+    ("rule P name 2", [NAMED], made.SOUTH_TREE),
+    ("rehearse g 2", [TWO_SITES], "site 0 atoms 0 as 0\nsite 1 atoms 0 as 0\n"),
+]
+
+
+def fail_reads(command, inputs, output, place, piece):
+    """Rows of a command of which each read of one input fails in turn.
+
+    An input of L bytes takes at least a read for each piece and one that finds its end, and at most L + 1 reads."""
+    size = len(data(inputs[place]))
+    readers = [reader(text, piece, "N" if place == at else 0) for at, text in enumerate(inputs)]
+    call, words = engine(command, readers)
+    row("each", each(1, -(-size // piece) + 1, call, words), ["err", "ReadFault", place + 1], STREAMS)
+    row("each", each(size + 2, size + 3, call, words), told(output), STREAMS)
+
+
+for command, inputs, output in READ:
+    for place in range(len(inputs)):
+        for piece in (1, 7):
+            fail_reads(command, inputs, output, place, piece)
+fail_reads("missing", [made.TWO_TREE, made.TWO_TREE], made.NOTHING_TREE, 1, 97)
+fail_reads("missing-by", [made.EVENT_TREE, inventory(*sorted([digits(C1), digits(K1)]))], made.NOTHING_TREE, 1, 97)
+
+# A command, its inputs, what is written, and whether it goes out line by line or whole: each write fails in turn.
+LINES, WHOLE = True, False
+WRITTEN = [
+    ("show", [made.CHAINS_TREE], log(BOTH), WHOLE),
+    ("show --conflicts", [EMPTY_LOG], conflicts(), WHOLE),
+    ("check", [EMPTY_LOG], 'ok "g" atoms 0 conflicts 0\n', WHOLE),
+    ("inventory", [EMPTY_LOG], inventory(), LINES),
+    ("join", [EMPTY_LOG, V1], made.EVENT_TREE, LINES),
+    ("missing", [EMPTY_LOG, NONE], made.NOTHING_TREE, LINES),
+    ("missing", [made.TWO, made.EVENT_TREE], made.SECOND_TREE, LINES),
+    ("missing-by", [made.NOTHING_TREE, inventory()], made.NOTHING_TREE, LINES),
+    ("sketch --cells 3 --salt 1", [made.EVENT_TREE], sketched.WORKED, LINES),
+    ("missing-by-sketch", [made.TWO, sketched.WORKED], made.SECOND_TREE, LINES),
+    ("rule P name 2", [NAMED], made.SOUTH_TREE, LINES),
+    ("rehearse g 2", [""], "site 0 atoms 0 as 0\nsite 1 atoms 0 as 0\n", WHOLE),
+]
+
+
+def taken(output, lines, piece):
+    """What each write takes of the text."""
+    offered = output.splitlines(True) if lines else [output]
+    return [one[at:at + piece] for one in map(data, offered) for at in range(0, len(one), piece)]
+
+
+def fail_writes(command, inputs, output, lines, piece, way):
+    """A row of a command of which each write fails in turn, until a run meets none."""
+    pieces = taken(output, lines, piece)
+    call, words = engine(command, map(reader, inputs), writer(piece, way, "N"))
+    row("each", each(1, len(pieces) + 1, call, words),
+        ["err", "WriteFault", *pieces[:-1], "ok", pieces[-1]], STREAMS)
+
+
+for command, inputs, output, lines in WRITTEN:
+    for piece in (1, 7, 50):
+        for way in ("refuses", "takes-nothing"):
+            fail_writes(command, inputs, output, lines, piece, way)
+
+# A command, its readers, and its fault by name, where the first write would fail: nothing is written before all else.
+FAILING, GOOD, EVENT, BAD = reader(EMPTY_LOG, ALL, 1), reader(EMPTY_LOG), reader(V1), reader("{")
+OTHER, OTHER_NOTED, OTHER_SKETCHED = reader(OTHER_LOG), reader(inventory(log="h")), reader(sketched.sketch(3, 1, log="h"))
+NOT_JSON_1, NOT_JSON_2 = ["Input", 1, "Json", "NotJson"], ["Input", 2, "Json", "NotJson"]
+IN_ORDER = [
+    ("join", [], ["NoLog"]),
+    ("join", [BAD, FAILING], NOT_JSON_1),
+    ("join", [FAILING, BAD], ["ReadFault", 1]),
+    ("join", [EVENT, FAILING], ["ReadFault", 2]),
+    ("join", [EVENT, BAD], NOT_JSON_2),
+    ("join", [EVENT, EVENT], ["NoLog"]),
+    ("join --log g", [OTHER, FAILING], ["ReadFault", 2]),
+    ("join --log g", [OTHER, BAD], NOT_JSON_2),
+    ("join --log g", [EVENT, OTHER], ["OtherLog", 2]),
+    ("join", [EVENT, GOOD, OTHER], ["OtherLog", 3]),
+    ("join", [GOOD], ["WriteFault"]),
+    ("missing", [BAD, FAILING], NOT_JSON_1),
+    ("missing", [EVENT, FAILING], ["ReadFault", 2]),
+    ("missing", [EVENT, BAD], NOT_JSON_2),
+    ("missing", [EVENT, OTHER], ["NoLog"]),
+    ("missing", [GOOD, EVENT], ["NoLog"]),
+    ("missing", [GOOD, OTHER], ["OtherLog", 2]),
+    ("missing", [GOOD, GOOD], ["WriteFault"]),
+    ("missing-by", [BAD, FAILING], NOT_JSON_1),
+    ("missing-by", [EVENT, FAILING], ["ReadFault", 2]),
+    ("missing-by", [EVENT, reader(NONE)], ["Input", 2, "File", "Version"]),
+    ("missing-by", [EVENT, OTHER_NOTED], ["NoLog"]),
+    ("missing-by", [GOOD, OTHER_NOTED], ["OtherLog", 2]),
+    ("missing-by", [GOOD, reader(inventory())], ["WriteFault"]),
+    ("missing-by-sketch", [BAD, FAILING], NOT_JSON_1),
+    ("missing-by-sketch", [EVENT, FAILING], ["ReadFault", 2]),
+    ("missing-by-sketch", [EVENT, reader(inventory())], ["Input", 2, "File", "Version"]),
+    ("missing-by-sketch", [EVENT, OTHER_SKETCHED], ["NoLog"]),
+    ("missing-by-sketch", [GOOD, OTHER_SKETCHED], ["OtherLog", 2]),
+    ("missing-by-sketch", [reader(made.CHAINS), reader(sketched.sketch(3, 1, C2, CF, KF))], ["TooFewCells", sketched.ASKED]),
+    ("missing-by-sketch", [GOOD, reader(sketched.EMPTY)], ["WriteFault"]),
+    ("sketch", [FAILING], ["ReadFault", 1]),
+    ("sketch", [BAD], NOT_JSON_1),
+    ("sketch", [EVENT], ["NoLog"]),
+    ("sketch", [GOOD], ["WriteFault"]),
+    ("inventory", [FAILING], ["ReadFault", 1]),
+    ("inventory", [BAD], NOT_JSON_1),
+    ("inventory", [EVENT], ["NoLog"]),
+    ("inventory", [GOOD], ["WriteFault"]),
+    ("show", [FAILING], ["ReadFault", 1]),
+    ("show", [BAD], NOT_JSON_1),
+    ("show", [EVENT], ["NoLog"]),
+    ("show", [GOOD], ["WriteFault"]),
+    ("show --conflicts", [EVENT], ["NoLog"]),
+    ("show --conflicts", [GOOD], ["WriteFault"]),
+    ("check", [FAILING], ["ReadFault", 1]),
+    ("check", [BAD], NOT_JSON_1),
+    ("check", [EVENT], ["NoLog"]),
+    ("check", [GOOD], ["WriteFault"]),
+    ("rule X e1 0", [FAILING], ["ReadFault", 1]),
+    ("rule X e1 0", [BAD], NOT_JSON_1),
+    ("rule X e1 1", [EVENT], ["NoLog"]),
+    ("rule E e1 0", [EVENT], ["NoLog"]),
+    ("rule E e1 1", [GOOD], ["NoValue"]),
+    ("rule P name 2", [reader(NAMED)], ["WriteFault"]),
+    ("rehearse g 2", [FAILING], ["ReadFault", 1]),
+    ("rehearse g 2", [reader("hello", 2, 3)], ["ReadFault", 1]),
+    ("rehearse g 2", [reader("ask 9\nhello")], ["Script", 2]),
+    ("rehearse g 2", [reader("ask 2")], ["Rehearse", "NoSite", 1]),
+    ("rehearse g 2", [reader("send 0\nanswer 1 2")], ["Rehearse", "NoMessage", 2]),
+    ("rehearse g 2", [reader("send 0\nanswer 1 1")], ["Rehearse", "NotInventory", 2]),
+    ("rehearse g 2", [reader("ask 0\nanswer 1 1\ndeliver 2 1")], ["Rehearse", "WrongAddressee", 3]),
+    ("rehearse g 2", [reader("learn 0 " + OTHER_LOG)], ["Rehearse", "OtherLog", 1]),
+    ("rehearse g 2", [reader("")], ["WriteFault"]),
+]
+for command, readers, fields in IN_ORDER:
+    row(*engine(command, readers, writer(ALL, "refuses", 1)), ["err", *fields], FAULTS)
+
+# Values that the command's own words can't name: place 0, the greatest place, letters of no value.
+NO_VALUES = [("E", "e1", 0), ("E", "e1", 3), ("E", "e1", 2**64 - 1), ("E", "e2", 1), ("U", "e1", 1), ("U", "E", 1), ("C", "e1", 1),
+             ("\u00e9", "e1", 1)]
+for letter, key, place in NO_VALUES:
+    row(*engine("rule %s %s %d" % (letter, key, place), [reader(made.RULED_TREE)]), ["err", "NoValue"], FAULTS)
+
+# A call of each engine, whole.
+for command, inputs, output in READ:
+    row(*engine(command, map(reader, inputs)), told(output), COMMANDS)
+row(*engine("join --log g", []), told(made.NOTHING_TREE), COMMANDS)
+
+# The status and the text of failed reads and writes.
+for command, readers, status, text in [
+        ("join", [EVENT, FAILING], 3, "input 2: read fault"), ("show", [FAILING], 3, "input 1: read fault"),
+        ("show", [GOOD], 3, "write fault")]:
+    call, words = engine(command, readers, writer(ALL, "refuses", 1))
+    row("fault", [call, *words], [status, text], FAULTS)
+
+# A command, its inputs, and what it writes: the bytes are counted, and reported if they are more than the limit.
+COUNTED = [
+    ("check", [EMPTY_LOG], 'ok "g" atoms 0 conflicts 0\n'),
+    ("join", [EMPTY_LOG, V1], made.EVENT_TREE),
+    ("rehearse g 2", [""], "site 0 atoms 0 as 0\nsite 1 atoms 0 as 0\n"),
+]
+
+
+def counted(count, limit):
+    """The fields of the count, and of the report if it is above the limit."""
+    if count <= limit:
+        return ["ok", count, "none"]
+    return ["ok", count, "some", "%d bytes were written, and no input above %d is read" % (count, limit)]
+
+
+def metered(limit, command, inputs, count, written, to=None):
+    """A row of a command that writes so many bytes of a text."""
+    call, words = engine(command, map(reader, inputs), to)
+    row("metered", [limit, call, *words], counted(count, limit) + ([written] if count else []), STREAMS)
+
+
+for command, inputs, output in COUNTED:
+    size, text = len(data(output)), data(output)
+    for limit in (0, size - 1, size, size + 1, 2**30, 2**64 - 1):
+        metered(limit, command, inputs, size, text)
+    call, words = engine(command, map(reader, inputs), writer("N"))
+    row("each", each(0, 7, "metered", [size - 1, call, *words]), [*counted(size, size - 1), text], STREAMS)
+    for way in ("refuses", "takes-nothing"):
+        for limit in (3, 4):
+            metered(limit, command, inputs, 4, text[:4], writer(1, way, 5))
+metered(0, "check", ["{"], 0, b"")

@@ -1,0 +1,467 @@
+"""Calls of JSON values, of sources and sinks, and of times, with what they answer."""
+from tests.tables.texts import nested
+
+# What is asked of a value that is held, or of a tree.
+ASKED = {
+    "kind": ["View::is_null", "View::is_object", "View::is_list", "View::as_text", "View::len", "View::depth"],
+    "item": ["View::item"],
+    "member": ["View::member"],
+    "name": ["View::name_at"],
+    "members": ["View::members"],
+    "within": ["View::members_nest_within"],
+    "rewritten_text": ["View::rewritten_text"],
+    "reborrow": ["View::reborrow"],
+}
+
+CALLS = {
+    **{"%s %s" % (how, asked): calls for how in ("value", "tree") for asked, calls in ASKED.items()},
+    "value text": ["Json::read", "Json::view", "View::text"],
+    "tree text": ["Tree::of_text", "Tree::read", "Tree::view"],
+    # On a text of which a part is repeated: what is before it, the part, how often, what is after it.
+    "repeated tree": ["Tree::of_text", "Tree::read"],
+    "repeated split": ["Tree::read"],
+    "row member": ["ObjectRow::of_text", "ObjectRow::text"],
+    "row within": ["ObjectRow::members_nest_within"],
+    "row rewritten_text": ["ObjectRow::rewritten_text"],
+    "split_rows": ["ObjectRow::read", "ObjectRow::into_bytes"],
+    "canonical": ["Json::read_canonical"],
+    "quoted": ["quoted"],
+    "split": ["read_object_streaming", "ItemVisitor::take"],
+    "check_list": ["check_list"],
+    "has_json_syntax": ["has_json_syntax"],
+    "find_fraction": ["find_fraction"],
+    "is_canonical": ["is_canonical"],
+    "spells_object": ["spells_object"],
+    "spells_object_with": ["spells_object_with"],
+    "nests_within": ["nests_within"],
+    "has_text_at": ["has_text_at"],
+    "text_at": ["text_at"],
+    "plain_text": ["plain_text"],
+    "list_texts": ["ListTexts::of", "ListTexts::next_text"],
+    "list_rows": ["ListTexts::next_row"],
+    "read_to_limit": ["read_to_limit", "MemorySource::new", "Source::read"],
+    "read_rest": ["cadf_json::read_rest"],
+    "borrow_next": ["Source::borrow_next", "MemorySource::borrowable"],
+    "read_by_std": ["FromStd::new", "FromStd::into_inner"],
+    "write_all": ["write_all", "MemorySink::new", "MemorySink::bytes", "Sink::write"],
+    "write_by_std": ["FromStd::new", "FromStd::into_inner"],
+    "time": ["Stamp::read", "Stamp::instant", "Stamp::offset", "Stamp::text"],
+}
+
+CANONICAL, VALUES, STREAMS, TIMES = (
+    "Canonical JSON text", "ARCHITECTURE: Values and trees", "ARCHITECTURE: Sources and sinks", "Times")
+
+# Texts of JSON, and the canonical texts of what they spell.
+SPELLED = [
+    ("18446744073709551615", "18446744073709551615"),
+    ("-9223372036854775808", "-9223372036854775808"),
+    ("[ null , true , false , 0 , -1 ]", "[null,true,false,0,-1]"),
+    (' { "b" : [ ] , "a" : "\\u0041\\/\\u007f" } ', '{"a":"A/\x7f","b":[]}'),
+    ('{"B":{},"a":1,"é":2,"aa":3}', '{"B":{},"a":1,"aa":3,"é":2}'),
+    ('"\\u0001\\t\\""', '"\\u0001\\t\\""'),
+    ('"\\b\\f\\n\\r\\t\\u000B\\u001F\\u0020\\\\"', '"\\b\\f\\n\\r\\t\\u000b\\u001f \\\\"'),
+    ('"\\ud83d\\ude00\\u00e9"', '"😀é"'),
+    ('{"type\\"x":1,"typeURI":2,"type":3,"type\\u0000":4}', '{"type":3,"type\\u0000":4,"type\\"x":1,"typeURI":2}'),
+    ('{"é":2,"a":1,"B":{"d":[{"z":1,"y":{}}],"c":0},"aa":3,"":4}',
+     '{"":4,"B":{"c":0,"d":[{"y":{},"z":1}]},"a":1,"aa":3,"é":2}'),
+    (nested(127), nested(127)),
+]
+
+# Texts in which a name stands twice: the last one counts, and they have no tree.
+TWICE = [
+    ('{"a":1,"a":2}', '{"a":2}'),
+    ('{"a":1,"b":3,"\\u0061":2}', '{"a":2,"b":3}'),
+    ('{"a":1.5,"a":1}', '{"a":1}'),
+    ('[{"x":[{"b":1,"b":2}]}]', '[{"x":[{"b":2}]}]'),
+]
+
+# Numbers that refuse a value, and those that it keeps as they stand.
+NOT_WHOLE = ["1.5", "1e3", "1.0", "1E2", "0.5", "18446744073709551616", "-9223372036854775809", "-0", "-0.0"]
+WHOLE = ["18446744073709551615", "-9223372036854775808", '"1.5"']
+
+# Bytes that no JSON spells.
+NO_JSON = [b"[1.5", b'"\xff"', b'{"events":[', b"01", b"1 2", b"CADF", b"", b"[1]]", b"{} {}", b'{"a"}', b"[1,]",
+           b'"\\ud800"', b"nul", b'"\x01"', b'"\xc0\x80"', nested(128).encode()]
+
+# Texts that are no canonical text, and why.
+NO_CANONICAL = [
+    ("[1.50", "NotJson"), ("[ 1.50]", "NotWhole"), ('{"b":1,"a":2}', "NotCanonical"), ("[1, 2]", "NotCanonical"),
+    ("1\n", "NotCanonical"), ('"\\u0041"', "NotCanonical"), ('"\\/"', "NotCanonical"), ('{"a":1,"a":1}', "NotCanonical"),
+]
+
+# Objects of which the last member has the least name, behind so many others.
+LATE = {count: "{" + ",".join('"b%02d":0' % place for place in range(count)) + ',"a":1}' for count in (64, 65)}
+
+# Values: whether each is null, an object, a list; how many parts it has, how deep it nests, its text.
+KINDS = [
+    ("null", True, False, False, 0, 0), ("true", False, False, False, 0, 0), ("7", False, False, False, 0, 0),
+    ('"x"', False, False, False, 0, 0, "x"), ('""', False, False, False, 0, 0, ""),
+    ("[]", False, False, True, 0, 1), ("{}", False, True, False, 0, 1), ("[1,[2]]", False, False, True, 2, 2),
+    ('{"b":[1,"x",null],"a":{}}', False, True, False, 2, 2), (nested(127), False, False, True, 1, 127),
+]
+
+PARTS = '{"b":[1,"x",null],"a":{}}'
+MEMBERS = '{"t":"x","id":1,"deep":[[]]}'
+
+# What is asked of a value, and what is found.
+FOUND = [
+    (PARTS, ["name", 0], ["some", "a"]),
+    (PARTS, ["name", 1], ["some", "b"]),
+    (PARTS, ["name", 2], ["none"]),
+    (PARTS, ["item", 0], ["some", "{}"]),
+    (PARTS, ["item", 1], ["some", '[1,"x",null]']),
+    (PARTS, ["item", 2], ["none"]),
+    (PARTS, ["member", "b"], ["some", '[1,"x",null]']),
+    (PARTS, ["member", "c"], ["none"]),
+    (PARTS, ["member", ""], ["none"]),
+    (PARTS, ["reborrow"], ["ok", '{"a":{},"b":[1,"x",null]}']),
+    ('[1,"x",null]', ["item", 1], ["some", '"x"']),
+    ('[1,"x",null]', ["item", 2], ["some", "null"]),
+    ('[1,"x",null]', ["item", 3], ["none"]),
+    ('[1,"x",null]', ["name", 0], ["none"]),
+    ('[1,"x",null]', ["member", "b"], ["none"]),
+    ('"x"', ["item", 0], ["none"]),
+    (MEMBERS, ["members"], ["ok", "deep", "[[]]", "id", "1", "t", '"x"']),
+    ("[1]", ["members"], ["ok"]),
+    ('{"b":[1,[2],{"z":null}],"a":"x","d":{},"c":true}', ["members"],
+     ["ok", "a", '"x"', "b", '[1,[2],{"z":null}]', "c", "true", "d", "{}"]),
+    # A member's limit, and that of the others.
+    (MEMBERS, ["within", "deep", 2, 0], [True]),
+    (MEMBERS, ["within", "deep", 1, 9], [False]),
+    ('{"b":[1,[2]],"d":{}}', ["within", "b", 2, 1], [True]),
+    ('{"b":[1,[2]],"d":{}}', ["within", "b", 1, 1], [False]),
+    ('{"b":[1,[2]],"d":{}}', ["within", "d", 0, 2], [False]),
+    # The name with its text, and the names that are left out.
+    (MEMBERS, ["rewritten_text", "t", 'y"', "id", "other"], ["ok", '{"deep":[[]],"t":"y\\""}']),
+    ("[1]", ["rewritten_text", "t", "y", "id", "tags"], ["ok", "{}"]),
+    ("{}", ["rewritten_text", "t", "y", "id", "tags"], ["ok", "{}"]),
+    ('{"time":"now","id":1,"a":[0]}', ["rewritten_text", "time", "t\n", "id", "tags"], ["ok", '{"a":[0],"time":"t\\n"}']),
+    ('{"id":1,"b":{"id":2}}', ["rewritten_text", "time", "t", "id", "tags"], ["ok", '{"b":{"id":2}}']),
+    ('{"x":1,"id":1,"tags":[]}', ["rewritten_text", "time", "t", "id", "tags"], ["ok", '{"x":1}']),
+]
+
+# Objects that are read as the texts of their members, a member's name, and its text, if it is there. Of two members of one
+# name the later one counts.
+ROWS_OF = [
+    (PARTS, "b", ['[1,"x",null]']),
+    (PARTS, "c", []),
+    (PARTS, "", []),
+    ('{"a":1,"b":[],"a":{"c":2}}', "a", ['{"c":2}']),
+    ('{"a":1,"b":[],"a":{"c":2}}', "b", ["[]"]),
+    ('{"\\u0061":1,"":"\\u0041\\n"}', "a", ["1"]),
+    ('{"\\u0061":1,"":"\\u0041\\n"}', "", ['"A\\n"']),
+    ('{"a":{"y":1.5,"x":"\\/","y":-1},"é":7}', "a", ['{"x":"/","y":-1}']),
+    (LATE[65], "a", ["1"]),
+    (LATE[65], "b64", ["0"]),
+    (' { } ', "a", []),
+    ('{"a":%s}' % nested(126), "a", [nested(126)]),
+]
+OTHER_THAN_ROWS = ["null", "7", '"{}"', ' [ { "a" : 1 } ] ', "true", nested(127)]
+NO_ROWS = ["", "{", '{"a"', '{"a":1', '{"a":01}', '{"a":1,}', "[1,]", "1.5", "[-0]", '{"a":1.5}', '{"a":1.5,"a":1}', '{"a":1e400}',
+           '{"a":18446744073709551616}', '{"a":%s}' % nested(127), nested(128), "{} {}", "[] 1", '{"a":1}}']
+# Objects, and what the items of their member `list` have at `id`, each read over the memory of the one before.
+ROW_LISTS = [
+    ('{"list":[{"a":[1,2,3],"id":"x"},{"id":null},7,{"b":"a longer text"},{"id":1,"id":{"d":1,"c":[]}}],"id":0}',
+     ['"x"', "null", "no object", "absent", '{"c":[],"d":1}']),
+    (' { "list" : [ { } , [ { "id" : 1 } ] ] } ', ["absent", "no object"]),
+    ('{"list":[{"a":{"b":1.5,"b":1},"id":"\\u0041"}]}', ['"A"']),
+    ('{"list":[{"id":%s}]}' % nested(124), [nested(124)]),
+    ('{"list":[]}', []),
+]
+NO_ROW_LISTS = ['{"list":[{"id":1.5}]}', '{"list":[1.5]}', '{"list":[{"id":1},{"id"]}', '{"list":[{"id":1}],"list":[]}',
+                '{"list":[{"id":%s}]}' % nested(125)]
+
+# A tree has at most so many values.
+MOST = 16384
+# Texts of which a part is repeated, and what their trees are: those with as many values, and with one more.
+COUNTED = [
+    (("[", "0,", MOST - 2, "0]"), [False, False, True, MOST - 1, 1]),
+    (("[", "0,", MOST - 1, "0]"), ["err", "TooLarge"]),
+    (('{"a":[', "{},", MOST - 3, "{}]}"), [False, True, False, 1, 3]),
+    (('{"a":[', "{},", MOST - 2, "{}]}"), ["err", "TooLarge"]),
+    (("[", '{"":[]},', MOST // 2, "0]"), ["err", "TooLarge"]),
+]
+
+# Lists, a name, and the text there of each item, or that the item has no such member or is no object.
+LISTED = [
+    (' [ { "id" : 1 } , 7 , {"b":2} , [{"id":3}] , {"id":{"id":[]}} ] ', ["1", "no object", "absent", "no object", '{"id":[]}']),
+    ('[{"id":1,"id":"\\u0041"},null,{}]', ['"A"', "no object", "absent"]),
+    ("[]", []), ("null", []),
+    ('[{"id":%s}]' % nested(125), [nested(125)]),
+]
+
+# Objects of which `list` is taken: the items, and the names and texts of the other members.
+AROUND = [
+    (' { "z" : [1,2], "list" : [ {"b":1,"a":[]} , null , 7, "\\u0041" ] , "id":{"b":3,"a":4}, "a":{"list":[3]} } ',
+     ['{"a":[],"b":1}', "null", "7", '"A"'], ["a", '{"list":[3]}', "id", '{"a":4,"b":3}', "z", "[1,2]"]),
+    (' { "Z" : -1 , "list" : [ ] , "a":{"list":[3]} , "b" : { } } ', [], ["Z", "-1", "a", '{"list":[3]}', "b", "{}"]),
+    ('{"list":[]}', [], []),
+    ('{"\\u006cist":[7]}', ["7"], []),
+    ('{"a":1,"list":[],"a":{"c":[],"b":"\\u0041","c":2}}', [], ["a", '{"b":"A","c":2}']),
+    ('{"id":1,"list":[],"id":"r"}', [], ["id", '"r"']),
+    ('{"b":[{"b":1,"a":2},{}],"":null,"list":[0]}', ["0"], ["", "null", "b", '[{"a":2,"b":1},{}]']),
+    ('{"a":{"b":1.5,"b":1},"list":[]}', [], ["a", '{"b":1}']),
+    # Names that rise up to one that occurred before, or that is less than all.
+    ('{"é":1,"list":[],"é":[ { "x" : 1.5 , "y" : [ 1 ] , "x" : { "b" : "\\u0041\\n" , "a" : true , "b" : { } } } ]}',
+     [], ["é", '[{"x":{"a":true,"b":{}},"y":[1]}]']),
+    ('{"b":{"z":"\\"","y":{"d":[{}],"c":[],"":null}},"list":[],"a":%s}' % LATE[65], [],
+     ["a", '{"a":1,' + LATE[65][1:].replace(',"a":1', ""), "b", '{"y":{"":null,"c":[],"d":[{}]},"z":"\\""}']),
+    ('{"list":[],"x":%s}' % nested(126), [], ["x", nested(126)]),
+    ('{"list":[%s]}' % nested(125), [nested(125)], []),
+]
+WITHOUT_LIST = ["{}", ' {"b":{"list":[1]},"a":[{}]} ', '{"b":1,"b":2}']
+NO_SPLIT = ["", "[]", '{"list":[]', '{"list":[]} {}', '{"list":[1.5]}', '{"list":{}}', '{"list":null}', '{"a":1} 2',
+            '{"b":[0.5],"list":[]}', '{"list":[],"list":[]}', '{"list":[{"a":1,"a":1}]}', '{"a":1.5,"a":1,"list":[]}',
+            '{"b":[0.5]}', '{"list":[],"b":{"c":[-0]}}', '{"list":[],"x":%s}' % nested(127), '{"list":[%s]}' % nested(126),
+            '{"list":[],"x":{"a":1e400,"a":1}}', '{"list":[],"x":[1,]}']
+
+# Lists that are passed over with nothing kept, and texts that aren't.
+PASSED = ["[]", ' [ { "a" : 1 } , { "a" : [ ] } ] ', "[-9223372036854775808,18446744073709551615,0,-1]",
+          '[null,true,false,"\\u0041"]', '[{"a":1,"a":{"b":2,"b":[]}}]', nested(127)]
+NOT_PASSED = ["", "{}", "7", "[", "[]]", "[] []", "[1,]", "[1.5]", '[{"a":[1e2]}]', "[-0]", "[18446744073709551616]",
+              "[-9223372036854775809]", '[{"a":1]', '[{"a":}]', nested(128)]
+
+# Texts that may be JSON, and texts that are none.
+MAY_BE = ["{}", "[1.5]", ' {"a":1,"a":2} ', '"\\u0041"', "7", nested(127)]
+MAY_NOT = ["", '{"a":[{"a":1},{"a"', "[1,]", "[] []", '{"a":01}', "nul", nested(128)]
+
+# Texts whose value has a number that isn't whole, texts whose value has none, and texts of which it isn't told.
+FRACTIONS = ["1.5", "-0", "[1,[{\"a\":1e2}]]", '{"a":1,"a":1.5}', '{"a":1.5,"b":1}', '{"a":1.5,"a":2.5}', '{"a":{"b":1,"b":1e1},"c":[]}',
+             "18446744073709551616", "[-9223372036854775809,1]"]
+NO_FRACTIONS = ["0", "[1,[{\"a\":-7}]]", '{"a":1,"a":2}', '"1.5"', " {} ", nested(127)]
+NOT_TOLD = ['{"a":1.5,"a":1}', "1e400", "[1.5,1e400]", "[1.5", "1.5 1", "", nested(128)]
+
+# Canonical texts that are judged with no tree, and how deep they nest.
+JUDGED = [("null", 0), ("[]", 1), ('"\\u0001\\t\\""', 0), ('{"":{"a":[-9223372036854775808,18446744073709551615,0]},"a":1}', 3),
+          ('{"type\\u0000":4,"type\\"x":1,"typeURI":2,"é":"\x7f"}', 1), (nested(100), 100), (nested(127), 127)]
+# Texts that are not canonical: by an escape, a number, a blank, the order of names, or since they are no JSON.
+NOT_JUDGED = ['"\\u0041"', '"\\/"', '"\\u001F"', '"\\u000a"', '"\\ud83d\\ude00"', '["a","\\u0009"]', "-0", "1.0", "1e2", "[1.5]",
+              "18446744073709551616", "-9223372036854775809", "[1, 2]", "1\n", '{"b":1,"a":2}', '{"a":1,"a":2}',
+              '{"a":1.5,"a":1}', "", "[", "[1,]", "{}{}", "nul", nested(128)]
+NAMED = '{"id":"r","name":{"id":"s"},"no":1}'
+# Canonical texts, and the text that the value is, if it is one.
+PLAIN_TEXTS = [('"r"', ["r"]), ('""', [""]), ('"\\n\\\\\\u0001\\""', ['\n\\\x01"']), ('"é😀\x7f"', ["é😀\x7f"]), ("null", []), ("7", []),
+               ('["r"]', []), ('{"id":"r"}', [])]
+TEXTS_AT = [("id", ["some", "r"]), ("name", ["none"]), ("no", ["none"]), ("other", ["none"])]
+
+# Canonical texts of lists and of null, with those of their items, and of values that are no list.
+LISTS = [("[]", []), ("null", []), ('[1,"a",{"b":[2]},[]]', ["1", '"a"', '{"b":[2]}', "[]"]), ('["\\n",-1]', ['"\\n"', "-1"]),
+         (nested(127), [nested(126)])]
+NO_LISTS = ["7", '"null"', "{}", "true", '{"a":[]}']
+
+BYTES = b"twenty-two bytes long!"
+LONG = b"\x07" * 10000
+
+
+def reads():
+    """Readings of these bytes: the size of a piece, the read that fails (0 is none), the limit, and the answer."""
+    for piece in (1, 7, 22, 4096):
+        yield BYTES, piece, 0, 22, ["ok", BYTES]
+        yield BYTES, piece, 0, 21, ["err", "TooLarge"]
+    yield b"", 1, 0, 0, ["ok", b""]
+    for limit in (10000, 20000):
+        yield LONG, 10000, 0, limit, ["ok", LONG]
+    yield LONG, 10000, 0, 9999, ["err", "TooLarge"]
+    # The last read gives nothing: 23 reads of a byte, 5 of seven, 2 of all.
+    for piece, count in ((1, 23), (7, 5), (22, 2)):
+        for failing in range(1, count + 1):
+            yield BYTES, piece, failing, 22, ["err", "ReadFault"]
+        yield BYTES, piece, count + 1, 22, ["ok", BYTES]
+    # The third read decides that there are more than 20 bytes: a failure of the fourth changes nothing.
+    for failing in (1, 2, 3):
+        yield BYTES, 7, failing, 20, ["err", "ReadFault"]
+    yield BYTES, 7, 4, 20, ["err", "TooLarge"]
+    yield BYTES, 7, 0, 20, ["err", "TooLarge"]
+
+
+def writes():
+    """Writings of these bytes: the size of a piece, what fails and at which write, and the answer with what was written."""
+    for piece, count in ((1, 22), (7, 4), (22, 1)):
+        for failing in range(1, count + 1):
+            for how in ("refuses", "takes nothing"):
+                yield piece, how, failing, ["err", "WriteFault", BYTES[:(failing - 1) * piece]]
+        yield piece, "never", 0, ["ok", BYTES]
+        yield piece, "refuses", count + 1, ["ok", BYTES]
+
+# Times: their instants in nanoseconds since 1970, their offsets in minutes, and their canonical spellings.
+SPELLED_TIMES = [
+    ("2024-03-01T12:00:00Z", 1709294400 * 10**9, 0, "2024-03-01T12:00:00Z"),
+    ("0001-01-01T00:00:00+14:00", -62135647200 * 10**9, 840, "0001-01-01T00:00:00+14:00"),
+    ("9998-12-31T23:59:59.999999999-14:00", 253370815200 * 10**9 - 1, -840, "9998-12-31T23:59:59.999999999-14:00"),
+    ("2024-03-01T12:00:00.500-00:00", 1709294400 * 10**9 + 5 * 10**8, 0, "2024-03-01T12:00:00.5Z"),
+    ("2024-02-29T00:00:00Z", 1709164800 * 10**9, 0, "2024-02-29T00:00:00Z"),
+    ("2000-02-29T00:00:00Z", 951782400 * 10**9, 0, "2000-02-29T00:00:00Z"),
+    ("2024-03-01T12:00:00.120000000+0530", 1709274600 * 10**9 + 12 * 10**7, 330, "2024-03-01T12:00:00.12+05:30"),
+    ("2014-02-14T01:20:47.932842+0000", 1392340847932842 * 1000, 0, "2014-02-14T01:20:47.932842Z"),
+    ("1970-01-01T00:00:00.000-0000", 0, 0, "1970-01-01T00:00:00Z"),
+]
+
+# Texts that are no times, and why.
+NO_TIMES = [
+    ("2024-03-01T12:00:60Z", "Range"), ("2023-02-29T00:00:00Z", "Range"), ("1900-02-29T00:00:00Z", "Range"),
+    ("0000-03-01T00:00:00Z", "Range"), ("9999-03-01T00:00:00Z", "Range"), ("2024-03-01T24:00:00Z", "Range"),
+    ("2024-03-01T12:60:00Z", "Range"), ("2024-04-31T12:00:00Z", "Range"), ("2024-13-01T00:00:00+15:00", "Range"),
+    ("2024-03-01T00:00:00+14:01", "Offset"), ("2024-03-01T00:00:00+15:00", "Offset"),
+    ("2024-03-01T00:00:00+13:60", "Offset"), ("2024-03-01T00:00:00.1234567890Z", "Shape"),
+    ("2024-03-01T00:00:00.Z", "Shape"), ("2024-03-01t00:00:00Z", "Shape"), ("2024-03-01T00:00:00z", "Shape"),
+    ("2024-03-01T00:00:00+01", "Shape"), ("2024-03-01T00:00:00", "Shape"), ("2024-03-01 00:00:00Z", "Shape"),
+    (" 2024-03-01T00:00:00Z", "Shape"), ("2024-03-01T00:00:00Z\n", "Shape"), ("٢024-03-01T00:00:00Z", "Shape"), ("", "Shape"),
+]
+
+
+def values():
+    """Values, their texts, and why others are none."""
+    for text, spelled in SPELLED:
+        yield "value", ["text", text], ["ok", spelled], CANONICAL
+        yield "tree", ["text", text], ["ok", spelled], VALUES
+    for spelled in {spelled: None for _, spelled in SPELLED}:
+        yield "canonical", [spelled], ["ok", spelled], CANONICAL
+    for text, spelled in TWICE:
+        yield "value", ["text", text], ["ok", spelled], CANONICAL
+        yield "tree", ["text", text], ["err", "NeedsFullParse"], VALUES
+    yield "value", ["text", '{"a":1,"a":1.5}'], ["err", "NotWhole"], CANONICAL
+    for number in NOT_WHOLE:
+        for text in (number, '{"measurements":[{"metricId":"m1","result":%s}]}' % number):
+            yield "value", ["text", text], ["err", "NotWhole"], CANONICAL
+            yield "tree", ["text", text], ["err", "NeedsFullParse"], VALUES
+    for number in WHOLE:
+        text = '{"measurements":[{"metricId":"m1","result":%s}]}' % number
+        yield "value", ["text", text], ["ok", text], CANONICAL
+    for data in NO_JSON:
+        yield "value", ["text", data], ["err", "NotJson"], CANONICAL
+    for text in ("", "[1", "[1]]", "{} {}", '{"a"}', "[1,]", '"\\ud800"', "nul", nested(128)):
+        yield "tree", ["text", text], ["err", "NeedsFullParse"], VALUES
+    yield "tree", ["text", LATE[64]], ["ok", '{"a":1,' + LATE[64][1:].replace(',"a":1', "")], VALUES
+    yield "tree", ["text", LATE[65]], ["err", "NeedsFullParse"], VALUES
+    yield "value", ["text", LATE[65]], ["ok", '{"a":1,' + LATE[65][1:].replace(',"a":1', "")], CANONICAL
+    yield "value", ["text", "1e400"], ["err", "NotJson"], "DECISIONS: Reading JSON"
+    for text, fault in NO_CANONICAL:
+        yield "canonical", [text], ["err", fault], CANONICAL
+
+
+def looks():
+    """What is seen of a value, whether it is held or in a tree."""
+    for text, *kind in KINDS:
+        for how in ("value", "tree"):
+            yield how, ["kind", text], kind, VALUES
+    for text, asked, found in FOUND:
+        for how in ("value", "tree"):
+            yield how, [asked[0], text, *asked[1:]], found, VALUES
+
+
+def objects():
+    """Objects that are read as the texts of their members, and trees with many values."""
+    for text, name, found in ROWS_OF:
+        yield "row", ["member", text, name], ["some", *found] if found else ["none"], VALUES
+    for text, asked, found in FOUND:
+        if asked[0] in ("within", "rewritten_text") and text.startswith("{"):
+            yield "row", [asked[0], text, *asked[1:]], found, VALUES
+    for text in OTHER_THAN_ROWS:
+        yield "row", ["member", text, "a"], ["none"], VALUES
+    for text in NO_ROWS:
+        yield "row", ["member", text, "a"], ["err", "NeedsFullParse"], VALUES
+    for text, found in ROW_LISTS:
+        yield "split_rows", [text, "id"], ["around", *found], VALUES
+    yield "split_rows", ['{"lists":[{"id":1}]}', "id"], ["none"], VALUES
+    for text in NO_ROW_LISTS:
+        yield "split_rows", [text, "id"], ["err", "NeedsFullParse"], VALUES
+    for text, kind in COUNTED:
+        yield "repeated", ["tree", *text], kind, VALUES
+    # The visitor reads a tree of each item. Other members may have more values.
+    yield "repeated", ["split", '{"list":[0,[', "0,", MOST - 1, "0],1]}"], ["err", "TooLarge"], VALUES
+    yield "repeated", ["split", '{"list":[7],"a":[', "0,", MOST, '0],"a":1}'], ["around", 1, "7", "a", "1"], VALUES
+
+
+def made():
+    """The canonical text of a text."""
+    yield "quoted", ['a"b\n'], ["ok", '"a\\"b\\n"'], CANONICAL
+
+
+def passed():
+    """Objects of which a list is taken, lists that are passed over, and texts that may be JSON."""
+    for text, items, texts in AROUND:
+        yield "split", [text], ["around", len(items), *items, *texts], VALUES
+    for text in WITHOUT_LIST:
+        yield "split", [text], ["none"], VALUES
+    for text in NO_SPLIT:
+        yield "split", [text], ["err", "NeedsFullParse"], VALUES
+    for text in PASSED:
+        yield "check_list", [text], ["ok"], VALUES
+    for text in NOT_PASSED:
+        yield "check_list", [text], ["err", "NeedsFullParse"], VALUES
+    for text in MAY_BE:
+        yield "has_json_syntax", [text], [True], VALUES
+    for text in MAY_NOT:
+        yield "has_json_syntax", [text], [False], VALUES
+    for fraction, texts in [(True, FRACTIONS), (False, NO_FRACTIONS)]:
+        for text in texts:
+            yield "find_fraction", [text], ["some", fraction], VALUES
+    for text in NOT_TOLD:
+        yield "find_fraction", [text], ["none"], VALUES
+    for text, depth in JUDGED:
+        yield "is_canonical", [text, depth], [True], CANONICAL
+        yield "is_canonical", [text, 255], [True], CANONICAL
+        for call in ("spells_object", "spells_object_with"):
+            yield call, [text], [text.startswith("{")], VALUES
+        yield "nests_within", [text, depth], [True], VALUES
+        yield "nests_within", [text, 255], [True], VALUES
+        if depth:
+            yield "is_canonical", [text, depth - 1], [False], CANONICAL
+            yield "nests_within", [text, depth - 1], [False], VALUES
+    for text in NOT_JUDGED:
+        yield "is_canonical", [text, 255], [False], CANONICAL
+    for name, expected, has in [("id", "r", True), ("id", "s", False), ("name", "s", False), ("no", "1", False),
+                                ("other", "r", False)]:
+        yield "has_text_at", [NAMED, name, expected], [has], VALUES
+    yield "has_text_at", ['["id","r"]', "id", "r"], [False], VALUES
+    yield "has_text_at", ['{"\\u0001":"\\n"}', "\x01", "\n"], [True], VALUES
+    for name, answer in TEXTS_AT:
+        yield "text_at", [NAMED, name], answer, VALUES
+    yield "text_at", ['["id","r"]', "id"], ["no object"], VALUES
+    yield "text_at", ['{"\\u0001":"\\n"}', "\x01"], ["some", "\n"], VALUES
+    for text, found in PLAIN_TEXTS:
+        yield "plain_text", [text], ["some", *found] if found else ["none"], VALUES
+    for text, items in LISTS:
+        yield "list_texts", [text], ["some", *items], VALUES
+    for text, found in LISTED:
+        yield "list_rows", [text, "id"], ["some", *found], VALUES
+    for text in NO_LISTS:
+        yield "list_texts", [text], ["none"], VALUES
+        yield "list_rows", [text, "id"], ["none"], VALUES
+
+
+def streams():
+    """Readings and writings in pieces, with a failure at each call in turn."""
+    for data, piece, failing, limit, answer in reads():
+        yield "read_to_limit", [data, piece, failing, limit], answer, STREAMS
+    # The rest behind a start of five bytes: the limit is on both together.
+    yield "read_rest", [BYTES[5:], 7, 0, 22, BYTES[:5]], ["ok", BYTES], STREAMS
+    for limit in (21, 4, 0):
+        yield "read_rest", [BYTES[5:], 7, 0, limit, BYTES[:5]], ["err", "TooLarge"], STREAMS
+    yield "read_rest", [BYTES[5:], 7, 1, 22, BYTES[:5]], ["err", "ReadFault"], STREAMS
+    # What is borrowed with a limit, and what is left to read then. Nothing is borrowed of a source that is read in pieces.
+    for limit in (0, 1, 21, 22, 23, 2**64 - 1):
+        taken, left = BYTES[:limit], BYTES[limit:]
+        yield "borrow_next", [BYTES, 0, limit], ["some", taken, left], STREAMS
+        yield "borrow_next", [BYTES, 7, limit], ["none", BYTES], STREAMS
+    yield "borrow_next", [b"", 0, 5], ["some", b"", b""], STREAMS
+    # A reader of std that gives a byte a call: five take six calls, and a failed call isn't made again.
+    for failing in range(1, 7):
+        yield "read_by_std", [b"xxxxx", failing, 22], ["err", "ReadFault", failing], STREAMS
+    yield "read_by_std", [b"xxxxx", 7, 22], ["ok", b"xxxxx", 6], STREAMS
+    yield "read_by_std", [b"xxxxx", 4, 2], ["err", "TooLarge", 3], STREAMS
+    yield "read_by_std", [BYTES, 0, 22], ["ok", BYTES, 23], STREAMS
+    for piece, how, failing, answer in writes():
+        yield "write_all", [BYTES, piece, how, failing], answer, STREAMS
+    yield "write_by_std", [BYTES, 22], ["ok", BYTES], STREAMS
+    yield "write_by_std", [BYTES, 3], ["err", "WriteFault", BYTES[:3]], STREAMS
+
+
+def times():
+    """Times, and texts that are none."""
+    for text, instant, offset, spelled in SPELLED_TIMES:
+        yield "time", [text], ["ok", instant, offset, spelled], TIMES
+    for text, fault in NO_TIMES:
+        yield "time", [text], ["err", fault], TIMES
+
+ROWS = [row for rows in (values, looks, objects, made, passed, streams, times) for row in rows()]

@@ -1,0 +1,248 @@
+"""The command line: which words are taken, and what is told of them.
+
+How help and refusals are worded is clap's, and no page fixes it. Their texts stand here as the command of version 0.1.0
+printed them, so that a change of one is seen.
+"""
+
+CALLS = {"parse": ["parse"]}
+
+PAGE = "DECISIONS: The command"
+
+# What is told of the program and of each command, by the command's name.
+HELP = {
+    "": """\
+Keeps replicas of a CADF log and makes them converge
+
+Usage: cadf <COMMAND>
+
+Commands:
+  join               Writes the replica file of what all inputs tell
+  missing            Writes the replica file of what TO lacks of FROM
+  missing-by         Writes the replica file of what FROM has beyond INVENTORY
+  inventory          Writes the digests of all that a file tells
+  sketch             Writes a short sketch of the digests of all that a file tells
+  missing-by-sketch  Writes the replica file of what FROM has beyond SKETCH
+  rule               Writes the replica file with a ruling on a conflict
+  rehearse           Plays a schedule, and tells what it leaves at each site
+  show               Prints what a file tells, as a log
+  check              Reads a file whole, and counts its atoms and its conflicts
+  help               Print this message or the help of the given subcommand(s)
+
+Options:
+  -h, --help     Print help
+  -V, --version  Print version
+""",
+    "join": """\
+Writes the replica file of what all inputs tell
+
+Usage: cadf join [OPTIONS] <FILE>...
+
+Arguments:
+  <FILE>...  Replica files, logs or events
+
+Options:
+      --log <ID>  The log's identifier, else that of the first input that names one
+  -h, --help      Print help
+""",
+    "missing": """\
+Writes the replica file of what TO lacks of FROM
+
+Usage: cadf missing <FROM> <TO>
+
+Arguments:
+  <FROM>  The sender's file
+  <TO>    The receiver's file, as it is or was
+
+Options:
+  -h, --help  Print help
+""",
+    "missing-by": """\
+Writes the replica file of what FROM has beyond INVENTORY
+
+Usage: cadf missing-by <FROM> <INVENTORY>
+
+Arguments:
+  <FROM>       The sender's file
+  <INVENTORY>  The receiver's inventory, as it is or was
+
+Options:
+  -h, --help  Print help
+""",
+    "inventory": """\
+Writes the digests of all that a file tells
+
+Usage: cadf inventory <FILE>
+
+Arguments:
+  <FILE>  A replica file or a log
+
+Options:
+  -h, --help  Print help
+""",
+    "sketch": """\
+Writes a short sketch of the digests of all that a file tells
+
+Usage: cadf sketch [OPTIONS] <FILE>
+
+Arguments:
+  <FILE>  A replica file or a log
+
+Options:
+      --cells <N>  How many cells, a multiple of 3 from 3 to 12582912, else 198
+      --salt <A>   An odd number below 2^64, else one that follows from the digests
+  -h, --help       Print help
+""",
+    "missing-by-sketch": """\
+Writes the replica file of what FROM has beyond SKETCH
+
+Usage: cadf missing-by-sketch <FROM> <SKETCH>
+
+Arguments:
+  <FROM>    The sender's file
+  <SKETCH>  The receiver's sketch, as it is or was
+
+Options:
+  -h, --help  Print help
+""",
+    "rule": """\
+Writes the replica file with a ruling on a conflict
+
+Usage: cadf rule <LETTER> <KEY> <PLACE> <FILE>
+
+Arguments:
+  <LETTER>  The key's kind: E event, G geolocation, M metric, P property, R resource
+  <KEY>     The identifier or the name that has several values
+  <PLACE>   Which of them is to be shown, from 1 in their order
+  <FILE>    A replica file or a log
+
+Options:
+  -h, --help  Print help
+""",
+    "rehearse": """\
+Plays a schedule, and tells what it leaves at each site
+
+Usage: cadf rehearse <LOG> <SITES> <SCRIPT>
+
+Arguments:
+  <LOG>     The identifier of the log that the sites keep
+  <SITES>   How many sites there are, 1 to 64
+  <SCRIPT>  What the sites learn and send each other, a turn a line
+
+Options:
+  -h, --help  Print help
+""",
+    "show": """\
+Prints what a file tells, as a log
+
+Usage: cadf show [OPTIONS] <FILE>
+
+Arguments:
+  <FILE>  A replica file or a log
+
+Options:
+      --conflicts  Print the keys with several values instead
+  -h, --help       Print help
+""",
+    "check": """\
+Reads a file whole, and counts its atoms and its conflicts
+
+Usage: cadf check <FILE>
+
+Arguments:
+  <FILE>  A replica file or a log
+
+Options:
+  -h, --help  Print help
+""",
+}
+HELP_OF_HELP = """\
+Print this message or the help of the given subcommand(s)
+
+Usage: cadf help [COMMAND]...
+
+Arguments:
+  [COMMAND]...  Print help for the subcommand(s)
+"""
+
+# Words that are taken, and the request that they make.
+TAKEN = [
+    (["join", "a"], ["Join", "none", "a"]),
+    (["join", "a", "--log", "g", "b"], ["Join", "some", "g", "a", "b"]),
+    (["join", "--log=", "", "b", "b"], ["Join", "some", "", "", "b", "b"]),
+    (["join", "--log=--log", "--", "--log", "-h"], ["Join", "some", "--log", "--log", "-h"]),
+    (["join", "-"], ["Join", "none", "-"]),
+    (["missing", "a", "b"], ["Missing", "a", "b"]),
+    (["missing", "--", "-a", "--help"], ["Missing", "-a", "--help"]),
+    (["missing-by", "a", "b"], ["MissingBy", "a", "b"]),
+    (["inventory", "a b\tc\u00fc\U0001f512"], ["Inventory", "a b\tc\u00fc\U0001f512"]),
+    (["sketch", "a"], ["Sketch", "none", "none", "a"]),
+    (["sketch", "a", "--salt", "5", "--cells=9"], ["Sketch", "some", "9", "some", "5", "a"]),
+    (["sketch", "--cells=", "--salt=-1", "--", "-a"], ["Sketch", "some", "", "some", "-1", "-a"]),
+    (["missing-by-sketch", "a", "b"], ["MissingBySketch", "a", "b"]),
+    (["rule", "E", "e1", "2", "a"], ["Rule", "E", "e1", "2", "a"]),
+    (["rule", "", "", "", ""], ["Rule", "", "", "", ""]),
+    (["rehearse", "g", "3", "a"], ["Rehearse", "g", "3", "a"]),
+    (["rehearse", "", "065", ""], ["Rehearse", "", "065", ""]),
+    (["show", "a"], ["Show", "false", "a"]),
+    (["show", "a", "--conflicts"], ["Show", "true", "a"]),
+    (["check", "check"], ["Check", "check"]),
+]
+
+# Words that are refused: the fault, with a tip where there is one, and the usage behind it.
+REFUSED = [
+    ([], "'cadf' requires a subcommand but one was not provided\n"
+         "  [subcommands: join, missing, missing-by, inventory, sketch, missing-by-sketch, rule, rehearse, show, check, help]", "<COMMAND>"),
+    ([""], "unrecognized subcommand ''", "<COMMAND>"),
+    (["nothing"], "unrecognized subcommand 'nothing'\n\n  tip: a similar subcommand exists: 'join'", "<COMMAND>"),
+    (["shwo", "a"], "unrecognized subcommand 'shwo'\n\n  tip: a similar subcommand exists: 'show'", "<COMMAND>"),
+    (["--log", "g"], "unexpected argument '--log' found", "<COMMAND>"),
+    (["help", "nothing"], "unrecognized subcommand 'nothing'", "<COMMAND>"),
+    (["help", "--help"], "unrecognized subcommand '--help'", "<COMMAND>"),
+    (["help", "join", "x"], "unrecognized subcommand 'x'", "join [OPTIONS] <FILE>..."),
+    (["join"], "the following required arguments were not provided:\n  <FILE>...", "join <FILE>..."),
+    (["join", "--log", "g"], "the following required arguments were not provided:\n  <FILE>...", "join --log <ID> <FILE>..."),
+    (["join", "--log", "g", "--log", "h", "a"], "the argument '--log <ID>' cannot be used multiple times",
+     "join [OPTIONS] <FILE>..."),
+    (["join", "--logs=g", "a"], "unexpected argument '--logs' found\n\n  tip: a similar argument exists: '--log'",
+     "join --log <ID> <FILE>..."),
+    (["join", "-V"], "unexpected argument '-V' found\n\n  tip: to pass '-V' as a value, use '-- -V'", "join [OPTIONS] <FILE>..."),
+    (["missing", "a"], "the following required arguments were not provided:\n  <TO>", "missing <FROM> <TO>"),
+    (["missing-by", "a", "b", "c"], "unexpected argument 'c' found", "missing-by <FROM> <INVENTORY>"),
+    (["inventory"], "the following required arguments were not provided:\n  <FILE>", "inventory <FILE>"),
+    (["sketch", "--cells", "9"], "the following required arguments were not provided:\n  <FILE>", "sketch --cells <N> <FILE>"),
+    (["sketch", "--salt", "1", "--salt", "3", "a"], "the argument '--salt <A>' cannot be used multiple times",
+     "sketch [OPTIONS] <FILE>"),
+    (["sketch", "--cell", "9", "a"], "unexpected argument '--cell' found\n\n  tip: a similar argument exists: '--cells'",
+     "sketch --cells <N> <FILE>"),
+    (["missing-by-sketch", "a"], "the following required arguments were not provided:\n  <SKETCH>",
+     "missing-by-sketch <FROM> <SKETCH>"),
+    (["rule", "E"], "the following required arguments were not provided:\n  <KEY>\n  <PLACE>\n  <FILE>",
+     "rule <LETTER> <KEY> <PLACE> <FILE>"),
+    (["rehearse", "g", "2"], "the following required arguments were not provided:\n  <SCRIPT>",
+     "rehearse <LOG> <SITES> <SCRIPT>"),
+    (["show", "--conflict", "a"], "unexpected argument '--conflict' found\n\n  tip: a similar argument exists: '--conflicts'",
+     "show --conflicts <FILE>"),
+    (["show", "--conflicts=1", "a"], "unexpected value '1' for '--conflicts' found; no more were expected",
+     "show --conflicts <FILE>"),
+    (["show", "--conflicts", "--conflicts", "a"], "the argument '--conflicts' cannot be used multiple times",
+     "show [OPTIONS] <FILE>"),
+    (["show", "-x", "a"], "unexpected argument '-x' found\n\n  tip: to pass '-x' as a value, use '-- -x'", "show [OPTIONS] <FILE>"),
+    (["check", "a", "b"], "unexpected argument 'b' found", "check <FILE>"),
+]
+
+
+def refusal(fault, usage):
+    return "error: %s\n\nUsage: cadf %s\n\nFor more information, try '--help'.\n" % (fault, usage)
+
+
+def row(words, fields):
+    return "parse", ["cadf", *words], fields, PAGE
+
+ROWS = [row([*name.split(), flag], ["help", text]) for name, text in HELP.items() for flag in ("--help", "-h")]
+ROWS += [row(["help", *name.split()], ["help", text]) for name, text in HELP.items()]
+ROWS += [row(["help", "help"], ["help", HELP_OF_HELP])]
+ROWS += [row([flag], ["help", "cadf 0.1.0\n"]) for flag in ("--version", "-V")]
+ROWS += [row(words, ["ok", *fields]) for words, fields in TAKEN]
+ROWS += [row(words, ["refused", refusal(fault, usage)]) for words, fault, usage in REFUSED]
+ROWS += [row(["join", "--log"], ["refused", "error: a value is required for '--log <ID>' but none was supplied\n\n"
+                                 "For more information, try '--help'.\n"])]
