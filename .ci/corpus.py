@@ -31,6 +31,7 @@ FUNCTION = re.compile(r"^( *)(?:pub(?:\([a-z]+\))? )?(?:const |extern \"C\" )?fn
 CONSTANT = re.compile(r"^(?:pub(?:\([a-z]+\))? )?const (\w+):.*;$")
 CYCLE = re.compile(r"^\s*#\[cycle\((\w+)\)\]$")
 CLAUSE = re.compile(r"^\s*(?:requires|ensures|ghost)\b")
+ENSURES = re.compile(r"^\s*ensures (?:([\w-]+) )?\{")
 
 
 class Row:
@@ -156,6 +157,24 @@ def places(row):
             body = "\n".join(lines[first:last + 1])
             found += [(start + m.start(), start + m.end(), at + 1, last + 1) for m in pattern.finditer(body)]
     return found
+
+
+def without_clause(text, function, clause):
+    """Empties the lines of what the function ensures by this name; `ensures` is the clause that has none."""
+    lines = text.split("\n")
+    for name, at, (first, _) in bodies(text):
+        depth = 0
+        for number in range(at, first) if name == function else ():
+            head = ENSURES.match(lines[number])
+            if depth > 0 or head and (head.group(1) or "ensures") == clause:
+                depth += lines[number].count("{") - lines[number].count("}")
+                lines[number] = ""
+    return "\n".join(lines)
+
+
+def ensures(row, clause):
+    """Tells whether the row's function ensures a clause of this name."""
+    return without_clause(source(row), row.function, clause) != source(row)
 
 
 def attributes(row):
