@@ -10,7 +10,11 @@ of a crate.
 
 A table of definitions, as in docs/AUDIT.md, has rows with the names, the file and its length in lines without comments,
 imports and blanks. The names must be defined there, and the length and the sums above the tables must be right. What
-such a file imports of the crates must be in a table too.
+such a file imports of the crates must be in a table too, and what clauses cite in the sources that the page names, as
+`crates/*/src/laws.rt`.
+
+A type that implements a trait is named as `Walk for PathSet`. Such an `impl` must stand in the sources, and each trait
+that a page with promises names by its path must have one in the page.
 
 Then compares the list of public calls of docs/ARCHITECTURE.md with the sources and with the tables of calls, as
 tests/docs/public_calls.py says.
@@ -20,7 +24,7 @@ import glob
 import os
 import re
 import sys
-
+import corpus
 from tests import TOP
 from tests.docs.public_calls import uncalled
 from tests.docs.reachable import is_reachable, unreached_laws
@@ -36,6 +40,11 @@ FILE = re.compile(r"`((?:\w+/)?specs/[\w/]+\.antt)`")
 IMPORT = re.compile(r"(?m)^(?:pub )?use [^\n{]*(?:\{[^}]*\})?.*\n")
 AUDITED = re.compile(r"(?m)^\| (`.*`) \| `(\w+)/(specs/\w+\.antt)` \| (\d+) \|")
 IMPORTED = re.compile(r"use Rattle\.(cadf_\w+)\.(specs\.\w+)(?=\.\{| as |\s|$)", re.M)
+IMPL = re.compile(r"(?m)^impl(?:<[^{]*?>)? (?:\w+::)*(\w+)(?:<[^{]*?>)? for (\w+)")
+TRAIT = re.compile(r"(?m)^pub trait (\w+)")
+IMPLEMENTED = re.compile(r"`(\w+) for (\w+)`")
+SOURCES = re.compile(r"`(crates/[\w*]+/src/\w+\.rt)`")
+CITED = re.compile(r"ghost use Rattle\.(cadf_\w+)\.specs\.(\w+)\.\{([^}]*)\}")
 SUM = re.compile(r"([\d,]+) lines in (\d+) files")
 
 
@@ -49,6 +58,26 @@ def clauses():
             found[name] |= set(CLAUSE.findall(behind))
         found[os.path.basename(path)[:-3]] |= set()
     return found
+
+
+def sources():
+    """The texts of all sources, one after another."""
+    for path in glob.glob(os.path.join(TOP, "crates", "*", "src", "**", "*.rt"), recursive=True):
+        with open(path, encoding="utf-8") as file:
+            yield file.read()
+
+
+def unimplemented(text):
+    """The types that implement no such trait, and the traits of which the text names no type that implements them."""
+    there, traits = set(), set()
+    for source in sources():
+        there.update(IMPL.findall(source))
+        traits.update(TRAIT.findall(source))
+    named = set(IMPLEMENTED.findall(text))
+    yield from ("no %s for %s" % pair for pair in sorted(named - there))
+    for path in sorted(set(PATH.findall(text)) if named else ()):
+        if path.split("::")[-1] in traits - {trait for trait, _ in named}:
+            yield "%s without a type that implements it" % path
 
 
 def definitions():
@@ -113,8 +142,31 @@ def unlisted(rows):
                     yield "%s/%s imports %s of %s, which is in no table" % (crate, path, module, other)
 
 
+def cited(path):
+    """The definitions that the clauses of a source cite, each with its crate and file."""
+    with open(path, encoding="utf-8") as file:
+        text = file.read()
+    clauses = [line for line in corpus.clauses_of(text) if not line.startswith("ghost use")]
+    words = set(re.findall(r"\w+", " ".join(clauses)))
+    for crate, module, names in CITED.findall(text):
+        for name in names.split(","):
+            if name.split(" as ")[-1].strip() in words:
+                yield name.split(" as ")[0].strip(), crate, "specs/%s.antt" % module
+
+
+def uncited(text):
+    """The definitions that the clauses of the sources cite that a page of tables names, and that no row names."""
+    listed = {(row[1], row[2]) for row in AUDITED.findall(text)}
+    patterns = SOURCES.findall(text) if listed else []
+    for path in sorted({path for pattern in patterns for path in glob.glob(os.path.join(TOP, pattern))}):
+        for name, crate, file in cited(path):
+            if (crate, file) not in listed:
+                yield "%s cites %s of %s/%s, which is in no table" % (os.path.relpath(path, TOP), name, crate, file)
+
+
 def unaudited(text):
     """What is wrong with the tables of definitions, and with their sums."""
+    yield from uncited(text)
     yield from unlisted(row for row in AUDITED.findall(text) if os.path.exists(os.path.join(TOP, "crates", *row[1:3])))
     for section in text.split("\n## "):
         rows = [row for row in AUDITED.findall(section) if os.path.exists(os.path.join(TOP, "crates", *row[1:3]))]
@@ -131,7 +183,7 @@ def main():
     for page in sys.argv[1:]:
         with open(page, encoding="utf-8") as file:
             text = file.read()
-        for line in [*unnamed(text, found), *unreached(text, found), *unaudited(text)]:
+        for line in [*unnamed(text, found), *unimplemented(text), *unreached(text, found), *unaudited(text)]:
             print("check-promises: %s: %s" % (page, line))
             missing += 1
         print("check-promises: %s names %d calls with clauses, %d paths, %d files" % (
