@@ -15,6 +15,7 @@ a process that has threads: start multiprocessing's workers by `spawn` or `forks
 import ctypes
 import json
 import re
+import sys
 from typing import Any, Iterable, NamedTuple, Optional, Tuple, Union
 
 from . import _library
@@ -30,6 +31,9 @@ _CHECKED = re.compile(rb"ok (.*) atoms (\d+) conflicts (\d+)\n", re.DOTALL)
 _ROOM = 4096
 _MOST_CELLS = 12_582_912
 _loaded: Optional[ctypes.CDLL] = None
+# Bytes of a length up to that of the largest object, whose contents the one who asked for them may still write.
+_new_bytes = ctypes.PYFUNCTYPE(ctypes.py_object, ctypes.c_void_p, ctypes.c_ssize_t)(
+    ("PyBytes_FromStringAndSize", ctypes.pythonapi))
 
 
 class CadfError(Exception):
@@ -59,11 +63,14 @@ class Check(NamedTuple):
 
 
 def _of(value: Input) -> bytes:
-    """The bytes of an input."""
+    """The bytes of an input, by no method that a class derived from its own may replace: the library believes their length.
+
+    Half of a surrogate pair becomes bytes that are no UTF-8, which the library refuses in its words.
+    """
     if isinstance(value, str):
-        return value.encode("utf-8")
+        return str.encode(value, "utf-8", "surrogatepass")
     if isinstance(value, (bytes, bytearray, memoryview)):
-        return bytes(value)
+        return memoryview(value).tobytes()
     raise TypeError("an input is bytes or a text, not %s" % type(value).__name__)
 
 
@@ -93,15 +100,21 @@ def _functions() -> ctypes.CDLL:
 
 
 def _call(name: str, room: int, *arguments: Any) -> bytes:
-    """The text that a function hands out, in a buffer of so much room or, where that is too little, in one that fits."""
+    """The text that a function hands out, with so much room at first or, where that is too little, with as much as it takes.
+
+    The library writes into the bytes that are returned. They are copied only where there was more room.
+    """
     function, length = getattr(_functions(), "cadf_" + name), ctypes.c_size_t()
     while True:
-        buffer = (ctypes.c_char * max(room, 1))()
-        status = function(*arguments, buffer, room, ctypes.byref(length))
+        try:
+            text = _new_bytes(None, min(room, sys.maxsize))
+        except (MemoryError, OverflowError):
+            raise CadfError(4, "out of memory") from None
+        status = function(*arguments, text, room, ctypes.byref(length))
         if length.value <= room:
             break
         room = length.value
-    text = ctypes.string_at(buffer, length.value)
+    text = text[:length.value]
     if status:
         raise CadfError(status, text.decode("utf-8", "replace") or "out of memory")
     return text

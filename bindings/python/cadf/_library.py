@@ -1,7 +1,7 @@
 """Finds and loads the shared library, and declares its functions."""
 import ctypes
 import os
-from typing import Iterator, Optional
+from typing import Optional
 
 NAME = "libcadf.so.0"
 VARIABLE = "CADF_LIBRARY"
@@ -31,22 +31,13 @@ FUNCTIONS = {
 }
 
 
-def places(package: str) -> Iterator[str]:
-    """Yields where the library may be: beside the package, and in the `lib` of each folder above that it may be installed under."""
-    yield os.path.join(package, NAME)
-    folder = package
-    while os.path.dirname(folder) != folder:
-        folder = os.path.dirname(folder)
-        yield os.path.join(folder, "lib", NAME)
+def find(package: str = os.path.dirname(os.path.abspath(__file__))) -> str:
+    """Returns the library to load: the one that CADF_LIBRARY names, the one in the package, or its name, for the loader.
 
-
-def find(package: Optional[str] = None) -> str:
-    """Returns the library to load: the one that CADF_LIBRARY names, one that is found, or its name for the loader to look for."""
-    named = os.environ.get(VARIABLE)
-    if named:
-        return named
-    found = places(package or os.path.dirname(os.path.abspath(__file__)))
-    return next((place for place in found if os.path.exists(place)), NAME)
+    No other folder is looked into: one above the package may be a folder that others write to.
+    """
+    beside = os.path.join(package, NAME)
+    return os.environ.get(VARIABLE) or (beside if os.path.exists(beside) else NAME)
 
 
 def load(path: Optional[str] = None) -> ctypes.CDLL:

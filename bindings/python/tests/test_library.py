@@ -82,6 +82,9 @@ class Calls(unittest.TestCase):
     def test_a_text_may_have_any_bytes(self):
         self.refuses(1, "input 1: not JSON", cadf.show, b'{"id":"g\x00')
         self.refuses(1, "input 1: not JSON", cadf.show, "")
+        self.refuses(1, "input 1: not JSON", cadf.check, '{"id":"\ud800","events":[]}')
+        self.refuses(2, "log name", cadf.join, [A], log="\ud800")
+        self.refuses(2, "key", cadf.rule, "P", "\udfff", 1, A)
         self.assertEqual(cadf.check('{"id":"Zürich \\u0000\U0001f600","events":[]}'.replace("\\u0000", "")).log, "Zürich \U0001f600")
 
     def test_a_text_larger_than_the_first_room(self):

@@ -1,4 +1,5 @@
-"""What needs no library: how it is found, errors, and the wheel."""
+"""What needs no library: how it is found, errors, sizes, and the wheel."""
+import ctypes
 import os
 import pickle
 import sys
@@ -21,24 +22,51 @@ class Library(unittest.TestCase):
         with mock.patch.dict(os.environ, {_library.VARIABLE: "/somewhere/else"}):
             self.assertEqual(_library.find(), "/somewhere/else")
 
-    def test_is_beside_the_package_before_others(self):
+    def test_is_beside_the_package_or_where_the_loader_looks(self):
         with tempfile.TemporaryDirectory() as prefix, mock.patch.dict(os.environ):
             os.environ.pop(_library.VARIABLE, None)
             package = os.path.join(prefix, "lib", "python3", "site-packages", "cadf")
             os.makedirs(package)
             self.assertEqual(_library.find(package), _library.NAME)
-            below = os.path.join(prefix, "lib", _library.NAME)
-            open(below, "w").close()
-            self.assertEqual(_library.find(package), below)
             beside = os.path.join(package, _library.NAME)
             open(beside, "w").close()
             self.assertEqual(_library.find(package), beside)
+
+    def test_is_in_no_folder_above_the_package(self):
+        with tempfile.TemporaryDirectory() as prefix, mock.patch.dict(os.environ):
+            os.environ.pop(_library.VARIABLE, None)
+            package = os.path.join(prefix, "user", "venv", "lib", "python3", "site-packages", "cadf")
+            os.makedirs(package)
+            planted = plant_above(package, prefix)
+            self.assertEqual(_library.find(package), _library.NAME)
+            self.assertIn(find_above(package), planted)
 
     def test_that_is_not_there_is_told_in_one_line(self):
         with self.assertRaises(ImportError) as caught:
             _library.load("/nowhere/libcadf.so.0")
         self.assertIn(_library.VARIABLE, str(caught.exception))
         self.assertNotIn("\n", str(caught.exception))
+
+
+def plant_above(package, top):
+    """Puts an empty library into each folder above the package up to that one, and into its `lib`. Returns their places."""
+    places = []
+    while package != top:
+        package = os.path.dirname(package)
+        os.makedirs(os.path.join(package, "lib"), exist_ok=True)
+        places += [os.path.join(package, _library.NAME), os.path.join(package, "lib", _library.NAME)]
+    for place in places:
+        open(place, "w").close()
+    return places
+
+
+def find_above(package):
+    """What a wrong `find` returns: the library in the `lib` of the nearest folder above that has one."""
+    while package != os.path.dirname(package):
+        package = os.path.dirname(package)
+        if os.path.exists(os.path.join(package, "lib", _library.NAME)):
+            return os.path.join(package, "lib", _library.NAME)
+    return _library.NAME
 
 
 class Errors(unittest.TestCase):
@@ -55,20 +83,104 @@ class Errors(unittest.TestCase):
 
 
 class Fake:
-    """A library that answers with its arguments' sizes, and says how much room it was given."""
+    """A library that answers with a text, and notes the room and the inputs that it was given."""
 
     def __init__(self, text, status=0):
-        self.text, self.status, self.rooms = text, status, []
+        self.text, self.status, self.rooms, self.inputs = text, status, [], []
 
     def __getattr__(self, name):
         def function(*arguments):
-            *_, buffer, room, length = arguments
+            *inputs, buffer, room, length = arguments
             self.rooms.append(room)
+            self.inputs.append([ctypes.string_at(each.bytes, each.length) for each in inputs if isinstance(each, _library.Bytes)])
             length._obj.value = len(self.text)
-            for at, byte in enumerate(self.text[:room]):
-                buffer[at] = byte
+            ctypes.memmove(buffer, self.text, min(room, len(self.text)))
             return self.status
         return function
+
+
+class Long:
+    """A library, called as C is, whose text has that length. It writes the text's first and last three bytes alone."""
+
+    def __init__(self, size):
+        kinds = [*_library.FUNCTIONS["show"], ctypes.c_void_p, ctypes.c_size_t, ctypes.POINTER(ctypes.c_size_t)]
+        self.size, self.cadf_show = size, ctypes.CFUNCTYPE(ctypes.c_int, *kinds)(self.answer)
+
+    def answer(self, _conflicts, _input, address, room, length):
+        length[0] = self.size
+        if room >= self.size:
+            ctypes.memmove(address, b"abc", 3)
+            ctypes.memmove(address + self.size - 3, b"xyz", 3)
+        return 0
+
+
+def call_by_int(name, room, *arguments):
+    """A wrong call: it takes the text out of its buffer by a function whose length is a C int."""
+    function, length = getattr(cadf._functions(), "cadf_" + name), ctypes.c_size_t()
+    function(*arguments, None, 0, ctypes.byref(length))
+    buffer = cadf._new_bytes(None, length.value)
+    function(*arguments, buffer, length.value, ctypes.byref(length))
+    return ctypes.string_at(buffer, length.value)
+
+
+class Sizes(unittest.TestCase):
+    """Texts of sizes beyond a C int's. The memory of all but their ends is never touched."""
+
+    def is_whole(self, size):
+        with mock.patch.object(cadf, "_loaded", Long(size)):
+            try:
+                text = cadf.show("{}")
+            except cadf.CadfError as error:
+                self.skipTest("%d bytes: %s" % (size, error))
+            except SystemError:
+                return False
+        return (len(text), text[:3], text[-3:]) == (size, b"abc", b"xyz")
+
+    def test_are_right_at_the_ends_of_a_c_int(self):
+        for size in (6, 2 ** 31 - 1, 2 ** 31, 2 ** 32, 2 ** 32 + 5, 2 ** 33 + 1):
+            self.assertTrue(self.is_whole(size), size)
+        with mock.patch.object(cadf, "_call", call_by_int):
+            self.assertEqual([self.is_whole(size) for size in (6, 2 ** 31, 2 ** 32 + 5)], [True, False, False])
+
+    def test_that_no_memory_has_are_out_of_memory(self):
+        for size in (2 ** 62, 2 ** 63 - 1, 2 ** 63, 2 ** 64 - 1):
+            with mock.patch.object(cadf, "_loaded", Long(size)), self.assertRaises(cadf.CadfError) as caught:
+                cadf.show("{}")
+            self.assertEqual((caught.exception.status, caught.exception.text), (4, "out of memory"))
+
+
+class LongBytes(bytes):
+    """Bytes that tell a length that they don't have."""
+
+    def __len__(self):
+        return 1000
+
+    def __bytes__(self):
+        return self
+
+
+class LongText(str):
+    """A text whose UTF-8 tells a length that it doesn't have."""
+
+    def encode(self, *_):
+        return LongBytes(b"{}")
+
+
+class Inputs(unittest.TestCase):
+    def given(self, value):
+        with mock.patch.object(cadf, "_loaded", Fake(b"")) as fake:
+            cadf.show(value)
+        return fake.inputs
+
+    def test_are_as_long_as_they_are(self):
+        for value in (LongBytes(b"{}"), LongText("{}"), bytearray(b"{}"), memoryview(b"{ }")[::2], memoryview(LongBytes(b"{}"))):
+            self.assertEqual(self.given(value), [[b"{}"]])
+        with mock.patch.object(cadf, "_of", lambda value: value.encode() if isinstance(value, str) else bytes(value)):
+            for value in (LongBytes(b"{}"), LongText("{}")):  # the wrong version
+                self.assertEqual(len(cadf._of(value)), 1000)
+
+    def test_with_half_of_a_pair_go_to_the_library_which_refuses_them(self):
+        self.assertEqual(self.given("\ud800"), [[b"\xed\xa0\x80"]])
 
 
 class Calls(unittest.TestCase):
