@@ -251,6 +251,8 @@ def try_faults(trial):
     for words in ([], ["--lo", "g", "both"], ["--from", "yesterday", "both"], ["--until", "2024-02-30", "both"], ["--from", "0000-01-01", "both"]):
         status, output, said = trial.answer(*words)
         trial.check("usage %s" % words, status, 2, output, b"", said[-1].startswith("cadf-report: error: "), True)
+    trial.check("a refused word", trial.answer("both", "--x\x1b[2J\u202e")[2][-1],
+                "cadf-report: error: unrecognized arguments: --x\\x1b[2J\\u202e")
     for descriptor in (1, 2):
         closed = ended("bash", ["-c", 'exec "$0" "$1" both %d>&-' % descriptor, sys.executable, TOOL], env=trial.environment)
         trial.check("no descriptor %d" % descriptor, closed, (3, b"", b""))

@@ -7,6 +7,7 @@ BINARY is crates/cadf/out/cadf unless given.
 import hashlib
 import json
 import os
+import resource
 import subprocess
 import sys
 import tempfile
@@ -21,6 +22,7 @@ EVENT = {"eventType": "activity", "eventTime": "2024-03-01T12:00:00Z", "action":
          "initiatorId": "u1", "targetId": "t1", "observerId": "s1"}
 # Above U+FFFF, and in U+E000 to U+FFFF: UTF-8 and UTF-16 order these two otherwise.
 HIGH, LOW = "\U0001f600", "\uffee"
+ROOM = 150 << 20  # bytes of memory for files of some 100 KB
 ODD_KEYS = ["e1", "a b", "-n", "#x", "ü\u202e\"\\", HIGH, LOW, "\u009b1m", "'$(x)'"]
 
 
@@ -54,8 +56,18 @@ class Trial:
     def tool(self, name, *words, **options):
         """The tool's status, the lines of its output, and those on standard error."""
         environment = dict(dict(os.environ, CADF=self.binary), **options.pop("env", {}))
-        answer = ended(os.path.join(TOOLS, "cadf-" + name), words, env=environment, **options)
+        path = name if os.path.isabs(name) else os.path.join(TOOLS, "cadf-" + name)
+        answer = ended(path, words, env=environment, **options)
         return answer.status, answer.output, answer.error.decode().splitlines()
+
+    def wrong_copy(self, tool, right, instead):
+        """The place of a copy of a tool that has another text in one place."""
+        with open(os.path.join(TOOLS, "cadf-" + tool), encoding="utf-8") as file:
+            source = file.read()
+        self.check("a place for what is wrong", source.count(right), 1)
+        put("wrong-" + tool, source.replace(right, instead))
+        os.chmod("wrong-" + tool, 0o755)
+        return os.path.abspath("wrong-" + tool)
 
     def cadf(self, output, *words):
         """Writes what the command answers, which it has to."""
@@ -294,6 +306,55 @@ def tries_changes(trial):
                     (3, b"", ["moved.json: " + said]))
 
 
+def tries_bombs(trial):
+    """Two values of 140 KB that differ in 20,000 members below a long name, or in the last: little memory, and a short list."""
+    limit = {"preexec_fn": lambda: resource.setrlimit(resource.RLIMIT_AS, (ROOM, ROOM))}
+    for name, numbers in (("one", "1," * 20000 + "1"), ("two", "2," * 20000 + "2"), ("end", "1," * 20000 + "2")):
+        put(name + ".json", '{"id":"g","events":[],"p":{"%s":[%s]}}' % ("x" * 100000, numbers))
+    for name in ("two", "end"):
+        trial.cadf("bomb-" + name, "join", "one.json", name + ".json")
+    status, output, _ = trial.tool("conflicts", "--values", "bomb-two", **limit)
+    lines = output.decode().splitlines()
+    trial.check("many members", status, 1, len(lines), 3 + 2 * 101, lines[2], "#   /%s..: 1" % ("x" * 999), lines[102], "#   and in others",
+                lines[-2], "#   /%s..: 2" % ("x" * 999))
+    status, output, _ = trial.tool("conflicts", "--values", "bomb-end", **limit)
+    trial.check("one member", status, 1, [line[-6:] for line in output.decode().splitlines() if line.startswith("#   ")], ["x..: 1", "x..: 2"])
+    wrong = trial.wrong_copy("conflicts", "MOST_NAMED, LONGEST_SHOWN = 64, 100, 1000", "MOST_NAMED, LONGEST_SHOWN = 64, 10 ** 9, 10 ** 9")
+    trial.check("the wrong list", trial.tool(wrong, "--values", "bomb-two", **limit)[::2], (4, ["cadf-conflicts: out of memory"]))
+
+
+def tries_many_values(trial):
+    """Of more than 64 values of a key the first 64 are compared; members of each kind, and where one has parts and another none."""
+    for number in range(66):
+        put("v%d.json" % number, '{"id":"g","events":[],"p":%d}' % (100 + number))
+    trial.cadf("values", "join", *("v%d.json" % number for number in range(66)))
+    lines = trial.tool("conflicts", "--values", "values")[1].decode().splitlines()
+    trial.check("66 values", len(lines), 1 + 66 + 64, lines[2:130:2], ["#   all of it: %d" % (100 + number) for number in range(64)])
+    for number, value in enumerate(({}, {"a": []}, {"a": [7, {"b": "é\u009b"}], "c": {}}, {"a": {"k": 7}, "c": {}})):
+        put("v%d.json" % number, json.dumps({"id": "g", "events": [], "p": value}))
+    trial.cadf("values", "join", *("v%d.json" % number for number in range(4)))
+    lines = [line[4:] for line in trial.tool("conflicts", "--values", "values")[1].decode().splitlines() if line.startswith("#   ")]
+    places = ["all of it", "/a", "/a/0", "/a/1/b", "/a/k", "/c"]
+    held = {"/a": {"/a": "[]"}, "/a/0": {"/a/0": "7", "/a/1/b": '"\\u00e9\\u009b"', "/c": "{}"}, "/a/k": {"/a/k": "7", "/c": "{}"},
+            "all of it": {"all of it": "{}"}}
+    wanted = [["%s: %s" % (place, value.get(place, "absent")) for place in places] for value in held.values()]
+    trial.check("kinds", sorted(lines[start:start + 6] for start in range(0, len(lines), 6)), sorted(wanted))
+
+
+def tries_words(trial):
+    """A log whose identifier begins with a dash, and refused words that can't be printed."""
+    for number in (1, 2):
+        put("dash-%d" % number, document(log="-x", a=number))
+    trial.cadf("dash", "join", "dash-1", "dash-2")
+    wanted = "#   in dash-1\n"
+    trial.check("a dash", trial.tool("conflicts", "dash", "dash-1")[0], 1, wanted in trial.tool("conflicts", "dash", "dash-1")[1].decode(), True)
+    wrong = trial.wrong_copy("conflicts", '"--log=" + json.loads(self.log_line[2:])', '"--log", json.loads(self.log_line[2:])')
+    trial.check("two words", trial.tool(wrong, "dash", "dash-1")[0], 3)
+    for tool in ("conflicts", "which", "agree"):
+        status, _, said = trial.tool(tool, "a.json", "b.json", "--x\x1b[2J\u202e")
+        trial.check("refused words", status, 2, said[-1], "cadf-%s: error: unrecognized arguments: --x\\x1b[2J\\u202e" % tool)
+
+
 def tries_streams(trial):
     """What can't be written ends a tool with 3 and no traceback."""
     for tool, words, stream in (("conflicts", "site", ">"), ("conflicts", "--rule choices site", ">"), ("conflicts", "absent", "2>"),
@@ -310,7 +371,7 @@ def main():
     with tempfile.TemporaryDirectory() as folder:
         os.chdir(folder)
         for tries in (make_sites, tries_lists, tries_rulings, tries_refused_rulings, tries_faults, tries_which, tries_agree,
-                      tries_sketches, tries_changes, tries_streams):
+                      tries_sketches, tries_changes, tries_bombs, tries_many_values, tries_words, tries_streams):
             tries(trial)
         os.chdir("/")
     if trial.wrong:
