@@ -105,7 +105,7 @@ class Site:
         self.name, self.week, self.words = name, week, words
         self.folder = os.path.join(folder, name)
         self.spool, self.file = os.path.join(self.folder, "spool"), os.path.join(self.folder, "site.cadf")
-        os.makedirs(self.spool)
+        os.makedirs(self.spool, 0o700)
         self.kills, self.said = {"listener": 0, "spool step": 0}, open(os.path.join(self.folder, "said"), "ab")
 
     def start(self, tool, *words):

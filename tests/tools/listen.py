@@ -8,6 +8,8 @@
 - Odd messages, each of which is one line. A broker that is killed. Two queues whose logs are equal.
 - A sync to the disk before each acknowledgement, as strace sees it.
 - What it does without a broker, and what it leaves and finishes in its folder.
+- A folder that others may use is refused, and names that others planted stop nothing; as another user, where this is
+  root.
 
 Where rabbitmq-server or python3-kombu isn't there (names of Debian), it says so, and tries what needs neither. Where
 strace or openssl isn't there, it says so too. BINARY is crates/cadf/out/cadf unless given.
@@ -49,6 +51,7 @@ LIMITS = (30000, 40001, 50002)  # bytes
 FILLING = 80  # messages: two or three times a limit
 HUGE, HUGE_COUNT = 3000000, 12
 MOST_MEMORY = 64  # MB
+ANOTHER = 2002  # a user
 
 
 def loaded(path):
@@ -211,9 +214,9 @@ def tries_words(trial, program):
             ("no key", [*spool, "--url", "amqp://h/", "--bind", "nova"], 2), ("no exchange", [*spool, "--url", "amqp://h/", "--bind", ":k"], 2),
             ("prefetch 0", [*spool, "--url", "amqp://h/", "--prefetch", "0"], 2), ("NaN", [*spool, "--url", "amqp://h/", "--until-empty", "nan"], 2),
             ("a prefix", [*spool, "--url", "amqp://h/", "--until", "1"], 2), ("no file", [*spool, "--url-file", trial.path("absent")], 3),
-            ("help", ["--help"], 0)):
+            ("a control character", [*spool, "--url", "amqp://h/", "\x1b[2J"], 2), ("help", ["--help"], 0)):
         ended, output, error = answer(program, words)
-        trial.check(what, ended, status, "cadf-listen" in (output if what == "help" else error), True)
+        trial.check(what, ended, status, "cadf-listen" in (output if what == "help" else error), True, "\x1b" in error, False)
     program.amqp = None
     ended, _, error = answer(program, [*spool, "--url", "rabbit://h/"])
     program.amqp = broker.amqp
@@ -237,11 +240,11 @@ def tries_recovery(trial, program):
     text = b'{"a":1}\n{"b":2}\n' + b"x" * 70000 + b"\n" + b"y" * 140000
     for size in (0, 1, 7, 8, 9, 15, 16, 17, 65535, 65552, 70016, 70017, 70018, 135553, len(text)):
         folder = trial.path("left")
-        os.mkdir(folder)
-        trial.put("left/n.jsonl.part", text[:size])
+        os.mkdir(folder, 0o700)
+        os.chmod(trial.put("left/n.jsonl.part", text[:size]), 0o600)
         trial.put("left/other.part", b"not a listener's")
         spool = program.Spool(folder, 1, 1)
-        os.close(spool.lock)
+        os.close(spool.own)
         whole = text.rfind(b"\n", 0, size) + 1
         held = {name: open(os.path.join(folder, name), "rb").read() for name in os.listdir(folder) if name.startswith("n.")}
         wanted = dict({"n.jsonl": text[:whole]} if whole else {}, **({"n.jsonl.torn": text[whole:size]} if whole < size else {}))
@@ -266,10 +269,83 @@ def tries_files(trial, program):
     trial.check("the second", refused(program.Spool, folder, 1, 1), folder + ": another listener has it")
     spool.seconds = 0
     spool.finish_if_old()
-    os.close(spool.lock)
+    os.close(spool.own)
     trial.check("whole lines", [len(line) for line in lines_of(folder)].count(9), 6, len(glob.glob(folder + "/*.part")), 0)
     trial.check("no such folder", "absent" in refused(program.Spool, trial.path("absent", "x"), 1, 1), True)
     trial.check("no folder", "Not a directory" in refused(program.Spool, trial.put("file", b""), 1, 1), True)
+
+
+def as_user(user, call, *words):
+    """What a call gives as that user, without groups, or as this one where this isn't root."""
+    read, write = os.pipe()
+    child = os.fork()
+    if child == 0:
+        try:
+            if os.geteuid() == 0:
+                os.setgroups([])
+                os.setgid(user)
+                os.setuid(user)
+            os.write(write, str(call(*words)).encode())
+        finally:
+            os._exit(0)
+    os.close(write)
+    os.waitpid(child, 0)
+    with open(read, "rb") as told:
+        return told.read().decode()
+
+
+def plant(folder, planter):
+    """Puts into a folder what has the name of a listener's unfinished file, or of a lock, and is none. Returns the names."""
+    def put():
+        os.umask(0)
+        os.mkdir("folder.jsonl.part")
+        os.mkfifo("pipe.jsonl.part")
+        os.mkfifo(".listen.lock")
+        os.symlink("/dev/null", "link.jsonl.part")
+        for name in ("many.jsonl.part", "north.jsonl.part"):
+            with open(name, "wb") as file:
+                file.write(b"line 1\nline 2, not yet wh")
+        os.link("many.jsonl.part", "many")
+
+    here = os.open(".", os.O_RDONLY)
+    os.chdir(folder)
+    as_user(planter, put)
+    os.fchdir(here)
+    os.close(here)
+    return sorted(os.listdir(folder))
+
+
+def tries_own_folder(trial, program):
+    """A folder that others may use is refused, and what they put there stays. What was planted before is passed over."""
+    for mode in (0o1730, 0o1777, 0o755, 0o710, 0o701, 0o4777):
+        folder = trial.path("mode-%o" % mode)
+        os.mkdir(folder)
+        os.chmod(folder, mode)
+        names = plant(folder, os.geteuid())
+        trial.check("mode %o" % mode, "%s: others may use it: " % folder in refused(program.Spool, folder, 1, 1), True,
+                    sorted(os.listdir(folder)), names, len(names), 7, os.path.getsize(os.path.join(folder, "north.jsonl.part")), 25)
+    right, program.is_own = program.is_own, lambda found: True
+    trial.check("the wrong listener", refused(program.Spool, folder, 1, 1), "not refused", "north.jsonl.part" in os.listdir(folder), False)
+    program.is_own = right
+    folder, said = trial.path("planted"), []
+    os.mkdir(folder, 0o700)
+    os.chmod(folder, 0o1777)
+    names = plant(folder, ANOTHER)
+    os.chmod(folder, 0o700)
+    program.say = said.append
+    spool = program.Spool(folder, 1, 1)
+    spool.write([b"x\n"])
+    os.close(spool.own)
+    program.say = lambda text: None
+    trial.check("planted names", lines_of(folder), [b"x"], set(names) - set(os.listdir(folder)), set(), len(said), 6,
+                [line for line in said[:5] if "passed over" not in line], [])
+    if os.geteuid() != 0:
+        return "no other user, since this isn't root"
+    folder = trial.path("another's")
+    os.mkdir(folder, 0o700)
+    os.chown(folder, ANOTHER, ANOTHER)
+    trial.check("another's", "others may use it" in refused(program.Spool, folder, 1, 1), True)
+    return "names planted by another user"
 
 
 def frames_of(tag, *pieces):
@@ -498,13 +574,13 @@ def tries_sync(trial):
     trial.publish("sync", recorded())
     trace = trial.path("trace")
     words = ["--spool", trial.path("sync"), "--url", trial.broker.url, "--queue", "sync", "--prefetch", "20", "--until-empty", "0.3"]
-    done = subprocess.run(["strace", "-y", "-s", "16", "-e", "trace=write,fsync,sendto,openat,rename", "-o", trace, sys.executable, LISTEN, *words], capture_output=True)
+    done = subprocess.run(["strace", "-y", "-s", "16", "-e", "trace=write,fsync,sendto,openat,rename,renameat", "-o", trace, sys.executable, LISTEN, *words], capture_output=True)
     if done.returncode != 0:
         return "sync not seen: %s" % done.stderr.decode(errors="replace").strip().splitlines()[-1]
     with open(trace, encoding="utf-8", errors="replace") as file:
         text = file.read()
     calls = {"make": r'openat\(.*\.part", .*O_CREAT', "write": r"write\(\d+<[^>]*\.part>", "sync": r"fsync\(\d+<[^>]*\.part>", "folder": r"fsync\(\d+<[^>]*/sync>",
-             "Acknowledge": r'sendto\(.*?, "\\1\\0\\1\\0\\0\\0\\r\\0<\\0P', "rename": r"rename\("}
+             "Acknowledge": r'sendto\(.*?, "\\1\\0\\1\\0\\0\\0\\r\\0<\\0P', "rename": r"rename(?:at)?\("}
     found = re.finditer("^(?:%s)" % "|".join("(?P<%s>%s)" % each for each in calls.items()), text, re.MULTILINE)
     steps = "".join(each.lastgroup[0] for each in found)
     trial.check("a file, its folder; writes, a sync, an acknowledgement; a name, its folder: " + steps[:60], re.fullmatch("mf(w+sA)+rf", steps) is not None, True,
@@ -577,7 +653,7 @@ def tries_without_broker(trial):
     tries_recovery(trial, program)
     tries_files(trial, program)
     tries_deliveries(trial, program)
-    return ["words, files"]
+    return ["words, files", tries_own_folder(trial, program)]
 
 
 def main():
