@@ -6,6 +6,8 @@
 - Each of its own calls of the system fails, and it is killed before each, one a run: the site's file is the one before
   or the one after, and the next run takes what this one didn't.
 - Many callers at once, of which every third is killed while the command runs: no file that one took is lost.
+- What another user can do who shares the folder, where this is root; and copies of the tool that let him, which are
+  caught.
 
 BINARY is crates/cadf/out/cadf unless given.
 """
@@ -13,6 +15,7 @@ import argparse
 import json
 import os
 import resource
+import signal
 import stat
 import struct
 import subprocess
@@ -21,6 +24,7 @@ import tempfile
 
 from tests import TOP
 from tests.machine import built, ended
+from tests.tools import others
 from tests.tools.faulty import calls_of
 
 TAKE = os.path.join(TOP, "tools", "cadf-take")
@@ -63,8 +67,9 @@ def document(*keys):
 class Trial:
     """A folder with a site's documents, and what is wrong with what was done there."""
 
-    def __init__(self, binary):
-        self.binary, self.count, self.wrong = binary, 0, []
+    def __init__(self, binary, tool=TAKE):
+        self.binary, self.tool, self.count, self.wrong = binary, tool, 0, []
+        self.seconds = 60 if tool == TAKE else 2  # until a run is held to be stuck
         put("one.json", document("e1"))
         put("two.json", document("e2"))
         put("both.json", document("e1", "e2"))
@@ -78,7 +83,7 @@ class Trial:
     def take(self, *words, cadf=None, **options):
         """What cadf-take answers to the words."""
         environment = dict(os.environ, CADF=cadf or self.binary)
-        return ended(TAKE, list(words), env=dict(environment, **options.pop("env", {})), **options)
+        return ended(self.tool, list(words), env=dict(environment, **options.pop("env", {})), **options)
 
     def site(self, **files):
         """Clears the site's folder, and puts these files there: `site`, `before` and `new`."""
@@ -129,24 +134,20 @@ def takes(trial):
     trial.site()
     path = os.path.dirname(trial.binary) + os.pathsep + os.environ["PATH"]
     trial.ends("by PATH", trial.take("s.cadf", "one.json", env={"CADF": "", "PATH": path}), 0)
-    reading, writing = os.pipe()
-    os.write(writing, document("e2").encode())
-    os.close(writing)
-    trial.ends("a pipe", trial.take("s.cadf", "/dev/fd/%d" % reading, pass_fds=[reading]), 0)
-    os.close(reading)
-    trial.leaves("a pipe", trial.both, trial.one)
 
 
 def keeps_access(trial):
-    """The site's mode and group stay, its owner as far as this user may give it, and its access control list."""
+    """The site's mode and group stay, its owner as far as this user may give it, and its access control list.
+
+    The lock has its group and owner, and is for those who may write the site."""
     group = 12345 if os.geteuid() == 0 else max(os.getgroups(), default=os.getegid())
     owner = 54321 if os.geteuid() == 0 else os.geteuid()
     entries = ((1, 6, -1), (2, 4, 12345), (4, 0, -1), (16, 4, -1), (32, 0, -1))  # the second: user 12345 may read
     listed = struct.pack("<I", 2) + b"".join(struct.pack("<HHi", *entry) for entry in entries)
-    for wanted in (None, listed):
+    for wanted, mode, of_lock in ((None, 0o640, 0o600), (listed, 0o640, 0o600), (None, 0o664, 0o660), (None, 0o444, 0o600)):
         trial.site(site=trial.one)
         os.chown("s.cadf", owner, group)
-        os.chmod("s.cadf", 0o640)
+        os.chmod("s.cadf", mode)
         try:
             if wanted:
                 os.setxattr("s.cadf", "system.posix_acl_access", wanted)
@@ -155,12 +156,12 @@ def keeps_access(trial):
             return
         trial.ends("access", trial.take("s.cadf", "two.json"), 0)
         trial.leaves("access", trial.both, trial.one)
-        for name in ("s.cadf", "s.cadf.before", "s.cadf.lock"):
+        for name, right in (("s.cadf", mode), ("s.cadf.before", mode), ("s.cadf.lock", of_lock)):
             found = os.stat(name)
-            if (found.st_uid, found.st_gid, stat.S_IMODE(found.st_mode)) != (owner, group, 0o640):
+            if (found.st_uid, found.st_gid, stat.S_IMODE(found.st_mode)) != (owner, group, right):
                 trial.wrong.append("access: %s has %r" % (name, found))
-            if wanted and ("system.posix_acl_access" not in os.listxattr(name)
-                           or os.getxattr(name, "system.posix_acl_access") != wanted):
+            given = "system.posix_acl_access" in os.listxattr(name) and os.getxattr(name, "system.posix_acl_access")
+            if given != (wanted if wanted and right == mode else False):
                 trial.wrong.append("access: %s has another list" % name)
 
 
@@ -169,9 +170,8 @@ def refuses(trial):
     for what, words, status, error in (
             ("no JSON", ["s.cadf", "two.json", "cut.json"], 1, "cadf: input 3: not JSON\ncadf-take: input 3 is cut.json\n"),
             ("another log", ["--log", "h", "s.cadf", "one.json"], 1, "cadf: input 1: other log\ncadf-take: input 1 is s.cadf\n"),
-            ("absent", ["s.cadf", "absent"], 3, "cadf: input 2: read fault\ncadf-take: input 2 is absent\n"),
-            ("an odd name", ["s.cadf", "a\x1b\u202e"], 3,
-             'cadf: input 2: read fault\ncadf-take: input 2 is "a\\u001b\\u202e"\n'),
+            ("absent", ["s.cadf", "absent"], 3, "cadf-take: absent: No such file or directory\n"),
+            ("an odd name", ["s.cadf", "a\x1b\u202e"], 3, 'cadf-take: "a\\u001b\\u202e": No such file or directory\n'),
             ("no log's name", ["--log=", "s.cadf", "one.json"], 2, "cadf: log name\n"),
             ("no words", [], 2, "usage: .."), ("no file", ["s.cadf"], 2, "usage: .."),
             ("an option", ["--force", "s.cadf", "one.json"], 2, "usage: ..")):
@@ -215,6 +215,114 @@ def fails(trial):
     full = trial.take("s.cadf", "two.json", preexec_fn=lambda: resource.setrlimit(resource.RLIMIT_FSIZE, (200, 200)))
     trial.ends("a full disk", full, 3, "cadf: write fault\n")
     trial.leaves("a full disk", trial.one, trial.two)
+
+
+def keeps_no_bits(trial):
+    """Bits as set-user-ID don't go over to the new file, which is the caller's."""
+    trial.site(site=trial.one)
+    os.chmod("s.cadf", 0o6755)
+    trial.ends("bits", trial.take("s.cadf", "two.json"), 0)
+    if stat.S_IMODE(os.stat("s.cadf").st_mode) != 0o755:
+        trial.wrong.append("bits: mode %o" % os.stat("s.cadf").st_mode)
+
+
+def waits_for_none(trial):
+    """An input that isn't a regular file is refused at once, whoever might write it later; so is a lock that more may read."""
+    os.mkfifo("fifo")
+    os.symlink("fifo", "to-fifo")
+    for name in ("fifo", "to-fifo", "/dev/null", "."):
+        trial.site(site=trial.one)
+        program = subprocess.Popen([trial.tool, "s.cadf", name], env=dict(os.environ, CADF=trial.binary), stderr=subprocess.PIPE,
+                                   start_new_session=True)
+        try:
+            _, error = program.communicate(timeout=trial.seconds)
+        except subprocess.TimeoutExpired:
+            os.killpg(program.pid, signal.SIGKILL)
+            error = program.communicate()[1]
+        trial.count += 1
+        if program.returncode != 2 or error.decode() != "cadf-take: %s: not a regular file: copy it into one\n" % name:
+            trial.wrong.append("an input that is %s: status %d, %s" % (name, program.returncode, error))
+        trial.leaves("an input that is " + name, trial.one)
+    os.remove("fifo")
+    os.remove("to-fifo")
+    for mode, status in ((0o600, 0), (0o660, 0), (0o640, 3), (0o644, 3), (0o666, 3)):
+        trial.site(site=trial.one)
+        put("s.cadf.lock", "", mode)
+        trial.ends("a lock of mode %o" % mode, trial.take("s.cadf", "two.json"), status, "cadf-take: s.cadf.lock: .." if status else "")
+        trial.leaves("a lock of mode %o" % mode, trial.one if status else trial.both, None if status else trial.one)
+
+PLANTED = {  # what another user puts in the place of a file, by its name
+    "a file": lambda name: put(name, "", 0o600),
+    "a folder": os.mkdir,
+    "a FIFO": lambda name: os.mkfifo(name, 0o600),
+    "a link": lambda name: os.symlink("own", name),
+    "a file that all may read": lambda name: put(name, "", 0o666),
+}
+
+
+def shares(trial):
+    """What another user plants in a folder that all may write to, and the bits that one gives to a site that he shares."""
+    folder = tempfile.mkdtemp(dir=os.getcwd())
+    found = others.shared(folder, trial.tool, trial.binary, "two.json")
+    trial.has_others = found is not None
+    if not trial.has_others:
+        return print("take: not root, or no setpriv: what other users can do was not tried")
+
+    def take(place, mode, owner, user, mode_of_site, mode_of_lock):
+        """What a take by a user answers in a folder of this mode, where a site's file and its lock have these modes and that owner."""
+        path = os.path.join(place, "s.cadf")
+        os.chmod(place, mode)
+        for name, content, mode in (("s.cadf", trial.one.decode(), mode_of_site), ("s.cadf.lock", "", mode_of_lock), ("own", "own", 0o600)):
+            if not os.path.lexists(os.path.join(place, name)):
+                put(os.path.join(place, name), content)
+                os.chown(os.path.join(place, name), owner, others.GROUP)
+                os.chmod(os.path.join(place, name), mode)
+        words = others.as_user(user, others.GROUP, "env", "CADF=" + found[1], others.PYTHON, found[0], "s.cadf", found[2])
+        done = ended(words[0], words[1:], cwd=place)
+        trial.count += 1
+        return done, path
+
+    for ending in ("lock", "new", "before"):
+        for kind, plant in PLANTED.items():
+            place = tempfile.mkdtemp(dir=folder)
+            plant(os.path.join(place, "s.cadf." + ending))
+            os.lchown(os.path.join(place, "s.cadf." + ending), others.SENDER, others.SENDER)
+            done, path = take(place, 0o1777, others.CALLER, others.CALLER, 0o600, 0o600)
+            if done.status != 3 or held(path) != trial.one or held(os.path.join(place, "own")) != b"own":
+                trial.wrong.append("%s planted as %s: %s" % (ending, kind, done))
+    place = tempfile.mkdtemp(dir=folder)
+    os.chown(place, others.SENDER, others.GROUP)
+    done, path = take(place, 0o2770, others.SENDER, others.OTHER, 0o6777, 0o660)
+    found = os.stat(path)
+    if done.status not in (0, 3) or found.st_uid == others.OTHER and found.st_mode & 0o7000:  # 3: a link to it may be forbidden
+        trial.wrong.append("bits of another user's site: %s, mode %o of %d" % (done, found.st_mode, found.st_uid))
+    return None
+
+# Each: what a copy of the tool does wrongly, the text that it has in place of another, and what catches it.
+WRONG = [
+    ("it copies all bits of the mode", "os.fstat(old).st_mode & 0o777)", "stat.S_IMODE(os.fstat(old).st_mode))", keeps_no_bits),
+    ("it opens what is no regular file", "if not stat.S_ISREG(os.fstat(file).st_mode):", "if False:", waits_for_none),
+    ("it waits for the writer of a FIFO", "os.O_RDONLY | os.O_NONBLOCK | flags", "os.O_RDONLY | flags", waits_for_none),
+    ("it takes any lock", "if os.fstat(file).st_mode not in LOCK_MODES:", "if False:", waits_for_none),
+    ("its lock is for the group of each site", "0o660 if os.fstat(old).st_mode & stat.S_IWGRP else 0o600", "0o660", keeps_access),
+]
+WRONG_AMONG_OTHERS = [
+    ("it follows a link to a lock", "os.O_RDWR | os.O_NOFOLLOW | os.O_NONBLOCK", "os.O_RDWR | os.O_NONBLOCK", shares),
+]
+
+
+def catches(trial):
+    """Each wrong copy of the tool is caught by what tries it."""
+    with open(TAKE, encoding="utf-8") as file:
+        source = file.read()
+    for number, (what, right, wrong, tries) in enumerate(WRONG + (WRONG_AMONG_OTHERS if trial.has_others else [])):
+        name = os.path.abspath("wrong-%d" % number)
+        put(name, source.replace(right, wrong), 0o755)
+        other = Trial(trial.binary, name)
+        tries(other)
+        trial.count += 1
+        if source.count(right) != 1 or not other.wrong:
+            trial.wrong.append("not caught: %s" % what)
 
 
 def faulty(trial, old, after, **files):
@@ -276,9 +384,10 @@ def main():
     options = parser.parse_args()
     binary = os.path.abspath(options.binary)
     with tempfile.TemporaryDirectory(prefix="cadf-take-") as folder:
+        os.chmod(folder, 0o755)  # for other users
         os.chdir(folder)
         trial = Trial(binary)
-        for part in (takes, keeps_access, refuses, fails):
+        for part in (takes, keeps_access, refuses, fails, keeps_no_bits, waits_for_none, shares, catches):
             part(trial)
         faulty(trial, None, trial.two)
         faulty(trial, trial.one, trial.both, site=trial.one, before=trial.two)
