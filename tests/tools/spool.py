@@ -6,6 +6,8 @@
 - Each of its own calls of the system fails, one a run, and it is killed before each: the site's file is the one before
   or the one after, and the next run leaves what a run leaves that nothing disturbs.
 - It is killed with all that it runs, KILLS times at any moment. Several run at once.
+- Files that cost too much, and files that keep the others of their group from being taken.
+- What a sender can do who is another user, where this is root. Copies of the tool that let him are caught.
 
 BINARY is crates/cadf/out/cadf unless given.
 """
@@ -17,6 +19,7 @@ import json
 import os
 import random
 import resource
+import shutil
 import signal
 import socket
 import stat
@@ -31,6 +34,7 @@ if os.path.exists(SYSTEM) and os.path.realpath(sys.executable) != os.path.realpa
 
 from tests import TOP
 from tests.machine import built, ended, side_by_side
+from tests.tools import others
 from tests.tools.faulty import calls_of
 
 SPOOL = os.path.join(TOP, "tools", "cadf-spool")
@@ -74,7 +78,7 @@ class Trial:
     """A folder, and what was wrong."""
 
     def __init__(self, folder, binary):
-        self.folder, self.binary, self.count, self.wrong, self.number = folder, binary, 0, [], 0
+        self.folder, self.binary, self.tool, self.count, self.wrong, self.number = folder, binary, SPOOL, 0, [], 0
 
     def check(self, what, *got_and_wanted):
         """Notes where what came isn't what is wanted, pair by pair."""
@@ -95,7 +99,23 @@ class Trial:
     def run(self, folder, *words, **options):
         """What cadf-spool answers to the words."""
         environment = dict(os.environ, CADF=options.pop("cadf", self.binary))
-        return ended(sys.executable, [SPOOL, *words], cwd=folder, env=environment, **options)
+        return ended(sys.executable, [self.tool, *words], cwd=folder, env=environment, **options)
+
+    def program(self):
+        """The tool as a module, which says nothing."""
+        loader = importlib.machinery.SourceFileLoader("program", self.tool)
+        program = importlib.util.module_from_spec(importlib.util.spec_from_loader("program", loader))
+        loader.exec_module(program)
+        program.say = lambda text: None
+        os.environ["CADF"] = self.binary
+        return program
+
+    def command(self, folder, script):
+        """A command in the place of `cadf`: a script of the shell, in which `exec "$BUILT" "$@"` goes on as `cadf` does."""
+        path = os.path.join(folder, "odd")
+        put(path, b'#!/bin/sh\nBUILT="%s"\n%s\nexec "$BUILT" "$@"\n' % (self.binary.encode(), script.encode()))
+        os.chmod(path, 0o755)
+        return path
 
     def joined(self, *texts):
         """The replica file of these texts, as the command joins them."""
@@ -233,7 +253,7 @@ def tries_faults(trial):
     for what, text, status in (
             ("memory", "echo 'cadf: out of memory' >&2; exit 4", 4), ("a read", "echo 'cadf: input 1: read fault' >&2; exit 3", 3), ("another status", "exit 127", 3),
             ("a signal", "kill -9 $$", 3), ("memory in a join", '[ "$1" = check ] && exec "%s" "$@"; echo "cadf: out of memory" >&2; exit 4' % trial.binary, 4),
-            ("a union too large", 'case "$1 $3" in "check s.cadf.new") echo "cadf: input 1: too large" >&2; exit 1;; esac; exec "%s" "$@"' % trial.binary, 1),
+            ("any union too large", '[ "$1" = check ] && case $(realpath "$3") in *.new) echo "cadf: input 1: too large" >&2; exit 1;; esac; exec "%s" "$@"' % trial.binary, 1),
             ("a kill in a join", '[ "$1" = check ] && exec "%s" "$@"; kill -9 $PPID' % trial.binary, 3)):
         folder = trial.site(**files)
         put(odd, b"#!/bin/sh\n%s\n" % text.encode())
@@ -253,19 +273,245 @@ def tries_faults(trial):
 
 
 def tries_groups(trial):
-    """More files than one call of cadf-take gets, by number and by size."""
-    loader = importlib.machinery.SourceFileLoader("program", SPOOL)
-    program = importlib.util.module_from_spec(importlib.util.spec_from_loader("program", loader))
-    loader.exec_module(program)
-    program.CADF = os.environ["CADF"] = trial.binary
-    program.say = lambda text: None
-    for files, size in ((2, 2 ** 28), (200, 1)):
-        program.MOST_FILES, program.MOST_BYTES = files, size
+    """More files than one call of cadf-take gets, by number and by size, or than come in its time."""
+    program = trial.program()
+    for files, size, seconds in ((2, 2 ** 28, 60), (200, 1, 60), (200, 2 ** 28, 0)):
+        program.MOST_FILES, program.MOST_BYTES, program.MOST_SECONDS = files, size, seconds
         folder = trial.site(**{"%d.json" % number: document("e%d" % number) for number in range(5)})
         spool = program.Spool(os.path.join(folder, "spool"))
-        trial.check("groups", program.Run(spool, os.path.join(folder, "s.cadf"), "g").run(), 0)
+        trial.check("groups", program.Run(spool, os.path.join(folder, "s.cadf"), "g", program.Budget(0, 2 ** 20, 60, 2 ** 32)).run(), 0)
         trial.leaves("groups", folder, trial.joined(document(*("e%d" % number for number in range(5)))),
                      **{"taken/%d.json" % number: None for number in range(5)})
+
+
+def tries_withdrawn(trial):
+    """A file that is gone before it is claimed is passed over."""
+    program = trial.program()
+    folder = trial.site(**{"a.json": document("e1")})
+    spool = program.Spool(os.path.join(folder, "spool"))
+    spool.arrived = lambda: ["gone.json", "a.json"]
+    trial.check("withdrawn", program.Run(spool, os.path.join(folder, "s.cadf"), "g", program.Budget(0, 2 ** 20, 60, 2 ** 32)).run(), 0)
+    trial.leaves("withdrawn", folder, trial.joined(document("e1")), **{"taken/a.json": None})
+
+
+def tries_budgets(trial):
+    """A file that costs too much is set aside, with the reason; the others are taken in the same run."""
+    memory = "%s -c 'bytearray(2 ** 29)' 2>&- || { echo 'cadf: out of memory' >&2; exit 4; }" % SYSTEM
+    seconds = "exec %s -c 'import time\nwhile time.process_time() < 3: pass\nprint(\"ok \\\"g\\\" atoms 1 conflicts 0\")'" % SYSTEM
+    for what, cost, reason in (("memory", memory, "out of memory (--memory is 536870912 bytes)"),
+                               ("time", seconds, "odd: took more than 1 seconds (--time)"),
+                               ("a crash", "kill -SEGV $$", "odd: ended by signal 11")):
+        folder = trial.site(**{"a.json": document("e1"), "costly.json": document("e2"), "z.jsonl": message("e3")})
+        odd = trial.command(folder, 'case "$3" in costly*) %s;; esac' % cost)
+        done = trial.run(folder, "--log", "g", "--memory", str(2 ** 29), "--time", "1", "s.cadf", "spool", cadf=odd)
+        trial.check(what, done.status, 1, done.error.decode().splitlines()[-1], "cadf-spool: taken 2, set aside 1, waiting 0")
+        trial.leaves(what, folder, trial.joined(document("e1", "e3")), **{
+            "taken/a.json": None, "taken/z.jsonl": None, "set-aside/costly.json": None, "set-aside/costly.json.reason": reason.encode() + b"\n"})
+    deep = json.dumps({"x" * 300000: [1.5] * 50000}).encode()  # a path for each number takes more than 5 GB
+    folder = trial.site(**{"a.json": document("e1"), "deep.jsonl": deep})
+    done = trial.run(folder, "--log", "g", "--memory", str(2 ** 29), "s.cadf", "spool")
+    trial.check("a line that takes memory", done.status, 1, b"set aside" in done.error, True, b"waiting 0" in done.error, True)
+
+
+def tries_sizes(trial):
+    """What is too large is set aside without a copy; holes stay holes."""
+    folder = trial.site(**{"a.json": document("e1"), "large.json": document("e2", "e3", "e4")})
+    for name, size in (("huge.jsonl", 2 ** 40), ("hole.json", 2 ** 26)):
+        with open(os.path.join(folder, "spool", name), "wb") as file:
+            file.truncate(size)
+    trial.check("sizes", trial.run(folder, "--log", "g", "--size", str(2 ** 26), "s.cadf", "spool").status, 1)
+    large = b"larger than 67108864 bytes: split it, or give a greater --size\n"
+    found = os.path.join(folder, "spool", "set-aside")
+    trial.check("sizes", open(os.path.join(found, "huge.jsonl.reason"), "rb").read(), large, os.stat(os.path.join(found, "hole.json")).st_size, 2 ** 26,
+                os.stat(os.path.join(found, "hole.json")).st_blocks < 2048, True, sorted(os.listdir(os.path.join(folder, "spool/taken"))), ["a.json", "large.json"])
+    tries_smaller_size(trial)
+
+
+def tries_smaller_size(trial):
+    folder = trial.site(**{"a.json": document("e1"), "large.json": document("e2", "e3", "e4")})
+    trial.check("a smaller size", trial.run(folder, "--log", "g", "--size", str(len(document("e1"))), "s.cadf", "spool").status, 1)
+    trial.leaves("a smaller size", folder, trial.joined(document("e1")), **{"taken/a.json": None, "set-aside/large.json": None, "set-aside/large.json.reason": None})
+
+
+def tries_groups_at_fault(trial):
+    """One file keeps none of its group from being taken, however it makes the join fail: it is set aside, and the number of joins is small."""
+    held_by = 'for each; do grep -q BOMB "$each" 2>/dev/null && { %s; }; done'
+    for what, script in (("memory", '[ "$1" = join ] && ' + held_by % "echo 'cadf: out of memory' >&2; exit 4"),
+                         ("time", '[ "$1" = join ] && ' + held_by % "kill -XCPU $$"),
+                         ("too large", '[ "$1" = check ] && case $(realpath "$3") in *.new) %s;; esac' % (held_by % "echo 'cadf: input 1: too large' >&2; exit 1"))):
+        names = ["%d.json" % number for number in range(16)]
+        folder = trial.site(**{name: document("BOMB" if name == "7.json" else name) for name in names})
+        odd = trial.command(folder, 'echo "$1" >>%s/calls\n%s' % (folder, script))
+        done = trial.run(folder, "--log", "g", "s.cadf", "spool", cadf=odd)
+        trial.check(what + " of a group", done.status, 1, done.error.decode().splitlines()[-1], "cadf-spool: taken 15, set aside 1, waiting 0")
+        trial.leaves(what + " of a group", folder, trial.joined(document(*(name for name in names if name != "7.json"))), **{
+            "set-aside/7.json": None, "set-aside/7.json.reason": None, **{"taken/" + name: None for name in names if name != "7.json"}})
+        joins = held(folder).get("calls", b"").split().count(b"join")
+        trial.check(what + ": joins of a group", joins <= 10, True)  # one, two for each halving, and one
+
+
+def site_among_users(trial):
+    """A site of one user, with a spool for others as examples/systemd makes it, and the words that run the tool as that user.
+
+    None where this user can't do that.
+    """
+    folder = tempfile.mkdtemp(dir=trial.folder)
+    found = others.shared(folder, os.path.dirname(trial.tool), trial.binary)
+    trial.has_others = found is not None
+    if not trial.has_others:
+        return print("spool: not root, or no setpriv: what other users can do was not tried")
+    os.mkdir(os.path.join(folder, "spool"))
+    os.mkdir(os.path.join(folder, "lib"))
+    put(os.path.join(folder, "lib", "s.cadf"), trial.joined(document("e0")))
+    for name, mode, group in (("lib", 0o700, others.CALLER), ("lib/s.cadf", 0o600, others.CALLER), ("spool", 0o1730, others.GROUP)):
+        os.chown(os.path.join(folder, name), others.CALLER, group)
+        os.chmod(os.path.join(folder, name), mode)
+    return folder, others.as_user(others.CALLER, others.CALLER, "env", "CADF=" + found[1], others.PYTHON, os.path.join(found[0], "cadf-spool"))
+
+
+def send(folder, name, data, seconds=3600):
+    """Puts a file of a sender into the spool, as it was written some time ago."""
+    path = os.path.join(folder, "spool", name)
+    put(path, data)
+    os.chown(path, others.SENDER, others.GROUP)
+    os.utime(path, (time.time() - seconds,) * 2)
+
+
+def tries_planted(trial):
+    """A sender puts something in the place of the tool's own files: it is refused by its name, and nothing is taken."""
+    made = site_among_users(trial)
+    if made is None:
+        return
+    folder, words = made
+    os.mkdir(os.path.join(folder, "own"))
+    os.chown(os.path.join(folder, "own"), others.CALLER, others.CALLER)
+    os.chmod(os.path.join(folder, "own"), 0o700)
+    send(folder, "a.json", document("e1"))
+    plants = {"a folder": lambda path: os.mkdir(path) or os.chmod(path, 0o1777), "a link": lambda path: os.symlink("../own", path),
+              "a file": lambda path: put(path, b"") or os.chmod(path, 0o666), "a FIFO": lambda path: os.mkfifo(path) or os.chmod(path, 0o666)}
+    names = ("taking", "taken", "set-aside", ".spool.lock")
+    for name in names:
+        for kind, plant in plants.items():
+            subprocess.run(["rm", "-rf", *(os.path.join(folder, "spool", each) for each in names)], check=True)
+            path = os.path.join(folder, "spool", name)
+            plant(path)
+            os.lchown(path, others.SENDER, others.GROUP)
+            done = ended(words[0], [*words[1:], "lib/s.cadf", "spool"], cwd=folder)
+            trial.check("%s planted as %s" % (name, kind), done.status, 3, ("spool/%s: it has to be" % name).encode() in done.error, True,
+                        open(os.path.join(folder, "lib/s.cadf"), "rb").read(), trial.joined(document("e0")), os.listdir(os.path.join(folder, "own")), [])
+    for mode, owner, said in ((0o777, others.CALLER, b"chmod +t"), (0o1777, 0, b"another user")):
+        os.chown(os.path.join(folder, "spool"), owner, others.GROUP)
+        os.chmod(os.path.join(folder, "spool"), mode)
+        done = ended(words[0], [*words[1:], "lib/s.cadf", "spool"], cwd=folder)
+        trial.check("a spool of mode %o" % mode, done.status, 3, said in done.error, True)
+
+SENDING = """import os, sys, time
+name, place = sys.argv[1:]
+file = open(name, "r+b")
+open(os.path.join(place, "ready"), "w").close()
+while not os.path.exists(os.path.join(place, "now")): time.sleep(0.01)
+seen = [each for each in os.listdir("spool/.work") if not os.path.islink(os.path.join("spool/.work", each))]
+file.seek(0)
+file.write(file.read().replace(b"e1", b"EV"))
+file.close()
+open(os.path.join(place, "done"), "w").write(" ".join(seen))
+"""
+
+
+def tries_senders(trial):
+    """A sender has a folder in the spool where the tool might work, and keeps its file open to change it later.
+
+    The site's file holds what arrived, no link in that folder is followed, nothing is to be seen there; and what is taken is
+    what was judged, not what the sender wrote while it was.
+    """
+    made = site_among_users(trial)
+    if made is None:
+        return
+    folder, words = made
+    planted, place = os.path.join(folder, "spool", ".work"), os.path.join(folder, "place")
+    for each in (planted, place):
+        os.mkdir(each)
+        os.chown(each, others.SENDER, others.GROUP)
+        os.chmod(each, 0o1777)
+    for number in range(4):
+        for name in ("%d-aside", "%d-0001.json"):
+            if (number, name) != (0, "%d-0001.json"):
+                os.symlink(os.path.join(folder, "lib/s.cadf"), os.path.join(planted, name % number))
+    for name in [".", *os.listdir(planted)]:
+        os.lchown(os.path.join(planted, name), others.SENDER, others.GROUP)
+    send(folder, "a.jsonl", message("e1") + b"no event\n")
+    send(folder, "b.json", document("e2"))
+    put(os.path.join(folder, "sending"), SENDING.encode())
+    sender = subprocess.Popen(others.as_user(others.SENDER, others.GROUP, others.PYTHON, os.path.join(folder, "sending"), "spool/a.jsonl", place), cwd=folder)
+    odd = trial.command(folder, 'case "$1 $3" in "check "*0001.json) touch %s/now; while [ ! -e %s/done ] && kill -0 %d; do sleep 0.02; done;; esac' % (place, place, sender.pid))
+    while not os.path.exists(os.path.join(place, "ready")) and sender.poll() is None:
+        time.sleep(0.01)
+    words = [word if not word.startswith("CADF=") else "CADF=" + odd for word in words]
+    done = ended(words[0], [*words[1:], "lib/s.cadf", "spool"], cwd=folder)
+    sender.kill() if done.status != 1 else None
+    trial.check("a sender that writes on", done.status, 1, sender.wait(), 0, done.error.decode().splitlines()[-1], "cadf-spool: taken 2, set aside 1, waiting 0",
+                open(os.path.join(folder, "lib/s.cadf"), "rb").read(), trial.joined(document("e0", "e1", "e2")),
+                held(os.path.join(folder, "spool")).get("taken/a.jsonl"), message("e1") + b"no event\n")
+    if os.path.exists(os.path.join(place, "done")):
+        trial.check("what a sender sees", open(os.path.join(place, "done")).read(), "")
+
+
+def tries_unclosed(trial):
+    """Another user's file, which the system doesn't say to be closed, waits until it is unchanged for a time."""
+    made = site_among_users(trial)
+    if made is None:
+        return
+    folder, words = made
+    send(folder, "a.jsonl", message("e1"), seconds=30)
+    done = ended(words[0], [*words[1:], "lib/s.cadf", "spool"], cwd=folder)
+    trial.check("written a moment ago", done.status, 0, b"a.jsonl: waits: changed less than 60 seconds ago" in done.error, True)
+    trial.check("written a moment ago", sorted(held(os.path.join(folder, "spool"))), ["taking/a.jsonl"])
+    done = ended(words[0], [*words[1:], "--unchanged", "20", "lib/s.cadf", "spool"], cwd=folder)
+    trial.check("unchanged for a time", done.status, 0, sorted(held(os.path.join(folder, "spool"))), ["taken/a.jsonl"])
+    owner = os.stat(os.path.join(folder, "spool/taken/a.jsonl")).st_uid
+    trial.check("what is taken is a copy", owner, others.CALLER)
+
+# Each: what a copy of the tool does wrongly, the texts that it has in place of others, and what catches it.
+WRONG = [
+    ("a file that is gone ends or fails the run", [("except FileNotFoundError:\n                say(", "except ZeroDivisionError:\n                say(")], tries_withdrawn),
+    ("no program has a budget", [("resource.setrlimit(kind, (min(most, hard), hard))", "pass")], tries_budgets),
+    ("a file that costs too much waits", [("raise self.fault(done)\n            if log", "raise Waits(done.status, done.said)\n            if log")], tries_budgets),
+    ("a file of any size is copied", [("if file.tell() > most:", "if False:")], tries_smaller_size),
+    ("holes are filled", [("if block.count(0) < len(block):", "if True:")], tries_sizes),
+    ("a group that fails ends the run", [("elif len(files) > 1:", "elif False:")], tries_groups_at_fault),
+    ("a file that fails alone waits", [("return Refused(\"it can't be taken: \"", "return Waits(FAILED, \"")], tries_groups_at_fault),
+]
+WRONG_AMONG_USERS = [
+    ("it uses what it finds", [("raise Stop(FAILED, wanted)\n        return file", "pass\n        return file")], tries_planted),
+    ("it follows links", [("flags | os.O_NOFOLLOW | os.O_NONBLOCK", "flags | os.O_NONBLOCK")], tries_planted),
+    ("it works in any spool", [("if found.st_mode & 0o022 and not", "if False and not")], tries_planted),
+    ("it works where a sender may write", [('WORK = ".work"', 'WORK = "../.work"'), ("contextlib.suppress(FileNotFoundError):\n            self.work", "contextlib.suppress(OSError):\n            self.work"),
+                                          ("os.mkdir(WORK, 0o700, dir_fd=self.taking)", "os.makedirs(os.path.join(self.path, '.work'), exist_ok=True)")], tries_senders),
+    ("it takes the sender's own file", [('os.rename("copy", name, src_dir_fd=self.work, dst_dir_fd=self.taking)', 'os.unlink("copy", dir_fd=self.work)')], tries_senders),
+    ("it waits for no other user", [("if abs(time.time() - found.st_mtime) < quiet:", "if False:")], tries_unclosed),
+]
+
+
+def catches(trial):
+    """Each wrong copy of the tool is caught by what tries it."""
+    with open(SPOOL, encoding="utf-8") as file:
+        source = file.read()
+
+    def is_caught(case):
+        _, changes, tries = case
+        copy = Trial(tempfile.mkdtemp(dir=trial.folder), trial.binary)
+        os.chmod(copy.folder, 0o755)
+        copy.tool, wrong = os.path.join(copy.folder, "tools", "cadf-spool"), source
+        shutil.copytree(os.path.dirname(SPOOL), os.path.dirname(copy.tool))
+        for right, other in changes:
+            wrong = wrong.replace(right, other)
+        put(copy.tool, wrong.encode())
+        tries(copy)
+        return [source.count(right) for right, _ in changes] == [1] * len(changes) and bool(copy.wrong)
+
+    cases = WRONG + (WRONG_AMONG_USERS if trial.has_others else [])
+    for (what, _, _), caught in zip(cases, side_by_side(is_caught, cases)):
+        trial.check("caught: " + what, caught, True)
 
 
 def arrived():
@@ -349,7 +595,9 @@ def main():
     options = parser.parse_args()
     with tempfile.TemporaryDirectory(prefix="cadf-spool-") as folder:
         trial = Trial(folder, os.path.abspath(options.binary))
-        for tries in (tries_kinds, tries_mended, tries_names, tries_odd_files, tries_words, tries_faults, tries_groups, tries_many):
+        os.chmod(folder, 0o755)  # for other users
+        for tries in (tries_kinds, tries_mended, tries_names, tries_odd_files, tries_words, tries_faults, tries_groups, tries_many, tries_withdrawn,
+                      tries_budgets, tries_sizes, tries_groups_at_fault, tries_planted, tries_senders, tries_unclosed, catches):
             tries(trial)
         cases = tries_each_call(trial)
         tries_kills(trial, options.kills)
