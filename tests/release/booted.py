@@ -70,10 +70,10 @@ def run(*words, **options):
 
 
 def send(name, data, mode=0o644):
-    """Puts a file into the spool as a sender does."""
+    """Puts a file into the spool as a sender does, long unchanged."""
     path = os.path.join(SPOOL, name)
-    script = 'import os, sys; file = open(%r, "wb"); file.write(%r); file.close(); os.chmod(%r, %d); os.rename(%r, %r)' % (
-        path + ".part", data, path + ".part", mode, path + ".part", path)
+    script = 'import os; n = %r; file = open(n, "wb"); file.write(%r); file.close(); os.utime(n, (1, 1)); os.chmod(n, %d); os.rename(n, %r)' % (
+        path + ".part", data, mode, path)
     status, said = run("setpriv", "--reuid=sender", "--regid=sender", "--init-groups", "python3", "-c", script)
     if status:
         raise RuntimeError(said)
