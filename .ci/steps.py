@@ -39,7 +39,7 @@ STAGES = [
         "builds": "python3 -m tests.package.builds",
         "calls": "python3 -m tests.tables.make --check",
         "mutants": ".ci/mutants --placed",
-        "judge": "python3 -m tests.tools.judge",
+        "judge": "python3 -m tests.proofs.judge",
         "old-names": "python3 -m tests.docs.old_names",
         "pages": "python3 -m tests.docs.pages",
         "check-promises": "python3 -m tests.docs.promises docs/PROMISES.md docs/ARCHITECTURE.md docs/AUDIT.md",

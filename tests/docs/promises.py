@@ -24,10 +24,11 @@ import glob
 import os
 import re
 import sys
-import corpus
+
 from tests import TOP
 from tests.docs.public_calls import uncalled
 from tests.docs.reachable import is_reachable, unreached_laws
+from tests.proofs import corpus
 
 ITEM = re.compile(r"\b(?:fn|struct|enum|trait|mod) (\w+)")
 CLAUSE = re.compile(r"\bensures (\w+) \{")

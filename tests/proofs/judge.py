@@ -1,6 +1,6 @@
 """Tests how .ci/mutants judges wrong bodies, by a prover of its own that says what the kit's prover says.
 
-    python3 -m tests.tools.judge
+    python3 -m tests.proofs.judge
 
 The prover knows one function, and an answer by hand that fits its own body alone. The trials must find fault with a
 judge that tries no goal again, and with one that leaves a clause where it is.
@@ -14,8 +14,8 @@ import stat
 import sys
 import tempfile
 
-FOLDER = os.path.dirname(os.path.abspath(__file__))
-import corpus
+from tests import TOP
+from tests.proofs import corpus
 
 CRATE, FILE, FUNCTION, OLD = "cadf_terms", "src/outcome.rt", "root_len", "return i;"
 GOAL = "returns-then-b-eq47-clause-end"
@@ -39,7 +39,7 @@ TRIALS = [("return 0 + i;", None, corpus.PROVES), ("return i + 1;", None, GOAL),
 
 def judge(prover):
     """Loads .ci/mutants, with that prover and a copy of the one crate."""
-    loader = importlib.machinery.SourceFileLoader("mutants", os.path.join(FOLDER, "mutants"))
+    loader = importlib.machinery.SourceFileLoader("mutants", os.path.join(TOP, ".ci", "mutants"))
     module = importlib.util.module_from_spec(importlib.util.spec_from_loader("mutants", loader))
     loader.exec_module(module)
     module.RT, module.copied_tree = prover, copied_crate
@@ -51,7 +51,7 @@ def copied_crate(crate):
     with tempfile.TemporaryDirectory() as top:
         for part in ("src", "proofs"):
             path = os.path.join("crates", crate, part)
-            shutil.copytree(os.path.join(corpus.TOP, path), os.path.join(top, path))
+            shutil.copytree(os.path.join(TOP, path), os.path.join(top, path))
         yield top
 
 

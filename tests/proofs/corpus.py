@@ -19,7 +19,8 @@ import itertools
 import os
 import re
 
-TOP = os.path.dirname(os.path.dirname(os.path.abspath(__file__)))
+from tests import TOP
+
 FOLDER = os.path.join(TOP, "mutants")
 TRIED = os.path.join(FOLDER, "tried")
 UNJUDGED = "not judged"

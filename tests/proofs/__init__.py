@@ -1,0 +1,1 @@
+"""The mutants: their tables, and the judge that tries them."""
