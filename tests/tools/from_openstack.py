@@ -2,7 +2,8 @@
 
     python3 -m tests.tools.from_openstack [BINARY]
 
-- Each kind of line holds the same event; each rule, applied and left out; each bad line costs itself alone.
+- Each kind of line holds the same event; each rule, applied and left out; each bad line costs itself alone, whatever
+  memory or time it would take, and swallows no other.
 - The recorded events: how many are kept, that they differ from what was read by the rules alone, that the binary
   accepts each one kept and refuses each one set aside, that any cutting of the input gives the same log, and so do
   relays.
@@ -190,6 +191,15 @@ class Trial:
         with open("aside", encoding="utf-8") as lines:
             return Done(answer, [json.loads(line) for line in lines])
 
+    def wrong_copy(self, right, instead):
+        """The place of a copy of the tool that has another text in one place."""
+        with open(TOOL, encoding="utf-8") as file:
+            source = file.read()
+        self.check("a place for what is wrong", source.count(right), 1)
+        put("wrong", source.replace(right, instead).encode())
+        os.chmod("wrong", 0o755)
+        return os.path.abspath("wrong")
+
     def cadf(self, *words):
         return ended(self.binary, words)
 
@@ -265,7 +275,7 @@ def tries_rules(trial):
     trial.check("rules", done.status, 0, len(done.events), len(MENDED), done.counts, counts(len(MENDED), rules=rules))
     for found, (read, mended, each) in zip(done.events, MENDED):
         trial.check("%s of %.60s" % (each, json.dumps(read)), found, read if mended is None else mended)
-    trial.check("written again", trial.read(done.output).output, done.output)
+    trial.check("written again", trial.read(done.output, "--whole").output, done.output)
     for rule in ("request", "time", "initiator", "number"):
         tries_without(trial, rule)
     text = json.dumps(event(n=["%"]))
@@ -296,20 +306,35 @@ def tries_places(trial):
 
 
 def tries_texts(trial):
-    """A file that is one text or several of them over lines, and one that begins with a broken line."""
+    """A file is lines, and each costs itself alone. A text over several lines is read by --whole."""
     pretty = json.dumps({"id": "g", "events": [event(id="a"), event(id="b")]}, indent=1)
-    one = json.dumps(event(id="c"))
-    for what, data, kept, aside in (
-            ("pretty", pretty, "ab", 0), ("pretty twice", pretty + "\n\n" + pretty, "abab", 0),
-            ("a byte order mark", "\ufeff" + pretty, "ab", 0), ("a byte order mark and a line", "\ufeff" + one, "c", 0),
-            ("pretty, then a line", pretty + "\n" + one, "abc", 0), ("cut off", pretty[:-40], "", 1),
-            ("a torn first line", '{"payload":\n' + one, "c", 1), ("two lines after it", '{"a":\n%s\n%s' % (one, one), "cc", 1),
-            ("brackets first", "[" * 1000 + "\n" + one + "\n" + one, "cc", 1), ("garbage first", "x\n" + one, "c", 1),
-            ("garbage last", one + "\nx", "c", 1), ("a line feed got lost", one + one, "cc", 0),
-            ("an event, pretty", json.dumps(event(id="d", events=[]), indent=2), "d", 0), ("nothing", "", "", 0),
-            ("blank lines", "\n \n" + one + "\n\n", "c", 0)):
-        done = trial.read(data)
+    one, whole, lines = json.dumps(event(id="c")), ["--whole"], sum(line.strip() != "[]" for line in pretty.split("\n"))
+    for what, data, words, kept, aside in (
+            ("pretty", pretty, whole, "ab", 0), ("pretty twice", pretty + "\n\n" + pretty, whole, "abab", 0),
+            ("a byte order mark", "\ufeff" + pretty, whole, "ab", 0), ("a byte order mark and a line", "\ufeff" + one, [], "c", 0),
+            ("pretty, then a line", pretty + "\n" + one, whole, "abc", 0), ("cut off", pretty[:-40], whole, "", 1),
+            ("an event, pretty", json.dumps(event(id="d", events=[]), indent=2), whole, "d", 0), ("blanks", "\n \n", whole, "", 0),
+            ("pretty, as lines", pretty, [], "", lines), ("a torn first line", '{"payload":\n' + one, [], "c", 1),
+            ("two lines after it", '{"a":\n%s\n%s' % (one, one), [], "cc", 1), ("brackets first", "[" * 1000 + "\n" + one + "\n" + one, [], "cc", 1),
+            ("garbage first", "x\n" + one, [], "c", 1), ("garbage last", one + "\nx", [], "c", 1), ("a line feed got lost", one + one, [], "cc", 0),
+            ("nothing", "", [], "", 0), ("blank lines", "\n \n" + one + "\n\n", [], "c", 0)):
+        done = trial.read(data, *words)
         trial.check(what, "".join(each["id"] for each in done.events), kept, len(done.entries), aside, done.status, min(aside, 1))
+    trial.check("how a text is read", "-: if this file is one text over several lines, read it with --whole" in trial.read(pretty).error.decode(), True)
+
+
+def tries_swallowing(trial):
+    """A line that begins a value and a later one that ends it don't swallow the line between them, whatever the file's name."""
+    first = json.dumps(event(id="harmless"))[:-1] + ', "x":\n'
+    text = first + json.dumps(envelope(event(id="victim"))) + "\n}\n"
+    for name in ("bus.jsonl", "bus.ndjson", "bus.log", "bus", "bus.json", "-"):
+        put(name if name != "-" else "stdin", text.encode())
+        done = trial.read(text, "--", name)
+        trial.check("swallowed in " + name, [each["id"] for each in done.events], ["victim"], [entry["line"] for entry in done.entries], [1, 3])
+    wrong = trial.wrong_copy("all_of(file, longest) if is_whole else all_lines(file, longest)", "all_of(file, longest)")
+    trial.check("the wrong reader", [each["id"] for each in json.loads(ended(wrong, ["--log", "g", "bus.jsonl"]).output)["events"]], ["harmless"])
+    for name, status in (("bus.jsonl", 2), ("bus.ndjson", 2), ("bus.log", 2), ("bus.json", 0)):
+        trial.check("--whole " + name, ended(TOOL, ["--log", "g", "--whole", name]).status, status)
 
 
 def tries_brackets(trial):
@@ -317,6 +342,87 @@ def tries_brackets(trial):
     for what, text in (("JSON", "[" * 2000000), ("Python", middleware_line("{'a':" + "(" * 2000000))):
         done = trial.read(text, preexec_fn=lambda: resource.setrlimit(resource.RLIMIT_CPU, (3, 3)))
         trial.check("brackets of " + what, done.status, 1, [entry["faults"] for entry in done.entries], [["nested too deep"]])
+
+
+def limited(mib):
+    """Words for a call with so much memory."""
+    return {"preexec_fn": lambda: resource.setrlimit(resource.RLIMIT_AS, (mib << 20, mib << 20))}
+
+
+def dense_lines():
+    """Lines of 4 MB that take more than 20 bytes of memory a byte to be read, and what they are."""
+    for what, part in (("objects", '{"":0},'), ("lists", "[[[]]],"), ("deep objects", '{"":' * 90 + "0" + "}" * 90 + ",")):
+        yield what, '[%s0]' % (part * (4000000 // len(part)))
+    yield "names", '{%s"z":0}' % "".join('"%04x":0,' % number for number in range(400000))
+    yield "values", "{}" * 2000000
+
+
+def tries_bombs(trial):
+    """Lines that would take much memory or time cost themselves alone, with 20 bytes of memory a byte; so do lines without an end."""
+    good = json.dumps(event(id="good")) + "\n"
+    for what, line in dense_lines():
+        done = trial.read(line + "\n" + good, **limited(130))
+        trial.check(what, done.status, 1, [each["id"] for each in done.events], ["good"], [entry["faults"] for entry in done.entries],
+                    [["takes more than 18 times its size of memory"]], done.entries[0]["text"] == line, True)
+    less, scarce = trial.read(next(dense_lines())[1] + "\n" + good, **limited(60)), ["takes more memory than there is"]
+    trial.check("less memory", [each["id"] for each in less.events], ["good"], [entry["faults"] for entry in less.entries], [scarce])
+    wrong = trial.wrong_copy("MEMORY = 18 ", "MEMORY = 99 ")
+    put("dense", next(dense_lines())[1].encode())
+    ended(wrong, ["--log", "g", "--set-aside", "wrong.aside", "dense"], **limited(130))
+    with open("wrong.aside", encoding="utf-8") as lines:
+        trial.check("no bound", [json.loads(line)["faults"] for line in lines], [scarce])
+    path = '"%s":[%s]' % ("x" * 100000, ",".join(["1.5"] * 20000))
+    done = trial.read(json.dumps(EVENT)[:-1] + ",%s}\n" % path, "--without", "number", **limited(100))
+    trial.check("numbers below a long name", done.status, 1, len(done.entries[0]["faults"]), 101, done.entries[0]["faults"][99:],
+                ["/%s..: a number is not whole" % ("x" * 999), "and 19900 more"])
+    wrong = trial.wrong_copy("MOST_NAMED, LONGEST_NAMED = 100, 1000", "MOST_NAMED, LONGEST_NAMED = 10 ** 9, 10 ** 9")
+    put("path", (json.dumps(EVENT)[:-1] + ",%s}" % path).encode())
+    trial.check("all paths", ended(wrong, ["--log", "g", "--without", "number", "path"], **limited(100)).status, 4)
+    trial.check("numbers are mended", len(trial.read(json.dumps(EVENT)[:-1] + ",%s}" % path, **limited(100)).events[0]["x" * 100000]), 20000)
+    with open("sparse", "wb") as file:
+        file.truncate(1 << 30)
+        file.seek(0, os.SEEK_END)
+        file.write(b"\n" + good.encode())
+    for words, longest in (([], 1 << 26), (["--longest", "4096"], 4096)):
+        done = trial.read(b"", *words, "sparse", **limited(250 if longest > 4096 else 60))
+        trial.check("a sparse file", done.status, 1, [each["id"] for each in done.events], ["good"], done.entries,
+                    [{"file": "sparse", "line": 1, "faults": ["longer than %d bytes: see --longest" % longest]}])
+    wrong = trial.wrong_copy("line = file.readline(longest + 2)", "line = file.readline()")
+    trial.check("no longest line", ended(wrong, ["--log", "g", "sparse"], **limited(250)).status, 4)
+    os.remove("sparse")
+
+
+def tries_longest(trial):
+    """The longest line, to the byte, with each of the ends of a line; and the longest text of --whole."""
+    line = json.dumps(event(id="a")).ljust(1000)
+    for size, is_kept in ((1000, True), (999, False), (998, False)):
+        for end in ("\n", "\r\n", ""):
+            done = trial.read("x\n" + line + end, "--longest", str(size))
+            trial.check("%d of 1000 %r" % (size, end), len(done.events), int(is_kept), len(done.entries), 2 - is_kept,
+                        done.entries[-1]["line"], 2 - is_kept)
+        done = trial.read(line + "\n" + line, "--longest", str(size))
+        trial.check("%d twice" % size, len(done.events), 2 * is_kept)
+        trial.check("%d whole" % size, len(trial.read(line, "--whole", "--longest", str(size)).events), int(is_kept))
+    trial.check("a carriage return within", len(trial.read(line[:-1] + "\r" + line, "--longest", "1000").entries), 1)
+    entry = trial.read(line, "--longest", "999").entries[0]
+    again = trial.read(json.dumps(entry) + "\n").entries[0]
+    trial.check("read again", again["event"], entry, trial.read(json.dumps(again)).entries, [again])
+    for words in (["--longest", "0"], ["--longest", str(2 ** 30 + 1)], ["--longest", "x"], ["--x\x1b[2J"]):
+        done = ended(TOOL, ["--log", "g", *words])
+        trial.check("usage", done.status, 2, b"\x1b" in done.error, False)
+
+
+def tries_several(trial):
+    """What is refused of one line is one entry, whose events are read again; a line of tiny values takes little time."""
+    bad = [without("id"), event(id="x", tags=["", "a", ""]), 1.5, "text"]
+    done = trial.read(json.dumps([event(id="a"), *bad, event(id="b")]))
+    trial.check("several", done.status, 1, [each["id"] for each in done.events], ["a", "b"], done.counts, counts(2, 4), done.entries,
+                [{"file": "-", "line": 1, "faults": ["event 1: id", "event 2: tag 1", "event 2: tag 3", "event 3: not an object",
+                                                     "event 4: not an object"], "document": {"events": bad}}])
+    trial.check("several, again", trial.read(json.dumps(done.entries[0])).entries, done.entries)
+    line = "{}" * 30000 + "\n"
+    done = trial.read(line * 3, preexec_fn=lambda: resource.setrlimit(resource.RLIMIT_CPU, (20, 20)))
+    trial.check("tiny values", done.status, 1, len(done.entries), 3, done.counts, counts(aside=90000), len(done.entries[0]["faults"]), 101)
 
 
 def relayed(value, number):
@@ -388,7 +494,7 @@ def tries_checks(trial):
             wanted = []
         except second.Fault as fault:
             wanted = [fault.said[len("event 0: "):]]
-        trial.check("check of %.200s" % json.dumps(value), tool.faults_of(value)[:1], wanted)
+        trial.check("check of %.200s" % json.dumps(value), list(tool.faults_of(value))[:1], wanted)
 
 ODD = [None, True, 0, [], {}, "", "x", "a\n", "a\x7f", "é" * 512, "é" * 512 + "a", "a" * 1025, [[]], {"id": "x"}, {"id": ""}, {"id": None},
        ["a", ""], [None], [{}], [[{}]], "2024-02-30T00:00:00Z", "2024-02-29T23:59:59.123456789+14:00", "2024-02-29T23:59:59+14:01",
@@ -489,14 +595,12 @@ def tries_sizes(trial):
         file.write('{"a":\n')  # a broken first line
         for number in range(150):
             file.write(json.dumps(event(id="e%d" % number, n="x" * 1000000)) + "\n")
-    limit = 100 << 20
     with open("long.out", "wb") as output:
-        done = subprocess.run([TOOL, "--log", "g", "long"], stdout=output, stderr=subprocess.PIPE,
-                              preexec_fn=lambda: resource.setrlimit(resource.RLIMIT_AS, (limit, limit)))
+        done = subprocess.run([TOOL, "--log", "g", "long"], stdout=output, stderr=subprocess.PIPE, **limited(100))
     trial.check("memory", done.returncode, 1, done.stderr.decode().split("\n")[-2], counts(150, 1))
     os.remove("long")
-    put("line", b'["' + b"x" * limit + b'"]')
-    done = ended(TOOL, ["--log", "g", "line"], preexec_fn=lambda: resource.setrlimit(resource.RLIMIT_AS, (limit, limit)))
+    put("line", b'["' + b"x" * (60 << 20) + b'"]')
+    done = ended(TOOL, ["--log", "g", "line"], **limited(100))
     trial.check("out of memory", done.status, 4, done.error, b"cadf-from-openstack: out of memory\n")
 
 
@@ -504,8 +608,8 @@ def main():
     trial = Trial(os.path.abspath(sys.argv[1]) if len(sys.argv) > 1 else built("cadf"))
     with tempfile.TemporaryDirectory() as folder:
         os.chdir(folder)
-        for tries in (tries_lines, tries_rules, tries_places, tries_texts, tries_brackets, tries_real, tries_checks, tries_aside,
-                      tries_files, tries_sizes):
+        for tries in (tries_lines, tries_rules, tries_places, tries_texts, tries_swallowing, tries_brackets, tries_bombs, tries_longest,
+                      tries_several, tries_real, tries_checks, tries_aside, tries_files, tries_sizes):
             tries(trial)
         os.chdir("/")
     if trial.wrong:

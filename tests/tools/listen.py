@@ -5,7 +5,8 @@
 - A file that may not grow beyond a limit: a disk that is full at an exact byte.
 - A SIGKILL while the file grows, KILLS times, with messages of 3 MB; and the most memory that they take.
 - A copy of the listener that acknowledges before it writes loses messages in both.
-- Odd messages, each of which is one line. A broker that is killed. Two queues whose logs are equal.
+- Odd messages, each of which is one line. One that begins a value swallows no other on the way to the site's file. A
+  broker that is killed. Two queues whose logs are equal.
 - A sync to the disk before each acknowledgement, as strace sees it.
 - What it does without a broker, and what it leaves and finishes in its folder.
 - A folder that others may use is refused, and names that others planted stop nothing; as another user, where this is
@@ -44,7 +45,7 @@ from tests import TOP
 from tests.machine import built
 from tests.tools import broker
 
-LISTEN = os.path.join(TOP, "tools", "cadf-listen")
+LISTEN, READ = (os.path.join(TOP, "tools", name) for name in ("cadf-listen", "cadf-from-openstack"))
 ACKNOWLEDGES = "            channel.basic_ack(deliveries.tag, multiple=True)\n"
 WRITES = "            spool.write(deliveries.lines)\n"
 LIMITS = (30000, 40001, 50002)  # bytes
@@ -510,6 +511,29 @@ def tries_odd_messages(trial):
     return "%d odd messages" % len(wanted)
 
 
+def tries_swallowing(trial):
+    """A message that begins a value and a later one that ends it: what came between them is in the site's file."""
+    victim = recorded()[0]
+    identifier = json.loads(json.loads(victim)["oslo.message"])["payload"]["id"]
+    first = dict(json.loads(json.loads(victim)["oslo.message"])["payload"], id="harmless")
+    trial.publish("swallow", [json.dumps(first).encode()[:-1] + b', "x":', victim, b"}"])
+    child = trial.start("swallow", "--queue", "swallow", "--until-empty", "0.5")
+    trial.check("swallow", trial.ended(child), 0, len(lines_of(trial.path("swallow"))), 3)
+    file, site = glob.glob(trial.path("swallow", "*.jsonl"))[0], trial.path("swallow.cadf")
+    trial.check("the wrong reader", events_of(READ, "--whole", shutil.copy(file, trial.path("swallow.txt"))), ["harmless"])
+    spooled = subprocess.run([sys.executable, os.path.join(TOP, "tools", "cadf-spool"), "--log", "audit", site, trial.path("swallow")],
+                             env=dict(os.environ, CADF=trial.binary), capture_output=True)
+    shown = subprocess.run([trial.binary, "show", site], stdout=subprocess.PIPE)
+    trial.check("not swallowed", spooled.returncode, 1, [event["id"] for event in json.loads(shown.stdout or b'{"events":[]}')["events"]], [identifier])
+    return "a message that begins a value"
+
+
+def events_of(*words):
+    """The identifiers of the events that cadf-from-openstack makes a document of."""
+    done = subprocess.run([sys.executable, *words, "--log", "audit"], capture_output=True)
+    return [event["id"] for event in json.loads(done.stdout)["events"]]
+
+
 def tries_broker_killed(trial, meanwhile):
     """A broker that is killed and started again while a listener takes messages."""
     messages = [body[:-1] + b',"n":%d}' % number for number, body in enumerate(recorded() * 2)]
@@ -530,7 +554,7 @@ def log_of(trial, name):
     made = trial.path(name + ".json")
     files = sorted(glob.glob(trial.path(name, "*.jsonl")))
     with open(made, "wb") as document:
-        done = subprocess.run([sys.executable, os.path.join(TOP, "tools", "cadf-from-openstack"), "--log", "audit", *files], stdout=document, stderr=subprocess.PIPE)
+        done = subprocess.run([sys.executable, READ, "--log", "audit", *files], stdout=document, stderr=subprocess.PIPE)
     trial.check("events of " + name, done.returncode in (0, 1), True)
     return subprocess.run([trial.binary, "join", made], check=True, stdout=subprocess.PIPE).stdout
 
@@ -640,7 +664,7 @@ def tries_broker(trial, kills):
     with concurrent.futures.ThreadPoolExecutor(4) as pool:
         made = [pool.submit(*words) for words in (
             (tries_right_kills, trial, kills), (tries_wrong_kills, trial, wrong, kills), (tries_connections, trial), (tries_two_queues, trial),
-            (tries_full_disks, trial, wrong), (tries_odd_messages, trial), (tries_sync, trial), (tries_tls, trial))]
+            (tries_full_disks, trial, wrong), (tries_odd_messages, trial), (tries_swallowing, trial), (tries_sync, trial), (tries_tls, trial))]
         done = [each.result() for each in made]
     return done + [tries_broker_killed(trial, tries_logs)]
 
