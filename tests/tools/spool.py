@@ -12,6 +12,7 @@
 BINARY is crates/cadf/out/cadf unless given.
 """
 import argparse
+import ctypes
 import glob
 import importlib.machinery
 import importlib.util
@@ -313,6 +314,23 @@ def tries_budgets(trial):
     trial.check("a line that takes memory", done.status, 1, b"set aside" in done.error, True, b"waiting 0" in done.error, True)
 
 
+def tries_confined(trial):
+    """A program that judges a file writes nowhere but into the working folder, where the system has Landlock."""
+    trial.has_landlock = ctypes.CDLL(None).syscall(444, None, 0, 1) > 0
+    if not trial.has_landlock:
+        return print("spool: no Landlock: what a program that judges a file may write was not tried")
+    folder = trial.site(**{"a.json": document("e1")})
+    site = trial.joined(document("e0"))
+    put(os.path.join(folder, "s.cadf"), site)
+    odd = trial.command(folder, 'if [ "$3" = a.json ]; then (cd %s; for each in s.cadf other spool/taken/other spool/taking/a.json; do echo x >>$each; done; '
+                                'mv s.cadf moved; rm s.cadf; echo x >spool/taking/.work/x) || exit 3; fi 2>&-' % folder)
+    done = trial.run(folder, "s.cadf", "spool", cadf=odd)
+    trial.check("confined", done.status, 0, sorted(os.listdir(folder)), ["odd", "s.cadf", "s.cadf.before", "s.cadf.lock", "spool"],
+                held(folder).get("s.cadf.before"), site)
+    trial.leaves("confined", folder, trial.joined(document("e0", "e1")), **{"taken/a.json": document("e1")})
+    return None
+
+
 def tries_sizes(trial):
     """What is too large is set aside without a copy; holes stay holes."""
     folder = trial.site(**{"a.json": document("e1"), "large.json": document("e2", "e3", "e4")})
@@ -405,16 +423,17 @@ def tries_planted(trial):
         done = ended(words[0], [*words[1:], "lib/s.cadf", "spool"], cwd=folder)
         trial.check("a spool of mode %o" % mode, done.status, 3, said in done.error, True)
 
-SENDING = """import os, sys, time
+SENDING = """import os, sys
 name, place = sys.argv[1:]
 file = open(name, "r+b")
-open(os.path.join(place, "ready"), "w").close()
-while not os.path.exists(os.path.join(place, "now")): time.sleep(0.01)
+os.mkfifo(os.path.join(place, "begun"))
+judging = open(os.path.join(place, "begun"), "w")  # waits until it is read
 seen = [each for each in os.listdir("spool/.work") if not os.path.islink(os.path.join("spool/.work", each))]
 file.seek(0)
 file.write(file.read().replace(b"e1", b"EV"))
 file.close()
-open(os.path.join(place, "done"), "w").write(" ".join(seen))
+open(os.path.join(place, "seen"), "w").write(" ".join(seen))
+print(file=judging)
 """
 
 
@@ -443,8 +462,8 @@ def tries_senders(trial):
     send(folder, "b.json", document("e2"))
     put(os.path.join(folder, "sending"), SENDING.encode())
     sender = subprocess.Popen(others.as_user(others.SENDER, others.GROUP, others.PYTHON, os.path.join(folder, "sending"), "spool/a.jsonl", place), cwd=folder)
-    odd = trial.command(folder, 'case "$1 $3" in "check "*0001.json) touch %s/now; while [ ! -e %s/done ] && kill -0 %d; do sleep 0.02; done;; esac' % (place, place, sender.pid))
-    while not os.path.exists(os.path.join(place, "ready")) and sender.poll() is None:
+    odd = trial.command(folder, 'case "$1 $3" in "check "*0001.json) read done <%s/begun;; esac' % place)
+    while not os.path.exists(os.path.join(place, "begun")) and sender.poll() is None:
         time.sleep(0.01)
     words = [word if not word.startswith("CADF=") else "CADF=" + odd for word in words]
     done = ended(words[0], [*words[1:], "lib/s.cadf", "spool"], cwd=folder)
@@ -452,8 +471,8 @@ def tries_senders(trial):
     trial.check("a sender that writes on", done.status, 1, sender.wait(), 0, done.error.decode().splitlines()[-1], "cadf-spool: taken 2, set aside 1, waiting 0",
                 open(os.path.join(folder, "lib/s.cadf"), "rb").read(), trial.joined(document("e0", "e1", "e2")),
                 held(os.path.join(folder, "spool")).get("taken/a.jsonl"), message("e1") + b"no event\n")
-    if os.path.exists(os.path.join(place, "done")):
-        trial.check("what a sender sees", open(os.path.join(place, "done")).read(), "")
+    if os.path.exists(os.path.join(place, "seen")):
+        trial.check("what a sender sees", open(os.path.join(place, "seen")).read(), "")
 
 
 def tries_unclosed(trial):
@@ -476,6 +495,7 @@ WRONG = [
     ("a file that is gone ends or fails the run", [("except FileNotFoundError:\n                say(", "except ZeroDivisionError:\n                say(")], tries_withdrawn),
     ("no program has a budget", [("resource.setrlimit(kind, (min(most, hard), hard))", "pass")], tries_budgets),
     ("a file that costs too much waits", [("raise self.fault(done)\n            if log", "raise Waits(done.status, done.said)\n            if log")], tries_budgets),
+    ("a program that judges writes anywhere", [("if times == 1:\n                change_only(self.spool.work)", "")], tries_confined),
     ("a file of any size is copied", [("if file.tell() > most:", "if False:")], tries_smaller_size),
     ("holes are filled", [("if block.count(0) < len(block):", "if True:")], tries_sizes),
     ("a group that fails ends the run", [("elif len(files) > 1:", "elif False:")], tries_groups_at_fault),
@@ -509,7 +529,7 @@ def catches(trial):
         tries(copy)
         return [source.count(right) for right, _ in changes] == [1] * len(changes) and bool(copy.wrong)
 
-    cases = WRONG + (WRONG_AMONG_USERS if trial.has_others else [])
+    cases = [case for case in WRONG + (WRONG_AMONG_USERS if trial.has_others else []) if trial.has_landlock or case[2] != tries_confined]
     for (what, _, _), caught in zip(cases, side_by_side(is_caught, cases)):
         trial.check("caught: " + what, caught, True)
 
@@ -597,7 +617,7 @@ def main():
         trial = Trial(folder, os.path.abspath(options.binary))
         os.chmod(folder, 0o755)  # for other users
         for tries in (tries_kinds, tries_mended, tries_names, tries_odd_files, tries_words, tries_faults, tries_groups, tries_many, tries_withdrawn,
-                      tries_budgets, tries_sizes, tries_groups_at_fault, tries_planted, tries_senders, tries_unclosed, catches):
+                      tries_budgets, tries_confined, tries_sizes, tries_groups_at_fault, tries_planted, tries_senders, tries_unclosed, catches):
             tries(trial)
         cases = tries_each_call(trial)
         tries_kills(trial, options.kills)
