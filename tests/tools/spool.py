@@ -308,7 +308,11 @@ def tries_budgets(trial):
         trial.check(what, done.status, 1, done.error.decode().splitlines()[-1], "cadf-spool: taken 2, set aside 1, waiting 0")
         trial.leaves(what, folder, trial.joined(document("e1", "e3")), **{
             "taken/a.json": None, "taken/z.jsonl": None, "set-aside/costly.json": None, "set-aside/costly.json.reason": reason.encode() + b"\n"})
-    deep = json.dumps({"x" * 300000: [1.5] * 50000}).encode()  # a path for each number takes more than 5 GB
+
+
+def tries_long_paths(trial):
+    """A line whose numbers have long paths, which take 5 GB if each is kept."""
+    deep = json.dumps({"x" * 300000: [1.5] * 50000}).encode()
     folder = trial.site(**{"a.json": document("e1"), "deep.jsonl": deep})
     done = trial.run(folder, "--log", "g", "--memory", str(2 ** 29), "s.cadf", "spool")
     trial.check("a line that takes memory", done.status, 1, b"set aside" in done.error, True, b"waiting 0" in done.error, True)
@@ -617,7 +621,7 @@ def main():
         trial = Trial(folder, os.path.abspath(options.binary))
         os.chmod(folder, 0o755)  # for other users
         for tries in (tries_kinds, tries_mended, tries_names, tries_odd_files, tries_words, tries_faults, tries_groups, tries_many, tries_withdrawn,
-                      tries_budgets, tries_confined, tries_sizes, tries_groups_at_fault, tries_planted, tries_senders, tries_unclosed, catches):
+                      tries_budgets, tries_long_paths, tries_confined, tries_sizes, tries_groups_at_fault, tries_planted, tries_senders, tries_unclosed, catches):
             tries(trial)
         cases = tries_each_call(trial)
         tries_kills(trial, options.kills)
