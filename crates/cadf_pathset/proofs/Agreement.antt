@@ -1,6 +1,7 @@
 -- Lists that share their first texts.
-use Rattle.std.proofs.Common.{◌≡◌, ℕ, ◌+◌, ◌<◌, ◌≤◌, min, [], ◌∷◌, refl, sym, ap, ◌∙◌, subst, suc, zero, length, take, drop, get_or, arith}
-use Rattle.std.proofs.lemmas.List.{take_more_same, take-take}
+use Rattle.std.proofs.Common.{◌≡◌, ℕ, ◌+◌, ◌<◌, ◌≤◌, min, [], ◌∷◌, ◌++◌, refl, sym, ap, ◌∙◌, subst, suc, zero, length, take, drop, get_or, arith}
+use Rattle.std.proofs.Math.Seq.{take-append_seam}
+use Rattle.std.proofs.lemmas.List.{length-append, length-take-le, take_more_same, take-take}
 use Rattle.std.specs.declared.cmp.Ordering.{Ordering}
 use Rattle.std.specs.declared.cmp.Ordering.TheVariants.{Less, Equal, Greater}
 use Rattle.std.specs.Ordering.{ordering_then, match_ordering, nat_cmp}
@@ -43,8 +44,28 @@ agree_through i j a b c h k =
     let y = agree_less j (min i j) b c (omega arith) k in
     record { ours = x.ours; theirs = y.theirs; same = x.same ∙ y.same }
 
+-- two lists that begin with the same list
+pub agree_front : (n : ℕ) (f a b r s : Texts) → n ≡ length f → a ≡ f ++ r → b ≡ f ++ s → Agree n a b
+agree_front n f a b r s e h k =
+    let x = ap length h ∙ length-append f r in
+    let y = ap length k ∙ length-append f s in
+    let cut : (z t : Texts) → z ≡ f ++ t → take n z ≡ f = λ z t is. (λ i. take (e i) (is i)) ∙ take-append_seam f t in
+    record { ours = omega (arith, e, x); theirs = omega (arith, e, y); same = cut a r h ∙ sym (cut b s k) }
+
+-- the first texts of a list
+pub agree_cut : (n k count : ℕ) (a b : Texts) → Agree n a b → count ≤ length b → k ≡ min n count → Agree k a (take count b)
+agree_cut n k count a b h l e =
+    let x = agree_less n k a b (omega (arith, e)) h in
+    let long = length-take-le count b l in
+    record { ours = x.ours; theirs = omega (arith, e, long); same = x.same ∙ sym (take-take k count b (omega (arith, e))) }
+
 pub agree_turned : (i : ℕ) (a b : Texts) → Agree i a b → Agree i b a
 agree_turned i a b h = record { ours = h.theirs; theirs = h.ours; same = sym h.same }
+
+-- two lists, each of which shares texts with one list
+pub agree_both : (i j n : ℕ) (a b x y : Texts) → a ≡ b → Agree i a x → Agree j b y → n ≡ min i j → Agree n x y
+agree_both i j n a b x y e h k is =
+    subst (λ m. Agree m x y) (sym is) (agree_through i j x a y (agree_turned i a x h) (subst (λ z. Agree j z y) (sym e) k))
 
 -- at the text at which they diverge
 pub parted : (i : ℕ) (a b : Texts) (r : Ordering) → Agree i a b → i < length a → i < length b → text_cmp (get_or a i []) (get_or b i []) ≡ r

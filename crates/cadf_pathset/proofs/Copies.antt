@@ -1,6 +1,6 @@
 -- The texts that lists share which are visited and copied.
 use Rattle.std.proofs.Common.{◌≡◌, ℕ, Bool, true, false, cond, ◌≤◌, ◌<◌, ◌-◌, nat_eq, get_or, List, [], ◌∷◌, ◌++◌, refl, sym, ap, ◌∙◌, subst, suc, zero, length, min, map, take, arith}
-use Rattle.std.proofs.lemmas.List.{append_assoc}
+use Rattle.std.proofs.lemmas.List.{append_assoc, length-take-le, take-take}
 use Rattle.std.proofs.lemmas.Bool.Decides.{nat_tests}
 use Rattle.std.specs.List.{AllByRecursion, filter}
 use Rattle.std.specs.List.Sorted.{IsStrictlySortedBy}
@@ -36,6 +36,13 @@ pub last_agrees : (xs now : List Texts) (p q : Texts) (n : ℕ) → now ≡ xs +
 last_agrees xs now p q n put same long =
     subst (λ z. Agree n z q) (same ∙ sym (ap (last_of []) put ∙ last-more [] xs p))
     (record { ours = omega (arith, long); theirs = omega (arith, long); same = refl })
+
+-- the last of some lists is the appended front of a list
+pub front_agrees : (xs now : List Texts) (f l : Texts) (n : ℕ) → now ≡ xs ++ f ∷ [] → f ≡ take n l → n ≤ length l → Agree n (last_of [] now) l
+front_agrees xs now f l n put cut fits =
+    let long = length-take-le n l fits in
+    subst (λ z. Agree n z l) (sym (ap (last_of []) put ∙ last-more [] xs f ∙ cut))
+    (record { ours = omega (arith, long); theirs = fits; same = take-take n n l (omega arith) })
 
 same_number : (a b : ℕ) → nat_eq a b ≡ true → a ≡ b
 same_number a b e = grind (arith, nat_tests)

@@ -1,7 +1,8 @@
 //! Builds a set from lists in any order.
-ghost use Rattle.std.specs.Prelude.{◌≡◌, OnOk, OnErr, IfOk};
+ghost use Rattle.std.specs.Prelude.{◌≡◌, [], OnOk, OnErr, IfOk};
 ghost use Rattle.cadf_join.specs.Sets as set;
 ghost use Rattle.cadf_join.specs.Prefixes.{texts_at};
+ghost use Rattle.cadf_pathset.specs.Nodes.{Agree};
 
 use crate::Memory;
 use crate::path_set::PathSet;
@@ -17,21 +18,25 @@ pub struct PathSetBuilder {
 }
 
 impl Model for PathSetBuilder {
-    ghost use Rattle.cadf_join.specs.Contents.{Contents};
+    ghost use Rattle.std.specs.Prelude.{[]};
+    ghost use Rattle.std.specs.Coded.{coded_ℕ, coded_list, coded×};
+    ghost use Rattle.cadf_join.specs.Contents.{Contents, Texts};
     ghost use Rattle.cadf_join.specs.Prefixes.{contents_code};
     ghost use Rattle.cadf_join.specs.Sets as set;
+    ghost use Rattle.cadf_pathset.specs.Lists.{last_of};
 
-    ghost Value = { Contents };
+    // The set of the lists, and the list appended last.
+    ghost Value = { Contents × Texts };
 
-    ghost coded = { contents_code };
+    ghost coded = { coded× contents_code (coded_list (coded_list coded_ℕ)) };
 
-    ghost view = { λ g. set.from_list g.rows };
+    ghost view = { λ g. (set.from_list g.rows, last_of [] g.rows) };
 }
 
 impl PathSetBuilder {
     /// Makes an empty builder. Allocates nothing.
     pub fn new(alloc: Global) -> PathSetBuilder
-        ensures { result ≡ set.empty }
+        ensures { result ≡ (set.empty, []) }
     {
         PathSetBuilder {
             rows: PathVec::new(alloc),
@@ -39,17 +44,19 @@ impl PathSetBuilder {
         }
     }
 
-    /// Appends the list. After an `Err` the lists are as before.
-    pub fn push(&mut self, path: &[&str]) -> Result<(), Memory>
-        ensures ok { OnOk result (self.new ≡ set.insert self.old (texts_at path.now)) }
+    /// Appends the list, whose first `shared` texts are those of the list appended before. After an `Err` the lists are
+    /// as before.
+    pub fn push(&mut self, path: &[&str], shared: usize) -> Result<(), Memory>
+        requires { Agree shared self.old.1 (texts_at path.now) }
+        ensures ok { OnOk result (self.new ≡ (set.insert self.old.0 (texts_at path.now), texts_at path.now)) }
         ensures err { OnErr result (self.new ≡ self.old) }
     {
-        self.rows.push(path)
+        self.rows.push_after(path, shared)
     }
 
     /// Sorts the lists into a set, each once. Copies no text.
     pub fn build(self) -> Result<PathSet, Memory>
-        ensures { IfOk result (λ paths. paths ≡ self) }
+        ensures { IfOk result (λ paths. paths ≡ self.0) }
     {
         let mut rows = self.rows;
         rows.sort()?;

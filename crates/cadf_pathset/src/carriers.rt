@@ -8,6 +8,7 @@ ghost use Rattle.cadf_join.specs.Sets as set;
 ghost use Rattle.cadf_pathset.specs.Carriers.{carriers_in, with_carriers};
 
 use crate::Memory;
+use crate::copier::Copier;
 use crate::path_vec::PathVec;
 use std::alloc::Global;
 
@@ -29,18 +30,13 @@ pub trait Carrier {
 fn carriers_of<C: Carrier>(alloc: Global, rows: &PathVec) -> Result<PathVec, Memory>
     ensures { IfOk result (λ all. all ≡ carriers_in C.carrier [] rows.now) }
 {
-    let mut all = PathVec::new(alloc);
-    let mut cursor = rows.cursor();
-    let mut more = cursor.next()?;
+    let mut copier = Copier::new(alloc, rows.cursor());
+    let mut more = copier.next()?;
     while more {
-        let list = cursor.path();
-        let (carrier, _) = list.split_at(C::length(list));
-        if all.is_above_last(carrier, 0) {
-            all.push(carrier)?;
-        }
-        more = cursor.next()?;
+        copier.copy_if_above(C::length(copier.path()))?;
+        more = copier.next()?;
     }
-    Ok(all)
+    Ok(copier.into_copies())
 }
 
 /// Returns the lists, which are strictly ascending, with their carriers, in order.

@@ -106,23 +106,32 @@ pub(crate) fn begins_with<W: AsText>(nodes: &Nodes, node: usize, prefix: &[W]) -
     order.is_eq()
 }
 
-/// Returns whether nodes of two arenas have the same list.
-pub(crate) fn same_list(nodes: &Nodes, node: usize, others: &Nodes, other: usize) -> bool
+/// Returns whether nodes of two arenas have the same list, if their lists are known to share their first `known` texts.
+pub(crate) fn same_list(
+    nodes: &Nodes,
+    node: usize,
+    others: &Nodes,
+    other: usize,
+    known: usize,
+) -> bool
     requires ours { node ≤ length nodes.now }
     requires theirs { other ≤ length others.now }
+    requires known { Agree known (list_at nodes.now node) (list_at others.now other) }
     ensures { IsTrue result ↔ (list_at nodes.now node ≡ list_at others.now other) }
 {
-    if depth(nodes, node) != depth(others, other) {
+    let mut left = depth(nodes, node);
+    if left != depth(others, other) {
         return false;
     }
     let mut a = node;
     let mut b = other;
-    while a > 0 && b > 0 {
+    while left > known && a > 0 && b > 0 {
         if nodes.text(a) != others.text(b) {
             return false;
         }
         a = nodes.parent(a);
         b = others.parent(b);
+        left -= 1;
     }
     true
 }

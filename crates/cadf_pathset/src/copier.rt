@@ -1,7 +1,7 @@
 //! Copies some of the lists that a cursor visits.
-ghost use Rattle.std.specs.Prelude.{◌≡◌, ◌++◌, [], ◌∷◌, OnOk, IfOk};
+ghost use Rattle.std.specs.Prelude.{◌≡◌, ◌≤◌, ◌++◌, [], ◌∷◌, OnOk, IfOk, cond, length, take};
 ghost use Rattle.cadf_join.specs.Prefixes.{texts_at};
-ghost use Rattle.cadf_pathset.specs.Lists.{chosen_of};
+ghost use Rattle.cadf_pathset.specs.Lists.{chosen_of, is_above_last};
 ghost use Rattle.cadf_pathset.specs.Walks.{Moves, Steps, ahead};
 
 use crate::Memory;
@@ -91,6 +91,22 @@ impl<'a> Copier<'a> {
         let path = self.cursor.path();
         self.copies.push_after(path, self.shared)?;
         self.shared = path.len();
+        Ok(())
+    }
+
+    /// Copies the first `count` texts of the list at the cursor, if they are above the last copy.
+    pub fn copy_if_above(&mut self, count: usize) -> Result<(), Memory>
+        requires { count ≤ length self.old.0.0 }
+        ensures place { self.new.0 ≡ self.old.0 }
+        ensures more { OnOk result (self.new.1 ≡ cond (is_above_last self.old.1 (take count self.old.0.0))
+            (self.old.1 ++ take count self.old.0.0 ∷ []) self.old.1) }
+    {
+        let (front, _) = self.cursor.path().split_at(count);
+        let shared = self.shared.min(count);
+        if self.copies.is_above_last(front, shared) {
+            self.copies.push_after(front, shared)?;
+            self.shared = count;
+        }
         Ok(())
     }
 

@@ -1,11 +1,12 @@
 //! The order of the lists of two nodes, and the nodes at which they diverge: lists that extend those of such nodes have
 //! the same order.
-ghost use Rattle.std.specs.Prelude.{◌≡◌, ◌≤◌, ◌++◌, true, length};
+ghost use Rattle.std.specs.Prelude.{◌≡◌, ◌≤◌, ◌++◌, true, length, take};
 ghost use Rattle.std.specs.declared.cmp.Ordering.TheVariants.{Equal};
 ghost use Rattle.cadf_join.specs.Contents.{Texts, texts_cmp};
 ghost use Rattle.cadf_pathset.specs.Fork.{IsFork};
-ghost use Rattle.cadf_pathset.specs.Nodes.{list_at};
+ghost use Rattle.cadf_pathset.specs.Nodes.{Agree, IsLine, list_at};
 
+use crate::lines::end_of;
 use crate::nodes::{Nodes, ancestor, depth};
 use std::cmp::Ordering;
 
@@ -66,6 +67,18 @@ fn goes_on(nodes: &Nodes, node: usize, front: usize) -> bool
         at = nodes.parent(at);
     }
     at == front
+}
+
+/// Returns how many first texts the node's list is known to share with each list that begins with the line's.
+pub(crate) fn known_behind(nodes: &Nodes, node: usize, line: &[usize]) -> usize
+    requires { node ≤ length nodes.now }
+    ensures { (p : Texts) → IsLine nodes.now line.now (take (length line.now) p) → Agree result (list_at nodes.now node) p }
+{
+    if goes_on(nodes, node, end_of(line)) {
+        line.len()
+    } else {
+        0
+    }
 }
 
 /// Compares the lists of two nodes. Climbs no further than their nearest common ancestor.

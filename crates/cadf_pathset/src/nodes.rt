@@ -3,7 +3,7 @@ ghost use Rattle.std.specs.Prelude.{◌≡◌, ◌<◌, ◌≤◌, ◌+◌, ◌+
 ghost use Rattle.std.specs.Option.{option_copied};
 ghost use Rattle.cadf_join.specs.Prefixes.{chain_texts};
 ghost use Rattle.cadf_pathset.specs.Lists.{first_text};
-ghost use Rattle.cadf_pathset.specs.Nodes.{last_text, list_at, rest_of};
+ghost use Rattle.cadf_pathset.specs.Nodes.{Agree, last_text, list_at, rest_of};
 
 use crate::Memory;
 use crate::pool::Pool;
@@ -132,6 +132,25 @@ pub(crate) fn ancestor(nodes: &Nodes, node: usize, has: usize, wanted: usize) ->
         depth -= 1;
     }
     at
+}
+
+/// Counts the texts that the lists of two nodes share as those of one ancestor. Since parents have smaller numbers than
+/// their children, it climbs from the greater number.
+pub(crate) fn common_depth(nodes: &Nodes, node: usize, other: usize) -> usize
+    requires ours { node ≤ length nodes.now }
+    requires theirs { other ≤ length nodes.now }
+    ensures { Agree result (list_at nodes.now node) (list_at nodes.now other) }
+{
+    let mut a = node;
+    let mut b = other;
+    while a != b {
+        if a > b {
+            a = nodes.parent(a);
+        } else {
+            b = nodes.parent(b);
+        }
+    }
+    depth(nodes, a)
 }
 
 /// Returns the text at index `skipped` of the node's list. `None` if the list is shorter.

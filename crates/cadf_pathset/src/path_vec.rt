@@ -20,7 +20,7 @@ use crate::as_text::AsText;
 use crate::compare::{begins_with, list_cmp, same_list};
 use crate::cursor::Cursor;
 use crate::lines::{cmp_from, is_of_last, known_of, lead, line_starts_with, put_or_restore};
-use crate::nodes::Nodes;
+use crate::nodes::{Nodes, common_depth};
 use crate::sort::sorted;
 use crate::suffix_range::SuffixRange;
 use crate::union::merge_into;
@@ -332,7 +332,8 @@ impl PathVec {
     }
 }
 
-/// Returns whether the nodes of two arenas have the same lists, pair by pair.
+/// Returns whether the nodes of two arenas have the same lists, pair by pair. What two lists share with those before
+/// them isn't compared again.
 fn same_lists(nodes: &Nodes, numbers: &[usize], others: &Nodes, its: &[usize]) -> bool
     requires ours { AreThere nodes.now numbers.now }
     requires theirs { AreThere others.now its.now }
@@ -340,12 +341,18 @@ fn same_lists(nodes: &Nodes, numbers: &[usize], others: &Nodes, its: &[usize]) -
 {
     let mut left = numbers;
     let mut rest = its;
+    let mut last: usize = 0;
+    let mut its_last: usize = 0;
     while let [number, numbers @ ..] = left {
         match rest {
             [it, its @ ..] => {
-                if !same_list(nodes, *number, others, *it) {
+                let ours = common_depth(nodes, last, *number);
+                let known = ours.min(common_depth(others, its_last, *it));
+                if !same_list(nodes, *number, others, *it, known) {
                     return false;
                 }
+                last = *number;
+                its_last = *it;
                 left = numbers;
                 rest = its;
             }

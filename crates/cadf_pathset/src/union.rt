@@ -13,6 +13,7 @@ ghost use Rattle.cadf_pathset.specs.Walks.{Entered, IsLinePrefix};
 use crate::Memory;
 use crate::compare::list_cmp;
 use crate::cursor::Cursor;
+use crate::fork::known_behind;
 use crate::lines::{cmp_from, end_of, extend, follow};
 use crate::nodes::Nodes;
 use crate::path_vec::PathVec;
@@ -79,11 +80,13 @@ fn append(
     Ok(())
 }
 
-/// Returns an index from `from` on: the lists of ours from `from` up to it are below theirs. Galloping search.
-fn gallop(nodes: &Nodes, numbers: &[usize], from: usize, path: &[&str]) -> usize
+/// Returns an index from `from` on: the lists of ours from `from` up to it are below theirs, which begins with the list
+/// of the line `out`. Galloping search.
+fn gallop(nodes: &Nodes, numbers: &[usize], from: usize, path: &[&str], out: &[usize]) -> usize
     requires there { AreThere nodes.now numbers.now }
     requires rises { IsStrictlySortedBy texts_cmp (lists_at nodes.now numbers.now) }
     requires within { from ≤ length numbers.now }
+    requires line { IsLine nodes.now out.now (take (length out.now) (texts_at path.now)) }
     ensures from { from ≤ result }
     ensures within { result ≤ length numbers.now }
     ensures below { (k : ℕ) → from ≤ k → k < result
@@ -93,7 +96,8 @@ fn gallop(nodes: &Nodes, numbers: &[usize], from: usize, path: &[&str]) -> usize
     let mut step: usize = 1;
     while step <= numbers.len() - low {
         let probe = low + (step - 1);
-        let (order, _) = list_cmp(nodes, numbers[probe], path, 0);
+        let known = known_behind(nodes, numbers[probe], out);
+        let (order, _) = list_cmp(nodes, numbers[probe], path, known);
         if !order.is_lt() {
             return low;
         }
@@ -110,11 +114,13 @@ fn skip(
     numbers: &[usize],
     at: usize,
     path: &[&str],
+    out: &[usize],
     all: &mut Vec<usize>,
 ) -> Result<usize, Memory>
     requires ours { AreThere nodes.now numbers.now }
     requires rises { IsStrictlySortedBy texts_cmp (lists_at nodes.now numbers.now) }
     requires within { at ≤ length numbers.now }
+    requires line { IsLine nodes.now out.now (take (length out.now) (texts_at path.now)) }
     requires there { AreThere nodes.now all.old.items }
     ensures from { IfOk result (λ to. at ≤ to) }
     ensures within { IfOk result (λ to. to ≤ length numbers.now) }
@@ -124,7 +130,9 @@ fn skip(
     ensures below { IfOk result (λ to. AllByRecursion (λ l. texts_cmp l (texts_at path.now) ≡ Less)
         (take (to - at) (drop at (lists_at nodes.now numbers.now)))) }
 {
-    let last = gallop(nodes, numbers, at, path).saturating_sub(1).max(at);
+    let last = gallop(nodes, numbers, at, path, out)
+        .saturating_sub(1)
+        .max(at);
     let (front, _) = numbers.split_at(last);
     let (_, part) = front.split_at(at);
     all.extend_from_slice(part)?;
@@ -160,7 +168,7 @@ fn merge(
     let mut more = enter(cursor, out, &mut agreed)?;
     while more {
         if run == LONG {
-            at = skip(&*nodes, numbers, at, cursor.path(), all)?;
+            at = skip(&*nodes, numbers, at, cursor.path(), out.as_slice(), all)?;
             run = 0;
         } else if at < numbers.len() {
             let number = numbers[at];

@@ -137,7 +137,7 @@ fn missing(alloc: Global, ours: &PathSet, theirs: &PathSet) -> Result<String, Me
 fn gathered(alloc: Global, word: &str) -> Result<String, Memory> {
     let mut gathered = PathSetBuilder::new(alloc);
     for list in lists(alloc, word)? {
-        gathered.push(&lent(alloc, &list)?)?;
+        gathered.push(&lent(alloc, &list)?, 0)?;
     }
     told::held(alloc, &gathered.build()?)
 }
