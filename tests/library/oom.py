@@ -21,7 +21,9 @@ to tell more than `err Memory`. Rows of LEFT_OUT are not tried. What may be answ
   end.
 
 When a row is done, as many blocks are held as before it. Each call that changes something is refused in some row.
-`join_twice` isn't, where one allocation is. Calls on chains of 256 steps that share 255 are refused at most 64 times.
+`join_twice` isn't, where one allocation is. Calls on chains of 256 steps that share 255 are refused at most 64 times,
+and those on replicas ask in all for fewer bytes than the chain has that they are given: steps that are shared aren't
+copied.
 """
 import collections
 import json
@@ -49,7 +51,8 @@ CHANGES = {
     "replica inventory.put": (1, True)}
 JOIN, STEADY = "replica pair.join", "replica pair.join_twice"
 LONGEST = 256  # steps of a chain, in no row as many lists
-SHARING = {"set tree.insert": (1, 2), "set value.join": (2, 3), JOIN: (1, 2), STEADY: (1, 2)}  # calls on chains, which these words spell
+# Calls on chains, which these words spell.
+SHARING = {"set tree.insert": (1, 2), "set value.join": (2, 3), "replica replica.put": (1, 2), JOIN: (1, 2), STEADY: (1, 2)}
 AT_ONCE = 40  # rows of a run
 SECONDS = 600
 UNLIMITED = 1 << 30
@@ -78,6 +81,7 @@ class Row:
         self.asked, self.right = asked, right
         self.driver, self.name, *self.words = asked.rstrip("\n").split("\t")
         self.call = "%s %s" % (self.driver, self.name)
+        self.bytes = 0  # that the call asked for where it was refused, in all
 
     def word(self, place):
         return fields.read(self.words[place - 1])[0]
@@ -146,19 +150,21 @@ class Row:
         return "again" if rest == self.right else None
 
     def chain_length(self, place):
-        """The length of the longest list that the word spells: a list or several, or the lines of atoms."""
+        """The length of the longest list that the word spells: a list or several, or the lines of atoms among others."""
         spelled = self.word(place)
-        value = json.loads(spelled) if self.driver == "set" else [json.loads(one) for one in spelled.split(b"\n")[1:]]
+        lines = [line for line in spelled.split(b"\n") if line.startswith(b"[")]
+        value = json.loads(spelled) if self.driver == "set" else [json.loads(line) for line in lines]
         return max(len(one) for one in [value, *value] if isinstance(one, list))
 
 
 class Round(NamedTuple):
-    """A round of a row: which, the allocations of the row, and what was held and answered at its end."""
+    """A round of a row: which, the allocations of the row, and what was held, refused and answered at its end."""
     row: int
     turn: int
     step: int
     allocations: int
     held: int
+    asked: int
     answer: str
 
     def next(self):
@@ -176,8 +182,8 @@ class Sweep:
         """The rounds of the program from there on, and how it ended."""
         environment = {"LD_PRELOAD": self.library, "REFUSE": way, "MOST": str(most), "FROM": begin}
         done = subprocess.run([self.program], input=text, capture_output=True, env=environment, timeout=SECONDS)
-        lines = (line.split("\t", 5) for line in done.stdout.decode().split("\n")[:-1])
-        return [Round(*map(int, line[:5]), line[5] + "\n") for line in lines], (done.returncode, done.stderr)
+        lines = (line.split("\t", 6) for line in done.stdout.decode().split("\n")[:-1])
+        return [Round(*map(int, line[:6]), line[6] + "\n") for line in lines], (done.returncode, done.stderr)
 
     def rounds(self, rows, way, most):
         """The rounds of the rows. Where the end of a row couldn't be kept, the program goes on with the round after it."""
@@ -200,6 +206,7 @@ class Sweep:
             if verdict is None or it.held != first.held:
                 sys.exit("oom: %s: %s refused: %.400s" % (row.asked[:200], way, it))
             counts[it.row][verdict] += 1
+            row.bytes += it.asked if way == "one" and verdict == "left" else 0
         if any(count["whole"] != 1 for count in counts):
             sys.exit("oom: %s: not all rows were run" % way)
         return counts
@@ -236,6 +243,8 @@ def faults(rows, counts):
             long[row.call] += 1
             if not 0 < count["one"]["left"] <= MOST_GROWTHS:
                 yield "%s: refused %d times" % (row.asked[:100], count["one"]["left"])
+            if row.driver == "replica" and row.bytes >= len(row.word(SHARING[row.call][1])):
+                yield "%s: asked for %d bytes" % (row.asked[:100], row.bytes)
         if row.call == STEADY and (count["one"]["again"] or count["one"]["right"] < joins[tuple(row.words)]):
             yield "%s: %s, and its join %d" % (row.asked[:100], count["one"], joins[tuple(row.words)])
     yield from ("%s is never refused" % call for call in CHANGES if left[call] == 0)

@@ -4,7 +4,7 @@
 // "rest": then all after that one are refused too, until the answer. FROM is where to begin: the row and the round, and of
 // a round above 0 the nth and the allocations of round 0.
 // What standard output is told of a round: its row, its number, the nth, the allocations of round 0, the blocks that are
-// held when it is done, and the answer.
+// held when it is done, the bytes that the refused allocation asked for, and the answer.
 #define _GNU_SOURCE
 #include <errno.h>
 #include <stdio.h>
@@ -21,7 +21,7 @@ void __libc_free(void *);
 
 enum { ROWS = 64 << 20, ANSWER = 16 << 20 };
 static char *rows, *next, *end, *row, *answer; // what is left of the row is at next
-static size_t answered;
+static size_t answered, asked;
 static long number, turn, most = 1, step = 1, all, made, held; // of `all` allocations of the row each `step`th is refused
 static int counts, rest; // whether allocations are counted; whether all behind a refused one are
 
@@ -62,7 +62,7 @@ static void go_on(void)
         all = made;
         step = all > most ? (all + most - 1) / most : 1;
     }
-    int size = snprintf(told, sizeof told, "%ld\t%ld\t%ld\t%ld\t%ld\t", number, turn, step, all, held);
+    int size = snprintf(told, sizeof told, "%ld\t%ld\t%ld\t%ld\t%ld\t%zu\t", number, turn, step, all, held, asked);
     syscall(SYS_write, STDOUT_FILENO, told, (size_t)size);
     syscall(SYS_write, STDOUT_FILENO, answer, answered);
     if (turn * step >= all) {
@@ -72,7 +72,8 @@ static void go_on(void)
         turn++;
     }
     next = row;
-    made = answered = 0;
+    made = 0;
+    answered = asked = 0;
 }
 
 // A byte of the row: all of it where that is asked for, no byte behind it.
@@ -102,7 +103,7 @@ ssize_t write(int descriptor, const void *bytes, size_t size)
     return size;
 }
 
-static int refuses(void)
+static int refuses(size_t size)
 {
     if (!counts)
         return 0;
@@ -110,6 +111,8 @@ static int refuses(void)
     made++;
     if (!refused || made < refused || (made > refused && !rest))
         return 0;
+    if (made == refused)
+        asked = size;
     errno = ENOMEM;
     return 1;
 }
@@ -120,12 +123,12 @@ static void *kept(void *block)
     return block;
 }
 
-void *malloc(size_t size) { return refuses() ? NULL : kept(__libc_malloc(size)); }
-void *calloc(size_t count, size_t size) { return refuses() ? NULL : kept(__libc_calloc(count, size)); }
+void *malloc(size_t size) { return refuses(size) ? NULL : kept(__libc_malloc(size)); }
+void *calloc(size_t count, size_t size) { return refuses(count * size) ? NULL : kept(__libc_calloc(count, size)); }
 
 void *realloc(void *old, size_t size)
 {
-    if (refuses())
+    if (refuses(size))
         return NULL;
     held -= old != NULL;
     return kept(__libc_realloc(old, size));

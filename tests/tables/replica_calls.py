@@ -213,6 +213,10 @@ row("Atoms", "document.take_entities", [held(), ENTITIES], "ok", held(G1, M1, R1
 row("Atoms", "document.take_properties", [held(), ENTITIES], "ok", held(NORTH))
 
 # ---- Atoms that are put.
+# Chains of 256 steps, the most, which differ in their last step. A step's text is longer than what a call keeps beside it.
+FIRST, LAST = ('{"reporterId":"%s","role":"relay","x":"%s"}' % (who, "x" * 256) for who in "st")
+DEEP, OTHER = (line("E", "e1", B1, "C", *[FIRST] * 255, last) for last in (FIRST, LAST))
+row(REPLICA, "replica.put", [held(C1, OTHER), DEEP], "ok", held(C1, DEEP, OTHER))
 for call in ["replica.put", "replica.put_parts"]:
     row(REPLICA, call, [held(), C1], "ok", held(C1))
     row(REPLICA, call, [held(C1), K1], "ok", held(C1, K1))
@@ -280,9 +284,6 @@ row(REPLICA, "body.longest_chain", [held(C1, line("E", "e1", B1, "C", S1, S3), L
 
 # ---- Replicas that are joined.
 FIVE = held(C1, K1, L12)
-# Chains of 256 steps, the most, which differ in their last step.
-SHORT, LAST = '{"reporterId":"s","role":"relay"}', '{"reporterId":"t","role":"relay"}'
-DEEP, OTHER = (line("E", "e1", B1, "C", *[SHORT] * 255, last) for last in (SHORT, LAST))
 for call in ["pair.join", "pair.join_twice"]:
     for ours, theirs, union in [
             (held(C1), held(C1), held(C1)), (held(C1, K1), held(C1, L12), FIVE), (held(C1, L12), held(C1, K1), FIVE), (FIVE, FIVE, FIVE),
