@@ -11,11 +11,13 @@
 - Input: a folder, a file of no bytes, a pipe that is fed in pieces.
 - Refusal: very many tiny objects, as events, in an event of a log, as a list, as a list that is cut off, in an event by
   itself, are refused within few times their bytes of memory.
+- Sharing: a replica file of chains that share one long step is shown, whole, in less memory than its text takes.
 - Size: a replica file, an inventory file, a sketch file and a document, each followed by zeros up to 2^30 bytes and to
   one more. They are sparse files. All but the document are refused in little memory. So is a short sketch that
   announces the greatest number of cells.
 - Stack: documents and files that nest as deep as can be read, with a stack of STACK KB.
 """
+import hashlib
 import json
 import os
 import re
@@ -39,6 +41,7 @@ MOST = 64 * 1024  # KB of address space: enough for all
 FINE, COARSE = 4, 512  # KB between limits: just above the loader's, and from there on
 STACK = 256  # KB
 GREATEST = 2**30  # bytes of an input
+URI = "http://schemas.dmtf.org/cloud/audit/1.0/"
 # A command line, what its input `zeros` begins with, the input's number, how it is refused at the greatest size, and the KB
 # of address space, None for no limit.
 ZEROS = [("show zeros", "no.cadf", 1, "trailing bytes", MOST), ("show zeros", "small.json", 1, "not JSON", None),
@@ -48,7 +51,12 @@ TINY = 1000000  # tiny objects
 # What stands around them, the bytes of memory a byte of it, and how it is refused.
 REFUSED = [(b'{"id":"g","events":[', b"]}", 12, b"event 1: id"), (b'{"id":"g","events":[{"b":[', b"]}]}", 12, b"event 1: id"),
            (b"[", b"]", 12, b"event 0: not an object"), (b"[", b"", 12, b"not JSON"), (b'{"b":[', b"]}", 24, b"event 0: id")]
+SHARED, SHARING = 200000, 500  # bytes of a step, and how many chains share it: a text of 100 MB
 MEMORY, WRITE_FAULT = b"cadf: out of memory\n", b"cadf: write fault\n"
+
+
+def canonical(value):
+    return json.dumps(value, sort_keys=True, separators=(",", ":"))
 
 
 def event(number, tag):
@@ -206,6 +214,22 @@ def refused(limits):
         limits.is_right("show tiny.json", "%s, %s" % (front.decode(), shell), got, Answer(1, b"", b"cadf: input 1: %s\n" % fault))
 
 
+def sharing(limits):
+    """Chains that share one long step: each is written whole, and none is held."""
+    first = {"reporterId": "r", "role": "relay", "z": "z" * SHARED}
+    chains = [[first, {"reporterId": "%06d" % number, "role": "relay"}] for number in range(SHARING)]
+    body = {"action": "read", "eventTime": "2024-03-01T12:00:00Z", "eventType": "activity", "initiatorId": "u", "observerId": "o",
+            "outcome": "success", "targetId": "t"}
+    nodes = [[1, 0, "E"], [2, 0, "e"], [3, 1, canonical(body)], [4, 0, "C"], [5, 0, canonical(first)]]
+    lines = "".join(canonical(node) + "\n" for node in nodes + [[6, 1, canonical(chain[1])] for chain in chains])
+    text = ('CADF-REPLICA 2\nL "g"\n' + lines).encode()
+    limits.put("sharing.cadf", text + b"Z " + hashlib.sha256(text).hexdigest().encode() + b"\n")
+    seen = {**body, "id": "e", "typeURI": URI + "event", "reporterchain": chains[0], "reporterchains": chains}
+    log = {"events": [seen], "geolocations": [], "id": "g", "metrics": [], "resources": [], "typeURI": URI + "log"}
+    got = limits.under('ulimit -v %d; exec "$@"' % MOST, "show sharing.cadf")
+    limits.is_right("show sharing.cadf", "ulimit -v %d" % MOST, got, Answer(0, canonical(log).encode() + b"\n", b""))
+
+
 def sizes(limits):
     """Inputs of the greatest size and of one byte more."""
     for line, front, number, fault, room in ZEROS:
@@ -236,7 +260,7 @@ def main():
     binary = os.path.abspath(sys.argv[1]) if len(sys.argv) > 1 else built("cadf")
     with tempfile.TemporaryDirectory() as folder:
         limits = Limits(binary, folder)
-        for part in (ends, inputs, refused, sizes, announced, stack):
+        for part in (ends, inputs, refused, sharing, sizes, announced, stack):
             part(limits)
         least, needed = memory(limits)
     if limits.found:

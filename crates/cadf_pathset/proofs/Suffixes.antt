@@ -37,3 +37,16 @@ drop_one_more l n = sym (drop-drop 1 n l)
 
 pub drop_past : (l : Texts) (n : ℕ) → length l ≤ n → drop n l ≡ drop 1 (drop n l)
 drop_past l n h = dropped_all l n h ∙ sym (ap (drop 1) (dropped_all l n h))
+
+pub place_after : (l : Texts) (n i k : ℕ) → k ≡ n + i → get_or l k [] ≡ get_or (drop n l) i []
+place_after l zero i k is = let same : k ≡ i = omega (arith, is) in ap (λ m. get_or l m []) same
+place_after [] (suc n) i k is = refl
+place_after (t ∷ l) (suc n) i zero is = absurd (omega (arith, is))
+place_after (t ∷ l) (suc n) i (suc k) is = place_after l n i k (omega (arith, is))
+
+pub none_at : (l : Texts) (n i : ℕ) → length l ≤ n + i → [] ≡ get_or (drop n l) i []
+none_at [] zero i h = refl
+none_at [] (suc n) i h = refl
+none_at (t ∷ l) zero zero h = absurd (omega (arith, h))
+none_at (t ∷ l) zero (suc i) h = none_at l zero i (omega (arith, h))
+none_at (t ∷ l) (suc n) i h = none_at l n i (omega (arith, h))

@@ -1,5 +1,5 @@
 //! An arena of nodes, each of which adds one text to the list of its parent.
-ghost use Rattle.std.specs.Prelude.{◌≡◌, ◌<◌, ◌≤◌, ◌+◌, ◌++◌, [], ◌∷◌, ℕ, OnOk, OnErr, IfOk, length, take, drop};
+ghost use Rattle.std.specs.Prelude.{◌≡◌, ◌<◌, ◌≤◌, ◌+◌, ◌++◌, [], ◌∷◌, ℕ, OnOk, OnErr, IfOk, length, take, drop, get_or};
 ghost use Rattle.std.specs.Option.{option_copied};
 ghost use Rattle.cadf_join.specs.Prefixes.{chain_texts};
 ghost use Rattle.cadf_pathset.specs.Lists.{first_text};
@@ -163,6 +163,22 @@ pub(crate) fn text_after(nodes: &Nodes, node: usize, skipped: usize) -> Option<&
         return Some(nodes.text(ancestor(nodes, node, has, skipped + 1)));
     }
     None
+}
+
+/// Returns the text at index `place` of the node's list without its first `skipped` texts. The empty text if there is
+/// none.
+pub(crate) fn text_at(nodes: &Nodes, node: usize, skipped: usize, place: usize) -> &str
+    requires { node ≤ length nodes.now }
+    ensures { result.now ≡ get_or (rest_of nodes.now skipped node) place [] }
+{
+    let has = depth(nodes, node);
+    if has <= skipped {
+        return "";
+    }
+    if has - skipped <= place {
+        return "";
+    }
+    nodes.text(ancestor(nodes, node, has, skipped + place + 1))
 }
 
 /// Copies the texts of the node's list from index `skipped` on.

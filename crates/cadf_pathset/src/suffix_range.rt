@@ -14,7 +14,7 @@ ghost use Rattle.cadf_pathset.specs.Lists.{first_text, is_before, prefix_cmp};
 ghost use Rattle.cadf_pathset.specs.Nodes.{AreThere, rest_of};
 
 use crate::Memory;
-use crate::nodes::{Nodes, copy_after, depth, text_after};
+use crate::nodes::{Nodes, copy_after, depth, text_after, text_at};
 use std::alloc::Global;
 use std::cmp::Ordering;
 use std::marker::Model;
@@ -285,12 +285,22 @@ impl<'a> SuffixRange<'a> {
     }
 
     /// Counts the texts of the suffix at that index.
-    fn length(&self, number: usize) -> usize
+    pub fn length(&self, number: usize) -> usize
         ensures { result ≡ length (get_or self.now number []) }
     {
         match self.numbers.get(number) {
             Some(node) => depth(self.nodes, *node).saturating_sub(self.depth),
             None => 0,
+        }
+    }
+
+    /// Returns the text at index `place` of the suffix at index `number`. The empty text if there is none.
+    pub fn text_at(&self, number: usize, place: usize) -> &'a str
+        ensures { result.now ≡ get_or (get_or self.now number []) place [] }
+    {
+        match self.numbers.get(number) {
+            Some(node) => text_at(self.nodes, *node, self.depth, place),
+            None => "",
         }
     }
 

@@ -1,8 +1,9 @@
 //! The suffixes after a prefix in a set, borrowed from the set.
-ghost use Rattle.std.specs.Prelude.{◌≡◌, IfOk, map, string_bytes};
+ghost use Rattle.std.specs.Prelude.{◌≡◌, [], IfOk, length, get_or, map, string_bytes};
 ghost use Rattle.std.specs.List.Sorted.{IsStrictlySortedBy};
-ghost use Rattle.std.specs.Option.{option_copied};
+ghost use Rattle.std.specs.Option.{option_copied, option_map};
 ghost use Rattle.cadf_join.specs.Contents.{next_after, suffixes_of, texts_cmp};
+ghost use Rattle.cadf_join.specs.Longest.{longest_of};
 ghost use Rattle.cadf_join.specs.Maps.{heads};
 ghost use Rattle.cadf_join.specs.Prefixes.{all_texts};
 ghost use Rattle.cadf_join.specs.Sets as set;
@@ -55,6 +56,34 @@ impl<'a> SuffixSet<'a> {
         ensures { option_copied result ≡ next_after (heads self.now) (option_copied text.entry) }
     {
         self.range.next_child(text)
+    }
+
+    /// Counts the suffixes.
+    pub fn count(&self) -> usize
+        ensures { result ≡ length (set.rising self.now) }
+    {
+        self.range.count()
+    }
+
+    /// Counts the texts of the suffix at that index.
+    pub fn length(&self, number: usize) -> usize
+        ensures { result ≡ length (get_or (set.rising self.now) number []) }
+    {
+        self.range.length(number)
+    }
+
+    /// Returns the text at index `place` of the suffix at index `number`. The empty text if there is none.
+    pub fn text_at(&self, number: usize, place: usize) -> &'a str
+        ensures { result.now ≡ get_or (get_or (set.rising self.now) number []) place [] }
+    {
+        self.range.text_at(number, place)
+    }
+
+    /// Returns the index of the longest suffix, the first of equally long ones. `None` if there are no suffixes.
+    pub fn longest(&self) -> Option<usize>
+        ensures { option_map (λ n. get_or (set.rising self.now) n []) result ≡ longest_of (set.rising self.now) }
+    {
+        self.range.longest()
     }
 
     /// Copies the first texts, each once, in order.
