@@ -1,26 +1,23 @@
 #!/usr/bin/env python3
-"""Counts the instructions of `cadf` by callgrind, beside those of an earlier commit.
+"""Counts the instructions of `cadf`, of several builds of it if more are named.
 
-    bench/instructions.py [--only join,missing] [BINARY]
+    bench/instructions.py [--atoms 10000] [--only join,missing] [BINARY ..]
 
 BINARY is crates/cadf/out/cadf unless given. The inputs are those of bench/show.py (a log document of 10 MB) and of
-bench/join.py (two replica files of ATOMS atoms each that share half of them; `inventory` reads the first). A line has
-the case, millions of instructions, those of the base commit, their ratio, and the greatest ratio that is aimed at. The
-numbers of the base are those of the default build; with another --atoms the ratios mean nothing. Counts depend neither on
-other load nor on the processor's speed. Needs valgrind, and says so if it is not there.
+bench/join.py (two replica files of so many atoms each that share half of them; `inventory` reads the first). A line has
+the command, its input, and millions of instructions of each BINARY; then the ratios of the first to each other one.
+Counts depend neither on other load nor on the processor's speed. They need valgrind; the script says so if it is not
+there.
 """
 import argparse
 import os
-import sys
 import tempfile
 from typing import NamedTuple
 
-from measure import BINARY, instructions, is_valgrind_there, replica_file
+from measure import BINARY, can_count, instructions, replica_file
 from show import document
 
-BASE_COMMIT = "02385ab"
-ATOMS = 10 ** 4
-LINE = "%-10s %-9s %10s %10s %6s %s"
+CASE = "%-10s %-9s"
 
 
 class Case(NamedTuple):
@@ -28,27 +25,24 @@ class Case(NamedTuple):
     command: str
     input: str
     files: tuple
-    base: float  # millions of instructions at the base commit
-    aim: float  # the greatest ratio to it
 
-    def tell(self, binary, folder):
+    def tell(self, binaries, folder):
         """Counts, and prints the line."""
         paths = [os.path.join(folder, name) for name in self.files]
-        millions = instructions([binary, self.command, *paths]) / 1e6
-        ratio = millions / self.base
-        above = "" if ratio <= self.aim else " ABOVE"
-        print(LINE % (self.command, self.input, "%.1f" % millions, "%.1f" % self.base, "%.3f" % ratio,
-                      "%.2f%s" % (self.aim, above)), flush=True)
+        millions = [instructions([binary, self.command, *paths]) / 1e6 for binary in binaries]
+        numbers = ["%10.1f" % number for number in millions]
+        numbers += ["%6.3f" % (millions[0] / number) for number in millions[1:]]
+        print(CASE % (self.command, self.input), *numbers, flush=True)
 
 
 CASES = [
-    Case("show", "10 MB", ("log.json",), 1179.0, 0.8),
-    Case("join", "format 1", ("first.1", "second.1"), 1531.0, 0.8),
-    Case("join", "format 2", ("first.2", "second.2"), 1247.0, 0.8),
-    Case("missing", "format 1", ("first.1", "second.1"), 1326.0, 0.8),
-    Case("missing", "format 2", ("first.2", "second.2"), 1044.0, 0.8),
-    Case("inventory", "format 1", ("first.1",), 879.0, 0.9),
-    Case("inventory", "format 2", ("first.2",), 736.0, 0.9),
+    Case("show", "10 MB", ("log.json",)),
+    Case("join", "format 1", ("first.1", "second.1")),
+    Case("join", "format 2", ("first.2", "second.2")),
+    Case("missing", "format 1", ("first.1", "second.1")),
+    Case("missing", "format 2", ("first.2", "second.2")),
+    Case("inventory", "format 1", ("first.1",)),
+    Case("inventory", "format 2", ("first.2",)),
 ]
 
 
@@ -64,19 +58,20 @@ def write_inputs(folder, atoms):
 
 def main():
     parser = argparse.ArgumentParser(description=__doc__, formatter_class=argparse.RawDescriptionHelpFormatter)
-    parser.add_argument("--atoms", type=int, default=ATOMS, help="of each replica file")
+    parser.add_argument("--atoms", type=int, default=10 ** 4, help="of each replica file")
     parser.add_argument("--only", default=",".join(dict.fromkeys(case.command for case in CASES)))
-    parser.add_argument("binary", nargs="?", default=BINARY)
+    parser.add_argument("binaries", nargs="*", default=[BINARY], metavar="BINARY")
     options = parser.parse_args()
-    if not is_valgrind_there():
+    if not can_count():
         return
-    print(LINE % ("command", "input", "millions", BASE_COMMIT, "ratio", "aim"))
+    more = len(options.binaries) - 1
+    print(CASE % ("command", "input"), *["  millions"] * (1 + more), *[" ratio"] * more)
     with tempfile.TemporaryDirectory() as folder:
         write_inputs(folder, options.atoms)
         for case in CASES:
             if case.command in options.only.split(","):
-                case.tell(options.binary, folder)
+                case.tell(options.binaries, folder)
 
 
 if __name__ == "__main__":
-    sys.exit(main())
+    main()

@@ -42,16 +42,16 @@ print(os.waitstatus_to_exitcode(status), wall, usage.ru_utime + usage.ru_stime, 
 MOST_SECONDS = 1000  # of processors
 
 
-def run_apart(command, output=os.devnull, status=0):
-    """Runs the command from a small process. Exits if it ends with another status.
+def run_apart(command, output=os.devnull, statuses=(0,), environment=None):
+    """Runs the command from a small process. Exits if it ends with another status than one of these.
 
     The kernel counts the memory of the process that starts a command as the command's, too. So the memory is at least
     that of the small process, some 8 MB.
     """
     small = SMALL % (MOST_SECONDS, MOST_SECONDS)
     words = [sys.executable, "-I", "-S", "-c", small, output, *command]
-    ended, *taken = subprocess.check_output(words, stdin=subprocess.DEVNULL).split()
-    if int(ended) != status:
+    ended, *taken = subprocess.check_output(words, stdin=subprocess.DEVNULL, env=environment).split()
+    if int(ended) not in statuses:
         sys.exit("%s: status %s" % (" ".join(command), ended.decode()))
     return Run(*map(float, taken))
 
@@ -91,19 +91,38 @@ def check_same_bytes(commands):
         sys.exit("they write different bytes: %s" % "; ".join(map(" ".join, commands)))
 
 
-def instructions(command, status=0):
-    """How many instructions the command executes, counted by callgrind; exits if it ends with another status."""
+# glibc clears and copies large blocks by a repeated instruction, of which valgrind counts each byte. By these settings
+# it takes an instruction for 32 bytes.
+WITHOUT_REPEATS = {"GLIBC_TUNABLES": ":".join(
+    "glibc.cpu.x86_rep_%s_threshold=2000000000" % name for name in ("stosb", "movsb"))}
+CLEARED = 10 ** 6  # bytes
+CLEARS = "import sys; bytes(bytearray(b'x') * int(sys.argv[1]))"  # by memset and memcpy
+
+
+def instructions(command, statuses=(0,), settings=None):
+    """How many instructions the command executes, by cachegrind. Exits if it ends with none of these statuses."""
+    environment = {**os.environ, **(WITHOUT_REPEATS if settings is None else settings)}
     with tempfile.NamedTemporaryFile() as profile:
-        run_apart(["valgrind", "--tool=callgrind", "--callgrind-out-file=" + profile.name, *command], status=status)
-        return int(re.search(rb"^(?:summary|totals): (\d+)", profile.read(), re.MULTILINE)[1])
+        words = ["valgrind", "--tool=cachegrind", "--cache-sim=no", "--cachegrind-out-file=" + profile.name, *command]
+        run_apart(words, statuses=statuses, environment=environment)
+        return int(re.search(rb"^summary: (\d+)", profile.read(), re.MULTILINE)[1])
 
 
-def is_valgrind_there():
-    """Whether instructions can be counted; says so if not."""
-    if shutil.which("valgrind"):
-        return True
-    print("skipped: valgrind is not there (Debian: valgrind)")
-    return False
+def can_count():
+    """Whether instructions can be counted; says so if valgrind isn't there. Exits if the counts aren't true."""
+    if not shutil.which("valgrind"):
+        print("skipped: valgrind is not there (Debian: valgrind)")
+        return False
+    if not are_counts_true():
+        sys.exit("valgrind counts each byte that is cleared or copied: is the C library another one than glibc?")
+    return True
+
+
+def are_counts_true(settings=None):
+    """Whether few instructions are counted where blocks of a megabyte are cleared and copied."""
+    words = [sys.executable, "-I", "-S", "-c", CLEARS]
+    few, many = (instructions([*words, str(size)], settings=settings) for size in (1, CLEARED))
+    return many - few < CLEARED // 4
 
 
 def written_apart(write):
@@ -160,6 +179,10 @@ def replica_file(path, log, events, version=1):
 
 def write_replica(path, log, atoms, version=2):
     """Writes the replica file of these atoms in that format."""
-    lines = [spelled(value).encode() for value in lines_of(atoms, version)]
+    sealed_lines(path, log, map(spelled, lines_of(atoms, version)), version)
+
+
+def sealed_lines(path, log, lines, version):
+    """Writes the replica file of these lines in that format."""
     with open(path, "wb") as out:
-        out.write(sealed([FIRST_LINES[version], b"L " + spelled(log).encode()] + lines))
+        out.write(sealed([FIRST_LINES[version], b"L " + spelled(log).encode()] + [line.encode() for line in lines]))
