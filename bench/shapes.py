@@ -35,6 +35,7 @@ from inputs import FILE, FILE_1, SHAPES
 from measure import BINARY, are_counts_true, best_of, can_count, instructions, run_apart
 
 MEGABYTE = 10 ** 6
+NOISE = 1  # MB of memory by which runs differ
 DOUBLING, STEPS, BYTE, DEEP_BYTE, MEMORY, ATOM, LARGE = 2.3, 1.3, 8, 4, 3, 80, 50 * MEGABYTE
 ROW = "%-18s %-16s %-17s %9s  %-26s %-12s %8s %7s"
 ORDINARY = "short-events"
@@ -169,7 +170,7 @@ class Row(NamedTuple):
         """Prints the row. Returns how many aims are missed."""
         growths, memory, aim = self.growths(), self.memory_a_byte(), self.memory_aim()
         above = {"TIME ABOVE %.1f" % DOUBLING: max(growths) > DOUBLING,
-                 "MEMORY ABOVE %.1f" % (aim or 0): aim is not None and memory > aim}
+                 "MEMORY ABOVE %.1f" % (aim or 0): aim is not None and memory > aim and self.rise("memory") > NOISE}
         missed = [text for text, is_above in above.items() if is_above]
         costs = " ".join("%8.3f" % point.cost for point in self.points)
         doublings = " ".join("%5.2f" % growth for growth in growths)
