@@ -1,6 +1,6 @@
 """Replica files in either format, as inputs that no command writes.
 
-    python3 -m tests.formats FORMAT FILE      writes the log and the atoms of FILE in format 1 or 2
+    python3 -m tests.formats FORMAT FILE  writes the log and the atoms of FILE in format 1 or 2
 """
 import sys
 
