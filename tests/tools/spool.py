@@ -229,6 +229,7 @@ def tries_words(trial):
             ("no words", [], 2, "usage"), ("no spool", ["s.cadf"], 2, "usage"), ("an option", ["--lo", "g", "s.cadf", "spool"], 2, "usage"),
             ("no log", ["s.cadf", "spool"], 2, "name its log by --log"), ("absent", ["--log", "g", "s.cadf", "absent"], 3, "absent"),
             ("a file", ["--log", "g", "s.cadf", "spool/a.json"], 3, "spool/a.json"), ("inside", ["--log", "g", "spool/s.cadf", "spool"], 2, "outside"),
+            ("no number", ["--time", "-1", "--log", "g", "s.cadf", "spool"], 2, "--time"), ("a large number", ["--memory", "1" + "0" * 15, "--log", "g", "s.cadf", "spool"], 2, "--memory"),
             ("inside of a part", ["--log", "g", "spool/taken/s.cadf", "spool"], 2, "outside")):
         done = trial.run(folder, *words)
         trial.check(what, done.status, status, said in done.error.decode(), True, "Traceback" in done.error.decode(), False)
@@ -243,6 +244,12 @@ def tries_words(trial):
         trial.check(what, done.status, status, b"s.cadf: " in done.error, True)
         trial.leaves(what, folder, data, **{"taking/a.json": None})
     os.remove(os.path.join(folder, "s.cadf"))
+    for what, make in (("a FIFO", os.mkfifo), ("a link", lambda path: os.symlink("absent", path)), ("a folder", os.mkdir)):
+        path = os.path.join(folder, "s.cadf")
+        make(path)
+        done = trial.run(folder, "s.cadf", "spool", "--log", "g")
+        trial.check(what + " as the site", done.status, 2, b"s.cadf: not a regular file" in done.error, True)
+        os.rmdir(path) if what == "a folder" else os.remove(path)
     trial.check("after them", trial.run(folder, "--log", "g", "s.cadf", "spool").status, 0)
     trial.leaves("after them", folder, trial.joined(document("e1")), **{"taken/a.json": None})
 
@@ -381,7 +388,7 @@ def site_among_users(trial):
     found = others.shared(folder, os.path.dirname(trial.tool), trial.binary)
     trial.has_others = found is not None
     if not trial.has_others:
-        return print("spool: not root, or no setpriv: what other users can do was not tried")
+        return None
     os.mkdir(os.path.join(folder, "spool"))
     os.mkdir(os.path.join(folder, "lib"))
     put(os.path.join(folder, "lib", "s.cadf"), trial.joined(document("e0")))
@@ -625,6 +632,8 @@ def main():
             tries(trial)
         cases = tries_each_call(trial)
         tries_kills(trial, options.kills)
+    if not trial.has_others:
+        print("spool: not root, or no setpriv: what other users can do was not tried")
     for line in trial.wrong:
         print("spool: " + line)
     print("spool: %d outcomes: %s" % (trial.count, "%d wrong" % len(trial.wrong) if trial.wrong else "%d calls failed or were the last, %d kills: nothing lost" % (
