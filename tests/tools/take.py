@@ -142,9 +142,9 @@ def keeps_access(trial):
     The lock has its group and owner, and is for those who may write the site."""
     group = 12345 if os.geteuid() == 0 else max(os.getgroups(), default=os.getegid())
     owner = 54321 if os.geteuid() == 0 else os.geteuid()
-    entries = ((1, 6, -1), (2, 4, 12345), (4, 0, -1), (16, 4, -1), (32, 0, -1))  # the second: user 12345 may read
-    listed = struct.pack("<I", 2) + b"".join(struct.pack("<HHi", *entry) for entry in entries)
-    for wanted, mode, of_lock in ((None, 0o640, 0o600), (listed, 0o640, 0o600), (None, 0o664, 0o660), (None, 0o444, 0o600)):
+    reads, writes = (struct.pack("<I", 2) + b"".join(struct.pack("<HHi", *entry) for entry in (
+        (1, 6, -1), (2, may, 12345), (4, 0, -1), (16, may, -1), (32, 0, -1))) for may in (4, 6))  # what user 12345 may, and no group
+    for wanted, mode, of_lock in ((None, 0o640, 0o600), (reads, 0o640, 0o600), (writes, 0o660, 0o600), (None, 0o664, 0o660), (None, 0o444, 0o600)):
         trial.site(site=trial.one)
         os.chown("s.cadf", owner, group)
         os.chmod("s.cadf", mode)
@@ -304,7 +304,7 @@ WRONG = [
     ("it opens what is no regular file", "if not stat.S_ISREG(os.fstat(file).st_mode):", "if False:", waits_for_none),
     ("it waits for the writer of a FIFO", "os.O_RDONLY | os.O_NONBLOCK | flags", "os.O_RDONLY | flags", waits_for_none),
     ("it takes any lock", "if os.fstat(file).st_mode not in LOCK_MODES:", "if False:", waits_for_none),
-    ("its lock is for the group of each site", "0o660 if os.fstat(old).st_mode & stat.S_IWGRP else 0o600", "0o660", keeps_access),
+    ("its lock is for the group of each site", "0o660 if is_shared else 0o600", "0o660", keeps_access),
 ]
 WRONG_AMONG_OTHERS = [
     ("it follows a link to a lock", "os.O_RDWR | os.O_NOFOLLOW | os.O_NONBLOCK", "os.O_RDWR | os.O_NONBLOCK", shares),
