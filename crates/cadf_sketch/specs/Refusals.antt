@@ -1,7 +1,7 @@
 -- Why no inventory is decoded from a sketch.
 --     differing own sketch     the sketch's cells with the own digests XORed in: those of both sides cancel
---     IsPeeled own sketch theirs   digests were removed until no cell had a lone one, or until as many as there are cells,
---                                  and theirs is the own inventory with these flipped
+--     IsPeeled own sketch theirs   digests were removed until no cell had a lone one, or until they were as many as there are
+--                                  cells, and never more; theirs is the own inventory with these flipped
 --     HasTooFewCells own sketch    peeling led to an inventory whose digest is not the sketch's
 --     IsReadFault own sketch f     f is why no inventory is decoded
 use Rattle.std.specs.Prelude.{◌≡◌, ◌≤◌, ◌*◌, ◌≢◌, ◌⊎◌, List, length}
@@ -25,7 +25,8 @@ pub record IsPeeled (own : InventoryModel) (sketch : SketchModel) (theirs : Inve
   pub taken : List Text
   pub rest : List Cell
   pub chain : Peels sketch.layout (differing own sketch) taken rest
-  pub stops : HasNoLone sketch.layout rest ⊎ (3 * sketch.layout.size ≤ length taken)
+  pub most : length taken ≤ 3 * sketch.layout.size
+  pub stops : HasNoLone sketch.layout rest ⊎ (length taken ≡ 3 * sketch.layout.size)
   pub flips : theirs ≡ flipped own taken
 
 pub record HasTooFewCells (own : InventoryModel) (sketch : SketchModel) : Type 0 where

@@ -1,8 +1,9 @@
 -- Counts over a set's digests, from which the holder of another set estimates how many digests the two don't share.
 --     tallied t d             the counts with one digest added
 --     tally_of ds             the counts of the digests
+--     has_bit bit d           the digest has the bit of that number, from 0, set
 --     cells_to_ask ours theirs    the cells to ask for: twice the estimate plus 30, rounded up to a multiple of 3, at most 3 * 2^22
-use Rattle.std.specs.Prelude.{ℕ, zero, suc, ◌+◌, ◌-◌, ◌*◌, ◌/◌, ◌%◌, ◌^◌, min, List, [], ◌∷◌, length, get_or, replicate}
+use Rattle.std.specs.Prelude.{ℕ, zero, suc, ◌+◌, ◌-◌, ◌*◌, ◌/◌, ◌%◌, ◌^◌, min, Bool, nat_eq, List, [], ◌∷◌, length, get_or, replicate}
 use Rattle.cadf_sketch.specs.Cells.{word}
 use Rattle.cadf_sketch.specs.declared.tally.Tally.{Tally}
 
@@ -20,6 +21,10 @@ tallied_all t (d ∷ ds) = tallied_all (tallied t d) ds
 
 unfoldable pub tally_of : List (List ℕ) → Tally
 tally_of ds = tallied_all (record { digests = 0; ones = replicate 64 0 }) ds
+
+-- of the first 64 bits; the first is the highest of the first byte
+abbrev pub has_bit : ℕ → List ℕ → Bool
+has_bit bit d = nat_eq (word d 0 / 2 ^ (63 - bit) % 2) 1
 
 -- ---- the guess
 

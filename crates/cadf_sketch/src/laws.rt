@@ -1,5 +1,5 @@
 //! Laws over the definitions alone. Each function's contract is a theorem, and its body is empty.
-ghost use Rattle.std.specs.Prelude.{◌≡◌, ◌<◌, ◌≤◌, ◌*◌, ℕ, length, false, Ok};
+ghost use Rattle.std.specs.Prelude.{◌≡◌, ◌<◌, ◌≤◌, ◌*◌, ◌%◌, ◌^◌, ℕ, length, slice_index, count_by, false, Ok};
 ghost use Rattle.std.specs.List.{filter};
 ghost use Rattle.cadf_join.specs.Sets as set;
 ghost use Rattle.cadf_join.specs.Sets.{rising};
@@ -9,6 +9,7 @@ ghost use Rattle.cadf_line.specs.Missing.{missing, missing_by, digests_of, NoCol
 ghost use Rattle.cadf_sketch.specs.Layouts.{LayoutModel};
 ghost use Rattle.cadf_sketch.specs.Cells.{cell_at, mixed_all, nothing, stands};
 ghost use Rattle.cadf_sketch.specs.Sketches.{cells_of, sketch_of};
+ghost use Rattle.cadf_sketch.specs.Tallies.{has_bit};
 ghost use Rattle.cadf_sketch.specs.Enough.{IsEnough};
 ghost use Rattle.cadf_sketch.specs.Flips.{apart};
 ghost use Rattle.cadf_sketch.specs.Refusals.{differing, HasTooFewCells};
@@ -39,6 +40,14 @@ pub fn cells_are_what_stands_there()
     ensures count { (n : InventoryModel) (layout : LayoutModel) → length (sketch_of n layout).cells ≡ 3 * layout.size }
     ensures each { (n : InventoryModel) (layout : LayoutModel) (place : ℕ) → 0 < layout.size → place < 3 * layout.size
         → cell_at (sketch_of n layout).cells place ≡ mixed_all nothing (filter (λ d. stands d place layout) (rising n.digests)) }
+{}
+
+/// States that a sketch's counts are of the set: how many digests it has, and how many of them have each of the first 64
+/// bits set, as numbers of 64 bits.
+pub fn counts_are_of_the_digests()
+    ensures digests { (n : InventoryModel) (layout : LayoutModel) → (sketch_of n layout).tally.digests ≡ length (rising n.digests) % 2 ^ 64 }
+    ensures ones { (n : InventoryModel) (layout : LayoutModel) (bit : ℕ) → bit < 64
+        → slice_index (sketch_of n layout).tally.ones bit ≡ count_by (has_bit bit) (rising n.digests) % 2 ^ 64 }
 {}
 
 /// States that digests that both sides have cancel, and that a sketch with enough cells for the others is not refused.

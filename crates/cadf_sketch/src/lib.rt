@@ -22,8 +22,9 @@ pub use answer::missing_by_sketch;
 pub use cell::Cell;
 pub use head::Head;
 pub use laws::{
-    accepted_bytes_are_sketches, cells_are_what_stands_there, enough_cells_are_read,
-    read_is_what_was_sketched, sketch_file_is_injective, sketch_is_read_back,
+    accepted_bytes_are_sketches, cells_are_what_stands_there, counts_are_of_the_digests,
+    enough_cells_are_read, read_is_what_was_sketched, sketch_file_is_injective,
+    sketch_is_read_back,
 };
 pub use layout::{Cells, Layout, Salt};
 pub use reading::{ReadFault, read};

@@ -12,6 +12,7 @@ use std::alloc::Global;
 
 /// Lists every place below `count`.
 fn all_places(alloc: Global, count: usize) -> Result<Vec<usize>, Memory>
+    ensures each { IfOk result (λ places. vec_len places ≡ count) }
     ensures below { IfOk result (λ places. ArePlaces count places.items) }
     ensures all { IfOk result (λ places. (cells : List Cell) (layout : LayoutModel) → length cells ≡ count → Awaits layout cells places.items) }
 {
@@ -61,7 +62,8 @@ fn take_lone(
     Ok(())
 }
 
-/// Removes lone digests until no cell has one, or as many were removed as there are cells. Returns the digests removed.
+/// Removes lone digests until no cell has one, or until as many were removed as there are cells. Returns the digests
+/// removed, never more than there are cells.
 pub(crate) fn peel(
     alloc: Global,
     cells: &mut [Cell],
@@ -69,7 +71,8 @@ pub(crate) fn peel(
 ) -> Result<Vec<[u8; 32]>, Memory>
     requires { length cells.old ≡ 3 * layout.size }
     ensures chain { IfOk result (λ taken. Peels layout cells.old taken.items cells.new) }
-    ensures stops { IfOk result (λ taken. HasNoLone layout cells.new ⊎ (3 * layout.size ≤ length taken.items)) }
+    ensures most { IfOk result (λ taken. length taken.items ≤ 3 * layout.size) }
+    ensures stops { IfOk result (λ taken. HasNoLone layout cells.new ⊎ (length taken.items ≡ 3 * layout.size)) }
 {
     let mut pending = all_places(alloc, cells.len())?;
     let mut taken = Vec::new(alloc);

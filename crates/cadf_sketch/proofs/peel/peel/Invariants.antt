@@ -1,9 +1,10 @@
-use Rattle.std.proofs.Common.{◌≡◌, ◌-◌, ◌+◌, ◌*◌, length, vec_len}
+use Rattle.std.proofs.Common.{◌≡◌, ◌-◌, ◌+◌, ◌*◌, ◌≤◌, length, vec_len}
 use Rattle.cadf_sketch.specs.Peeling.{Peels, Awaits, ArePlaces}
 use Rattle.cadf_sketch.proofs.peel.peel.Given as goal
 
 abbrev pub invariant-takes : goal.invariant-takes
 invariant-takes l = record {
+  most : vec_len l.taken ≤ length l.fn.cells;
   length : length l.cells ≡ length l.fn.cells;
   chain : Peels l.layout l.fn.cells l.taken.items l.cells;
   places : ArePlaces (3 * l.layout.size) l.pending.items;

@@ -1,4 +1,4 @@
-use Rattle.std.proofs.Common.{◌≤◌, ◌⊎◌, ◌*◌, ◌∙◌, ap, subst, length}
+use Rattle.std.proofs.Common.{◌≡◌, ◌≤◌, ◌⊎◌, ◌*◌, ◌∙◌, ap, subst, length}
 use Rattle.cadf_sketch.specs.Flips.{apart, flipped}
 use Rattle.cadf_sketch.specs.Refusals.{differing}
 use Rattle.cadf_sketch.specs.Layouts.{LayoutModel}
@@ -29,7 +29,8 @@ returns-clause-peeled c =
       rest = c.peel.new.cells;
       chain = peels_same c.layout.result sketch.layout c.deref_mut.result.now (differing own sketch) found.items c.peel.new.cells c.layout.ensures.value
           (c.deref_mut.ensures.value ∙ c.in_ok-cells.ensures.cells) c.in_ok-found.ensures.chain;
-      stops = subst (λ (layout : LayoutModel). HasNoLone layout c.peel.new.cells ⊎ (3 * layout.size ≤ length found.items)) c.layout.ensures.value
+      most = subst (λ (layout : LayoutModel). length found.items ≤ 3 * layout.size) c.layout.ensures.value c.in_ok-found.ensures.most;
+      stops = subst (λ (layout : LayoutModel). HasNoLone layout c.peel.new.cells ⊎ (length found.items ≡ 3 * layout.size)) c.layout.ensures.value
           c.in_ok-found.ensures.stops;
       flips = λ i. record { log = c.flip.ensures.log i; digests = digests i };
     }

@@ -1,0 +1,16 @@
+use Rattle.std.proofs.Common.{replicate, refl}
+use Rattle.std.proofs.lemmas.List.{get_or-replicate}
+use Rattle.cadf_join.specs.Sets.{rising}
+use Rattle.cadf_sketch.specs.Sketches.{sketch_of}
+use Rattle.cadf_sketch.specs.Tallies.{tally_of}
+use Rattle.cadf_sketch.proofs.TallyLemmas.{tallied_digests, tallied_ones}
+use Rattle.cadf_sketch.proofs.laws.counts_are_of_the_digests.Goals as goal
+
+pub returns-clause-digests : goal.returns-clause-digests
+unfolding sketch_of tally_of
+returns-clause-digests c = λ n layout. tallied_digests (record { digests = 0; ones = replicate 64 0 }) (rising n.digests) refl
+
+pub returns-clause-ones : goal.returns-clause-ones
+unfolding sketch_of tally_of
+returns-clause-ones c = λ n layout bit within. tallied_ones bit (record { digests = 0; ones = replicate 64 0 }) (rising n.digests) within refl
+    (get_or-replicate 64 bit 0 0 within)
