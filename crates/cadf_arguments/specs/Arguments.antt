@@ -1,8 +1,9 @@
--- Which numbers the engines take, and which exit status a refused argument has.
+-- Which numbers the engines take, and which exit status and text a refused argument has.
 --     is_site_count n          a rehearsal has 1 to 64 sites
 --     is_place n               a value has a place from 1 to 999,999,999
 --     argument_status_of f     2 if the command line is refused, 4 if out of memory
-use Rattle.std.specs.Prelude.{ℕ, nat_le, Bool, ◌&&◌}
+--     argument_text_of f       which argument is refused
+use Rattle.std.specs.Prelude.{ℕ, List, nat_le, Bool, ◌&&◌, codes}
 use Rattle.cadf_arguments.specs.declared.fault.ArgumentFault.{ArgumentFault}
 use Rattle.cadf_arguments.specs.declared.fault.ArgumentFault.TheVariants.{LogName, Sites, Letter, Key, Place, Cells, Salt, Memory}
 
@@ -21,3 +22,13 @@ argument_status_of Place = 2
 argument_status_of Cells = 2
 argument_status_of Salt = 2
 argument_status_of Memory = 4
+
+abbrev pub argument_text_of : ArgumentFault → List ℕ
+argument_text_of LogName = codes "log name"
+argument_text_of Sites = codes "sites"
+argument_text_of Letter = codes "letter"
+argument_text_of Key = codes "key"
+argument_text_of Place = codes "place"
+argument_text_of Cells = codes "cells"
+argument_text_of Salt = codes "salt"
+argument_text_of Memory = codes "out of memory"

@@ -1,35 +1,28 @@
 //! Why an argument is refused.
-ghost use Rattle.std.specs.Prelude.{◌≡◌, ◌≤◌};
-ghost use Rattle.cadf_arguments.specs.Arguments.{argument_status_of};
+ghost use Rattle.std.specs.Prelude.{◌≡◌, ◌≤◌, Some};
+ghost use Rattle.cadf_arguments.specs.Arguments.{argument_status_of, argument_text_of};
 
-use thiserror::Error;
+use std::error::Error;
+use std::fmt;
 
 /// Which argument of an engine is refused.
-#[derive(Clone, Copy, Debug, Drop, PartialEq, Eq, Error)]
+#[derive(Clone, Copy, Debug, Drop, PartialEq, Eq)]
 pub enum ArgumentFault {
     /// The log is no name.
-    #[error("log name")]
     LogName,
     /// The number of sites isn't 1 to 64.
-    #[error("sites")]
     Sites,
     /// No value has the letter.
-    #[error("letter")]
     Letter,
     /// The key is no name.
-    #[error("key")]
     Key,
     /// The place isn't 1 to 999,999,999.
-    #[error("place")]
     Place,
     /// The number of cells isn't a multiple of 3 from 3 to 12,582,912.
-    #[error("cells")]
     Cells,
     /// The salt isn't odd.
-    #[error("salt")]
     Salt,
     /// An allocation failed.
-    #[error("out of memory")]
     Memory,
 }
 
@@ -46,4 +39,30 @@ impl ArgumentFault {
             ArgumentFault::Memory => 4,
         }
     }
+
+    /// Returns the text of the fault.
+    pub fn text(&self) -> &'static str
+        ensures { result.now ≡ argument_text_of self.now }
+    {
+        match self {
+            ArgumentFault::LogName => "log name",
+            ArgumentFault::Sites => "sites",
+            ArgumentFault::Letter => "letter",
+            ArgumentFault::Key => "key",
+            ArgumentFault::Place => "place",
+            ArgumentFault::Cells => "cells",
+            ArgumentFault::Salt => "salt",
+            ArgumentFault::Memory => "out of memory",
+        }
+    }
 }
+
+impl fmt::Display for ArgumentFault {
+    ghost output = { λ fault. Some (argument_text_of fault) };
+
+    fn fmt<W: fmt::Write>(&self, f: &mut fmt::Formatter<W>) -> fmt::Result {
+        f.write_str(self.text())
+    }
+}
+
+impl Error for ArgumentFault {}

@@ -1,45 +1,44 @@
 //! Names and letters.
-ghost use Rattle.std.specs.Prelude.{◌≡◌, ◌⊎◌, true, is_ok, IfOk, IfErr, encode_utf8};
+ghost use Rattle.std.specs.Prelude.{◌≡◌, true, is_ok, IfOk, IfErr, encode_utf8, if◌then◌else◌};
 ghost use Rattle.cadf_event.specs.Names.{is_name};
 ghost use Rattle.cadf_line.specs.RulingTexts.{is_value_letter};
 
 use crate::fault::ArgumentFault;
 use cadf_atom::KeyKind;
-use cadf_event::{Name, NameFault};
+use cadf_event::{Name, is_valid_name};
 use std::alloc::Global;
 
-/// Returns an engine's fault for a text that is no name.
-fn refused(fault: NameFault, otherwise: ArgumentFault) -> ArgumentFault
-    ensures { (result ≡ otherwise) ⊎ (result ≡ ArgumentFault.Memory) }
+/// Reads the text as a name. `refusal`: it is none. `Memory`: it is one, and an allocation failed.
+fn read_name(alloc: Global, text: &str, refusal: ArgumentFault) -> Result<Name, ArgumentFault>
+    ensures ok { IfOk result (λ name. name ≡ text.now) }
+    ensures named { IfOk result (λ _. is_name text.now ≡ true) }
+    ensures err { IfErr result (λ f. f ≡ (if is_name text.now then ArgumentFault.Memory else refusal)) }
 {
-    match fault {
-        NameFault::Memory => ArgumentFault::Memory,
-        _ => otherwise,
+    if !is_valid_name(text) {
+        return Err(refusal);
+    }
+    match Name::read(alloc, text) {
+        Ok(name) => Ok(name),
+        Err(_) => Err(ArgumentFault::Memory),
     }
 }
 
-/// Reads the identifier of a log. `LogName`: the text is no name.
+/// Reads the identifier of a log. `LogName`: the text is no name. `Memory`: it is one, and an allocation failed.
 pub fn read_log(alloc: Global, text: &str) -> Result<Name, ArgumentFault>
     ensures ok { IfOk result (λ name. name ≡ text.now) }
     ensures named { IfOk result (λ _. is_name text.now ≡ true) }
-    ensures err { IfErr result (λ f. (f ≡ ArgumentFault.LogName) ⊎ (f ≡ ArgumentFault.Memory)) }
+    ensures err { IfErr result (λ f. f ≡ (if is_name text.now then ArgumentFault.Memory else ArgumentFault.LogName)) }
 {
-    match Name::read(alloc, text) {
-        Ok(name) => Ok(name),
-        Err(fault) => Err(refused(fault, ArgumentFault::LogName)),
-    }
+    read_name(alloc, text, ArgumentFault::LogName)
 }
 
-/// Reads a key. `Key`: the text is no name.
+/// Reads a key. `Key`: the text is no name. `Memory`: it is one, and an allocation failed.
 pub fn read_key(alloc: Global, text: &str) -> Result<Name, ArgumentFault>
     ensures ok { IfOk result (λ name. name ≡ text.now) }
     ensures named { IfOk result (λ _. is_name text.now ≡ true) }
-    ensures err { IfErr result (λ f. (f ≡ ArgumentFault.Key) ⊎ (f ≡ ArgumentFault.Memory)) }
+    ensures err { IfErr result (λ f. f ≡ (if is_name text.now then ArgumentFault.Memory else ArgumentFault.Key)) }
 {
-    match Name::read(alloc, text) {
-        Ok(name) => Ok(name),
-        Err(fault) => Err(refused(fault, ArgumentFault::Key)),
-    }
+    read_name(alloc, text, ArgumentFault::Key)
 }
 
 /// Returns the letter if keys have it. `Letter`: no value has it.
