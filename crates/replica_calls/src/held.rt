@@ -10,6 +10,7 @@ pub fn laws() {
     replicas::replica_is_what_it_took();
     replicas::same_contributions_same_set();
     replicas::retries_are_idempotent();
+    replicas::membership_laws();
     replicas::every_atom_is_shown_once();
     replicas::one_value_is_shown();
     replicas::show_is_idempotent();
