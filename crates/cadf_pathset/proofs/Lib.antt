@@ -27,3 +27,4 @@ pub mod Several
 pub mod Sorts
 pub mod Suffixes
 pub mod Threads
+pub mod Membership

@@ -9,6 +9,7 @@ mod compare;
 mod copier;
 mod cursor;
 mod fork;
+pub mod laws;
 mod lines;
 mod merge;
 mod nodes;
