@@ -1,6 +1,6 @@
 -- One line of membership for each set that the contracts name.
 use Rattle.std.proofs.Common.{◌≡◌, Bool, [], ◌∷◌, true, false, refl, sym, ap, subst, ◌∙◌}
-use Rattle.std.specs.Prelude.{◌↔◌, ◌&&◌}
+use Rattle.std.specs.Prelude.{◌↔◌, ◌≢◌, ◌&&◌}
 use mathlib.Core.Bool.{true≢false}
 use Rattle.std.specs.FinMap as fin
 use Rattle.cadf_join.specs.Contents.{Text, Texts, TextSetValue, Contents, Has, under, suffixes_of, singles}
@@ -15,7 +15,9 @@ use Rattle.cadf_join.specs.laws.Contents.{
   longer-singles,
 }
 use Rattle.cadf_join.specs.Maps.{MapValue, heads, held, contents_at}
-use Rattle.cadf_join.specs.laws.Maps.{contains-joined, head_has, has_head}
+use Rattle.cadf_join.specs.Prefixes.{chains}
+use Rattle.cadf_join.specs.laws.Chains.{empty_list-chains, contains-chains}
+use Rattle.cadf_join.specs.laws.Maps.{empty_list-joined, contains-joined, head_has, has_head}
 use Rattle.cadf_join.proofs.Members as members
 
 not_false : {A : Type 0} {b : Bool} → b ≡ false → b ≡ true → A
@@ -46,6 +48,28 @@ in_singles s q = (find q, λ found. subst (Has (singles s)) (sym found.1) (conta
 
 pub in_heads : (s : Contents) (k : Text) → Has (heads s) k ↔ ((r : Texts) × Has s (k ∷ r))
 in_heads s k = (head_has s k, λ found. has_head s k found.0 found.1)
+
+pub in_chains : (s : Contents) (q : Texts) → Has (chains s) q ↔ (Has s q × (q ≢ []))
+in_chains s q = (find q, λ found. there q found.0 found.1)
+  where
+    find : (q : Texts) → Has (chains s) q → Has s q × (q ≢ [])
+    find [] h = not_false (empty_list-chains s) h
+    find (k ∷ r) h = (sym (contains-chains s k r) ∙ h, λ e. cc)
+
+    there : (q : Texts) → Has s q → q ≢ [] → Has (chains s) q
+    there [] h some = absurd (some refl)
+    there (k ∷ r) h some = contains-chains s k r ∙ h
+
+pub in_contents : {V : Type 0} (C : V → Contents) (m : MapValue V) (q : Texts)
+    → Has (contents_at C m) q ↔ ((k : Text) × (r : Texts) × (q ≡ k ∷ r) × Has (held C (fin.get m k)) r)
+in_contents C m q = (find q, λ found. there found.0 found.1 found.2 found.3)
+  where
+    find : (q : Texts) → Has (contents_at C m) q → (k : Text) × (r : Texts) × (q ≡ k ∷ r) × Has (held C (fin.get m k)) r
+    find [] h = not_false (empty_list-joined C m) h
+    find (k ∷ r) h = (k, r, refl, sym (contains-joined C m k r) ∙ h)
+
+    there : (k : Text) (r : Texts) → q ≡ k ∷ r → Has (held C (fin.get m k)) r → Has (contents_at C m) q
+    there k r is h = subst (Has (contents_at C m)) (sym is) (contains-joined C m k r ∙ h)
 
 pub in_joined : (m : MapValue Contents) (k : Text) (r : Texts) → Has (contents_at (λ s. s) m) (k ∷ r) ↔ Has (held (λ s. s) (fin.get m k)) r
 in_joined m k r = (λ h. sym (contains-joined (λ s. s) m k r) ∙ h, λ h. contains-joined (λ s. s) m k r ∙ h)

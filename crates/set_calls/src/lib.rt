@@ -13,9 +13,9 @@ mod told;
 mod trees;
 mod values;
 
-use cadf_join::Memory;
+use cadf_join::{Memory, TextSet};
 use cadf_join::laws::{
-    longest_is_a_longest_chain, membership_laws, order_determines_set, union_laws,
+    longest_is_a_longest_chain, map_membership, membership_laws, order_determines_set, union_laws,
 };
 use calls::{Call, answer};
 use std::alloc::Global;
@@ -41,4 +41,5 @@ pub fn laws() {
     order_determines_set();
     longest_is_a_longest_chain();
     membership_laws();
+    map_membership::<TextSet>();
 }
