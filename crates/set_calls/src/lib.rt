@@ -13,10 +13,10 @@ mod told;
 mod trees;
 mod values;
 
-use cadf_join::{Memory, TextSet};
 use cadf_join::laws::{
     longest_is_a_longest_chain, map_membership, membership_laws, order_determines_set, union_laws,
 };
+use cadf_join::{Memory, TextSet};
 use calls::{Call, answer};
 use std::alloc::Global;
 
