@@ -1,0 +1,5 @@
+pub mod Parts
+pub mod Keys
+pub mod Conflicts
+pub mod KeyPlaces
+pub mod Dates

@@ -1,0 +1,6 @@
+use Rattle.cadf_split.specs.Windows.{key}
+use Rattle.cadf_split.proofs.Conflicts.{conflicted_in_parts, conflicted_from_parts}
+use Rattle.cadf_split.proofs.laws.conflicts_of_parts.Goals as goal
+
+pub returns : goal.returns
+returns c = λ unit s letter name. (conflicted_in_parts (key unit) s letter name, conflicted_from_parts (key unit) s letter name)

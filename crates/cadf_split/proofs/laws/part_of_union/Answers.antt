@@ -1,0 +1,6 @@
+use Rattle.cadf_split.specs.Windows.{key}
+use Rattle.cadf_split.proofs.Parts.{part-union}
+use Rattle.cadf_split.proofs.laws.part_of_union.Goals as goal
+
+pub returns : goal.returns
+returns c = λ unit. part-union (key unit)

@@ -1,0 +1,4 @@
+pub mod Parts
+pub mod Places
+pub mod Split
+pub mod Windows

@@ -1,0 +1,11 @@
+//! Split files: a replica's atoms in parts by windows of time, each part as a replica file.
+#![tactic(auto)]
+
+pub mod laws;
+mod places;
+mod unit;
+mod window;
+
+pub use places::places_by_key;
+pub use unit::Unit;
+pub use window::window_at;
