@@ -10,7 +10,9 @@ use Rattle.std.specs.Int.{int_div_euclid, int_rem_euclid}
 use Rattle.jiff_core.specs.Calendar.{days_from_civil}
 use Rattle.cadf_time.specs.Time.{two_digits, last_passing, nanos_of_day}
 use Rattle.cadf_join.specs.Contents.{Text, Texts, Contents}
-use Rattle.cadf_line.specs.Atoms.{is_text, begins_with, event_letter}
+use Rattle.cadf_line.specs.Atoms.{is_text, begins_with, event_letter, IsAtom}
+use Rattle.cadf_atom.specs.Atom.{atom_rules}
+use Rattle.std.specs.List.{AllByRecursion}
 use Rattle.cadf_log.specs.Texts.{body_instant}
 use Rattle.cadf_split.specs.declared.unit.Unit.{Unit}
 use Rattle.cadf_split.specs.declared.unit.Unit.TheVariants.{Month, Day, Hour}
@@ -87,3 +89,9 @@ abbrev pub unit_word : Unit → Text
 unit_word Month = codes "month"
 unit_word Day = codes "day"
 unit_word Hour = codes "hour"
+
+-- ---- the keys of a walk
+
+-- the keys of the lists were appended, if they are atoms
+abbrev pub Collects : Unit → List Text → List Texts → Unit → List Text → Type 0
+Collects unit ks qs later ls = (later ≡ unit) × (AllByRecursion (IsAtom atom_rules) qs → ls ≡ ks ++ map (key unit) qs)
