@@ -3,3 +3,4 @@ pub mod Keys
 pub mod Conflicts
 pub mod KeyPlaces
 pub mod Dates
+pub mod Shown

@@ -5,7 +5,7 @@
 --     shared                          the key of the atoms that are no event's: five zeros. No window has it, since months count from 1
 --     key unit q                      the key of the part of an atom: the window of its body's instant, or `shared`
 --     name unit k                     the name of a part
-use Rattle.std.specs.Prelude.{ℕ, ◌+◌, ◌/◌, ◌%◌, not, cond, List, [], ◌∷◌, ◌++◌, codes, ℤ, pos, neg_ℤ, ◌-ℤ◌, ◌≤ℤ◌, int_lt, unsigned_abs}
+use Rattle.std.specs.Prelude.{◌≡◌, map, ℕ, ◌+◌, ◌/◌, ◌%◌, not, cond, List, [], ◌∷◌, ◌++◌, codes, ℤ, pos, neg_ℤ, ◌-ℤ◌, ◌≤ℤ◌, int_lt, unsigned_abs}
 use Rattle.std.specs.Int.{int_div_euclid, int_rem_euclid}
 use Rattle.jiff_core.specs.Calendar.{days_from_civil}
 use Rattle.cadf_time.specs.Time.{two_digits, last_passing, nanos_of_day}
