@@ -3,11 +3,13 @@
 
 mod key;
 pub mod laws;
+mod lines;
 mod places;
 mod unit;
 mod window;
 
 pub use key::keys_of;
+pub use lines::{digest_line, part_line, top_of};
 pub use places::places_by_key;
 pub use unit::Unit;
 pub use window::window_at;
