@@ -1,14 +1,17 @@
 """Runs the steps of the gate: what needs no build, then `rt ci`, then what runs what it has built, side by side.
 
-    .ci/run
+    .ci/run [--no-skips]
 
 Prints a line a step with its times as the step ends, all that a failed step has written, and at the end a table of all
-steps with the kit's name, and `N passed, M failed`. The first time is that of the clock, the second that of all
-processors. A failed stage ends the run: what comes after it stands on it.
+steps with the kit's name, why something was skipped, and `N passed, M failed, K skipped`. A step of pytest counts as its
+tests do, any other is one. With --no-skips what was skipped has failed. The first time is that of the clock, the second
+that of all processors. A failed stage ends the run: what comes after it stands on it.
 Each step writes to a folder of its own, and leaves nothing in the tree but crates/*/out.
 """
+import argparse
 import concurrent.futures
 import os
+import re
 import signal
 import subprocess
 import sys
@@ -44,6 +47,7 @@ STAGES = [
         "pages": "python3 -m tests.docs.pages",
         "check-promises": "python3 -m tests.docs.promises docs/PROMISES.md docs/ARCHITECTURE.md docs/AUDIT.md",
         "declared": "python3 -m tests.library.bindings --declared",
+        "unbuilt": "pytest -m unbuilt",
     }),
     ("proofs", 1, {
         "rt ci": "rt ci",
@@ -51,17 +55,15 @@ STAGES = [
     ("built programs", 0, {
         "bits": "python3 -m tests.generated.bits",
         "bindings": "python3 -m tests.library.bindings",
-        "check-install": "tests/package/installed.sh",
         "package": "python3 -m tests.package.packages",
         "sandbox": "python3 -m tests.command.sandbox",
-        "units": "python3 -m tests.package.units",
         "inject-faults": "python3 -m tests.command.inject_faults",
         "take": "python3 -m tests.tools.take",
         "spool": "python3 -m tests.tools.spool",
         "listen": "python3 -m tests.tools.listen",
         "oom": "python3 -m tests.library.oom",
         "plain-sets": "python3 -m tests.library.plain_sets",
-        "limits": "python3 -m tests.command.limits",
+        "built": "pytest -m built",
         "compare": "python3 -m tests.generated.compare",
         "drivers": "python3 -m tests.generated.drivers",
         "shown": "python3 -m tests.docs.shown README.md docs/GUIDE.md docs/OPENSTACK.md docs/BUS.md docs/REPORT.md",
@@ -74,7 +76,6 @@ STAGES = [
         "many-sites": "examples/many-sites.py",
         "parcelled": "examples/parcelled.py",
         "shapes": "bench/shapes.py --gate",
-        "exit-codes": "tests/command/exit_codes.sh",
         "rows": "python3 -m tests.tables.rows " + CADF,
         "vectors": "python3 -m tests.command.vectors " + CADF,
         "two-sites": "examples/two-sites.sh",
@@ -105,7 +106,21 @@ def lanes_of_proofs():
 
 
 # The steps and all that they start run the Python that runs this, without a program that looks for one each time.
-ENVIRONMENT = {**lanes_of_proofs(), **os.environ, "PATH": os.path.dirname(sys.executable) + os.pathsep + os.environ["PATH"]}
+ENVIRONMENT = {**lanes_of_proofs(), **os.environ, "PATH": os.path.dirname(sys.executable) + os.pathsep + os.environ["PATH"],
+               "PYTHONDONTWRITEBYTECODE": "1"}
+# What a step says of what it leaves out, itself or by pytest, and how pytest counts.
+SKIPPED = re.compile(r"(?m)^(?:skipped: |SKIPPED \[(\d+)\] )(.*)$")
+COUNTED = re.compile(r"(\d+) (passed|failed|errors?)\b")
+PLUGINS = "pytest, xdist, pytest_timeout"
+WITHOUT_PYTEST = "skipped: pytest with xdist and timeout (Debian: python3-pytest, python3-pytest-xdist, python3-pytest-timeout)"
+
+
+def pytest_words():
+    """How pytest is run, with two processes: by this Python or the system's, where Debian's packages are; None without it."""
+    for python in (sys.executable, "/usr/bin/python3"):
+        if os.path.exists(python) and not subprocess.run([python, "-c", "import " + PLUGINS], stderr=subprocess.DEVNULL).returncode:
+            return [python, "-m", "pytest", "-q", "-n", "2"]
+    return None
 
 
 class Ended(NamedTuple):
@@ -114,10 +129,24 @@ class Ended(NamedTuple):
     seconds: float
     processors: float
     said: str
+    is_many: bool  # a step of pytest
 
     def line(self):
         verdict = "passed" if self.status == 0 else "FAILED: status %d" % self.status
         return "%-12s %7.1f s %8.1f s  %s" % (self.name, self.seconds, self.processors, verdict)
+
+    def counts(self):
+        """How many tests passed and how many failed."""
+        if not self.is_many:
+            return (0, 1) if self.status else (1, 0)
+        found = COUNTED.findall(self.said.rstrip("\n").rsplit("\n", 1)[-1])
+        passed = sum(int(number) for number, what in found if what == "passed")
+        failed = sum(int(number) for number, what in found if what != "passed")
+        return passed, max(failed, self.status != 0)
+
+    def skips(self):
+        """What was left out and why, with how many tests that are."""
+        return [(int(number or 1), why) for number, why in SKIPPED.findall(self.said)]
 
 
 def wait_for(child):
@@ -131,14 +160,19 @@ class Gate:
     """The steps so far, and those that run now."""
 
     def __init__(self):
-        self.ended, self.running, self.lock = [], set(), threading.Lock()
+        self.ended, self.running, self.lock, self.pytest = [], set(), threading.Lock(), pytest_words()
 
     def run(self, step):
         """Runs a step in a process group of its own; its last line says what it did."""
         name, command = step
-        begun = time.monotonic()
+        begun, words = time.monotonic(), command.split()
+        is_many = words[0] == "pytest"
+        if is_many:
+            if not self.pytest:
+                return self.say(Ended(name, 0, 0, 0, WITHOUT_PYTEST, is_many))
+            words[:1] = self.pytest
         with tempfile.TemporaryFile("w+", errors="replace") as log:
-            child = subprocess.Popen(command.split(), cwd=TOP, env=ENVIRONMENT, stdin=subprocess.DEVNULL, stdout=log,
+            child = subprocess.Popen(words, cwd=TOP, env=ENVIRONMENT, stdin=subprocess.DEVNULL, stdout=log,
                                      stderr=subprocess.STDOUT, start_new_session=True)
             with self.lock:
                 self.running.add(child.pid)
@@ -146,7 +180,7 @@ class Gate:
             with self.lock:
                 self.running.discard(child.pid)
             log.seek(0)
-            self.say(Ended(name, status, time.monotonic() - begun, processors, log.read()))
+            return self.say(Ended(name, status, time.monotonic() - begun, processors, log.read(), is_many))
 
     def say(self, ended):
         """Prints a step's line, and what it wrote where it failed."""
@@ -169,20 +203,26 @@ class Gate:
             os.killpg(group, signal.SIGTERM)
         os._exit(130)
 
-    def table(self, begun):
-        """Prints the whole as a table, with the kit."""
+    def table(self, begun, may_skip):
+        """Prints the whole as a table, with the kit. Returns the exit status."""
         kit = subprocess.run(["rt", "version"], capture_output=True, text=True).stdout.strip()
         print("\n%s, %d processors" % (kit, os.cpu_count()))
         for step in self.ended:
             print(step.line())
         used = sum(step.processors for step in self.ended)
         print("%-12s %7.1f s %8.1f s" % ("all", time.monotonic() - begun, used))
-        failed = sum(step.status != 0 for step in self.ended)
-        print("%d passed, %d failed" % (len(self.ended) - failed, failed))
-        return 1 if failed else 0
+        skips = [(step.name, *skip) for step in self.ended for skip in step.skips()]
+        for name, _, why in skips:
+            print("skipped: %s: %s" % (name, why))
+        passed, failed = map(sum, zip(*(step.counts() for step in self.ended)))
+        print("%d passed, %d failed, %d skipped" % (passed, failed, sum(number for _, number, _ in skips)))
+        return 1 if failed or skips and not may_skip else 0
 
 
 def main():
+    parser = argparse.ArgumentParser(description=__doc__, formatter_class=argparse.RawDescriptionHelpFormatter)
+    parser.add_argument("--no-skips", action="store_true", help="what was skipped has failed")
+    options = parser.parse_args()
     gate, begun = Gate(), time.monotonic()
     for number in (signal.SIGINT, signal.SIGTERM):
         signal.signal(number, gate.stop)
@@ -190,7 +230,7 @@ def main():
         print("== %s" % title, flush=True)
         if not gate.run_all(steps, lanes):
             break
-    sys.exit(gate.table(begun))
+    sys.exit(gate.table(begun, not options.no_skips))
 
 
 if __name__ == "__main__":

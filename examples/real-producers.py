@@ -151,7 +151,7 @@ def main():
         try:
             lines, wanted = made(random.Random(4))
         except ImportError as missing:
-            print("real-producers: %s skipped, since %s isn't there" % (producer, missing.name))
+            print("skipped: %s: %s isn't there" % (producer, missing.name))
             continue
         checked(binary, producer, lines, wanted)
 

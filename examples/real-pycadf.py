@@ -73,6 +73,6 @@ if __name__ == "__main__":
     except ImportError:
         if sys.executable != SYSTEM and os.path.exists(SYSTEM) and "PYCADF_TRIED" not in os.environ:
             os.execve(SYSTEM, [SYSTEM] + sys.argv, dict(os.environ, PYCADF_TRIED="1"))
-        print("real-pycadf: skipped, since pycadf isn't there (Debian: python3-pycadf)")
+        print("skipped: pycadf isn't there (Debian: python3-pycadf)")
         sys.exit(0)
     check(sys.argv[1] if len(sys.argv) > 1 else os.path.join(TOP, "crates", "cadf", "out", "cadf"), pycadf_events())

@@ -129,7 +129,7 @@ def main():
         count += len(calls)
         failed += failures("command", calls, by_command(calls))
     else:
-        print("test: the command is left out: rt, of the Rattle kit, is not here")
+        print("skipped: the command itself: rt, of the Rattle kit, isn't there")
     print("%d passed, %d failed" % (count - failed, failed))
     return 1 if failed else 0
 

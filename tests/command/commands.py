@@ -14,8 +14,8 @@ class Command(NamedTuple):
     small: Sequence[str] = ()  # tests/command/inject_faults.py: each place of a fault is tried
     worked: Sequence[str] = ()  # likewise: a producer's event, chains, a conflict, deltas, facts of a log
     large: Sequence[str] = ()  # tests/command/inject_faults.py: a sample of the places
-    limited: Sequence[str] = ()  # tests/command/limits.py: on inputs of about 1 MB
-    deep: Sequence[str] = ()  # tests/command/limits.py: on values that nest as deep as can be read
+    limited: Sequence[str] = ()  # tests/command/test_limits.py: on inputs of about 1 MB
+    deep: Sequence[str] = ()  # tests/command/test_limits.py: on values that nest as deep as can be read
 
 COMMANDS = {
     "join": Command(

@@ -133,9 +133,9 @@ def main():
     for name in options.pages:
         count, its = run_page(os.path.join(TOP, name), options.commands)
         absent |= its
-        print("check-docs: %s: %d commands do what it shows" % (name, count))
-    if absent:
-        print("check-docs: blocks with programs that are not here were left out: %s" % " ".join(sorted(absent)))
+        print("shown: %s: %d commands do what it shows" % (name, count))
+    for program in sorted(absent):
+        print("skipped: the blocks that run %s, which isn't there" % program)
 
 
 if __name__ == "__main__":

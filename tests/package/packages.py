@@ -322,8 +322,9 @@ def main():
             absent.append("the object for the static command")
         refuses(second, binary)
         versions_rise(first, absent)
-    without = "; without %s" % ", ".join(absent) if absent else ""
-    print("package: %s, the same bytes twice; refusals and versions as they should be%s" % (count, without))
+    for name in absent:
+        print("skipped: %s isn't there" % name)
+    print("package: %s, the same bytes twice; refusals and versions as they should be" % count)
 
 
 if __name__ == "__main__":

@@ -78,7 +78,7 @@ def main():
     binary = os.path.abspath(sys.argv[1]) if len(sys.argv) > 1 else os.path.join(TOP, "crates", "cadf", "out", "cadf")
     python = next((each for each in PYTHONS if subprocess.run([each, "-c", "import distributed"], capture_output=True).returncode == 0), None)
     if python is None:
-        print("join-many: skipped, since dask.distributed isn't there (Debian: python3-distributed)")
+        print("skipped: dask.distributed isn't there (Debian: python3-distributed)")
         return
     chance = random.Random(8)
     with tempfile.TemporaryDirectory() as folder:

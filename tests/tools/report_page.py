@@ -31,14 +31,14 @@ def skip_or_import():
     """Imports selenium; where it isn't there, says so and ends, or goes on with the system's Python."""
     for name in ("chromium", "chromedriver"):
         if not shutil.which(name):
-            print("report-page: skipped: no %s (Debian's chromium, chromium-driver, python3-selenium)" % name)
+            print("skipped: %s isn't there (Debian: chromium, chromium-driver, python3-selenium)" % name)
             sys.exit(0)
     try:
         from selenium import webdriver
         return webdriver
     except ImportError:
         if os.path.realpath(sys.executable) == os.path.realpath(SYSTEM) or not os.path.exists(SYSTEM):
-            print("report-page: skipped: no selenium (Debian's python3-selenium)")
+            print("skipped: selenium isn't there (Debian: python3-selenium)")
             sys.exit(0)
         os.execv(SYSTEM, [SYSTEM, "-m", __spec__.name, *sys.argv[1:]])
 

@@ -1,0 +1,42 @@
+"""What the tests share under pytest: the built command, and what a test needs to be there."""
+import os
+import shutil
+
+import pytest
+
+from tests.machine import built
+
+PROGRAMS = {"broker": ("rabbitmq-server",), "browser": ("chromium", "chromedriver")}
+
+
+def pytest_addoption(parser):
+    parser.addoption("--binary", default=built("cadf"), help="the command that is tried; crates/cadf/out/cadf unless given")
+    parser.addoption("--release", action="store_true", help="run what runs before a release too")
+
+
+def pytest_collection_modifyitems(items):
+    """Marks each test by whether it runs the built command, so that `-m unbuilt` is what can run before a build."""
+    for item in items:
+        item.add_marker("built" if "cadf" in item.fixturenames else "unbuilt")
+
+
+def pytest_runtest_setup(item):
+    """Skips a test that needs what isn't here."""
+    programs = [program for marker in item.iter_markers("needs") for program in marker.args]
+    programs += [program for name, wanted in PROGRAMS.items() if item.get_closest_marker(name) for program in wanted]
+    for program in programs:
+        if shutil.which(program) is None:
+            pytest.skip("%s isn't there" % program)
+    if item.get_closest_marker("root") and os.geteuid():
+        pytest.skip("it needs root")
+    if item.get_closest_marker("release") and not item.config.getoption("--release"):
+        pytest.skip("it runs with --release")
+
+
+@pytest.fixture(scope="session")
+def cadf(pytestconfig):
+    """The path of the built command."""
+    binary = os.path.abspath(pytestconfig.getoption("--binary"))
+    if not os.path.exists(binary):
+        pytest.skip("%s isn't there: run build/command, or give --binary" % binary)
+    return binary

@@ -1,0 +1,180 @@
+"""The command, its pages, tools and completions under another folder, by install/install; and what is left when they are removed.
+
+The library for C is there where it is built; tests/library/bindings.py builds and tries it.
+"""
+import os
+import re
+import shutil
+import subprocess
+
+import pytest
+
+from tests import TOP
+from tests.command.commands import COMMANDS
+from tests.machine import ended
+from tests.package import completions
+
+INSTALL = os.path.join(TOP, "install", "install")
+TOOLS = sorted(name for name in os.listdir(os.path.join(TOP, "tools")) if os.path.isfile(os.path.join(TOP, "tools", name)))
+GUIDES = ("GUIDE", "OPENSTACK", "BUS", "REPORT", "OPERATING")
+VECTORS = os.path.join(TOP, "examples", "vectors")
+LONG_OPTION = re.compile(r"(?<![\w-])--[a-z][a-z-]*")
+# What is installed beside the tools, the pages of docs/ and the examples that have a folder.
+PLACES = """
+bin/cadf share/man/man1/cadf.1 share/bash-completion/completions/cadf share/zsh/site-functions/_cadf
+share/cadf/report/conflicts.js share/cadf/report/events.js share/cadf/report/filters.js share/cadf/report/guard.js
+share/cadf/report/page.css share/cadf/report/page.html share/cadf/report/page.js share/cadf/report/pairs.js
+share/cadf/report/sites.js share/cadf/report/timeline.js share/cadf/report/values.js
+share/doc/cadf/installed share/doc/cadf/README.md share/doc/cadf/CHANGELOG.md share/doc/cadf/bench/RESULTS.md
+"""
+LIBRARY = ("include/cadf.h", "lib/libcadf.so", "lib/libcadf.so.0", "lib/pkgconfig/cadf.pc")
+
+
+@pytest.fixture(scope="module")
+def prefix(cadf, tmp_path_factory):
+    """A folder under which all is installed; the gate has built the command, and leaves no record of it."""
+    folder = tmp_path_factory.mktemp("installed")
+    subprocess.run([INSTALL, "--any", folder], check=True, stdout=subprocess.DEVNULL)
+    return folder
+
+
+@pytest.fixture
+def run(prefix):
+    """What an installed program answers, where the installed ones are found first."""
+    environment = {**os.environ, "PATH": "%s%s%s" % (prefix / "bin", os.pathsep, os.environ["PATH"])}
+    environment.pop("CADF", None)
+    return lambda program, *words, **options: ended(str(prefix / "bin" / program), words, env=environment, **options)
+
+
+def page_of(prefix):
+    """The installed manual page, with its dashes as they are typed."""
+    return (prefix / "share/man/man1/cadf.1").read_text(encoding="utf-8").replace("\\-", "-")
+
+
+def section(page, name):
+    """The section of a tool, without calls of other tools."""
+    text = re.split(r"(?m)^\.S[SH] ", page.split("\n.SS %s\n" % name)[1])[0]
+    return re.sub(r"(?!%s )cadf-[a-z-]+ --[a-z-]+" % name, "", text)
+
+
+def page(name):
+    with open(os.path.join(TOP, "docs", name), encoding="utf-8") as file:
+        return file.read()
+
+
+@pytest.mark.needs("groff")
+def test_manual_has_no_warning(prefix):
+    done = ended("groff", ["-man", "-Tascii", "-ww", "-z", str(prefix / "share/man/man1/cadf.1")])
+    assert (done.status, done.error) == (0, b"")
+
+
+def test_version(run, prefix):
+    """The page has the version of the command."""
+    told = run("cadf", "--version").output.decode().strip()
+    assert re.match(r'\.TH CADF 1 "[\d-]+" "(.*?)"', page_of(prefix)).group(1) == told
+
+
+def test_commands(run, prefix):
+    """Each command that the help lists has its item in the page, its options in the synopsis, and its word in the completions."""
+    manual, told = page_of(prefix), run("cadf", "--help").output.decode()
+    named = re.findall(r"(?m)^  ([a-z-]+) ", told.split("Commands:")[1].split("\n\n")[0])
+    assert sorted(named) == sorted(COMMANDS)
+    synopses = dict(re.findall(r"(?m)^\.B cadf ([a-z-]+)\n((?:(?!\.br|\.SH).*\n)*)", manual.split(".SH DESCRIPTION")[0]))
+    for name in named:
+        assert ".TP\n.B %s\n" % name in manual
+        options = set(LONG_OPTION.findall(run("cadf", "help", *([name] if name != "help" else [])).output.decode()))
+        assert options - {"--help", "--version"} == set(LONG_OPTION.findall(synopses[name])), name
+        for place in ("share/zsh/site-functions/_cadf", "share/bash-completion/completions/cadf"):
+            assert re.search(r"(?<![\w-])%s(?![\w-])" % name, (prefix / place).read_text(encoding="utf-8")), place
+
+
+@pytest.mark.parametrize("tool", TOOLS)
+def test_tool(run, prefix, tool):
+    """It runs, a guide names it, and its section of the page has its options."""
+    done, manual = run(tool, "--help"), page_of(prefix)
+    assert done.status == 0
+    assert set(LONG_OPTION.findall(done.output.decode())) - {"--help"} == set(LONG_OPTION.findall(section(manual, tool)))
+    assert any(tool in page(name) for name in os.listdir(os.path.join(TOP, "docs")) if name.endswith(".md"))
+    assert (prefix / "share/man/man1" / (tool + ".1")).read_text() == ".so man1/cadf.1\n"
+
+
+def test_library(run, prefix):
+    """Where it is built, its files are there, and each link leads to one."""
+    if not (prefix / "lib" / "libcadf.a").exists():
+        pytest.skip("the library isn't built: build/library")
+    assert all((prefix / name).stat().st_size for name in LIBRARY)
+    version = run("cadf", "--version").output.decode().split()[1]
+    assert "Version: %s\n" % version in (prefix / "lib/pkgconfig/cadf.pc").read_text()
+
+
+@pytest.mark.parametrize("name", GUIDES)
+def test_guide(prefix, name):
+    """What a guide links to, and the examples that it names, are there beside it."""
+    doc = prefix / "share" / "doc" / "cadf"
+    text = (doc / "docs" / (name + ".md")).read_text(encoding="utf-8")
+    for link in re.findall(r"\]\(([^):#]+)", text):
+        assert (doc / "docs" / link).exists()
+    for example in re.findall(r"\$TOP\"?/([A-Za-z0-9./-]*)", text):
+        assert (doc / example).exists()
+
+
+def test_take_and_report(run, prefix, tmp_path):
+    site = tmp_path / "site.cadf"
+    assert run("cadf-take", str(site), str(prefix / "share/doc/cadf/examples/vectors/north.json")).status == 0
+    with open(os.path.join(VECTORS, "north.cadf"), "rb") as file:
+        assert site.read_bytes() == file.read()
+    beside = ended(os.path.join(TOP, "tools", "cadf-report"), [str(site)], env={**os.environ, "CADF": str(prefix / "bin" / "cadf")})
+    assert beside.status == 0 and run("cadf-report", str(site)) == beside
+
+
+@pytest.mark.parametrize("shell", completions.SHELLS)
+def test_completions(prefix, shell):
+    """A shell into which command lines are typed completes them."""
+    if shutil.which(shell) is None:
+        pytest.skip("%s isn't there" % shell)
+    assert completions.wrong_of(shell, str(prefix / completions.SHELLS[shell][1])) == []
+
+
+def test_places(prefix):
+    """What is installed, beside the library, is what is written here; all examples in files of their own are there."""
+    found = {str(path.relative_to(prefix)) for path in prefix.rglob("*") if not path.is_dir()}
+    doc = "share/doc/cadf/"
+    pages = {doc + "docs/" + name for name in os.listdir(os.path.join(TOP, "docs"))}
+    examples = {doc + "examples/%s/%s" % (folder, name) for folder in ("vectors", "real", "systemd")
+                for name in os.listdir(os.path.join(TOP, "examples", folder))}
+    programs = {"bin/" + tool for tool in TOOLS} | {"share/man/man1/%s.1" % tool for tool in TOOLS}
+    wanted = pages | examples | programs | set(PLACES.split())
+    assert sorted(wanted - found) == []
+    assert sorted(place for place in found - wanted if not place.startswith((doc + "examples/", doc + "bindings/", "lib/", "include/"))) == []
+
+
+def test_install_over(cadf, tmp_path):
+    """Over an earlier one, files are put in place whole, and what is no longer installed goes."""
+    subprocess.run([INSTALL, "--any", tmp_path], check=True, stdout=subprocess.DEVNULL)
+    command, listed, old = tmp_path / "bin" / "cadf", tmp_path / "share/doc/cadf/installed", tmp_path / "bin" / "cadf-old"
+    old.write_text("x")
+    listed.write_text(listed.read_text() + "bin/cadf-old\n")
+    with open(command, "rb") as running:
+        subprocess.run([INSTALL, "--any", tmp_path], check=True, stdout=subprocess.DEVNULL)
+        assert os.fstat(running.fileno()).st_nlink == 0 and not old.exists()
+
+
+def test_uninstall(cadf, tmp_path):
+    """What was installed is removed, and what somebody else put beside it stays."""
+    subprocess.run([INSTALL, "--any", tmp_path], check=True, stdout=subprocess.DEVNULL)
+    others = [tmp_path / place / "of-another" for place in ("", "bin", "share/doc/cadf", "share/doc/cadf/docs", "share/cadf/report")]
+    for other in others:
+        other.write_text("x")
+    subprocess.run([INSTALL, "--uninstall", tmp_path], check=True, stdout=subprocess.DEVNULL)
+    assert sorted(path for path in tmp_path.rglob("*") if not path.is_dir()) == sorted(others)
+
+
+def test_first_look(tmp_path):
+    """build/try runs the toolchain in the command's crate, on the files that are named from where it is called."""
+    rt = tmp_path / "rt"
+    rt.write_text('#!/bin/sh\npwd -P\nprintf "%s\\n" "$@"\n')
+    rt.chmod(0o755)
+    done = ended(os.path.join(TOP, "build", "try"), ["show", "examples/nova-audit.json"], cwd=TOP,
+                 env={**os.environ, "PATH": "%s%s%s" % (tmp_path, os.pathsep, os.environ["PATH"])})
+    top = os.path.realpath(TOP)
+    assert done.output.decode().splitlines() == [top + "/crates/cadf", "try", "--", "show", top + "/examples/nova-audit.json"]
