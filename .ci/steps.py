@@ -39,7 +39,6 @@ UNLIMITED = {
 STAGES = [
     ("before any build", 0, {
         "test": "python3 -m tests",
-        "builds": "python3 -m tests.package.builds",
         "calls": "python3 -m tests.tables.make --check",
         "mutants": ".ci/mutants --placed",
         "judge": "python3 -m tests.proofs.judge",

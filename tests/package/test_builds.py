@@ -1,26 +1,22 @@
-"""Tries build/command in a small tree, with a stand-in for the kit that sleeps where the kit proves.
-
-    python3 -m tests.package.builds
-
-It must keep to its processors, prove crates side by side, say of what it built, do nothing twice, and wait for another
-build. It must prove again what changed and what stands on it, and leave no process behind when a crate fails or it is
-told to end; the crates that were proved until then must be kept, even when it is killed.
-"""
+"""build/command in a small tree, with a stand-in for the kit that sleeps where the kit proves."""
 import contextlib
 import os
 import shutil
 import signal
 import subprocess
-import sys
-import tempfile
 import time
 
+import pytest
+
+from build.proving import JOB_MEMORY, PROOF_MEMORY, free_memory
 from tests import TOP
+
+pytestmark = pytest.mark.needs("git")
 
 CRATES = {"low": [], "left": ["low"], "right": ["low"], "apart": [], "cadf": ["left", "right", "apart"]}
 RT = '''#!/bin/sh
 case $1 in
-version) echo stand-in ;;
+version) echo "${VERSION:-stand-in}" ;;
 doc) echo "$KIT/START-HERE.md" ;;
 esac
 '''
@@ -54,10 +50,6 @@ while [ "$1" != -o ]; do shift; done
 cp "$3" "$2"
 chmod 755 "$2"
 '''
-
-
-def fail(why):
-    sys.exit("builds: " + why)
 
 
 def make(tree):
@@ -120,139 +112,147 @@ class Tree:
         with open(self.path("crates", "cadf", "out", "cadf.built"), encoding="utf-8") as file:
             return file.read()
 
-    def clear(self):
-        for folder in (self.path(".git", "cadf-build"), *(self.path("crates", name, "out") for name in CRATES)):
-            shutil.rmtree(folder, ignore_errors=True)
+    def add(self, *parts):
+        """Adds a line to a file, which need not be there."""
+        os.makedirs(os.path.dirname(self.path(*parts)), exist_ok=True)
+        with open(self.path(*parts), "a", encoding="utf-8") as file:
+            file.write("// More.\n")
 
-    def expect_quiet(self, what):
-        """No process that a stand-in was is left, nor one that it started."""
+    def is_quiet(self):
+        """Whether no process that a stand-in was is left, nor one that it started."""
         for name in filter(str.isdigit, os.listdir("/proc")):
             with contextlib.suppress(OSError):
                 with open("/proc/%s/environ" % name, "rb") as file:
                     if os.fsencode(self.told) in file.read():
-                        fail("%s: process %s is left" % (what, name))
+                        return False
+        return True
 
 
-def whole(tree):
-    """A build from scratch keeps to its processors, and proves two crates side by side in their order.
+@pytest.fixture
+def tree(tmp_path):
+    make(tmp_path)
+    return Tree(str(tmp_path))
 
-    One that the others don't wait for has one job.
-    """
+
+@pytest.fixture
+def built(tree):
+    """A tree whose command is built."""
+    assert tree.build()[0] == 0
+    return tree
+
+
+@pytest.mark.skipif(free_memory() < 3 * (PROOF_MEMORY + JOB_MEMORY), reason="there is no memory for three proofs at once")
+def test_from_scratch(tree):
+    """It keeps to its processors, and proves two crates side by side in their order; what none waits for has one job."""
     status, said = tree.build("3", PAUSE="1")
     most, ended, running, jobs_of = 0, set(), set(), {}
     for what, name, jobs, _, processors in tree.events():
-        if int(jobs) > 3 or int(processors) > 3:
-            fail("%s had %s jobs on %s processors" % (name, jobs, processors))
+        assert int(jobs) <= 3 and int(processors) <= 3, name
         jobs_of[name] = int(jobs)
         if what == "begins":
-            if not ended.issuperset(CRATES[name]):
-                fail("%s was begun before a crate below it had ended" % name)
+            assert ended.issuperset(CRATES[name]), "%s was begun before a crate below it had ended" % name
             running.add(name)
         else:
             running.remove(name)
             ended.add(name)
         most = max(most, len(running))
-    if status or ended != set(CRATES) or most not in (2, 3) or "left right;" not in said:
-        fail("from scratch: status %d, at most %d crates at once\n%s" % (status, most, said))
-    if (jobs_of["low"], jobs_of["apart"], jobs_of["cadf"]) != (3, 1, 3):
-        fail("from scratch: the crates had the jobs %s" % jobs_of)
-    told = ("commit: ", "\nobject: ", "left: logic=proved", "cadf: logic=proved")
-    if not all(text in tree.record() for text in told) or " with changes" in tree.record():
-        fail("the record is %s" % tree.record())
-    tree.expect_quiet("from scratch")
+    assert (status, ended) == (0, set(CRATES)) and most in (2, 3) and "left right;" in said, said
+    assert (jobs_of["low"], jobs_of["apart"], jobs_of["cadf"]) == (3, 1, 3)
+    for text in ("commit: ", "\nobject: ", "left: logic=proved", "cadf: logic=proved"):
+        assert text in tree.record()
+    assert " with changes" not in tree.record()
+    assert tree.is_quiet()
 
 
-def twice(tree):
-    """A build with nothing to do does nothing, and one for another processor makes the command alone."""
-    before = tree.record()
-    if tree.build()[0] or tree.begun() or tree.record() != before:
-        fail("nothing to do: it began %s" % tree.begun())
-    if tree.build("--cpu", "x86-64-v3")[0] or tree.begun() != ["cadf"] or "processor: x86-64-v3" not in tree.record():
-        fail("another processor: it began %s, and wrote %s" % (tree.begun(), tree.record()))
+def test_nothing_to_do(built):
+    before = built.record()
+    assert (built.build()[0], built.begun(), built.record()) == (0, [], before)
 
 
-def changed(tree):
-    """After a change of a source the command is not taken for built, and what stands on it is proved again."""
-    with open(tree.path("crates", "left", "src", "lib.rt"), "a", encoding="utf-8") as file:
-        file.write("// More.\n")
-    status, said = tree.build("--is-built")
-    if status != 1 or "the sources are others now" not in said:
-        fail("a changed source: status %d, %s" % (status, said))
-    ran = subprocess.run([tree.path("install", "install"), tree.path("prefix")], env=tree.environment({}), check=False,
+def test_other_processor(built):
+    """The command alone is made anew."""
+    assert (built.build("--cpu", "x86-64-v3")[0], built.begun()) == (0, ["cadf"])
+    assert "processor: x86-64-v3" in built.record()
+
+
+@pytest.mark.parametrize("file, again", [
+    (("crates", "left", "src", "lib.rt"), ["cadf", "left"]),
+    (("crates", "left", "specs", "Lib.antt"), ["cadf", "left"]),
+    (("crates", "left", "proofs", "lib", "Answers.antt"), ["cadf", "left"]),
+    (("crates", "low", "specs", "Lib.antt"), ["cadf", "left", "low", "right"]),
+])
+def test_changed(built, file, again):
+    """After a change the command is not taken for built, and what stands on it is proved again, and nothing else."""
+    built.add(*file)
+    status, said = built.build("--is-built")
+    assert status == 1 and "the sources are others now" in said
+    ran = subprocess.run([built.path("install", "install"), built.path("prefix")], env=built.environment({}), check=False,
                          stdout=subprocess.DEVNULL, stderr=subprocess.DEVNULL)
-    if ran.returncode == 0 or os.path.exists(tree.path("prefix")):
-        fail("install/install took a command of other sources")
-    if tree.build()[0] or tree.begun() != ["left", "cadf"]:
-        fail("a changed source: it began %s" % tree.begun())
+    assert ran.returncode and not os.path.exists(built.path("prefix")), "install/install took a command of other sources"
+    assert (built.build()[0], sorted(built.begun())) == (0, again)
 
 
-def changing(tree):
+def test_changed_uses(built):
+    """A crate whose line of crates.txt changes is proved again."""
+    with open(built.path("crates.txt"), encoding="utf-8") as file:
+        text = file.read()
+    with open(built.path("crates.txt"), "w", encoding="utf-8") as file:
+        file.write(text.replace("left: low std\n", "left: low std hex\n"))
+    assert (built.build()[0], sorted(built.begun())) == (0, ["cadf", "left"])
+
+
+def test_other_kit(built):
+    """Another kit proves everything again."""
+    assert (built.build(VERSION="another")[0], sorted(built.begun())) == (0, sorted(CRATES))
+
+
+def test_changed_below(built):
+    """What stands on a crate that was proved anew is proved again, also where the build ended between them."""
+    built.add("crates", "low", "src", "lib.rt")
+    assert built.build("1", FAILS="left")[0] == 1
+    assert [event[1] for event in built.events() if event[0] == "ends"] == ["low"]
+    assert (built.build()[0], sorted(built.begun())) == (0, ["cadf", "left", "right"])
+
+
+@pytest.mark.parametrize("name", ["right", "cadf"])
+def test_changing(built, name):
     """A crate that changes while it or one above it is proved isn't taken for proved."""
-    for name in ("right", "cadf"):
-        with open(tree.path("crates", "right", "src", "lib.rt"), "a", encoding="utf-8") as file:
-            file.write("// More.\n")
-        status, said = tree.build(CHANGES=name + " right")
-        if status != 1 or "were changed while they were proved" not in said:
-            fail("a crate changes while %s is proved: status %d, %s" % (name, status, said))
-        if tree.build()[0] or tree.begun() != ["right", "cadf"]:
-            fail("a crate changed while %s was proved: it began %s" % (name, tree.begun()))
+    built.add("crates", "right", "src", "lib.rt")
+    status, said = built.build(CHANGES=name + " right")
+    assert status == 1 and "were changed while they were proved" in said
+    assert (built.build()[0], built.begun()) == (0, ["right", "cadf"])
 
 
-def together(tree):
+def test_together(tree):
     """A second build waits for the first, and then has nothing to do. What an earlier version left is removed."""
-    tree.clear()
     os.makedirs(tree.path(".git", "cadf-build", "rooms", "low"))
     first = tree.start(PAUSE="1")
     while not tree.begun():
         time.sleep(0.05)
     second = tree.start_beside()
     said = [child.communicate(timeout=60)[0] for child in (first, second)]
-    if first.returncode or second.returncode or "this one waits" not in said[1]:
-        fail("two at once: %s" % said)
-    if sorted(tree.begun()) != sorted(CRATES):
-        fail("two at once: they began %s" % tree.begun())
-    if os.path.exists(tree.path(".git", "cadf-build", "rooms")):
-        fail("what an earlier version left is there")
+    assert (first.returncode, second.returncode) == (0, 0) and "this one waits" in said[1], said
+    assert sorted(tree.begun()) == sorted(CRATES)
+    assert not os.path.exists(tree.path(".git", "cadf-build", "rooms"))
 
 
-def failing(tree):
+def test_failing(tree):
     """A crate that isn't proved ends the build and what runs beside it."""
-    tree.clear()
     status, said = tree.build("4", FAILS="low")
-    if status != 1 or "low failed: see crates/low/out/build.log" not in said:
-        fail("a crate fails: status %d, %s" % (status, said))
-    tree.expect_quiet("a crate fails")
+    assert status == 1 and "low failed: see crates/low/out/build.log" in said
+    assert tree.is_quiet()
 
 
-def cut_off(tree, sign):
+@pytest.mark.parametrize("sign", [signal.SIGINT, signal.SIGTERM, signal.SIGKILL])
+def test_cut_off(tree, sign):
     """A build that is ended, or killed, leaves what was proved, and the next goes on."""
-    tree.clear()
     child = tree.start("4", PAUSE="5")
-    while not {"left", "right"} <= set(tree.begun()):
+    while "left" not in tree.begun():
         time.sleep(0.05)
     child.send_signal(sign)
     child.communicate(timeout=60)
     if sign != signal.SIGKILL:
-        tree.expect_quiet("cut off")
-    if tree.build()[0] or "low" in tree.begun() or not os.path.exists(tree.path("crates", "cadf", "out", "cadf")):
-        fail("after signal %d: it began %s" % (sign, tree.begun()))
-    tree.expect_quiet("after a build that was cut off")
-
-
-def main():
-    with tempfile.TemporaryDirectory() as folder:
-        make(folder)
-        tree = Tree(folder)
-        whole(tree)
-        twice(tree)
-        changed(tree)
-        changing(tree)
-        together(tree)
-        failing(tree)
-        for sign in (signal.SIGINT, signal.SIGTERM, signal.SIGKILL):
-            cut_off(tree, sign)
-    print("builds: processors, order, record, changes, failure, and what is left of a build that is cut off")
-
-
-if __name__ == "__main__":
-    main()
+        assert tree.is_quiet()
+    assert tree.build()[0] == 0 and "low" not in tree.begun()
+    assert os.path.exists(tree.path("crates", "cadf", "out", "cadf"))
+    assert tree.is_quiet()
