@@ -54,7 +54,6 @@ STAGES = [
     ("built programs", 0, {
         "bits": "python3 -m tests.generated.bits",
         "bindings": "python3 -m tests.library.bindings",
-        "package": "python3 -m tests.package.packages",
         "sandbox": "python3 -m tests.command.sandbox",
         "inject-faults": "python3 -m tests.command.inject_faults",
         "take": "python3 -m tests.tools.take",

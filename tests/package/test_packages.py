@@ -1,0 +1,319 @@
+"""install/package on copies of the tree, with the command that is built here and a stand-in for `rt`, which proves nothing."""
+import gzip
+import hashlib
+import io
+import lzma
+import os
+import re
+import shutil
+import subprocess
+import tarfile
+
+import pytest
+
+from build import record
+from build.plan import Plan
+from install import contents, needs
+from tests import TOP
+
+pytestmark = [pytest.mark.needs("git"), pytest.mark.timeout(600)]
+
+COMMIT_TIME = 1700000000
+RT = '#!/bin/sh\ncase $1 in version) echo stand-in ;; doc) echo "%s/START-HERE.md" ;; *) exit 1 ;; esac\n'
+OWN = {"changelog.gz", "built", "copyright"}  # what Debian asks for, beside the files of the tree
+OVERRIDES = "usr/share/lintian/overrides/cadf"
+# Bytes of machine code that happen to be letters, others with each build: no override fits each of them.
+NO_TEXT = "spelling-error-in-binary"
+# What surrounds the two copies: none of it may reach the package.
+FIRST = {"TZ": "UTC", "LC_ALL": "C"}
+SECOND = {"TZ": "Asia/Tokyo", "LC_ALL": "C.UTF-8", "GZIP": "-1", "XZ_OPT": "-0", "SOURCE_DATE_EPOCH": "1", "PYTHONHASHSEED": "7"}
+# Builds a container of the folder $0 and runs it, by the words that call buildah.
+CONTAINER = '"$@" build --isolation chroot -q -t cadf "$0"; "$@" run --isolation chroot $("$@" from cadf) /cadf --version'
+WITH_LIBM = """#include <math.h>
+#include <stdio.h>
+int main(int count, char **words) { return printf("cadf 0.1.%d\\n", (int)floor(count / 2.0)) < 0; }
+"""
+
+
+def git(tree, *words, time=COMMIT_TIME):
+    values = {"NAME": "A Name", "EMAIL": "name@example.org", "DATE": "%d +0000" % time}
+    named = {"GIT_%s_%s" % (who, name): value for who in ("AUTHOR", "COMMITTER") for name, value in values.items()}
+    done = subprocess.run(["git", *words], cwd=tree, check=True, env={**os.environ, **named}, stdout=subprocess.PIPE)
+    return done.stdout.decode().strip()
+
+
+def put(path, data, mode=0o644):
+    os.makedirs(os.path.dirname(path), exist_ok=True)
+    with open(path, "wb") as file:
+        file.write(data)
+    os.chmod(path, mode)
+
+
+def read(path):
+    with open(path, "rb") as file:
+        return file.read()
+
+
+def has_object(binary):
+    """Whether what the binary was linked from is there: `rt ci` leaves it only when it has proved the crate anew."""
+    return os.path.exists(binary + ".o")
+
+
+class Tree:
+    """A copy of the tree, with a history and a built command."""
+
+    def __init__(self, folder, binary):
+        self.folder, self.out = folder, folder + ".out"
+        self.processor = needs.processor(read(binary))
+        put(record.binary(folder), read(binary), 0o755)
+        put(record.object_file(folder), read(binary + ".o") if has_object(binary) else b"")
+        self.write_record()
+
+    def write_record(self):
+        """Writes what build/command would write: the copy's command is that of its sources."""
+        top, names = self.folder, Plan(self.folder, record.PROGRAM).names
+        record.write(top, {"binary": record.digest_of_file(record.binary(top)), "object": record.digest_of_file(record.object_file(top)),
+                           "sources": record.digest_of_sources(top, names), "commit": record.commit(top), "kit": "stand-in",
+                           "processor": self.processor})
+
+    def pack(self, *words, **environment):
+        """What install/package answers: its status, all that it said, and the names of what it made."""
+        shutil.rmtree(self.out, ignore_errors=True)
+        path = os.path.join(os.path.dirname(self.folder), "bin") + os.pathsep + os.environ["PATH"]
+        command = [os.path.join(self.folder, "install", "package"), "--cpu", self.processor, *words, self.out]
+        done = subprocess.run(command, env={**os.environ, "PATH": path, **environment}, check=False,
+                              stdin=subprocess.DEVNULL, stdout=subprocess.PIPE, stderr=subprocess.STDOUT)
+        made = sorted(os.listdir(self.out)) if os.path.isdir(self.out) else []
+        return done.returncode, done.stdout.decode(), [os.path.join(self.out, name) for name in made]
+
+    def packed(self, *words, **environment):
+        """The one file that install/package makes."""
+        status, said, made = self.pack(*words, **environment)
+        assert status == 0 and len(made) == 1, said
+        return made[0]
+
+    def refuses(self, why):
+        """Expects that nothing is made, for that reason."""
+        status, said, made = self.pack()
+        assert (status, made) == (1, []) and why in said, said
+
+
+def first_tree(folder, binary):
+    """The files of this tree as they are now, committed in a copy."""
+    tree = os.path.join(folder, "first")
+    names = subprocess.run(["git", "ls-files", "-coz", "--exclude-standard"], cwd=TOP, check=True, stdout=subprocess.PIPE).stdout
+    for name in filter(None, names.decode().split("\0")):
+        if os.path.exists(os.path.join(TOP, name)):
+            put(os.path.join(tree, name), read(os.path.join(TOP, name)), os.stat(os.path.join(TOP, name)).st_mode & 0o777)
+    for words in (["init", "-q"], ["add", "."], ["commit", "-qm", "Begin"]):
+        git(tree, *words)
+    return Tree(tree, binary)
+
+
+def clone(tree, name, binary, *words):
+    """A clone of a tree, with the built command."""
+    folder = os.path.join(os.path.dirname(tree.folder), name)
+    git(tree.folder, "clone", "-q", *words, "file://" + tree.folder, folder)
+    return Tree(folder, binary)
+
+
+def packed_twice(first, second, *words):
+    """Expects that both trees make the same file. Returns its path in the folder of both."""
+    one = first.packed(*words, **FIRST)
+    before = os.umask(0o077)
+    other = second.packed(*words, **SECOND)
+    os.umask(before)
+    assert os.path.basename(one) == os.path.basename(other) and read(one) == read(other)
+    return shutil.copy2(one, os.path.dirname(first.folder))
+
+
+def members(package):
+    """The members of an ar archive, by name."""
+    data, place, found = read(package), 8, {}
+    while place < len(data):
+        name, size = data[place:place + 16].decode().strip(), int(data[place + 48:place + 58])
+        found[name] = data[place + 60:place + 60 + size]
+        place += 60 + size + size % 2
+    return found
+
+
+def archived(data):
+    """The files of a packed tar archive, by place, with what is in them. Each entry has to be of root and of the commit's time."""
+    found = {}
+    with tarfile.open(fileobj=io.BytesIO(lzma.decompress(data))) as archive:
+        for entry in archive:
+            assert (entry.uid, entry.gid, entry.uname, entry.gname, entry.mtime) == (0, 0, "root", "root", COMMIT_TIME), entry.name
+            if not entry.isdir():
+                found[entry.name[2:]] = entry.mode, archive.extractfile(entry).read()
+            assert not entry.isdir() or entry.mode == 0o755, entry.name
+    return found
+
+
+def stand_in(folder):
+    """A kit that proves nothing. What the static command is linked with is the real one's."""
+    put(os.path.join(folder, "bin", "rattle"), b"#!/bin/sh\nexit 1\n", 0o755)
+    os.symlink(os.path.join(record.kit_folder(TOP), "c"), os.path.join(folder, "c"))
+
+
+@pytest.fixture(scope="module")
+def first(cadf, tmp_path_factory):
+    """A copy of the tree, beside a stand-in for the kit."""
+    folder = str(tmp_path_factory.mktemp("packages"))
+    stand_in(os.path.join(folder, "kit"))
+    put(os.path.join(folder, "bin", "rt"), (RT % os.path.join(folder, "kit")).encode(), 0o755)
+    return first_tree(folder, cadf)
+
+
+@pytest.fixture(scope="module")
+def second(first, cadf):
+    return clone(first, "the second, elsewhere", cadf)
+
+
+@pytest.fixture(scope="module")
+def package(first, second):
+    """The package, made twice: in other folders, zones and languages and with other permissions, with the same bytes."""
+    return packed_twice(first, second)
+
+
+@pytest.fixture
+def copy(first, cadf, request):
+    """A clone of its own."""
+    return clone(first, request.node.name, cadf)
+
+
+def test_contents(package, first):
+    """The package has the files of install/contents.py and its own, with the sums that it tells."""
+    found = members(package)
+    files, told = archived(found["data.tar.xz"]), archived(found["control.tar.xz"])
+    wanted_sums = "".join("%s  %s\n" % (hashlib.md5(files[place][1]).hexdigest(), place) for place in sorted(files))
+    assert (found["debian-binary"], told["md5sums"][1].decode()) == (b"2.0\n", wanted_sums)
+    for file in contents.files(first.folder):
+        place = "usr/" + file.place.replace("share/zsh/site-functions", "share/zsh/vendor-completions")
+        is_page = file.place.startswith("share/man/")
+        mode, data = files.pop(place + ".gz" * is_page, (0, b""))
+        assert (mode, gzip.decompress(data) if is_page else data) == (file.mode, file.content), place
+    assert set(files) == {OVERRIDES, *("usr/share/doc/cadf/" + name for name in OWN)}
+
+
+@pytest.mark.needs("readelf")
+def test_depends(package, cadf):
+    """It depends on the C library from the version on that the command asks for."""
+    asked = subprocess.run(["readelf", "-VW", cadf], check=True, stdout=subprocess.PIPE, universal_newlines=True).stdout
+    versions = [tuple(map(int, text.split("."))) for text in re.findall(r"Name: GLIBC_(\d+\.\d+)", asked)]
+    told = archived(members(package)["control.tar.xz"])["control"][1].decode()
+    assert re.search(r"libc6 \(>= (\d+\.\d+)\)", told).group(1) == "%d.%d" % max(versions)
+
+
+def test_copyright(first):
+    """The copyright file names each library of the kit that the command needs."""
+    needed = Plan(first.folder, record.PROGRAM).names
+    with open(os.path.join(first.folder, "crates.txt"), encoding="utf-8") as file:
+        lines = [line.split(":") for line in file if ":" in line and not line.startswith("#")]
+    used = {word for name, words in lines if name.strip() in needed for word in words.split()} - needed
+    said = read(os.path.join(first.folder, "install", "debian", "copyright")).decode()
+    assert used - set(said.replace(",", " ").replace(":", " ").split()) == set()
+
+
+@pytest.mark.needs("lintian")
+def test_lintian(package):
+    """lintian has no remark."""
+    words = ["lintian", "-I", "-E", "--pedantic", "--suppress-tags", NO_TEXT, package]
+    done = subprocess.run(words, check=False, stdout=subprocess.PIPE, stderr=subprocess.STDOUT)
+    remarks = [line for line in done.stdout.decode().splitlines() if line[1:2] == ":" and line[0] != "N"]
+    assert (remarks, done.returncode) == ([], 0), done.stdout.decode()
+
+
+def test_stray_file(copy):
+    put(os.path.join(copy.folder, "stray"), b"")
+    copy.refuses("not as it was committed")
+
+
+def test_changed_file(copy):
+    put(os.path.join(copy.folder, "README.md"), b"changed\n")
+    copy.refuses("not as it was committed")
+
+
+def test_history_cut_off(first, cadf):
+    clone(first, "shallow", cadf, "--depth=1").refuses("the history is cut off")
+
+
+def test_no_history(copy):
+    shutil.rmtree(os.path.join(copy.folder, ".git"))
+    copy.refuses("not a git repository")
+
+
+@pytest.mark.needs("gcc")
+def test_other_command(copy):
+    """A command that is not what was built; one that needs what no package has; one for another processor."""
+    source = copy.folder + ".c"
+    put(source, WITH_LIBM.encode())
+    subprocess.run(["gcc", "-o", record.binary(copy.folder), source, "-lm"], check=True)
+    copy.refuses("build/command failed")  # the stand-in proves nothing
+    copy.processor = needs.LOWEST
+    copy.write_record()
+    copy.refuses("usr/bin/cadf needs libm.so.6")
+
+
+def test_other_processor(copy):
+    copy.processor = "x86-64-v3"
+    copy.write_record()
+    copy.refuses("usr/bin/cadf was made for ")
+
+
+@pytest.mark.needs("dpkg")
+def test_versions(copy):
+    """Versions rise from commit to commit, before a tag, at it and after it, also by a clock that goes back."""
+    found, number = [], record.answer([record.binary(copy.folder), "--version"], copy.folder).split()[1]
+    for tag in (None, None, "v" + number, None, None):
+        git(copy.folder, "commit", "-q", "--allow-empty", "-m", "Go on", time=COMMIT_TIME - len(found))
+        if tag:
+            git(copy.folder, "tag", tag)
+        found.append(os.path.basename(copy.packed())[len("cadf_"):-len("_amd64.deb")])
+    for lower, higher in zip(found, found[1:]):
+        assert subprocess.run(["dpkg", "--compare-versions", lower, "lt", higher], check=False).returncode == 0, found
+
+
+@pytest.fixture(scope="module")
+def static(first, second, cadf):
+    """The static command, made twice."""
+    if not has_object(cadf):
+        pytest.skip("the object that the command was linked from isn't there")
+    return packed_twice(first, second, "--static")
+
+
+def tells_version(static, *words):
+    """Expects that a call ends well with the version."""
+    done = subprocess.run(words, check=False, stdin=subprocess.DEVNULL, stdout=subprocess.PIPE, stderr=subprocess.STDOUT)
+    version = "cadf %s\n" % os.path.basename(static)[len("cadf-"):].split("~")[0]
+    assert done.returncode == 0 and done.stdout.decode().endswith(version), done.stdout.decode()
+
+
+def skip_unless(*words):
+    """Skips a test where the program may not do what the words say."""
+    done = subprocess.run(words, check=False, stdin=subprocess.DEVNULL, stdout=subprocess.DEVNULL, stderr=subprocess.DEVNULL)
+    if done.returncode:
+        pytest.skip("%s isn't allowed" % words[0])
+
+
+def test_static(static):
+    assert list(needs.libraries(read(static))) == []
+    tells_version(static, static, "--version")
+
+
+@pytest.mark.needs("bwrap")
+def test_static_alone(static):
+    """It runs in a folder that has no other file."""
+    skip_unless("bwrap", "--unshare-all", "--ro-bind", "/", "/", "true")
+    tells_version(static, "bwrap", "--unshare-all", "--ro-bind", static, "/cadf", "/cadf", "--version")
+
+
+@pytest.mark.needs("buildah")
+def test_container(static, tmp_path):
+    """It runs in a container of three lines."""
+    buildah = ["buildah", "--root", tmp_path / "images", "--runroot", tmp_path / "run", "--storage-driver", "vfs"]
+    skip_unless(*buildah, "from", "scratch")
+    context = tmp_path / "context"
+    context.mkdir()
+    shutil.copy2(static, context)
+    shutil.copy2(os.path.join(TOP, "examples", "Containerfile"), context)
+    tells_version(static, "sh", "-ec", CONTAINER, context, *buildah)
