@@ -55,7 +55,6 @@ STAGES = [
         "bits": "python3 -m tests.generated.bits",
         "bindings": "python3 -m tests.library.bindings",
         "sandbox": "python3 -m tests.command.sandbox",
-        "inject-faults": "python3 -m tests.command.inject_faults",
         "take": "python3 -m tests.tools.take",
         "spool": "python3 -m tests.tools.spool",
         "listen": "python3 -m tests.tools.listen",

@@ -11,9 +11,9 @@ class Command(NamedTuple):
     """What the scripts know of a command."""
     operands: str = ""  # as its help shows them
     writes_pieces: bool = False  # as it goes, so that a refused allocation may leave a prefix of the output
-    small: Sequence[str] = ()  # tests/command/inject_faults.py: each place of a fault is tried
+    small: Sequence[str] = ()  # tests/command/test_faults.py: each place of a fault is tried
     worked: Sequence[str] = ()  # likewise: a producer's event, chains, a conflict, deltas, facts of a log
-    large: Sequence[str] = ()  # tests/command/inject_faults.py: a sample of the places
+    large: Sequence[str] = ()  # tests/command/test_faults.py: a sample of the places
     limited: Sequence[str] = ()  # tests/command/test_limits.py: on inputs of about 1 MB
     deep: Sequence[str] = ()  # tests/command/test_limits.py: on values that nest as deep as can be read
 

@@ -25,7 +25,7 @@ import tempfile
 import threading
 
 from tests import TOP
-from tests.command import commands, inject_faults, large_inputs
+from tests.command import commands, large_inputs, small_inputs
 from tests.machine import built, ended, side_by_side
 
 PAGE = os.path.join(TOP, "docs", "OPERATING.md")
@@ -94,7 +94,7 @@ class Traces:
         small, large = (os.path.join(self.folder, name) for name in ("small", "large"))
         os.mkdir(small)
         os.mkdir(large)
-        inject_faults.prepared(self.binary, small, commands.COMMANDS)
+        small_inputs.prepare(self.binary, small)
         large_inputs.prepare(self.binary, large)
         runs = [(line, small) for kind in ("small", "worked", "large") for line in commands.lines(kind, commands.COMMANDS)]
         runs += [(line, small) for line in commands.refused()]

@@ -71,7 +71,7 @@ OTHER = {
 SIZES = {"file read", "file read_inventory", "file read_sketch"}  # files that are refused are read in pieces of several sizes: one is enough
 # Many calls a row, of which other rows have one each; and other words for what those answer.
 LEFT_OUT = {"file each_failing_read", "file each_prefix", "file each_bit", "engine each", "engine metered", "engine fault"}
-LEFT_OUT_DRIVERS = {"words"}  # what clap does, whose allocations tests/command/inject_faults.py refuses over the command
+LEFT_OUT_DRIVERS = {"words"}  # what clap does, whose allocations tests/command/test_faults.py refuses over the command
 
 
 class Row:
