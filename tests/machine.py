@@ -3,7 +3,7 @@ import concurrent.futures
 import os
 import subprocess
 import threading
-from typing import NamedTuple
+from typing import NamedTuple, Optional
 
 from tests import TOP
 
@@ -13,7 +13,7 @@ REFUSED, REFUSED_UNTOLD = 2, (2,)  # exit statuses of a refused command line
 
 
 class Answer(NamedTuple):
-    status: int | None
+    status: Optional[int]
     output: bytes
     error: bytes
 
@@ -46,10 +46,10 @@ def built(program):
 
 
 def compiled(folder, name):
-    """A library that is preloaded, compiled into the folder from NAME.c below tests/."""
-    library = os.path.join(folder, os.path.basename(name) + ".so")
+    """A library that programs in the folder preload, compiled from NAME.c below tests/: the path may have no blank."""
+    library = "./%s.so" % os.path.basename(name)
     source = os.path.join(TOP, "tests", name + ".c")
-    subprocess.run(["gcc", "-O1", "-Wall", "-shared", "-fPIC", "-o", library, source], check=True)
+    subprocess.run(["gcc", "-O1", "-Wall", "-shared", "-fPIC", "-o", library, source], cwd=folder, check=True)
     return library
 
 

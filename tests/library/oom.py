@@ -176,12 +176,12 @@ class Sweep:
     """The program, of which allocations are refused."""
 
     def __init__(self, folder, program):
-        self.library, self.program = compiled(folder, "library/refusals"), program
+        self.folder, self.library, self.program = folder, compiled(folder, "library/refusals"), program
 
     def ran(self, text, way, most, begin):
         """The rounds of the program from there on, and how it ended."""
         environment = {"LD_PRELOAD": self.library, "REFUSE": way, "MOST": str(most), "FROM": begin}
-        done = subprocess.run([self.program], input=text, capture_output=True, env=environment, timeout=SECONDS)
+        done = subprocess.run([self.program], input=text, capture_output=True, cwd=self.folder, env=environment, timeout=SECONDS)
         lines = (line.split("\t", 6) for line in done.stdout.decode().split("\n")[:-1])
         return [Round(*map(int, line[:6]), line[6] + "\n") for line in lines], (done.returncode, done.stderr)
 
