@@ -54,7 +54,6 @@ STAGES = [
     ("built programs", 0, {
         "bits": "python3 -m tests.generated.bits",
         "bindings": "python3 -m tests.library.bindings",
-        "sandbox": "python3 -m tests.command.sandbox",
         "take": "python3 -m tests.tools.take",
         "spool": "python3 -m tests.tools.spool",
         "listen": "python3 -m tests.tools.listen",
@@ -69,7 +68,6 @@ STAGES = [
         "report": "python3 -m tests.tools.report",
         "report-page": "python3 -m tests.tools.report_page",
         "week": "examples/week.sh",
-        "join-many": "python3 -m tests.tools.join_many",
         "many-sites": "examples/many-sites.py",
         "parcelled": "examples/parcelled.py",
         "shapes": "bench/shapes.py --gate",

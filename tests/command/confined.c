@@ -1,5 +1,5 @@
 // Runs PROGRAM with its words under a filter that allows the calls of ALLOWED, a list of ALLOW(name), and kills the process
-// at any other. Both are given when this is compiled (tests/command/sandbox.py).
+// at any other. Both are given when this is compiled (tests/command/test_sandbox.py).
 #include <linux/audit.h>
 #include <linux/filter.h>
 #include <linux/seccomp.h>
