@@ -152,7 +152,7 @@ def keeps_access(trial):
             if wanted:
                 os.setxattr("s.cadf", "system.posix_acl_access", wanted)
         except OSError:
-            print("take: no access control lists here: not tried")
+            print("skipped: access control lists, which this file system hasn't")
             return
         trial.ends("access", trial.take("s.cadf", "two.json"), 0)
         trial.leaves("access", trial.both, trial.one)
