@@ -1,6 +1,6 @@
 """Looks up the public calls, their clauses and the files of definitions that a page of the documentation names.
 
-    python3 -m tests.docs.promises PAGE...
+    python3 -m tests.docs.promises [PAGE..]      of PROMISES, ARCHITECTURE and AUDIT, unless pages are given
 
 A call is named in backticks by its path, `crate::module::call`, or with its clauses, `call (clause, clause)`, or with
 others, `call, call (clause)`. Each such call must stand in the sources, with each of these clauses, where those outside
@@ -30,6 +30,7 @@ from tests.docs.public_calls import uncalled
 from tests.docs.reachable import is_reachable, unreached_laws
 from tests.proofs import corpus
 
+PAGES = [os.path.join(TOP, "docs", name + ".md") for name in ("PROMISES", "ARCHITECTURE", "AUDIT")]
 ITEM = re.compile(r"\b(?:fn|struct|enum|trait|mod) (\w+)")
 CLAUSE = re.compile(r"\bensures (\w+) \{")
 NAMED = re.compile(r"`((?:[\w:]+, )*[\w:]+) \(([\w,; ]+)\)`")
@@ -181,7 +182,7 @@ def unaudited(text):
 def main():
     found, missing = clauses(), 0
     found.update((name, set()) for name in os.listdir(os.path.join(TOP, "crates")))
-    for page in sys.argv[1:]:
+    for page in sys.argv[1:] or PAGES:
         with open(page, encoding="utf-8") as file:
             text = file.read()
         for line in [*unnamed(text, found), *unimplemented(text), *unreached(text, found), *unaudited(text)]:
