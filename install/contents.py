@@ -38,6 +38,12 @@ def names_below(top, folder):
     return sorted(name for name in found if os.path.exists(os.path.join(top, name)))
 
 
+def version(top):
+    """What the tools say of themselves: the program's version, and the commit."""
+    said = record.answer([record.binary(top), "--version"], top).split()
+    return ("%s, commit %s\n" % (said[-1] if said else "unbuilt", record.commit(top))).encode()
+
+
 def files(top):
     """Yields what is installed, by its place under the prefix."""
     yield file_of(top, os.path.relpath(record.binary(top), top), "bin/cadf", 0o755)
@@ -47,6 +53,7 @@ def files(top):
         yield File("share/man/man1/%s.1" % tool, 0o644, b".so man1/cadf.1\n")  # `man cadf-take` shows the one page
     for name in names_below(top, "share"):
         yield file_of(top, name, name)
+    yield File("share/cadf/version", 0o644, version(top))
     pages = names_below(top, "docs")
     examples = [name for name in names_below(top, "examples") if name not in NOT_INSTALLED]
     for name in (*PAGES, *pages, *examples):

@@ -31,3 +31,10 @@ def shared(folder, *paths):
     tried = [subprocess.run(as_user(SENDER, GROUP, PYTHON, "-c", "import sys; open(sys.argv[1])", copy), stderr=subprocess.DEVNULL, check=False)
              for copy in copies if not os.path.isdir(copy)]
     return None if any(done.returncode for done in tried) else copies
+
+
+def shared_tools(folder, tool, *paths):
+    """Copies the tools beside this one, with what they import, and other files as `shared` does."""
+    top = os.path.dirname(os.path.dirname(tool))
+    copies = shared(folder, os.path.join(top, "tools"), os.path.join(top, "share"), *paths)
+    return copies and [copies[0], *copies[2:]]

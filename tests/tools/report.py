@@ -23,6 +23,7 @@ import time
 from tests import TOP
 from tests.formats import in_format
 from tests.machine import built, ended, side_by_side
+from tests.tools.copies import copied
 from tests.tools.odd_logs import EVENT, hostile, plain, told_otherwise
 
 TOOL = os.path.join(TOP, "tools", "cadf-report")
@@ -234,15 +235,18 @@ def try_against(trial):
     trial.check("a ruling", [ruled.value(each) for each in ruled.data["lacks"][0][1:]], [["U", "c03", ["E", digest], None]])
 
 
+OTHER_LOG = "other.json: other log: one site has one log; `cadf check FILE` says which log a file is of"
+
+
 def try_faults(trial):
     """How a call ends where something fails: nothing is written, and the line says what to do."""
     put("cut.json", '{"id":')
     put("event.json", json.dumps(dict(EVENT, id="e")))
     put("other.json", json.dumps({"id": "h", "events": []}))
     for what, words, status, said in (
-            ("refused", ["both", "cut.json"], 1, "cut.json: not JSON"), ("absent", ["absent"], 3, "absent: read fault"),
-            ("no log", ["event.json"], 1, "no log named"), ("other log", ["both", "other.json"], 1, "other.json: other log"),
-            ("other site", ["--against", "other.json", "both"], 1, "other.json: other log"),
+            ("refused", ["both", "cut.json"], 1, "cut.json: not JSON"), ("absent", ["absent"], 3, "absent: No such file or directory"),
+            ("no log", ["event.json"], 1, "event.json: no log named: an event by itself names none: give --log ID, or a file that does"),
+            ("other log", ["both", "other.json"], 1, OTHER_LOG), ("other site", ["--against", "other.json", "both"], 1, OTHER_LOG),
             ("other site, cut", ["--against", "cut.json", "both"], 1, "cut.json: not JSON")):
         trial.check(what, trial.answer(*words), (status, b"", ["cadf-report: " + said]))
     trial.check("by --log", trial.answer("--log", "g", "event.json")[0], 0)
@@ -263,7 +267,7 @@ def try_faults(trial):
 
 def with_setting(trial, name, value, *words):
     """What the tool answers with another setting."""
-    script = "import sys; from importlib.machinery import SourceFileLoader as L; m = L('t', %r).load_module(); m.%s = %d; sys.argv[1:] = %r; sys.exit(m.main())"
+    script = "import sys; from importlib.machinery import SourceFileLoader as L; m = L('t', %r).load_module(); m.%s = %d; sys.argv[:] = ['cadf-report', *%r]; sys.exit(m.main())"
     return ended(sys.executable, ["-W", "ignore", "-c", script % (TOOL, name, value, list(words))], env=trial.environment)
 
 
@@ -323,21 +327,23 @@ def try_stopped(trial):
         trial.check("a folder to begin with", len(os.listdir("temporary")), 1)
         child.send_signal(number)
         output, said = child.communicate()
-        trial.check("stopped", child.returncode, 128 + number, output, b"", said, b"cadf-report: stopped by signal %d\n" % number,
+        trial.check("stopped", child.returncode, 128 + number, output, b"", said, b"cadf-report: stopped by %s\n" % number.name.encode(),
                     os.listdir("temporary"), [])
         os.remove("started")
 
 
 def try_progress(trial):
-    """On a terminal standard error says what is being done, and is empty again at the end."""
+    """On a terminal standard error says what is being done, once that has lasted, and is empty again at the end."""
     leader, terminal = pty.openpty()
-    done = subprocess.run([TOOL, "days.json"], env=trial.environment, stdout=subprocess.DEVNULL, stderr=terminal)
+    tools = copied(tempfile.mkdtemp(dir=os.getcwd()), "QUIET, BETWEEN_LINES = 2, 0.2", "QUIET, BETWEEN_LINES = 0, 0")
+    for tool in (TOOL, os.path.join(tools, "cadf-report")):  # the first says nothing, since it doesn't last
+        done = subprocess.run([tool, "days.json"], env=trial.environment, stdout=subprocess.DEVNULL, stderr=terminal)
     os.close(terminal)
     said = os.read(leader, 10000)
     os.close(leader)
     lines = said.replace(b"\x1b[K", b"").decode().split("\r")
     trial.check("progress", done.returncode, 0, lines[0], "", lines[1].endswith(" joins the files"), True,
-                lines[2:], ["cadf-report: events read: 1", "cadf-report: the page is written", ""])
+                lines[2], "cadf-report: events read: 1", lines[-2:], ["cadf-report: the page is written", ""])
 
 
 def main():

@@ -7,6 +7,7 @@ BINARY is crates/cadf/out/cadf unless given.
 import hashlib
 import json
 import os
+import re
 import resource
 import subprocess
 import sys
@@ -15,11 +16,14 @@ import tempfile
 from tests import TOP
 from tests.formats import in_format
 from tests.machine import built, ended
+from tests.tools.copies import copied
 
 TOOLS = os.path.join(TOP, "tools")
 VECTORS = os.path.join(TOP, "examples", "vectors")
 EVENT = {"eventType": "activity", "eventTime": "2024-03-01T12:00:00Z", "action": "read", "outcome": "success",
          "initiatorId": "u1", "targetId": "t1", "observerId": "s1"}
+# What to do next, which tries_advice alone looks at.
+ADVICE = re.compile(": (the file is damaged|one site has one log|an event by itself).*")
 # Above U+FFFF, and in U+E000 to U+FFFF: UTF-8 and UTF-16 order these two otherwise.
 HIGH, LOW = "\U0001f600", "\uffee"
 ROOM = 150 << 20  # bytes of memory for files of some 100 KB
@@ -58,16 +62,13 @@ class Trial:
         environment = dict(dict(os.environ, CADF=self.binary), **options.pop("env", {}))
         path = name if os.path.isabs(name) else os.path.join(TOOLS, "cadf-" + name)
         answer = ended(path, words, env=environment, **options)
-        return answer.status, answer.output, answer.error.decode().splitlines()
+        return answer.status, answer.output, [ADVICE.sub("", line) for line in answer.error.decode().splitlines()]
 
     def wrong_copy(self, tool, right, instead):
         """The place of a copy of a tool that has another text in one place."""
-        with open(os.path.join(TOOLS, "cadf-" + tool), encoding="utf-8") as file:
-            source = file.read()
-        self.check("a place for what is wrong", source.count(right), 1)
-        put("wrong-" + tool, source.replace(right, instead))
-        os.chmod("wrong-" + tool, 0o755)
-        return os.path.abspath("wrong-" + tool)
+        tools = copied(tempfile.mkdtemp(dir=os.getcwd()), right, instead)
+        self.check("a place for what is wrong", tools is not None, True)
+        return os.path.join(tools or "", "cadf-" + tool)
 
     def cadf(self, output, *words):
         """Writes what the command answers, which it has to."""
@@ -94,7 +95,7 @@ def tries_lists(trial):
     """The list of what is open: in the order of UTF-8, with digests of the values, of files of each kind."""
     status, output, said = trial.tool("conflicts", "site")
     lines = output.decode().splitlines()
-    trial.check("open", status, 1, said, ["cadf-conflicts: open 11, settled 0"], output.isascii(), True)
+    trial.check("open", status, 5, said, ["cadf-conflicts: open 11, settled 0"], output.isascii(), True)
     trial.check("keys", [line for line in lines if line.startswith("#")],
                 ["# E %s: open, %d values" % (json.dumps(key), 3 if key in ODD_KEYS[:2] else 2) for key in sorted(ODD_KEYS)]
                 + ['# P "name": open, 2 values', '# R "r": open, 2 values'])
@@ -105,7 +106,7 @@ def tries_lists(trial):
     trial.check("format 1", trial.tool("conflicts", "site.1"), (status, output, said))
     trial.check("nothing open", trial.tool("conflicts", "a.json"), (0, b"", []), trial.tool("conflicts", "--", "a"), (0, b"", []))
     status, output, said = trial.tool("conflicts", "--values", "site", "a.json", "b.json", "c.json")
-    trial.check("values", status, 1, '\n#   /more/a~1b/0: 1\n#   /more/a~1b/1/c~0: null\n' in output.decode(), True,
+    trial.check("values", status, 5, '\n#   /more/a~1b/0: 1\n#   /more/a~1b/1/c~0: null\n' in output.decode(), True,
                 '#   /v: 1\n#   in a.json\n' in output.decode(), True, '#   /v: true\n#   in b.json\n' in output.decode(), True,
                 '#   /more/a~1b/0: absent\n' in output.decode(), True, '#   /0: "n"\n' in output.decode(), True,
                 output.decode().count("#   in "), 3 * 2 + 2 * 7 + 2 * 2)
@@ -176,7 +177,7 @@ def tries_again(trial, good):
     trial.cadf("missing", "missing", "twice", "ruled")
     trial.check("--again", status, 0, output, held("missing"), said, [])
     status, output, said = trial.tool("conflicts", "twice")
-    trial.check("unsettled", status, 1, '# E "a b": open, 3 values, 2 ruled\n' in output.decode(), True)
+    trial.check("unsettled", status, 5, '# E "a b": open, 3 values, 2 ruled\n' in output.decode(), True)
     trial.cadf("alone", "missing", "ruled", "site")
     trial.cadf("waiting", "join", "a.json", "b.json", "alone")
     status, output, said = trial.tool("conflicts", "waiting")
@@ -190,7 +191,7 @@ def tries_faults(trial):
     put("cut.json", '{"id":')
     put("event.json", json.dumps(dict(EVENT, id="e")))
     for what, words, status, said in (
-            ("refused", ["cut.json"], 1, "cadf-conflicts: cut.json: not JSON"), ("absent", ["absent"], 3, "cadf-conflicts: absent: read fault"),
+            ("refused", ["cut.json"], 1, "cadf-conflicts: cut.json: not JSON"), ("absent", ["absent"], 3, "cadf-conflicts: absent: No such file or directory"),
             ("no log", ["event.json"], 1, "cadf-conflicts: event.json: no log named"),
             ("a refused file", ["site", "a.json", "cut.json"], 1, "cadf-conflicts: cut.json: not JSON"),
             ("of another log", ["site", "other.json"], 1, "cadf-conflicts: other.json: other log"),
@@ -198,7 +199,7 @@ def tries_faults(trial):
         put("other.json", document(log="h"))
         got = trial.tool("conflicts", *words)
         trial.check(what, got, (status, b"", [said]))
-    trial.check("an event as a file", trial.tool("conflicts", "site", "event.json")[0], 1)
+    trial.check("an event as a file", trial.tool("conflicts", "site", "event.json")[0], 5)
     for tool, words in (("conflicts", ["site"]), ("which", ["site"]), ("agree", ["site", "a"])):
         trial.check(tool + " without cadf", trial.tool(tool, *words, env={"CADF": "/absent/cadf"}),
                     (3, b"", ["cadf-%s: /absent/cadf: No such file or directory" % tool]))
@@ -216,18 +217,34 @@ def tries_which(trial):
     put("other.json", document(log="h \u202e"))
     put("odd\nname", "x")
     put("-dash", "x")
-    said = ["cut.json: not JSON", 'other.json: other log: "h \\u202e"', "absent: read fault", '"odd\\nname": not JSON', "-dash: not JSON",
-            '"": read fault']
+    said = ["cut.json: not JSON", 'other.json: other log: "h \\u202e"', "absent: No such file or directory", '"odd\\nname": not JSON', "-dash: not JSON",
+            '"": No such file or directory']
     files = ["a.json", "event.json", "cut.json", "other.json", "absent", "site", "odd\nname", "-dash", ""]
     trial.check("which", trial.tool("which", "--", *files), (3, b"", said))
     trial.check("which, none", trial.tool("which", "site", "a", "event.json", "site.1"), (0, b"", []))
     trial.check("which --log", trial.tool("which", "--log", "h \u202e", "a.json", "other.json"), (1, b"", ['a.json: other log: "g"']))
-    damaged = sorted(name for name in os.listdir(VECTORS) if ".cadf" in name or ".json" in name)
+    damaged = sorted(name for name in os.listdir(VECTORS) if ".cadf" in name or name.endswith(".json") and "conflicts" not in name)
     wanted = [(name, ended(trial.binary, ["check", name], cwd=VECTORS)) for name in damaged]
     wanted = ["%s: %s" % (name, answer.error.decode().strip().replace("cadf: ", "").replace("input 1: ", "")) for name, answer in wanted
               if answer.status and b"no log named" not in answer.error]
     status, output, said = trial.tool("which", "--log", "g", *damaged, cwd=VECTORS)
     trial.check("vectors", status, 1, [line for line in said if "other log" not in line], wanted, len(wanted) > 20, True)
+
+
+def tries_advice(trial):
+    """A refusal says what to do next, and what the file is if it isn't one of facts."""
+    trial.cadf("a.sketch", "sketch", "a")
+    trial.cadf("a.inventory", "inventory", "a")
+    trial.cadf("a.conflicts", "show", "--conflicts", "a")
+    put("a.script", "learn 0 {}\n")
+    put("bad", held("a")[:-2] + b"x\n")
+    for name, said in (("a.sketch", "a sketch, which holds no facts: `cadf missing-by-sketch SITE SKETCH` answers it"),
+                       ("a.inventory", "an inventory, which holds no facts: `cadf missing-by SITE INVENTORY` answers it"),
+                       ("a.conflicts", "a conflict list, which cadf writes and does not read: take the site's file"),
+                       ("a.script", "a script: `cadf rehearse` reads it"),
+                       ("bad", "digest: the file is damaged: fetch it again, or restore it as the guide says under `A damaged site`")):
+        answer = ended(os.path.join(TOOLS, "cadf-which"), [name], env=dict(os.environ, CADF=trial.binary))
+        trial.check("advice", answer.error.decode(), "%s: %s\n" % (name, said))
 
 
 def tries_agree(trial):
@@ -237,12 +254,12 @@ def tries_agree(trial):
     trial.check("agree", trial.tool("agree", "site", "site.1", "site.inventory", "site"), (0, b"", []))
     own, shared = len(ODD_KEYS) + 2, 0
     wanted = ["a lacks %d facts of b.json" % (2 * len(ODD_KEYS) + 2), "b.json lacks %d facts of a" % own]
-    trial.check("differ", trial.tool("agree", "a", "b.json"), (1, b"", wanted),
+    trial.check("differ", trial.tool("agree", "a", "b.json"), (5, b"", wanted),
                 trial.tool("agree", "a.inventory", "b.json.inventory")[2], [line.replace("a ", "a.inventory ").replace("b.json", "b.json.inventory")
                                                                             .replace("of a", "of a.inventory") for line in wanted])
     put("one.json", document([{"id": "e"}], log="h"))
     put("two.json", document([{"id": "e", "tags": ["x"]}], log="h"))
-    trial.check("one fact", trial.tool("agree", "one.json", "two.json"), (1, b"", ["one.json lacks 1 fact of two.json"]))
+    trial.check("one fact", trial.tool("agree", "one.json", "two.json"), (5, b"", ["one.json lacks 1 fact of two.json"]))
     for letter in (b"0", b"f"):
         put("bad.inventory", held("a.inventory")[:-2] + letter + b"\n")
         status = trial.tool("agree", "a.inventory", "bad.inventory")
@@ -265,8 +282,8 @@ def tries_sketches(trial):
     trial.check("agree by sketches", trial.tool("agree", "site", "site.sketch", "site.inventory", "site.1", "site.sketch"), (0, b"", []))
     files = trial.tool("agree", "a", "b.json")[2]
     by_sketch = [line.replace("b.json", "b.sketch") for line in files]
-    trial.check("by a sketch", trial.tool("agree", "a", "b.sketch"), (1, b"", by_sketch), trial.tool("agree", "b.sketch", "a"),
-                (1, b"", by_sketch[::-1]))
+    trial.check("by a sketch", trial.tool("agree", "a", "b.sketch"), (5, b"", by_sketch), trial.tool("agree", "b.sketch", "a"),
+                (5, b"", by_sketch[::-1]))
     status, output, said = trial.tool("agree", "b.json", "a.sketch", "a")
     trial.check("too few cells", status, 1, output, b"", len(said), 3, said[0].startswith("a.sketch: too few cells: ask for "), True,
                 said[1:], files[::-1])
@@ -274,7 +291,7 @@ def tries_sketches(trial):
     trial.cadf("asked.sketch", "sketch", "--cells", cells, "--salt", "7", "a")
     trial.check("as many as asked", trial.tool("agree", "b.json", "asked.sketch")[2],
                 [line.replace("a lacks", "asked.sketch lacks").replace("of a", "of asked.sketch") for line in files[::-1]])
-    trial.check("no file", trial.tool("agree", "a.sketch", "b.sketch", "site.inventory"), (1, b"", [
+    trial.check("no file", trial.tool("agree", "a.sketch", "b.sketch", "site.inventory"), (5, b"", [
         "%s differs from %s" % two for two in (("a.sketch", "b.sketch"), ("a.sketch", "site.inventory"), ("b.sketch", "site.inventory"))]))
     trial.check("another log", trial.tool("agree", "a", "other.sketch"), (1, b"", ['other.sketch: other log: "h \\u202e"']))
     put("bad.sketch", held("b.sketch").replace(b"S 120 ", b"S 123 "))
@@ -284,7 +301,7 @@ def tries_sketches(trial):
     put("many.json", document([dict(id="e%d" % number, tags=["x"]) for number in range(900)]))
     put("more.json", document([dict(id="e%d" % number, tags=["x"]) for number in range(80, 950)]))
     trial.check("a larger difference", trial.tool("agree", "many.json", "more.json"),
-                (1, b"", ["many.json lacks 100 facts of more.json", "more.json lacks 160 facts of many.json"]))
+                (5, b"", ["many.json lacks 100 facts of more.json", "more.json lacks 160 facts of many.json"]))
     put("log", '#!/bin/sh\necho "$1" >>calls\nexec \'%s\' "$@"\n' % trial.binary)
     os.chmod("log", 0o755)
     trial.tool("agree", "many.json", "more.json", env={"CADF": os.path.abspath("log")})
@@ -293,17 +310,18 @@ def tries_sketches(trial):
 
 
 def tries_changes(trial):
-    """A file that changes, or goes, while it is compared is named, and nothing is counted."""
+    """A file that changes while it is compared is named, and nothing is counted. One that goes is compared as it was."""
     trial.cadf("more.inventory", "inventory", "more.json")
+    put("moved.json", held("many.json"))
+    as_it_was = trial.tool("agree", "moved.json", "site")
     for command, change, other, said in (
-            ("missing-by-sketch", "cp more.json moved.json", "site", "changed while it was compared"),
-            ("inventory", "cp more.json moved.json", "more.inventory", "changed while it was compared"),
-            ("missing-by-sketch", "rm -f moved.json", "site", "read fault")):
+            ("missing-by-sketch", "cp more.json moved.json", "site", (3, b"", ["moved.json: changed while it was compared"])),
+            ("inventory", "cp more.json moved.json", "more.inventory", (3, b"", ["moved.json: changed while it was compared"])),
+            ("missing-by-sketch", "rm -f moved.json", "site", as_it_was)):
         put("changing", '#!/bin/sh\n[ "$1" = %s ] && %s\nexec \'%s\' "$@"\n' % (command, change, trial.binary))
         os.chmod("changing", 0o755)
         put("moved.json", held("many.json"))
-        trial.check(change, trial.tool("agree", "moved.json", other, env={"CADF": os.path.abspath("changing")}),
-                    (3, b"", ["moved.json: " + said]))
+        trial.check(change, trial.tool("agree", "moved.json", other, env={"CADF": os.path.abspath("changing")}), said)
 
 
 def tries_bombs(trial):
@@ -315,10 +333,10 @@ def tries_bombs(trial):
         trial.cadf("bomb-" + name, "join", "one.json", name + ".json")
     status, output, _ = trial.tool("conflicts", "--values", "bomb-two", **limit)
     lines = output.decode().splitlines()
-    trial.check("many members", status, 1, len(lines), 3 + 2 * 101, lines[2], "#   /%s..: 1" % ("x" * 999), lines[102], "#   and in others",
+    trial.check("many members", status, 5, len(lines), 3 + 2 * 101, lines[2], "#   /%s..: 1" % ("x" * 999), lines[102], "#   and in others",
                 lines[-2], "#   /%s..: 2" % ("x" * 999))
     status, output, _ = trial.tool("conflicts", "--values", "bomb-end", **limit)
-    trial.check("one member", status, 1, [line[-6:] for line in output.decode().splitlines() if line.startswith("#   ")], ["x..: 1", "x..: 2"])
+    trial.check("one member", status, 5, [line[-6:] for line in output.decode().splitlines() if line.startswith("#   ")], ["x..: 1", "x..: 2"])
     wrong = trial.wrong_copy("conflicts", "MOST_NAMED, LONGEST_SHOWN = 64, 100, 1000", "MOST_NAMED, LONGEST_SHOWN = 64, 10 ** 9, 10 ** 9")
     trial.check("the wrong list", trial.tool(wrong, "--values", "bomb-two", **limit)[::2], (4, ["cadf-conflicts: out of memory"]))
 
@@ -347,9 +365,9 @@ def tries_words(trial):
         put("dash-%d" % number, document(log="-x", a=number))
     trial.cadf("dash", "join", "dash-1", "dash-2")
     wanted = "#   in dash-1\n"
-    trial.check("a dash", trial.tool("conflicts", "dash", "dash-1")[0], 1, wanted in trial.tool("conflicts", "dash", "dash-1")[1].decode(), True)
+    trial.check("a dash", trial.tool("conflicts", "dash", "dash-1")[0], 5, wanted in trial.tool("conflicts", "dash", "dash-1")[1].decode(), True)
     wrong = trial.wrong_copy("conflicts", '"--log=" + json.loads(self.log_line[2:])', '"--log", json.loads(self.log_line[2:])')
-    trial.check("two words", trial.tool(wrong, "dash", "dash-1")[0], 3)
+    trial.check("two words", trial.tool(wrong, "dash", "dash-1")[0], 2)
     for tool in ("conflicts", "which", "agree"):
         status, _, said = trial.tool(tool, "a.json", "b.json", "--x\x1b[2J\u202e")
         trial.check("refused words", status, 2, said[-1], "cadf-%s: error: unrecognized arguments: --x\\x1b[2J\\u202e" % tool)
@@ -370,7 +388,7 @@ def main():
     trial = Trial(os.path.abspath(sys.argv[1]) if len(sys.argv) > 1 else built("cadf"))
     with tempfile.TemporaryDirectory() as folder:
         os.chdir(folder)
-        for tries in (make_sites, tries_lists, tries_rulings, tries_refused_rulings, tries_faults, tries_which, tries_agree,
+        for tries in (make_sites, tries_lists, tries_rulings, tries_refused_rulings, tries_faults, tries_which, tries_advice, tries_agree,
                       tries_sketches, tries_changes, tries_bombs, tries_many_values, tries_words, tries_streams):
             tries(trial)
         os.chdir("/")

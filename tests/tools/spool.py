@@ -36,6 +36,7 @@ if os.path.exists(SYSTEM) and os.path.realpath(sys.executable) != os.path.realpa
 from tests import TOP
 from tests.machine import built, ended, side_by_side
 from tests.tools import others
+from tests.tools.copies import copied
 from tests.tools.faulty import calls_of
 
 SPOOL = os.path.join(TOP, "tools", "cadf-spool")
@@ -385,7 +386,7 @@ def site_among_users(trial):
     None where this user can't do that.
     """
     folder = tempfile.mkdtemp(dir=trial.folder)
-    found = others.shared(folder, os.path.dirname(trial.tool), trial.binary)
+    found = others.shared_tools(folder, trial.tool, trial.binary)
     trial.has_others = found is not None
     if not trial.has_others:
         return None
@@ -533,7 +534,7 @@ def catches(trial):
         copy = Trial(tempfile.mkdtemp(dir=trial.folder), trial.binary)
         os.chmod(copy.folder, 0o755)
         copy.tool, wrong = os.path.join(copy.folder, "tools", "cadf-spool"), source
-        shutil.copytree(os.path.dirname(SPOOL), os.path.dirname(copy.tool))
+        copied(copy.folder)
         for right, other in changes:
             wrong = wrong.replace(right, other)
         put(copy.tool, wrong.encode())

@@ -25,6 +25,7 @@ import tempfile
 from tests import TOP
 from tests.machine import built, ended
 from tests.tools import others
+from tests.tools.copies import copied
 from tests.tools.faulty import calls_of
 
 TAKE = os.path.join(TOP, "tools", "cadf-take")
@@ -42,7 +43,7 @@ esac
 "$BUILT" "$@"
 if [ "$STAGE" = "after $1" ]; then kill -9 $PPID; fi
 """
-STAGES = ["before join", "within join", "after join", "before check", "after check"]
+STAGES = ["before join", "within join", "after join", "before missing", "after missing"]
 
 
 def put(name, text, mode=0o644):
@@ -168,26 +169,27 @@ def keeps_access(trial):
 def refuses(trial):
     """Refused inputs and refused words: each leaves what stood before."""
     for what, words, status, error in (
-            ("no JSON", ["s.cadf", "two.json", "cut.json"], 1, "cadf: input 3: not JSON\ncadf-take: input 3 is cut.json\n"),
-            ("another log", ["--log", "h", "s.cadf", "one.json"], 1, "cadf: input 1: other log\ncadf-take: input 1 is s.cadf\n"),
+            ("no JSON", ["s.cadf", "two.json", "cut.json"], 1, "cadf-take: cut.json: not JSON\n"),
+            ("another log", ["--log", "h", "s.cadf", "one.json"], 1, "cadf-take: one.json: other log: .."),
             ("absent", ["s.cadf", "absent"], 3, "cadf-take: absent: No such file or directory\n"),
             ("an odd name", ["s.cadf", "a\x1b\u202e"], 3, 'cadf-take: "a\\u001b\\u202e": No such file or directory\n'),
-            ("no log's name", ["--log=", "s.cadf", "one.json"], 2, "cadf: log name\n"),
+            ("no log's name", ["--log=", "s.cadf", "one.json"], 2, "cadf-take: log name\n"),
             ("no words", [], 2, "usage: .."), ("no file", ["s.cadf"], 2, "usage: .."),
             ("an option", ["--force", "s.cadf", "one.json"], 2, "usage: ..")):
         trial.site(site=trial.one, before=trial.two)
         trial.ends(what, trial.take(*words), status, error)
         trial.leaves(what, trial.one, trial.two)
     trial.site()
-    trial.ends("no log", trial.take("s.cadf", "event.json"), 1, "cadf: no log named\n")
+    trial.ends("no log", trial.take("s.cadf", "event.json"), 1,
+               "cadf-take: event.json: no log named: an event by itself names none: give --log ID, or a file that does\n")
     trial.leaves("no log", None)
     trial.site(site=trial.one, before=trial.two, new=trial.both)
     trial.ends("what would be overwritten", trial.take("s.cadf", "./s.cadf.new"), 2, "cadf-take: ./s.cadf.new: ..")
     trial.leaves("what would be overwritten", trial.one, trial.two, trial.both)
-    for what, make in (("a link", lambda name: os.symlink("one.json", name)), ("a folder", os.mkdir)):
+    for what, make, status in (("a link", lambda name: os.symlink("one.json", name), 2), ("a folder", os.mkdir, 3)):
         trial.site()
         make("s.cadf")
-        trial.ends(what, trial.take("s.cadf", "one.json"), 2, "cadf-take: s.cadf: ..")
+        trial.ends(what, trial.take("s.cadf", "one.json"), status, "cadf-take: s.cadf: ..")
         if os.listdir(".").count("s.cadf.lock") or not (os.path.islink("s.cadf") or os.path.isdir("s.cadf")):
             trial.wrong.append("%s: not left alone" % what)
 
@@ -202,18 +204,18 @@ def fails(trial):
         trial.leaves("no " + name, trial.one)
     trial.ends("no folder", trial.take("absent/s.cadf", "one.json"), 3, "cadf-take: absent/s.cadf.lock: ..")
     for what, text, status, error in (
-            ("memory", "echo 'cadf: out of memory' >&2; exit 4", 4, "cadf: out of memory\n"),
+            ("memory", "echo 'cadf: out of memory' >&2; exit 4", 4, "cadf-take: out of memory\n"),
             ("another status", "exit 127", 3, "cadf-take: ./odd: ended by status 127\n"),
             ("a signal", "kill -9 $$", 3, "cadf-take: ./odd: ended by signal 9\n"),
-            ("a cut text", '[ "$1" = join ] || exec "$BUILT" "$@"; "$BUILT" "$@" | head -c 100', 1,
-             "cadf: input 1: truncated\ncadf-take: input 1 is s.cadf.new\n")):
+            ("a cut text", '[ "$1" = join ] || exec "$BUILT" "$@"; "$BUILT" "$@" | head -c 100', 3,
+             "cadf-take: ./odd: what it writes is no replica file\n")):
         trial.site(site=trial.one, before=trial.two)
         put("odd", "#!/bin/sh\n%s\n" % text, 0o755)
         trial.ends(what, trial.take("s.cadf", "two.json", cadf="./odd", env={"BUILT": trial.binary}), status, error)
         trial.leaves(what, trial.one, trial.two)
     trial.ends("no command", trial.take("s.cadf", "two.json", cadf="./absent"), 3, "cadf-take: ./absent: ..")
     full = trial.take("s.cadf", "two.json", preexec_fn=lambda: resource.setrlimit(resource.RLIMIT_FSIZE, (200, 200)))
-    trial.ends("a full disk", full, 3, "cadf: write fault\n")
+    trial.ends("a full disk", full, 3, "cadf-take: s.cadf: write fault: File too large\n")
     trial.leaves("a full disk", trial.one, trial.two)
 
 
@@ -240,7 +242,7 @@ def waits_for_none(trial):
             os.killpg(program.pid, signal.SIGKILL)
             error = program.communicate()[1]
         trial.count += 1
-        if program.returncode != 2 or error.decode() != "cadf-take: %s: not a regular file: copy it into one\n" % name:
+        if program.returncode != 3 or not error.decode().startswith("cadf-take: %s: " % name):
             trial.wrong.append("an input that is %s: status %d, %s" % (name, program.returncode, error))
         trial.leaves("an input that is " + name, trial.one)
     os.remove("fifo")
@@ -263,7 +265,7 @@ PLANTED = {  # what another user puts in the place of a file, by its name
 def shares(trial):
     """What another user plants in a folder that all may write to, and the bits that one gives to a site that he shares."""
     folder = tempfile.mkdtemp(dir=os.getcwd())
-    found = others.shared(folder, trial.tool, trial.binary, "two.json")
+    found = others.shared_tools(folder, trial.tool, trial.binary, "two.json")
     trial.has_others = found is not None
     if not trial.has_others:
         return print("take: not root, or no setpriv: what other users can do was not tried")
@@ -277,7 +279,8 @@ def shares(trial):
                 put(os.path.join(place, name), content)
                 os.chown(os.path.join(place, name), owner, others.GROUP)
                 os.chmod(os.path.join(place, name), mode)
-        words = others.as_user(user, others.GROUP, "env", "CADF=" + found[1], others.PYTHON, found[0], "s.cadf", found[2])
+        words = others.as_user(user, others.GROUP, "env", "CADF=" + found[1], others.PYTHON,
+                               os.path.join(found[0], "cadf-take"), "s.cadf", found[2])
         done = ended(words[0], words[1:], cwd=place)
         trial.count += 1
         return done, path
@@ -298,30 +301,28 @@ def shares(trial):
         trial.wrong.append("bits of another user's site: %s, mode %o of %d" % (done, found.st_mode, found.st_uid))
     return None
 
-# Each: what a copy of the tool does wrongly, the text that it has in place of another, and what catches it.
+# Each: what a copy of the tools does wrongly, the text that it has in place of another, and what catches it.
 WRONG = [
     ("it copies all bits of the mode", "os.fstat(old).st_mode & 0o777)", "stat.S_IMODE(os.fstat(old).st_mode))", keeps_no_bits),
-    ("it opens what is no regular file", "if not stat.S_ISREG(os.fstat(file).st_mode):", "if False:", waits_for_none),
-    ("it waits for the writer of a FIFO", "os.O_RDONLY | os.O_NONBLOCK | flags", "os.O_RDONLY | flags", waits_for_none),
+    ("it opens what is no regular file", "if not stat.S_ISREG(mode):", "if False:", waits_for_none),
+    ("it waits for the writer of a FIFO", "own | flags | os.O_NONBLOCK", "own | flags", waits_for_none),
     ("it takes any lock", "if os.fstat(file).st_mode not in LOCK_MODES:", "if False:", waits_for_none),
     ("its lock is for the group of each site", "0o660 if is_shared else 0o600", "0o660", keeps_access),
 ]
 WRONG_AMONG_OTHERS = [
-    ("it follows a link to a lock", "os.O_RDWR | os.O_NOFOLLOW | os.O_NONBLOCK", "os.O_RDWR | os.O_NONBLOCK", shares),
+    ("it follows a link to a lock", "os.open(name, os.O_RDWR | os.O_NOFOLLOW | os.O_NONBLOCK)", "os.open(name, os.O_RDWR | os.O_NONBLOCK)",
+     shares),
 ]
 
 
 def catches(trial):
     """Each wrong copy of the tool is caught by what tries it."""
-    with open(TAKE, encoding="utf-8") as file:
-        source = file.read()
     for number, (what, right, wrong, tries) in enumerate(WRONG + (WRONG_AMONG_OTHERS if trial.has_others else [])):
-        name = os.path.abspath("wrong-%d" % number)
-        put(name, source.replace(right, wrong), 0o755)
-        other = Trial(trial.binary, name)
+        tools = copied(os.path.abspath("wrong-%d" % number), right, wrong)
+        other = Trial(trial.binary, os.path.join(tools or "", "cadf-take"))
         tries(other)
         trial.count += 1
-        if source.count(right) != 1 or not other.wrong:
+        if tools is None or not other.wrong:
             trial.wrong.append("not caught: %s" % what)
 
 

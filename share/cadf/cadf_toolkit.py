@@ -1,0 +1,385 @@
+"""What the tools around cadf have in common: statuses, names as they are printed, inputs, calls of cadf, locks, new files.
+
+A tool imports it from ../share/cadf beside the folder that the tool is in, so in the sources and under any prefix.
+"""
+import argparse
+import contextlib
+import errno
+import fcntl
+import json
+import os
+import re
+import resource
+import shutil
+import signal
+import stat
+import subprocess
+import sys
+import tempfile
+import time
+
+DONE, REFUSED, USAGE, FAILED, MEMORY, DIFFERS = range(6)  # the manual page says what each means
+CADF = os.environ.get("CADF") or "cadf"
+HERE = os.path.dirname(os.path.realpath(__file__))
+STOPPING = (signal.SIGHUP, signal.SIGINT, signal.SIGTERM)
+LOCK_MODES = (stat.S_IFREG | 0o600, stat.S_IFREG | 0o660)
+PATIENCE = 1  # seconds before a lock that is held is worth a line
+PAUSE = 0.05  # seconds between two looks at a lock
+QUIET, BETWEEN_LINES = 2, 0.2  # seconds before progress is worth a line, and between two
+NOT_REGULAR = "not a regular file; what a pipe brings is taken from standard input, as `-`"
+OUT_OF_MEMORY = "out of memory"  # made once: no text is made while memory is out
+
+# What else a file may be, by its first bytes, and what reads it.
+OTHER_KINDS = {
+    b"CADF-INVENTORY ": "an inventory, which holds no facts: `cadf missing-by SITE INVENTORY` answers it",
+    b"CADF-SKETCH ": "a sketch, which holds no facts: `cadf missing-by-sketch SITE SKETCH` answers it",
+    b'{"conflicts":': "a conflict list, which cadf writes and does not read: take the site's file",
+    b"learn ": "a script: `cadf rehearse` reads it",
+    b"<!DOCTYPE html>": "a page of cadf-report: take the site's file",
+}
+OF_NO_KIND = re.compile("version|not JSON|event 0: ")  # what cadf says of them
+DAMAGED = "the file is damaged: fetch it again, or restore it as the guide says under `A damaged site`"
+# What to do about a refusal, by how its text begins.
+ADVICE = {
+    "too large": "no file above 2^30 bytes is read; give fewer files at once, or one log a service",
+    "no log named": "an event by itself names none: give --log ID, or a file that does",
+    "other log": "one site has one log; `cadf check FILE` says which log a file is of",
+    "digest": DAMAGED,
+    "truncated": DAMAGED,
+    "trailing bytes": DAMAGED,
+}
+
+
+class Fault(Exception):
+    """Why a call ends, and its status."""
+
+    def __init__(self, text, status=FAILED):
+        super().__init__(text)
+        self.status = status
+
+
+class Refusal(Fault):
+    """What `cadf` said of its input of that number, or of none: `said` has its own words, without number and advice."""
+
+    def __init__(self, said, status, place, inputs):
+        self.said, self.place = said, place
+        is_alone = len(inputs) == 1 and said == "no log named"
+        which = inputs[place - 1] if place else inputs[0] if is_alone else None
+        if which and said == "read fault":
+            which.first(1)
+        text = (which.kind() if which and OF_NO_KIND.match(said) else None) or with_advice(said)
+        super().__init__("%s: %s" % (which.name, text) if which else text, status)
+
+
+# ---- What is printed
+
+def name_shown(name):
+    """The name of a file as text that can be printed."""
+    text = os.fsencode(name).decode("utf-8", "backslashreplace")
+    return text if text and text.isprintable() else json.dumps(text)
+
+
+def tool():
+    """The name under which the tool was called."""
+    return os.path.basename(sys.argv[0])
+
+
+def note(text):
+    """Writes what was found, as a line on standard error."""
+    print(text, file=sys.stderr, flush=True)
+
+
+def say(text):
+    """Writes a line to standard error that begins with the tool's name. A failure there changes no status."""
+    with contextlib.suppress(OSError):
+        note("%s: %s" % (tool(), text))
+
+
+def why(fault):
+    """The name of the file and the system's words of an OSError."""
+    return "%s: %s" % (name_shown(fault.filename) if fault.filename else "write fault", fault.strerror)
+
+
+class Progress:
+    """A line on a terminal that says how far a call is, once it has lasted."""
+
+    def __init__(self):
+        self.is_terminal, self.due, self.is_shown = sys.stderr is not None and sys.stderr.isatty(), time.monotonic() + QUIET, False
+
+    def __enter__(self):
+        return self
+
+    def __exit__(self, *_):
+        if self.is_shown:
+            self.write("")
+
+    def tell(self, text):
+        if self.is_terminal and time.monotonic() >= self.due:
+            self.due, self.is_shown = time.monotonic() + BETWEEN_LINES, True
+            self.write("%s: %s" % (tool(), text))
+
+    def count(self, number, what):
+        """Says how many of something there are so far."""
+        if self.is_terminal:
+            self.tell("%s: %s" % (what, format(number, ",")))
+
+    def write(self, text):
+        with contextlib.suppress(OSError):
+            sys.stderr.write("\r\x1b[K" + text)
+            sys.stderr.flush()
+
+
+# ---- Words
+
+def version():
+    """The version, with the commit that it was made of."""
+    with contextlib.suppress(OSError), open(os.path.join(HERE, "version"), encoding="utf-8") as file:
+        return file.read().strip()
+    done = subprocess.run(["git", "-C", HERE, "describe", "--always", "--dirty", "--abbrev=12"], stdin=subprocess.DEVNULL,
+                          stdout=subprocess.PIPE, stderr=subprocess.DEVNULL, text=True, check=False)
+    return "of the sources, commit %s" % (done.stdout.strip() or "unknown")
+
+
+class Version(argparse.Action):
+    def __call__(self, parser, *_):
+        print("%s %s" % (parser.prog, version()))
+        parser.exit()
+
+
+class Parser(argparse.ArgumentParser):
+    """The parser of a tool's words. What it repeats of them can be printed."""
+
+    def __init__(self, description, usage):
+        super().__init__(prog=tool(), description=description, usage=usage, allow_abbrev=False,
+                         formatter_class=argparse.RawDescriptionHelpFormatter)
+        self.add_argument("--version", action=Version, nargs=0, help="say the version and the commit, and end")
+
+    def error(self, message):
+        super().error("".join(each if each.isprintable() else ascii(each)[1:-1] for each in message))
+
+
+# ---- Inputs
+
+class Input:
+    """A regular file that is open for reading, and its name. `cadf` is given its descriptor, so it reads the file that was judged."""
+
+    def __init__(self, name, file):
+        self.name, self.file = name_shown(name), file
+
+    def path(self):
+        return "/dev/fd/%d" % self.file.fileno()
+
+    def first(self, count):
+        """The first bytes. Raises the system's words if they can't be read."""
+        try:
+            return os.pread(self.file.fileno(), count, 0)
+        except OSError as fault:
+            raise Fault("%s: %s" % (self.name, fault.strerror)) from None
+
+    def whole(self):
+        """All its bytes."""
+        with open(self.path(), "rb") as file:
+            return file.read()
+
+    def kind(self):
+        """What else the file is than one of facts, or None."""
+        first = self.first(max(map(len, OTHER_KINDS)))
+        return next((words for begin, words in OTHER_KINDS.items() if first.startswith(begin)), None)
+
+
+def copy_of(pipe):
+    """What can be read once, as a private file."""
+    copy = tempfile.TemporaryFile()
+    shutil.copyfileobj(pipe, copy)
+    copy.flush()
+    return copy
+
+
+def opened_file(name, flags=0, folder=None):
+    """A regular file that is open for reading. Anything else is refused, and not waited for."""
+    file = open(name, "rb", opener=lambda path, own: os.open(path, own | flags | os.O_NONBLOCK, dir_fd=folder))
+    mode = os.fstat(file.fileno()).st_mode
+    if not stat.S_ISREG(mode):
+        file.close()
+        raise OSError(errno.EISDIR if stat.S_ISDIR(mode) else errno.EINVAL, "Is a directory" if stat.S_ISDIR(mode) else NOT_REGULAR)
+    return file
+
+
+def opened_or_copied(name):
+    """A regular file that is open for reading, or a copy of what a pipe brings."""
+    with open(name, "rb") as file:
+        return copy_of(file) if stat.S_ISFIFO(os.fstat(file.fileno()).st_mode) else opened_file(name)
+
+
+@contextlib.contextmanager
+def opened(names, pipes=False):
+    """Opens the files of these names for a call. `-` is standard input, which is copied, since it can be read once."""
+    _, most = resource.getrlimit(resource.RLIMIT_NOFILE)
+    resource.setrlimit(resource.RLIMIT_NOFILE, (most, most))  # `cadf` opens each once more
+    with contextlib.ExitStack() as files:
+        inputs = []
+        for name in names:
+            try:
+                file = copy_of(sys.stdin.buffer) if name == "-" else (opened_or_copied if pipes else opened_file)(name)
+            except OSError as fault:
+                raise Fault("%s: %s" % (name_shown(name), fault.strerror)) from None
+            inputs.append(Input("standard input" if name == "-" else name, files.enter_context(file)))
+        yield inputs
+
+
+# ---- Calls of cadf
+
+def refusal(said, status, inputs):
+    """The refusal that `cadf` wrote to standard error."""
+    text = re.sub("^cadf: ", "", said.strip()) or "cadf ended with %d" % status
+    named = re.match(r"input (\d+): (.*)", text, re.DOTALL)
+    if named and 0 < int(named[1]) <= len(inputs):
+        return Refusal(named[2], status, int(named[1]), inputs)
+    return Refusal(text, status, None, inputs)
+
+
+def with_advice(text):
+    """The text, with what to do next."""
+    return next(("%s: %s" % (text, advice) for begin, advice in ADVICE.items() if text.startswith(begin)), text)
+
+
+@contextlib.contextmanager
+def started(words, **options):
+    """Starts a program, which doesn't outlive the call."""
+    child = subprocess.Popen(words, **options)
+    with child:
+        try:
+            yield child
+        except BaseException:
+            child.kill()
+            raise
+
+
+def started_cadf(words, inputs, output, keep=()):
+    """Starts `cadf` with these words over open inputs. `keep` has further descriptors that it inherits, as that of a lock."""
+    # With the signals that Python ignores, a limit on a file's size is a failed write of the command, not its end.
+    return started([CADF, *words, "--", *(each.path() for each in inputs)], stdin=subprocess.DEVNULL, stdout=output,
+                   stderr=subprocess.PIPE, restore_signals=False, pass_fds=[*keep, *(each.file.fileno() for each in inputs)])
+
+
+def check_end(child, said, inputs):
+    """Raises why `cadf` ended, unless it did what it was asked. `said` is what it wrote to standard error."""
+    status = child.wait()
+    if status not in (DONE, REFUSED, USAGE, FAILED, MEMORY):
+        raise Fault("%s: ended by %s" % (CADF, "status %d" % status if status > 0 else "signal %d" % -status))
+    if status:
+        raise refusal(said.decode("utf-8", "backslashreplace"), status, inputs)
+
+
+def cadf(words, inputs, output=subprocess.DEVNULL, keep=(), where=None):
+    """Runs `cadf` with these words over open inputs. Returns what it wrote, if `output` is a pipe. Raises its refusal.
+
+    `where` names the file that is written, by a descriptor, so that a failed write is told with the system's words.
+    """
+    with started_cadf(words, inputs, output, keep) as child:
+        written, said = child.communicate()
+        if where is not None and said.strip() == b"cadf: write fault":
+            raise Fault("%s: write fault%s" % (name_shown(where), write_fault(output)))
+        check_end(child, said, inputs)
+    return written
+
+
+def write_fault(file):
+    """Why nothing more can be written to an open file, in the system's words, if it still can't be."""
+    try:
+        os.write(file, b"\n" * 4096)
+    except OSError as fault:
+        return ": " + fault.strerror
+    return ""
+
+
+# ---- Files that are replaced
+
+def sync(name):
+    """Waits until the file, or the names in the folder, are on the disk."""
+    file = os.open(name, os.O_RDONLY)
+    try:
+        os.fsync(file)
+    finally:
+        os.close(file)
+
+
+@contextlib.contextmanager
+def open_descriptor(file):
+    """Closes the descriptor at the end."""
+    try:
+        yield file
+    finally:
+        os.close(file)
+
+
+def wait_for_lock(file, name, seconds):
+    """Waits for the lock of an open file, at most so long, without limit for None. Who can read the file can hold the lock."""
+    if os.fstat(file).st_mode not in LOCK_MODES:
+        raise Fault("%s: it has to be a file of mode 0600, or 0660 for a group: who can read it can hold it" % name_shown(name))
+    begun, told = time.monotonic(), False
+    while True:
+        try:
+            return fcntl.flock(file, fcntl.LOCK_EX | fcntl.LOCK_NB)
+        except BlockingIOError:
+            waited = time.monotonic() - begun
+        if seconds is not None and waited >= seconds:
+            raise Fault("%s: another call holds this lock: try again, or wait longer by --wait" % name_shown(name))
+        if waited >= PATIENCE and not told:
+            say("waits for %s, which another call holds" % name_shown(name))
+            told = True
+        time.sleep(PAUSE)
+
+
+@contextlib.contextmanager
+def new_file(name, inputs):
+    """A new private file. What a killed call left there goes first; unless it was renamed, the file goes at the end."""
+    with contextlib.suppress(FileNotFoundError):
+        for each in inputs:
+            if os.path.samestat(os.lstat(name), os.fstat(each.file.fileno())):
+                raise Fault("%s: the union is written there; rename it first" % each.name, USAGE)
+        os.unlink(name)
+    with open_descriptor(os.open(name, os.O_WRONLY | os.O_CREAT | os.O_EXCL, 0o600)) as file:
+        try:
+            yield file
+        finally:
+            with contextlib.suppress(OSError):
+                os.unlink(name)
+
+
+# ---- The end of a call
+
+class Stopped(Fault):
+    """A signal asked the call to end."""
+
+    def __init__(self, number):
+        super().__init__("stopped by %s" % signal.Signals(number).name, 128 + number)
+
+
+def stop(number, _):
+    for each in STOPPING:
+        signal.signal(each, signal.SIG_IGN)
+    raise Stopped(number)
+
+
+def ended(run, *words):
+    """Runs a tool's work. Returns the status; why the call ended is said on standard error.
+
+    A signal that asks it to end is a fault like others: what the call has begun is ended, and new files are removed.
+    """
+    if sys.stdout is None or sys.stderr is None:
+        return FAILED  # what is found, or why it can't be, can't be written
+    for number in STOPPING:
+        signal.signal(number, stop)
+    try:
+        status = run(*words)
+        sys.stdout.flush()
+        return status
+    except Fault as fault:
+        status, said = fault.status, str(fault)
+    except OSError as fault:
+        status, said = (MEMORY, OUT_OF_MEMORY) if fault.errno == errno.ENOMEM else (FAILED, why(fault))
+    except MemoryError:
+        status, said = MEMORY, OUT_OF_MEMORY
+    say(said)
+    return status
