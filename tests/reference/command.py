@@ -8,12 +8,14 @@ from tests.reference.replica_files import file_of, read_file
 from tests.reference.rulings import check_key, place_of, ruled
 from tests.reference.shown_texts import check_line, conflict_text, log_text
 from tests.reference.sketch_files import cells_of, missing_by_sketch, read_sketch, salt_of, sketch_of
+from tests.reference.split_files import UNITS, split_of
 
 DIRECTORY = object()  # stands for the content of a folder
-# How many words a command wants beside its options; `join` wants one or more.
+SEVERAL = (b"join", b"split")  # the commands that want one file or more
+# How many words each other command wants beside its options.
 WORDS_WANTED = {b"missing": 2, b"missing-by": 2, b"inventory": 1, b"show": 1, b"check": 1, b"rehearse": 3,
                 b"rule": 4, b"sketch": 1, b"missing-by-sketch": 2}
-OPTIONS = {b"join": [b"--log"], b"sketch": [b"--cells", b"--salt"]}  # those with a value
+OPTIONS = {b"join": [b"--log"], b"split": [b"--by", b"--log"], b"sketch": [b"--cells", b"--salt"]}  # those with a value
 
 
 class Usage(Exception):
@@ -35,7 +37,7 @@ class Call:
             b"".join(word + b"\n" for word in words).decode()
         except UnicodeDecodeError:
             raise Usage
-        if not words or words[0] not in (b"join", *WORDS_WANTED):
+        if not words or words[0] not in (*SEVERAL, *WORDS_WANTED):
             raise Usage
         self.command, self.given, self.conflicts, self.files = words[0], {}, False, []
         self.rest = list(words[1:])
@@ -43,6 +45,9 @@ class Call:
             self.take(self.rest.pop(0))
         self.log = self.given.get(b"--log")
         if len(self.files) != WORDS_WANTED.get(self.command, max(1, len(self.files))):
+            raise Usage
+        self.unit = self.given.get(b"--by", b"").decode()
+        if self.command == b"split" and self.unit not in UNITS:
             raise Usage
         if self.command == b"rehearse":
             self.log, self.sites, *self.files = self.files
@@ -111,7 +116,7 @@ def inputs_of(call, files):
 
 def log_written(call, logs):
     """The log under which is written; every input that names a log must name that one."""
-    if call.command == b"join":
+    if call.command in SEVERAL:
         named = call.log.decode() if call.log is not None else next((log for log in logs if log is not None), None)
     else:
         named = None if None in logs else logs[0]
@@ -145,6 +150,8 @@ def written(call, files):
     sets = [contents for _, contents in inputs]
     if call.command == b"join":
         return file_of(log, set().union(*sets))
+    if call.command == b"split":
+        return split_of(log, set().union(*sets), call.unit)
     if call.command == b"missing":
         return file_of(log, with_carriers(sets[0] - sets[1]))
     if call.command == b"missing-by":
