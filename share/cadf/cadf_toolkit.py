@@ -67,7 +67,7 @@ class Refusal(Fault):
         which = inputs[place - 1] if place else inputs[0] if is_alone else None
         if which and said == "read fault":
             which.first(1)
-        text = (which.kind() if which and OF_NO_KIND.match(said) else None) or with_advice(said)
+        text = explained(said, which)
         super().__init__("%s: %s" % (which.name, text) if which else text, status)
 
 
@@ -243,15 +243,20 @@ def with_advice(text):
     return next(("%s: %s" % (text, advice) for begin, advice in ADVICE.items() if text.startswith(begin)), text)
 
 
+def explained(said, which=None):
+    """What `cadf` said of an input, or what else than a file of facts it is, with what to do next."""
+    return (which.kind() if which and OF_NO_KIND.match(said) else None) or with_advice(said)
+
+
 @contextlib.contextmanager
 def started(words, **options):
-    """Starts a program, which doesn't outlive the call."""
+    """Starts a program, which doesn't outlive the call. A tool that is asked to end ends what it has started itself."""
     child = subprocess.Popen(words, **options)
     with child:
         try:
             yield child
         except BaseException:
-            child.kill()
+            child.terminate()
             raise
 
 

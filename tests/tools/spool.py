@@ -42,7 +42,9 @@ from tests.tools.faulty import calls_of
 SPOOL = os.path.join(TOP, "tools", "cadf-spool")
 EVENT = {"eventType": "activity", "eventTime": "2024-03-01T12:00:00Z", "action": "read", "outcome": "success",
          "initiatorId": "u1", "targetId": "t1", "observerId": "s1"}
-CALLS = "os.open os.mkdir os.rename os.fsync os.unlink os.rmdir fcntl.flock builtins.open subprocess.run"
+CALLS = "os.open os.mkdir os.rename os.fsync os.unlink os.rmdir fcntl.flock builtins.open subprocess.Popen"
+DAMAGED = "the file is damaged: fetch it again, or restore it as the guide says under `A damaged site`"
+TOO_LARGE = "truncate -s 1073741824 /dev/stdout; printf 'Z %064d\\n' 0 >>/dev/stdout; exit 0"  # a replica file that no command reads
 
 
 def event(key, **members):
@@ -108,8 +110,7 @@ class Trial:
         loader = importlib.machinery.SourceFileLoader("program", self.tool)
         program = importlib.util.module_from_spec(importlib.util.spec_from_loader("program", loader))
         loader.exec_module(program)
-        program.say = lambda text: None
-        os.environ["CADF"] = self.binary
+        program.say, program.CADF = lambda text: None, self.binary
         return program
 
     def command(self, folder, script):
@@ -143,7 +144,8 @@ def tries_kinds(trial):
     kinds = {"a.jsonl": message("e1") + odd, "b.json": document("e3"), "c.cadf": replica, "d": trial.joined(document("e4")), "e.json": json.dumps(event("e5")).encode(),
              "f.log": b"2024-03-01 12:00:00.1 7 INFO x [-] no event\n", "g": b"", "h.jsonl": document("e6") + b"\n"}
     bad = {"cut.json": (document("e7")[:-1], "not JSON"), "empty.json": (b"", "not JSON"), "lines.json": (message("e8", "e9"), "not JSON"),
-           "other.json": (document("e7", log="h"), 'other log: "h"'), "short.cadf": (replica[:-9], "truncated"), "later": (b"CADF-REPLICA 3\n", "version"),
+           "other.json": (document("e7", log="h"), 'other log: "h": one site has one log; `cadf check FILE` says which log a file is of'),
+           "short.cadf": (replica[:-9], "truncated: " + DAMAGED), "asks.cadf": (b"CADF-INVENTORY 1\n", "an inventory, which holds no facts: `cadf missing-by SITE INVENTORY` answers it"), "later": (b"CADF-REPLICA 3\n", "version"),
            "action.json": (document("e7").replace(b'"read"', b"1"), "event 1: action"), "x.gz": (b"\x1f\x8b\x08", "compressed: unpack it by gunzip, and put it back")}
     left = {"n.part": b"x", "n.jsonl.torn": b"{", ".hidden": b"x"}
     folder = trial.site(**kinds, **{name: data for name, (data, _) in bad.items()}, **left)
@@ -153,7 +155,7 @@ def tries_kinds(trial):
     wanted = dict({"taken/" + name: data for name, data in kinds.items()}, **{"set-aside/a.jsonl": None, "n.part": b"x", "n.jsonl.torn": b"{"})
     for name, (data, reason) in bad.items():
         wanted.update({"set-aside/" + name: data, "set-aside/%s.reason" % name: reason.encode() + b"\n"})
-    trial.check("kinds", done.status, 1, done.output, b"", done.error.decode().splitlines()[-1], "cadf-spool: taken 8, set aside 9, waiting 0")
+    trial.check("kinds", done.status, 1, done.output, b"", done.error.decode().splitlines()[-1], "cadf-spool: taken 8, set aside 10, waiting 0")
     trial.leaves("kinds", folder, site, **wanted)
     entries = [json.loads(line) for line in held(os.path.join(folder, "spool"))["set-aside/a.jsonl"].splitlines()]
     trial.check("entries", [(entry["file"], entry["line"], entry["faults"]) for entry in entries],
@@ -262,7 +264,7 @@ def tries_faults(trial):
     for what, text, status in (
             ("memory", "echo 'cadf: out of memory' >&2; exit 4", 4), ("a read", "echo 'cadf: input 1: read fault' >&2; exit 3", 3), ("another status", "exit 127", 3),
             ("a signal", "kill -9 $$", 3), ("memory in a join", '[ "$1" = check ] && exec "%s" "$@"; echo "cadf: out of memory" >&2; exit 4' % trial.binary, 4),
-            ("any union too large", '[ "$1" = check ] && case $(realpath "$3") in *.new) echo "cadf: input 1: too large" >&2; exit 1;; esac; exec "%s" "$@"' % trial.binary, 1),
+            ("any union too large", '[ "$1" = join ] && { %s; }; exec "%s" "$@"' % (TOO_LARGE, trial.binary), 1),
             ("a kill in a join", '[ "$1" = check ] && exec "%s" "$@"; kill -9 $PPID' % trial.binary, 3)):
         folder = trial.site(**files)
         put(odd, b"#!/bin/sh\n%s\n" % text.encode())
@@ -279,6 +281,25 @@ def tries_faults(trial):
         trial.check("a full disk", done.status, 3)
         trial.check("a full disk, again", trial.run(folder, "--log", "g", "s.cadf", "spool").status in (0, 1), True)
         trial.leaves("a full disk", folder, trial.joined(document("e1", "e2")), **{"taken/a.jsonl": None, "taken/b.json": None, "set-aside/c.json": None, "set-aside/c.json.reason": None})
+
+
+def tries_stopped(trial):
+    """Asked to end while `cadf` joins, it ends what it has started, and leaves nothing of it; the next run takes the files."""
+    folder = trial.site(**{"a.json": document("e1")})
+    odd = trial.command(folder, '[ "$1" = join ] && { echo $$ >%s/part; mv %s/part %s/joins; exec sleep 30; }' % (folder, folder, folder))
+    child = subprocess.Popen([sys.executable, trial.tool, "--log", "g", "s.cadf", "spool"], cwd=folder, env=dict(os.environ, CADF=odd), stderr=subprocess.PIPE)
+    while not os.path.exists(os.path.join(folder, "joins")) and child.poll() is None:
+        time.sleep(0.01)
+    child.terminate()
+    said = child.communicate()[1]
+    with open(os.path.join(folder, "joins"), encoding="ascii") as file:
+        joins = "/proc/" + file.read().strip()
+    is_left = os.path.exists(joins)
+    trial.check("stopped", child.returncode, 128 + signal.SIGTERM, said, b"cadf-spool: stopped by SIGTERM\n", is_left, False, os.path.exists(os.path.join(folder, "s.cadf.new")), False,
+                os.listdir(os.path.join(folder, "spool/taking")), ["a.json"])
+    if is_left:
+        os.kill(int(os.path.basename(joins)), signal.SIGKILL)
+    trial.check("stopped, again", trial.run(folder, "--log", "g", "s.cadf", "spool").status, 0)
 
 
 def tries_groups(trial):
@@ -368,7 +389,7 @@ def tries_groups_at_fault(trial):
     held_by = 'for each; do grep -q BOMB "$each" 2>/dev/null && { %s; }; done'
     for what, script in (("memory", '[ "$1" = join ] && ' + held_by % "echo 'cadf: out of memory' >&2; exit 4"),
                          ("time", '[ "$1" = join ] && ' + held_by % "kill -XCPU $$"),
-                         ("too large", '[ "$1" = check ] && case $(realpath "$3") in *.new) %s;; esac' % (held_by % "echo 'cadf: input 1: too large' >&2; exit 1"))):
+                         ("too large", '[ "$1" = join ] && ' + held_by % TOO_LARGE)):
         names = ["%d.json" % number for number in range(16)]
         folder = trial.site(**{name: document("BOMB" if name == "7.json" else name) for name in names})
         odd = trial.command(folder, 'echo "$1" >>%s/calls\n%s' % (folder, script))
@@ -377,7 +398,7 @@ def tries_groups_at_fault(trial):
         trial.leaves(what + " of a group", folder, trial.joined(document(*(name for name in names if name != "7.json"))), **{
             "set-aside/7.json": None, "set-aside/7.json.reason": None, **{"taken/" + name: None for name in names if name != "7.json"}})
         joins = held(folder).get("calls", b"").split().count(b"join")
-        trial.check(what + ": joins of a group", joins <= 10, True)  # one, two for each halving, and one
+        trial.check(what + ": joins of a group", joins <= 13, True)  # one, two for each halving, and one; a second for each of three takes into a site that is there
 
 
 def site_among_users(trial):
@@ -504,6 +525,7 @@ def tries_unclosed(trial):
 
 # Each: what a copy of the tool does wrongly, the texts that it has in place of others, and what catches it.
 WRONG = [
+    ("what it runs goes on", [("sys.exit(ended(take, words()))", "sys.exit(take(words()))")], tries_stopped),
     ("a file that is gone ends or fails the run", [("except FileNotFoundError:\n                say(", "except ZeroDivisionError:\n                say(")], tries_withdrawn),
     ("no program has a budget", [("resource.setrlimit(kind, (min(most, hard), hard))", "pass")], tries_budgets),
     ("a file that costs too much waits", [("raise self.fault(done)\n            if log", "raise Waits(done.status, done.said)\n            if log")], tries_budgets),
@@ -514,10 +536,10 @@ WRONG = [
     ("a file that fails alone waits", [("return Refused(\"it can't be taken: \"", "return Waits(FAILED, \"")], tries_groups_at_fault),
 ]
 WRONG_AMONG_USERS = [
-    ("it uses what it finds", [("raise Stop(FAILED, wanted)\n        return file", "pass\n        return file")], tries_planted),
+    ("it uses what it finds", [("raise Fault(wanted)\n        return file", "pass\n        return file")], tries_planted),
     ("it follows links", [("flags | os.O_NOFOLLOW | os.O_NONBLOCK", "flags | os.O_NONBLOCK")], tries_planted),
     ("it works in any spool", [("if found.st_mode & 0o022 and not", "if False and not")], tries_planted),
-    ("it works where a sender may write", [('WORK = ".work"', 'WORK = "../.work"'), ("contextlib.suppress(FileNotFoundError):\n            self.work", "contextlib.suppress(OSError):\n            self.work"),
+    ("it works where a sender may write", [('WORK = ".work"', 'WORK = "../.work"'), ("contextlib.suppress(FileNotFoundError):\n            with", "contextlib.suppress(OSError):\n            with"),
                                           ("os.mkdir(WORK, 0o700, dir_fd=self.taking)", "os.makedirs(os.path.join(self.path, '.work'), exist_ok=True)")], tries_senders),
     ("it takes the sender's own file", [('os.rename("copy", name, src_dir_fd=self.work, dst_dir_fd=self.taking)', 'os.unlink("copy", dir_fd=self.work)')], tries_senders),
     ("it waits for no other user", [("if abs(time.time() - found.st_mtime) < quiet:", "if False:")], tries_unclosed),
@@ -628,7 +650,7 @@ def main():
     with tempfile.TemporaryDirectory(prefix="cadf-spool-") as folder:
         trial = Trial(folder, os.path.abspath(options.binary))
         os.chmod(folder, 0o755)  # for other users
-        for tries in (tries_kinds, tries_mended, tries_names, tries_odd_files, tries_words, tries_faults, tries_groups, tries_many, tries_withdrawn,
+        for tries in (tries_kinds, tries_mended, tries_names, tries_odd_files, tries_words, tries_faults, tries_stopped, tries_groups, tries_many, tries_withdrawn,
                       tries_budgets, tries_long_paths, tries_confined, tries_sizes, tries_groups_at_fault, tries_planted, tries_senders, tries_unclosed, catches):
             tries(trial)
         cases = tries_each_call(trial)
