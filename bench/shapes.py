@@ -76,7 +76,6 @@ GATE = {
     ("properties", "document"): ("check", "show"),
     ("overwritten", "document"): ("check",),
     ("shared-step", "file"): ("check", "show"),
-    ("line", "file"): ("check",),
     ("names", "file"): ("check",),
     ("chains-64", "file"): ("check", "show", "join"),
     ("chains-256", "file"): ("check", "show", "join"),
