@@ -183,8 +183,12 @@ class Input:
 
     def kind(self):
         """What else the file is than one of facts, or None."""
-        first = self.first(max(map(len, OTHER_KINDS)))
-        return next((words for begin, words in OTHER_KINDS.items() if first.startswith(begin)), None)
+        return kind_of(self.first(max(map(len, OTHER_KINDS))))
+
+
+def kind_of(first):
+    """What else than facts begins with these bytes, or None."""
+    return next((words for begin, words in OTHER_KINDS.items() if first.startswith(begin)), None)
 
 
 def copy_of(pipe):
@@ -220,7 +224,7 @@ def opened(names, pipes=False):
         inputs = []
         for name in names:
             try:
-                file = copy_of(sys.stdin.buffer) if name == "-" else (opened_or_copied if pipes else opened_file)(name)
+                file = copy_of(open(0, "rb", closefd=False)) if name == "-" else (opened_or_copied if pipes else opened_file)(name)
             except OSError as fault:
                 raise Fault("%s: %s" % (name_shown(name), fault.strerror)) from None
             inputs.append(Input("standard input" if name == "-" else name, files.enter_context(file)))
@@ -374,6 +378,8 @@ def ended(run, *words):
     """
     if sys.stdout is None or sys.stderr is None:
         return FAILED  # what is found, or why it can't be, can't be written
+    if sys.stdin is None:
+        os.open(os.devnull, os.O_WRONLY)  # no other file gets its number, and what reads it fails
     for number in STOPPING:
         signal.signal(number, stop)
     try:

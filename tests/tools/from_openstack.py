@@ -29,6 +29,7 @@ import tempfile
 from tests import TOP
 from tests.machine import built, ended
 from tests.reference import events as second
+from tests.tools.copies import copied
 
 TOOL = os.path.join(TOP, "tools", "cadf-from-openstack")
 REAL = sorted(glob.glob(os.path.join(TOP, "examples", "real", "*.jsonl")))
@@ -193,12 +194,9 @@ class Trial:
 
     def wrong_copy(self, right, instead):
         """The place of a copy of the tool that has another text in one place."""
-        with open(TOOL, encoding="utf-8") as file:
-            source = file.read()
-        self.check("a place for what is wrong", source.count(right), 1)
-        put("wrong", source.replace(right, instead).encode())
-        os.chmod("wrong", 0o755)
-        return os.path.abspath("wrong")
+        tools = copied(tempfile.mkdtemp(dir=os.getcwd()), right, instead)
+        self.check("a place for what is wrong", tools is not None, True)
+        return os.path.join(tools or "", "cadf-from-openstack")
 
     def cadf(self, *words):
         return ended(self.binary, words)
@@ -536,8 +534,34 @@ def tries_aside(trial):
     put("fixed", kept.replace(b'"event": {', b'"event": {"id": "f", ', 1))
     trial.check("mended by hand", [each["id"] for each in trial.read(open("fixed", "rb").read()).events], ["f"])
     trial.check("read and written", ended(TOOL, ["--log", "g", "--set-aside", "aside", "aside"]).status, 2)
+    tries_unasked(trial, data)
+
+
+NOWHERE = "cadf-from-openstack: what was set aside is written nowhere: --set-aside FILE keeps it, to be mended"
+
+
+def tries_unasked(trial, data):
+    """Without a file for it, what is set aside is named by its line and the checks that failed, with nothing of the event."""
     done = ended(TOOL, ["--log", "g"], input=data)
-    trial.check("to standard error", done.status, 1, done.error, kept + counts(aside=3).encode() + b"\n")
+    trial.check("named by line", done.status, 1, done.error.decode().splitlines(), [
+        "cadf-from-openstack: -: line %d: set aside: %s" % each for each in ((1, "id"), (2, "id"), (3, "not UTF-8"))] + [NOWHERE, counts(aside=3)])
+    private = "a@example.com\x1b[2J"
+    lines = lines_of([event(n={private: 1.5}), {"id": "g", "events": [], private: [1.5]}, [{private: 1, "id": private}] * 2,
+                      {"faults": [], "event": {}, "file": private, "line": 9}])
+    done = ended(TOOL, ["--log", "g", "--without", "number"], input=lines.encode())
+    said = done.error.decode().splitlines()
+    trial.check("nothing of the event", done.status, 1, len(said), 6, said[:2], [
+        "cadf-from-openstack: -: line 1: set aside: a number is not whole", "cadf-from-openstack: -: line 2: set aside: no event, a number is not whole"],
+        private[:5] in done.error.decode(), False)
+    wrong = trial.wrong_copy("return found[1] if found else fault", "return fault")
+    trial.check("names of members", private[:5] in ended(wrong, ["--log", "g", "--without", "number"], input=lines.encode()).error.decode(), True)
+    many = json.dumps([event(tags=["a"] * number + [""]) for number in range(150)])
+    done = ended(TOOL, ["--log", "g"], input=many.encode())
+    trial.check("many faults", done.status, 1, done.error.decode().splitlines()[0].endswith(", event 99: tag 99, and 50 more"), False,
+                done.error.decode().splitlines()[0].endswith("tag 99, tag 100, and 50 more"), True)
+    for kind, text in (("an inventory", "CADF-INVENTORY 1\n"), ("a page of cadf-report", "<!DOCTYPE html>\n"), ("a script", "learn 0 {}\n")):
+        put("odd", text.encode())
+        trial.check(kind, ended(TOOL, ["--log", "g", "odd"]).error.decode().startswith("cadf-from-openstack: odd: it begins as %s" % kind), True)
 
 
 def tries_files(trial):
@@ -550,22 +574,23 @@ def tries_files(trial):
                                                       "cadf-from-openstack: .: Is a directory"])
     put("c\n", b"x")
     done = ended(TOOL, ["--log", "g", "c\n"])
-    trial.check("an odd name", json.loads(done.error.decode().split("\n")[0])["file"], '"c\\n"')
+    trial.check("an odd name", done.error.decode().split("\n")[0], 'cadf-from-openstack: "c\\n": line 1: set aside: not JSON, and no line of a log')
     for what, words in (("no log", []), ("no name", ["--log", ""]), ("a long name", ["--log", "x" * 1025]), ("no rule", ["--log", "g", "--without", "x"]),
                         ("an option", ["--log", "g", "--x"]), ("a short option", ["--lo", "g"]), ("a size", ["--log", "g", "--size", "1"])):
         done = ended(TOOL, words)
         trial.check(what, done.status, 2, done.output, b"")
     with open("/dev/full", "wb") as full:
         done = subprocess.run([TOOL, "--log", "g", "--", "-a"], stdout=full, stderr=subprocess.PIPE)
-        trial.check("a full disk", done.returncode, 3, done.stderr, b"cadf-from-openstack: write fault: [Errno 28] No space left on device\n")
+        trial.check("a full disk", done.returncode, 3, done.stderr, b"cadf-from-openstack: standard output: write fault: No space left on device\n")
     put("d", b"x\n")
     done = ended(TOOL, ["--log", "g", "--set-aside", "/dev/full", "d"])
-    trial.check("a full disk for what is set aside", done.status, 3, done.output.endswith(b"}\n"), False)
+    trial.check("a full disk for what is set aside", done.status, 3, done.output.endswith(b"}\n"), False,
+                done.error, b"cadf-from-openstack: /dev/full: write fault: No space left on device\n")
     with open("one.out", "wb") as output:
         output.write(b"x")
         done = subprocess.run([TOOL, "--log", "g", "one.out"], stdout=output, stderr=subprocess.PIPE)
         trial.check("written to what is read", done.returncode, 2)
-    for closed, status in (("2>&-", 3), (">&-", 3), ("<&-", 3), ("2>&- <c.json", 0), ("2>&- >&-", 3)):
+    for closed, status in (("2>&-", 3), (">&-", 3), ("<&-", 3), ("2>&- <c.json", 3), ("2>&- >&-", 3)):
         put("c.json", json.dumps(event(id="c")).encode())
         done = ended("sh", ["-c", '"$0" --log g %s %s' % ("" if "<" in closed else "d", closed), TOOL])
         trial.check("closed " + closed, done.status, status, b"faults" in done.output or b"cadf-" in done.output, False)
@@ -589,7 +614,8 @@ def tries_sizes(trial):
     trial.check("split", split.status, 0, split.output, b"", names, ["part-%04d.json" % number for number in (1, 2, 3, 4)],
                 max(map(os.path.getsize, names)) <= 4096, True, split.counts, counts(10))
     trial.check("the parts", trial.log_of(*(open(name, "rb").read() for name in names)), trial.log_of(trial.read(lines).output))
-    trial.check("the part is there", trial.read(lines, "--split", "part-").status, 3)
+    done = trial.read(lines, "--split", "part-")
+    trial.check("the part is there", done.status, 3, done.error, b"cadf-from-openstack: part-0001.json: write fault: File exists\n")
     trial.check("too large an event", trial.read(json.dumps(event(n="x" * 5000)), "--size", "4096").entries[0]["faults"], ["too large"])
     with open("long", "w", encoding="utf-8") as file:
         file.write('{"a":\n')  # a broken first line
