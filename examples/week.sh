@@ -87,7 +87,7 @@ cadf-take north/site.cadf part.cadf
 sed -n '2{s/"outcome":"[a-z]*"/"outcome":"unknown"/; s/^/{"id":"audit","events":[/; s/,$/]}/; p;}' west/day-6.json >told.json
 cadf-take south/site.cadf told.json
 for pair in "north south" "west north" "south west" "north west"; do ask $pair; done
-expect 1 cadf-conflicts north/site.cadf >open 2>counted
+expect 5 cadf-conflicts north/site.cadf >open 2>counted
 cat counted
 cadf-conflicts --values north/site.cadf west/day-6.json 2>/dev/null >values || :
 grep -B 3 '^#   in west' values | grep '^E' >choices
@@ -104,7 +104,7 @@ read=$(cat */spool/*.jsonl | wc -l)
 kept=$(sed 's/.*kept \([0-9]*\), set aside \([0-9]*\),.*/\1 \2/' */counts | awk '{ kept += $1; aside += $2 } END { print kept + aside }')
 [ "$read" = "$kept" ] || fail "$read lines read, $kept kept or set aside"
 cadf-take west/site.cadf mended.json
-expect 1 cadf-agree north/site.cadf south/site.cadf west/site.cadf 2>differ
+expect 5 cadf-agree north/site.cadf south/site.cadf west/site.cadf 2>differ
 cat differ
 for pair in "north west" "south north" "west south"; do ask $pair; done
 
