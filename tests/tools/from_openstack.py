@@ -121,6 +121,8 @@ NO_EVENTS = [
     ("properties", json.dumps({"id": "g", "events": [], "name": "n", "x": 1.5, "metrics": []}),
      ["name: no event", "x: no event", "/x: a number is not whole"]),
     ("base64", json.dumps({"faults": [], "base64": "/w=="}), ["not UTF-8"]),
+    ("an entry of no file", json.dumps({"faults": [], "event": 1, "file": [], "line": 1}), ["not an object"]),
+    ("an entry of no line", json.dumps({"faults": [], "event": 1, "file": "f", "line": 1.5}), ["not an object"]),
 ]
 
 PENDING = {"outcome": "pending", "requestPath": "/v2"}
