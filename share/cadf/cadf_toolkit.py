@@ -79,6 +79,11 @@ def name_shown(name):
     return text if text and text.isprintable() else json.dumps(text)
 
 
+def printable(text):
+    """The text with escapes in the place of what can't be printed."""
+    return "".join(each if each.isprintable() else ascii(each)[1:-1] for each in text)
+
+
 def tool():
     """The name under which the tool was called."""
     return os.path.basename(sys.argv[0])
@@ -155,7 +160,7 @@ class Parser(argparse.ArgumentParser):
         self.add_argument("--version", action=Version, nargs=0, help="say the version and the commit, and end")
 
     def error(self, message):
-        super().error("".join(each if each.isprintable() else ascii(each)[1:-1] for each in message))
+        super().error(printable(message))
 
 
 # ---- Inputs

@@ -44,6 +44,7 @@ if os.path.exists(SYSTEM) and os.path.realpath(sys.executable) != os.path.realpa
 from tests import TOP
 from tests.machine import built
 from tests.tools import broker
+from tests.tools.copies import copied
 
 LISTEN, READ = (os.path.join(TOP, "tools", name) for name in ("cadf-listen", "cadf-from-openstack"))
 ACKNOWLEDGES = "            channel.basic_ack(deliveries.tag, multiple=True)\n"
@@ -187,22 +188,25 @@ def count_of(channel, queues):
 
 def wrong_copy(trial):
     """A copy of the listener that acknowledges before it writes."""
-    with open(LISTEN, encoding="utf-8") as file:
-        source = file.read()
-    trial.check("a place for the wrong order", source.count(WRITES + ACKNOWLEDGES), 1)
-    return trial.put("wrong-listen", source.replace(WRITES + ACKNOWLEDGES, ACKNOWLEDGES + WRITES).encode())
+    tools = copied(trial.path("wrong"), WRITES + ACKNOWLEDGES, ACKNOWLEDGES + WRITES)
+    trial.check("a place for the wrong order", tools is not None, True)
+    wrong = trial.path("wrong", "tools", "wrong-listen")
+    os.rename(trial.path("wrong", "tools", "cadf-listen"), wrong)
+    return wrong
 
 # ---- What needs no broker
 
 def answer(program, words):
     """What the program answers to words that it refuses: its status, its output and its errors."""
-    output, error = io.StringIO(), io.StringIO()
+    output, error, handlers = io.StringIO(), io.StringIO(), {number: signal.getsignal(number) for number in program.STOPPING}
     with contextlib.redirect_stdout(output), contextlib.redirect_stderr(error):
         try:
             sys.argv = [LISTEN, *words]
             status = program.main()
         except SystemExit as end:
             status = end.code
+    for number, handler in handlers.items():
+        signal.signal(number, handler)
     return status, output.getvalue(), error.getvalue()
 
 
@@ -374,7 +378,7 @@ def refused(call, *words):
         call(*words)
         return "not refused"
     except Exception as fault:
-        return str(fault) if type(fault).__name__ == "SpoolFault" else "another fault: %r" % fault
+        return str(fault) if type(fault).__name__ == "Fault" else "another fault: %r" % fault
 
 # ---- With a broker
 
@@ -384,11 +388,11 @@ def tries_full_disk(trial, program, limit):
     messages = recorded()[:FILLING]
     trial.publish(queue, messages)
     statuses = []
-    while not statuses or statuses[-1] == 1 and len(statuses) < 20:
+    while not statuses or statuses[-1] == 3 and len(statuses) < 20:
         child = trial.start(queue, "--queue", queue, "--prefetch", "20", "--until-empty", "0.3", program=program,
                             preexec_fn=lambda: resource.setrlimit(resource.RLIMIT_FSIZE, (limit, limit)))
         statuses.append(trial.ended(child))
-    trial.check("%s: runs" % queue, statuses[-1], 0, set(statuses[:-1]), {1}, trial.waiting(queue), 0)
+    trial.check("%s: runs" % queue, statuses[-1], 0, set(statuses[:-1]), {3}, "%s: File too large; nothing more is acknowledged" % trial.path(queue) in trial.said(queue), True, trial.waiting(queue), 0)
     missing, strange = lost(messages, trial.path(queue))
     trial.check("%s: lines that are no message" % queue, strange, 0)
     return missing
@@ -642,7 +646,7 @@ def tries_connections(trial):
     child = trial.start("password", "--queue", "hosts", url=trial.broker.url.replace("guest:guest", "guest:secret"))
     trial.wait_for("a wrong password", lambda: "ACCESS_REFUSED" in trial.said("password"))
     second = trial.start("password", "--queue", "hosts")
-    trial.check("a second listener", trial.ended(second), 1, "another listener has it; nothing more is acknowledged" in trial.said("password"), True)
+    trial.check("a second listener", trial.ended(second), 3, "another listener has it; nothing more is acknowledged" in trial.said("password"), True)
     trial.check("a wrong password", trial.ended(child, signal.SIGTERM), 0, "secret" in trial.said("password"), False)
     waits = trial.start("late", "--queue", "late")
     trial.wait_for("a queue that isn't there", lambda: "no queue 'late'" in trial.said("late"))
