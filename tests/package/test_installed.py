@@ -22,6 +22,7 @@ LONG_OPTION = re.compile(r"(?<![\w-])--[a-z][a-z-]*")
 # What is installed beside the tools, the pages of docs/ and the examples that have a folder.
 PLACES = """
 bin/cadf share/man/man1/cadf.1 share/bash-completion/completions/cadf share/zsh/site-functions/_cadf
+share/cadf/cadf_toolkit.py share/cadf/version
 share/cadf/report/conflicts.js share/cadf/report/events.js share/cadf/report/filters.js share/cadf/report/guard.js
 share/cadf/report/page.css share/cadf/report/page.html share/cadf/report/page.js share/cadf/report/pairs.js
 share/cadf/report/sites.js share/cadf/report/timeline.js share/cadf/report/values.js
@@ -93,7 +94,7 @@ def test_tool(run, prefix, tool):
     """It runs, a guide names it, and its section of the page has its options."""
     done, manual = run(tool, "--help"), page_of(prefix)
     assert done.status == 0
-    assert set(LONG_OPTION.findall(done.output.decode())) - {"--help"} == set(LONG_OPTION.findall(section(manual, tool)))
+    assert set(LONG_OPTION.findall(done.output.decode())) - {"--help", "--version"} == set(LONG_OPTION.findall(section(manual, tool)))
     assert any(tool in page(name) for name in os.listdir(os.path.join(TOP, "docs")) if name.endswith(".md"))
     assert (prefix / "share/man/man1" / (tool + ".1")).read_text() == ".so man1/cadf.1\n"
 
