@@ -6,6 +6,7 @@ import argparse
 import contextlib
 import errno
 import fcntl
+import io
 import json
 import os
 import re
@@ -101,8 +102,20 @@ def say(text):
 
 
 def why(fault):
-    """The name of the file and the system's words of an OSError."""
-    return "%s: %s" % (name_shown(fault.filename) if fault.filename else "write fault", fault.strerror)
+    """The name of the file and the system's words of an OSError. One without a name is of what is printed."""
+    name = name_shown(fault.filename) if isinstance(fault.filename, str) else "standard output: write fault"
+    return "%s: %s" % (name, fault.strerror)
+
+
+@contextlib.contextmanager
+def naming(name):
+    """A context in which an OSError without the name of a file is given this one."""
+    try:
+        yield
+    except OSError as fault:
+        if not isinstance(fault.filename, str):
+            fault.filename = name
+        raise
 
 
 class Progress:
@@ -231,7 +244,7 @@ def opened(names, pipes=False):
             try:
                 file = copy_of(open(0, "rb", closefd=False)) if name == "-" else (opened_or_copied if pipes else opened_file)(name)
             except OSError as fault:
-                raise Fault("%s: %s" % (name_shown(name), fault.strerror)) from None
+                raise Fault("%s: %s" % (name_shown("standard input" if name == "-" else name), fault.strerror)) from None
             inputs.append(Input("standard input" if name == "-" else name, files.enter_context(file)))
         yield inputs
 
@@ -245,6 +258,11 @@ def refusal(said, status, inputs):
     if named and 0 < int(named[1]) <= len(inputs):
         return Refusal(named[2], status, int(named[1]), inputs)
     return Refusal(text, status, None, inputs)
+
+
+def other_log(log):
+    """Why a file of that log is refused."""
+    return with_advice("other log: %s" % json.dumps(log))
 
 
 def with_advice(text):
@@ -376,6 +394,14 @@ def stop(number, _):
     raise Stopped(number)
 
 
+def prepare_streams():
+    """Has each write to standard output continued that is cut short, and no file get the number of a closed standard input."""
+    if isinstance(getattr(sys.stdout, "buffer", None), io.RawIOBase):  # as with PYTHONUNBUFFERED
+        sys.stdout = open(1, "w", encoding=sys.stdout.encoding, errors=sys.stdout.errors, closefd=False)
+    if sys.stdin is None:
+        os.open(os.devnull, os.O_WRONLY)  # what reads it fails
+
+
 def ended(run, *words):
     """Runs a tool's work. Returns the status; why the call ended is said on standard error.
 
@@ -383,11 +409,10 @@ def ended(run, *words):
     """
     if sys.stdout is None or sys.stderr is None:
         return FAILED  # what is found, or why it can't be, can't be written
-    if sys.stdin is None:
-        os.open(os.devnull, os.O_WRONLY)  # no other file gets its number, and what reads it fails
     for number in STOPPING:
         signal.signal(number, stop)
     try:
+        prepare_streams()
         status = run(*words)
         sys.stdout.flush()
         return status

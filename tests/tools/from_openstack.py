@@ -557,6 +557,10 @@ def tries_unasked(trial, data):
         private[:5] in done.error.decode(), False)
     wrong = trial.wrong_copy("return found[1] if found else fault", "return fault")
     trial.check("names of members", private[:5] in ended(wrong, ["--log", "g", "--without", "number"], input=lines.encode()).error.decode(), True)
+    done = ended(TOOL, ["--log", "g"], input=b"x\n" * 1000)
+    trial.check("many lines", done.status, 1, done.error.decode().splitlines()[99:], [
+        "cadf-from-openstack: -: line 100: set aside: not JSON, and no line of a log",
+        "cadf-from-openstack: further lines that are set aside are counted and not named", NOWHERE, counts(aside=1000)])
     many = json.dumps([event(tags=["a"] * number + [""]) for number in range(150)])
     done = ended(TOOL, ["--log", "g"], input=many.encode())
     trial.check("many faults", done.status, 1, done.error.decode().splitlines()[0].endswith(", event 99: tag 99, and 50 more"), False,

@@ -23,10 +23,10 @@ import time
 from tests import TOP
 from tests.formats import in_format
 from tests.machine import built, ended, side_by_side
-from tests.tools.copies import copied
 from tests.tools.odd_logs import EVENT, hostile, plain, told_otherwise
 
 TOOL = os.path.join(TOP, "tools", "cadf-report")
+SHARE = os.path.join(TOP, "share", "cadf")
 VECTORS = os.path.join(TOP, "examples", "vectors")
 DATA = re.compile(r'<script type="application/json" id="data">(.*?)</script>', re.DOTALL)
 ENTITIES = ("resources", "geolocations", "metrics")
@@ -235,18 +235,17 @@ def try_against(trial):
     trial.check("a ruling", [ruled.value(each) for each in ruled.data["lacks"][0][1:]], [["U", "c03", ["E", digest], None]])
 
 
-OTHER_LOG = "other.json: other log: one site has one log; `cadf check FILE` says which log a file is of"
-
-
 def try_faults(trial):
     """How a call ends where something fails: nothing is written, and the line says what to do."""
     put("cut.json", '{"id":')
     put("event.json", json.dumps(dict(EVENT, id="e")))
     put("other.json", json.dumps({"id": "h", "events": []}))
+    no_log = "event.json: no log named: an event by itself names none: give --log ID, or a file that does"
+    other_log = "other.json: other log: one site has one log; `cadf check FILE` says which log a file is of"
     for what, words, status, said in (
             ("refused", ["both", "cut.json"], 1, "cut.json: not JSON"), ("absent", ["absent"], 3, "absent: No such file or directory"),
-            ("no log", ["event.json"], 1, "event.json: no log named: an event by itself names none: give --log ID, or a file that does"),
-            ("other log", ["both", "other.json"], 1, OTHER_LOG), ("other site", ["--against", "other.json", "both"], 1, OTHER_LOG),
+            ("no log", ["event.json"], 1, no_log), ("other log", ["both", "other.json"], 1, other_log),
+            ("other site", ["--against", "other.json", "both"], 1, other_log),
             ("other site, cut", ["--against", "cut.json", "both"], 1, "cut.json: not JSON")):
         trial.check(what, trial.answer(*words), (status, b"", ["cadf-report: " + said]))
     trial.check("by --log", trial.answer("--log", "g", "event.json")[0], 0)
@@ -261,7 +260,7 @@ def try_faults(trial):
         closed = ended("bash", ["-c", 'exec "$0" "$1" both %d>&-' % descriptor, sys.executable, TOOL], env=trial.environment)
         trial.check("no descriptor %d" % descriptor, closed, (3, b"", b""))
     full = ended("bash", ["-c", '"$0" both >/dev/full', TOOL], env=trial.environment)
-    trial.check("a full disk", full.status, 3, full.error, b"cadf-report: write fault: No space left on device\n")
+    trial.check("a full disk", full.status, 3, full.error, b"cadf-report: standard output: write fault: No space left on device\n")
     try_stopped(trial)
 
 
@@ -327,23 +326,30 @@ def try_stopped(trial):
         trial.check("a folder to begin with", len(os.listdir("temporary")), 1)
         child.send_signal(number)
         output, said = child.communicate()
-        trial.check("stopped", child.returncode, 128 + number, output, b"", said, b"cadf-report: stopped by %s\n" % number.name.encode(),
+        trial.check("stopped", child.returncode, 128 + number, output, b"", said, ("cadf-report: stopped by %s\n" % number.name).encode(),
                     os.listdir("temporary"), [])
         os.remove("started")
 
 
 def try_progress(trial):
-    """On a terminal standard error says what is being done, once that has lasted, and is empty again at the end."""
-    leader, terminal = pty.openpty()
-    tools = copied(tempfile.mkdtemp(dir=os.getcwd()), "QUIET, BETWEEN_LINES = 2, 0.2", "QUIET, BETWEEN_LINES = 0, 0")
-    for tool in (TOOL, os.path.join(tools, "cadf-report")):  # the first says nothing, since it doesn't last
-        done = subprocess.run([tool, "days.json"], env=trial.environment, stdout=subprocess.DEVNULL, stderr=terminal)
-    os.close(terminal)
-    said = os.read(leader, 10000)
-    os.close(leader)
-    lines = said.replace(b"\x1b[K", b"").decode().split("\r")
-    trial.check("progress", done.returncode, 0, lines[0], "", lines[1].endswith(" joins the files"), True,
-                lines[2], "cadf-report: events read: 1", lines[-2:], ["cadf-report: the page is written", ""])
+    """On a terminal standard error says what is being done, once the call has lasted, and is empty again at the end."""
+    script = ("import runpy, sys; sys.path.insert(0, %r); import cadf_toolkit as kit; kit.QUIET, kit.BETWEEN_LINES = %d, 0; "
+              "sys.argv = [%r, 'days.json']; runpy.run_path(sys.argv[0], run_name='__main__')")
+    said = []
+    for quiet in (0, 60):
+        leader, terminal = pty.openpty()
+        done = subprocess.run([sys.executable, "-c", script % (SHARE, quiet, TOOL)], env=trial.environment, stdout=subprocess.DEVNULL, stderr=terminal)
+        os.write(terminal, b"end")
+        os.close(terminal)
+        told = b""
+        while not told.endswith(b"end"):
+            told += os.read(leader, 10000)
+        said.append(told.replace(b"\x1b[K", b"").decode().split("\r"))
+        os.close(leader)
+        trial.check("progress", done.returncode, 0)
+    lasted, short = said
+    trial.check("progress", lasted[0], "", lasted[1].endswith(" joins the files"), True, "cadf-report: events read: 1" in lasted, True,
+                lasted[-2:], ["cadf-report: the page is written", "end"], short, ["end"])
 
 
 def main():
