@@ -352,9 +352,10 @@ def faulty(trial, old, after, **files):
 
 def many(trial, callers):
     """Many at once, every third killed: the site has what was taken by those that ended well, and no more."""
-    trial.site()
+    put("first.json", document("first"))
+    trial.site(site=trial.joined("first.json"))  # so that each caller asks what is missing
     put("killing", KILLING, 0o755)
-    running, taken = [], []
+    running, taken = [], ["first.json"]
     for number in range(callers):
         put("many.%d.json" % number, document("e%d" % number))
         environment = dict(os.environ, CADF=trial.binary)
