@@ -64,8 +64,7 @@ class Refusal(Fault):
 
     def __init__(self, said, status, place, inputs):
         self.said, self.place = said, place
-        is_alone = len(inputs) == 1 and said == "no log named"
-        which = inputs[place - 1] if place else inputs[0] if is_alone else None
+        which = inputs[place - 1] if place else inputs[-1] if inputs and said == "no log named" else None
         if which and said == "read fault":
             which.first(1)
         text = explained(said, which)
@@ -381,17 +380,25 @@ def new_file(name, inputs):
 
 # ---- The end of a call
 
-class Stopped(Fault):
-    """A signal asked the call to end."""
+class Stopped(BaseException):
+    """A signal asked the call to end. No part of the call takes that for a fault of a file, and goes on with the next."""
 
     def __init__(self, number):
-        super().__init__("stopped by %s" % signal.Signals(number).name, 128 + number)
+        super().__init__("stopped by %s" % signal.Signals(number).name)
+        self.status = 128 + number
 
 
 def stop(number, _):
     for each in STOPPING:
         signal.signal(each, signal.SIG_IGN)
     raise Stopped(number)
+
+
+def ask_to_end(handler):
+    """Has the signals that ask a program to end call this. One that is ignored, as by nohup, stays so."""
+    for number in STOPPING:
+        if signal.getsignal(number) is not signal.SIG_IGN:
+            signal.signal(number, handler)
 
 
 def prepare_streams():
@@ -409,14 +416,13 @@ def ended(run, *words):
     """
     if sys.stdout is None or sys.stderr is None:
         return FAILED  # what is found, or why it can't be, can't be written
-    for number in STOPPING:
-        signal.signal(number, stop)
+    ask_to_end(stop)
     try:
         prepare_streams()
         status = run(*words)
         sys.stdout.flush()
         return status
-    except Fault as fault:
+    except (Fault, Stopped) as fault:
         status, said = fault.status, str(fault)
     except OSError as fault:
         status, said = (MEMORY, OUT_OF_MEMORY) if fault.errno == errno.ENOMEM else (FAILED, why(fault))

@@ -11,6 +11,7 @@ import os
 import re
 import resource
 import shutil
+import signal
 import subprocess
 import sys
 import tempfile
@@ -54,6 +55,7 @@ FAULTS = [
     ("good.cadf", "it begins as a replica file: `cadf-take SITE FILE` takes it as it is", {"from-openstack": 1}),
     ("damaged", DAMAGED, dict.fromkeys(READERS, 1)),
     ("event.json", NO_LOG, dict.fromkeys(("agree", "conflicts", "no log", "a new site"), 1)),
+    ("event.json", NO_LOG, {"take it as the site": 1}),
     ("event.json", "an event by itself, and no site's file: name another SITE", {"spool it as the site": 1}),
     ("other.json", OTHER % ': "h"', dict.fromkeys(("which", "agree", "spool", "spool it as the site"), 1)),
     ("other.json", OTHER % "", dict.fromkeys(("take", "take it as the site", "report", "others"), 1)),
@@ -219,6 +221,20 @@ def tries_other_user(trial):
     shutil.rmtree(folder)
 
 
+def tries_hangup(trial):
+    """A terminal that goes ends a call, which reads no further file, but not a call under nohup."""
+    put("hanging", '#!/bin/sh\nkill -HUP $PPID\nexec "%s" "$@"\n' % trial.binary)
+    os.chmod("hanging", 0o755)
+    wrong = copied(tempfile.mkdtemp(dir="."), "class Stopped(BaseException):", "class Stopped(Fault):")
+    for what, tools, tool, ignored, wanted in (
+            ("a hangup", TOOLS, "cadf-which", signal.SIG_DFL, (128 + signal.SIGHUP, b"cadf-which: stopped by SIGHUP\n")),
+            ("a hangup", TOOLS, "cadf-agree", signal.SIG_DFL, (128 + signal.SIGHUP, b"cadf-agree: stopped by SIGHUP\n")),
+            ("nohup", TOOLS, "cadf-which", signal.SIG_IGN, (0, b"")), ("it goes on", wrong, "cadf-which", signal.SIG_DFL, (129, b"stopped by SIGHUP\n"))):
+        done = subprocess.run([os.path.join(tools, tool), "good.cadf", "d.json"], stderr=subprocess.PIPE, env=dict(os.environ, CADF=os.path.abspath("hanging")),
+                              preexec_fn=lambda: signal.signal(signal.SIGHUP, ignored))
+        trial.check("%s of %s" % (what, tool), (done.returncode, done.stderr), wanted)
+
+
 def catches(trial):
     """Each copy of the tools that does wrong is caught."""
     full = dict(FULL)
@@ -241,6 +257,7 @@ def main():
         tries_rows(trial, [row for row in all_rows() if row[0] != "secret"])
         tries_full(trial, FULL)
         tries_other_user(trial)
+        tries_hangup(trial)
         catches(trial)
         os.chdir("/")
     if trial.wrong:

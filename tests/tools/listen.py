@@ -198,7 +198,7 @@ def wrong_copy(trial):
 
 def answer(program, words):
     """What the program answers to words that it refuses: its status, its output and its errors."""
-    output, error, handlers = io.StringIO(), io.StringIO(), {number: signal.getsignal(number) for number in program.STOPPING}
+    output, error, handlers = io.StringIO(), io.StringIO(), {each: signal.getsignal(each) for each in (signal.SIGHUP, signal.SIGINT, signal.SIGTERM)}
     with contextlib.redirect_stdout(output), contextlib.redirect_stderr(error):
         try:
             sys.argv = [LISTEN, *words]

@@ -129,6 +129,7 @@ def tries_rulings(trial):
         trial.cadf("missing", "missing", "ruled", "site")
         trial.check("byte-equal", output, held("missing"))
         trial.check("by format 1", trial.tool("conflicts", "--rule", "choices", "site.1")[1], output)
+        trial.check("by a pipe", trial.tool("conflicts", "--rule", "-", "site", input=held("choices"))[1], output)
         status, output, said = trial.tool("conflicts", "ruled")
         trial.check("settled", status, 0, said, ["cadf-conflicts: open 0, settled 11"], output.decode().count("  ruled\n"), 11,
                     trial.choices("ruled"), [])
