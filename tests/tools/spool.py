@@ -20,7 +20,6 @@ import json
 import os
 import random
 import resource
-import shutil
 import signal
 import socket
 import stat
