@@ -9,26 +9,26 @@ import sys
 
 TOP = os.path.dirname(os.path.dirname(os.path.dirname(os.path.realpath(__file__))))
 sys.dont_write_bytecode = True
-sys.path[:0] = [TOP, os.path.join(TOP, "share", "cadf")]
+sys.path.insert(0, os.path.join(TOP, "share", "cadf"))
 
+import cadf_site
 from cadf_toolkit import DONE, Parser, ended, opened
-from tests.folders import site
 
 MOST_WINDOWS = 400  # new ones of a take
 
 
 def run(options):
     if options.settle:
-        site.settle(options.site, options.wait)
+        cadf_site.settle(options.site, options.wait)
         return DONE
     with opened(options.files) as inputs:
-        site.take(options.site, inputs, options.by, options.log, options.wait, options.windows)
+        cadf_site.take(options.site, inputs, options.by, options.log, options.wait, options.windows)
     return DONE
 
 
 def main():
     parser = Parser(__doc__, "take.py [--by UNIT] [--windows N] [--log ID] [--wait SECONDS] SITE FILE..")
-    parser.add_argument("--by", choices=site.UNITS)
+    parser.add_argument("--by", choices=cadf_site.UNITS)
     parser.add_argument("--windows", type=int, default=MOST_WINDOWS)
     parser.add_argument("--settle", action="store_true")
     parser.add_argument("--log")

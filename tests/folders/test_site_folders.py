@@ -24,8 +24,8 @@ EVENT = {"eventType": "activity", "action": "read", "outcome": "success", "initi
 DAYS = ["2024-02-29T23:59:59.999999999Z", "2024-03-01T00:30:00+01:00", "2024-03-01T12:00:00Z"]
 
 sys.path.insert(0, os.path.join(TOP, "share", "cadf"))
+import cadf_site
 import cadf_toolkit
-from tests.folders import site as cadf_site
 
 
 def contents(*keys, **members):

@@ -1,7 +1,12 @@
 """Sites that are folders of windows: reading one as it stood at one moment, and taking files into one.
 
 docs/FORMATS.md has the form of a site folder. Its file `site` names the files that count, and is replaced by a rename: that is
-the moment of a take. A reader needs no lock.
+the moment of a take. A reader needs no lock. A tool imports this as it imports cadf_toolkit, and uses
+
+  is_folder(name)            whether the name is of a folder
+  Folder(name).index()       what its file `site` says: an Index, or None if there is none
+  opened_site(name, wanted)  its files as inputs, of the parts that are wanted, as it stood at one moment
+  take(..), settle(..)       take inputs into a folder, and join the files of each window
 """
 import contextlib
 import hashlib
