@@ -6,32 +6,48 @@ the moment of a take. A reader needs no lock. A tool imports this as it imports 
   is_folder(name)            whether the name is of a folder
   Folder(name).index()       what its file `site` says: an Index, or None if there is none
   opened_site(name, wanted)  its files as inputs, of the parts that are wanted, as it stood at one moment
+  opened_whole(names)        the inputs that hold all of these sites, of which each is a file or a folder
   take(..), settle(..)       take inputs into a folder, and join the files of each window
 """
 import contextlib
+import errno
 import hashlib
+import itertools
 import json
 import os
 import re
 import resource
 import stat
 import subprocess
+import tempfile
 
-from cadf_toolkit import CADF, REFUSED, Fault, Input, cadf, check_end, name_shown, opened_file, say, started_cadf, wait_for_lock
+from cadf_toolkit import (CADF, REFUSED, Fault, Input, cadf, check_end, name_shown, open_descriptor, opened, opened_file, other_log, say,
+                          started_cadf, wait_for_lock)
 
-UNITS = ("month", "day", "hour")
+UNITS = {"month": len("2024-03"), "day": len("2024-03-01"), "hour": len("2024-03-01T12")}  # with the length of a window's name
 INDEX, LOCK, WORKING = "site", ".lock", ".new"
-HEAD = re.compile(rb'CADF-SITE 1\n(L "(?:[^"\\\n]|\\.)*"\n)B (month|day|hour)\n')
-PART = r"shared|\d{4}-\d\d(?:-\d\d(?:T\d\d)?)?"
-ENTRY = re.compile(rb"F (" + PART.encode() + rb") ([0-9a-f]{64})\n")
-WINDOW_FILE = re.compile(r"(?:" + PART + r")\.[0-9a-f]{64}\.cadf")
+HEAD = re.compile(rb'CADF-SITE 1\nL ("(?:[^"\\\n]|\\.)*")\nB (month|day|hour)\n')
+SHARED = "shared"
+PART = r"(?:shared|[0-9]{4}-[0-9]{2}(?:-[0-9]{2}(?:T[0-9]{2})?)?)"
+DIGITS = r"[0-9a-f]{64}"
+ENTRY = re.compile(("F (%s) (%s)\n" % (PART, DIGITS)).encode())
+NAME_LINE = re.compile(("P (%s)\n" % PART).encode())  # of a split file
+LAST_LINE = re.compile(("Z (%s)\n" % DIGITS).encode())
+WINDOW_FILE = re.compile(r"%s\.%s\.cadf" % (PART, DIGITS))
+NOTHING = 3  # lines of a replica file without facts
 LONGEST_INDEX = 2 ** 28  # bytes
 TRIES = 100  # of a reader, before takes that never end are a fault
+MOST_NEW = 400  # windows that a take begins, unless more are allowed
+MOST_STRANGERS = 20  # that are named
+MOST_AT_ONCE = 2 ** 28  # bytes of inputs that are split at once, if there are several
+MOST_SEEN = 2 ** 20  # bytes of a window's smaller files, in which a take looks for what it brings
 SEVERAL = 7  # files of a size that are joined into one
-MOST_JOINED = 2 ** 24  # bytes that a take joins at once; more is left to --settle
 SMALLEST = 2 ** 12  # bytes below which all files count as of one size
+MOST_JOINED = 2 ** 24  # bytes that a take joins; more is left to --settle
+MOST_SETTLED = 2 ** 28  # bytes that are joined before `site` is replaced, so that a settling that is killed goes on from there
 LARGEST = 2 ** 30  # bytes that cadf reads of a file
-DAMAGED = "the site is damaged; restore it as the guide says under `A damaged site`"
+NO_SITE = "no site in it: `cadf-take --by day SITE/ FILE..` makes one"
+DAMAGED = "the site is damaged: restore it as the guide says under `A damaged site`"
 
 
 def file_name(part, digest):
@@ -41,7 +57,7 @@ def file_name(part, digest):
 def order(entry):
     """The place of an entry: `shared` first, then windows in order of time, files of one by their digests."""
     part, digest = entry
-    return part != "shared", part, digest
+    return part != SHARED, part, digest
 
 
 class Index:
@@ -56,13 +72,24 @@ class Index:
         head, cut = HEAD.match(data), data.rfind(b"Z ")
         if not head or data[cut:] != b"Z %s\n" % hashlib.sha256(data[:cut]).hexdigest().encode():
             return None
-        lines = data[head.end():cut].splitlines(True)
-        found = [ENTRY.fullmatch(line) for line in lines]
+        found = [ENTRY.fullmatch(line) for line in data[head.end():cut].splitlines(True)]
         if None in found:
             return None
         entries = [(each[1].decode(), each[2].decode()) for each in found]
-        index = cls(head[1][2:-1].decode(), head[2].decode(), entries)
-        return index if index.entries == entries else None
+        try:
+            index = cls(head[1].decode(), head[2].decode(), entries)
+            index.name().encode()
+        except ValueError:
+            return None
+        return index if index.entries == entries and index.is_of_unit() else None
+
+    def is_of_unit(self):
+        """Whether the windows' names are as long as those of the unit."""
+        return all(part == SHARED or len(part) == UNITS[self.unit] for part, _ in self.entries)
+
+    def name(self):
+        """The log's name."""
+        return json.loads(self.log)
 
     def bytes(self):
         text = "CADF-SITE 1\nL %s\nB %s\n" % (self.log, self.unit)
@@ -70,7 +97,7 @@ class Index:
         return data + b"Z %s\n" % hashlib.sha256(data).hexdigest().encode()
 
     def parts(self):
-        """The files of each part, by its name."""
+        """The digests of the files of each part, by its name."""
         found = {}
         for part, digest in self.entries:
             found.setdefault(part, []).append(digest)
@@ -85,7 +112,12 @@ class Folder:
         try:
             self.descriptor = os.open(name, os.O_RDONLY | os.O_DIRECTORY)
         except OSError as fault:
-            raise Fault("%s: %s" % (name_shown(name), fault.strerror)) from None
+            said = fault.strerror
+            if fault.errno == errno.ENOTDIR:
+                said += ": `cadf-take --by day NEW/ %s` makes a folder of a site's file" % name_shown(self.name)
+            elif fault.errno == errno.ENOENT:
+                said += ": `cadf-take --by day SITE/ FILE..` makes it"
+            raise Fault("%s: %s" % (name_shown(name), said)) from None
 
     def __enter__(self):
         return self
@@ -95,6 +127,19 @@ class Folder:
 
     def path(self, name):
         return os.path.join(self.name, name)
+
+    def shown(self, name=""):
+        return name_shown(self.path(name) if name else self.name)
+
+    @contextlib.contextmanager
+    def naming(self):
+        """A context in which an OSError that has a name in the folder, or none, is given the path of it."""
+        try:
+            yield
+        except OSError as fault:
+            if fault.filename != CADF:
+                fault.filename = self.path(fault.filename) if isinstance(fault.filename, str) else self.name
+            raise
 
     def open(self, name, flags, mode=0o600):
         return os.open(name, flags | os.O_NOFOLLOW, mode, dir_fd=self.descriptor)
@@ -106,7 +151,8 @@ class Folder:
         except FileNotFoundError:
             raise
         except OSError as fault:
-            raise Fault("%s: %s" % (name_shown(self.path(name)), fault.strerror)) from None
+            said = "a symbolic link, which no file of a site is" if fault.errno == errno.ELOOP else fault.strerror
+            raise Fault("%s: %s" % (self.shown(name), said)) from None
 
     def index(self):
         """What `site` says, or None if it isn't there."""
@@ -116,20 +162,29 @@ class Folder:
         except FileNotFoundError:
             return None
         if index is None:
-            raise Fault("%s: not the file of a site: %s" % (name_shown(self.path(INDEX)), DAMAGED), REFUSED)
+            raise Fault("%s: not the file of a site: %s" % (self.shown(INDEX), DAMAGED), REFUSED)
         return index
 
+    def site(self):
+        """What `site` says. Raises that it isn't there."""
+        index = self.index()
+        if index is None:
+            raise Fault("%s: %s" % (self.shown(), NO_SITE), REFUSED)
+        return index
+
+
+# ---- Reading
 
 def is_folder(name):
     return name.endswith("/") or os.path.isdir(name)
 
 
-def check_count(count):
-    """Refuses more open files than the system allows, and takes what it allows."""
+def allow_files(count):
+    """Has the system allow as many open files. Refuses more than it can."""
     _, most = resource.getrlimit(resource.RLIMIT_NOFILE)
     resource.setrlimit(resource.RLIMIT_NOFILE, (most, most))
-    if most != resource.RLIM_INFINITY and count + 64 > most:
-        raise Fault("%d files are to be open, and the system allows %d: raise the limit (ulimit -n), or have fewer files by settling" % (count + 64, most))
+    if most != resource.RLIM_INFINITY and count > most:
+        raise Fault("%d files are to be open, and the system allows %d: raise that (ulimit -n), or settle the site" % (count, most))
 
 
 @contextlib.contextmanager
@@ -140,30 +195,128 @@ def opened_site(name, wanted=lambda part: True):
     """
     with Folder(name) as folder, contextlib.ExitStack() as files:
         for _ in range(TRIES):
-            index, inputs = folder.index(), {}
-            if index is None:
-                raise Fault("%s: no site: its file `site` is not there" % name_shown(name), REFUSED)
+            index, inputs, missing = folder.site(), {}, None
             entries = [entry for entry in index.entries if wanted(entry[0])]
-            check_count(2 * len(entries))
-            missing = None
+            allow_files(2 * len(entries) + 64)  # `cadf` opens each once more
             for entry in entries:
                 try:
                     inputs[entry] = folder.input(file_name(*entry))
-                    files.enter_context(inputs[entry].file)
                 except FileNotFoundError:
                     missing = file_name(*entry)
                     break
-            now = folder.index()
-            if now is not None and now.bytes() == index.bytes():
+                files.enter_context(inputs[entry].file)
+            if folder.site().bytes() == index.bytes():
                 if missing:
-                    raise Fault("%s: not there: %s" % (name_shown(folder.path(missing)), DAMAGED))
+                    raise Fault("%s: not there: %s" % (folder.shown(missing), DAMAGED))
                 yield index, inputs
                 return
             files.close()
     raise Fault("%s: it changed at each of %d looks: try again" % (name_shown(name), TRIES))
 
 
+@contextlib.contextmanager
+def without_facts(log, name):
+    """A replica file of the log, by its canonical text, that has no facts, as an input of that name."""
+    data = ("CADF-REPLICA 2\nL %s\n" % log).encode()
+    with tempfile.TemporaryFile() as file:
+        file.write(data + b"Z %s\n" % hashlib.sha256(data).hexdigest().encode())
+        file.flush()
+        yield Input(name, file)
+
+
+@contextlib.contextmanager
+def opened_whole(names):
+    """Opens the inputs that hold all of these sites: the file of each, or all the files of its folder. Each has at least one."""
+    with contextlib.ExitStack() as files:
+        inputs = []
+        for name in names:
+            if is_folder(name):
+                index, found = files.enter_context(opened_site(name))
+                inputs += found.values() or [files.enter_context(without_facts(index.log, name))]
+            else:
+                inputs += files.enter_context(opened([name]))
+        yield inputs
+
+
 # ---- Taking
+
+class NoSplit(Exception):
+    """What was to be a split file is none."""
+
+
+class Parts:
+    """Reads a split file, and so the files of its parts, one after another."""
+
+    def __init__(self, stream):
+        self.stream, self.hash = stream, hashlib.sha256()
+
+    def line(self, pattern):
+        """What the pattern finds in the next line, which is noted for the digest at the end."""
+        line = self.stream.readline()
+        found = re.fullmatch(pattern, line)
+        if not found:
+            raise NoSplit
+        self.hash.update(line)
+        return found[1].decode()
+
+    def head(self):
+        """The canonical text of the log's name, and the unit."""
+        self.line(rb"(CADF-SPLIT 1)\n")
+        return self.line(rb"L (.*)\n"), self.line(rb"B (.*)\n")
+
+    def names(self):
+        """Yields the name of each part; its file is read by `copy` before the next."""
+        for line in self.stream:
+            if line.startswith(b"Z "):
+                break
+            found = NAME_LINE.fullmatch(line)
+            if not found:
+                raise NoSplit
+            self.hash.update(line)
+            yield found[1].decode()
+        else:
+            raise NoSplit
+        if line != b"Z %s\n" % self.hash.hexdigest().encode() or self.stream.read(1):
+            raise NoSplit
+
+    def copy(self, output):
+        """Writes the part's file. Returns the digest on its last line."""
+        for line in self.stream:
+            output.write(line)
+            if line.startswith(b"Z "):
+                found = LAST_LINE.fullmatch(line)
+                if found:
+                    self.hash.update(line)
+                    return found[1].decode()
+        raise NoSplit
+
+
+@contextlib.contextmanager
+def split(words, inputs, keep=()):
+    """The split file that cadf writes of the inputs. At the end of the context it was read whole."""
+    with started_cadf(["split", *words], inputs, subprocess.PIPE, keep) as child:
+        try:
+            yield Parts(child.stdout)
+            is_whole = True
+        except NoSplit:
+            is_whole = False
+        check_end(child, child.stderr.read(), inputs)
+    if not is_whole:
+        raise Fault("%s: what it writes is no split file" % name_shown(CADF))
+
+
+def groups(inputs):
+    """Yields the inputs in groups that are split at once, so that a part's file doesn't grow with their number."""
+    group, size = [], 0
+    for each in inputs:
+        more = os.fstat(each.file.fileno()).st_size
+        if group and size + more > MOST_AT_ONCE:
+            yield group
+            group, size = [], 0
+        group.append(each)
+        size += more
+    yield group
+
 
 def size_class(size):
     """How often a file's size can be divided by seven; files of one class are joined."""
@@ -185,57 +338,33 @@ def to_join(sizes, most):
     return None
 
 
-class Parts:
-    """Reads what `cadf split` writes, and writes each part into a file of its own."""
-
-    def __init__(self, stream):
-        self.stream, self.hash, self.log, self.unit = stream, hashlib.sha256(), None, None
-
-    def line(self, begin):
-        """The next line, which begins so, noted for the digest at the end."""
-        line = self.stream.readline()
-        if not line.startswith(begin) or not line.endswith(b"\n"):
-            raise EOFError
-        self.hash.update(line)
-        return line[len(begin):-1].decode()
-
-    def names(self):
-        """Yields the name of each part; its file is read by `copy` before the next."""
-        self.line(b"CADF-SPLIT 1")
-        self.log, self.unit = self.line(b"L "), self.line(b"B ")
-        while True:
-            line = self.stream.readline()
-            if line.startswith(b"Z "):
-                break
-            if not line.startswith(b"P "):
-                raise EOFError
-            self.hash.update(line)
-            yield line[2:-1].decode()
-        if line != b"Z %s\n" % self.hash.hexdigest().encode() or self.stream.read(1):
-            raise EOFError
-
-    def copy(self, output):
-        """Writes the part's file. Returns the digest on its last line."""
-        for line in self.stream:
-            output.write(line)
-            if line.startswith(b"Z "):
-                self.hash.update(line)
-                return line[2:-1].decode()
-        raise EOFError
+def piles(sizes):
+    """The files of a window, by digest and size, in piles of which each makes one file that cadf reads. The smallest first."""
+    found, size = [[]], 0
+    for digest, more in sorted(sizes.items(), key=lambda item: (item[1], item[0])):
+        if found[-1] and size + more > LARGEST:
+            found.append([])
+            size = 0
+        found[-1].append(digest)
+        size += more
+    return found
 
 
 class Taking:
-    """A folder that is locked for a take."""
+    """A folder that is locked for a take: what its `site` says, and what files there will be of each part."""
 
     def __init__(self, folder, wait):
         self.folder, self.mode = folder, 0o666 & stat.S_IMODE(os.fstat(folder.descriptor).st_mode)
+        self.lock = self.opened_lock()
         try:
-            self.lock = folder.open(LOCK, os.O_RDWR | os.O_CREAT | os.O_EXCL, 0o600)
-            os.fchmod(self.lock, 0o660 if self.mode & stat.S_IWGRP else 0o600)
-        except FileExistsError:
-            self.lock = folder.open(LOCK, os.O_RDWR | os.O_NONBLOCK)
-        wait_for_lock(self.lock, folder.path(LOCK), wait)
-        self.before = folder.index()
+            wait_for_lock(self.lock, folder.path(LOCK), wait)
+            self.before = folder.index()
+        except BaseException:
+            os.close(self.lock)
+            raise
+        self.log, self.unit = (self.before.log, self.before.unit) if self.before else (None, None)
+        self.parts = self.before.parts() if self.before else {}
+        self.begun, self.changed = set(), set()
 
     def __enter__(self):
         return self
@@ -243,34 +372,62 @@ class Taking:
     def __exit__(self, *_):
         os.close(self.lock)
 
-    def tidy(self):
-        """Removes what `site` doesn't name of a take's files: one that was killed left them, or they were joined since.
+    def opened_lock(self):
+        """The lock's file, which is made if it isn't there, for a group if that may write to the folder."""
+        try:
+            lock = self.folder.open(LOCK, os.O_RDWR | os.O_CREAT | os.O_EXCL)
+            os.fchmod(lock, 0o660 if self.mode & stat.S_IWGRP else 0o600)
+            return lock
+        except FileExistsError:
+            return self.folder.open(LOCK, os.O_RDWR | os.O_NONBLOCK)
 
-        Returns the names of what is no taker's.
-        """
+    # What else is in the folder
+
+    def stale(self):
+        """The names of what a taker left and `site` doesn't name, and the names of what is no taker's."""
         index = self.folder.index()
         named = {file_name(*entry) for entry in index.entries} if index else set()
-        strangers = []
-        for name in sorted(set(os.listdir(self.folder.descriptor)) - named - {INDEX}):
-            if name == WORKING or WINDOW_FILE.fullmatch(name):
-                os.unlink(name, dir_fd=self.folder.descriptor)
-            elif not name.startswith("."):
-                strangers.append(name)
-        return strangers
+        others = sorted(set(os.listdir(self.folder.descriptor)) - named - {INDEX})
+        left = [name for name in others if name == WORKING or WINDOW_FILE.fullmatch(name)]
+        return left, [name for name in others if not name.startswith(".") and name not in left]
 
-    def name_strangers(self):
-        for name in self.tidy():
-            say("%s: no file of the site; it is passed over" % name_shown(self.folder.path(name)))
+    def begin(self):
+        """Removes what earlier takes left: files that were joined since, or of a take that was killed. Names strangers.
+
+        Files of windows without a `site` are no take's: a folder's first take writes `site` before them.
+        """
+        left, strangers = self.stale()
+        if self.before is None and set(left) - {WORKING}:
+            raise Fault("%s: it is not there, and files of windows are: %s" % (self.folder.shown(INDEX), DAMAGED), REFUSED)
+        strangers += [name for name in left if not self.is_removed(name)]
+        for name in strangers[:MOST_STRANGERS]:
+            say("%s: no file of the site: it is passed over" % self.folder.shown(name))
+        if len(strangers) > MOST_STRANGERS:
+            say("%s: %d more are no files of the site" % (self.folder.shown(), len(strangers) - MOST_STRANGERS))
+
+    def is_removed(self, name):
+        """Removes a name. False if it is a folder's."""
+        try:
+            os.unlink(name, dir_fd=self.folder.descriptor)
+        except (IsADirectoryError, PermissionError):
+            return False
+        return True
 
     @contextlib.contextmanager
     def undone(self):
         """Leaves nothing of a take that is refused or fails."""
+        is_first = self.before is None
         try:
             yield
         except BaseException:
             with contextlib.suppress(OSError, Fault):
-                self.tidy()
+                for name in self.stale()[0]:
+                    self.is_removed(name)
+                if is_first and not self.folder.site().entries:
+                    os.unlink(INDEX, dir_fd=self.folder.descriptor)
             raise
+
+    # Files
 
     @contextlib.contextmanager
     def new_file(self):
@@ -280,130 +437,155 @@ class Taking:
             yield output
             output.flush()
             os.fchmod(file, self.mode)
-            os.fsync(file)
 
     def name(self, name):
-        """Gives the new file its name."""
+        """Gives the new file its name, once it is on the disk."""
+        with open_descriptor(self.folder.open(WORKING, os.O_RDONLY)) as file:
+            os.fsync(file)
         os.rename(WORKING, name, src_dir_fd=self.folder.descriptor, dst_dir_fd=self.folder.descriptor)
 
-    def split(self, words, inputs, most_new):
-        """Writes each part of what the inputs hold as a new file. Returns the log's text, the unit and the new entries."""
-        held = set(self.before.parts()) if self.before else set()
-        entries, begun = [], 0
-        with started_cadf(["split", *words], inputs, subprocess.PIPE, keep=[self.lock]) as child:
-            parts = Parts(child.stdout)
-            try:
-                for part in parts.names():
-                    begun += part not in held
-                    if begun > most_new:
-                        raise Fault("the files make more than %d new windows: if they are meant to, allow it by --windows N"
-                                    % most_new, REFUSED)
-                    with self.new_file() as output:
-                        digest = parts.copy(output)
-                    entries.append((part, digest))
-                    self.name(file_name(part, digest))
-                is_whole = True
-            except EOFError:
-                is_whole = False
-            check_end(child, child.stderr.read(), inputs)
-        if not is_whole:
-            raise Fault("%s: what it writes is no split file" % CADF)
-        return parts.log, parts.unit, entries
+    def size(self, name):
+        return os.stat(name, dir_fd=self.folder.descriptor, follow_symlinks=False).st_size
 
-    def size(self, entry):
-        return os.stat(file_name(*entry), dir_fd=self.folder.descriptor, follow_symlinks=False).st_size
+    def sizes(self, part):
+        """The sizes of a part's files, by digest."""
+        return {digest: self.size(file_name(part, digest)) for digest in self.parts.get(part, ())}
 
-    def join(self, part, digests):
-        """Joins files of a part into one. Returns its digest."""
+    @contextlib.contextmanager
+    def files(self, part, digests):
+        """Opens files of a part, as inputs."""
         with contextlib.ExitStack() as files:
             inputs = [self.folder.input(file_name(part, digest)) for digest in digests]
             for each in inputs:
                 files.enter_context(each.file)
-            with self.new_file() as output:
-                cadf(["join"], inputs, output.fileno(), [self.lock], self.folder.name)
-        digest = last_digest(self.folder, WORKING)
+            yield inputs
+
+    def cadf(self, words, inputs, output):
+        return cadf(words, inputs, output, [self.lock], self.folder.name)
+
+    # The steps of a take
+
+    def add(self, words, inputs, most_new):
+        """Writes each part of what the inputs hold as a new file, unless the part's files hold it already."""
+        with split(words, inputs, [self.lock]) as parts:
+            self.log, self.unit = parts.head()
+            if self.before is None:
+                self.put()
+            for part in parts.names():
+                if part not in self.parts:
+                    self.begun.add(part)
+                if len(self.begun) > most_new:
+                    raise Fault("the files make more than %d new windows: if that is meant, allow it by --windows N" % most_new, REFUSED)
+                with self.new_file() as output:
+                    digest = parts.copy(output)
+                self.keep(part, digest)
+
+    def keep(self, part, digest):
+        """Keeps the new file as one of a part's, unless these hold it already."""
+        size = self.size(WORKING)
+        if size > LARGEST:
+            raise Fault("%s: the files bring more than 2^30 bytes of %s at once: give fewer" % (self.folder.shown(), part), REFUSED)
+        if digest in self.parts.get(part, ()) or self.is_held(part, size):
+            os.unlink(WORKING, dir_fd=self.folder.descriptor)
+        else:
+            self.name(file_name(part, digest))
+            self.parts.setdefault(part, []).append(digest)
+            self.changed.add(part)
+
+    def is_held(self, part, size):
+        """Whether the smaller files of a part hold all of the new file, of that size."""
+        sizes = sorted((own, digest) for digest, own in self.sizes(part).items())
+        total = itertools.accumulate(own for own, _ in sizes)
+        small = [entry for entry, sum_here in zip(sizes, total) if sum_here <= MOST_SEEN]
+        if size > sum(own for own, _ in small):
+            return False  # also where there are none
+        with self.files(part, [digest for _, digest in small]) as files, self.folder.input(WORKING).file as new, \
+                tempfile.TemporaryFile(dir=self.folder.path("")) as together:
+            held = files[0]
+            if len(files) > 1:
+                self.cadf(["join"], files, together.fileno())
+                held = Input(self.folder.name, together)
+            return self.cadf(["missing"], [Input(self.folder.path(WORKING), new), held], subprocess.PIPE).count(b"\n") == NOTHING
+
+    def join(self, part, digests):
+        """Joins files of a part into one, which is in their place."""
+        with self.files(part, digests) as inputs, self.new_file() as output:
+            self.cadf(["join"], inputs, output.fileno())
+        with self.folder.input(WORKING).file as file:
+            file.seek(-len("\n") - 64, os.SEEK_END)
+            digest = file.read(64).decode()
         self.name(file_name(part, digest))
-        return digest
+        self.parts[part] = [each for each in self.parts[part] if each not in digests] + [digest]
 
-    def joined(self, index, most):
-        """The index after files of each part were joined, seven of a size into one, as long as there are such."""
-        entries = []
-        for part, digests in index.parts().items():
-            sizes = {digest: self.size((part, digest)) for digest in digests}
-            while (chosen := to_join(sizes, most)):
-                entry = part, self.join(part, chosen)
-                sizes = {digest: size for digest, size in sizes.items() if digest not in chosen}
-                sizes[entry[1]] = self.size(entry)
-            entries += [(part, digest) for digest in sizes]
-        return Index(index.log, index.unit, entries)
+    def join_by_size(self):
+        """Joins files of each part that has new ones, seven of a size into one, as long as there are such."""
+        left = MOST_JOINED
+        for part in sorted(self.changed):
+            sizes = self.sizes(part)
+            while (chosen := to_join(sizes, left)):
+                left -= sum(sizes[digest] for digest in chosen)
+                self.join(part, chosen)
+                sizes = self.sizes(part)
 
-    def settled(self, index):
-        """The index of one file a window, and the windows that are too large for one."""
-        entries, large = [], []
-        for part, digests in index.parts().items():
-            if len(digests) == 1:
-                entries.append((part, digests[0]))
-            elif sum(self.size((part, digest)) for digest in digests) > LARGEST:
-                entries += [(part, digest) for digest in digests]
-                large.append(part)
-            else:
-                entries.append((part, self.join(part, digests)))
-        return Index(index.log, index.unit, entries), large
+    def settle(self):
+        """Joins the files of each part into one, or into as few as can be read. Returns the parts that have several."""
+        done = 0
+        for part in self.parts:
+            sizes = self.sizes(part)
+            for pile in piles(sizes):
+                if len(pile) > 1:
+                    self.join(part, pile)
+                    done += sum(sizes[digest] for digest in pile)
+            if done > MOST_SETTLED:
+                self.put()
+                done = 0
+        self.put()
+        return {part: len(digests) for part, digests in self.parts.items() if len(digests) > 1}
 
-    def put(self, index):
-        """Puts the index in the place of the one before, all that it names being on the disk."""
+    def put(self):
+        """Replaces `site` by one that names the files that there are now, all of them being on the disk."""
+        index = Index(self.log, self.unit, [(part, digest) for part, digests in self.parts.items() for digest in digests])
         os.fsync(self.folder.descriptor)
         if self.before is None or index.bytes() != self.before.bytes():
             with self.new_file() as output:
                 output.write(index.bytes())
             self.name(INDEX)
             os.fsync(self.folder.descriptor)
+        self.before = index
 
 
-def last_digest(folder, name):
-    """The digits of the last line of a file that cadf has written."""
-    with folder.input(name).file as file:
-        file.seek(-len("\n") - 64, os.SEEK_END)
-        return file.read(64).decode()
+@contextlib.contextmanager
+def taking(name, unit, log, wait):
+    """Locks a folder for a take, unless it is of another unit or log."""
+    with Folder(name) as folder, folder.naming():
+        if unit is None:
+            folder.site()
+        with Taking(folder, wait) as found:
+            if None not in (found.unit, unit) and unit != found.unit:
+                raise Fault("%s: other unit: its windows are a %s each, and not a %s" % (folder.shown(), found.unit, unit), REFUSED)
+            if None not in (found.before, log) and log != found.before.name():
+                raise Fault("%s: %s" % (folder.shown(), other_log(found.before.name())), REFUSED)
+            found.begin()
+            with found.undone():
+                yield found
 
 
-def take(name, inputs, unit, log, wait, most_new):
-    """Takes the inputs into the folder, all or none of them. Makes it, by the unit, if it is not there yet."""
-    if unit is not None and not os.path.lexists(name.rstrip("/")):
-        os.mkdir(name.rstrip("/"), 0o700)
-    with Folder(name) as folder:
-        if unit is None and folder.index() is None:
-            raise Fault("%s: no site: --by day makes one there" % name_shown(name), REFUSED)
-        take_into(folder, inputs, unit, log, wait, most_new)
+def take(name, inputs, unit=None, log=None, wait=None, most_new=MOST_NEW):
+    """Takes the inputs into the folder of that name, all or none of them. Makes it, by the unit, if it is not there yet."""
+    if unit is not None:
+        with contextlib.suppress(FileExistsError):
+            os.mkdir(name, 0o700)
+    with taking(name, unit, log, wait) as found:
+        for group in groups(inputs):
+            named = found.before.name() if found.before else log
+            found.add(["--by", found.unit or unit, *([] if named is None else ["--log=" + named])], group, most_new)
+        found.join_by_size()
+        found.put()
 
 
-def take_into(folder, inputs, unit, log, wait, most_new):
-    """Takes the inputs into an open folder."""
-    name = folder.name
-    with Taking(folder, wait) as taking:
-        before = taking.before
-        if before is not None and unit not in (None, before.unit):
-            raise Fault("%s: its windows are a %s each, not a %s" % (name_shown(name), before.unit, unit), REFUSED)
-        named = json.loads(before.log) if before else log
-        if log not in (None, named):
-            raise Fault("%s: other log: %s" % (name_shown(name), before.log), REFUSED)
-        taking.name_strangers()
-        words = ["--by", before.unit if before else unit] + ([] if named is None else ["--log=" + named])
-        with taking.undone():
-            written, by, entries = taking.split(words, inputs, most_new)
-            index = Index(written, by, [*(before.entries if before else ()), *entries])
-            taking.put(taking.joined(index, MOST_JOINED))
-
-
-def settle(name, wait):
-    """Joins the files of each window into one."""
-    with Folder(name) as folder:
-        if folder.index() is None:
-            raise Fault("%s: no site: its file `site` is not there" % name_shown(name), REFUSED)
-        with Taking(folder, wait) as taking:
-            taking.name_strangers()
-            with taking.undone():
-                index, large = taking.settled(taking.before)
-                taking.put(index)
-    for part in large:
-        say("%s: the window %s is larger than a file may be, and stays as it is" % (name_shown(name), part))
+def settle(name, wait=None):
+    """Joins the files of each window of the folder of that name. Says which windows are too large for one file."""
+    with taking(name, None, None, wait) as found:
+        large = found.settle()
+    for part, count in large.items():
+        say("%s: the window %s is larger than a file may be, and has %d files" % (name_shown(name), part, count))

@@ -42,7 +42,7 @@ OF_NO_KIND = re.compile("version|not JSON|event 0: ")  # what cadf says of them
 DAMAGED = "the file is damaged: fetch it again, or restore it as the guide says under `A damaged site`"
 # What to do about a refusal, by how its text begins.
 ADVICE = {
-    "too large": "no file above 2^30 bytes is read; give fewer files at once, or one log a service",
+    "too large": "no file above 2^30 bytes is read; give smaller ones to a site's folder: cadf-take --by day SITE/ FILE..",
     "no log named": "an event by itself names none: give --log ID, or a file that does",
     "other log": "one site has one log; `cadf check FILE` says which log a file is of",
     "digest": DAMAGED,

@@ -43,8 +43,9 @@ NO_LOG = "no log named: an event by itself names none: give --log ID, or a file 
 OTHER = "other log%s: one site has one log; `cadf check FILE` says which log a file is of"
 FAULTS = [
     ("absent", "No such file or directory", dict.fromkeys(PLAIN, 3)),
-    ("folder", "Is a directory", dict.fromkeys((*PLAIN, "take it as the site"), 3)),
-    ("folder", "not a regular file", {"spool it as the site": 2}),
+    ("folder", "Is a directory", dict.fromkeys(("take", "from-openstack", "choices", "listen", "authority"), 3)),
+    ("folder", "no site in it: `cadf-take --by day SITE/ FILE..` makes one",
+     dict.fromkeys(("which", "agree", "conflicts", "others", "report", "take it as the site", "spool it as the site"), 1)),
     ("secret", "Permission denied", dict(dict.fromkeys((*PLAIN, "take it as the site"), 3), spool=1)),
     ("inventory", "an inventory, which holds no facts: `cadf missing-by SITE INVENTORY` answers it", {call: 1 for call in READERS if call != "agree"}),
     ("sketch", "a sketch, which holds no facts: `cadf missing-by-sketch SITE SKETCH` answers it", {call: 1 for call in READERS if call != "agree"}),
@@ -59,7 +60,7 @@ FAULTS = [
     ("event.json", "an event by itself, and no site's file: name another SITE", {"spool it as the site": 1}),
     ("other.json", OTHER % ': "h"', dict.fromkeys(("which", "agree", "spool", "spool it as the site"), 1)),
     ("other.json", OTHER % "", dict.fromkeys(("take", "take it as the site", "report", "others"), 1)),
-    ("large", "too large: no file above 2^30 bytes is read; give fewer files at once, or one log a service",
+    ("large", "too large: no file above 2^30 bytes is read; give smaller ones to a site's folder: cadf-take --by day SITE/ FILE..",
      dict.fromkeys(("which", "agree", "take", "take it as the site", "conflicts", "report", "spool it as the site"), 1)),
     ("large", "larger than 1073741824 bytes: split it, or give a greater --size", {"spool": 1}),
     ("large", "line 1: set aside: longer than 67108864 bytes: see --longest", {"from-openstack": 1}),

@@ -1,0 +1,490 @@
+"""Sites that are folders, as docs/FORMATS.md has them: what a take leaves there, and what a reader sees meanwhile."""
+import contextlib
+import hashlib
+import json
+import os
+import random
+import shutil
+import subprocess
+import sys
+import threading
+
+import pytest
+
+from tests import TOP
+from tests.machine import ended
+from tests.reference.atoms import with_carriers
+from tests.reference.events import document
+from tests.reference.replica_files import file_of, read_file
+from tests.reference.split_files import in_order, parts_of
+from tests.tools.copies import copied
+from tests.tools.faulty import calls_of
+
+TOOLS = os.path.join(TOP, "tools")
+REFERENCE = os.path.join(TOP, "tests", "reference", "cadf")
+CALLS = "os.open os.rename os.unlink os.fchmod os.fsync os.mkdir os.listdir fcntl.flock"
+EVENT = {"eventType": "activity", "action": "read", "outcome": "success", "initiatorId": "u1", "targetId": "t1",
+         "observerId": "s1"}
+DAYS = ["2024-02-29T23:59:59.999999999Z", "2024-03-01T00:30:00+01:00", "2024-03-01T12:00:00Z"]  # two of one day of UTC
+
+sys.path.insert(0, os.path.join(TOP, "share", "cadf"))
+import cadf_site
+import cadf_toolkit
+
+
+def contents(*keys, **members):
+    """A log document of an event a key: on the day of its number, with a tag."""
+    events = [dict(EVENT, id="e%d" % key, eventTime=DAYS[key % len(DAYS)], tags=["t"]) for key in keys]
+    return dict(members, id="g", events=events)
+
+
+def atoms_of(*documents):
+    return set().union(*(document(each)[1] for each in documents))
+
+
+def with_digest(data):
+    return data + b"Z %s\n" % hashlib.sha256(data).hexdigest().encode()
+
+
+def index_of(files, unit="day"):
+    """The file `site` that names these files, as FORMATS writes it."""
+    lines = ["F %s %s\n" % (part, digest) for part in in_order(files) for digest in sorted(files[part])]
+    return with_digest(('CADF-SITE 1\nL "g"\nB %s\n' % unit + "".join(lines)).encode())
+
+
+class Site:
+    """A folder beside the files that are taken into it."""
+
+    def __init__(self, path, tools=TOOLS, name="site"):
+        self.path, self.tool, self.count = path, os.path.join(tools, "cadf-take"), 0
+        self.folder = path / name
+        self.environment = dict(os.environ, CADF=REFERENCE)
+
+    def put(self, value):
+        self.count += 1
+        name = self.path / ("%d.json" % self.count)
+        name.write_text(json.dumps(value))
+        return str(name)
+
+    def words(self, *options, files=()):
+        return [self.tool, *options, "--", str(self.folder) + "/", *files]
+
+    def take(self, *options, files=()):
+        tool, *words = self.words(*options, files=files)
+        return ended(tool, words, env=self.environment)
+
+    def takes(self, *values, by=("--by", "day")):
+        answer = self.take(*by, files=[self.put(value) for value in values])
+        assert (answer.status, answer.output, answer.error) == (0, b"", b"")
+
+    def settles(self):
+        assert self.take("--settle") == (0, b"", b"")
+
+    def files(self):
+        """The files that `site` names, by part and digest, which it names as it has to."""
+        index = cadf_site.Index.read((self.folder / "site").read_bytes())
+        found = index.parts()
+        assert (self.folder / "site").read_bytes() == index_of(found, index.unit)
+        return found
+
+    def atoms(self):
+        """What the site holds; each file is of its part and ends with its digest."""
+        held = set()
+        for part, digests in self.files().items():
+            for digest in digests:
+                data = (self.folder / ("%s.%s.cadf" % (part, digest))).read_bytes()
+                log, atoms = read_file(data)
+                assert log == "g" and data.endswith(b"Z %s\n" % digest.encode())
+                assert set(parts_of(atoms, "day")) == {part}
+                held |= atoms
+        return held
+
+    def settled(self, atoms):
+        """What a settled folder of these atoms has, by name."""
+        files, wanted = {}, {}
+        for part, own in parts_of(atoms, "day").items():
+            data = file_of("g", own)
+            digest = data[-65:-1].decode()
+            files[part], wanted["%s.%s.cadf" % (part, digest)] = [digest], data
+        return dict(wanted, site=index_of(files))
+
+    def listed(self):
+        return {name.name: name.read_bytes() for name in self.folder.iterdir() if not name.name.startswith(".")}
+
+    def left(self):
+        """The names of what a take has left that doesn't count."""
+        return [name for name in os.listdir(self.folder) if name.startswith(".new") or name.endswith(".cadf")
+                and name.split(".")[1] not in sum(self.files().values(), [])]
+
+
+    def copies(self, *options, files=()):
+        """Yields what a kill leaves of a call, before each of its calls of the system: the names so far, and a site.
+
+        A kill that leaves what the one before left is passed over.
+        """
+        words = [*options, "--", ".", *files]
+        done, calls = calls_of(CALLS, self.tool, words, "copied", told="../calls", env=self.environment, cwd=self.folder)
+        assert done.status == 0, done
+        last = None
+        for place in range(1, len(calls) + 1):
+            copy = Site(self.path, os.path.dirname(self.tool), "site-%d" % place)
+            found = {name: (copy.folder / name).read_bytes() for name in os.listdir(copy.folder)}
+            if found != last:
+                yield calls[:place], copy
+            last = found
+
+    def takes_here(self, file, *by):
+        """Takes a file in this process."""
+        with cadf_toolkit.opened([file]) as inputs:
+            cadf_site.take(str(self.folder), inputs, *by)
+
+
+@pytest.fixture
+def site(tmp_path):
+    return Site(tmp_path)
+
+
+@pytest.fixture
+def here(site, monkeypatch):
+    """The site, for calls of the module in this process."""
+    monkeypatch.setattr(cadf_toolkit, "CADF", REFERENCE)
+    monkeypatch.setattr(cadf_site, "CADF", REFERENCE)
+    return site
+
+
+# ---- What a take leaves
+
+def test_a_take_writes_the_windows_of_what_it_takes(site):
+    first, second = contents(1, 2, name="north"), contents(4)
+    site.takes(first)
+    assert site.listed() == site.settled(atoms_of(first))
+    before = site.listed()
+    site.takes(second, by=())
+    assert site.atoms() == atoms_of(first, second)
+    assert {name: data for name, data in site.listed().items() if name in before and name != "site"}.items() <= before.items()
+    assert oct(os.stat(site.folder).st_mode & 0o777) == "0o700"
+    assert {oct(os.stat(name).st_mode & 0o777) for name in site.folder.iterdir()} == {"0o600"}
+
+
+def test_what_is_held_already_changes_nothing(site):
+    """Also what several files of a window hold together."""
+    site.takes(contents(0, 1, 2, name="n"))
+    site.takes(contents(3, 4))
+    before = site.listed()
+    for value in (contents(0, 1, 2, name="n"), contents(0, 3, 4, 1), contents(2)):
+        site.takes(value)
+        assert site.listed() == before
+    site.takes(contents(0, 3, 6))
+    assert site.atoms() == atoms_of(contents(0, 1, 2, 3, 4, 6, name="n"))
+
+
+def test_a_settled_folder_is_a_function_of_its_facts(site):
+    values = [contents(key, key + 1, name="n%d" % (key % 2)) for key in range(3)]
+    site.takes(*values)
+    other = Site(site.path, os.path.dirname(site.tool), "other")
+    other.count = 100
+    for value in reversed(values):
+        other.takes(value)
+    for each in (site, other):
+        each.settles()
+        each.settles()  # removes what the first one joined
+        assert each.listed() == site.settled(atoms_of(*values))
+
+
+def test_files_of_a_window_are_joined_by_seven(here):
+    sizes = {"a": 100, "b": 4095}
+    assert cadf_site.to_join(sizes, 2 ** 24) is None
+    sizes.update({letter: 7 for letter in "cdefghi"})
+    assert cadf_site.to_join(sizes, 2 ** 24) == list("cdefghi") and cadf_site.to_join(sizes, 48) is None
+    assert cadf_site.to_join({letter: 2 ** 22 + place for place, letter in enumerate("gfedcba")}, 2 ** 30) == list("gfedcba")
+    assert cadf_site.to_join(dict.fromkeys("abcdef", 4096) | {"g": 4095}, 2 ** 24) is None
+    for key in range(0, 24, 3):
+        here.takes_here(here.put(contents(key)), "day")
+    assert list(map(len, here.files().values())) == [2] and here.left() == []
+    assert here.atoms() == atoms_of(contents(*range(0, 24, 3)))
+
+
+def test_what_is_joined_in_a_take_has_a_bound(here, monkeypatch):
+    monkeypatch.setattr(cadf_site, "MOST_JOINED", 6000)
+    monkeypatch.setattr(cadf_site, "MOST_SEEN", 0)
+    for key in range(0, 42, 3):
+        here.takes_here(here.put(contents(key, key + 1)), "day")
+    assert sorted(map(len, here.files().values())) != [2, 2]
+    assert here.atoms() == atoms_of(contents(*range(0, 42, 3), *range(1, 42, 3)))
+
+
+def test_a_window_beyond_the_limit_has_few_files(here, monkeypatch, capsys):
+    values = [contents(key) for key in range(0, 15, 3)]
+    for value in values:
+        here.takes(value)
+    size = max(name.stat().st_size for name in here.folder.glob("2024-*.cadf"))
+    monkeypatch.setattr(cadf_site, "LARGEST", 2 * size)
+    cadf_site.settle(str(here.folder) + "/")
+    assert "the window 2024-02-29 is larger than a file may be, and has 3 files" in capsys.readouterr().err
+    assert here.atoms() == atoms_of(*values) and list(map(len, here.files().values())) == [3]
+
+
+def test_a_site_that_is_a_file_becomes_a_folder(site):
+    file = str(site.path / "old.cadf")
+    assert ended(site.tool, [file, site.put(contents(0, 1, name="n"))], env=site.environment).status == 0
+    answer = site.take("--by", "day", files=[file])
+    assert answer == (0, b"", b"") and site.atoms() == atoms_of(contents(0, 1, name="n"))
+    answer = ended(site.tool, ["--by", "day", file, site.put(contents(2))], env=site.environment)
+    assert answer.status == 3 and b"cadf-take --by day NEW/ " in answer.error
+
+
+# ---- Refusals, and what is odd in the folder
+
+@pytest.mark.parametrize("options, value, status, said", [
+    (["--by", "hour"], dict(contents(1), events=7), 1, "other unit: its windows are a day each, and not a hour"),
+    ([], dict(contents(1), id="h"), 1, "2.json: other log"),
+    (["--log", "h"], dict(contents(1), events=7), 1, 'other log: "g"'),
+    (["--windows", "0"], contents(2), 1, "more than 0 new windows"),
+    ([], dict(contents(2), events=7), 1, "events is not a list"),
+])
+def test_a_refusal_leaves_the_site(site, options, value, status, said):
+    site.takes(contents(1))
+    before = site.listed()
+    answer = site.take(*options, files=[site.put(value), site.put(contents(4))])
+    assert answer.status == status and said in answer.error.decode()
+    assert site.listed() == before
+    site.takes(contents(5), by=())
+    assert site.atoms() == atoms_of(contents(1), contents(5))
+
+
+@pytest.mark.parametrize("options, value", [([], dict(contents(1), events=7)), (["--windows", "1"], contents(1, 2))])
+def test_a_first_take_that_is_refused_leaves_no_site(site, options, value):
+    assert site.take("--by", "day", *options, files=[site.put(value)]).status == 1
+    assert os.listdir(site.folder) == [".lock"]
+    site.takes(dict(contents(1), id="g"))
+
+
+def test_words(site):
+    file = site.put(contents(1))
+    assert site.take(files=[file]).status == 3 and not site.folder.exists()
+    for words in (["--by", "week"], ["--settle", "--by", "day"], ["--windows", "-1", "--by", "day"]):
+        assert site.take(*words, files=[file]).status == 2 and not site.folder.exists()
+    assert site.take("--by", "day").status == 2 and site.take("--settle", files=[file]).status == 2
+    site.folder.mkdir()
+    for answer in (site.take(files=[file]), site.take("--settle")):
+        assert answer.status == 1 and b"no site in it: `cadf-take --by day SITE/ FILE..` makes one" in answer.error
+    assert os.listdir(site.folder) == []
+
+
+def test_strangers_are_named_and_passed_over(site):
+    site.takes(contents(1))
+    strangers = ["stranger", "2024-03-01.txt", "\u0662024-03-01.%064d.cadf" % 0, "site.before"]
+    for name in (".hidden", *strangers):
+        (site.folder / name).write_text("x")
+    (site.folder / ("2024-03-01.%064d.cadf" % 0)).mkdir()
+    answer = site.take(files=[site.put(contents(2))])
+    assert answer.status == 0
+    assert answer.error.decode().count("no file of the site") == 5 and ".hidden" not in answer.error.decode()
+    assert site.atoms() == atoms_of(contents(1, 2)) and all((site.folder / name).exists() for name in strangers)
+    for number in range(30):
+        (site.folder / ("stranger-%d" % number)).write_text("x")
+    assert len(site.take(files=[site.put(contents(2))]).error.splitlines()) == 21
+
+
+@pytest.mark.parametrize("name", ["site", "window", ".lock"])
+def test_links_are_refused(here, name):
+    here.takes(contents(0))
+    path = here.folder / (next(n for n in here.listed() if n != "site") if name == "window" else name)
+    path.rename(here.path / "moved")
+    path.symlink_to(here.path / "moved")
+    if name != ".lock":
+        with pytest.raises(cadf_toolkit.Fault, match="symbolic link"), cadf_site.opened_site(str(here.folder)):
+            pass
+    answer = here.take(files=[here.put(contents(3))])
+    if name == "window":  # which a take needn't read
+        answer = here.take("--settle")
+    assert answer.status == 3 and str(path).encode() in answer.error
+
+
+def test_each_bit_of_the_index_counts(site):
+    data = index_of({"shared": ["%064d" % 1], "2024-03-01": ["%064d" % 2]})
+    assert cadf_site.Index.read(data).bytes() == data
+    for place in range(len(data)):
+        for bit in range(8):
+            wrong = bytearray(data)
+            wrong[place] ^= 1 << bit
+            assert cadf_site.Index.read(bytes(wrong)) is None
+    assert cadf_site.Index.read(data + b"\n") is None and cadf_site.Index.read(data[:-1]) is None
+
+
+@pytest.mark.parametrize("data", [
+    b'CADF-SITE 1\nL "g"\nB day\nF ../../x %064d\n', b'CADF-SITE 1\nL "g"\nB day\nF 2024-03 %064d\n',
+    b'CADF-SITE 1\nL "g"\nB month\nF 2024-03-01 %064d\n', b'CADF-SITE 1\nL "\\ud800"\nB day\nF shared %064d\n',
+    b'CADF-SITE 1\nL "\xff"\nB day\nF shared %064d\n', b'CADF-SITE 1\nL "\\x"\nB day\nF shared %064d\n',
+    b'CADF-SITE 1\nL "g"\nB day\nF 2024-03-01 %064d\nF shared %064d\n', b'CADF-SITE 1\nL "g"\nB day\nF shared %064d\n\n',
+    b'CADF-SITE 1\nL "g"\nB day\nF shared %064d\nF shared %064d\n', b'CADF-SITE 2\nL "g"\nB day\nF shared %064d\n'])
+def test_an_odd_index_is_refused(site, data):
+    data = with_digest(data % ((1,) * data.count(b"%")))
+    assert cadf_site.Index.read(data) is None
+    site.folder.mkdir()
+    (site.folder / "site").write_bytes(data)
+    with pytest.raises(cadf_toolkit.Fault, match="not the file of a site") as refused:
+        cadf_site.Folder(str(site.folder)).site()
+    assert refused.value.status == 1
+
+
+def test_a_lost_index_loses_no_window(site):
+    site.takes(contents(0, 1))
+    (site.folder / "site").unlink()
+    before = site.listed()
+    for options in ((), ("--by", "day")):
+        assert site.take(*options, files=[site.put(contents(3))]).status == 1
+    assert site.listed() == before
+    new = Site(site.path, os.path.dirname(site.tool), "new")
+    answer = new.take("--by", "day", files=[str(site.folder / name) for name in before])
+    assert answer.status == 0 and new.atoms() == atoms_of(contents(0, 1))
+
+
+# ---- Kills, faults, and several at once
+
+def test_a_kill_before_each_call_leaves_all_or_nothing(here):
+    first, second = contents(0, 1), contents(3, 4, 5)
+    here.takes(first)
+    source, old, new = here.put(second), atoms_of(first), atoms_of(first, second)
+    seen = []
+    for calls, copy in here.copies(files=[source]):
+        seen.append(copy.atoms())
+        copy.takes_here(source)
+        assert copy.atoms() == new and copy.left() == [], calls
+    assert seen == sorted(seen, key=len) and old in seen and new in seen and len(seen) > 6
+    assert all(each in (old, new) for each in seen)
+
+
+def test_each_name_is_given_to_what_is_on_the_disk(here):
+    here.takes(contents(0, 1))
+    words = ["--", ".", here.put(contents(3, 4, 5))]
+    done, calls = calls_of(CALLS, here.tool, words, env=here.environment, cwd=here.folder, told="../calls")
+    assert done.status == 0 and calls.count("rename") == 3
+    places = [place for place, call in enumerate(calls) if call == "rename"]
+    assert all(calls[place - 1] == "fsync" for place in places) and calls[places[-1] - 5:] .count("fsync") >= 3
+
+
+def test_a_kill_of_a_first_take_leaves_a_site_or_none(here):
+    source, new = here.put(contents(0, 1)), atoms_of(contents(0, 1))
+    here.folder.mkdir()
+    for _, copy in here.copies("--by", "day", files=[source]):
+        assert not (copy.folder / "site").exists() or copy.atoms() in (set(), new)
+        copy.takes_here(source, "day")
+        assert copy.atoms() == new and copy.left() == []
+
+
+def test_a_kill_before_each_call_of_settling_loses_nothing(here):
+    values = [contents(key, key + 1) for key in range(0, 6, 3)]
+    for value in values:
+        here.takes(value)
+    atoms = atoms_of(*values)
+    for _, copy in here.copies("--settle"):
+        assert copy.atoms() == atoms
+        cadf_site.settle(str(copy.folder))
+        cadf_site.settle(str(copy.folder))
+        assert copy.listed() == copy.settled(atoms)
+
+
+@pytest.mark.release
+def test_each_call_that_fails_leaves_all_or_nothing(here):
+    first, second = contents(0, 1), contents(3, 4, 5)
+    old, new, source = atoms_of(first), atoms_of(first, second), here.put(second)
+    here.takes(first)
+    shutil.copytree(here.folder, here.path / "first")
+    _, calls = calls_of(CALLS, here.tool, [".", source], env=here.environment, cwd=here.folder, told="../calls")
+    for place in range(1, len(calls) + 1):
+        shutil.rmtree(here.folder)
+        shutil.copytree(here.path / "first", here.folder)
+        done, _ = calls_of(CALLS, here.tool, [".", source], "failed", place, env=here.environment, cwd=here.folder, told="../calls")
+        assert done.status in (0, 3), (place, calls[place - 1], done)
+        assert here.atoms() in ((new,) if done.status == 0 else (old, new)), (place, calls[place - 1])
+        here.takes_here(source)
+        assert here.atoms() == new and here.left() == []
+
+
+def test_two_takers_and_three_readers_at_once(here):
+    """Each take brings two events of one day and one of the other. Some are killed, and made again."""
+    here.takes(contents(0, 1, 2))
+    seen, stop, chance = [], threading.Event(), random.Random(7)
+
+    def read():
+        while not stop.is_set():
+            with cadf_site.opened_site(str(here.folder)) as (_, inputs):
+                atoms = set().union(*(read_file(each.whole())[1] for each in inputs.values()))
+            sizes = {part: len(own) for part, own in parts_of(atoms, "day").items()}
+            seen.append(sizes["2024-02-29"] == 2 * sizes["2024-03-01"])
+
+    def took(keys, files):
+        for key, file in zip(keys, files):
+            while True:
+                running = subprocess.Popen(here.words(files=[file]), env=here.environment, stderr=subprocess.DEVNULL)
+                with contextlib.suppress(subprocess.TimeoutExpired):
+                    running.wait(chance.uniform(0.05, 0.6) if key % 2 else None)
+                running.kill()
+                key += 1
+                if running.wait() == 0:
+                    break
+
+    keys = list(range(3, 24, 3))
+    files = [here.put(contents(key, key + 1, key + 2)) for key in keys]
+    takers = [threading.Thread(target=took, args=(keys[start::2], files[start::2])) for start in range(2)]
+    readers = [threading.Thread(target=read) for _ in range(3)]
+    for each in takers + readers:
+        each.start()
+    for each in takers:
+        each.join()
+    stop.set()
+    for each in readers:
+        each.join()
+    assert len(seen) > 3 and all(seen)
+    assert here.atoms() == atoms_of(contents(*range(24)))
+    here.settles()
+    here.settles()
+    assert here.listed() == here.settled(atoms_of(contents(*range(24))))
+
+
+def test_a_reader_looks_again(here, monkeypatch):
+    """A take and a settling come after a reader has read `site`, so that files are gone that it names."""
+    here.takes(contents(0, 1))
+    here.takes(contents(3))
+    real, files = cadf_site.Folder.input, iter([here.put(contents(6)), None])
+
+    def late(folder, name):
+        if name != "site" and (file := next(files, None)):
+            monkeypatch.setattr(cadf_site.Folder, "input", real)
+            here.settles()
+            assert here.take(files=[file]).status == 0
+        return real(folder, name)
+
+    monkeypatch.setattr(cadf_site.Folder, "input", late)
+    with cadf_site.opened_site(str(here.folder)) as (_, inputs):
+        assert set().union(*(read_file(each.whole())[1] for each in inputs.values())) == atoms_of(contents(0, 1, 3, 6))
+
+
+def test_what_a_site_names_and_lacks_is_named(here):
+    here.takes(contents(0, 1))
+    path = next(here.folder.glob("2024-*.cadf"))
+    path.unlink()
+    with pytest.raises(cadf_toolkit.Fault, match="not there: the site is damaged") as fault, cadf_site.opened_site(str(here.folder)):
+        pass
+    assert str(path) in str(fault.value)
+
+
+# ---- Wrong versions
+
+@pytest.mark.parametrize("check, right, wrong", [
+    (test_a_take_writes_the_windows_of_what_it_takes, "            os.fchmod(file, self.mode)\n", "            os.fchmod(file, 0o644)\n"),
+    (test_what_is_held_already_changes_nothing, "digest in self.parts.get(part, ()) or self.is_held(part, size)", "False"),
+    (test_what_is_held_already_changes_nothing, '.count(b"\\n") == NOTHING', '.count(b"\\n") >= NOTHING'),
+    (test_a_settled_folder_is_a_function_of_its_facts, "for each in self.parts[part] if each not in digests]", "for each in self.parts[part]]"),
+    (test_a_first_take_that_is_refused_leaves_no_site, "if is_first and not", "if False and not"),
+    (test_a_lost_index_loses_no_window, "if self.before is None and set(left) - {WORKING}:", "if False:"),
+    (test_strangers_are_named_and_passed_over, 'PART = r"(?:shared|[0-9]{4}', 'PART = r"(?:shared|[0-9]{4}|\\d{7}'),
+    (test_strangers_are_named_and_passed_over, 'not name.startswith(".") and', ""),
+])
+def test_a_wrong_version_is_caught(tmp_path, check, right, wrong):
+    tools = copied(tmp_path / "copy", right, wrong)
+    assert tools, "there is not one: " + right
+    words = ([[], dict(contents(1), events=7)] if "refused" in check.__name__ else [])
+    with pytest.raises(AssertionError):
+        check(Site(tmp_path, tools), *words)
