@@ -246,11 +246,12 @@ def tries_words(trial):
         trial.check(what, done.status, status, b"s.cadf: " in done.error, True)
         trial.leaves(what, folder, data, **{"taking/a.json": None})
     os.remove(os.path.join(folder, "s.cadf"))
-    for what, make in (("a FIFO", os.mkfifo), ("a link", lambda path: os.symlink("absent", path)), ("a folder", os.mkdir)):
+    for what, make, status, said in (("a FIFO", os.mkfifo, 2, b"not a regular file"), ("a folder", os.mkdir, 1, b"no site in it"),
+                                     ("a link", lambda path: os.symlink("absent", path), 2, b"not a regular file")):
         path = os.path.join(folder, "s.cadf")
         make(path)
         done = trial.run(folder, "s.cadf", "spool", "--log", "g")
-        trial.check(what + " as the site", done.status, 2, b"s.cadf: not a regular file" in done.error, True)
+        trial.check(what + " as the site", done.status, status, b"s.cadf: " + said in done.error, True)
         os.rmdir(path) if what == "a folder" else os.remove(path)
     trial.check("after them", trial.run(folder, "--log", "g", "s.cadf", "spool").status, 0)
     trial.leaves("after them", folder, trial.joined(document("e1")), **{"taken/a.json": None})
