@@ -1,0 +1,178 @@
+#!/usr/bin/env python3
+"""Measures takes into sites of several sizes: a folder of windows, a file, and a table of sqlite; and says what disk to plan.
+
+    bench/take.py [--sizes 10,100] [--runs 3] [--takes 343] [BINARY]
+
+A site of so many MB has events of one a second, in windows of an hour. Into it are taken 1 event and 300, each time others:
+by cadf-take into the folder, by cadf-take into the file, and by Python's sqlite3 into a table of facts (INSERT OR IGNORE,
+synchronous=FULL). Each number is the least of the runs: seconds, seconds of the processor, the greatest memory, bytes written.
+Sizes of 1,000 take an hour and 10 GB of disk.
+
+Then so many takes of 300 events make a folder, and it is settled: the bytes that were written for each byte that is brought,
+beside 2 + log7 of the number of takes.
+
+Last it says what the recorded calls of examples/real take in a site, and so a day of them. BINARY is crates/cadf/out/cadf unless
+given.
+"""
+import argparse
+import math
+import os
+import subprocess
+import sys
+import tempfile
+
+from measure import BINARY, TOP, atoms_of, best_of, replica_file, run_apart, spelled
+
+TAKE = os.path.join(TOP, "tools", "cadf-take")
+FROM_OPENSTACK = os.path.join(TOP, "tools", "cadf-from-openstack")
+RECORDED = os.path.join(TOP, "examples", "real", "keystonemiddleware.jsonl")
+LOG = "audit"
+EVENT_BYTES = 667  # of a generated event with its chain and its tag, in a replica file
+MB = 10 ** 6
+SQLITE = """
+import hashlib, re, sqlite3, sys
+table = sqlite3.connect(sys.argv[1])
+table.execute("PRAGMA synchronous=FULL")
+table.execute("CREATE TABLE IF NOT EXISTS facts (digest BLOB PRIMARY KEY, fact TEXT) WITHOUT ROWID")
+with open(sys.argv[2], encoding="utf-8") as lines:
+    table.executemany("INSERT OR IGNORE INTO facts VALUES (?, ?)",
+                      ((hashlib.sha256(line.encode()).digest(), line.rstrip()) for line in lines))
+table.commit()
+print(re.search("wchar: ([0-9]+)", open("/proc/self/io").read())[1])
+"""
+
+
+def facts_file(path, events):
+    """Writes the facts of these events, one a line."""
+    with open(path, "w", encoding="utf-8") as out:
+        for event in events:
+            out.writelines(spelled(atom) + "\n" for atom in atoms_of(event))
+
+
+def held(folder):
+    """The sizes of a folder's files, by what tells a file from another of its name."""
+    with os.scandir(folder) as files:
+        return {(file.name, file.inode()): file.stat().st_size for file in files}
+
+
+class Site:
+    """A site as a folder, as a file or as a table, and what takes into it have written."""
+
+    def __init__(self, place, environment):
+        self.place, self.environment = place, environment
+
+    def run(self, words, output=os.devnull):
+        return run_apart(words, output, environment=self.environment)
+
+
+class AsFolder(Site):
+    title = "folder"
+
+    def take(self, delta):
+        """Takes a replica file. Returns what that took, and the bytes that were written."""
+        before = held(self.place) if os.path.exists(self.place) else {}
+        took = self.run([TAKE, "--by", "hour", "--windows", "1000000", self.place, delta])
+        return took, sum(size for file, size in held(self.place).items() if file not in before)
+
+    def settle(self):
+        before = held(self.place)
+        took = self.run([TAKE, "--settle", self.place])
+        return took, sum(size for file, size in held(self.place).items() if file not in before)
+
+
+class AsFile(Site):
+    title = "file"
+
+    def take(self, delta):
+        took = self.run([TAKE, self.place, delta])
+        return took, os.path.getsize(self.place) + 2 * os.path.getsize(delta)  # and what the call makes of the delta
+
+
+class AsTable(Site):
+    title = "sqlite"
+
+    def take(self, delta):
+        said = self.place + ".said"
+        took = self.run([sys.executable, "-c", SQLITE, self.place, delta + ".facts"], said)
+        with open(said, encoding="ascii") as file:
+            return took, int(file.read())
+
+
+def measure_sites(folder, size, runs, environment):
+    """Takes 1 and 300 events into sites of that size, and prints what that took."""
+    count = size * MB // EVENT_BYTES
+    sites = [kind(os.path.join(folder, "%s-%d" % (kind.title, size)), environment) for kind in (AsFolder, AsFile, AsTable)]
+    base = os.path.join(folder, "base")
+    write_delta(base, range(count))
+    for site in sites:
+        site.take(base)
+    for more in (1, 300):
+        taken = {site.title: [] for site in sites}
+        for _ in range(runs):
+            delta = os.path.join(folder, "delta")
+            write_delta(delta, range(count, count + more))
+            count += more
+            for site in sites:
+                taken[site.title].append(site.take(delta))
+        for title, found in taken.items():
+            took, written = best_of([run for run, _ in found]), min(size for _, size in found)
+            print("%d MB, %d events, %s: %.3f s, %.3f s of the processor, %.0f MB of memory, %d bytes written" % (
+                size, more, title, *took, written), flush=True)
+
+
+def write_delta(path, events):
+    replica_file(path, LOG, events, version=2)
+    facts_file(path + ".facts", events)
+
+
+def measure_growth(folder, takes, environment):
+    """Makes a folder by so many takes, and settles it: the bytes that are written for each byte that is brought."""
+    site, delta = AsFolder(os.path.join(folder, "grown"), environment), os.path.join(folder, "delta")
+    brought = written = seconds = dearest = 0
+    for number in range(takes):
+        write_delta(delta, range(300 * number, 300 * (number + 1)))
+        took, more = site.take(delta)
+        brought, written, seconds = brought + os.path.getsize(delta), written + more, seconds + took.processors
+        dearest = max(dearest, took.processors)
+    print("%d takes of 300 events: %.2f bytes written a byte (the aim: %.2f), %.3f s of the processor a take, %.2f s the dearest" % (
+        takes, written / brought, 2 + math.log(takes, 7), seconds / takes, dearest))
+    took, more = site.settle()
+    print("settled: %.2f bytes written a byte, %.2f s of the processor, %.0f MB of memory" % (more / brought, took.processors, took.memory))
+
+
+def tell_disk(folder, binary, environment):
+    """What the recorded calls take in a site, and so a day of them."""
+    document, site = os.path.join(folder, "recorded.json"), os.path.join(folder, "recorded.cadf")
+    run_apart([FROM_OPENSTACK, "--log", LOG, "--set-aside", document + ".aside", RECORDED], document, (0, 1), environment)
+    run_apart([binary, "join", document], site)
+    with open(document, encoding="utf-8") as file:
+        text = file.read()
+    calls = (text.count('"outcome":"pending"') + text.count('"outcome": "pending"')) or 1
+    each = os.path.getsize(site) // calls
+    print("a recorded call of a service takes %d bytes in a site (%d calls)" % (each, calls))
+    for rate in (0.1, 1, 10, 100):
+        day = each * rate * 86400
+        windows = {"month": 31 * day, "day": day, "hour": day / 24}
+        print("%5s calls a second: %8.1f MB a day, %6.1f GB a year; a window of a %s" % (rate, day / MB, 365 * day / 10 ** 9, ", ".join(
+            "%s %.1f MB" % (unit, size / MB) for unit, size in windows.items())))
+
+
+def main():
+    parser = argparse.ArgumentParser(description=__doc__, formatter_class=argparse.RawDescriptionHelpFormatter)
+    parser.add_argument("--sizes", default="10,100")
+    parser.add_argument("--runs", type=int, default=3)
+    parser.add_argument("--takes", type=int, default=343)
+    parser.add_argument("binary", nargs="?", default=BINARY)
+    options = parser.parse_args()
+    binary = os.path.abspath(options.binary)
+    environment = dict(os.environ, CADF=binary)
+    subprocess.run([binary, "--version"], check=True)
+    with tempfile.TemporaryDirectory(dir=".") as folder:
+        tell_disk(folder, binary, environment)
+        measure_growth(folder, options.takes, environment)
+        for size in map(int, options.sizes.split(",")):
+            measure_sites(folder, size, options.runs, environment)
+
+
+if __name__ == "__main__":
+    main()
