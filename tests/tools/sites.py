@@ -267,9 +267,10 @@ def tries_agree(trial):
         trial.check("a damaged inventory", status == (0, b"", []) or status == (1, b"", ["bad.inventory: digest"]), True)
     put("cut.inventory", held("a.inventory")[:-70])
     put("short.inventory", b"CADF-INVENTORY 1\n")
-    trial.check("refused", trial.tool("agree", "cut.json", "a", "absent", "cut.inventory", "a.inventory", "short.inventory", "other.json", "."),
+    os.mkdir("folder")
+    trial.check("refused", trial.tool("agree", "cut.json", "a", "absent", "cut.inventory", "a.inventory", "short.inventory", "other.json", "folder"),
                 (3, b"", ["cut.json: not JSON", "absent: No such file or directory", "cut.inventory: truncated",
-                          "short.inventory: truncated", ".: no site in it: `cadf-take --by day SITE/ FILE..` makes one", 'other.json: other log: "h \\u202e"']))
+                          "short.inventory: truncated", "folder: no site in it: `cadf-take --by day SITE/ FILE..` makes one", 'other.json: other log: "h \\u202e"']))
     trial.check("by pipes", ended("bash", ["-c", '"$0" <(cat site) <(cat site.inventory)', os.path.join(TOOLS, "cadf-agree")],
                                   env=dict(os.environ, CADF=trial.binary)), (0, b"", b""))
 

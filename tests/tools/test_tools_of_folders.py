@@ -1,0 +1,166 @@
+"""The tools that read a site, where it is a folder: cadf-agree, cadf-which, cadf-conflicts, cadf-report and cadf-spool."""
+import json
+import os
+
+import pytest
+
+from tests.machine import ended
+from tests.tools.copies import copied
+from tests.tools.test_site_folders import DAYS, EVENT, REFERENCE, TOOLS, Site, atoms_of, contents
+
+# A command that tells which files it is given.
+TELLING = """#!/bin/sh
+for word; do case $word in /dev/fd/*) readlink "$word" ;; esac; done >>%s
+exec %s "$@"
+"""
+
+
+class Sites:
+    """Two folders, and calls of the tools on them."""
+
+    def __init__(self, path, tools=TOOLS):
+        self.path, self.tools = path, tools
+        self.north, self.south = Site(path, tools, "north"), Site(path, tools, "south")
+        self.south.count = 100  # of its files' names
+        self.told = path / "told"
+        telling = path / "telling"
+        telling.write_text(TELLING % (self.told, REFERENCE))
+        telling.chmod(0o755)
+        self.environment = dict(os.environ, CADF=str(telling))
+
+    def run(self, tool, *words):
+        self.told.write_text("")
+        answer = ended(os.path.join(self.tools, "cadf-" + tool), [str(word) for word in words], env=self.environment, cwd=self.path)
+        return answer.status, answer.output.decode(), answer.error.decode().splitlines()
+
+    def read(self):
+        """The windows of the files that the last call has read."""
+        names = [os.path.basename(line) for line in self.told.read_text().splitlines()]
+        return {name.split(".")[0] for name in names if name.endswith(".cadf")}
+
+    def file(self, name, *values):
+        """A file of what these documents hold."""
+        documents = [self.north.put(value) for value in values]
+        answer = ended(REFERENCE, ["join", *documents])
+        (self.path / name).write_bytes(answer.output)
+        return name
+
+
+@pytest.fixture
+def sites(tmp_path):
+    return Sites(tmp_path)
+
+
+def told_on_two_days(number):
+    """A document of an event that is told on one of two days."""
+    return {"id": "g", "events": [dict(EVENT, id="e", eventTime=DAYS[number]), dict(EVENT, id="f", eventTime=DAYS[0])]}
+
+
+def test_agree_reads_windows_that_differ(sites):
+    sites.north.takes(contents(0, 2), contents(name="n"))
+    sites.south.takes(contents(0))
+    sites.south.takes(contents(3, name="n"))
+    said = ["north/ lacks 2 facts of south", "south lacks 2 facts of north/"]
+    assert sites.run("agree", "north/", "south") == (5, "", said) and sites.read() == {"2024-02-29", "2024-03-01"}
+    for site in (sites.north, sites.south):
+        site.takes(contents(0, 2, 3, name="n"))
+    assert sites.run("agree", "north/", "south") == (0, "", []) and "shared" not in sites.read()
+    for site in (sites.north, sites.south):
+        site.settles()
+    assert sites.run("agree", "north/", "south") == (0, "", []) and sites.read() == set()
+
+
+def test_agree_of_a_folder_and_others(sites):
+    sites.north.takes(contents(0, 2, name="n"))
+    file = sites.file("file.cadf", contents(0, 2, name="n"))
+    (sites.path / "inventory").write_bytes(ended(REFERENCE, ["inventory", file], cwd=sites.path).output)
+    (sites.path / "sketch").write_bytes(ended(REFERENCE, ["sketch", file], cwd=sites.path).output)
+    assert sites.run("agree", "north", file, "inventory", "sketch") == (0, "", [])
+    sites.south.takes(contents(0), by=("--by", "hour"))
+    said = ["north lacks 2 facts of south", "south lacks 3 facts of north"]
+    sites.south.takes(contents(3), by=())
+    assert sites.run("agree", "north", "south") == (5, "", said)
+    (sites.path / "empty").write_text('{"id":"g","events":[]}')
+    assert Site(sites.path, name="none").take("--by", "day", files=[str(sites.path / "empty")]).status == 0
+    assert sites.run("agree", "none", "north") == (5, "", ["none lacks 5 facts of north"])
+    assert sites.run("agree", "none", file) == (5, "", ["none lacks 5 facts of file.cadf"])
+
+
+def test_which_judges_each_file(sites):
+    sites.north.takes(contents(0, 2))
+    assert sites.run("which", "--log", "g", "north") == (0, "", [])
+    assert sites.run("which", "--log", "h", "north/")[0] == 1
+    one, other = sorted(sites.north.folder.glob("2024-*.cadf"))
+    held = one.read_bytes(), other.read_bytes()
+    one.write_bytes(held[0].replace(b"read", b"reap"))
+    damaged = "digest: the file is damaged: fetch it again, or restore it as the guide says under `A damaged site`"
+    said = ["north/%s: %s" % (one.name, damaged), "north: not all of its files can be read"]
+    assert sites.run("which", "north") == (1, "", said)
+    one.write_bytes(held[1])
+    status, _, said = sites.run("which", "north")
+    assert status == 1 and said[0].startswith("north/%s: it holds something else than its name says" % one.name)
+
+
+def test_a_key_of_two_windows_is_open(sites):
+    """What no window shows by itself."""
+    sites.north.takes(told_on_two_days(0))
+    sites.north.takes(told_on_two_days(2))
+    file = sites.file("file.cadf", told_on_two_days(0), told_on_two_days(2))
+    assert sites.run("conflicts", "--values", "north/") == sites.run("conflicts", "--values", file)
+    status, output, _ = sites.run("conflicts", "north/")
+    assert status == 5 and output.count('\nE "e" ') == 2
+    (sites.path / "choices").write_text(next(line for line in output.splitlines(True) if line.startswith("E")))
+    rulings = ended(os.path.join(sites.tools, "cadf-conflicts"), ["--rule", "choices", "north"], env=sites.environment, cwd=sites.path)
+    (sites.path / "rulings.cadf").write_bytes(rulings.output)
+    assert rulings.status == 0 and sites.north.take(files=[str(sites.path / "rulings.cadf")]).status == 0
+    assert sites.run("conflicts", "north")[0] == 0 and sites.run("conflicts", file, "north")[0] == 5
+
+
+def test_report_of_a_folder_is_that_of_its_file(sites):
+    sites.north.takes(told_on_two_days(0))
+    sites.north.takes(told_on_two_days(2))
+    file = sites.file("file.cadf", told_on_two_days(0), told_on_two_days(2))
+    assert sites.run("report", "north/") == sites.run("report", file)
+
+
+def arrives(sites, name, value):
+    spool = sites.path / "spool"
+    spool.mkdir(exist_ok=True)
+    (spool / name).write_text(json.dumps(value))
+
+
+def test_spool_takes_into_a_folder(sites):
+    arrives(sites, "a.json", contents(0, name="n"))
+    assert sites.run("spool", "--log", "g", "north/", "spool")[0] == 2
+    assert sites.run("spool", "--by", "day", "--log", "g", "north/", "spool")[0] == 0
+    arrives(sites, "b.json", contents(2))
+    assert sites.run("spool", "north", "spool")[0] == 0 and sites.read() == set()
+    arrives(sites, "c.json", contents(5))
+    assert sites.run("spool", "north", "spool")[0] == 0 and sites.read() == {"2024-03-01"}
+    assert sites.north.atoms() == atoms_of(contents(0, 2, 5, name="n"))
+    arrives(sites, "d.json", contents(8))
+    assert sites.run("spool", "--log", "h", "north", "spool")[0] == 1 and (sites.path / "spool" / "taking" / "d.json").exists()
+
+
+def test_spool_sets_aside_what_begins_many_windows(sites):
+    sites.north.takes(contents(0))
+    times = ["%04d-01-01T00:00:00Z" % year for year in range(1000, 1402)]
+    arrives(sites, "many.json", {"id": "g", "events": [dict(EVENT, id=time, eventTime=time) for time in times]})
+    arrives(sites, "other.json", contents(2))
+    status, _, said = sites.run("spool", "north", "spool")
+    assert status == 1 and [line for line in said if "set aside: it can't be taken: " in line and "--windows" in line]
+    assert sites.north.atoms() == atoms_of(contents(0, 2)) and sites.north.left() == []
+
+
+@pytest.mark.parametrize("check, right, wrong", [
+    (test_agree_reads_windows_that_differ, "sorted({*first.parts, *second.parts})", "sorted(first.parts)[1:]"),
+    (test_agree_reads_windows_that_differ, "if first.parts.get(part) != second.parts.get(part):", "if True:"),
+    (test_which_judges_each_file, "if found != [entry]:", "if False:"),
+    (test_a_key_of_two_windows_is_open, "inputs += found.values() or", "inputs += list(found.values())[:1] or"),
+    (test_spool_takes_into_a_folder, "if cadf_site.is_folder(self.site):", "if False:"),
+])
+def test_a_wrong_version_is_caught(tmp_path, check, right, wrong):
+    tools = copied(tmp_path / "copy", right, wrong)
+    assert tools, "there is not one: " + right
+    with pytest.raises(AssertionError):
+        check(Sites(tmp_path, tools))
