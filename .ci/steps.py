@@ -69,6 +69,7 @@ STAGES = [
         "report": "python3 -m tests.tools.report",
         "report-page": "python3 -m tests.tools.report_page",
         "week": "examples/week.sh",
+        "week-of-folders": "examples/week.sh --by day",
         "many-sites": "examples/many-sites.py",
         "parcelled": "examples/parcelled.py",
         "shapes": "bench/shapes.py --gate",

@@ -186,7 +186,7 @@ def refuses(trial):
     trial.site(site=trial.one, before=trial.two, new=trial.both)
     trial.ends("what would be overwritten", trial.take("s.cadf", "./s.cadf.new"), 2, "cadf-take: ./s.cadf.new: ..")
     trial.leaves("what would be overwritten", trial.one, trial.two, trial.both)
-    for what, make, status in (("a link", lambda name: os.symlink("one.json", name), 2), ("a folder", os.mkdir, 3)):
+    for what, make, status in (("a link", lambda name: os.symlink("one.json", name), 2), ("a folder", os.mkdir, 1)):
         trial.site()
         make("s.cadf")
         trial.ends(what, trial.take("s.cadf", "one.json"), status, "cadf-take: s.cadf: ..")

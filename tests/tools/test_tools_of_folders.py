@@ -62,6 +62,7 @@ def test_agree_reads_windows_that_differ(sites):
     sites.south.takes(contents(3, name="n"))
     said = ["north/ lacks 2 facts of south", "south lacks 2 facts of north/"]
     assert sites.run("agree", "north/", "south") == (5, "", said) and sites.read() == {"2024-02-29", "2024-03-01"}
+    assert sites.run("agree", "north/", "south", "south") == (5, "", 2 * said)
     for site in (sites.north, sites.south):
         site.takes(contents(0, 2, 3, name="n"))
     assert sites.run("agree", "north/", "south") == (0, "", []) and "shared" not in sites.read()
