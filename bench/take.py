@@ -1,7 +1,7 @@
 #!/usr/bin/env python3
 """Measures takes into sites of several sizes: a folder of windows, a file, and a table of sqlite; and says what disk to plan.
 
-    bench/take.py [--sizes 10,100] [--runs 3] [--takes 343] [BINARY]
+    bench/take.py [--sizes 10,100] [--runs 3] [--takes 343] [--year] [BINARY]
 
 A site of so many MB has events of one a second, in windows of an hour. Into it are taken 1 event and 300, each time others:
 by cadf-take into the folder, by cadf-take into the file, and by Python's sqlite3 into a table of facts (INSERT OR IGNORE,
@@ -11,17 +11,21 @@ Sizes of 1,000 take an hour and 10 GB of disk.
 Then so many takes of 300 events make a folder, and it is settled: the bytes that were written for each byte that is brought,
 beside 2 + log7 of the number of takes.
 
-Last it says what the recorded calls of examples/real take in a site, and so a day of them. BINARY is crates/cadf/out/cadf unless
+With --year a folder takes 8,760 hourly batches of 410 events, 2.4 GB, and is settled: the memory, and whether each window is one
+join of its batch. That takes an hour or more.
+
+First it says what the recorded calls of examples/real take in a site, and so a day of them. BINARY is crates/cadf/out/cadf unless
 given.
 """
 import argparse
+import datetime
 import math
 import os
-import subprocess
+import re
 import sys
 import tempfile
 
-from measure import BINARY, TOP, atoms_of, best_of, replica_file, run_apart, spelled
+from measure import BINARY, TOP, atoms_of, best_of, replica_file, run_apart, spelled, write_replica, written_apart
 
 TAKE = os.path.join(TOP, "tools", "cadf-take")
 FROM_OPENSTACK = os.path.join(TOP, "tools", "cadf-from-openstack")
@@ -29,6 +33,8 @@ RECORDED = os.path.join(TOP, "examples", "real", "keystonemiddleware.jsonl")
 LOG = "audit"
 EVENT_BYTES = 667  # of a generated event with its chain and its tag, in a replica file
 MB = 10 ** 6
+HOURS, BATCH = 8760, 410  # of a year, and events of one
+STAMP = re.compile("2014-02-[0-9T:-]*Z")
 SQLITE = """
 import hashlib, re, sqlite3, sys
 table = sqlite3.connect(sys.argv[1])
@@ -140,6 +146,33 @@ def measure_growth(folder, takes, environment):
     print("settled: %.2f bytes written a byte, %.2f s of the processor, %.0f MB of memory" % (more / brought, took.processors, took.memory))
 
 
+def batch_of(path, hour):
+    """Writes the replica file of an hour's events."""
+    begin = datetime.datetime(2023, 1, 1) + datetime.timedelta(hours=hour)
+    atoms = [atom for number in range(BATCH) for atom in atoms_of(hour * BATCH + number)]
+    written_apart(lambda: write_replica(path, LOG, [tuple(STAMP.sub(begin.isoformat() + "Z", text) for text in atom) for atom in atoms]))
+    return begin.strftime("%Y-%m-%dT%H")
+
+
+def measure_year(folder, binary, environment):
+    """Takes a year by the hour, settles it, and compares each window with one join of its batch."""
+    site, delta, union = (os.path.join(folder, name) for name in ("year", "delta", "union"))
+    folder, most = AsFolder(site, environment), 0
+    for hour in range(HOURS):
+        batch_of(delta, hour)
+        most = max(most, folder.take(delta)[0].memory)
+    took, _ = folder.settle()
+    names, wrong = set(os.listdir(site)), 0
+    for hour in range(HOURS):
+        window = batch_of(delta, hour)
+        run_apart([binary, "join", delta], union)
+        with open(union, "rb") as file:
+            file.seek(-65, os.SEEK_END)
+            wrong += "%s.%s.cadf" % (window, file.read(64).decode()) not in names
+    print("a year: %.0f MB of memory for a take, %.0f MB for settling, %d of %d windows are no join of their batch" % (
+        most, took.memory, wrong, HOURS))
+
+
 def tell_disk(folder, binary, environment):
     """What the recorded calls take in a site, and so a day of them."""
     document, site = os.path.join(folder, "recorded.json"), os.path.join(folder, "recorded.cadf")
@@ -162,6 +195,7 @@ def main():
     parser.add_argument("--sizes", default="10,100")
     parser.add_argument("--runs", type=int, default=3)
     parser.add_argument("--takes", type=int, default=343)
+    parser.add_argument("--year", action="store_true")
     parser.add_argument("binary", nargs="?", default=BINARY)
     options = parser.parse_args()
     binary = os.path.abspath(options.binary)
@@ -172,6 +206,8 @@ def main():
         measure_growth(folder, options.takes, environment)
         for size in map(int, options.sizes.split(",")):
             measure_sites(folder, size, options.runs, environment)
+        if options.year:
+            measure_year(folder, binary, environment)
 
 
 if __name__ == "__main__":

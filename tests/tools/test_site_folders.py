@@ -99,14 +99,14 @@ class Site:
                 held |= atoms
         return held
 
-    def settled(self, atoms):
+    def settled(self, atoms, unit="day"):
         """What a settled folder of these atoms has, by name."""
         files, wanted = {}, {}
-        for part, own in parts_of(atoms, "day").items():
+        for part, own in parts_of(atoms, unit).items():
             data = file_of("g", own)
             digest = data[-65:-1].decode()
             files[part], wanted["%s.%s.cadf" % (part, digest)] = [digest], data
-        return dict(wanted, site=index_of(files))
+        return dict(wanted, site=index_of(files, unit))
 
     def listed(self):
         return {name.name: name.read_bytes() for name in self.folder.iterdir() if not name.name.startswith(".")}
@@ -202,6 +202,20 @@ def test_files_of_a_window_are_joined_by_seven(here):
         here.takes_here(here.put(contents(key)), "day")
     assert list(map(len, here.files().values())) == [2] and here.left() == []
     assert here.atoms() == atoms_of(contents(*range(0, 24, 3)))
+
+
+@pytest.mark.release
+def test_a_day_by_five_minutes(here):
+    """288 takes of some events each, an hour a window, are settled as one join of each hour."""
+    documents = []
+    for number in range(288):
+        times = ["2024-03-01T%02d:%02d:%02dZ" % (number // 12, number % 12 * 5, second) for second in (0, 20, 59)]
+        events = [dict(EVENT, id="%s-%d" % (time, number), eventTime=time, tags=["t%d" % (number % 3)]) for time in times]
+        documents.append({"id": "g", "events": events, "resources": [{"id": "r%d" % (number % 7), "typeURI": "service"}]})
+        here.takes_here(here.put(documents[-1]), "hour")
+    cadf_site.settle(str(here.folder))
+    assert here.settled(atoms_of(*documents), "hour").items() <= here.listed().items()
+    assert len(here.files()) == 25
 
 
 def test_what_is_joined_in_a_take_has_a_bound(here, monkeypatch):
