@@ -9,6 +9,7 @@ the moment of a take. A reader needs no lock. A tool imports this as it imports 
   opened_whole(names)        the inputs that hold all of these sites, of which each is a file or a folder
   take(..), settle(..)       take inputs into a folder, and join the files of each window
 """
+import bisect
 import contextlib
 import errno
 import hashlib
@@ -30,7 +31,7 @@ HEAD = re.compile(rb'CADF-SITE 1\nL ("(?:[^"\\\n]|\\.)*")\nB (month|day|hour)\n'
 SHARED = "shared"
 PART = r"(?:shared|[0-9]{4}-[0-9]{2}(?:-[0-9]{2}(?:T[0-9]{2})?)?)"
 DIGITS = r"[0-9a-f]{64}"
-ENTRY = re.compile(("F (%s) (%s)\n" % (PART, DIGITS)).encode())
+ENTRY = re.compile(("F (%s) %s\n" % (PART, DIGITS)).encode())
 NAME_LINE = re.compile(("P (%s)\n" % PART).encode())  # of a split file
 LAST_LINE = re.compile(("Z (%s)\n" % DIGITS).encode())
 WINDOW_FILE = re.compile(r"%s\.%s\.cadf" % (PART, DIGITS))
@@ -54,17 +55,18 @@ def file_name(part, digest):
     return "%s.%s.cadf" % (part, digest)
 
 
-def order(entry):
-    """The place of an entry: `shared` first, then windows in order of time, files of one by their digests."""
-    part, digest = entry
-    return part != SHARED, part, digest
+def entry_line(part, digest):
+    return ("F %s %s\n" % (part, digest)).encode()
 
 
 class Index:
-    """What the file `site` says: a log, by the canonical text of its name, a unit, and files, by part and digest."""
+    """What the file `site` says: a log, by the canonical text of its name, a unit, and files, by part and digest.
 
-    def __init__(self, log, unit, entries=()):
-        self.log, self.unit, self.entries = log, unit, sorted(set(entries), key=order)
+    It is held by its lines, in the order of their bytes, in which `shared` is last. A take needs few of them.
+    """
+
+    def __init__(self, log, unit, lines=()):
+        self.log, self.unit, self.lines = log, unit, sorted(lines)
 
     @classmethod
     def read(cls, data):
@@ -72,36 +74,62 @@ class Index:
         head, cut = HEAD.match(data), data.rfind(b"Z ")
         if not head or data[cut:] != b"Z %s\n" % hashlib.sha256(data[:cut]).hexdigest().encode():
             return None
-        found = [ENTRY.fullmatch(line) for line in data[head.end():cut].splitlines(True)]
-        if None in found:
-            return None
-        entries = [(each[1].decode(), each[2].decode()) for each in found]
         try:
-            index = cls(head[1].decode(), head[2].decode(), entries)
+            index = cls(head[1].decode(), head[2].decode(), data[head.end():cut].splitlines(True))
             index.name().encode()
         except ValueError:
             return None
-        return index if index.entries == entries and index.is_of_unit() else None
+        return index if index.is_well_formed() and b"".join(index.bytes()) == data else None
 
-    def is_of_unit(self):
-        """Whether the windows' names are as long as those of the unit."""
-        return all(part == SHARED or len(part) == UNITS[self.unit] for part, _ in self.entries)
+    def is_well_formed(self):
+        """Whether the lines are different ones, and of windows of the unit."""
+        width = UNITS[self.unit]
+        return all(one < other for one, other in zip(self.lines, self.lines[1:])) and all(
+            found and len(found[1]) in (width, len(SHARED)) for found in map(ENTRY.fullmatch, self.lines))
 
     def name(self):
         """The log's name."""
         return json.loads(self.log)
 
     def bytes(self):
-        text = "CADF-SITE 1\nL %s\nB %s\n" % (self.log, self.unit)
-        data = (text + "".join("F %s %s\n" % entry for entry in self.entries)).encode()
-        return data + b"Z %s\n" % hashlib.sha256(data).hexdigest().encode()
+        """Yields the lines of the file."""
+        first = bisect.bisect_left(self.lines, b"F " + SHARED.encode())
+        hash_all = hashlib.sha256()
+        head = [("CADF-SITE 1\nL %s\nB %s\n" % (self.log, self.unit)).encode()]
+        for line in itertools.chain(head, itertools.islice(self.lines, first, None), itertools.islice(self.lines, first)):
+            hash_all.update(line)
+            yield line
+        yield b"Z %s\n" % hash_all.hexdigest().encode()
 
     def parts(self):
-        """The digests of the files of each part, by its name."""
-        found = {}
-        for part, digest in self.entries:
+        """The digests of the files of each part, by its name, in the order of the file."""
+        found = {SHARED: []}
+        for line in self.lines:
+            part, digest = line[2:-1].decode().split(" ")
             found.setdefault(part, []).append(digest)
-        return found
+        return {part: digests for part, digests in found.items() if digests}
+
+    def entries(self):
+        """The part and the digest of each file, in the order of the file."""
+        return [(part, digest) for part, digests in self.parts().items() for digest in digests]
+
+    def digests(self, part):
+        """The digests of the files of a part."""
+        begin = ("F %s " % part).encode()
+        rest = itertools.islice(self.lines, bisect.bisect_left(self.lines, begin), None)
+        return [line[len(begin):-1].decode() for line in itertools.takewhile(lambda line: line.startswith(begin), rest)]
+
+    def has(self, name):
+        """Whether a file of that name is one of the site."""
+        line = entry_line(*name[:-len(".cadf")].split("."))
+        place = bisect.bisect_left(self.lines, line)
+        return self.lines[place:place + 1] == [line]
+
+    def with_parts(self, parts):
+        """The index that has these digests for these parts."""
+        others = {part.encode() for part in parts}
+        lines = [line for line in self.lines if line.split(b" ", 2)[1] not in others]
+        return Index(self.log, self.unit, lines + [entry_line(part, digest) for part, digests in parts.items() for digest in digests])
 
 
 class Folder:
@@ -165,6 +193,14 @@ class Folder:
             raise Fault("%s: not the file of a site: %s" % (self.shown(INDEX), DAMAGED), REFUSED)
         return index
 
+    def is_site(self):
+        """Whether a `site` is there."""
+        try:
+            os.stat(INDEX, dir_fd=self.descriptor, follow_symlinks=False)
+        except FileNotFoundError:
+            return False
+        return True
+
     def site(self):
         """What `site` says. Raises that it isn't there."""
         index = self.index()
@@ -196,7 +232,7 @@ def opened_site(name, wanted=lambda part: True):
     with Folder(name) as folder, contextlib.ExitStack() as files:
         for _ in range(TRIES):
             index, inputs, missing = folder.site(), {}, None
-            entries = [entry for entry in index.entries if wanted(entry[0])]
+            entries = [entry for entry in index.entries() if wanted(entry[0])]
             allow_files(2 * len(entries) + 64)  # `cadf` opens each once more
             for entry in entries:
                 try:
@@ -205,7 +241,7 @@ def opened_site(name, wanted=lambda part: True):
                     missing = file_name(*entry)
                     break
                 files.enter_context(inputs[entry].file)
-            if folder.site().bytes() == index.bytes():
+            if folder.site().lines == index.lines:
                 if missing:
                     raise Fault("%s: not there: %s" % (folder.shown(missing), DAMAGED))
                 yield index, inputs
@@ -351,20 +387,18 @@ def piles(sizes):
 
 
 class Taking:
-    """A folder that is locked for a take: what its `site` says, and what files there will be of each part."""
+    """A folder that is locked for a take: what its `site` says, and the files of each part that will be others."""
 
     def __init__(self, folder, wait):
         self.folder, self.mode = folder, 0o666 & stat.S_IMODE(os.fstat(folder.descriptor).st_mode)
         self.lock = self.opened_lock()
         try:
             wait_for_lock(self.lock, folder.path(LOCK), wait)
-            self.before = folder.index()
+            self.index = folder.index()
         except BaseException:
             os.close(self.lock)
             raise
-        self.log, self.unit = (self.before.log, self.before.unit) if self.before else (None, None)
-        self.parts = self.before.parts() if self.before else {}
-        self.begun, self.changed = set(), set()
+        self.changed, self.begun = {}, set()
 
     def __enter__(self):
         return self
@@ -381,15 +415,25 @@ class Taking:
         except FileExistsError:
             return self.folder.open(LOCK, os.O_RDWR | os.O_NONBLOCK)
 
+    def digests(self, part):
+        """The digests of the files of a part."""
+        return self.changed.get(part) or self.index.digests(part)
+
     # What else is in the folder
 
     def stale(self):
         """The names of what a taker left and `site` doesn't name, and the names of what is no taker's."""
-        index = self.folder.index()
-        named = {file_name(*entry) for entry in index.entries} if index else set()
-        others = sorted(set(os.listdir(self.folder.descriptor)) - named - {INDEX})
-        left = [name for name in others if name == WORKING or WINDOW_FILE.fullmatch(name)]
-        return left, [name for name in others if not name.startswith(".") and name not in left]
+        left, strangers = [], []
+        with os.scandir(self.folder.descriptor) as files:
+            for file in files:
+                if WINDOW_FILE.fullmatch(file.name):
+                    if self.index is None or not self.index.has(file.name):
+                        left.append(file.name)
+                elif file.name == WORKING:
+                    left.append(file.name)
+                elif not file.name.startswith(".") and file.name != INDEX:
+                    strangers.append(file.name)
+        return left, strangers
 
     def begin(self):
         """Removes what earlier takes left: files that were joined since, or of a take that was killed. Names strangers.
@@ -397,10 +441,10 @@ class Taking:
         Files of windows without a `site` are no take's: a folder's first take writes `site` before them.
         """
         left, strangers = self.stale()
-        if self.before is None and set(left) - {WORKING}:
+        if self.index is None and set(left) - {WORKING}:
             raise Fault("%s: it is not there, and files of windows are: %s" % (self.folder.shown(INDEX), DAMAGED), REFUSED)
         strangers += [name for name in left if not self.is_removed(name)]
-        for name in strangers[:MOST_STRANGERS]:
+        for name in sorted(strangers)[:MOST_STRANGERS]:
             say("%s: no file of the site: it is passed over" % self.folder.shown(name))
         if len(strangers) > MOST_STRANGERS:
             say("%s: %d more are no files of the site" % (self.folder.shown(), len(strangers) - MOST_STRANGERS))
@@ -416,14 +460,15 @@ class Taking:
     @contextlib.contextmanager
     def undone(self):
         """Leaves nothing of a take that is refused or fails."""
-        is_first = self.before is None
+        is_first = self.index is None
         try:
             yield
         except BaseException:
             with contextlib.suppress(OSError, Fault):
+                self.index = self.folder.index()
                 for name in self.stale()[0]:
                     self.is_removed(name)
-                if is_first and not self.folder.site().entries:
+                if is_first and not self.index.lines:
                     os.unlink(INDEX, dir_fd=self.folder.descriptor)
             raise
 
@@ -449,7 +494,7 @@ class Taking:
 
     def sizes(self, part):
         """The sizes of a part's files, by digest."""
-        return {digest: self.size(file_name(part, digest)) for digest in self.parts.get(part, ())}
+        return {digest: self.size(file_name(part, digest)) for digest in self.digests(part)}
 
     @contextlib.contextmanager
     def files(self, part, digests):
@@ -468,11 +513,11 @@ class Taking:
     def add(self, words, inputs, most_new):
         """Writes each part of what the inputs hold as a new file, unless the part's files hold it already."""
         with split(words, inputs, [self.lock]) as parts:
-            self.log, self.unit = parts.head()
-            if self.before is None:
-                self.put()
+            log, unit = parts.head()
+            if self.index is None:
+                self.put(Index(log, unit))
             for part in parts.names():
-                if part not in self.parts:
+                if not self.digests(part):
                     self.begun.add(part)
                 if len(self.begun) > most_new:
                     raise Fault("the files make more than %d new windows: if that is meant, allow it by --windows N" % most_new, REFUSED)
@@ -485,12 +530,12 @@ class Taking:
         size = self.size(WORKING)
         if size > LARGEST:
             raise Fault("%s: the files bring more than 2^30 bytes of %s at once: give fewer" % (self.folder.shown(), part), REFUSED)
-        if digest in self.parts.get(part, ()) or self.is_held(part, size):
+        digests = self.digests(part)
+        if digest in digests or self.is_held(part, size):
             os.unlink(WORKING, dir_fd=self.folder.descriptor)
         else:
             self.name(file_name(part, digest))
-            self.parts.setdefault(part, []).append(digest)
-            self.changed.add(part)
+            self.changed[part] = [*digests, digest]
 
     def is_held(self, part, size):
         """Whether the smaller files of a part hold all of the new file, of that size."""
@@ -515,7 +560,7 @@ class Taking:
             file.seek(-len("\n") - 64, os.SEEK_END)
             digest = file.read(64).decode()
         self.name(file_name(part, digest))
-        self.parts[part] = [each for each in self.parts[part] if each not in digests] + [digest]
+        self.changed[part] = [each for each in self.digests(part) if each not in digests] + [digest]
 
     def join_by_size(self):
         """Joins files of each part that has new ones, seven of a size into one, as long as there are such."""
@@ -528,43 +573,52 @@ class Taking:
                 sizes = self.sizes(part)
 
     def settle(self):
-        """Joins the files of each part into one, or into as few as can be read. Returns the parts that have several."""
-        done = 0
-        for part in self.parts:
-            sizes = self.sizes(part)
+        """Joins the files of each part into one, or into as few as can be read. Returns how many files of which parts are left."""
+        done, large = 0, {}
+        for part, digests in self.index.parts().items():
+            sizes = self.sizes(part) if len(digests) > 1 else {}
             for pile in piles(sizes):
                 if len(pile) > 1:
                     self.join(part, pile)
                     done += sum(sizes[digest] for digest in pile)
+            if len(self.digests(part)) > 1:
+                large[part] = len(self.digests(part))
             if done > MOST_SETTLED:
-                self.put()
+                self.put_changed()
                 done = 0
-        self.put()
-        return {part: len(digests) for part, digests in self.parts.items() if len(digests) > 1}
+        self.put_changed()
+        return large
 
-    def put(self):
-        """Replaces `site` by one that names the files that there are now, all of them being on the disk."""
-        index = Index(self.log, self.unit, [(part, digest) for part, digests in self.parts.items() for digest in digests])
+    def put_changed(self):
+        """Replaces `site` by one that names the files that there are now, unless it does."""
+        index = self.index.with_parts(self.changed)
+        if index.lines != self.index.lines:
+            self.put(index)
+        else:
+            os.fsync(self.folder.descriptor)  # a call that was killed may have put it there
+
+    def put(self, index):
+        """Replaces `site`, all that it names being on the disk."""
         os.fsync(self.folder.descriptor)
-        if self.before is None or index.bytes() != self.before.bytes():
-            with self.new_file() as output:
-                output.write(index.bytes())
-            self.name(INDEX)
-            os.fsync(self.folder.descriptor)
-        self.before = index
+        with self.new_file() as output:
+            output.writelines(index.bytes())
+        self.name(INDEX)
+        os.fsync(self.folder.descriptor)
+        self.index, self.changed = index, {}
 
 
 @contextlib.contextmanager
 def taking(name, unit, log, wait):
     """Locks a folder for a take, unless it is of another unit or log."""
     with Folder(name) as folder, folder.naming():
-        if unit is None:
-            folder.site()
+        if unit is None and not folder.is_site():
+            raise Fault("%s: %s" % (folder.shown(), NO_SITE), REFUSED)
         with Taking(folder, wait) as found:
-            if None not in (found.unit, unit) and unit != found.unit:
-                raise Fault("%s: other unit: its windows are a %s each, and not a %s" % (folder.shown(), found.unit, unit), REFUSED)
-            if None not in (found.before, log) and log != found.before.name():
-                raise Fault("%s: %s" % (folder.shown(), other_log(found.before.name())), REFUSED)
+            index = found.index
+            if index and unit not in (None, index.unit):
+                raise Fault("%s: other unit: its windows are a %s each, and not a %s" % (folder.shown(), index.unit, unit), REFUSED)
+            if index and log not in (None, index.name()):
+                raise Fault("%s: %s" % (folder.shown(), other_log(index.name())), REFUSED)
             found.begin()
             with found.undone():
                 yield found
@@ -577,10 +631,10 @@ def take(name, inputs, unit=None, log=None, wait=None, most_new=MOST_NEW):
             os.mkdir(name, 0o700)
     with taking(name, unit, log, wait) as found:
         for group in groups(inputs):
-            named = found.before.name() if found.before else log
-            found.add(["--by", found.unit or unit, *([] if named is None else ["--log=" + named])], group, most_new)
+            by, named = (found.index.unit, found.index.name()) if found.index else (unit, log)
+            found.add(["--by", by, *([] if named is None else ["--log=" + named])], group, most_new)
         found.join_by_size()
-        found.put()
+        found.put_changed()
 
 
 def settle(name, wait=None):

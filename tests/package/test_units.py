@@ -86,11 +86,13 @@ def test_setting(unit, section, key, value):
 
 def test_words(cadf, tmp_path):
     """The tool takes the words of the unit, over folders of its own."""
-    spool, site = tmp_path / "spool", tmp_path / "site.cadf"
+    spool, site = tmp_path / "spool", tmp_path / "site"
     spool.mkdir()
     shutil.copy(os.path.join(VECTORS, "north.json"), spool)
     program, *words = shlex.split(settings(SERVICE)["Service"]["ExecStart"])
-    places = {"%i": "g", "/var/lib/cadf/%i/site.cadf": str(site), "/var/spool/cadf/%i": str(spool)}
-    done = ended(os.path.join(TOP, "tools", program), [places.get(word, word) for word in words], env={**os.environ, "CADF": cadf})
-    with open(os.path.join(VECTORS, "north.cadf"), "rb") as file:
-        assert (done.status, site.read_bytes()) == (0, file.read()), done
+    places = {"%i": "g", "/var/lib/cadf/%i/site": str(site), "/var/spool/cadf/%i": str(spool)}
+    environment = {**os.environ, "CADF": cadf}
+    done = ended(os.path.join(TOP, "tools", program), [places.get(word, word) for word in words], env=environment)
+    assert done.status == 0, done
+    agreed = ended(os.path.join(TOP, "tools", "cadf-agree"), [str(site), os.path.join(VECTORS, "north.cadf")], env=environment)
+    assert agreed == (0, b"", b"")

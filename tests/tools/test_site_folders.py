@@ -317,7 +317,7 @@ def test_links_are_refused(here, name):
 
 def test_each_bit_of_the_index_counts(site):
     data = index_of({"shared": ["%064d" % 1], "2024-03-01": ["%064d" % 2]})
-    assert cadf_site.Index.read(data).bytes() == data
+    assert b"".join(cadf_site.Index.read(data).bytes()) == data
     for place in range(len(data)):
         for bit in range(8):
             wrong = bytearray(data)
@@ -488,17 +488,17 @@ def test_what_a_site_names_and_lacks_is_named(here):
 
 @pytest.mark.parametrize("check, right, wrong", [
     (test_a_take_writes_the_windows_of_what_it_takes, "            os.fchmod(file, self.mode)\n", "            os.fchmod(file, 0o644)\n"),
-    (test_what_is_held_already_changes_nothing, "digest in self.parts.get(part, ()) or self.is_held(part, size)", "False"),
+    (test_what_is_held_already_changes_nothing, "digest in digests or self.is_held(part, size)", "False"),
     (test_what_is_held_already_changes_nothing, '.count(b"\\n") == NOTHING', '.count(b"\\n") >= NOTHING'),
-    (test_a_settled_folder_is_a_function_of_its_facts, "for each in self.parts[part] if each not in digests]", "for each in self.parts[part]]"),
+    (test_a_settled_folder_is_a_function_of_its_facts, "for each in self.digests(part) if each not in digests]", "for each in self.digests(part)]"),
     (test_a_first_take_that_is_refused_leaves_no_site, "if is_first and not", "if False and not"),
-    (test_a_lost_index_loses_no_window, "if self.before is None and set(left) - {WORKING}:", "if False:"),
+    (test_a_lost_index_loses_no_window, "if self.index is None and set(left) - {WORKING}:", "if False:"),
     (test_strangers_are_named_and_passed_over, 'PART = r"(?:shared|[0-9]{4}', 'PART = r"(?:shared|[0-9]{4}|\\d{7}'),
-    (test_strangers_are_named_and_passed_over, 'not name.startswith(".") and', ""),
+    (test_strangers_are_named_and_passed_over, 'not file.name.startswith(".") and', ""),
 ])
 def test_a_wrong_version_is_caught(tmp_path, check, right, wrong):
     tools = copied(tmp_path / "copy", right, wrong)
     assert tools, "there is not one: " + right
-    words = ([[], dict(contents(1), events=7)] if "refused" in check.__name__ else [])
+    words = [["--windows", "1"], contents(1, 2)] if "refused" in check.__name__ else []
     with pytest.raises(AssertionError):
         check(Site(tmp_path, tools), *words)
