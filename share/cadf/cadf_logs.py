@@ -1,0 +1,132 @@
+"""What the tools read of the texts that cadf shows: a value after another, and the instants of events."""
+import argparse
+import codecs
+import datetime
+import json
+import re
+
+PIECE = 1 << 20
+UNREADABLE = (ValueError, IndexError)  # made once: a tuple that is made while memory is out can make CPython loop
+YEARS, DAYS = 400, 146097  # after so many years, of so many days, the calendar begins anew
+TIME = re.compile(r"(\d{4})-(\d\d)-(\d\d)(?:[T ](\d\d):(\d\d)(?::(\d\d)(?:\.(\d{1,9}))?)?(Z|[+-]\d\d:\d\d)?)?", re.ASCII)
+
+
+# ---- Instants
+
+def instant(text):
+    """Nanoseconds since the day before the year 1 of a time as cadf spells it, or as a person types it; None if it is none."""
+    found = TIME.fullmatch(text)
+    if not found:
+        return None
+    year, month, day, hour, minute, second = (int(part or 0) for part in found.groups()[:6])
+    try:
+        days = datetime.date(year or YEARS, month, day).toordinal() - (0 if year else DAYS)
+    except ValueError:
+        return None
+    zone = "+00:00" if found[8] in (None, "Z") else found[8]
+    minutes = hour * 60 + minute - int(zone[0] + "1") * (int(zone[1:3]) * 60 + int(zone[4:]))
+    return ((days * 1440 + minutes) * 60 + second) * 10 ** 9 + int((found[7] or "").ljust(9, "0"))
+
+
+def utc(nanoseconds):
+    """Spells an instant in UTC."""
+    seconds, fraction = divmod(nanoseconds, 10 ** 9)
+    day, second = divmod(seconds, 86400)
+    years = 0 if day > 0 else YEARS  # datetime has no year 0
+    date = datetime.date.fromordinal(day + years * DAYS // YEARS)
+    spelled = "%04d-%02d-%02dT%02d:%02d:%02d" % (date.year - years, date.month, date.day, second // 3600, second // 60 % 60, second % 60)
+    return spelled + (".%09d" % fraction).rstrip("0").rstrip(".") + "Z"
+
+
+class Range:
+    """The events that the page is about: from an instant until before another, each of them None where there is none."""
+
+    def __init__(self, first, until):
+        self.first, self.until = first, until
+        self.is_all = first is None and until is None
+
+    def has(self, event):
+        if self.is_all:
+            return True
+        at = instant(event["eventTime"])
+        return (self.first is None or at >= self.first) and (self.until is None or at < self.until)
+
+    def words(self):
+        """Says the range for the page's head; nothing if it is all of the log."""
+        limits = " ".join("%s %s" % (word, utc(at)) for word, at in (("from", self.first), ("until before", self.until)) if at is not None)
+        return limits and "Only the events %s, and the conflicts that have a value then." % limits
+
+
+# ---- Reading a canonical text value by value
+
+PLAIN = json.JSONDecoder()
+
+
+class Text:
+    """The canonical text of an object, read in pieces: a wide character makes one piece large, and not all of them."""
+
+    def __init__(self, file):
+        self.file, self.decode = file, codecs.getincrementaldecoder("utf-8")().decode
+        self.text, self.at, self.is_all = "", 0, False
+
+    def more(self):
+        """Reads on, at least as much as is kept, so that a long value is seldom begun again."""
+        kept = self.text[self.at:]
+        data = self.file.read(max(PIECE, len(kept)))
+        self.text, self.at, self.is_all = kept + self.decode(data), 0, not data
+
+    def mark(self):
+        """Looks at the next character."""
+        if self.at == len(self.text):
+            self.more()
+        return self.text[self.at]
+
+    def take_mark(self):
+        mark = self.mark()
+        self.at += 1
+        return mark
+
+    def value(self, decoder):
+        """Decodes the next value. Returns it with the place of its end, to which `take` goes on."""
+        while True:
+            try:
+                value, end = decoder.raw_decode(self.text, self.at)
+                if end < len(self.text) or self.is_all:
+                    return value, end
+            except ValueError:
+                if self.is_all:
+                    raise
+            self.more()
+
+    def take(self, decoder=PLAIN):
+        """Takes the next value. Returns it with its text."""
+        value, end = self.value(decoder)
+        text, self.at = self.text[self.at:end], end
+        return value, text
+
+    def names(self):
+        """Yields the names of the object's members. Each value has to be taken before the next name."""
+        while self.take_mark() != "}":
+            name, _ = self.take()
+            self.take_mark()
+            yield name
+
+    def items(self):
+        """Comes before each item of a list, which has to be taken then."""
+        self.take_mark()
+        if self.mark() == "]":
+            self.at += 1
+            return
+        yield
+        while self.take_mark() == ",":
+            yield
+
+
+def typed_instant(text):
+    """The instant that a person typed."""
+    at = instant(text)
+    try:
+        utc(at)
+    except (TypeError, ValueError, OverflowError):
+        raise argparse.ArgumentTypeError("not a time: %s" % json.dumps(text))
+    return at
