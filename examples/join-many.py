@@ -1,21 +1,22 @@
 #!/usr/bin/env python3
-"""Joins thousands of log documents into one replica file for each month, on many processors or machines at once.
+"""Joins thousands of log documents into a new site that is a folder, on many processors or machines at once.
 
-    examples/join-many.py [--scheduler ADDRESS | --workers 4] [--fan 32] --out FOLDER DOCUMENT..
+    examples/join-many.py [--scheduler ADDRESS | --workers 4] [--fan 32] [--by day] [--log ID] --out SITE FILE..
 
 Needs dask.distributed (Debian: python3-distributed). With --scheduler the work is done by the workers of that cluster, which
-all see the same folders; else by --workers processes of this machine. The documents are of one log ID, and hold events alone.
-FOLDER gets ID-YYYY-MM.cadf, of the log ID-YYYY-MM, for each month of UTC in which an event happened.
+all have cadf and see the same folders; else by --workers processes of this machine. FILEs are what `cadf-take` takes.
+SITE gets the windows of that unit, `month`, `day` or `hour`, and is settled: the same files as by one call of `cadf-take`.
 
-First each worker makes, of some documents at a time, a replica file for each month. Then the files of a month are joined, --fan
-at a time, until one is left. Any worker may die, and what it did may be done again or twice: each file has one name and
-is put there whole, and a join repeated changes nothing. The order and the grouping don't matter either, so the result is that
-of one join. CADF names the command, if it isn't `cadf`.
+First each worker takes some files at a time into a folder of its own. Then the files of a window are joined, --fan at a
+time, until one is left, or more where one would have above 2^30 bytes. Any worker may die, and what it did may be done again
+or twice: each file has one name and is put there whole, and a join repeated changes nothing. The order and the grouping
+don't matter either. All of that is in a folder beside SITE, which goes at the end, and is renamed to SITE if all went well.
+CADF names the command, if it isn't `cadf`.
 """
 import argparse
+import asyncio
 import collections
-import datetime
-import json
+import hashlib
 import logging
 import os
 import re
@@ -23,122 +24,100 @@ import shutil
 import subprocess
 import sys
 import tempfile
-import urllib.parse
 
-TIME = re.compile(r"(.{19})(?:\.[0-9]+)?(?:Z|([+-])([0-9]{2}):?([0-9]{2}))")
-
-
-def month(event):
-    """The month of UTC in which an event happened."""
-    local, sign, hours, minutes = TIME.fullmatch(event["eventTime"]).groups()
-    offset = datetime.timedelta(hours=int(hours or 0), minutes=int(minutes or 0))
-    moment = datetime.datetime.fromisoformat(local)
-    return (moment + offset if sign == "-" else moment - offset).strftime("%Y-%m")
+LARGEST = 2 ** 30  # bytes that cadf reads of a file
+WINDOW_FILE = re.compile(r"(shared|\d{4}-[\d-]+(?:T\d\d)?)\.[0-9a-f]{64}\.cadf")
 
 
-def whole(text):
-    """A number of a document. One that cadf refuses isn't changed in silence."""
-    if not re.fullmatch("0|-?[1-9][0-9]{0,19}", text):
-        raise ValueError("a number is not whole: %s" % text)
-    return int(text)
+def run(words, output=subprocess.DEVNULL):
+    """Runs a program. Raises what it says if it fails."""
+    done = subprocess.run(words, stdin=subprocess.DEVNULL, stdout=output, stderr=subprocess.PIPE)
+    if done.returncode:
+        raise ValueError(done.stderr.decode("utf-8", "backslashreplace").strip() or "%s ended with %d" % (words[0], done.returncode))
 
 
-def read(name):
-    with open(name, encoding="utf-8") as file:
-        return json.load(file, parse_int=whole, parse_float=whole, parse_constant=whole)
+def take(words, names, folder):
+    """Takes files into a folder of windows. Returns the line of its log, and its files by their windows."""
+    run([*words, folder + "/", *names])
+    found = [(WINDOW_FILE.fullmatch(name), os.path.join(folder, name)) for name in os.listdir(folder)]
+    with open(os.path.join(folder, "site"), "rb") as site:
+        return site.readlines()[1], {match[1]: path for match, path in found if match}
 
 
-def by_month(names):
-    """The log of the documents, and their events by month."""
-    log, events = None, collections.defaultdict(list)
-    for name in names:
-        try:
-            document = read(name)
-            for event in document["events"]:
-                events[month(event)].append(event)
-        except (AttributeError, KeyError, TypeError, ValueError) as fault:
-            raise ValueError("%s: no document with times: %r" % (name, fault))
-        if log not in (None, document["id"]) or set(document) - {"id", "typeURI", "events"}:
-            raise ValueError("%s: another log, or more than events" % name)
-        log = document["id"]
-    return log, events
-
-
-def put(cadf, names, target):
+def join(cadf, names, target):
     """Joins files into the target, which is put there whole. Returns its name."""
     with tempfile.NamedTemporaryFile(dir=os.path.dirname(target), delete=False) as output:
-        try:
-            joined = subprocess.run([cadf, "join", "--", *names], stdout=output, stderr=subprocess.PIPE)
-            if joined.returncode or joined.stderr:  # it also says of a file that it is too large to be read
-                raise ValueError("%s, one of %s to %s" % (joined.stderr.decode().strip(), names[0], names[-1]))
-            os.replace(output.name, target)
-        except BaseException:
-            os.unlink(output.name)
-            raise
+        run([cadf, "join", "--", *names], output)
+        os.replace(output.name, target)
     return target
 
 
-def file_name(folder, log, *numbers):
-    """The file of a log, whose identifier may have any characters."""
-    return os.path.join(folder, "-".join([urllib.parse.quote(log, safe=":"), *map(str, numbers)]) + ".cadf")
+def groups(names, fan):
+    """Yields names in groups of at most so many, and of so many bytes that cadf reads what is made of them."""
+    group, size = [], 0
+    for name in sorted(names, key=os.path.getsize):
+        more = os.path.getsize(name)
+        if group and (len(group) == fan or size + more > LARGEST):
+            yield group
+            group, size = [], 0
+        group.append(name)
+        size += more
+    yield group
 
 
-def leaf(cadf, names, folder, number):
-    """Makes a replica file for each month of some documents. Returns their names by log."""
-    log, events = by_month(names)
-    made = {}
-    for when, told in sorted(events.items()):
-        mine = "%s-%s" % (log, when)
-        with tempfile.NamedTemporaryFile("w", suffix=".json", encoding="utf-8") as document:
-            json.dump({"id": mine, "events": told}, document)
-            document.flush()
-            made[mine] = put(cadf, [document.name], file_name(folder, mine, 0, number))
-    return made
-
-
-def groups(items, size):
-    return [items[place:place + size] for place in range(0, len(items), size)]
-
-
-def done(client, what, calls, progress):
-    """The results of calls, in their order. `progress` hears of each when it is there."""
+def done(client, what, calls):
+    """The results of calls, in their order. Says how many are there."""
     from distributed import as_completed
     futures = [client.submit(*call, pure=False) for call in calls]
     for number, _ in enumerate(as_completed(futures), 1):
-        progress(what, number, len(futures))
+        end = "\r" if number < len(calls) and sys.stderr.isatty() else "\n"
+        if number == len(calls) or sys.stderr.isatty():
+            print("%s: %d of %d" % (what, number, len(calls)), end=end, file=sys.stderr, flush=True)
     return client.gather(futures)
 
 
-def next_level(client, cadf, files, folder, level, fan, progress):
-    """Joins the files of each log in groups. Returns the names of what is left, by log."""
-    work = [(log, number, group) for log, names in sorted(files.items()) for number, group in enumerate(groups(names, fan))]
-    calls = [(put, cadf, group, file_name(folder, log, level, number)) for log, number, group in work]
-    left = collections.defaultdict(list)
-    for (log, _, _), name in zip(work, done(client, "joins, level %d" % level, calls, progress)):
-        left[log].append(name)
-    return left
-
-
-def join_many(client, cadf, names, out, fan, progress):
-    """Joins the documents. Returns the names of the files, by log."""
-    parts = os.path.join(out, "parts")
-    os.makedirs(parts, exist_ok=True)
-    files, level = collections.defaultdict(list), 0
-    calls = [(leaf, cadf, group, parts, number) for number, group in enumerate(groups(names, fan))]
-    for made in done(client, "documents", calls, progress):
-        for log, name in made.items():
-            files[log].append(name)
-    while any(len(each) > 1 for each in files.values()):
+def window_files(client, cadf, words, files, fan, folder):
+    """The line of the log, and the files of each window, after they were joined as far as files go."""
+    calls = [(take, words, group, os.path.join(folder, "take-%d" % number)) for number, group in enumerate(groups(files, fan))]
+    logs, windows, level = set(), collections.defaultdict(list), 0
+    for log, made in done(client, "files taken, in groups", calls):
+        logs.add(log)
+        for window, name in made.items():
+            windows[window].append(name)
+    if len(logs) > 1:
+        raise ValueError("other log: %s" % " and ".join(sorted(log[2:-1].decode() for log in logs)))
+    while True:
         level += 1
-        files = next_level(client, cadf, files, parts, level, fan, progress)
-    return {log: put(cadf, each, file_name(out, log)) for log, each in sorted(files.items())}
+        work = [(window, group) for window, names in sorted(windows.items()) for group in groups(names, fan)]
+        joins = [(window, group) for window, group in work if len(group) > 1]
+        if not joins:
+            return logs.pop(), windows
+        calls = [(join, cadf, group, os.path.join(folder, "%s-%d-%d" % (window, level, number)))
+                 for number, (window, group) in enumerate(joins)]
+        made = iter(done(client, "joins, level %d" % level, calls))
+        windows = collections.defaultdict(list)
+        for window, group in work:
+            windows[window].append(next(made) if len(group) > 1 else group[0])
 
 
-def shown(what, number, count):
-    """Shows the progress, on one line of a terminal."""
-    end = "\r" if number < count and sys.stderr.isatty() else "\n"
-    if number == count or sys.stderr.isatty():
-        print("%s: %d of %d" % (what, number, count), end=end, file=sys.stderr, flush=True)
+def make_site(site, log, unit, windows):
+    """Makes the folder of the windows' files, as the format of a site folder has it."""
+    os.mkdir(site, 0o700)
+    lines = []
+    for window, names in windows.items():
+        for name in names:
+            with open(name, "rb") as file:
+                os.fsync(file.fileno())
+                file.seek(-65, os.SEEK_END)  # the digest on its last line
+                digest = file.read(64).decode()
+            os.rename(name, os.path.join(site, "%s.%s.cadf" % (window, digest)))
+            lines.append((window != "shared", "F %s %s\n" % (window, digest)))
+    data = b"CADF-SITE 1\n" + log + ("B %s\n" % unit + "".join(line for _, line in sorted(lines))).encode()
+    with open(os.path.join(site, "site"), "xb") as file:
+        file.write(data + b"Z %s\n" % hashlib.sha256(data).hexdigest().encode())
+        file.flush()
+        os.fsync(file.fileno())
+    os.sync()
 
 
 def main():
@@ -146,24 +125,30 @@ def main():
     parser.add_argument("--scheduler", metavar="ADDRESS")
     parser.add_argument("--workers", type=int, default=4)
     parser.add_argument("--fan", type=int, default=32)
-    parser.add_argument("--out", required=True, metavar="FOLDER")
-    parser.add_argument("documents", nargs="+", metavar="DOCUMENT")
+    parser.add_argument("--by", choices=("month", "day", "hour"), default="day")
+    parser.add_argument("--log", metavar="ID")
+    parser.add_argument("--out", required=True, metavar="SITE")
+    parser.add_argument("files", nargs="+", metavar="FILE")
     options = parser.parse_args()
     import dask
     from distributed import Client
     dask.config.set({"distributed.comm.timeouts.connect": "5s"})  # for a dead worker that is still asked for a result
-    cadf = shutil.which(os.environ.get("CADF") or "cadf")
-    if cadf is None:
-        sys.exit("join-many: no cadf")
-    where = {"n_workers": options.workers, "threads_per_worker": 1, "dashboard_address": None, "silence_logs": logging.CRITICAL}
-    names = [os.path.abspath(name) for name in options.documents]
     logging.getLogger("distributed").setLevel(logging.CRITICAL)
-    with Client(options.scheduler) if options.scheduler else Client(**where) as client:
-        try:
-            for log, name in join_many(client, cadf, names, os.path.abspath(options.out), options.fan, shown).items():
-                print(log, name)
-        except (OSError, ValueError) as fault:
-            sys.exit("join-many: %s" % fault)
+    cadf, site = shutil.which(os.environ.get("CADF") or "cadf"), os.path.abspath(options.out)
+    if cadf is None or shutil.which("cadf-take") is None:
+        sys.exit("join-many: no cadf, or no cadf-take, in PATH")
+    if os.path.lexists(site):
+        sys.exit("join-many: %s: it is there already; `cadf-take` takes files into it" % options.out)
+    words = ["cadf-take", "--by", options.by, "--windows", "999999", *(["--log", options.log] if options.log else [])]
+    where = {"n_workers": options.workers, "threads_per_worker": 1, "dashboard_address": None, "silence_logs": logging.CRITICAL}
+    try:
+        with tempfile.TemporaryDirectory(prefix=os.path.basename(site) + ".", dir=os.path.dirname(site)) as folder, \
+                Client(options.scheduler) if options.scheduler else Client(**where) as client:
+            log, windows = window_files(client, cadf, words, list(map(os.path.abspath, options.files)), options.fan, folder)
+            make_site(os.path.join(folder, "site"), log, options.by, windows)
+            os.rename(os.path.join(folder, "site"), site)
+    except (OSError, ValueError, asyncio.CancelledError, asyncio.TimeoutError) as fault:
+        sys.exit("join-many: %s" % (str(fault) or "the scheduler is gone"))
 
 
 if __name__ == "__main__":

@@ -1,9 +1,8 @@
-"""Joins 1,000 documents by examples/join-many.py, of which one worker is killed midway: the same bytes as one join."""
-import importlib.machinery
-import importlib.util
+"""Joins 1,000 documents by examples/join-many.py, of which one worker is killed midway: the same bytes as one take."""
 import json
 import os
 import random
+import re
 import signal
 import subprocess
 import sys
@@ -41,47 +40,62 @@ def workers(parent):
     return [int(pid) for pid, above, words in table if int(above) == parent and "spawn_main" in words]
 
 
-def killed(process, parts):
+def killed(process, out):
     """Kills a worker once some of the work is done."""
     while process.poll() is None:
-        if os.path.isdir(parts) and len(os.listdir(parts)) >= 9:
+        if sum(len(folders) for _, folders, _ in os.walk(out)) >= 9:
             os.kill(workers(process.pid)[-1], signal.SIGKILL)
             return True
         time.sleep(0.01)
     return False
 
 
-def test_too_large(tmp_path):
-    """A join that warns, as of a file that no command reads, puts no file in place."""
-    loader = importlib.machinery.SourceFileLoader("join_many", EXAMPLE)
-    example = importlib.util.module_from_spec(importlib.util.spec_from_loader("join_many", loader))
-    loader.exec_module(example)
-    warning = tmp_path / "cadf"
-    warning.write_text("#!/bin/sh\necho 'cadf: 1073741825 bytes were written' >&2\n")
-    warning.chmod(0o755)
-    with pytest.raises(ValueError, match="1073741825"):
-        example.put(str(warning), ["a", "b"], str(tmp_path / "target"))
-    assert os.listdir(tmp_path) == ["cadf"]
+def python_with_dask():
+    """A Python that has dask.distributed; without one the test is skipped."""
+    for python in PYTHONS:
+        if subprocess.run([python, "-c", "import distributed"], capture_output=True).returncode == 0:
+            return python
+    return pytest.skip("dask.distributed isn't there (Debian: python3-distributed)")
+
+
+def environment(cadf):
+    return dict(os.environ, CADF=cadf, PATH=os.path.join(TOP, "tools") + os.pathsep + os.environ["PATH"])
+
+
+def settled(cadf, folder, names):
+    """The files of the site that one take makes of these files, and settles."""
+    take = os.path.join(TOP, "tools", "cadf-take")
+    for words in (["--by", "month", str(folder) + "/", *names], ["--settle", str(folder) + "/"]):
+        subprocess.run([take, *words], env=environment(cadf), check=True)
+    return contents(folder)
+
+
+def contents(folder):
+    return {name: (folder / name).read_bytes() for name in os.listdir(folder) if not name.startswith(".")}
 
 
 @pytest.mark.needs("ps")
 def test_killed_worker(cadf, tmp_path):
-    """Several workers join the documents, and one of them is killed: each month's file is that of one join."""
-    is_there = "import distributed"
-    pythons = (python for python in PYTHONS if subprocess.run([python, "-c", is_there], capture_output=True).returncode == 0)
-    python = next(pythons, None)
-    if python is None:
-        pytest.skip("dask.distributed isn't there (Debian: python3-distributed)")
-    chance, out = random.Random(8), tmp_path / "out"
-    told = [list(events(chance, number)) for number in range(DOCUMENTS)]
-    names = [write(tmp_path / ("%d.json" % number), "g", each) for number, each in enumerate(told)]
-    process = subprocess.Popen([python, EXAMPLE, "--workers", "2", "--out", out, *names], env=dict(os.environ, CADF=cadf),
-                               stdout=subprocess.DEVNULL, stderr=subprocess.PIPE)
-    was_killed = killed(process, out / "parts")
+    """Several workers join the documents, and one of them is killed: the site is that of one take."""
+    python, chance, out = python_with_dask(), random.Random(8), tmp_path / "out"
+    out.mkdir()
+    names = [write(tmp_path / ("%d.json" % number), "g", list(events(chance, number))) for number in range(DOCUMENTS)]
+    process = subprocess.Popen([python, EXAMPLE, "--workers", "2", "--by", "month", "--out", out / "site", *names],
+                               env=environment(cadf), stdout=subprocess.DEVNULL, stderr=subprocess.PIPE)
+    was_killed = killed(process, out)
     said = process.communicate(timeout=SECONDS)[1].decode()
     assert process.returncode == 0 and was_killed, said
-    for month in MONTHS:
-        one = write(tmp_path / "one.json", "g-" + month,
-                    [event for each in told for event in each if event["eventTime"].startswith(month)])
-        wanted = subprocess.run([cadf, "join", one], check=True, capture_output=True).stdout
-        assert (out / ("g-%s.cadf" % month)).read_bytes() == wanted
+    assert os.listdir(out) == ["site"]
+    assert contents(out / "site") == settled(cadf, tmp_path / "one", names)
+
+
+@pytest.mark.parametrize("scheduler, log, said", [("tcp://127.0.0.1:9", "g", "127.0.0.1:9"), (None, "h", "other log")])
+def test_a_fault_is_a_line_and_leaves_nothing(cadf, tmp_path, scheduler, log, said):
+    python, chance, out = python_with_dask(), random.Random(8), tmp_path / "out"
+    out.mkdir()
+    names = [write(tmp_path / "1.json", "g", list(events(chance, 1))), write(tmp_path / "2.json", log, list(events(chance, 2)))]
+    words = ["--scheduler", scheduler] if scheduler else ["--workers", "1", "--fan", "1"]
+    done = subprocess.run([python, EXAMPLE, *words, "--out", out / "site", *names], env=environment(cadf), capture_output=True, timeout=SECONDS)
+    lines = [line for line in done.stderr.decode().splitlines() if not re.match(r"(files|joins).*: \d+ of \d+", line)]
+    assert done.returncode == 1 and len(lines) == 1 and said in lines[0], done
+    assert os.listdir(out) == []
