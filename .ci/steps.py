@@ -63,7 +63,6 @@ STAGES = [
         "compare": "python3 -m tests.generated.compare",
         "drivers": "python3 -m tests.generated.drivers",
         "shown": "python3 -m tests.docs.shown README.md docs/GUIDE.md docs/OPENSTACK.md docs/BUS.md docs/REPORT.md",
-        "openstack": "python3 -m tests.tools.from_openstack",
         "sites": "python3 -m tests.tools.sites",
         "faults": "python3 -m tests.tools.faults",
         "report": "python3 -m tests.tools.report",

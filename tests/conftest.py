@@ -6,6 +6,13 @@ import pytest
 
 from tests.machine import built
 
+try:
+    import hypothesis
+    # The gate tries the same examples each time; `--hypothesis-profile=default` tries others.
+    hypothesis.settings.register_profile("gate", derandomize=True, database=None, deadline=None)
+    hypothesis.settings.load_profile("gate")
+except ImportError:
+    pass  # the tests that need it are skipped
 PROGRAMS = {"broker": ("rabbitmq-server",), "browser": ("chromium", "chromedriver")}
 
 

@@ -1,6 +1,4 @@
-"""Tries tools/cadf-from-openstack: what it makes of each kind of line, and of the recorded events in examples/real.
-
-    python3 -m tests.tools.from_openstack [BINARY]
+"""What tools/cadf-from-openstack makes of each kind of line, and of the recorded events in examples/real.
 
 - Each kind of line holds the same event; each rule, applied and left out; each bad line costs itself alone, whatever
   memory or time it would take, and swallows no other.
@@ -9,13 +7,9 @@
   relays.
 - Its checks of events beside those of the second implementation.
 - The file of what is set aside, full documents, files that can't be read or written, and a limit of memory.
-
-BINARY is crates/cadf/out/cadf unless given.
 """
 import copy
 import glob
-import importlib.machinery
-import importlib.util
 import json
 import os
 import random
@@ -23,15 +17,17 @@ import re
 import resource
 import stat
 import subprocess
-import sys
 import tempfile
 
+import pytest
+
 from tests import TOP
-from tests.machine import built, ended
+from tests.machine import ended
 from tests.reference import events as second
 from tests.tools.copies import copied
+from tests.tools.programs import loaded, tool
 
-TOOL = os.path.join(TOP, "tools", "cadf-from-openstack")
+TOOL = tool("cadf-from-openstack")
 REAL = sorted(glob.glob(os.path.join(TOP, "examples", "real", "*.jsonl")))
 EVENT = {"typeURI": second.EVENT_URI, "id": "e", "eventType": "activity", "eventTime": "2024-03-01T12:00:00.000001+0000",
          "action": "read", "outcome": "success", "initiator": {"id": "u", "name": "Jörg 'x' \"y\"\n\u2028\U0001f600", "n": None},
@@ -172,47 +168,40 @@ class Done:
         self.counts = self.error.decode().strip().rpartition("\n")[2]
 
 
-class Trial:
-    """Calls of the tool, and what was wrong."""
+def read(data, *options, **more):
+    """What the tool makes of standard input, and the entries that it sets aside."""
+    if os.path.exists("aside"):
+        os.remove("aside")
+    data = data.encode() if isinstance(data, str) else data
+    answer = ended(TOOL, ["--log", "g", "--set-aside", "aside", *options], input=data, **more)
+    with open("aside", encoding="utf-8") as lines:
+        return Done(answer, [json.loads(line) for line in lines])
 
-    def __init__(self, binary):
-        self.binary, self.count, self.wrong = binary, 0, []
 
-    def check(self, what, *got_and_wanted):
-        """Notes where what came isn't what is wanted, pair by pair."""
-        for got, wanted in zip(got_and_wanted[::2], got_and_wanted[1::2]):
-            self.count += 1
-            if got != wanted:
-                self.wrong.append("%s: %.300r, and not %.300r" % (what, got, wanted))
+def wrong_copy(right, instead):
+    """The place of a copy of the tool that has another text in one place."""
+    tools = copied(tempfile.mkdtemp(dir=os.getcwd()), right, instead)
+    assert tools is not None, right
+    return os.path.join(tools, "cadf-from-openstack")
 
-    def read(self, data, *options, **more):
-        """What the tool makes of standard input, and the entries that it sets aside."""
-        if os.path.exists("aside"):
-            os.remove("aside")
-        data = data.encode() if isinstance(data, str) else data
-        answer = ended(TOOL, ["--log", "g", "--set-aside", "aside", *options], input=data, **more)
-        with open("aside", encoding="utf-8") as lines:
-            return Done(answer, [json.loads(line) for line in lines])
 
-    def wrong_copy(self, right, instead):
-        """The place of a copy of the tool that has another text in one place."""
-        tools = copied(tempfile.mkdtemp(dir=os.getcwd()), right, instead)
-        self.check("a place for what is wrong", tools is not None, True)
-        return os.path.join(tools or "", "cadf-from-openstack")
+def is_accepted(cadf, text):
+    """Whether cadf accepts a document of the one event."""
+    put("one.json", b'{"id":"g","events":[' + text + b"]}")
+    return ended(cadf, ["check", "one.json"]).status == 0
 
-    def cadf(self, *words):
-        return ended(self.binary, words)
 
-    def is_accepted(self, text):
-        """Whether cadf accepts a document of the one event."""
-        put("one.json", b'{"id":"g","events":[' + text + b"]}")
-        return self.cadf("check", "one.json").status == 0
+def log_of(cadf, *documents):
+    """The replica file of these documents."""
+    for number, document in enumerate(documents):
+        put("%d.json" % number, document)
+    return ended(cadf, ["join", *("%d.json" % number for number in range(len(documents)))]).output
 
-    def log_of(self, *documents):
-        """The replica file of these documents."""
-        for number, document in enumerate(documents):
-            put("%d.json" % number, document)
-        return self.cadf("join", *("%d.json" % number for number in range(len(documents)))).output
+
+@pytest.fixture(autouse=True)
+def own_folder(tmp_path, monkeypatch):
+    """Each test works in a folder of its own."""
+    monkeypatch.chdir(tmp_path)
 
 
 def put(name, data):
@@ -235,77 +224,75 @@ def is_like(faults, wanted):
         fault.startswith(want[:-2]) if want.endswith("..") else fault == want for fault, want in zip(faults, wanted))
 
 
-def tries_lines(trial):
-    """Each kind of line, alone and without a line feed at its end; and all of them in one file, which each costs itself."""
+def test_wrapped():
+    """Each kind of line that holds the event, without a line feed at its end."""
     for number, (_, line) in enumerate(WRAPPED):
         put("wrapped-%d" % number, line.encode())
-    done = trial.read(b"", *("wrapped-%d" % number for number in range(len(WRAPPED))))
-    trial.check("wrapped", done.status, 0, len(done.events), len(WRAPPED), done.counts, counts(len(WRAPPED)))
+    done = read(b"", *("wrapped-%d" % number for number in range(len(WRAPPED))))
+    assert (done.status, len(done.events), done.counts) == (0, len(WRAPPED), counts(len(WRAPPED)))
     for (what, _), found in zip(WRAPPED, done.events):
-        trial.check(what, found, EVENT)
+        assert found == EVENT, what
+
+
+def test_bad_lines(cadf):
+    """All kinds of lines without an event in one file: each costs itself alone, and is refused as it is."""
     data, kept, aside, passed = b"", 0, 0, 0
     for number, (what, line, faults) in enumerate(NO_EVENTS):
         good = json.dumps(event(id=str(number))).encode()
         data += (line if isinstance(line, bytes) else line.encode("utf-8", "surrogatepass")) + b"\n" + good + b"\n"
         kept, aside, passed = kept + 1, aside + (faults is not None), passed + (faults is None)
-    done = trial.read(good + b"\n" + data)
-    trial.check("all lines", done.status, 1, len(done.events), kept + 1, len(done.entries), aside,
-                done.counts, counts(kept + 1, aside, 2, passed - 2))
+    done = read(good + b"\n" + data)
+    assert (done.status, len(done.events), len(done.entries), done.counts) == (1, kept + 1, aside, counts(kept + 1, aside, 2, passed - 2))
     wanted = [(2 * number + 2, faults) for number, (_, _, faults) in enumerate(NO_EVENTS) if faults is not None]
     for entry, (line, faults) in zip(done.entries, wanted):
-        trial.check("line %d" % line, (entry["file"], entry["line"]), ("-", line))
-        if not is_like(entry["faults"], faults):
-            trial.wrong.append("line %d: %r" % (line, entry["faults"]))
+        assert (entry["file"], entry["line"]) == ("-", line), "line %d" % line
+        assert is_like(entry["faults"], faults), (line, entry["faults"])
     for entry in done.entries:
-        trial.check("set aside: %s" % entry["faults"], refused_text(trial, entry), False)
-    return done
+        assert not is_kept_as_it_is(cadf, entry), entry["faults"]
 
 
-def refused_text(trial, entry):
-    """Whether cadf accepts what was set aside."""
+def is_kept_as_it_is(cadf, entry):
+    """Whether cadf accepts what was set aside as it is."""
     if "event" in entry or "document" in entry:
-        return trial.is_accepted(json.dumps(entry.get("event", entry.get("document"))).encode())
-    return trial.is_accepted(entry["text"].encode("utf-8", "surrogatepass") if "text" in entry else b"\xff")
+        return is_accepted(cadf, json.dumps(entry.get("event", entry.get("document"))).encode())
+    return is_accepted(cadf, entry["text"].encode("utf-8", "surrogatepass") if "text" in entry else b"\xff")
 
 
-def tries_rules(trial):
+def test_rules():
     """Each rule, applied and left out. A document that was written, read again, is written the same."""
-    done = trial.read(lines_of(read for read, _, _ in MENDED))
+    done = read(lines_of(was for was, _, _ in MENDED))
     rules = [rule for _, _, each in MENDED for rule in each]
-    trial.check("rules", done.status, 0, len(done.events), len(MENDED), done.counts, counts(len(MENDED), rules=rules))
-    for found, (read, mended, each) in zip(done.events, MENDED):
-        trial.check("%s of %.60s" % (each, json.dumps(read)), found, read if mended is None else mended)
-    trial.check("written again", trial.read(done.output, "--whole").output, done.output)
-    for rule in ("request", "time", "initiator", "number"):
-        tries_without(trial, rule)
+    assert (done.status, len(done.events), done.counts) == (0, len(MENDED), counts(len(MENDED), rules=rules))
+    for found, (was, mended, each) in zip(done.events, MENDED):
+        assert found == (was if mended is None else mended), (each, was)
+    assert read(done.output, "--whole").output == done.output
     text = json.dumps(event(n=["%"]))
-    done = trial.read(text.replace('"%"', ", ".join(SPELLED)))
-    trial.check("numbers", done.events, [event(n=SPELLED)])
+    done = read(text.replace('"%"', ", ".join(SPELLED)))
+    assert done.events == [event(n=SPELLED)]
 
 
-def tries_without(trial, rule):
-    """A rule that is left out: its events are set aside as they were read, or kept so, and mended once it is there again."""
-    changed = [(read, mended) for read, mended, rules in MENDED if rules == [rule]]
-    done = trial.read(lines_of(read for read, _ in changed), "--without", rule)
+@pytest.mark.parametrize("rule", ["request", "time", "initiator", "number"])
+def test_rule_left_out(cadf, rule):
+    """Its events are set aside as they were read, or kept so, and mended once it is there again."""
+    changed = [(was, mended) for was, mended, rules in MENDED if rules == [rule]]
+    done = read(lines_of(was for was, _ in changed), "--without", rule)
     if rule == "request":
-        trial.check("without " + rule, done.status, 0, done.events, [read for read, _ in changed])
+        assert (done.status, done.events) == (0, [was for was, _ in changed])
         return
-    trial.check("without " + rule, done.status, 1, done.events, [], len(done.entries), len(changed))
+    assert (done.status, done.events, len(done.entries)) == (1, [], len(changed))
     for entry in done.entries:
-        trial.check("without " + rule, refused_text(trial, entry), False)
-    again = trial.read(open("aside", "rb").read())
-    trial.check("%s after it was left out" % rule, again.events, [mended for _, mended in changed])
+        assert not is_kept_as_it_is(cadf, entry)
+    assert read(open("aside", "rb").read()).events == [mended for _, mended in changed]
 
 
-def tries_places(trial):
+def test_places():
     """Without the rule on numbers each number that isn't whole is named by its place."""
     value = dict(without("id"), n={"a/b": [1, 1.5, {"c~": float("nan")}]}, z=-0.0, tags=["1.5"])
-    done = trial.read(json.dumps(value), "--without", "number")
-    trial.check("places", [entry["faults"] for entry in done.entries],
-                [["id"] + ["%s: a number is not whole" % place for place in ("/n/a~1b/1", "/n/a~1b/2/c~0", "/z")]])
+    done = read(json.dumps(value), "--without", "number")
+    assert [entry["faults"] for entry in done.entries] == [["id"] + ["%s: a number is not whole" % place for place in ("/n/a~1b/1", "/n/a~1b/2/c~0", "/z")]]
 
 
-def tries_texts(trial):
+def test_texts():
     """A file is lines, and each costs itself alone. A text over several lines is read by --whole."""
     pretty = json.dumps({"id": "g", "events": [event(id="a"), event(id="b")]}, indent=1)
     one, whole, lines = json.dumps(event(id="c")), ["--whole"], sum(line.strip() != "[]" for line in pretty.split("\n"))
@@ -318,30 +305,31 @@ def tries_texts(trial):
             ("two lines after it", '{"a":\n%s\n%s' % (one, one), [], "cc", 1), ("brackets first", "[" * 1000 + "\n" + one + "\n" + one, [], "cc", 1),
             ("garbage first", "x\n" + one, [], "c", 1), ("garbage last", one + "\nx", [], "c", 1), ("a line feed got lost", one + one, [], "cc", 0),
             ("nothing", "", [], "", 0), ("blank lines", "\n \n" + one + "\n\n", [], "c", 0)):
-        done = trial.read(data, *words)
-        trial.check(what, "".join(each["id"] for each in done.events), kept, len(done.entries), aside, done.status, min(aside, 1))
-    trial.check("how a text is read", "-: if this file is one text over several lines, read it with --whole" in trial.read(pretty).error.decode(), True)
+        done = read(data, *words)
+        assert ("".join(each["id"] for each in done.events), len(done.entries), done.status) == (kept, aside, min(aside, 1)), what
+    assert "-: if this file is one text over several lines, read it with --whole" in read(pretty).error.decode()
 
 
-def tries_swallowing(trial):
+def test_swallowing():
     """A line that begins a value and a later one that ends it don't swallow the line between them, whatever the file's name."""
     first = json.dumps(event(id="harmless"))[:-1] + ', "x":\n'
     text = first + json.dumps(envelope(event(id="victim"))) + "\n}\n"
     for name in ("bus.jsonl", "bus.ndjson", "bus.log", "bus", "bus.json", "-"):
         put(name if name != "-" else "stdin", text.encode())
-        done = trial.read(text, "--", name)
-        trial.check("swallowed in " + name, [each["id"] for each in done.events], ["victim"], [entry["line"] for entry in done.entries], [1, 3])
-    wrong = trial.wrong_copy("all_of(file, longest) if is_whole else all_lines(file, longest)", "all_of(file, longest)")
-    trial.check("the wrong reader", [each["id"] for each in json.loads(ended(wrong, ["--log", "g", "bus.jsonl"]).output)["events"]], ["harmless"])
+        done = read(text, "--", name)
+        assert [each["id"] for each in done.events] == ["victim"], "swallowed in " + name
+        assert [entry["line"] for entry in done.entries] == [1, 3], "swallowed in " + name
+    wrong = wrong_copy("all_of(file, longest) if is_whole else all_lines(file, longest)", "all_of(file, longest)")
+    assert [each["id"] for each in json.loads(ended(wrong, ["--log", "g", "bus.jsonl"]).output)["events"]] == ["harmless"]
     for name, status in (("bus.jsonl", 2), ("bus.ndjson", 2), ("bus.log", 2), ("bus.json", 0)):
-        trial.check("--whole " + name, ended(TOOL, ["--log", "g", "--whole", name]).status, status)
+        assert ended(TOOL, ["--log", "g", "--whole", name]).status == status, "--whole " + name
 
 
-def tries_brackets(trial):
+def test_brackets():
     """Millions of brackets, as JSON over lines and as Python writes them, cost no more than to be read."""
     for what, text in (("JSON", "[" * 2000000), ("Python", middleware_line("{'a':" + "(" * 2000000))):
-        done = trial.read(text, preexec_fn=lambda: resource.setrlimit(resource.RLIMIT_CPU, (3, 3)))
-        trial.check("brackets of " + what, done.status, 1, [entry["faults"] for entry in done.entries], [["nested too deep"]])
+        done = read(text, preexec_fn=lambda: resource.setrlimit(resource.RLIMIT_CPU, (3, 3)))
+        assert (done.status, [entry["faults"] for entry in done.entries]) == (1, [["nested too deep"]]), "brackets of " + what
 
 
 def limited(mib):
@@ -357,72 +345,79 @@ def dense_lines():
     yield "values", "{}" * 2000000
 
 
-def tries_bombs(trial):
+def test_bombs():
     """Lines that would take much memory or time cost themselves alone, with 20 bytes of memory a byte; so do lines without an end."""
     good = json.dumps(event(id="good")) + "\n"
     for what, line in dense_lines():
-        done = trial.read(line + "\n" + good, **limited(130))
-        trial.check(what, done.status, 1, [each["id"] for each in done.events], ["good"], [entry["faults"] for entry in done.entries],
-                    [["takes more than 18 times its size of memory"]], done.entries[0]["text"] == line, True)
-    less, scarce = trial.read(next(dense_lines())[1] + "\n" + good, **limited(60)), ["takes more memory than there is"]
-    trial.check("less memory", [each["id"] for each in less.events], ["good"], [entry["faults"] for entry in less.entries], [scarce])
-    wrong = trial.wrong_copy("MEMORY = 18 ", "MEMORY = 99 ")
+        done = read(line + "\n" + good, **limited(130))
+        assert done.status == 1, what
+        assert [each["id"] for each in done.events] == ["good"], what
+        assert [entry["faults"] for entry in done.entries] == [["takes more than 18 times its size of memory"]], what
+        assert done.entries[0]["text"] == line, what
+    less, scarce = read(next(dense_lines())[1] + "\n" + good, **limited(60)), ["takes more memory than there is"]
+    assert ([each["id"] for each in less.events], [entry["faults"] for entry in less.entries]) == (["good"], [scarce])
+    wrong = wrong_copy("MEMORY = 18 ", "MEMORY = 99 ")
     put("dense", next(dense_lines())[1].encode())
     ended(wrong, ["--log", "g", "--set-aside", "wrong.aside", "dense"], **limited(130))
     with open("wrong.aside", encoding="utf-8") as lines:
-        trial.check("no bound", [json.loads(line)["faults"] for line in lines], [scarce])
+        assert [json.loads(line)["faults"] for line in lines] == [scarce]
     path = '"%s":[%s]' % ("x" * 100000, ",".join(["1.5"] * 20000))
-    done = trial.read(json.dumps(EVENT)[:-1] + ",%s}\n" % path, "--without", "number", **limited(100))
-    trial.check("numbers below a long name", done.status, 1, len(done.entries[0]["faults"]), 101, done.entries[0]["faults"][99:],
-                ["/%s..: a number is not whole" % ("x" * 999), "and 19900 more"])
-    wrong = trial.wrong_copy("MOST_NAMED, LONGEST_NAMED = 100, 1000", "MOST_NAMED, LONGEST_NAMED = 10 ** 9, 10 ** 9")
+    done = read(json.dumps(EVENT)[:-1] + ",%s}\n" % path, "--without", "number", **limited(100))
+    assert done.status == 1
+    assert len(done.entries[0]["faults"]) == 101
+    assert done.entries[0]["faults"][99:] == ["/%s..: a number is not whole" % ("x" * 999), "and 19900 more"]
+    wrong = wrong_copy("MOST_NAMED, LONGEST_NAMED = 100, 1000", "MOST_NAMED, LONGEST_NAMED = 10 ** 9, 10 ** 9")
     put("path", (json.dumps(EVENT)[:-1] + ",%s}" % path).encode())
-    trial.check("all paths", ended(wrong, ["--log", "g", "--without", "number", "path"], **limited(100)).status, 4)
-    trial.check("numbers are mended", len(trial.read(json.dumps(EVENT)[:-1] + ",%s}" % path, **limited(100)).events[0]["x" * 100000]), 20000)
+    assert ended(wrong, ["--log", "g", "--without", "number", "path"], **limited(100)).status == 4
+    assert len(read(json.dumps(EVENT)[:-1] + ",%s}" % path, **limited(100)).events[0]["x" * 100000]) == 20000
     with open("sparse", "wb") as file:
         file.truncate(1 << 30)
         file.seek(0, os.SEEK_END)
         file.write(b"\n" + good.encode())
     for words, longest in (([], 1 << 26), (["--longest", "4096"], 4096)):
-        done = trial.read(b"", *words, "sparse", **limited(250 if longest > 4096 else 60))
-        trial.check("a sparse file", done.status, 1, [each["id"] for each in done.events], ["good"], done.entries,
-                    [{"file": "sparse", "line": 1, "faults": ["longer than %d bytes: see --longest" % longest]}])
-    wrong = trial.wrong_copy("line = file.readline(longest + 2)", "line = file.readline()")
-    trial.check("no longest line", ended(wrong, ["--log", "g", "sparse"], **limited(250)).status, 4)
+        done = read(b"", *words, "sparse", **limited(250 if longest > 4096 else 60))
+        assert done.status == 1
+        assert [each["id"] for each in done.events] == ["good"]
+        assert done.entries == [{"file": "sparse", "line": 1, "faults": ["longer than %d bytes: see --longest" % longest]}]
+    wrong = wrong_copy("line = file.readline(longest + 2)", "line = file.readline()")
+    assert ended(wrong, ["--log", "g", "sparse"], **limited(250)).status == 4
     os.remove("sparse")
 
 
-def tries_longest(trial):
+def test_longest():
     """The longest line, to the byte, with each of the ends of a line; and the longest text of --whole."""
     line = json.dumps(event(id="a")).ljust(1000)
     for size, is_kept in ((1000, True), (999, False), (998, False)):
         for end in ("\n", "\r\n", ""):
-            done = trial.read("x\n" + line + end, "--longest", str(size))
-            trial.check("%d of 1000 %r" % (size, end), len(done.events), int(is_kept), len(done.entries), 2 - is_kept,
-                        done.entries[-1]["line"], 2 - is_kept)
-        done = trial.read(line + "\n" + line, "--longest", str(size))
-        trial.check("%d twice" % size, len(done.events), 2 * is_kept)
-        trial.check("%d whole" % size, len(trial.read(line, "--whole", "--longest", str(size)).events), int(is_kept))
-    trial.check("a carriage return within", len(trial.read(line[:-1] + "\r" + line, "--longest", "1000").entries), 1)
-    entry = trial.read(line, "--longest", "999").entries[0]
-    again = trial.read(json.dumps(entry) + "\n").entries[0]
-    trial.check("read again", again["event"], entry, trial.read(json.dumps(again)).entries, [again])
+            done = read("x\n" + line + end, "--longest", str(size))
+            assert len(done.events) == int(is_kept), "%d of 1000 %r" % (size, end)
+            assert len(done.entries) == 2 - is_kept, "%d of 1000 %r" % (size, end)
+            assert done.entries[-1]["line"] == 2 - is_kept, "%d of 1000 %r" % (size, end)
+        done = read(line + "\n" + line, "--longest", str(size))
+        assert len(done.events) == 2 * is_kept, "%d twice" % size
+        assert len(read(line, "--whole", "--longest", str(size)).events) == int(is_kept), "%d whole" % size
+    assert len(read(line[:-1] + "\r" + line, "--longest", "1000").entries) == 1
+    entry = read(line, "--longest", "999").entries[0]
+    again = read(json.dumps(entry) + "\n").entries[0]
+    assert (again["event"], read(json.dumps(again)).entries) == (entry, [again])
     for words in (["--longest", "0"], ["--longest", str(2 ** 30 + 1)], ["--longest", "x"], ["--x\x1b[2J"]):
         done = ended(TOOL, ["--log", "g", *words])
-        trial.check("usage", done.status, 2, b"\x1b" in done.error, False)
+        assert done.status == 2
+        assert b"\x1b" not in done.error
 
 
-def tries_several(trial):
+def test_several():
     """What is refused of one line is one entry, whose events are read again; a line of tiny values takes little time."""
     bad = [without("id"), event(id="x", tags=["", "a", ""]), 1.5, "text"]
-    done = trial.read(json.dumps([event(id="a"), *bad, event(id="b")]))
-    trial.check("several", done.status, 1, [each["id"] for each in done.events], ["a", "b"], done.counts, counts(2, 4), done.entries,
-                [{"file": "-", "line": 1, "faults": ["event 1: id", "event 2: tag 1", "event 2: tag 3", "event 3: not an object",
-                                                     "event 4: not an object"], "document": {"events": bad}}])
-    trial.check("several, again", trial.read(json.dumps(done.entries[0])).entries, done.entries)
+    done = read(json.dumps([event(id="a"), *bad, event(id="b")]))
+    assert done.status == 1
+    assert [each["id"] for each in done.events] == ["a", "b"]
+    assert done.counts == counts(2, 4)
+    assert done.entries == [{"file": "-", "line": 1, "faults": ["event 1: id", "event 2: tag 1", "event 2: tag 3", "event 3: not an object", "event 4: not an object"], "document": {"events": bad}}]
+    assert read(json.dumps(done.entries[0])).entries == done.entries
     line = "{}" * 30000 + "\n"
-    done = trial.read(line * 3, preexec_fn=lambda: resource.setrlimit(resource.RLIMIT_CPU, (20, 20)))
-    trial.check("tiny values", done.status, 1, len(done.entries), 3, done.counts, counts(aside=90000), len(done.entries[0]["faults"]), 101)
+    done = read(line * 3, preexec_fn=lambda: resource.setrlimit(resource.RLIMIT_CPU, (20, 20)))
+    assert (done.status, len(done.entries), done.counts, len(done.entries[0]["faults"])) == (1, 3, counts(aside=90000), 101)
 
 
 def relayed(value, number):
@@ -433,221 +428,209 @@ def relayed(value, number):
     return value
 
 
-def tries_real(trial):
-    """The recorded events."""
-    texts = [line for name in REAL for line in open(name, encoding="utf-8")]
-    done = trial.read("".join(texts))
-    trial.check("real events", done.status, 1, len(done.events) + len(done.entries), len(texts),
-                len(done.events) >= KEPT_AT_LEAST * len(texts), True, trial.read("".join(texts)).output, done.output)
+@pytest.fixture(scope="module")
+def texts():
+    """The recorded events, a line each."""
+    return [line for name in REAL for line in open(name, encoding="utf-8")]
+
+
+def test_real(cadf, texts):
+    """Most recorded events are kept, as the rules alone make them, with no conflict."""
+    done = read("".join(texts))
+    assert (done.status, len(done.events) + len(done.entries), read("".join(texts)).output) == (1, len(texts), done.output)
+    assert len(done.events) >= KEPT_AT_LEAST * len(texts)
     put("0.json", done.output)
-    trial.check("real events", trial.cadf("check", "0.json").output.split()[-1:], [b"0"])
+    assert ended(cadf, ["check", "0.json"]).output.split()[-1:] == [b"0"]
     for entry in done.entries:
-        trial.check("real event set aside", refused_text(trial, entry), False)
+        assert not is_kept_as_it_is(cadf, entry)
     aside = {entry["line"] for entry in done.entries}
     mended = iter(done.events)
     for number, text in enumerate(texts, 1):
         if number not in aside:
-            trial.check("real event %d" % number, *differing(json.loads(text, parse_float=str, parse_constant=str), next(mended)))
-    tries_cutting(trial, texts, done)
-    print("from-openstack: %d of %d recorded events kept" % (len(done.events), len(texts)))
+            assert next(mended) == by_the_rules(json.loads(text, parse_float=str, parse_constant=str)), number
 
 
-def differing(read, kept):
-    """The recorded event by the rules' own words, and what was kept."""
-    wanted = dict(read)
-    if read.get("outcome") == "pending" and "requestPath" in read:
+def by_the_rules(event):
+    """The recorded event by the rules' own words."""
+    wanted = dict(event)
+    if event.get("outcome") == "pending" and "requestPath" in event:
         wanted["id"] += "#request"
-    if re.fullmatch(r".{19}(\.[0-9]+)?", read["eventTime"]):
+    if re.fullmatch(r".{19}(\.[0-9]+)?", event["eventTime"]):
         wanted["eventTime"] += "Z"
-    if "initiator" not in read and "initiatorId" not in read:
+    if "initiator" not in event and "initiatorId" not in event:
         wanted["initiatorId"] = "unknown"
-    return wanted, kept
+    return wanted
 
 
-def tries_cutting(trial, texts, whole):
+def test_cutting(cadf, texts):
     """Shuffled parts of the input, wrapped in other ways, with copies by relays: one log, and no conflict more."""
     chance = random.Random(5)
-    wanted = trial.log_of(whole.output)
+    wanted = log_of(cadf, read("".join(texts)).output)
     shuffled = chance.sample(texts, len(texts))
     half = len(texts) // 2
-    parts = [trial.read("".join(part)).output for part in (shuffled[:half], shuffled[half:])]
-    trial.check("two shuffled halves", trial.log_of(*parts), wanted)
+    parts = [read("".join(part)).output for part in (shuffled[:half], shuffled[half:])]
+    assert log_of(cadf, *parts) == wanted
     wrapped = [chance.choice([envelope, notification])(json.loads(text)) for text in shuffled if "NaN" not in text]
-    trial.check("wrapped", trial.log_of(trial.read(lines_of(wrapped)).output, *parts), wanted)
+    assert log_of(cadf, read(lines_of(wrapped)).output, *parts) == wanted
     copies = [relayed(json.loads(text), number % 3) for number, text in enumerate(shuffled) if "\"reporterchain\": [{" not in text
               or text.count("\"role\"") < 9]
-    put("relayed.json", trial.log_of(*parts, trial.read(lines_of(copies)).output))
-    trial.check("relayed", trial.cadf("check", "relayed.json").output.split()[-1:], [b"0"])
+    put("relayed.json", log_of(cadf, *parts, read(lines_of(copies)).output))
+    assert ended(cadf, ["check", "relayed.json"]).output.split()[-1:] == [b"0"]
 
 
-def tries_checks(trial):
-    """The tool's checks beside those of the second implementation, on events with members changed at random."""
-    loader = importlib.machinery.SourceFileLoader("from_openstack", TOOL)
-    tool = importlib.util.module_from_spec(importlib.util.spec_from_loader("from_openstack", loader))
-    loader.exec_module(tool)
-    chance = random.Random(6)
-    base = [json.loads(line, parse_float=str, parse_constant=str) for name in REAL for line in open(name, encoding="utf-8")]
-    for _ in range(3000):
-        value = changed(chance, chance.choice(base))
-        try:
-            second.event_atoms(value, 0)
-            wanted = []
-        except second.Fault as fault:
-            wanted = [fault.said[len("event 0: "):]]
-        trial.check("check of %.200s" % json.dumps(value), list(tool.faults_of(value))[:1], wanted)
+def test_many_lines():
+    """Of a file of 10,000 lines no event is lost: all are there, in their order."""
+    done = read(lines_of(event(id="e%d" % number) for number in range(10000)))
+    assert (done.status, done.counts) == (0, counts(10000))
+    assert [each["id"] for each in done.events] == ["e%d" % number for number in range(10000)]
+
 
 ODD = [None, True, 0, [], {}, "", "x", "a\n", "a\x7f", "é" * 512, "é" * 512 + "a", "a" * 1025, [[]], {"id": "x"}, {"id": ""}, {"id": None},
        ["a", ""], [None], [{}], [[{}]], "2024-02-30T00:00:00Z", "2024-02-29T23:59:59.123456789+14:00", "2024-02-29T23:59:59+14:01",
        "2024-02-29T23:59:59.1234567890Z", "9999-01-01T00:00:00Z", "0000-01-01T00:00:00Z", "2024-01-01T24:00:00Z",
        "2024-01-01T00:00:60Z", "2024-01-01T00:00:00-1360", "2024-01-01T00:00:00Z", "٢٠٢٤-01-01T00:00:00Z", "success/", "pending/x",
        "successful", [STEP], [dict(STEP, reporterTime="x")], [STEP] * 256, [STEP] * 257, [[STEP] * 257], [dict(STEP, role="x")]]
+NAMES = [*EVENT, "initiatorId", "targetId", "reporterchain", "reporterchains", "tags", "attachments"]
 
 
-def changed(chance, value):
-    """The event with up to three members changed."""
-    value = copy.deepcopy(value)
-    for _ in range(chance.randint(0, 3)):
-        name = chance.choice([*EVENT, "initiatorId", "targetId", "reporterchain", "reporterchains", "tags", "attachments"])
-        how = chance.random()
-        if how < 0.3:
-            value.pop(name, None)
-        elif how < 0.45:
-            value[name] = nested(chance.randint(97, 104))
-        else:
-            value[name] = copy.deepcopy(chance.choice(ODD))
-    return value
+def test_checks(texts):
+    """The tool finds the first fault of an event that the second implementation finds, where up to three members are odd."""
+    hypothesis = pytest.importorskip("hypothesis")
+    choices, faults_of = hypothesis.strategies, loaded(TOOL).faults_of
+    base = [json.loads(line, parse_float=str, parse_constant=str) for line in texts]
+    odd = choices.one_of(choices.just("absent"), choices.sampled_from(ODD), choices.integers(97, 104).map(nested))
+
+    @hypothesis.settings(max_examples=2000)
+    @hypothesis.given(choices.sampled_from(base), choices.dictionaries(choices.sampled_from(NAMES), odd, max_size=3))
+    def is_alike(event, members):
+        value = {name: part for name, part in {**event, **members}.items() if part != "absent"}
+        try:
+            second.event_atoms(value, 0)
+            wanted = []
+        except second.Fault as fault:
+            wanted = [fault.said[len("event 0: "):]]
+        assert list(faults_of(value))[:1] == wanted
+
+    is_alike()
 
 
-def tries_aside(trial):
+def test_aside():
     """The file of what is set aside: of its owner alone, appended to, ended where it was cut off, and read again."""
     bad = json.dumps(without("id")) + "\n" + json.dumps(event(id="", n=float("nan"))) + "\n\xff\n"
     data = bad.encode("latin-1")
     mended = dict(without("initiator"), id="", n=[1.5])
-    trial.check("as it was read", [entry["event"] for entry in trial.read(json.dumps(mended)).entries], [mended])
-    first = trial.read(data)
+    assert [entry["event"] for entry in read(json.dumps(mended)).entries] == [mended]
+    first = read(data)
     kept = open("aside", "rb").read()
-    trial.check("mode", stat.S_IMODE(os.stat("aside").st_mode), 0o600)
-    again = trial.read(kept)
-    trial.check("read again", again.entries, first.entries, len(again.entries), 3)
+    assert stat.S_IMODE(os.stat("aside").st_mode) == 0o600
+    again = read(kept)
+    assert (again.entries, len(again.entries)) == (first.entries, 3)
     os.chmod("aside", 0o644)
     put("aside", kept[:-1])
     ended(TOOL, ["--log", "g", "--set-aside", "aside"], input=data)
-    trial.check("appended", open("aside", "rb").read(), kept * 2, stat.S_IMODE(os.stat("aside").st_mode), 0o600)
+    assert (open("aside", "rb").read(), stat.S_IMODE(os.stat("aside").st_mode)) == (kept * 2, 0o600)
     put("fixed", kept.replace(b'"event": {', b'"event": {"id": "f", ', 1))
-    trial.check("mended by hand", [each["id"] for each in trial.read(open("fixed", "rb").read()).events], ["f"])
-    trial.check("read and written", ended(TOOL, ["--log", "g", "--set-aside", "aside", "aside"]).status, 2)
-    tries_unasked(trial, data)
+    assert [each["id"] for each in read(open("fixed", "rb").read()).events] == ["f"]
+    assert ended(TOOL, ["--log", "g", "--set-aside", "aside", "aside"]).status == 2
 
 
 NOWHERE = "cadf-from-openstack: what was set aside is written nowhere: --set-aside FILE keeps it, to be mended"
 
 
-def tries_unasked(trial, data):
+def test_unasked():
     """Without a file for it, what is set aside is named by its line and the checks that failed, with nothing of the event."""
+    data = (json.dumps(without("id")) + "\n" + json.dumps(event(id="", n=float("nan"))) + "\n\xff\n").encode("latin-1")
     done = ended(TOOL, ["--log", "g"], input=data)
-    trial.check("named by line", done.status, 1, done.error.decode().splitlines(), [
-        "cadf-from-openstack: -: line %d: set aside: %s" % each for each in ((1, "id"), (2, "id"), (3, "not UTF-8"))] + [NOWHERE, counts(aside=3)])
+    assert done.status == 1
+    assert done.error.decode().splitlines() == [ "cadf-from-openstack: -: line %d: set aside: %s" % each for each in ((1, "id"), (2, "id"), (3, "not UTF-8"))] + [NOWHERE, counts(aside=3)]
     private = "a@example.com\x1b[2J"
     lines = lines_of([event(n={private: 1.5}), {"id": "g", "events": [], private: [1.5]}, [{private: 1, "id": private}] * 2,
                       {"faults": [], "event": {}, "file": private, "line": 9}])
     done = ended(TOOL, ["--log", "g", "--without", "number"], input=lines.encode())
     said = done.error.decode().splitlines()
-    trial.check("nothing of the event", done.status, 1, len(said), 6, said[:2], [
-        "cadf-from-openstack: -: line 1: set aside: a number is not whole", "cadf-from-openstack: -: line 2: set aside: no event, a number is not whole"],
-        private[:5] in done.error.decode(), False)
-    wrong = trial.wrong_copy("return found[1] if found else fault", "return fault")
-    trial.check("names of members", private[:5] in ended(wrong, ["--log", "g", "--without", "number"], input=lines.encode()).error.decode(), True)
+    assert done.status == 1
+    assert len(said) == 6
+    assert said[:2] == [ "cadf-from-openstack: -: line 1: set aside: a number is not whole", "cadf-from-openstack: -: line 2: set aside: no event, a number is not whole"]
+    assert private[:5] not in done.error.decode()
+    wrong = wrong_copy("return found[1] if found else fault", "return fault")
+    assert private[:5] in ended(wrong, ["--log", "g", "--without", "number"], input=lines.encode()).error.decode()
     done = ended(TOOL, ["--log", "g"], input=b"x\n" * 1000)
-    trial.check("many lines", done.status, 1, done.error.decode().splitlines()[99:], [
-        "cadf-from-openstack: -: line 100: set aside: not JSON, and no line of a log",
-        "cadf-from-openstack: further lines that are set aside are counted and not named", NOWHERE, counts(aside=1000)])
+    assert done.status == 1
+    assert done.error.decode().splitlines()[99:] == [ "cadf-from-openstack: -: line 100: set aside: not JSON, and no line of a log", "cadf-from-openstack: further lines that are set aside are counted and not named", NOWHERE, counts(aside=1000)]
     many = json.dumps([event(tags=["a"] * number + [""]) for number in range(150)])
     done = ended(TOOL, ["--log", "g"], input=many.encode())
-    trial.check("many faults", done.status, 1, done.error.decode().splitlines()[0].endswith(", event 99: tag 99, and 50 more"), False,
-                done.error.decode().splitlines()[0].endswith("tag 99, tag 100, and 50 more"), True)
+    assert done.status == 1
+    assert not done.error.decode().splitlines()[0].endswith(", event 99: tag 99, and 50 more")
+    assert done.error.decode().splitlines()[0].endswith("tag 99, tag 100, and 50 more")
     for kind, text in (("an inventory", "CADF-INVENTORY 1\n"), ("a page of cadf-report", "<!DOCTYPE html>\n"), ("a script", "learn 0 {}\n")):
         put("odd", text.encode())
-        trial.check(kind, ended(TOOL, ["--log", "g", "odd"]).error.decode().startswith("cadf-from-openstack: odd: it begins as %s" % kind), True)
+        assert ended(TOOL, ["--log", "g", "odd"]).error.decode().startswith("cadf-from-openstack: odd: it begins as %s" % kind), kind
 
 
-def tries_files(trial):
+def test_files():
     """Files that can't be read are named, and the others are taken; what can't be written ends the call."""
     put("-a", json.dumps(event(id="a")).encode())
     put("b\n\u202e", json.dumps(event(id="b")).encode())
     done = ended(TOOL, ["--log", "g", "--", "-a", "absent", ".", "b\n\u202e"])
-    trial.check("files", done.status, 3, [each["id"] for each in json.loads(done.output)["events"]], ["a", "b"],
-                done.error.decode().split("\n")[:2], ["cadf-from-openstack: absent: No such file or directory",
-                                                      "cadf-from-openstack: .: Is a directory"])
+    assert done.status == 3
+    assert [each["id"] for each in json.loads(done.output)["events"]] == ["a", "b"]
+    assert done.error.decode().split("\n")[:2] == ["cadf-from-openstack: absent: No such file or directory", "cadf-from-openstack: .: Is a directory"]
     put("c\n", b"x")
     done = ended(TOOL, ["--log", "g", "c\n"])
-    trial.check("an odd name", done.error.decode().split("\n")[0], 'cadf-from-openstack: "c\\n": line 1: set aside: not JSON, and no line of a log')
+    assert done.error.decode().split("\n")[0] == 'cadf-from-openstack: "c\\n": line 1: set aside: not JSON, and no line of a log'
     for what, words in (("no log", []), ("no name", ["--log", ""]), ("a long name", ["--log", "x" * 1025]), ("no rule", ["--log", "g", "--without", "x"]),
-                        ("an option", ["--log", "g", "--x"]), ("a short option", ["--lo", "g"]), ("a size", ["--log", "g", "--size", "1"])):
+                        ("an option", ["--log", "g", "--x"]), ("a short option", ["--lo", "g"]), ("a size", ["--log", "g", "--size", "1"]), ("a large size", ["--log", "g", "--size", str(2 ** 30 + 1)])):
         done = ended(TOOL, words)
-        trial.check(what, done.status, 2, done.output, b"")
+        assert (done.status, done.output) == (2, b""), what
     with open("/dev/full", "wb") as full:
         done = subprocess.run([TOOL, "--log", "g", "--", "-a"], stdout=full, stderr=subprocess.PIPE)
-        trial.check("a full disk", done.returncode, 3, done.stderr, b"cadf-from-openstack: standard output: write fault: No space left on device\n")
+        assert (done.returncode, done.stderr) == (3, b"cadf-from-openstack: standard output: write fault: No space left on device\n")
     put("d", b"x\n")
     done = ended(TOOL, ["--log", "g", "--set-aside", "/dev/full", "d"])
-    trial.check("a full disk for what is set aside", done.status, 3, done.output.endswith(b"}\n"), False,
-                done.error, b"cadf-from-openstack: /dev/full: write fault: No space left on device\n")
+    assert (done.status, done.error) == (3, b"cadf-from-openstack: /dev/full: write fault: No space left on device\n")
+    assert not done.output.endswith(b"}\n")
     with open("one.out", "wb") as output:
         output.write(b"x")
         done = subprocess.run([TOOL, "--log", "g", "one.out"], stdout=output, stderr=subprocess.PIPE)
-        trial.check("written to what is read", done.returncode, 2)
+        assert done.returncode == 2
     for closed, status in (("2>&-", 3), (">&-", 3), ("<&-", 3), ("2>&- <c.json", 3), ("2>&- >&-", 3)):
         put("c.json", json.dumps(event(id="c")).encode())
         done = ended("sh", ["-c", '"$0" --log g %s %s' % ("" if "<" in closed else "d", closed), TOOL])
-        trial.check("closed " + closed, done.status, status, b"faults" in done.output or b"cadf-" in done.output, False)
+        assert done.status == status, "closed " + closed
+        assert not (b"faults" in done.output or b"cadf-" in done.output), "closed " + closed
     done = ended("sh", ["-c", '"$0" --log g --set-aside both d >both', TOOL])
-    trial.check("written twice", done.status, 2)
-    trial.check("help", ended(TOOL, ["--help"]).status, 0)
+    assert done.status == 2
+    assert ended(TOOL, ["--help"]).status == 0
 
 
-def tries_sizes(trial):
+def test_sizes(cadf):
     """Full documents; and many long lines in little memory."""
     lines = lines_of(event(id="e%d" % number, n="x" * 1000) for number in range(10))
-    done = trial.read(lines, "--size", "4096")
+    done = read(lines, "--size", "4096")
     said = done.error.decode()
-    trial.check("full", done.status, 1, len(done.events), 3, "line 4: the document is full" in said, True, len(done.output) <= 4096, True)
-    room = 4096 - len(trial.read(lines_of([event(n=""), event(n="")])).output)
+    assert (done.status, len(done.events)) == (1, 3)
+    assert "line 4: the document is full" in said
+    assert len(done.output) <= 4096
+    room = 4096 - len(read(lines_of([event(n=""), event(n="")])).output)
     for more, status in ((0, 0), (1, 1)):
-        done = trial.read(lines_of([event(n=""), event(n="x" * (room + more))]), "--size", "4096")
-        trial.check("to the last byte", done.status, status, len(done.output) == 4096, status == 0)
-    split = trial.read(lines, "--size", "4096", "--split", "part-")
+        done = read(lines_of([event(n=""), event(n="x" * (room + more))]), "--size", "4096")
+        assert (done.status, len(done.output) == 4096) == (status, status == 0)
+    split = read(lines, "--size", "4096", "--split", "part-")
     names = sorted(glob.glob("part-*.json"))
-    trial.check("split", split.status, 0, split.output, b"", names, ["part-%04d.json" % number for number in (1, 2, 3, 4)],
-                max(map(os.path.getsize, names)) <= 4096, True, split.counts, counts(10))
-    trial.check("the parts", trial.log_of(*(open(name, "rb").read() for name in names)), trial.log_of(trial.read(lines).output))
-    done = trial.read(lines, "--split", "part-")
-    trial.check("the part is there", done.status, 3, done.error, b"cadf-from-openstack: part-0001.json: write fault: File exists\n")
-    trial.check("too large an event", trial.read(json.dumps(event(n="x" * 5000)), "--size", "4096").entries[0]["faults"], ["too large"])
+    assert (split.status, split.output, names, split.counts) == (0, b"", ["part-%04d.json" % number for number in (1, 2, 3, 4)], counts(10))
+    assert max(map(os.path.getsize, names)) <= 4096
+    assert log_of(cadf, *(open(name, "rb").read() for name in names)) == log_of(cadf, read(lines).output)
+    done = read(lines, "--split", "part-")
+    assert (done.status, done.error) == (3, b"cadf-from-openstack: part-0001.json: write fault: File exists\n")
+    assert read(json.dumps(event(n="x" * 5000)), "--size", "4096").entries[0]["faults"] == ["too large"]
     with open("long", "w", encoding="utf-8") as file:
         file.write('{"a":\n')  # a broken first line
         for number in range(150):
             file.write(json.dumps(event(id="e%d" % number, n="x" * 1000000)) + "\n")
     with open("long.out", "wb") as output:
         done = subprocess.run([TOOL, "--log", "g", "long"], stdout=output, stderr=subprocess.PIPE, **limited(100))
-    trial.check("memory", done.returncode, 1, done.stderr.decode().split("\n")[-2], counts(150, 1))
+    assert (done.returncode, done.stderr.decode().split("\n")[-2]) == (1, counts(150, 1))
     os.remove("long")
     put("line", b'["' + b"x" * (60 << 20) + b'"]')
     done = ended(TOOL, ["--log", "g", "line"], **limited(100))
-    trial.check("out of memory", done.status, 4, done.error, b"cadf-from-openstack: out of memory\n")
-
-
-def main():
-    trial = Trial(os.path.abspath(sys.argv[1]) if len(sys.argv) > 1 else built("cadf"))
-    with tempfile.TemporaryDirectory() as folder:
-        os.chdir(folder)
-        for tries in (tries_lines, tries_rules, tries_places, tries_texts, tries_swallowing, tries_brackets, tries_bombs, tries_longest,
-                      tries_several, tries_real, tries_checks, tries_aside, tries_files, tries_sizes):
-            tries(trial)
-        os.chdir("/")
-    if trial.wrong:
-        sys.exit("from-openstack: " + "\nfrom-openstack: ".join(trial.wrong[:20]))
-    print("from-openstack: %d results as told" % trial.count)
-
-
-if __name__ == "__main__":
-    main()
+    assert (done.status, done.error) == (4, b"cadf-from-openstack: out of memory\n")

@@ -1,0 +1,141 @@
+"""Plants faults in copies of the tree, one at a time, and runs the test aimed at each: it has to fail.
+
+    python3 -m tests.release.planted_faults [--jobs 2] [--binary FILE] [NAME..]
+
+The faults are the rows of tests/release/planted.py; NAMEs choose those whose names begin so. A test that fails without a
+fault shows nothing, so each is run without one first. FILE is the command that the tests try, crates/cadf/out/cadf unless
+given. Prints a line a row, and what stayed unseen at the end. The status is 1 if a fault was not seen.
+"""
+import argparse
+import concurrent.futures
+import os
+import queue
+import re
+import shutil
+import signal
+import subprocess
+import sys
+import tempfile
+import time
+
+from tests import TOP
+from tests.machine import built
+from tests.release.planted import ROWS, UNSEEN
+
+SECONDS = 600  # for a test and a fault
+PYTHON = "/usr/bin/python3"  # where Debian's packages are
+
+
+def copied_tree(folder, binary):
+    """Copies the tree as it is, with its history and the command that the tests try."""
+    subprocess.run(["git", "clone", "-q", "--shared", TOP, folder], check=True)
+    listed = subprocess.run(["git", "ls-files", "-mdoz", "--exclude-standard"], cwd=TOP, check=True, stdout=subprocess.PIPE).stdout
+    for name in filter(None, listed.decode().split("\0")):
+        there, here = os.path.join(TOP, name), os.path.join(folder, name)
+        if os.path.exists(there):
+            os.makedirs(os.path.dirname(here), exist_ok=True)
+            shutil.copy2(there, here)
+        else:
+            os.remove(here)
+    if os.path.exists(binary):
+        place = os.path.join(folder, "crates", "cadf", "out", "cadf")
+        os.makedirs(os.path.dirname(place))
+        os.symlink(os.path.realpath(binary), place)
+    return folder
+
+
+def run(aim, top):
+    """Runs a test, by the words of pytest, in a tree. Returns its status, None if it takes too long, and what it said."""
+    words = [PYTHON, "-m", "pytest", "-q", "-x", "-rs", "-p", "no:cacheprovider", *aim.split()]
+    with tempfile.TemporaryFile() as said:
+        child = subprocess.Popen(words, cwd=top, stdin=subprocess.DEVNULL, stdout=said, stderr=subprocess.STDOUT, start_new_session=True,
+                                 env={**os.environ, "PYTHONDONTWRITEBYTECODE": "1"})
+        try:
+            status = child.wait(SECONDS)
+        except subprocess.TimeoutExpired:
+            os.killpg(child.pid, signal.SIGKILL)
+            child.wait()
+            status = None
+        said.seek(0)
+        return status, said.read().decode(errors="replace")
+
+
+def is_skipped(said):
+    return not re.search(r"\d+ passed", said.rstrip().rpartition("\n")[2])
+
+
+def last_reason(said):
+    """What a failed test said last of why."""
+    reasons = re.findall(r"(?m)^E +(.*)$", said)
+    return reasons[0][:100] if reasons else said.strip().rpartition("\n")[2][:100]
+
+
+class Planter:
+    """Trees in which faults are planted, each by one thread at a time."""
+
+    def __init__(self, folder, count, binary):
+        self.trees = queue.Queue()
+        for number in range(count):
+            self.trees.put(copied_tree(os.path.join(folder, str(number)), binary))
+
+    def plain(self, aim):
+        """What a test says of a tree without a fault: why its rows show nothing, or None."""
+        top = self.trees.get()
+        try:
+            status, said = run(aim, top)
+            return "the test fails without it: %s" % last_reason(said) if status else "skipped: %s" % last_reason(said) if is_skipped(said) else None
+        finally:
+            self.trees.put(top)
+
+    def planted(self, row):
+        """Whether the row's test sees its fault, the seconds that it took, and what the test said of it."""
+        top, begun = self.trees.get(), time.monotonic()
+        try:
+            path = os.path.join(top, row.file)
+            with open(path, encoding="utf-8") as file:
+                text = file.read()
+            if text.count(row.right) != 1:
+                return False, 0, "%s: the text is there %d times" % (row.file, text.count(row.right))
+            write(path, text.replace(row.right, row.wrong))
+            status, said = run(row.aim, top)
+            write(path, text)
+            return bool(status), time.monotonic() - begun, "it hangs" if status is None else last_reason(said)
+        finally:
+            self.trees.put(top)
+
+
+def write(path, text):
+    with open(path, "w", encoding="utf-8") as file:
+        file.write(text)
+
+
+def main():
+    parser = argparse.ArgumentParser(description=__doc__, formatter_class=argparse.RawDescriptionHelpFormatter)
+    parser.add_argument("--jobs", type=int, default=2)
+    parser.add_argument("--binary", default=built("cadf"))
+    parser.add_argument("names", nargs="*", metavar="NAME")
+    options = parser.parse_args()
+    rows = [row for row in ROWS if not options.names or row.name.startswith(tuple(options.names))]
+    unseen = []
+    with tempfile.TemporaryDirectory(prefix="planted-") as folder, concurrent.futures.ThreadPoolExecutor(options.jobs) as pool:
+        planter = Planter(folder, options.jobs, os.path.abspath(options.binary))
+        aims = sorted({row.aim for row in rows})
+        plain = dict(zip(aims, pool.map(planter.plain, aims)))
+        tried = [row for row in rows if plain[row.aim] is None]
+        for row in rows:
+            if plain[row.aim] is not None:
+                unseen.append("%s: %s" % (row.name, plain[row.aim]))
+        for row, (is_seen, seconds, said) in zip(tried, pool.map(planter.planted, tried)):
+            print("%-32s %-6s %4.0f s  %s" % (row.name, "seen" if is_seen else "UNSEEN", seconds, said), flush=True)
+            if not is_seen:
+                unseen.append("%s: %s" % (row.name, said))
+    for name, why in UNSEEN.items() if not options.names else ():
+        print("%-32s not aimed at: %s" % (name, why))
+    for line in unseen:
+        print("UNSEEN: " + line)
+    print("%d of %d planted faults are seen" % (len(rows) - len(unseen), len(rows)))
+    sys.exit(1 if unseen else 0)
+
+
+if __name__ == "__main__":
+    main()

@@ -1,0 +1,106 @@
+"""Callers of a tool that take turns: what each finds once it has the lock, and how long the lock is held."""
+import contextlib
+import fcntl
+import json
+import os
+import signal
+import subprocess
+import time
+
+import pytest
+
+from tests.tools.odd_logs import EVENT
+from tests.tools.programs import tool
+
+# A command that goes on once it may.
+SLOW = '#!/bin/sh\nwhile [ ! -e "$PLACE/go" ]; do sleep 0.05; done\nexec "$BUILT" "$@"\n'
+# A command that sends its caller a signal, and stays until it is ended.
+ASKING = '#!/bin/sh\nkill -"$SIGNAL" $PPID\nsleep 60\n'
+
+
+def put(folder, name, text, mode=0o644):
+    path = folder / name
+    path.write_text(text)
+    path.chmod(mode)
+    return path
+
+
+def document(folder, key):
+    return put(folder, key + ".json", json.dumps({"id": "g", "events": [dict(EVENT, id=key)]}))
+
+
+def joined(cadf, *names):
+    return subprocess.run([cadf, "join", *names], check=True, stdout=subprocess.PIPE).stdout
+
+
+def wait_until(is_so):
+    end = time.monotonic() + 60
+    while not is_so():
+        assert time.monotonic() < end
+        time.sleep(0.02)
+
+
+def has_started(process, name):
+    """Whether a process runs a program of that name."""
+    with open("/proc/%d/task/%d/children" % (process, process), encoding="ascii") as file:
+        children = file.read().split()
+    for child in children:
+        with contextlib.suppress(OSError), open("/proc/%s/cmdline" % child, "rb") as file:
+            if os.fsencode(name) in file.read().split(b"\0"):
+                return True
+    return False
+
+
+def test_take_after_another(cadf, tmp_path):
+    """A call that waited takes into what the call before it left, not into what it saw first."""
+    one, two, three = (document(tmp_path, key) for key in ("e1", "e2", "e3"))
+    site, lock = tmp_path / "site.cadf", put(tmp_path, "site.cadf.lock", "", 0o600)
+    site.write_bytes(joined(cadf, one))
+    with open(lock, "r+") as held:
+        fcntl.flock(held, fcntl.LOCK_EX)
+        child = subprocess.Popen([tool("cadf-take"), site, three], env={**os.environ, "CADF": cadf}, stderr=subprocess.PIPE)
+        assert b"waits for" in child.stderr.readline()
+        put(tmp_path, "other", "").write_bytes(joined(cadf, one, two))
+        os.rename(tmp_path / "other", site)
+    assert child.wait(60) == 0 and site.read_bytes() == joined(cadf, one, two, three)
+    child.stderr.close()
+
+
+def test_take_behind_a_link(cadf, tmp_path):
+    """A lock that is a link is no lock: its file may be one that others hold."""
+    put(tmp_path, "own", "", 0o600)
+    os.symlink("own", tmp_path / "site.cadf.lock")
+    done = subprocess.run([tool("cadf-take"), tmp_path / "site.cadf", document(tmp_path, "e1")], env={**os.environ, "CADF": cadf}, stderr=subprocess.PIPE)
+    assert done.returncode == 3 and not (tmp_path / "site.cadf").exists()
+
+
+def test_spool_killed(cadf, tmp_path):
+    """What a killed run has started holds the spool until it ends: the next run doesn't begin beside it."""
+    spool = tmp_path / "spool"
+    spool.mkdir()
+    os.rename(document(tmp_path, "e1"), spool / "e1.json")
+    slow = put(tmp_path, "slow", SLOW, 0o755)
+    child = subprocess.Popen([tool("cadf-spool"), "--unchanged", "0", "--log", "g", tmp_path / "site.cadf", spool],
+                             env={**os.environ, "CADF": str(slow), "BUILT": cadf, "PLACE": str(tmp_path)}, stderr=subprocess.DEVNULL)
+    wait_until(lambda: has_started(child.pid, slow))
+    child.kill()
+    child.wait()
+    with open(spool / ".spool.lock", "r+") as lock:
+        with pytest.raises(BlockingIOError):
+            fcntl.flock(lock, fcntl.LOCK_EX | fcntl.LOCK_NB)
+        (tmp_path / "go").touch()
+        fcntl.flock(lock, fcntl.LOCK_EX)
+
+
+@pytest.mark.parametrize("number", [signal.SIGHUP, signal.SIGINT, signal.SIGTERM])
+@pytest.mark.parametrize("name", ["cadf-take", "cadf-conflicts", "cadf-report"])
+def test_asked_to_end(tmp_path, name, number):
+    """A tool that is asked to end ends what it has started, leaves no file of its own, and says so by its status."""
+    asking = put(tmp_path, "asking", ASKING, 0o755)
+    words = [tmp_path / "site.cadf"] if name == "cadf-take" else []
+    temporary = tmp_path / "temporary"
+    temporary.mkdir()
+    done = subprocess.run([tool(name), *words, document(tmp_path, "e1")], stdout=subprocess.PIPE, stderr=subprocess.PIPE, timeout=30,
+                          env={**os.environ, "CADF": str(asking), "SIGNAL": str(int(number)), "TMPDIR": str(temporary)})
+    assert (done.returncode, done.stdout, done.stderr.decode()) == (128 + number, b"", "%s: stopped by %s\n" % (name, number.name))
+    assert os.listdir(temporary) == [] and {path.name for path in tmp_path.iterdir()} <= {"asking", "temporary", "e1.json", "site.cadf.lock"}
