@@ -6,7 +6,7 @@ scratch and its library has statements alone, as in `rt ci`: that takes less tim
 import os
 
 from build import record
-from build.plan import uses_of
+from build.plan import static_libraries, uses_of
 
 PROCESSORS = ["x86-64", "x86-64-v2", "x86-64-v3"]
 TARGET = "x86_64-unknown-linux-gnu"
@@ -30,6 +30,11 @@ class Compiler:
         words += ["--antt-project", os.path.join(self.kit, "rattle", "logic", "antt-project.json")]
         words += ["--logic-built", os.path.join(self.kit, "logic_built"), "--links", name + "=", "--jobs", str(jobs)]
         return [*words, "-o", made]
+
+    def check(self, name, libraries, jobs):
+        """The call that proves the crate and makes nothing of it."""
+        words = self.proof(name, libraries, jobs, "")
+        return [words[0], "check", *words[2:-2], *(["--crate-type", "staticlib"] if name in static_libraries(self.top) else [])]
 
     def root(self, name):
         """The crate's root file, in its folder."""

@@ -8,7 +8,7 @@ import os
 
 # What a crate costs in seconds at one job on a usual machine, by its lines of code: enough for an order and an estimate.
 FIRST_SECONDS, LINES_A_SECOND = 10, 7
-# What the target costs besides, whose code is made: the code of all crates.
+# What a target costs besides, whose code is made: the code of all crates.
 CODE_SECONDS = 240
 # How many processors a proof with so many jobs keeps busy. With more it ends no sooner.
 BUSY = {1: 1.0, 2: 1.9, 3: 2.7, 4: 3.4}
@@ -21,6 +21,12 @@ def listed(top):
     with open(os.path.join(top, "crates.txt"), encoding="utf-8") as file:
         lines = [line.split("#")[0] for line in file]
     return {line.split(":")[0].split()[0]: line.split(":")[1].split() for line in lines if ":" in line}
+
+
+def static_libraries(top):
+    """The crates of crates.txt that are libraries for C."""
+    with open(os.path.join(top, "crates.txt"), encoding="utf-8") as file:
+        return {line.split()[0] for line in file if line.split(":")[0].split()[1:] == ["staticlib"]}
 
 
 def uses_of(top, name):
@@ -45,14 +51,15 @@ def code_lines(folder):
 
 
 class Plan:
-    """The crates that a target needs, with the target."""
+    """The crates that targets need, with the targets, whose code takes so many seconds besides."""
 
-    def __init__(self, top, target):
+    def __init__(self, top, *targets, code=CODE_SECONDS):
         self.uses = crates_of(top)
-        self.names = self.below(target) | {target}
+        self.names = set(targets).union(*map(self.below, targets))
         self.costs = {name: FIRST_SECONDS + code_lines(os.path.join(top, "crates", name, "src")) / LINES_A_SECOND
                       for name in self.names}
-        self.costs[target] += CODE_SECONDS
+        for target in targets:
+            self.costs[target] += code
         # What the longest chain of crates from each one up costs. The file has a crate before those that use it.
         self.chains = {}
         for name in reversed([one for one in self.uses if one in self.names]):
@@ -65,6 +72,10 @@ class Plan:
         for other in self.uses[name]:
             found |= self.below(other)
         return found
+
+    def above(self, names):
+        """These crates and all that depend on them, directly or not."""
+        return {name for name in self.uses if names & (self.below(name) | {name})}
 
     def first(self, names):
         """The crate of these from which the longest chain of crates goes up: all others can wait for it."""

@@ -1,7 +1,7 @@
-"""Proves a target and the crates that it needs, side by side.
+"""Proves targets and the crates that they need, side by side.
 
-    with Build(TOP, "cadf", lanes) as build:
-        build.run(lambda libraries, jobs: words)
+    with Build(TOP, Plan(TOP, "cadf"), {"cadf"}, lanes) as build:
+        build.run(lambda name, libraries, jobs: words)
 
 Each proof is a call of the kit's compiler, in a process group of its own. However a build ends, nothing of it runs on.
 A crate that was proved is kept (build/kept.py); the output of a proof is in crates/NAME/out/build.log.
@@ -17,7 +17,6 @@ import time
 from build import record
 from build.compiler import Compiler
 from build.kept import Kept
-from build.plan import Plan
 
 # What a proof takes of memory at most, and what each of its jobs takes besides.
 PROOF_MEMORY, JOB_MEMORY = 3 * 2 ** 30, 2 ** 29
@@ -105,11 +104,11 @@ class Proof:
 
 
 class Build:
-    """While it is open no other build works in the tree."""
+    """While it is open no other build works in the tree. What is made of a target is kept by who asked for it."""
 
-    def __init__(self, top, target, lanes):
-        self.top, self.target, self.lanes, self.memory = top, target, lanes, 0
-        self.plan, self.kept, self.compiler = Plan(top, target), Kept(top), Compiler(top)
+    def __init__(self, top, plan, targets, lanes):
+        self.top, self.plan, self.targets, self.lanes, self.memory = top, plan, set(targets), lanes, 0
+        self.kept, self.compiler = Kept(top), Compiler(top)
         self.running, self.verdicts, self.is_stopped = {}, {}, False
         self.begun, self.kept_before = 0, set()
         self.lock = self.usual = None
@@ -147,8 +146,8 @@ class Build:
     def words(self, name, jobs, make_target):
         """The call that proves the crate."""
         libraries = {other: self.kept.library(other) for other in self.plan.below(name)}
-        if name == self.target:
-            return make_target(libraries, jobs)
+        if name in self.targets:
+            return make_target(name, libraries, jobs)
         return self.compiler.library(name, libraries, jobs, self.kept.library(name))
 
     def start(self, waiting, make_target):
@@ -174,7 +173,7 @@ class Build:
                 raise Failed("%s failed: see crates/%s/out/build.log" % (proof.name, proof.name))
             if proof.sources != self.sources(proof.name):
                 raise Failed(CHANGED)
-            if proof.name != self.target:
+            if proof.name not in self.targets:
                 self.kept.keep(proof.name, proof.sources, proof.verdict())
             self.verdicts[proof.name] = proof.verdict()
             self.say("%s is proved" % proof.name, "\n")
@@ -200,8 +199,8 @@ class Build:
             "" if sys.stdout.isatty() else "\n")
 
     def run(self, make_target):
-        """Proves the crates that are not kept, and the target. Returns the verdicts. Raises Failed."""
-        self.kept_before = self.kept.names(self.plan.names - {self.target})
+        """Proves the crates that are not kept, and the targets. Returns the verdicts. Raises Failed."""
+        self.kept_before = self.kept.names(self.plan.names - self.targets)
         self.verdicts = {name: self.kept.verdict(name) for name in self.kept_before}
         waiting = self.plan.names - self.kept_before
         while waiting or self.running:
@@ -216,6 +215,6 @@ class Build:
             self.take_in()
             if self.is_stopped:
                 raise Failed("ended before all was proved; the crates that were proved are kept")
-        if self.kept.names(self.plan.names) != self.plan.names - {self.target}:
+        if self.kept.names(self.plan.names) != self.plan.names - self.targets:
             raise Failed(CHANGED)
         return self.verdicts

@@ -1,0 +1,21 @@
+"""What an edit touches: files that differ from a commit, and the crates that have them."""
+import os
+import subprocess
+
+TOP = os.path.dirname(os.path.dirname(os.path.abspath(__file__)))
+
+
+def listed(*words):
+    done = subprocess.run(["git", *words], cwd=TOP, check=True, stdout=subprocess.PIPE)
+    return set(filter(None, done.stdout.decode("utf-8", "surrogateescape").split("\0")))
+
+
+def files(commit):
+    """The files of the tree that differ from the commit, and those that are new."""
+    return listed("diff", "--name-only", "--no-renames", "-z", commit) | listed("ls-files", "-oz", "--exclude-standard")
+
+
+def crates(names):
+    """The crates whose sources, definitions or proofs are among the files."""
+    parts = [name.split("/") for name in names]
+    return {each[1] for each in parts if each[0] == "crates" and each[2:3] and each[2] in ("src", "specs", "proofs")}
