@@ -7,6 +7,7 @@ import subprocess
 from typing import NamedTuple
 
 from build import record
+from install import sbom
 
 # The pages keep the places that they name each other by, so TOP=PREFIX/share/doc/cadf serves the commands that they show.
 DOC = "share/doc/cadf"
@@ -14,6 +15,10 @@ PAGES = ("README.md", "CHANGELOG.md", "bench/RESULTS.md")
 # These examples need tests/, which is not installed.
 NOT_INSTALLED = ("examples/many-sites.py", "examples/parcelled.py")
 ZSH = "share/zsh/site-functions"
+# Where systemd looks for each kind of file of this folder, and what it is to be called there.
+UNITS = "examples/systemd"
+OF_SYSTEMD = {".service": "lib/systemd/system/%s.service", ".timer": "lib/systemd/system/%s.timer",
+              ".sysusers": "lib/sysusers.d/%s.conf", ".tmpfiles": "lib/tmpfiles.d/%s.conf"}
 
 
 class File(NamedTuple):
@@ -54,8 +59,13 @@ def files(top):
     for name in names_below(top, "share"):
         yield file_of(top, name, name)
     yield File("share/cadf/version", 0o644, version(top))
+    yield File(DOC + "/sbom.spdx.json", 0o644, sbom.text(top))
+    units = names_below(top, UNITS)
+    for name in units:
+        name_alone, kind = os.path.splitext(os.path.basename(name))
+        yield file_of(top, name, OF_SYSTEMD[kind] % name_alone)
     pages = names_below(top, "docs")
-    examples = [name for name in names_below(top, "examples") if name not in NOT_INSTALLED]
+    examples = [name for name in names_below(top, "examples") if name not in (*units, *NOT_INSTALLED)]
     for name in (*PAGES, *pages, *examples):
         yield file_of(top, name, "%s/%s" % (DOC, name))
 

@@ -27,7 +27,10 @@ share/cadf/report/conflicts.js share/cadf/report/events.js share/cadf/report/fil
 share/cadf/report/page.css share/cadf/report/page.html share/cadf/report/page.js share/cadf/report/pairs.js
 share/cadf/report/sites.js share/cadf/report/timeline.js share/cadf/report/values.js
 share/doc/cadf/installed share/doc/cadf/README.md share/doc/cadf/CHANGELOG.md share/doc/cadf/bench/RESULTS.md
+share/doc/cadf/sbom.spdx.json
 """
+UNITS = {".service": "lib/systemd/system/%s.service", ".timer": "lib/systemd/system/%s.timer",
+         ".sysusers": "lib/sysusers.d/%s.conf", ".tmpfiles": "lib/tmpfiles.d/%s.conf"}
 LIBRARY = ("include/cadf.h", "lib/libcadf.so", "lib/libcadf.so.0", "lib/pkgconfig/cadf.pc")
 
 
@@ -141,10 +144,11 @@ def test_places(prefix):
     found = {str(path.relative_to(prefix)) for path in prefix.rglob("*") if not path.is_dir()}
     doc = "share/doc/cadf/"
     pages = {doc + "docs/" + name for name in os.listdir(os.path.join(TOP, "docs"))}
-    examples = {doc + "examples/%s/%s" % (folder, name) for folder in ("vectors", "real", "systemd")
+    examples = {doc + "examples/%s/%s" % (folder, name) for folder in ("vectors", "real")
                 for name in os.listdir(os.path.join(TOP, "examples", folder))}
+    units = {UNITS[kind] % name for name, kind in map(os.path.splitext, os.listdir(os.path.join(TOP, "examples", "systemd")))}
     programs = {"bin/" + tool for tool in TOOLS} | {"share/man/man1/%s.1" % tool for tool in TOOLS}
-    wanted = pages | examples | programs | set(PLACES.split())
+    wanted = pages | examples | programs | units | set(PLACES.split())
     assert sorted(wanted - found) == []
     assert sorted(place for place in found - wanted if not place.startswith((doc + "examples/", doc + "bindings/", "lib/", "include/"))) == []
 
@@ -168,6 +172,20 @@ def test_uninstall(cadf, tmp_path):
         other.write_text("x")
     subprocess.run([INSTALL, "--uninstall", tmp_path], check=True, stdout=subprocess.DEVNULL)
     assert sorted(path for path in tmp_path.rglob("*") if not path.is_dir()) == sorted(others)
+
+
+def test_staged(cadf, prefix, tmp_path):
+    """With DESTDIR all is done below that folder, as it is done under a prefix."""
+    def run(*words):
+        subprocess.run([INSTALL, *words, "/opt/cadf"], check=True, stdout=subprocess.DEVNULL, env={**os.environ, "DESTDIR": str(tmp_path)})
+
+    def places(folder):
+        return {str(path.relative_to(folder)) for path in folder.rglob("*") if not path.is_dir()}
+
+    run("--any")
+    assert places(tmp_path / "opt" / "cadf") == places(prefix) and not os.path.exists("/opt/cadf")
+    run("--uninstall")
+    assert places(tmp_path) == set()
 
 
 def test_first_look(tmp_path):

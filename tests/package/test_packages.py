@@ -2,7 +2,7 @@
 import gzip
 import hashlib
 import io
-import lzma
+import json
 import os
 import re
 import shutil
@@ -13,20 +13,22 @@ import pytest
 
 from build import record
 from build.plan import Plan
-from install import contents, needs
+from install import contents, needs, sbom
 from tests import TOP
 
-pytestmark = [pytest.mark.needs("git"), pytest.mark.timeout(600)]
+pytestmark = [pytest.mark.needs("git", "dpkg-deb"), pytest.mark.timeout(600)]
 
 COMMIT_TIME = 1700000000
 RT = '#!/bin/sh\ncase $1 in version) echo stand-in ;; doc) echo "%s/START-HERE.md" ;; *) exit 1 ;; esac\n'
 OWN = {"changelog.gz", "built", "copyright"}  # what Debian asks for, beside the files of the tree
 OVERRIDES = "usr/share/lintian/overrides/cadf"
+SCRIPTS = ("postinst", "prerm", "postrm")
 # Bytes of machine code that happen to be letters, others with each build: no override fits each of them.
 NO_TEXT = "spelling-error-in-binary"
 # What surrounds the two copies: none of it may reach the package.
 FIRST = {"TZ": "UTC", "LC_ALL": "C"}
-SECOND = {"TZ": "Asia/Tokyo", "LC_ALL": "C.UTF-8", "GZIP": "-1", "XZ_OPT": "-0", "SOURCE_DATE_EPOCH": "1", "PYTHONHASHSEED": "7"}
+SECOND = {"TZ": "Asia/Tokyo", "LC_ALL": "C.UTF-8", "GZIP": "-1", "XZ_OPT": "-0", "SOURCE_DATE_EPOCH": "1", "PYTHONHASHSEED": "7",
+          "TAR_OPTIONS": "--mode=0777", "DPKG_DEB_COMPRESSOR_TYPE": "gzip"}
 # Builds a container of the folder $0 and runs it, by the words that call buildah.
 CONTAINER = '"$@" build --isolation chroot -q -t cadf "$0"; "$@" run --isolation chroot $("$@" from cadf) /cadf --version'
 WITH_LIBM = """#include <math.h>
@@ -127,20 +129,10 @@ def packed_twice(first, second, *words):
     return shutil.copy2(one, os.path.dirname(first.folder))
 
 
-def members(package):
-    """The members of an ar archive, by name."""
-    data, place, found = read(package), 8, {}
-    while place < len(data):
-        name, size = data[place:place + 16].decode().strip(), int(data[place + 48:place + 58])
-        found[name] = data[place + 60:place + 60 + size]
-        place += 60 + size + size % 2
-    return found
-
-
-def archived(data):
-    """The files of a packed tar archive, by place, with what is in them. Each entry has to be of root and of the commit's time."""
-    found = {}
-    with tarfile.open(fileobj=io.BytesIO(lzma.decompress(data))) as archive:
+def archived(package, part):
+    """The files of a part of the package, by place, with their modes and contents. Each entry has to be of root and of the commit's time."""
+    data, found = subprocess.run(["dpkg-deb", "--%s-tarfile" % part, package], check=True, stdout=subprocess.PIPE).stdout, {}
+    with tarfile.open(fileobj=io.BytesIO(data)) as archive:
         for entry in archive:
             assert (entry.uid, entry.gid, entry.uname, entry.gname, entry.mtime) == (0, 0, "root", "root", COMMIT_TIME), entry.name
             if not entry.isdir():
@@ -182,11 +174,12 @@ def copy(first, cadf, request):
 
 
 def test_contents(package, first):
-    """The package has the files of install/contents.py and its own, with the sums that it tells."""
-    found = members(package)
-    files, told = archived(found["data.tar.xz"]), archived(found["control.tar.xz"])
+    """The package has the files of install/contents.py and its own, with the sums that it tells, and the scripts of install/debian."""
+    files, told = archived(package, "fsys"), archived(package, "ctrl")
     wanted_sums = "".join("%s  %s\n" % (hashlib.md5(files[place][1]).hexdigest(), place) for place in sorted(files))
-    assert (found["debian-binary"], told["md5sums"][1].decode()) == (b"2.0\n", wanted_sums)
+    assert told.pop("md5sums") == (0o644, wanted_sums.encode())
+    assert told.pop("control")[0] == 0o644
+    assert told == {name: (0o755, read(os.path.join(TOP, "install", "debian", "cadf." + name))) for name in SCRIPTS}
     for file in contents.files(first.folder):
         place = "usr/" + file.place.replace("share/zsh/site-functions", "share/zsh/vendor-completions")
         is_page = file.place.startswith("share/man/")
@@ -195,23 +188,58 @@ def test_contents(package, first):
     assert set(files) == {OVERRIDES, *("usr/share/doc/cadf/" + name for name in OWN)}
 
 
+def test_units(package):
+    """The units are where systemd finds them, and nothing enables one; what they need beside is there too."""
+    files = archived(package, "fsys")
+    units = {name.rsplit("/", 1)[1] for name in files if name.startswith("usr/lib/systemd/system/")}
+    assert units == {name for name in os.listdir(os.path.join(TOP, "examples", "systemd")) if name.endswith((".service", ".timer"))}
+    assert {"usr/lib/sysusers.d/cadf.conf", "usr/lib/tmpfiles.d/cadf.conf"} <= set(files)
+    assert not [name for name in files if ".wants/" in name or name.startswith("etc/")]
+
+
 @pytest.mark.needs("readelf")
 def test_depends(package, cadf):
     """It depends on the C library from the version on that the command asks for."""
     asked = subprocess.run(["readelf", "-VW", cadf], check=True, stdout=subprocess.PIPE, universal_newlines=True).stdout
     versions = [tuple(map(int, text.split("."))) for text in re.findall(r"Name: GLIBC_(\d+\.\d+)", asked)]
-    told = archived(members(package)["control.tar.xz"])["control"][1].decode()
+    told = archived(package, "ctrl")["control"][1].decode()
     assert re.search(r"libc6 \(>= (\d+\.\d+)\)", told).group(1) == "%d.%d" % max(versions)
 
 
-def test_copyright(first):
-    """The copyright file names each library of the kit that the command needs."""
-    needed = Plan(first.folder, record.PROGRAM).names
-    with open(os.path.join(first.folder, "crates.txt"), encoding="utf-8") as file:
+def linked_libraries(folder):
+    """The libraries of the kit that crates.txt gives the command's crates."""
+    needed = Plan(folder, record.PROGRAM).names
+    with open(os.path.join(folder, "crates.txt"), encoding="utf-8") as file:
         lines = [line.split(":") for line in file if ":" in line and not line.startswith("#")]
-    used = {word for name, words in lines if name.strip() in needed for word in words.split()} - needed
-    said = read(os.path.join(first.folder, "install", "debian", "copyright")).decode()
-    assert used - set(said.replace(",", " ").replace(":", " ").split()) == set()
+    return {word for name, words in lines if name.strip() in needed for word in words.split()} - needed
+
+
+def test_copyright(package, first):
+    """The copyright file names each library of the kit that the command needs."""
+    said = archived(package, "fsys")["usr/share/doc/cadf/copyright"][1].decode()
+    assert linked_libraries(first.folder) - set(said.replace(",", " ").replace(":", " ").split()) == set()
+    assert "@" not in said
+
+
+def test_materials(package, first, cadf):
+    """The bill of materials has the command's own digest, each library that is linked into it, and the licences that the kit says."""
+    told = json.loads(archived(package, "fsys")["usr/share/doc/cadf/sbom.spdx.json"][1])
+    parts = {part["name"]: part for part in told["packages"]}
+    assert (told["spdxVersion"], parts["cadf"]["checksums"]) == ("SPDX-2.3", [{"algorithm": "SHA256", "checksumValue": record.digest_of_file(cadf)}])
+    assert {"rattle/" + name for name in linked_libraries(first.folder)} <= set(parts)
+    assert len({part["SPDXID"] for part in told["packages"]}) == len(told["packages"])
+    known = {part["SPDXID"] for part in told["packages"]} | {"SPDXRef-DOCUMENT"}
+    assert all({relation["spdxElementId"], relation["relatedSpdxElement"]} <= known for relation in told["relationships"])
+    assert {relation["relatedSpdxElement"] for relation in told["relationships"]} == known - {"SPDXRef-DOCUMENT"}
+
+
+def test_versions_of_materials():
+    """The kit's page of a library, or of the one that brings it, says which version of a Rust crate it follows, and no older one."""
+    for name, of in sbom.FOLLOWED.items():
+        bringing = [library for library, brought in sbom.WITH.items() if name in brought]
+        pages = [os.path.join(record.kit_folder(TOP), "rattle", library, "README.md") for library in (name, *bringing)]
+        said = "".join(read(page).decode() for page in pages if os.path.exists(page))
+        assert re.search(r"\b%s`? %s\b" % (re.escape(of.crate), re.escape(of.version)), said), name
 
 
 @pytest.mark.needs("lintian")

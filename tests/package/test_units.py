@@ -1,4 +1,4 @@
-"""The units of examples/systemd: systemd understands them whole, what they may do is little, and the tool takes their words.
+"""The units of examples/systemd: systemd understands them whole, what they may do is little, and the tools take their words.
 
 The units are looked at in a folder of their own, beside the units of this system and the tools as a package installs
 them. tests/release/booted.py runs them.
@@ -18,9 +18,9 @@ UNITS = os.path.join(TOP, "examples", "systemd")
 VECTORS = os.path.join(TOP, "examples", "vectors")
 SYSTEM = "/lib/systemd/system"
 INSTANCE = "audit"
-MOST_EXPOSED = 0.5  # of 10
 OLDEST = 250  # the first systemd-analyze that judges files in a folder
 SERVICE, TIMER = "cadf-spool@.service", "cadf-spool@.timer"
+MOST_EXPOSED = {SERVICE: 0.5, "cadf-listen@.service": 2.5, "cadf-spool-folders@.service": 10}  # of 10, for each service
 # What docs/OPERATING.md says of them: no capability, network or device; two folders to write to; each five minutes. A run
 # of an input of 2^30 bytes takes four times as much memory.
 SAID = [
@@ -28,6 +28,7 @@ SAID = [
     (SERVICE, "Service", "PrivateDevices", "yes"), (SERVICE, "Service", "ProtectSystem", "strict"),
     (SERVICE, "Service", "StateDirectory", "cadf/%i"), (SERVICE, "Service", "ReadWritePaths", "/var/spool/cadf/%i"),
     (SERVICE, "Service", "MemoryMax", "5G"), (TIMER, "Timer", "OnCalendar", "*:0/5"), (TIMER, "Timer", "Persistent", "yes"),
+    ("cadf-listen@.service", "Service", "StateDirectory", "cadf/%i cadf/%i/bus"),
 ]
 
 
@@ -54,9 +55,10 @@ def root(tmp_path_factory):
     folder = tmp_path_factory.mktemp("units")
     shutil.copytree(SYSTEM, folder / SYSTEM[1:], symlinks=True)
     shutil.copytree(os.path.join(TOP, "tools"), folder / "usr" / "bin")
+    shutil.copy2("/bin/systemd-tmpfiles", folder / "usr" / "bin")
     system = folder / "etc" / "systemd" / "system"
     system.mkdir(parents=True)
-    for name in (SERVICE, TIMER):
+    for name in (TIMER, *MOST_EXPOSED):
         shutil.copy2(os.path.join(UNITS, name), system)
     return folder
 
@@ -68,14 +70,15 @@ def instance(name):
 @pytest.mark.needs("systemd-analyze")
 def test_understood(root):
     names = sorted(name for name in os.listdir(UNITS) if name.endswith((".service", ".timer")))
-    assert names == [SERVICE, TIMER]
+    assert names == sorted([TIMER, *MOST_EXPOSED])
     assert analyzed("verify", "--man=no", "--root=%s" % root, *map(instance, names)) == (0, "")
 
 
 @pytest.mark.needs("systemd-analyze")
-def test_exposure(root):
-    most = round(10 * MOST_EXPOSED)
-    status, said = analyzed("security", "--offline=yes", "--root=%s" % root, "--threshold=%d" % most, instance(SERVICE))
+@pytest.mark.parametrize("name", MOST_EXPOSED)
+def test_exposure(root, name):
+    most = round(10 * MOST_EXPOSED[name])
+    status, said = analyzed("security", "--offline=yes", "--root=%s" % root, "--threshold=%d" % most, instance(name))
     assert status == 0, "\n".join(line for line in said.splitlines() if line[:1] in "✗→")
 
 
