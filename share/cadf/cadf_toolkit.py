@@ -26,7 +26,8 @@ STOPPING = (signal.SIGHUP, signal.SIGINT, signal.SIGTERM)
 LOCK_MODES = (stat.S_IFREG | 0o600, stat.S_IFREG | 0o660)
 PATIENCE = 1  # seconds before a lock that is held is worth a line
 PAUSE = 0.05  # seconds between two looks at a lock
-QUIET, BETWEEN_LINES = 2, 0.2  # seconds before progress is worth a line, and between two
+BEGUN, QUIET, BETWEEN_LINES = time.monotonic(), 2, 0.2  # seconds before progress is worth a line, and between two
+CLEARED = "\r\x1b[K"  # what empties the line of a terminal
 NOT_REGULAR = "not a regular file; what a pipe brings is taken from standard input, as `-`"
 OUT_OF_MEMORY = "out of memory"  # made once: no text is made while memory is out
 
@@ -91,7 +92,7 @@ def tool():
 
 def note(text):
     """Writes what was found, as a line on standard error."""
-    print(text, file=sys.stderr, flush=True)
+    print("%s%s" % (CLEARED if Progress.shown else "", text), file=sys.stderr, flush=True)
 
 
 def say(text):
@@ -118,32 +119,43 @@ def naming(name):
 
 
 class Progress:
-    """A line on a terminal that says how far a call is, once it has lasted."""
+    """A line on a terminal that says what a call is at, once it has lasted. A timer writes it, whatever the call waits for."""
 
-    def __init__(self):
-        self.is_terminal, self.due, self.is_shown = sys.stderr is not None and sys.stderr.isatty(), time.monotonic() + QUIET, False
+    shown = None  # the one that has the line: one that begins within it has none
+
+    def __init__(self, what=""):
+        self.begun, self.what, self.number, self.is_written = time.monotonic(), what, None, False
 
     def __enter__(self):
+        if Progress.shown is None and sys.stderr is not None and sys.stderr.isatty():
+            Progress.shown = self
+            signal.signal(signal.SIGALRM, self.write)
+            signal.setitimer(signal.ITIMER_REAL, max(BETWEEN_LINES, BEGUN + QUIET - self.begun), BETWEEN_LINES)
         return self
 
     def __exit__(self, *_):
-        if self.is_shown:
-            self.write("")
+        if Progress.shown is self:
+            signal.setitimer(signal.ITIMER_REAL, 0)
+            signal.signal(signal.SIGALRM, signal.SIG_DFL)
+            Progress.shown = None
+            if self.is_written:
+                self.write_line("")
 
-    def tell(self, text):
-        if self.is_terminal and time.monotonic() >= self.due:
-            self.due, self.is_shown = time.monotonic() + BETWEEN_LINES, True
-            self.write("%s: %s" % (tool(), text))
+    def tell(self, what):
+        self.what, self.number = what, None
 
     def count(self, number, what):
         """Says how many of something there are so far."""
-        if self.is_terminal:
-            self.tell("%s: %s" % (what, format(number, ",")))
+        self.what, self.number = what, number
 
-    def write(self, text):
+    def write(self, *_):
+        self.is_written = True
+        said = self.what if self.number is None else "%s: %s" % (self.what, format(self.number, ","))
+        self.write_line("%s: %s: %d s" % (tool(), said, time.monotonic() - self.begun))
+
+    def write_line(self, text):
         with contextlib.suppress(OSError):
-            sys.stderr.write("\r\x1b[K" + text)
-            sys.stderr.flush()
+            os.write(2, (CLEARED + text[:(os.get_terminal_size(2).columns or 80) - 1]).encode("utf-8", "replace"))
 
 
 # ---- Words
@@ -278,7 +290,7 @@ def explained(said, which=None):
 def started(words, **options):
     """Starts a program, which doesn't outlive the call. A tool that is asked to end ends what it has started itself."""
     child = subprocess.Popen(words, **options)
-    with child:
+    with child, Progress(" ".join(map(os.path.basename, words[:2]))):
         try:
             yield child
         except BaseException:
