@@ -4,6 +4,7 @@ The wheel carries a built library if one is beside the package, `cadf/libcadf.so
 for any platform, and finds a library at run time (cadf/_library.py). `pip install` needs no network: pyproject.toml
 names this module, and nothing else is required.
 """
+import ast
 import base64
 import hashlib
 import os
@@ -24,7 +25,7 @@ def _read(name):
 
 def _field(name):
     """A text of pyproject.toml's table `project`."""
-    return re.search(r'(?m)^%s = "(.*)"$' % name, _read("pyproject.toml").decode()).group(1)
+    return re.search(r'(?m)^%s = (?:\[\{ name = )?"([^"]*)"' % name, _read("pyproject.toml").decode()).group(1)
 
 
 def _sources():
@@ -34,9 +35,11 @@ def _sources():
 
 
 def _metadata():
-    return "".join("%s: %s\n" % line for line in (
-        ("Metadata-Version", "2.1"), ("Name", _field("name")), ("Version", _field("version")),
-        ("Summary", _field("description")), ("Requires-Python", _field("requires-python")))).encode()
+    """What is said of the package, with the first text of its module as its description."""
+    fields = "".join("%s: %s\n" % line for line in (
+        ("Metadata-Version", "2.1"), ("Name", _field("name")), ("Version", _field("version")), ("Summary", _field("description")),
+        ("Author", _field("authors")), ("Requires-Python", _field("requires-python")), ("Description-Content-Type", "text/plain")))
+    return ("%s\n%s\n" % (fields, ast.get_docstring(ast.parse(_read("cadf/__init__.py"))))).encode()
 
 
 def _tag():

@@ -7,7 +7,9 @@
     Check(log='g', atoms=2, conflicts=1)
 
 An input is a replica file, a log document or one event, as bytes or as a text. A `str` is always a text and never a path.
-Each function returns what the command of its name writes, and raises CadfError where the command refuses.
+Each function returns what the command of its name writes, and raises a CadfError where the command refuses: Refused for an
+input, WrongArgument for another argument, OutOfMemory. What is no input at all is a TypeError. The first call raises
+ImportError if there is no library.
 
 A call releases the interpreter's lock while it works, and any number of threads may call. Don't call in the forked child of
 a process that has threads: start multiprocessing's workers by `spawn` or `forkserver`.
@@ -16,12 +18,12 @@ import ctypes
 import json
 import re
 import sys
-from typing import Any, Iterable, NamedTuple, Optional, Tuple, Union
+from typing import Any, Dict, Iterable, NamedTuple, Optional, Tuple, Type, Union
 
 from . import _library
 
-__all__ = ["CadfError", "Check", "check", "inventory", "join", "missing", "missing_by", "missing_by_sketch", "rehearse", "rule", "show",
-           "sketch", "version"]
+__all__ = ["CadfError", "Check", "OutOfMemory", "Refused", "WrongArgument", "check", "inventory", "join", "missing", "missing_by",
+           "missing_by_sketch", "rehearse", "rule", "show", "sketch", "version"]
 
 Input = Union[bytes, bytearray, memoryview, str]
 
@@ -37,21 +39,43 @@ _new_bytes = ctypes.PYFUNCTYPE(ctypes.py_object, ctypes.c_void_p, ctypes.c_ssize
 
 
 class CadfError(Exception):
-    """Why a call made nothing.
+    """Why a call made nothing: the command's line on standard error, without `cadf: `.
 
-    `status` is the exit status of the command: 1 an input is refused, 2 an argument is refused, 4 out of memory.
-    `text` is the command's line on standard error, without `cadf: `. `input` is the number of the refused input, from 1, and
-    `place` is where in it, as `line 5` or `event 2`; each is None if the text names none.
+    `status` is the exit status of the command, for which each class derived from this one stands. `input` is the number of
+    the refused input, from 1, and `place` is where in it, as `line 5` or `event 2`; each is None if the text names none.
     """
 
-    def __init__(self, status: int, text: str):
-        super().__init__(text)
-        self.status, self.text = status, text
-        number, self.place = _PLACED.fullmatch(text).groups()
-        self.input: Optional[int] = int(number) if number else None
+    status: int
 
-    def __reduce__(self) -> Tuple[Any, ...]:
-        return type(self), (self.status, self.text)
+    def __init__(self, text: str) -> None:
+        super().__init__(text)
+        self.text = text
+        found = _PLACED.match(text)
+        number, place = found.groups() if found else (None, None)
+        self.input: Optional[int] = int(number) if number else None
+        self.place: Optional[str] = place
+
+
+class Refused(CadfError):
+    """An input is refused, or the inputs can't be joined."""
+
+    status = 1
+
+
+class WrongArgument(CadfError, ValueError):
+    """An argument beside the inputs is refused: `text` names it."""
+
+    status = 2
+
+
+class OutOfMemory(CadfError, MemoryError):
+    """There is no memory for what the call makes."""
+
+    status = 4
+
+
+_ERRORS: Dict[int, Type[CadfError]] = {kind.status: kind for kind in (Refused, WrongArgument, OutOfMemory)}
+_NO_MEMORY = "out of memory"
 
 
 class Check(NamedTuple):
@@ -107,16 +131,16 @@ def _call(name: str, room: int, *arguments: Any) -> bytes:
     function, length = getattr(_functions(), "cadf_" + name), ctypes.c_size_t()
     while True:
         try:
-            text = _new_bytes(None, min(room, sys.maxsize))
+            text: bytes = _new_bytes(None, min(room, sys.maxsize))
         except (MemoryError, OverflowError):
-            raise CadfError(4, "out of memory") from None
+            raise OutOfMemory(_NO_MEMORY) from None
         status = function(*arguments, text, room, ctypes.byref(length))
         if length.value <= room:
             break
         room = length.value
     text = text[:length.value]
     if status:
-        raise CadfError(status, text.decode("utf-8", "replace") or "out of memory")
+        raise _ERRORS[status](text.decode("utf-8", "replace") or _NO_MEMORY)
     return text
 
 
@@ -131,31 +155,44 @@ def version() -> Tuple[int, int, int]:
 
 
 def join(inputs: Iterable[Input], log: Optional[str] = None) -> bytes:
-    """Returns the replica file of all inputs, under `log` or the first that an input names."""
+    """Returns the replica file of all inputs, under `log` or the first that an input names.
+
+    Refused: an input is refused, is of another log, or none names a log. WrongArgument: `log` is no name. OutOfMemory.
+    """
     if isinstance(inputs, (str, bytes, bytearray, memoryview)):
         raise TypeError("inputs is a list of inputs, not one input")
     texts = [_of(value) for value in inputs]
     name = b"" if log is None else _of(log)
     if log is not None and not name:
-        raise CadfError(2, "log name")
+        raise WrongArgument("log name")
     array = (_library.Bytes * max(len(texts), 1))(*map(_given, texts or [b""]))
     return _call("join", _room(*texts), array, len(texts), _given(name))
 
 
 def missing(source: Input, target: Input) -> bytes:
-    """Returns the delta: the replica file of what `target` lacks of `source`."""
+    """Returns the delta: the replica file of what `target` lacks of `source`.
+
+    Refused: one of them is refused, or they are of two logs. OutOfMemory.
+    """
     texts = _of(source), _of(target)
     return _call("missing", _room(texts[0]), *map(_given, texts))
 
 
 def missing_by(source: Input, inventory: Input) -> bytes:
-    """Returns the delta for the holder of an inventory."""
+    """Returns the delta for the holder of an inventory.
+
+    Refused: `source` or the inventory is refused, or they are of two logs. OutOfMemory.
+    """
     texts = _of(source), _of(inventory)
     return _call("missing_by", _room(texts[0]), *map(_given, texts))
 
 
 def missing_by_sketch(source: Input, sketch: Input) -> bytes:
-    """Returns the delta for the holder of what was sketched. Where the sketch has too few cells, the error says how many to ask for."""
+    """Returns the delta for the holder of what was sketched.
+
+    Refused: `source` or the sketch is refused, they are of two logs, or the sketch has too few cells: the text says how many
+    to ask for. OutOfMemory.
+    """
     texts = _of(source), _of(sketch)
     return _call("missing_by_sketch", _room(texts[0]), *map(_given, texts))
 
@@ -163,7 +200,8 @@ def missing_by_sketch(source: Input, sketch: Input) -> bytes:
 def sketch(value: Input, cells: Optional[int] = None, salt: Optional[int] = None) -> bytes:
     """Returns the sketch file of an input: of 198 cells and with a salt that the input makes, if none are given.
 
-    `cells` is a multiple of 3 from 3 to 12,582,912, and `salt` an odd number of 64 bits.
+    Refused: the input is refused. WrongArgument: `cells` is no multiple of 3 from 3 to 12,582,912, or `salt` no odd number of
+    64 bits. OutOfMemory.
     """
     text, numbers = _of(value), (_chosen(cells, "cells"), _chosen(salt, "salt"))
     room = 81 * (numbers[0] or 198) if numbers[0] <= _MOST_CELLS else 0
@@ -171,19 +209,28 @@ def sketch(value: Input, cells: Optional[int] = None, salt: Optional[int] = None
 
 
 def inventory(value: Input) -> bytes:
-    """Returns the inventory file of an input: the SHA-256 digests of all its facts."""
+    """Returns the inventory file of an input: the SHA-256 digests of all its facts.
+
+    Refused: the input is refused. OutOfMemory.
+    """
     text = _of(value)
     return _call("inventory", _room(text), _given(text))
 
 
 def show(value: Input, conflicts: bool = False) -> bytes:
-    """Returns the log, or with `conflicts` the list of conflicts and rulings, as canonical JSON."""
+    """Returns the log, or with `conflicts` the list of conflicts and rulings, as canonical JSON.
+
+    Refused: the input is refused. OutOfMemory.
+    """
     text = _of(value)
     return _call("show", _room(text), bool(conflicts), _given(text))
 
 
 def check(value: Input) -> Check:
-    """Returns what an input holds."""
+    """Returns what an input holds.
+
+    Refused: the input is refused. OutOfMemory.
+    """
     text = _of(value)
     found = _CHECKED.fullmatch(_call("check", _ROOM, _given(text)))
     assert found, "the library's line is another"
@@ -193,7 +240,8 @@ def check(value: Input) -> Check:
 def rule(letter: str, key: str, place: int, value: Input) -> bytes:
     """Returns the input's replica file with a ruling more: the value at `place`, from 1, of the key is to be shown.
 
-    `letter` is E for an event, R for a resource, G for a geolocation, M for a metric, P for a property.
+    `letter` is E for an event, R for a resource, G for a geolocation, M for a metric, P for a property. Refused: the input is
+    refused, or has no such value. WrongArgument: `letter`, `key` or `place` is none. OutOfMemory.
     """
     texts = _of(key), _of(value)
     number = ord(letter) if len(letter) == 1 and ord(letter) < 256 else 0
@@ -201,6 +249,9 @@ def rule(letter: str, key: str, place: int, value: Input) -> bytes:
 
 
 def rehearse(log: str, sites: int, script: Input) -> bytes:
-    """Returns a line for each site of the log after the schedule of a script."""
+    """Returns a line for each site of the log after the schedule of a script.
+
+    Refused: a line of the script is refused. WrongArgument: `log` is no name, or `sites` not 1 to 64. OutOfMemory.
+    """
     texts = _of(log), _of(script)
     return _call("rehearse", _ROOM, _given(texts[0]), _whole(sites, "sites"), _given(texts[1]))

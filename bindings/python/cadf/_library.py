@@ -1,7 +1,7 @@
 """Finds and loads the shared library, and declares its functions."""
 import ctypes
 import os
-from typing import Optional
+from typing import Any, Dict, List, Optional
 
 NAME = "libcadf.so.0"
 VARIABLE = "CADF_LIBRARY"
@@ -13,11 +13,11 @@ class Bytes(ctypes.Structure):
     _fields_ = [("bytes", ctypes.c_char_p), ("length", ctypes.c_size_t)]
 
 
-_INPUT = [ctypes.POINTER(Bytes)]
-OUTPUT = [ctypes.c_void_p, ctypes.c_size_t, ctypes.POINTER(ctypes.c_size_t)]
+_INPUT: List[Any] = [ctypes.POINTER(Bytes)]
+OUTPUT: List[Any] = [ctypes.c_void_p, ctypes.c_size_t, ctypes.POINTER(ctypes.c_size_t)]
 
 # The arguments of each function, before those of the output.
-FUNCTIONS = {
+FUNCTIONS: Dict[str, List[Any]] = {
     "show": [ctypes.c_bool, *_INPUT],
     "check": _INPUT,
     "join": [*_INPUT, ctypes.c_size_t, *_INPUT],

@@ -74,12 +74,12 @@ class Errors(unittest.TestCase):
         for text, number, place in (
                 ("input 2: line 5: shape", 2, "line 5"), ("input 1: not JSON", 1, None), ("line 3: script", None, "line 3"),
                 ("no log named", None, None), ("input 12: event 3: step 2: role", 12, "event 3: step 2")):
-            error = cadf.CadfError(1, text)
+            error = cadf.Refused(text)
             self.assertEqual((error.input, error.place, error.text, str(error)), (number, place, text, text))
 
     def test_go_to_other_processes(self):
-        error = pickle.loads(pickle.dumps(cadf.CadfError(1, "input 1: not JSON")))
-        self.assertEqual((error.status, error.text, error.input), (1, "input 1: not JSON", 1))
+        error = pickle.loads(pickle.dumps(cadf.Refused("input 1: not JSON")))
+        self.assertEqual((type(error), error.status, error.text, error.input), (cadf.Refused, 1, "input 1: not JSON", 1))
 
 
 class Fake:
@@ -192,10 +192,13 @@ class Calls(unittest.TestCase):
             self.assertEqual(len(fake.rooms), rooms)
 
     def test_raise_what_is_refused(self):
-        for text, status in ((b"input 1: not JSON", 1), (b"letter", 2), (b"out of memory", 4), (b"", 4)):
-            with mock.patch.object(cadf, "_loaded", Fake(text, status)), self.assertRaises(cadf.CadfError) as caught:
-                cadf.inventory("{")
-            self.assertEqual((caught.exception.status, caught.exception.text), (status, text.decode() or "out of memory"))
+        for text, status, kinds in (
+                (b"input 1: not JSON", 1, (cadf.Refused, cadf.CadfError)), (b"letter", 2, (cadf.WrongArgument, ValueError)),
+                (b"out of memory", 4, (cadf.OutOfMemory, MemoryError)), (b"", 4, (cadf.OutOfMemory, cadf.CadfError))):
+            for kind in kinds:
+                with mock.patch.object(cadf, "_loaded", Fake(text, status)), self.assertRaises(kind) as caught:
+                    cadf.inventory("{")
+                self.assertEqual((caught.exception.status, caught.exception.text), (status, text.decode() or "out of memory"))
 
     def test_read_the_line_of_a_check(self):
         with mock.patch.object(cadf, "_loaded", Fake(b'ok "a \\u0001\\" atoms 1" atoms 3 conflicts 1\n')):
@@ -222,9 +225,12 @@ class Wheel(unittest.TestCase):
             with open(paths[0], "rb") as one, open(paths[1], "rb") as other:
                 self.assertEqual(one.read(), other.read())
             with zipfile.ZipFile(paths[0]) as archive:
-                names = archive.namelist()
+                names, facts = archive.namelist(), archive.read("cadf-0.1.0.dist-info/METADATA").decode()
             self.assertTrue({"cadf/__init__.py", "cadf/_library.py", "cadf/py.typed", "cadf-0.1.0.dist-info/RECORD"} <= set(names))
             self.assertEqual("cadf/" + _library.NAME in names, name.endswith("linux_x86_64.whl"))
+            fields, description = facts.split("\n\n", 1)
+            self.assertLessEqual({"Name", "Version", "Summary", "Author", "Requires-Python"}, {line.split(":")[0] for line in fields.splitlines()})
+            self.assertIn("import cadf", description)
 
 
 if __name__ == "__main__":
