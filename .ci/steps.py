@@ -56,7 +56,6 @@ STAGES = [
         "bindings": "python3 -m tests.library.bindings",
         "take": "python3 -m tests.tools.take",
         "spool": "python3 -m tests.tools.spool",
-        "listen": "python3 -m tests.tools.listen",
         "oom": "python3 -m tests.library.oom",
         "plain-sets": "python3 -m tests.library.plain_sets",
         "built": "pytest -m built",
@@ -65,8 +64,6 @@ STAGES = [
         "shown": "python3 -m tests.docs.shown README.md docs/GUIDE.md docs/OPENSTACK.md docs/BUS.md docs/REPORT.md",
         "sites": "python3 -m tests.tools.sites",
         "faults": "python3 -m tests.tools.faults",
-        "report": "python3 -m tests.tools.report",
-        "report-page": "python3 -m tests.tools.report_page",
         "week": "examples/week.sh",
         "week-of-folders": "examples/week.sh --by day",
         "many-sites": "examples/many-sites.py",
@@ -115,7 +112,7 @@ def pytest_words():
     """How pytest is run, with two processes: by this Python or the system's, where Debian's packages are; None without it."""
     for python in (sys.executable, "/usr/bin/python3"):
         if os.path.exists(python) and not subprocess.run([python, "-c", "import " + PLUGINS], stderr=subprocess.DEVNULL).returncode:
-            return [python, "-m", "pytest", "-q", "-n", "2"]
+            return [python, "-m", "pytest", "-q", "-n", "2", "--dist", "loadgroup"]
     return None
 
 

@@ -1,6 +1,7 @@
 """What the tests share under pytest: the built command, and what a test needs to be there."""
 import os
 import shutil
+import signal
 
 import pytest
 
@@ -14,6 +15,13 @@ try:
 except ImportError:
     pass  # the tests that need it are skipped
 PROGRAMS = {"broker": ("rabbitmq-server",), "browser": ("chromium", "chromedriver")}
+
+
+def pytest_configure():
+    """Has no signal ignored that this process was given so, as behind nohup or in the background: the tools would ignore it too."""
+    for number in (signal.SIGHUP, signal.SIGINT):
+        if signal.getsignal(number) is signal.SIG_IGN:
+            signal.signal(number, signal.SIG_DFL)
 
 
 def pytest_addoption(parser):

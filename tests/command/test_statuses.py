@@ -149,6 +149,13 @@ def test_end(cadf, folder, line, status, fault):
         assert got.output == answer([word.encode() for word in words], files).output
 
 
+@pytest.mark.parametrize("name", [name for name in commands.COMMANDS if name != "help"])
+def test_help(cadf, name):
+    """A command tells its words when it is asked to, in either way."""
+    asked, helped = ended(cadf, [name, "--help"]), ended(cadf, ["help", name])
+    assert asked == helped == (0, asked.output, b"") and b"Usage: cadf %s" % name.encode() in asked.output
+
+
 @pytest.mark.parametrize("line", WRONG)
 def test_wrong_words(cadf, folder, line):
     got = ended(cadf, shlex.split(line), cwd=folder, stdin=subprocess.DEVNULL)

@@ -19,6 +19,7 @@ if name == os.environ.get("FAILS"):
     sys.exit("not proved")
 if "-o" in sys.argv:
     os.makedirs(sys.argv[sys.argv.index("-o") + 1], exist_ok=True)
+print("statements 12")
 print("logic=proved")
 '''
 
@@ -58,6 +59,8 @@ def test_what_is_above(tree):
     tree.change("left")
     status, said, proved = tree.recheck()
     assert (status, proved) == (0, ["build apart", "build left", "build low", "build right", "check cadf"]), said
+    with open(tree.path(".git", "cadf-build", "left.made"), encoding="utf-8") as mark:
+        assert "\nverdict: logic=proved\n" in mark.read()
     assert tree.recheck()[2] == ["check cadf"]
     tree.change("right")
     assert tree.recheck("right")[2] == ["build right", "check cadf"]

@@ -11,7 +11,7 @@ trap 'rm -rf "$folder"' EXIT
 ln -s "$(command -v "${1:-python3.9}")" "$folder/python3"
 export PATH=$folder:$PATH PYTHONDONTWRITEBYTECODE=1
 python3 -c 'import sys; sys.exit(sys.version_info[:2] != (3, 9) and "oldest-python: this is Python " + sys.version)'
-for test in take sites report; do
+for test in take sites; do
     python3 -m "tests.tools.$test"
 done
 /usr/bin/python3 -m pytest -q tests/tools  # by the system's Python; the tools by the one that is tried

@@ -1,23 +1,29 @@
-"""What cadf-listen does between messages: its queue, its bindings, its URL, heartbeats, room on the disk and memory."""
+"""What cadf-listen does that needs no broker: its words, its folder and files, and what it does between messages."""
 import collections
+import contextlib
+import glob
+import io
 import os
+import re
+import shutil
+import signal
 import socket
-import subprocess
+import struct
 import sys
 import types
 
 import pytest
 
-from tests.tools import broker
-from tests.tools.programs import loaded, tool
+from tests.tools.listeners import LISTEN, lines_of
+from tests.tools.programs import loaded
 
-amqp = pytest.importorskip("amqp")
+ANOTHER = 2002  # a user
 
 
 @pytest.fixture
 def program(monkeypatch):
     """The listener as a module, which says nothing and waits for nothing."""
-    module = loaded(tool("cadf-listen"))
+    module = loaded(LISTEN)
     module.lines = []
     monkeypatch.setattr(module, "say", module.lines.append)
     monkeypatch.setattr(module.stopping, "wait", lambda _: None)
@@ -96,30 +102,195 @@ def test_room(program, monkeypatch, tmp_path, free, is_enough):
             program.Spool(str(tmp_path / "spool"), 1, 1)
 
 
-@pytest.fixture(scope="module")
-def rabbit(tmp_path_factory):
-    """A broker."""
-    started = broker.Broker(str(tmp_path_factory.mktemp("broker")))
+def answer(program, words):
+    """What the program answers to words that it refuses: its status, its output and its errors."""
+    output, error, handlers = io.StringIO(), io.StringIO(), {each: signal.getsignal(each) for each in (signal.SIGHUP, signal.SIGINT, signal.SIGTERM)}
+    with contextlib.redirect_stdout(output), contextlib.redirect_stderr(error):
+        try:
+            sys.argv = [LISTEN, *words]
+            status = program.main()
+        except SystemExit as end:
+            status = end.code
+    for number, handler in handlers.items():
+        signal.signal(number, handler)
+    return status, output.getvalue(), error.getvalue()
+
+
+def test_words(program, tmp_path):
+    """Refused words, files that can't be read, a library that isn't there."""
+    spool = ["--spool", str(tmp_path / "none")]
+    for what, words, status in (
+            ("no words", [], 2), ("no URL", spool, 2), ("two URLs", [*spool, "--url", "rabbit://h/", "--url-file", "x"], 2),
+            ("no scheme", [*spool, "--url", "h/"], 2), ("http", [*spool, "--url", "http://h/"], 2), ("no port", [*spool, "--url", "amqp://h:x/"], 2),
+            ("no key", [*spool, "--url", "amqp://h/", "--bind", "nova"], 2), ("no exchange", [*spool, "--url", "amqp://h/", "--bind", ":k"], 2),
+            ("prefetch 0", [*spool, "--url", "amqp://h/", "--prefetch", "0"], 2), ("NaN", [*spool, "--url", "amqp://h/", "--until-empty", "nan"], 2),
+            ("a prefix", [*spool, "--url", "amqp://h/", "--until", "1"], 2), ("no file", [*spool, "--url-file", str(tmp_path / "absent")], 3),
+            ("a control character", [*spool, "--url", "amqp://h/", "\x1b[2J"], 2), ("help", ["--help"], 0)):
+        ended, output, error = answer(program, words)
+        assert ended == status, what
+        assert "cadf-listen" in (output if what == "help" else error), what
+        assert "\x1b" not in error, what
+    program.amqp = None
+    ended, _, error = answer(program, [*spool, "--url", "rabbit://h/"])
+    assert (ended, error) == (3, "cadf-listen: needs the library amqp: apt install python3-kombu\n")
+    assert not (tmp_path / "none").exists()
+
+
+def test_urls(program):
+    """The hosts of a URL, as oslo.messaging has it: each with its own credentials, all texts percent-encoded."""
+    for url, is_tls, wanted in (
+            ("rabbit://u:p@h:1/", False, [("u", "p", "h", 1, "/", False)]), ("rabbit://h", False, [("guest", "", "h", 5672, "/", False)]),
+            ("rabbit://u:p%2F%40%3A@h1:1,v:q@h2/a%20b?x=y", False, [("u", "p/@:", "h1", 1, "a b", False), ("v", "q", "h2", 5672, "a b", False)]),
+            ("amqp://u:a@b@[::1]:7/%2Fx\n", False, [("u", "a@b", "::1", 7, "/x", False)]), ("amqps://u:p@h/", False, [("u", "p", "h", 5671, "/", True)]),
+            ("rabbit://u:p@h/", True, [("u", "p", "h", 5671, "/", True)])):
+        hosts = program.hosts_of(url, "authority" if is_tls else None)
+        assert [(host.user, host.password, host.name, host.port, host.virtual_host, host.is_tls) for host in hosts] == wanted, url
+
+
+def test_recovery(program, tmp_path):
+    """What a killed listener left: the whole lines become a file, the rest another, at whatever byte it was cut off."""
+    text = b'{"a":1}\n{"b":2}\n' + b"x" * 70000 + b"\n" + b"y" * 140000
+    for size in (0, 1, 7, 8, 9, 15, 16, 17, 65535, 65552, 70016, 70017, 70018, 135553, len(text)):
+        folder = str(tmp_path / "left")
+        os.mkdir(folder, 0o700)
+        (tmp_path / "left" / "n.jsonl.part").touch(0o600)
+        (tmp_path / "left" / "n.jsonl.part").write_bytes(text[:size])
+        (tmp_path / "left" / "other.part").write_bytes(b"not a listener's")
+        spool = program.Spool(folder, 1, 1)
+        os.close(spool.own)
+        whole = text.rfind(b"\n", 0, size) + 1
+        held = {name: open(os.path.join(folder, name), "rb").read() for name in os.listdir(folder) if name.startswith("n.")}
+        wanted = dict({"n.jsonl": text[:whole]} if whole else {}, **({"n.jsonl.torn": text[whole:size]} if whole < size else {}))
+        assert held == wanted, "cut at %d" % size
+        assert os.path.exists(os.path.join(folder, "other.part")), "cut at %d" % size
+        shutil.rmtree(folder)
+
+
+def test_files(program, tmp_path):
+    """Names, modes and ends of the files of a spool, and its lock."""
+    before, folder = os.umask(0), str(tmp_path / "files")
+    spool = program.Spool(folder, 20, 1000)
+    for _ in range(3):
+        spool.write([b"a" * 9 + b"\n"])
+        spool.write([b"b" * 9 + b"\n"])
+    spool.write([b"c\n"])
+    os.umask(before)
+    names = sorted(os.listdir(folder))
+    assert [bool(re.fullmatch(r"\d{8}T\d{6}Z-[0-9a-f]{12}\.jsonl", name)) for name in names if name.endswith(".jsonl")] == [True] * 3
+    assert len([name for name in names if name.endswith(".jsonl.part")]) == 1
+    assert {oct(os.stat(os.path.join(folder, name)).st_mode & 0o777) for name in names} == {"0o600"}
+    assert oct(os.stat(folder).st_mode & 0o777) == "0o700"
+    assert refused(program.Spool, folder, 1, 1) == folder + ": another listener has it"
+    spool.seconds = 0
+    spool.finish_if_old()
+    os.close(spool.own)
+    assert ([len(line) for line in lines_of(folder)].count(9), len(glob.glob(folder + "/*.part"))) == (6, 0)
+    assert "absent" in refused(program.Spool, str(tmp_path / "absent" / "x"), 1, 1)
+    file = tmp_path / "file"
+    file.touch()
+    assert "Not a directory" in refused(program.Spool, str(file), 1, 1)
+
+
+def as_user(user, call, *words):
+    """What a call gives as that user, without groups, or as this one where this isn't root."""
+    read, write = os.pipe()
+    child = os.fork()
+    if child == 0:
+        try:
+            if os.geteuid() == 0:
+                os.setgroups([])
+                os.setgid(user)
+                os.setuid(user)
+            os.write(write, str(call(*words)).encode())
+        finally:
+            os._exit(0)
+    os.close(write)
+    os.waitpid(child, 0)
+    with open(read, "rb") as told:
+        return told.read().decode()
+
+
+def plant(folder, planter):
+    """Puts into a folder what has the name of a listener's unfinished file, or of a lock, and is none. Returns the names."""
+    def put():
+        os.umask(0)
+        os.mkdir("folder.jsonl.part")
+        os.mkfifo("pipe.jsonl.part")
+        os.mkfifo(".listen.lock")
+        os.symlink("/dev/null", "link.jsonl.part")
+        for name in ("many.jsonl.part", "north.jsonl.part"):
+            with open(name, "wb") as file:
+                file.write(b"line 1\nline 2, not yet wh")
+        os.link("many.jsonl.part", "many")
+
+    here = os.open(".", os.O_RDONLY)
+    os.chdir(folder)
+    as_user(planter, put)
+    os.fchdir(here)
+    os.close(here)
+    return sorted(os.listdir(folder))
+
+
+def test_own_folder(program, tmp_path):
+    """A folder that others may use is refused, and what they put there stays. What was planted before is passed over."""
+    for mode in (0o1730, 0o1777, 0o755, 0o710, 0o701, 0o4777):
+        folder = str(tmp_path / ("mode-%o" % mode))
+        os.mkdir(folder)
+        os.chmod(folder, mode)
+        names = plant(folder, os.geteuid())
+        assert sorted(os.listdir(folder)) == names, "mode %o" % mode
+        assert len(names) == 7, "mode %o" % mode
+        assert os.path.getsize(os.path.join(folder, "north.jsonl.part")) == 25, "mode %o" % mode
+        assert "%s: others may use it: " % folder in refused(program.Spool, folder, 1, 1), "mode %o" % mode
+    right, program.is_own = program.is_own, lambda found: True
+    assert refused(program.Spool, folder, 1, 1) == "not refused"
+    assert "north.jsonl.part" not in os.listdir(folder)
+    program.is_own = right
+    folder, said = str(tmp_path / "planted"), program.lines
+    os.mkdir(folder, 0o700)
+    os.chmod(folder, 0o1777)
+    names = plant(folder, ANOTHER)
+    os.chmod(folder, 0o700)
+    said.clear()
+    spool = program.Spool(folder, 1, 1)
+    spool.write([b"x\n"])
+    os.close(spool.own)
+    assert lines_of(folder) == [b"x"]
+    assert set(names) - set(os.listdir(folder)) == set()
+    assert len(said) == 6
+    assert [line for line in said[:5] if "passed over" not in line] == []
+
+
+@pytest.mark.root
+def test_folder_of_another(program, tmp_path):
+    folder = str(tmp_path / "another's")
+    os.mkdir(folder, 0o700)
+    os.chown(folder, ANOTHER, ANOTHER)
+    assert "others may use it" in refused(program.Spool, folder, 1, 1)
+
+
+def frames_of(tag, *pieces):
+    """The frames of a message whose body comes in pieces, by kinds, as AMQP has them."""
+    yield 1, 1, struct.pack(">HHB", 60, 60, 3) + b"tag" + struct.pack(">Q", tag)
+    yield 2, 1, struct.pack(">HHQ", 60, 0, sum(map(len, pieces)))
+    yield from ((3, 1, piece) for piece in pieces)
+
+
+def test_deliveries(program):
+    """A batch that ends while a message comes: what is to be acknowledged is the last message that is whole."""
+    program.frame_handler = lambda connection, callback: None
+    deliveries = program.Deliveries()
+    handle = deliveries.handler(types.SimpleNamespace(bytes_recv=0), None)
+    states = [(handle(frame), len(deliveries.lines), deliveries.tag)
+              for frame in [*frames_of(7, b"{", b"}"), *frames_of(8, b"[", b"1", b"]"), *frames_of(9), *frames_of(10, b"1")]]
+    assert states == [(False, 0, 0), (False, 0, 0), (False, 0, 0), (True, 1, 7), (False, 1, 7), (False, 1, 7), (False, 1, 7), (False, 1, 7), (True, 2, 8), (False, 2, 8), (True, 3, 9), (False, 3, 9), (False, 3, 9), (True, 4, 10)]
+    assert deliveries.lines == [b"{}\n", b"[1]\n", b'{"base64":""}\n', b"1\n"]
+
+
+def refused(call, *words):
+    """What a fault of the spool says."""
     try:
-        started.start()
-        yield started
-    finally:
-        started.end()
-
-
-@pytest.mark.broker
-@pytest.mark.skipif(broker.missing() is not None, reason="%s isn't there" % broker.missing())
-def test_queue_stays(rabbit, tmp_path):
-    """The queue that it makes holds what comes while no listener is there, also over a restart of the broker."""
-    words = [sys.executable, tool("cadf-listen"), "--spool", tmp_path / "spool", "--url", rabbit.url, "--queue", "own", "--bind", "amq.topic:audit"]
-    subprocess.run([*words, "--until-empty", "0"], check=True, timeout=120)
-    with rabbit.connection() as connection:
-        channel = connection.channel()
-        assert channel.queue_declare("own", durable=True, auto_delete=False).message_count == 0  # refused if it is another
-        channel.confirm_select()
-        channel.basic_publish_confirm(amqp.Message(b"{}", delivery_mode=2), exchange="amq.topic", routing_key="audit")
-    rabbit.stop()
-    rabbit.start()
-    subprocess.run([*words, "--until-empty", "1"], check=True, timeout=120)
-    files = [path for path in (tmp_path / "spool").iterdir() if path.suffix == ".jsonl"]
-    assert [path.read_bytes() for path in files] == [b"{}\n"]
+        call(*words)
+        return "not refused"
+    except Exception as fault:
+        return str(fault) if type(fault).__name__ == "Fault" else "another fault: %r" % fault

@@ -1,166 +1,72 @@
-"""Drives pages of tools/cadf-report in Chromium: hostile texts, filters, keys, choices, printing, contrast, a screen reader's tree.
+"""Pages of tools/cadf-report in Chromium: hostile texts, filters, keys, choices, printing, contrast, a screen reader's tree.
 
-    python3 -m tests.tools.report_page [BINARY]
-
-BINARY is crates/cadf/out/cadf unless given. Where Debian's chromium, chromium-driver and python3-selenium aren't there,
-the script says so, and ends with status 0. `tests/tools/report.py` tries the pages without a browser.
+`tests/tools/test_report.py` tries the pages without a browser.
 """
 import contextlib
 import http.server
 import json
 import os
 import re
-import shutil
-import subprocess
-import sys
-import tempfile
 import threading
 import time
 
-from tests import TOP
-from tests.machine import built
+import pytest
+
+from tests.tools.conftest import Tried
 from tests.tools.odd_logs import ALERT, EVENT, attempts, heavy, hostile, hostile_event, plain, told_otherwise
 
-SYSTEM = "/usr/bin/python3"  # where Debian's packages are
+pytestmark = [pytest.mark.browser, pytest.mark.xdist_group("browser"), pytest.mark.timeout(600)]
+
 SHADOWS = re.compile(r"\\u003c")
 POLICY = re.compile('<meta http-equiv="Content-Security-Policy"[^>]*>')
 GUARDED = "window.navigation"
 
 
-def skip_or_import():
-    """Imports selenium; where it isn't there, says so and ends, or goes on with the system's Python."""
-    for name in ("chromium", "chromedriver"):
-        if not shutil.which(name):
-            print("skipped: %s isn't there (Debian: chromium, chromium-driver, python3-selenium)" % name)
-            sys.exit(0)
-    try:
-        from selenium import webdriver
-        return webdriver
-    except ImportError:
-        if os.path.realpath(sys.executable) == os.path.realpath(SYSTEM) or not os.path.exists(SYSTEM):
-            print("skipped: selenium isn't there (Debian: python3-selenium)")
-            sys.exit(0)
-        os.execv(SYSTEM, [SYSTEM, "-m", __spec__.name, *sys.argv[1:]])
+@pytest.fixture(scope="module")
+def hostile_page(place):
+    """The page of a hostile log, whose replica file is beside it."""
+    joined = place.file("hostile.cadf", place.run("cadf", "join", place.file("hostile.json", hostile())))
+    return place.page("hostile", joined)
 
 
-class Place:
-    """A folder with files, and the commands that read them."""
-
-    def __init__(self, cadf, folder):
-        self.folder, self.environment = folder, dict(os.environ, CADF=cadf, PATH=os.path.join(TOP, "tools") + os.pathsep + os.environ["PATH"])
-        self.cadf = cadf
-
-    def path(self, name):
-        return os.path.join(self.folder, name)
-
-    def file(self, name, content):
-        with open(self.path(name), "wb") as file:
-            file.write(content if isinstance(content, bytes) else json.dumps(content).encode())
-        return self.path(name)
-
-    def run(self, *words, **options):
-        """What a command writes; `cadf` is the one that is tried."""
-        words = [self.cadf if words[0] == "cadf" else words[0], *words[1:]]
-        return subprocess.run(words, check=True, stdout=subprocess.PIPE, env=self.environment, cwd=self.folder, **options).stdout
-
-    def page(self, name, *words):
-        return self.file(name + ".html", self.run("cadf-report", *words))
+@pytest.fixture(scope="module")
+def plain_page(place):
+    return place.page("plain", place.file("plain.json", plain(1500)))
 
 
-class Tried:
-    """A page in a browser, and what was seen."""
-
-    def __init__(self, driver, path):
-        self.driver = driver
-        self.logs()
-        driver.get("file://" + path)
-
-    def ready(self):
-        assert self.js("return document.documentElement.dataset.ready"), self.driver.get_log("browser")
-        return self
-
-    def logs(self):
-        """What the console said since the last call, and what was asked for and not stopped by the page's policy."""
-        told = [each["message"] for each in self.driver.get_log("browser")]
-        seen = [json.loads(each["message"])["message"] for each in self.driver.get_log("performance")]
-        stopped = {each["params"]["requestId"] for each in seen if each["method"] == "Network.loadingFailed" and each["params"].get("blockedReason") == "csp"}
-        asked = [each["params"] for each in seen if each["method"] == "Network.requestWillBeSent"]
-        return told, [each["request"]["url"] for each in asked if each["requestId"] not in stopped]
-
-    def js(self, script, *words):
-        return self.driver.execute_script(script, *words)
-
-    def all(self, selector):
-        return self.driver.find_elements("css selector", selector)
-
-    def one(self, selector):
-        return self.driver.find_element("css selector", selector)
-
-    def texts(self, selector):
-        return self.js("return [...document.querySelectorAll(arguments[0])].map(each => each.textContent)", selector)
-
-    def show(self, tab):
-        self.js("document.getElementById('tab-' + arguments[0]).click()", tab)
-
-    def until(self, what, script, *words):
-        for _ in range(200):
-            if self.js(script, *words):
-                return
-            time.sleep(0.05)
-        raise AssertionError("not within ten seconds: " + what)
-
-    def type(self, selector, text):
-        """Types into a field, and waits until the page has taken it."""
-        self.js("delete document.body.dataset.taken")
-        self.one(selector).send_keys(text)
-        time.sleep(0.25)
-
-    def open_all(self):
-        """Opens all that can be opened, in every view, page after page."""
-        for tab in self.texts("[role=tab]"):
-            self.js("[...document.querySelectorAll('[role=tab]')].find(tab => tab.textContent === arguments[0]).click()", tab)
-            more = True
-            while more:
-                more = self.js("document.querySelectorAll('[role=tabpanel]:not([hidden]) .opener[aria-expanded=false]').forEach(each => each.click());"
-                               "document.querySelectorAll('[role=tabpanel]:not([hidden]) details').forEach(each => { each.open = true; });"
-                               "const next = [...document.querySelectorAll('[role=tabpanel]:not([hidden]) > .pages [aria-label=\"Next page\"]')].find(each => !each.disabled);"
-                               "if (next) next.click(); return Boolean(next);")
-                time.sleep(0.1)
-
-    def is_quiet(self):
-        """Demands that nothing of the data ran, nothing was asked of a network, and the console is empty."""
-        assert self.js("return window.pwned") is None
-        assert self.js("return document.scripts.length") == 2
-        assert not self.all("img, iframe, object, embed, link, base, form, a[href]:not(.skip), svg a, foreignObject")
-        assert not self.js("return [...document.querySelectorAll('*')].filter(e => [...e.attributes].some(a => a.name.startsWith('on'))).length")
-        told, asked = self.logs()
-        assert all(url.startswith("file://") for url in asked) and len(asked) <= 1, asked
-        assert not told, told
-
-    def listed(self):
-        """How many events pass the filters, as the page says it."""
-        said = self.texts("#panel-events .where")[0]
-        return 0 if said == "none" else int(said.split(" of ")[1].replace(",", ""))
+@pytest.fixture(scope="module")
+def both(place):
+    """The replica file of two sites that tell events otherwise, beside its page."""
+    for name, document in zip(("north.json", "south.json"), told_otherwise(30)):
+        place.file(name, document)
+    place.page("both", place.file("both", place.run("cadf", "join", "north.json", "south.json")))
+    return place.path("both")
 
 
-def browser(webdriver, folder):
-    """Starts Chromium without a window; what is saved goes into the folder."""
-    from selenium.webdriver.chrome.service import Service
-    options = webdriver.ChromeOptions()
-    options.binary_location = shutil.which("chromium")
-    for word in ("--headless=new", "--no-sandbox", "--disable-gpu", "--window-size=1440,1000", "--user-data-dir=" + os.path.join(folder, "profile")):
-        options.add_argument(word)
-    options.set_capability("goog:loggingPrefs", {"browser": "ALL", "performance": "ALL"})
-    driver = webdriver.Chrome(service=Service(shutil.which("chromedriver")), options=options)
-    driver.execute_cdp_cmd("Browser.setDownloadBehavior", {"behavior": "allow", "downloadPath": folder})
-    return driver
+@pytest.fixture(scope="module")
+def rulings(place, both):
+    """The rulings for the second value of the first conflict, and for the first of each other."""
+    listed = place.run("bash", "-c", "cadf-conflicts both || [ $? = 5 ]").decode().splitlines(keepends=True)
+    chosen = [line for line in listed if re.match(r'E "(?:c00" 2|(?!c00)[^"]*" 1) ', line)]
+    place.file("chosen", "".join(chosen).encode())
+    return place.file("rulings", place.run("cadf-conflicts", "--rule", "chosen", "both"))
+
+
+@pytest.fixture(scope="module")
+def ruled_page(place, both, rulings):
+    return place.page("ruled", place.file("ruled", place.run("cadf", "join", both, rulings)))
+
+
+@pytest.fixture(scope="module")
+def sites_page(place, both):
+    return place.page("sites", "--against", "south.json", "north.json")
+
 
 # ---- Hostile texts
 
-def try_hostile(place, driver):
+def test_hostile(place, driver, hostile_page):
     """Opens everything of a hostile log: it is shown, and harms nothing; a click can't turn it into elements."""
-    joined = place.file("hostile.cadf", place.run("cadf", "join", place.file("hostile.json", hostile())))
-    tried = Tried(driver, place.page("hostile", joined)).ready()
+    tried = Tried(driver, hostile_page).ready()
     tried.one("#prove").click()
     tried.until("digests", "return document.getElementById('proved').textContent.startsWith('\\u2713')")
     tried.open_all()
@@ -174,15 +80,15 @@ def try_hostile(place, driver):
     assert tried.js("try { document.body.innerHTML = 'x'; return 'open' } catch (fault) { return fault.name }") == "TypeError"
     tried.show("events")
     tried.js("[...document.querySelectorAll('#outcomes label')].find(each => each.textContent.includes('contested')).click()")
-    shown = len(json.loads(place.run("cadf", "show", joined))["events"])
-    listed = json.loads(place.run("cadf", "show", "--conflicts", joined))["conflicts"]
+    shown = len(json.loads(place.run("cadf", "show", "hostile.cadf"))["events"])
+    listed = json.loads(place.run("cadf", "show", "--conflicts", "hostile.cadf"))["conflicts"]
     wanted = shown + sum(len(each["values"]) for each in listed if each["kind"] == "E")
     assert tried.listed() == wanted, (tried.listed(), wanted)
 
 
-def try_policy_alone(place, driver):
+def test_policy_alone(place, driver, hostile_page):
     """With the escape taken out the data's script ends the block and stands in the page: the policy alone refuses it."""
-    with open(place.path("hostile.html"), encoding="utf-8") as file:
+    with open(hostile_page, encoding="utf-8") as file:
         page = file.read()
     assert SHADOWS.search(page)
     tried = Tried(driver, place.file("open.html", SHADOWS.sub("<", page).encode()))
@@ -224,7 +130,7 @@ def attempted(driver, path, made):
     return absent, pwned
 
 
-def try_attempts(place, driver):
+def test_attempts(place, driver):
     """Each way to run a script, to load or to send: a page makes nothing of it. With the escape taken out it does, and the
     policy alone refuses it. With the policy taken out too it works: it is an attempt."""
     with listening() as (address, asked):
@@ -239,7 +145,7 @@ def try_attempts(place, driver):
         wanted = {path for text, _ in made.values() for path in re.findall(address + "(/[a-z]+)", text)}
         missing = wanted - {re.match("/[a-z]+", path)[0] for path in asked}
         assert pwned == 1 and not missing, (pwned, missing)
-        try_leaving(place, driver, refresh, asked)
+        leaves(place, driver, refresh, asked)
 
 
 def harmless(place, driver, name, texts):
@@ -252,7 +158,7 @@ def harmless(place, driver, name, texts):
         return SHADOWS.sub("<", file.read())
 
 
-def try_leaving(place, driver, text, asked):
+def leaves(place, driver, text, asked):
     """No policy forbids a text that is an element to leave the page for an address: the page's own script does."""
     asked.clear()
     page = harmless(place, driver, "leaving", [text])
@@ -265,11 +171,10 @@ def try_leaving(place, driver, text, asked):
 
 # ---- Events
 
-def try_filters(place, driver):
-    """Compares each filter, each order and each pair with what Python counts."""
-    log = plain(1500)
-    events = log["events"]
-    tried = Tried(driver, place.page("plain", place.file("plain.json", log))).ready()
+def test_filters(driver, plain_page):
+    """Compares each filter and each order with what Python counts."""
+    events = plain(1500)["events"]
+    tried = Tried(driver, plain_page).ready()
     count = lambda test: sum(map(test, events))
     assert tried.listed() == len(events)
     tries = [("#search", "k3", lambda e: e["tags"] == ["k3"]), ("#search", "ONLYHERE", lambda e: "onlyhere" in e),
@@ -292,14 +197,13 @@ def try_filters(place, driver):
             tried.one("th[data-sort=%s] button" % name).click()
             first = tried.texts("tr.event td:nth-child(%d)" % column)[0].split()[-1].lstrip("\u2715\u2026?\u2713")
             assert first == least(each[key] for each in events), (name, first)
-    try_drag(tried, driver, len(events))
-    try_pairs(tried, events)
     tried.is_quiet()
 
 
-def try_drag(tried, driver, count):
+def test_drag(driver, plain_page):
     """Drags over the timeline: a part is selected, and Escape selects all."""
     from selenium.webdriver.common.action_chains import ActionChains
+    tried, count = Tried(driver, plain_page).ready(), 1500
     ActionChains(driver).move_to_element_with_offset(tried.one("#histogram"), -200, 0).click_and_hold().move_by_offset(150, 0).release().perform()
     dragged = tried.listed()
     assert 0 < dragged < count, dragged
@@ -307,8 +211,10 @@ def try_drag(tried, driver, count):
     assert tried.listed() == count
 
 
-def try_pairs(tried, events):
+def test_pairs(driver, plain_page):
     """The pairs are as counted, either way round, and each cell leads to its events."""
+    events = plain(1500)["events"]
+    tried = Tried(driver, plain_page).ready()
     tried.show("pairs")
     pairs = {}
     for each in events:
@@ -345,9 +251,9 @@ def added(pairs, initiator, target):
     return sum(failed for failed, _ in found), sum(every for _, every in found)
 
 
-def try_keys(place, driver):
+def test_keys(driver, plain_page):
     """Walks the page by keys alone: each control can be reached, and does what it says."""
-    tried = Tried(driver, place.path("plain.html")).ready()
+    tried = Tried(driver, plain_page).ready()
     box = tried.one("#histogram")
     box.send_keys("\ue014")
     one, said = tried.listed(), box.get_attribute("aria-valuetext")
@@ -364,16 +270,16 @@ def try_keys(place, driver):
     for _ in range(2):
         tried.one("[data-sort=time] button").send_keys("\ue007")
     assert len(tried.all(".opened pre")) == 1, "what was opened is open when it comes into view again"
-    reached, tried = set(), Tried(driver, place.path("plain.html")).ready()
+    reached, tried = set(), Tried(driver, plain_page).ready()
     for _ in range(40):
         driver.switch_to.active_element.send_keys("\ue004")
         reached.add(tried.js("const e = document.activeElement; return e.id || e.closest('[id]')?.id"))
     assert {"prove", "outcomes", "from", "until", "zoom", "whole", "histogram", "tab-events", "search", "clear", "panel-events"} <= reached, reached
 
 
-def try_printing(place, driver):
+def test_printing(driver, plain_page):
     """A print has all events that pass the filters, and not a page of them; after it there is a page again."""
-    tried = Tried(driver, place.path("plain.html")).ready()
+    tried = Tried(driver, plain_page).ready()
     tried.one("#outcomes button").click()
     wanted = tried.listed()
     assert wanted > 200 and len(tried.all("tr.event")) == 100
@@ -385,12 +291,9 @@ def try_printing(place, driver):
 
 # ---- Conflicts
 
-def try_choices(place, driver):
+def test_choices(place, driver, both, rulings):
     """Chooses values in many conflicts at once, saves them, and makes of them the rulings that the log then shows."""
-    for name, document in zip(("north.json", "south.json"), told_otherwise(30)):
-        place.file(name, document)
-    both = place.file("both", place.run("cadf", "join", "north.json", "south.json"))
-    tried = Tried(driver, place.page("both", "both")).ready()
+    tried = Tried(driver, both + ".html").ready()
     tried.show("conflicts")
     assert "30 events differ in outcome" in " ".join(tried.texts(".patterns button")), tried.texts(".patterns button")
     options = tried.texts("select option")
@@ -405,18 +308,17 @@ def try_choices(place, driver):
         if os.path.exists(place.path("choices.txt")):
             break
         time.sleep(0.05)
-    place.file("rulings", place.run("cadf-conflicts", "--rule", "choices.txt", "both"))
-    place.file("ruled", place.run("cadf", "join", "both", "rulings"))
+    made = place.run("cadf-conflicts", "--rule", "choices.txt", "both")
+    with open(rulings, "rb") as file:
+        assert made == file.read()
+    tried.is_quiet()
+
+
+def test_ruled_page(place, driver, ruled_page):
+    """The page of what was ruled shows it: which value, what it does, and no choice there, since a second ruling unsettles."""
     shown = [event["outcome"] for event in json.loads(place.run("cadf", "show", "ruled"))["events"] if event["id"] != "both"]
     assert shown == ["success"] + ["failure"] * 29, shown  # by the bytes of their texts `failure` comes first
-    tried.is_quiet()
-    try_ruled_page(place, driver)
-    return both
-
-
-def try_ruled_page(place, driver):
-    """The page of what was ruled shows it: which value, what it does, and no choice there, since a second ruling unsettles."""
-    tried = Tried(driver, place.page("ruled", "ruled")).ready()
+    tried = Tried(driver, ruled_page).ready()
     assert tried.texts("#open") == ["1"]
     tried.show("conflicts")
     heads = tried.js("return [...document.querySelectorAll('article')].slice(0, 2).map(card => [...card.querySelectorAll('.compare')[0].querySelectorAll('thead th')].map(each => each.textContent))")
@@ -429,9 +331,9 @@ def try_ruled_page(place, driver):
     tried.is_quiet()
 
 
-def try_commands(place, driver):
+def test_commands(place, driver, hostile_page):
     """Each line of a hostile log's conflicts, alone and in a file, is taken by cadf-conflicts, from dash and from bash."""
-    tried = Tried(driver, place.path("hostile.html")).ready()
+    tried = Tried(driver, hostile_page).ready()
     tried.show("conflicts")
     found, more = [], True
     while more:
@@ -451,9 +353,9 @@ def try_commands(place, driver):
     assert not os.path.exists(place.path("pwned"))
 
 
-def try_two_sites(place, driver):
+def test_two_sites(place, driver, sites_page):
     """The view of two sites counts what each lacks by kind, and lists it."""
-    tried = Tried(driver, place.page("sites", "--against", "south.json", "north.json")).ready()
+    tried = Tried(driver, sites_page).ready()
     tried.show("sites")
     rows = tried.js("return [...document.querySelectorAll('.counts-of tbody tr')].map(row => [...row.cells].map(cell => cell.textContent))")
     assert rows == [["all facts", "61", "61"], ["events", "30", "30"], ["resources", "1", "1"], ["chains", "30", "30"]], rows
@@ -483,9 +385,9 @@ return [...found];
 """
 
 
-def try_looks(place, driver):
+def test_looks(driver, hostile_page, ruled_page, sites_page):
     """Each text has a contrast of 4.5 to 1 in both colour schemes; at twice the size, and on a narrow window, nothing is cut off."""
-    pages = [place.path("hostile.html"), place.path("ruled.html"), place.path("sites.html")]
+    pages = [hostile_page, ruled_page, sites_page]
     for scheme in ("light", "dark"):
         driver.execute_cdp_cmd("Emulation.setEmulatedMedia", {"features": [{"name": "prefers-color-scheme", "value": scheme}]})
         for path in pages:
@@ -496,16 +398,16 @@ def try_looks(place, driver):
                 assert tried.js(CONTRAST) == [], (scheme, path, tried.js(CONTRAST))
     for width, scale in ((720, 2), (360, 2)):
         driver.execute_cdp_cmd("Emulation.setDeviceMetricsOverride", {"width": width, "height": 500, "deviceScaleFactor": scale, "mobile": False})
-        tried = Tried(driver, place.path("ruled.html")).ready()
+        tried = Tried(driver, ruled_page).ready()
         for tab in tried.all("[role=tab]"):
             tab.click()
             assert tried.js("return document.documentElement.scrollWidth <= innerWidth"), (width, tab.text)
     driver.execute_cdp_cmd("Emulation.clearDeviceMetricsOverride", {})
 
 
-def try_tree(place, driver):
+def test_tree(driver, both):
     """The tree that a screen reader is given has a role and a name for all that can be used, and for the views."""
-    tried = Tried(driver, place.path("both.html")).ready()
+    tried = Tried(driver, both + ".html").ready()
     wanted = {("slider", "Range of time"), ("tablist", "Views"), ("searchbox", "Search all texts and member names"), ("table", ""),
               ("columnheader", "Time (UTC)"), ("checkbox", "failure"), ("group", "Outcomes shown"), ("navigation", "Pages"), ("heading", "g"),
               ("banner", ""), ("main", ""), ("tab", "Conflicts"), ("tabpanel", "Events"), ("textbox", "from"), ("combobox", "Filter by Action")}
@@ -526,7 +428,7 @@ def tree(driver):
     return [(node["role"]["value"], node.get("name", {}).get("value", "")) for node in nodes if not node.get("ignored")]
 
 
-def try_small(place, driver):
+def test_small(place, driver):
     """Logs with nothing of a kind: each view opens, and says that there is nothing."""
     logs = {"empty": {"id": "g", "events": []}, "one": {"id": "g", "events": [dict(EVENT, id="e")]},
             "contested": {"id": "g", "events": [dict(EVENT, id="e", name=name) for name in "ab"]},
@@ -543,7 +445,7 @@ def try_small(place, driver):
         tried.is_quiet()
 
 
-def try_heavy(place, driver):
+def test_heavy(place, driver):
     """No single event or conflict makes the page slow: each step takes less than a second and a half of a processor."""
     tried = Tried(driver, place.page("heavy", place.file("heavy.json", heavy()))).ready()
     driver.execute_cdp_cmd("Performance.enable", {"timeDomain": "threadTicks"})
@@ -570,24 +472,3 @@ def worked(driver):
     """The seconds of a processor that the page has taken so far."""
     metrics = driver.execute_cdp_cmd("Performance.getMetrics", {})["metrics"]
     return next(each["value"] for each in metrics if each["name"] == "TaskDuration")
-
-
-def main():
-    webdriver = skip_or_import()
-    tries = [try_hostile, try_policy_alone, try_attempts, try_filters, try_keys, try_printing, try_choices, try_commands, try_two_sites, try_looks, try_tree, try_small, try_heavy]
-    with tempfile.TemporaryDirectory() as folder:
-        place = Place(os.path.abspath(sys.argv[1]) if len(sys.argv) > 1 else built("cadf"), folder)
-        driver = browser(webdriver, folder)
-        try:
-            for each in tries:
-                begun = time.monotonic()
-                each(place, driver)
-                if os.environ.get("TIMES"):
-                    print("%s %.1f s" % (each.__name__, time.monotonic() - begun), flush=True)
-        finally:
-            driver.quit()
-    print("report-page: %d tries in Chromium %s" % (len(tries), driver.capabilities["browserVersion"]))
-
-
-if __name__ == "__main__":
-    main()

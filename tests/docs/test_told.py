@@ -1,0 +1,81 @@
+"""What the pages say in numbers: exit statuses, limits and defaults are those that the tests and the programs have."""
+import os
+import re
+import subprocess
+
+import pytest
+
+from tests import TOP
+from tests.command import test_statuses
+from tests.reference import events, json_text, sketch_files
+
+TOOLS = sorted(name for name in os.listdir(os.path.join(TOP, "tools")) if name.startswith("cadf-"))
+UNITS = {"MiB": 2 ** 20, "KiB": 2 ** 10}
+
+
+def page(*names):
+    with open(os.path.join(TOP, *names), encoding="utf-8") as file:
+        return file.read()
+
+
+def told():
+    """What FORMATS says of the command's refusals: each text, or how it begins, with its status."""
+    table = page("docs", "FORMATS.md").split("\n| Line | Status |\n")[1].split("\n\n")[0]
+    for texts, status in re.findall(r"(?m)^\| ((?:`[^`]*`(?:, )?)+).*\| (\d) \|$", table):
+        for text in re.findall("`([^`]*)`", texts):
+            yield text, int(status)
+
+
+def statuses(fault):
+    """The statuses that FORMATS has for a refusal: by its whole text, or else by how it begins."""
+    patterns = [(re.compile(re.sub(r"\bN\b", r"\\d+", text)), status, text.endswith(" ")) for text, status in told()]
+    whole = {status for pattern, status, is_begun in patterns if not is_begun and pattern.fullmatch(fault)}
+    return whole or {status for pattern, status, is_begun in patterns if is_begun and pattern.match(fault)}
+
+
+@pytest.mark.parametrize("status, fault", sorted({(status, fault) for _, status, fault in test_statuses.ENDS if status}))
+def test_status(status, fault):
+    """FORMATS has each text that tests/command/test_statuses.py wants of the program, with its status."""
+    assert statuses(fault) == {status}
+
+
+def test_statuses_of_readme():
+    found = {name: status for _, status, name in test_statuses.ENDS}
+    line = "Exit status: 0 written, %d input refused, %d command line refused, %d read or write failed, 4 out of memory." % (
+        found["input 1: not JSON"], found["cells"], found["input 1: read fault"])
+    assert line in page("README.md") and statuses("out of memory") == {4}
+
+
+@pytest.mark.parametrize("name, text", [
+    ("docs/FORMATS.md", "Lists and objects nest at most %d" % json_text.DEEPEST), ("docs/FORMATS.md", "**Nesting** above %d is refused" % json_text.DEEPEST),
+    ("docs/FORMATS.md", "lists of at most %d steps" % events.LONGEST_CHAIN), ("docs/FORMATS.md", "multiple of 3 from 3 to {:,}".format(sketch_files.MOST_CELLS)),
+    ("README.md", "1 to {:,} bytes without control characters".format(events.LONGEST_NAME)), ("README.md", "at most %d steps" % events.LONGEST_CHAIN),
+    ("README.md", "nest at most %d deep" % events.DEEPEST_PART),
+])
+def test_limit(name, text):
+    """The pages have the limits at which the second implementation refuses, which the rows try on both sides."""
+    assert text in page(name).replace("\n", " ")
+
+
+def number(text):
+    """A number of a page: `64 MiB`, `2^30`, `1,000`."""
+    digits, _, unit = text.partition(" ")
+    base, _, power = digits.replace(",", "").partition("^")
+    return int(base) ** int(power or 1) * UNITS.get(unit, 1)
+
+
+NUMBER = r"(\d[\d,]*(?:\^\d+)?(?: [MK]iB)?)"
+
+
+@pytest.mark.parametrize("tool", TOOLS)
+def test_defaults(tool):
+    """The manual page has the defaults that a tool tells."""
+    manual = page("share", "man", "man1", "cadf.1").replace("\\-", "-")
+    section = re.split(r"(?m)^\.S[SH] ", manual.split("\n.SS %s\n" % tool)[1])[0]
+    said = subprocess.run([os.path.join(TOP, "tools", tool), "--help"], check=True, stdout=subprocess.PIPE, universal_newlines=True).stdout
+    for block in re.split(r"\n  (?=-)", said)[1:]:
+        default = re.search("default(?:: |, and at most: )" + NUMBER, block)
+        if default:
+            option = re.match(r"--[a-z-]+", block).group()
+            found = {number(each) for item in section.split(".TP\n") if option in item for each in re.findall(NUMBER, item)}
+            assert number(default[1]) in found, option

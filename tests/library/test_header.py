@@ -1,0 +1,107 @@
+"""bindings/c/cadf.h and the package for Python without the library: what they hand on, over one that notes what it is given."""
+import os
+import re
+import subprocess
+import sys
+
+import pytest
+
+from tests import TOP
+from tests.library.bindings import PYTHON, STRICT, declared, exported, text_of
+
+sys.path.insert(0, PYTHON)
+import cadf  # noqa: E402
+
+HEADER = os.path.join(TOP, "bindings", "c")
+# What a value of each kind is in a call, where it is given and where it is NULL, and how the noting library prints it.
+VALUES = {"bool": ("true", "true"), "uint8_t": ("'E'", "'E'"), "uint64_t": ("9", "9"), "uint8_t *": ("buffer", "NULL"), "size_t *": ("&length", "&length")}
+PRINTED = {"bool": ("%d", "{0}"), "uint8_t": ("%d", "{0}"), "uint64_t": ("%d", "(int){0}"), "size_t": ("%d", "(int){0}"), "uint8_t *": ("%d", "{0} != NULL"),
+           "const struct cadf_bytes *": ("%d", "{0}->bytes ? (int){0}->length : -1")}
+INPUT = "const struct cadf_bytes *"
+PROGRAM = '#include "cadf.h"\nint main(void) {\n    struct cadf_bytes two[2] = {cadf_bytes_of("a", 1), cadf_bytes_of("bc", 2)};\n    uint8_t buffer[5]; size_t length;\n%s    return 0;\n}\n'
+
+
+def called(name, kinds, is_given):
+    """A call of the function whose inputs have 1 and 2 bytes, or are NULL, and what the noting library has to print of it."""
+    words, told, inputs = [], [], 0
+    for at, kind in enumerate(kinds):
+        if kind == INPUT:
+            words.append("two + %d" % inputs if is_given else "NULL")
+            told.append(str(inputs + 1 if is_given else 0))
+            inputs += 1
+        elif kind == "size_t":  # the number of the inputs before it, or the room of the output before it
+            is_count = kinds[at - 1] == INPUT
+            words.append("2" if is_count else "5")
+            told.append(("2" if is_count else "5") if is_given else "0")
+        else:
+            words.append(VALUES[kind][not is_given])
+            told.append({"bool": "1", "uint8_t": str(ord("E")), "uint64_t": "9", "uint8_t *": "1"}.get(kind, ""))
+    return "    %s(%s);\n" % (name, ", ".join(words)), " ".join([name, *filter(None, told)])
+
+
+def noting():
+    """A library that prints what each function is given. A macro of a function's name is left out by the parentheses."""
+    made = '#include <stdio.h>\n#include "cadf.h"\nuint32_t cadf_version(void) { return 0; }\n'
+    for name, kinds, _ in declared():
+        words = [(kind, "a%d" % at) for at, kind in enumerate(kinds)]
+        shown = [(PRINTED[kind][0], PRINTED[kind][1].format(word)) for kind, word in words if kind in PRINTED]
+        if words:
+            made += 'int (%s)(%s) {\n    printf("%s %s\\n", %s);\n    *%s = 0;\n    return 0;\n}\n' % (
+                name, ", ".join("%s %s" % pair for pair in words), name, " ".join(form for form, _ in shown), ", ".join(value for _, value in shown), words[-1][1])
+    return made
+
+
+@pytest.mark.needs("gcc")
+@pytest.mark.parametrize("language, words", [("c", STRICT), ("c++", ["-std=c++11", "-Wall", "-Wextra", "-Werror"])])
+def test_wrappers(tmp_path, language, words):
+    """In C and in C++ each function takes NULL for what is nothing, and hands all else on in its order."""
+    if language == "c++" and subprocess.run(["gcc", "-x", "c++", "-fsyntax-only", os.devnull], stderr=subprocess.DEVNULL).returncode:
+        pytest.skip("gcc has no C++ here (Debian: g++)")
+    calls = [called(name, kinds, is_given) for name, kinds, _ in declared() if kinds for is_given in (True, False)]
+    (tmp_path / "main").write_text(PROGRAM % "".join(call for call, _ in calls))
+    (tmp_path / "noting.c").write_text(noting())
+    for command in (["gcc", *STRICT, "-c", "noting.c", "-I", HEADER], ["gcc", *words, "-I", HEADER, "-x", language, "main", "-x", "none", "noting.o", "-o", "program"]):
+        done = subprocess.run(command, cwd=tmp_path, stderr=subprocess.PIPE, universal_newlines=True)
+        assert done.returncode == 0, done.stderr
+    said = subprocess.run([tmp_path / "program"], check=True, stdout=subprocess.PIPE, universal_newlines=True).stdout
+    assert said.splitlines() == [told for _, told in calls]
+
+
+def test_names():
+    """The header names its parameters as the crate does, whose `held` is an inventory or a sketch there."""
+    crate, header = text_of("crates", "cadf_c", "src", "lib.rt"), text_of("bindings", "c", "cadf.h")
+    for name, _, _ in exported():
+        words = re.search(r"fn %s\((.*?)\) ->" % name, crate, re.DOTALL).group(1)
+        named = re.findall(r"(\w+): (&\[CadfBytes|&mut \[u8\])?", words)
+        wanted = [each for word, kind in named if word != "alloc" for each in (word, {"&[CadfBytes": "count", "&mut [u8]": "room"}.get(kind)) if each]
+        found = re.search(r"(?m)^\w+ %s\(([^)]*)\);" % name, header).group(1)
+        found = [] if found == "void" else [re.search(r"(\w+)$", word.strip()).group(1) for word in found.split(",")]
+        assert [("held" if word in ("inventory", "sketch") else word) for word in found] == wanted, name
+
+
+def test_statuses():
+    """The statuses are those that docs/FORMATS.md has for the command."""
+    found = dict(re.findall(r"CADF_(\w+) = (\d)", text_of("bindings", "c", "cadf.h")))
+    assert found == {"WRITTEN": "0", "INPUT_REFUSED": "1", "ARGUMENT_REFUSED": "2", "OUT_OF_MEMORY": "4"}
+
+
+@pytest.mark.parametrize("value, wanted", [
+    (memoryview(b"abcdef")[::2], b"ace"), (memoryview(bytearray(b"abcdef"))[1:3], b"bc"), (bytearray(b"ab"), b"ab"),
+    ("\u00e9", b"\xc3\xa9"), ("\ud800", b"\xed\xa0\x80"), ("README.md", b"README.md"),
+])
+def test_bytes_of_an_input(value, wanted):
+    assert cadf._of(value) == wanted
+
+
+def test_order_in_python(monkeypatch):
+    """The package hands its inputs on in their order."""
+    given = []
+    monkeypatch.setattr(cadf, "_given", lambda text: text)
+    monkeypatch.setattr(cadf, "_call", lambda name, room, *words: given.append((name, words)) or b"")
+    for call in (cadf.missing, cadf.missing_by, cadf.missing_by_sketch):
+        call("a", "b")
+    cadf.rule("E", "k", 7, "v")
+    cadf.rehearse("g", 2, "s")
+    cadf.sketch("v", 3, 1)
+    assert given == [("missing", (b"a", b"b")), ("missing_by", (b"a", b"b")), ("missing_by_sketch", (b"a", b"b")),
+                     ("rule", (ord("E"), b"k", 7, b"v")), ("rehearse", (b"g", 2, b"s")), ("sketch", (3, 1, b"v"))]

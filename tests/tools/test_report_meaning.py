@@ -1,0 +1,194 @@
+"""What a page of tools/cadf-report says, in Chromium: instants, filters, sides, states, places and digests, by values worked here."""
+import json
+import re
+
+import pytest
+
+from tests.reference.events import EVENT_URI
+from tests.tools.conftest import Tried
+from tests.tools.odd_logs import EVENT
+
+pytestmark = [pytest.mark.browser, pytest.mark.xdist_group("browser"), pytest.mark.timeout(600)]
+
+# Events in the order of their instants, each with its time in UTC as the page has to show it.
+TIMES = [("2024-03-01T11:59:59.25+02:00", "2024-03-01 09:59:59.25"), ("2024-03-01T12:00:00.1Z", "2024-03-01 12:00:00.1"),
+         ("2024-03-01T12:00:00.9Z", "2024-03-01 12:00:00.9"), ("2024-03-01T11:29:59.75-02:30", "2024-03-01 13:59:59.75")]
+CONTESTED = "2024-03-01T14:00:00.5+02:00", "2024-03-01 12:00:00.5"  # between the second and the third
+PARTIES = [("a", "z", "s1"), ("b", "y", "s2"), ("c", "x", "s1"), ("d", "w", "s2")]  # initiators rise, targets fall
+HIDDEN = "user\u202egpj\u200b.exe"
+ROWS = "return [...document.querySelectorAll('tr.event')].map(row => [...row.cells].map(cell => cell.innerText.trim()))"
+
+
+def document(**members):
+    events = [dict(EVENT, id="e%d" % at, eventTime=time, initiatorId=initiator, targetId=target, observerId=observer)
+              for at, ((time, _), (initiator, target, observer)) in enumerate(zip(TIMES, PARTIES))]
+    return {"id": "g", "events": events, **members}
+
+
+@pytest.fixture
+def opened(place, driver):
+    """Opens the page of a document."""
+    def made(name, log):
+        return Tried(driver, place.page(name, place.file(name + ".json", log))).ready()
+    return made
+
+
+def shown_times(tried):
+    return [row[0].lstrip("\u25b8").strip() for row in tried.js(ROWS)]
+
+
+def switch_contested(tried):
+    tried.js("[...document.querySelectorAll('#outcomes label')].find(each => each.textContent.includes('contested')).click()")
+
+
+def test_times(opened):
+    """Each time is that of UTC with its own fraction, and contested events stand among the others by their instants."""
+    log = document()
+    log["events"] += [dict(EVENT, id="c", eventTime=CONTESTED[0], name=name) for name in "ab"]
+    tried = opened("times", log)
+    wanted = [shown for _, shown in TIMES]
+    assert shown_times(tried) == wanted
+    assert tried.texts("#span") == ["%s \u2013 %s UTC" % (wanted[0], wanted[-1])]
+    switch_contested(tried)
+    assert shown_times(tried) == wanted[:2] + [CONTESTED[1]] * 2 + wanted[2:]
+
+
+def test_range(opened):
+    """A range has the events from an instant on until before another, by UTC."""
+    tried = opened("range", document())
+    for selector, typed in (("#from", "2024-03-01 12:00:00"), ("#until", "2024-03-01 13:59:59")):
+        tried.one(selector).send_keys(typed, "\ue004")
+    assert shown_times(tried) == [shown for _, shown in TIMES[1:3]]
+
+
+def test_columns(opened):
+    """Each column sorts by its own texts, and filters by them."""
+    tried = opened("columns", document())
+    for at, name in enumerate(("initiator", "target", "observer"), 3):
+        for is_falling in (False, True):
+            tried.one("th[data-sort=%s] button" % name).click()
+            column = [row[at] for row in tried.js(ROWS)]
+            assert column == sorted((row[at - 3] for row in PARTIES), reverse=is_falling), name
+        wanted = PARTIES[1][at - 3]
+        tried.type("[data-filter=%s]" % name, "=" + wanted)
+        assert [row[at] for row in tried.js(ROWS)] == [wanted] * sum(row[at - 3] == wanted for row in PARTIES), name
+        tried.one("#clear").click()
+
+
+def test_rest(opened):
+    """The rest of the log has its properties and entities of each kind."""
+    tried = opened("rest", document(p=1, resources=[{"id": "r"}], geolocations=[{"id": "l"}], metrics=[{"metricId": "m"}]))
+    assert tried.texts("#tab-rest") == ["Rest of the log 4"]
+    tried.show("rest")
+    assert tried.texts("#panel-rest h3") == ["Properties: 1", "Resources: 1", "Geolocations: 1", "Metrics: 1"]
+    assert tried.texts("#panel-rest th") == ["p", "r", "l", "m"]
+
+
+def test_sides(place, driver):
+    """Of two sites it says which lacks what."""
+    place.file("more.json", document())
+    place.file("fewer.json", {**document(), "events": document()["events"][:1]})
+    tried = Tried(driver, place.page("sides", "--against", "more.json", "fewer.json")).ready()
+    tried.show("sites")
+    assert tried.texts(".counts-of thead th") == ["Kind", "These files lack", "The other site lacks"]
+    rows = tried.js("return [...document.querySelectorAll('.counts-of tbody tr')].map(row => [...row.cells].map(cell => cell.textContent))")
+    assert rows == [["all facts", "3", "0"], ["events", "3", "0"]]
+    listed = tried.js("return [...document.querySelectorAll('#panel-sites table:not(.counts-of) tbody tr')].map(row => [...row.cells].slice(0, 3).map(cell => cell.innerText))")
+    assert listed == [["these files lack", "event", "e%d" % at] for at in (1, 2, 3)]
+
+
+@pytest.fixture
+def four(place):
+    """A file in which an event has four values, and another one value."""
+    log = {"id": "g", "events": [dict(EVENT, id="e", severity=str(number)) for number in range(1, 5)] + [dict(EVENT, id="f")]}
+    return place.file("four", place.run("cadf", "join", place.file("four.json", log)))
+
+
+def test_places(place, driver, four):
+    """The values of a key are numbered from 1, in the order of cadf-conflicts, which takes the lines that the page makes."""
+    tried = Tried(driver, place.page("four", four)).ready()
+    tried.show("conflicts")
+    heads = tried.texts("article .compare:first-of-type thead th")
+    assert [head.strip() for head in heads] == ["path", "value 1", "value 2", "value 3", "value 4"]
+    tried.js("document.querySelectorAll('#panel-conflicts details').forEach(each => { each.open = true; })")
+    tried.until("commands", "return document.querySelectorAll('#panel-conflicts .command code').length === 4")
+    listed = place.run("bash", "-c", "cadf-conflicts four || [ $? = 5 ]").decode().splitlines()
+    lines = [re.search("'(E .*?)'", text).group(1) for text in tried.texts("#panel-conflicts .command code")]
+    assert lines == [line for line in listed if line.startswith("E ")]
+
+
+def ruled(place, four, keys):
+    """The page of the file with these rulings more, each of a key and a place, and of a file without the values if one is named."""
+    for number, (key, at) in enumerate(keys):
+        place.file("ruling-%d" % number, place.run("cadf", "rule", "E", key, str(at), four))
+    made = place.file("ruled-states", place.run("cadf", "join", four, *("ruling-%d" % number for number in range(len(keys)))))
+    return place.page("states", made), made
+
+
+@pytest.mark.parametrize("keys, badge, states", [
+    ([], "open", []),
+    ([("e", 2)], "settled by a ruling", ["settles its key: the log shows the value"]),
+    ([("e", 2), ("e", 3)], "rulings disagree: none is shown, for good", ["stands against another ruling of the key: none is shown"] * 2),
+    ([("f", 1)], "open", ["has no effect yet: the key has this value alone"]),
+])
+def test_states(place, driver, four, keys, badge, states):
+    """A conflict's badge and each ruling's line say what rulings do."""
+    page, _ = ruled(place, four, keys)
+    tried = Tried(driver, page).ready()
+    tried.show("conflicts")
+    assert tried.texts("article h3 .badge") == [badge]
+    assert tried.texts("[role=tabpanel]:not([hidden]) > section tbody td:last-child") == states
+
+
+def test_waiting(place, driver, four):
+    """A ruling of a value that isn't held waits for it."""
+    _, made = ruled(place, four, [("e", 2)])
+    alone = place.file("alone", place.run("cadf", "missing", made, four))
+    other = place.file("other.json", {"id": "g", "events": [dict(EVENT, id="e", severity="9")]})
+    tried = Tried(driver, place.page("waiting", place.file("waiting", place.run("cadf", "join", alone, other)))).ready()
+    tried.show("conflicts")
+    assert tried.texts("[role=tabpanel]:not([hidden]) > section tbody td:last-child") == ["waits: no such value is held"]
+
+
+def test_digests(place, driver):
+    """The data of a page prove its two digests, and no other."""
+    path = place.page("proved", place.file("proved.json", document()))
+    for name, sign in ((None, "\u2713 The data in this page make both digests."), ("log", "\u2715 The data"), ("conflict", "\u2715 The data")):
+        with open(path, encoding="utf-8") as file:
+            page = file.read()
+        if name:
+            page = re.sub('(id="%s-digest">)(.)' % name, lambda found: found[1] + ("1" if found[2] == "0" else "0"), page)
+        tried = Tried(driver, place.file("damaged.html", page.encode())).ready()
+        tried.one("#prove").click()
+        tried.until("a verdict", "return /[\\u2713\\u2715]/.test(document.getElementById('proved').textContent)")
+        assert tried.texts("#proved")[0].startswith(sign), name
+
+
+def test_chains(opened):
+    """Of several chains each step is drawn once, and the longest chain alone is marked."""
+    chains = [[{"role": "relay", "reporterId": name} for name in names] for names in ("abc", "abxd", "q")]
+    tried = opened("chains", {"id": "g", "events": [dict(EVENT, id="e", reporterchains=chains)]})
+    tried.one(".opener").click()
+    assert sorted(tried.texts("g.step text:first-of-type")) == sorted("abcxdq")
+    assert sorted(tried.texts("g.step.best text:first-of-type")) == sorted("abxd")
+
+
+def test_copy(opened):
+    """What is copied is the event's text, with each character that can't be seen as an escape."""
+    tried = opened("copied", {"id": "g", "events": [dict(EVENT, id="e", name=HIDDEN)]})
+    tried.one(".opener").click()
+    tried.js("Object.defineProperty(navigator, 'clipboard', {value: {writeText: async text => { window.copied = text; }}})")
+    tried.js("[...document.querySelectorAll('button')].find(each => each.textContent === 'Copy as JSON').click()")
+    copied = tried.js("return window.copied")
+    assert json.loads(copied) == dict(EVENT, id="e", name=HIDDEN, typeURI=EVENT_URI) and copied.isascii()
+
+
+def test_printed(place, driver):
+    """A print says that it has all events, and has them."""
+    log = {"id": "g", "events": [dict(EVENT, id="e%d" % at) for at in range(250)]}
+    tried = Tried(driver, place.page("printed", place.file("printed.json", log))).ready()
+    assert tried.texts("#panel-events .where") == ["1\u2013100 of 250"]
+    tried.js("addEventListener('beforeprint', () => { window.said = document.querySelector('#panel-events .where').textContent; })")
+    driver.execute_cdp_cmd("Page.printToPDF", {})
+    assert tried.js("return window.said") == "1\u2013250 of 250"
+    assert tried.texts("#panel-events .where") == ["1\u2013100 of 250"]
