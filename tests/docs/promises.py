@@ -1,6 +1,7 @@
 """Looks up the public calls, their clauses and the files of definitions that a page of the documentation names.
 
     python3 -m tests.docs.promises [PAGE..]      of PROMISES, ARCHITECTURE and AUDIT, unless pages are given
+    python3 -m tests.docs.promises --write       writes the lengths and the sums of AUDIT anew
 
 A call is named in backticks by its path, `crate::module::call`, or with its clauses, `call (clause, clause)`, or with
 others, `call, call (clause)`. Each such call must stand in the sources, with each of these clauses, where those outside
@@ -121,27 +122,34 @@ def unnamed(text, found):
             yield "no file %s" % path
 
 
+def definition_file(crate, path):
+    with open(os.path.join(TOP, "crates", crate, path), encoding="utf-8") as file:
+        return file.read()
+
+
+def length_of(text):
+    """The lines of definitions, without comments, imports and blanks."""
+    lines = [line.strip() for line in IMPORT.sub("", text).splitlines()]
+    return sum(bool(line) and not line.startswith("--") for line in lines)
+
+
 def audited(names, crate, path, length):
     """What is wrong with a row of a table of definitions, whose file is there."""
-    with open(os.path.join(TOP, "crates", crate, path), encoding="utf-8") as file:
-        text = file.read()
+    text = definition_file(crate, path)
     for name in re.findall(r"`(\w+)`", names):
         if not re.search(r"\bpub (?:record |data )?%s\b" % name, text):
             yield "%s/%s doesn't define %s" % (crate, path, name)
-    lines = [line.strip() for line in IMPORT.sub("", text).splitlines()]
-    count = sum(bool(line) and not line.startswith("--") for line in lines)
-    if count != int(length):
-        yield "%s/%s has %d lines" % (crate, path, count)
+    if length_of(text) != int(length):
+        yield "%s/%s has %d lines" % (crate, path, length_of(text))
 
 
 def unlisted(rows):
     """The files that those of the rows import, and that no row names."""
     listed = {(row[1], row[2]) for row in rows}
     for crate, path in sorted(listed):
-        with open(os.path.join(TOP, "crates", crate, path), encoding="utf-8") as file:
-            for other, module in IMPORTED.findall(file.read()):
-                if (other, module.replace(".", "/") + ".antt") not in listed:
-                    yield "%s/%s imports %s of %s, which is in no table" % (crate, path, module, other)
+        for other, module in IMPORTED.findall(definition_file(crate, path)):
+            if (other, module.replace(".", "/") + ".antt") not in listed:
+                yield "%s/%s imports %s of %s, which is in no table" % (crate, path, module, other)
 
 
 def cited(path):
@@ -174,12 +182,32 @@ def unaudited(text):
         rows = [row for row in AUDITED.findall(section) if os.path.exists(os.path.join(TOP, "crates", *row[1:3]))]
         for row in rows:
             yield from audited(*row)
-        right = (format(sum(int(row[3]) for row in rows), ","), str(len(rows)))
-        if rows and SUM.findall(section) != [right]:
-            yield "the definitions have %s lines in %s files" % right
+        if rows and SUM.findall(section) != [summed(rows)]:
+            yield "the definitions have %s lines in %s files" % summed(rows)
+
+
+def summed(rows):
+    """The sum of the lengths of a table's rows, and how many rows there are."""
+    return format(sum(int(row[3]) for row in rows), ","), str(len(rows))
+
+
+def written(section):
+    """A part of AUDIT with the lengths of its files, and their sum."""
+    section = AUDITED.sub(lambda row: "%s| %d |" % (row[0].rpartition("| %s |" % row[4])[0], length_of(definition_file(row[2], row[3]))), section)
+    rows = AUDITED.findall(section)
+    return SUM.sub("%s lines in %s files" % summed(rows), section) if rows else section
+
+
+def write_lengths(page):
+    with open(page, encoding="utf-8") as file:
+        text = file.read()
+    with open(page, "w", encoding="utf-8") as file:
+        file.write("\n## ".join(map(written, text.split("\n## "))))
 
 
 def main():
+    if sys.argv[1:] == ["--write"]:
+        return write_lengths(PAGES[-1])
     found, missing = clauses(), 0
     found.update((name, set()) for name in os.listdir(os.path.join(TOP, "crates")))
     for page in sys.argv[1:] or PAGES:
@@ -193,9 +221,8 @@ def main():
     for line in [*uncalled(), *("nothing outside %s reaches its law %s" % pair for pair in unreached_laws())]:
         print("check-promises: %s" % line)
         missing += 1
-    if missing:
-        sys.exit("check-promises: %d are missing" % missing)
+    return "check-promises: %d are missing" % missing if missing else None
 
 
 if __name__ == "__main__":
-    main()
+    sys.exit(main())
