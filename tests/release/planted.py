@@ -5,7 +5,7 @@ A row has a name, a file, a text that is in it once, what stands in its place, a
 from typing import NamedTuple
 
 PAGE = "share/cadf/report/"
-CHANGED, INSTALLED, PACKAGES, UNITS = ("tests/package/test_%s" % name for name in ("builds.py -k test_changed", "installed.py", "packages.py", "units.py"))
+CHANGED, INSTALLED, PACKAGES, UNITS = ("tests/package/test_%s.py -k " % name for name in ("builds", "installed", "packages", "units"))
 
 CRASH, TURNS, OPENSTACK, LISTENER, BROKER, COMPARED = (
     "tests/tools/test_%s.py -k " % name for name in ("crash_order", "turns", "from_openstack", "listener", "listener_broker", "compared"))
@@ -24,29 +24,29 @@ class Row(NamedTuple):
 
 ROWS = [
     # ---- What is proved and built
-    Row("build: specs unread", "build/record.py", '("src", "specs", "proofs")', '("src", "proofs")', CHANGED),
-    Row("build: proofs unread", "build/record.py", '("src", "specs", "proofs")', '("src", "specs")', CHANGED),
-    Row("build: crates.txt unread", "build/record.py", "in [[name] for name in names]", "in [[]]", CHANGED),
+    Row("build: specs unread", "build/record.py", '("src", "specs", "proofs")', '("src", "proofs")', CHANGED + "test_changed"),
+    Row("build: proofs unread", "build/record.py", '("src", "specs", "proofs")', '("src", "specs")', CHANGED + "test_changed"),
+    Row("build: crates.txt unread", "build/record.py", "in [[name] for name in names]", "in [[]]", CHANGED + "test_changed"),
     Row("build: kit unread", "build/kept.py", '"kit": self.kit, ', "", "tests/package/test_builds.py -k test_other_kit"),
-    Row("build: crates below unread", "build/kept.py", ", **below}", "}", CHANGED),
+    Row("build: crates below unread", "build/kept.py", ", **below}", "}", CHANGED + "test_changed"),
     Row("build: verdict unread", "build/proving.py", 'if line.startswith("logic=")', "if True", "tests/package/test_recheck.py -k test_what_is_above"),
     # ---- What is installed and packed
-    Row("package: no change log", "install/contents.py", '"README.md", "CHANGELOG.md", ', '"README.md", ', INSTALLED),
-    Row("package: no units", "install/contents.py", "if name not in NOT_INSTALLED]", "if name not in NOT_INSTALLED and 'systemd' not in name]", INSTALLED),
-    Row("package: no sketches", "install/contents.py", "if name not in NOT_INSTALLED]", "if name not in NOT_INSTALLED and '.sketch' not in name]", INSTALLED),
-    Row("package: older C library", "install/package", '"libc6 (>= %s)" % needs.glibc(file.content)', '"libc6 (>= 2.4)"', PACKAGES),
-    Row("package: pages for the owner", "install/deb.py", "    info.uname = info", "    info.mode &= ~(0o022 if place.endswith('.md') else 0)\n    info.uname = info", PACKAGES),
-    Row("install: old files stay", "install/install", "if place not in places])", "if place not in places][:0])", INSTALLED),
-    Row("install: in place", "install/install", '    os.replace(path + ".new", path)', "    __import__('shutil').copy2(path + '.new', path)", INSTALLED),
-    Row("install: removes others' files", "install/install", "            elif not os.listdir(path):\n                os.rmdir(path)", "            else:\n                __import__('shutil').rmtree(path)", INSTALLED),
-    Row("manual: no --cells", "share/man/man1/cadf.1", ".RB [ \\-\\-cells\n.IR N ]\n", "", INSTALLED),
-    Row("manual: no --set-aside", "share/man/man1/cadf.1", ".BI \\-\\-set\\-aside", ".BI \\-\\-aside", INSTALLED),
-    Row("manual: no --until-empty", "share/man/man1/cadf.1", ".BI \\-\\-until\\-empty", ".BI \\-\\-until", INSTALLED),
-    Row("manual: another version", "share/man/man1/cadf.1", '"cadf 0.1.0"', '"cadf 0.2.0"', INSTALLED),
-    Row("unit: another option", "examples/systemd/cadf-spool@.service", "ExecStart=cadf-spool --log %i", "ExecStart=cadf-spool --logs %i", UNITS),
-    Row("unit: no folder to write to", "examples/systemd/cadf-spool@.service", "ReadWritePaths=/var/spool/cadf/%i\n", "", UNITS),
-    Row("unit: little memory", "examples/systemd/cadf-spool@.service", "MemoryMax=5G", "MemoryMax=5M", UNITS),
-    Row("unit: yearly", "examples/systemd/cadf-spool@.timer", "OnCalendar=*:0/5", "OnCalendar=yearly", UNITS),
+    Row("package: no change log", "install/contents.py", '"README.md", "CHANGELOG.md", ', '"README.md", ', INSTALLED + "test_places"),
+    Row("package: no units", "install/contents.py", "if name not in NOT_INSTALLED]", "if name not in NOT_INSTALLED and 'systemd' not in name]", INSTALLED + "test_places"),
+    Row("package: no sketches", "install/contents.py", "if name not in NOT_INSTALLED]", "if name not in NOT_INSTALLED and '.sketch' not in name]", INSTALLED + "test_places"),
+    Row("package: older C library", "install/package", '"libc6 (>= %s)" % needs.glibc(file.content)', '"libc6 (>= 2.4)"', PACKAGES + "test_depends"),
+    Row("package: pages for the owner", "install/deb.py", "    info.uname = info", "    info.mode &= ~(0o022 if place.endswith('.md') else 0)\n    info.uname = info", PACKAGES + "test_contents"),
+    Row("install: old files stay", "install/install", "if place not in places])", "if place not in places][:0])", INSTALLED + "test_install_over"),
+    Row("install: in place", "install/install", '    os.replace(path + ".new", path)', "    __import__('shutil').copy2(path + '.new', path)", INSTALLED + "test_install_over"),
+    Row("install: removes others' files", "install/install", "            elif not os.listdir(path):\n                os.rmdir(path)", "            else:\n                __import__('shutil').rmtree(path)", INSTALLED + "test_uninstall"),
+    Row("manual: no --cells", "share/man/man1/cadf.1", ".RB [ \\-\\-cells\n.IR N ]\n", "", INSTALLED + "test_commands"),
+    Row("manual: no --set-aside", "share/man/man1/cadf.1", ".BI \\-\\-set\\-aside", ".BI \\-\\-aside", INSTALLED + "test_tool"),
+    Row("manual: no --until-empty", "share/man/man1/cadf.1", ".BI \\-\\-until\\-empty", ".BI \\-\\-until", INSTALLED + "test_tool"),
+    Row("manual: another version", "share/man/man1/cadf.1", '"cadf 0.1.0"', '"cadf 0.2.0"', INSTALLED + "test_version"),
+    Row("unit: another option", "examples/systemd/cadf-spool@.service", "ExecStart=cadf-spool --log %i", "ExecStart=cadf-spool --logs %i", UNITS + "test_words"),
+    Row("unit: no folder to write to", "examples/systemd/cadf-spool@.service", "ReadWritePaths=/var/spool/cadf/%i\n", "", UNITS + "test_setting"),
+    Row("unit: little memory", "examples/systemd/cadf-spool@.service", "MemoryMax=5G", "MemoryMax=5M", UNITS + "test_setting"),
+    Row("unit: yearly", "examples/systemd/cadf-spool@.timer", "OnCalendar=*:0/5", "OnCalendar=yearly", UNITS + "test_setting"),
     Row("sandbox: more is allowed", "docs/OPERATING.md", "SystemCallFilter=access arch", "SystemCallFilter=access execveat socket connect ptrace arch", "tests/command/test_sandbox.py -k test_filter"),
     # ---- The tools: what a power cut, a signal or another caller does to them
     Row("take: nothing new, not synced", "tools/cadf-take", "            sync(self.site)  # a call", "            pass  # a call", CRASH + "test_take"),

@@ -24,6 +24,7 @@ from tests.release.planted import ROWS, UNSEEN
 
 SECONDS = 600  # for a test and a fault
 PYTHON = "/usr/bin/python3"  # where Debian's packages are
+RUNNING = set()  # the process groups of the tests that run
 
 
 def copied_tree(folder, binary):
@@ -50,12 +51,14 @@ def run(aim, top):
     with tempfile.TemporaryFile() as said:
         child = subprocess.Popen(words, cwd=top, stdin=subprocess.DEVNULL, stdout=said, stderr=subprocess.STDOUT, start_new_session=True,
                                  env={**os.environ, "PYTHONDONTWRITEBYTECODE": "1"})
+        RUNNING.add(child.pid)
         try:
             status = child.wait(SECONDS)
         except subprocess.TimeoutExpired:
             os.killpg(child.pid, signal.SIGKILL)
             child.wait()
             status = None
+        RUNNING.discard(child.pid)
         said.seek(0)
         return status, said.read().decode(errors="replace")
 
@@ -109,7 +112,14 @@ def write(path, text):
         file.write(text)
 
 
+def stop(*_):
+    for group in list(RUNNING):
+        os.killpg(group, signal.SIGKILL)
+    sys.exit(1)
+
+
 def main():
+    signal.signal(signal.SIGTERM, stop)
     parser = argparse.ArgumentParser(description=__doc__, formatter_class=argparse.RawDescriptionHelpFormatter)
     parser.add_argument("--jobs", type=int, default=2)
     parser.add_argument("--binary", default=built("cadf"))
@@ -118,6 +128,7 @@ def main():
     rows = [row for row in ROWS if not options.names or row.name.startswith(tuple(options.names))]
     unseen = []
     with tempfile.TemporaryDirectory(prefix="planted-") as folder, concurrent.futures.ThreadPoolExecutor(options.jobs) as pool:
+        print("%d faults; first %d tests without one" % (len(rows), len({row.aim for row in rows})), flush=True)
         planter = Planter(folder, options.jobs, os.path.abspath(options.binary))
         aims = sorted({row.aim for row in rows})
         plain = dict(zip(aims, pool.map(planter.plain, aims)))
