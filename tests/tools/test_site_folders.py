@@ -247,6 +247,19 @@ def test_a_site_that_is_a_file_becomes_a_folder(site):
     assert answer.status == 3 and b"cadf-take --by day NEW/ " in answer.error
 
 
+@pytest.mark.parametrize("right, wrong, status, said", [
+    ("NEARLY_FULL = cadf_site.LARGEST * 8 // 10", "NEARLY_FULL = 100", 0, "%d of 1073741824 bytes: no file"),
+    ("if size > cadf_site.LARGEST:", "if size > 100:", 1, "too large: no file"),
+])
+def test_a_file_that_is_full_names_the_call(tmp_path, right, wrong, status, said):
+    site, file = Site(tmp_path, copied(tmp_path / "copy", right, wrong)), tmp_path / "old.cadf"
+    answer = ended(site.tool, [str(file), site.put(contents(0))], env=site.environment)
+    size = len(file_of("g", atoms_of(contents(0))))
+    line = "cadf-take: %s: %s above 2^30 bytes is read, and a folder of files grows on: cadf-take --by day NEW/ %s\n" % (
+        file, said % size if "%" in said else said, file)
+    assert answer == (status, b"", line.encode()) and file.exists() == (status == 0)
+
+
 # ---- Refusals, and what is odd in the folder
 
 @pytest.mark.parametrize("options, value, status, said", [
