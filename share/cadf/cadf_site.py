@@ -468,7 +468,7 @@ class Taking:
                 self.index = self.folder.index()
                 for name in self.stale()[0]:
                     self.is_removed(name)
-                if is_first and not self.index.lines:
+                if is_first and self.index and not self.index.lines:
                     os.unlink(INDEX, dir_fd=self.folder.descriptor)
             raise
 

@@ -71,7 +71,9 @@ class Site:
 
     def take(self, *options, files=()):
         tool, *words = self.words(*options, files=files)
-        return ended(tool, words, env=self.environment)
+        answer = ended(tool, words, env=self.environment)
+        assert all(line.startswith(b"cadf-take: ") for line in answer.error.splitlines()) or answer.status == 2, answer
+        return answer
 
     def takes(self, *values, by=("--by", "day")):
         answer = self.take(*by, files=[self.put(value) for value in values])
@@ -504,7 +506,7 @@ def test_what_a_site_names_and_lacks_is_named(here):
     (test_what_is_held_already_changes_nothing, "digest in digests or self.is_held(part, size)", "False"),
     (test_what_is_held_already_changes_nothing, '.count(b"\\n") == NOTHING', '.count(b"\\n") >= NOTHING'),
     (test_a_settled_folder_is_a_function_of_its_facts, "for each in self.digests(part) if each not in digests]", "for each in self.digests(part)]"),
-    (test_a_first_take_that_is_refused_leaves_no_site, "if is_first and not", "if False and not"),
+    (test_a_first_take_that_is_refused_leaves_no_site, "if is_first and self.index and not", "if False and not"),
     (test_a_lost_index_loses_no_window, "if self.index is None and set(left) - {WORKING}:", "if False:"),
     (test_strangers_are_named_and_passed_over, 'PART = r"(?:shared|[0-9]{4}', 'PART = r"(?:shared|[0-9]{4}|\\d{7}'),
     (test_strangers_are_named_and_passed_over, 'not file.name.startswith(".") and', ""),
