@@ -23,7 +23,7 @@ import subprocess
 import tempfile
 
 from cadf_toolkit import (CADF, REFUSED, Fault, Input, cadf, check_end, name_shown, open_descriptor, opened, opened_file, other_log, say,
-                          started_cadf, wait_for_lock)
+                          started_cadf, sync, wait_for_lock)
 
 UNITS = {"month": len("2024-03"), "day": len("2024-03-01"), "hour": len("2024-03-01T12")}  # with the length of a window's name
 INDEX, LOCK, WORKING = "site", ".lock", ".new"
@@ -607,6 +607,23 @@ class Taking:
         self.index, self.changed = index, {}
 
 
+def check(folder, index, unit, log):
+    """Raises that what a folder's `site` says is of another unit or log, or that there is none, and no unit to make it by."""
+    if index is None and unit is None:
+        raise Fault("%s: %s" % (folder.shown(), NO_SITE), REFUSED)
+    if index and unit not in (None, index.unit):
+        raise Fault("%s: other unit: its windows are a %s each, and not a %s" % (folder.shown(), index.unit, unit), REFUSED)
+    if index and log not in (None, index.name()):
+        raise Fault("%s: %s" % (folder.shown(), other_log(index.name())), REFUSED)
+
+
+def check_site(name, unit, log):
+    """Raises, before anything is read, why nothing can be taken into the folder of that name. It may be missing, if there is a unit."""
+    if unit is None or os.path.isdir(name):
+        with Folder(name) as folder:
+            check(folder, folder.index(), unit, log)
+
+
 @contextlib.contextmanager
 def taking(name, unit, log, wait):
     """Locks a folder for a take, unless it is of another unit or log."""
@@ -614,11 +631,7 @@ def taking(name, unit, log, wait):
         if unit is None and not folder.is_site():
             raise Fault("%s: %s" % (folder.shown(), NO_SITE), REFUSED)
         with Taking(folder, wait) as found:
-            index = found.index
-            if index and unit not in (None, index.unit):
-                raise Fault("%s: other unit: its windows are a %s each, and not a %s" % (folder.shown(), index.unit, unit), REFUSED)
-            if index and log not in (None, index.name()):
-                raise Fault("%s: %s" % (folder.shown(), other_log(index.name())), REFUSED)
+            check(folder, found.index, unit, log)
             found.begin()
             with found.undone():
                 yield found
@@ -630,6 +643,8 @@ def take(name, inputs, unit=None, log=None, wait=None, most_new=MOST_NEW):
         with contextlib.suppress(FileExistsError):
             os.mkdir(name, 0o700)
     with taking(name, unit, log, wait) as found:
+        if found.index is None:
+            sync(os.path.dirname(os.path.abspath(name)))
         for group in groups(inputs):
             by, named = (found.index.unit, found.index.name()) if found.index else (unit, log)
             found.add(["--by", by, *([] if named is None else ["--log=" + named])], group, most_new)

@@ -281,6 +281,13 @@ def test_a_refusal_leaves_the_site(site, options, value, status, said):
     assert site.atoms() == atoms_of(contents(1), contents(5))
 
 
+def test_nothing_is_read_if_unit_or_log_is_another(site):
+    site.takes(contents(1))
+    for options, said in ((["--by", "hour"], b"other unit"), (["--log", "h"], b"other log")):
+        answer = site.take(*options, files=["-", "/absent"])
+        assert answer.status == 1 and said in answer.error
+
+
 @pytest.mark.parametrize("options, value", [([], dict(contents(1), events=7)), (["--windows", "1"], contents(1, 2))])
 def test_a_first_take_that_is_refused_leaves_no_site(site, options, value):
     assert site.take("--by", "day", *options, files=[site.put(value)]).status == 1
@@ -432,7 +439,7 @@ def test_each_call_that_fails_leaves_all_or_nothing(here):
 
 
 def test_two_takers_and_three_readers_at_once(here):
-    """Each take brings two events of one day and one of the other. Some are killed, and made again."""
+    """Each take brings two events of one day and one of the other. Some are killed, and made again. So is settling, at random."""
     here.takes(contents(0, 1, 2))
     seen, stop, chance = [], threading.Event(), random.Random(7)
 
@@ -454,10 +461,18 @@ def test_two_takers_and_three_readers_at_once(here):
                 if running.wait() == 0:
                     break
 
+    def settled():
+        while not stop.is_set():
+            running = subprocess.Popen(here.words("--settle"), env=here.environment, stderr=subprocess.DEVNULL)
+            with contextlib.suppress(subprocess.TimeoutExpired):
+                running.wait(chance.uniform(0.05, 0.6))
+            running.kill()
+            running.wait()
+
     keys = list(range(3, 24, 3))
     files = [here.put(contents(key, key + 1, key + 2)) for key in keys]
     takers = [threading.Thread(target=took, args=(keys[start::2], files[start::2])) for start in range(2)]
-    readers = [threading.Thread(target=read) for _ in range(3)]
+    readers = [threading.Thread(target=work) for work in (read, read, read, settled)]
     for each in takers + readers:
         each.start()
     for each in takers:
