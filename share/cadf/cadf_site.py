@@ -390,7 +390,7 @@ class Taking:
     """A folder that is locked for a take: what its `site` says, and the files of each part that will be others."""
 
     def __init__(self, folder, wait):
-        self.folder, self.mode = folder, 0o666 & stat.S_IMODE(os.fstat(folder.descriptor).st_mode)
+        self.folder, self.found = folder, os.fstat(folder.descriptor)
         self.lock = self.opened_lock()
         try:
             wait_for_lock(self.lock, folder.path(LOCK), wait)
@@ -410,10 +410,17 @@ class Taking:
         """The lock's file, which is made if it isn't there, for a group if that may write to the folder."""
         try:
             lock = self.folder.open(LOCK, os.O_RDWR | os.O_CREAT | os.O_EXCL)
-            os.fchmod(lock, 0o660 if self.mode & stat.S_IWGRP else 0o600)
+            self.give(lock, 0o660 if self.found.st_mode & stat.S_IWGRP else 0o600)
             return lock
         except FileExistsError:
             return self.folder.open(LOCK, os.O_RDWR | os.O_NONBLOCK)
+
+    def give(self, file, mode):
+        """Gives a new file the folder's owner and group, as far as the caller may, and this mode."""
+        for user, group in ((self.found.st_uid, -1), (-1, self.found.st_gid)):
+            with contextlib.suppress(PermissionError):
+                os.fchown(file, user, group)
+        os.fchmod(file, mode)
 
     def digests(self, part):
         """The digests of the files of a part."""
@@ -481,7 +488,7 @@ class Taking:
         with os.fdopen(file, "wb") as output:
             yield output
             output.flush()
-            os.fchmod(file, self.mode)
+            self.give(file, 0o666 & self.found.st_mode)
 
     def name(self, name):
         """Gives the new file its name, once it is on the disk."""

@@ -168,6 +168,23 @@ def test_a_take_writes_the_windows_of_what_it_takes(site):
     assert {oct(os.stat(name).st_mode & 0o777) for name in site.folder.iterdir()} == {"0o600"}
 
 
+@pytest.mark.parametrize("mode, of_files, of_lock", [(0o750, 0o640, 0o600), (0o770, 0o660, 0o660)])
+def test_new_files_have_the_folders_permissions(site, mode, of_files, of_lock):
+    site.folder.mkdir()
+    site.folder.chmod(mode)
+    site.takes(contents(0))
+    found = {name.name: name.stat().st_mode & 0o777 for name in site.folder.iterdir()}
+    assert found.pop(".lock") == of_lock and set(found.values()) == {of_files}
+
+
+@pytest.mark.root
+def test_root_takes_for_the_folders_owner(site):
+    site.folder.mkdir()
+    os.chown(site.folder, 2001, 3001)
+    site.takes(contents(0))
+    assert {(name.stat().st_uid, name.stat().st_gid) for name in site.folder.iterdir()} == {(2001, 3001)}
+
+
 def test_what_is_held_already_changes_nothing(site):
     """Also what several files of a window hold together."""
     site.takes(contents(0, 1, 2, name="n"))
@@ -517,7 +534,7 @@ def test_what_a_site_names_and_lacks_is_named(here):
 # ---- Wrong versions
 
 @pytest.mark.parametrize("check, right, wrong", [
-    (test_a_take_writes_the_windows_of_what_it_takes, "            os.fchmod(file, self.mode)\n", "            os.fchmod(file, 0o644)\n"),
+    (test_a_take_writes_the_windows_of_what_it_takes, "self.give(file, 0o666 & self.found.st_mode)", "self.give(file, 0o644)"),
     (test_what_is_held_already_changes_nothing, "digest in digests or self.is_held(part, size)", "False"),
     (test_what_is_held_already_changes_nothing, '.count(b"\\n") == NOTHING', '.count(b"\\n") >= NOTHING'),
     (test_a_settled_folder_is_a_function_of_its_facts, "for each in self.digests(part) if each not in digests]", "for each in self.digests(part)]"),
