@@ -157,7 +157,7 @@ def test_spool_sets_aside_what_begins_many_windows(sites):
     (test_agree_reads_windows_that_differ, "sorted({*first.parts, *second.parts})", "sorted(first.parts)[1:]"),
     (test_agree_reads_windows_that_differ, "if first.parts.get(part) != second.parts.get(part):", "if True:"),
     (test_which_judges_each_file, "if found != [entry]:", "if False:"),
-    (test_a_key_of_two_windows_is_open, "inputs += found.values() or", "inputs += list(found.values())[:1] or"),
+    (test_a_key_of_two_windows_is_open, "for fact in windows.facts:", "for fact in ():"),
     (test_spool_takes_into_a_folder, "if cadf_site.is_folder(self.site):", "if False:"),
 ])
 def test_a_wrong_version_is_caught(tmp_path, check, right, wrong):
