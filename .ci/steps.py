@@ -45,20 +45,16 @@ STAGES = [
         "old-names": "python3 -m tests.docs.old_names",
         "pages": "python3 -m tests.docs.pages",
         "promises": "python3 -m tests.docs.promises",
-        "declared": "python3 -m tests.library.bindings --declared",
         "unbuilt": "pytest -m unbuilt",
     }),
     ("proofs", 1, {
         "rt ci": "rt ci",
     }),
     ("built programs", 0, {
+        "built": "pytest -m built",
         "bits": "python3 -m tests.generated.bits",
-        "bindings": "python3 -m tests.library.bindings",
         "take": "python3 -m tests.tools.take",
         "spool": "python3 -m tests.tools.spool",
-        "oom": "python3 -m tests.library.oom",
-        "plain-sets": "python3 -m tests.library.plain_sets",
-        "built": "pytest -m built",
         "compare": "python3 -m tests.generated.compare",
         "drivers": "python3 -m tests.generated.drivers",
         "shown": "python3 -m tests.docs.shown README.md docs/GUIDE.md docs/OPENSTACK.md docs/BUS.md docs/REPORT.md",
@@ -109,10 +105,10 @@ WITHOUT_PYTEST = "skipped: pytest with xdist and timeout (Debian: python3-pytest
 
 
 def pytest_words():
-    """How pytest is run, with two processes: by this Python or the system's, where Debian's packages are; None without it."""
+    """How pytest is run, on all processors: by this Python or the system's, where Debian's packages are; None without it."""
     for python in (sys.executable, "/usr/bin/python3"):
         if os.path.exists(python) and not subprocess.run([python, "-c", "import " + PLUGINS], stderr=subprocess.DEVNULL).returncode:
-            return [python, "-m", "pytest", "-q", "-n", "2", "--dist", "loadgroup"]
+            return [python, "-m", "pytest", "-q", "-n", str(len(os.sched_getaffinity(0))), "--dist", "loadgroup"]
     return None
 
 

@@ -69,9 +69,12 @@ def end(mark):
 
 
 def prioritize(group, is_urgent):
-    """Lets an urgent proof go before the others. Who may not raise a priority leaves it low."""
+    """Lets an urgent proof go before the others, and not before what the build itself has to let go first.
+
+    Who may not raise a priority leaves it low.
+    """
     try:
-        os.setpriority(os.PRIO_PGRP, group, 0 if is_urgent else LATER)
+        os.setpriority(os.PRIO_PGRP, group, os.nice(0) if is_urgent else LATER)
     except OSError:
         pass
 

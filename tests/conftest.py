@@ -32,7 +32,7 @@ def pytest_addoption(parser):
 def pytest_collection_modifyitems(items):
     """Marks each test by whether it runs the built command, so that `-m unbuilt` is what can run before a build."""
     for item in items:
-        item.add_marker("built" if "cadf" in item.fixturenames else "unbuilt")
+        item.add_marker("built" if {"cadf", "drivers"} & set(item.fixturenames) else "unbuilt")
 
 
 def pytest_runtest_setup(item):
@@ -46,6 +46,14 @@ def pytest_runtest_setup(item):
         pytest.skip("it needs root")
     if item.get_closest_marker("release") and not item.config.getoption("--release"):
         pytest.skip("it runs with --release")
+
+
+@pytest.fixture(scope="session")
+def drivers():
+    """The path of the program that makes the calls of tests/tables, as `rt ci` builds it."""
+    if not os.path.exists(built("drivers")):
+        pytest.skip("%s isn't there: rt ci builds it" % built("drivers"))
+    return built("drivers")
 
 
 @pytest.fixture(scope="session")

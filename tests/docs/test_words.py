@@ -7,7 +7,7 @@ import pytest
 
 from tests import TOP
 from tests.command.commands import COMMANDS
-from tests.library.bindings import declared
+from tests.library.declarations import declared
 
 COMMAND = re.compile(r'\(\s*"([a-z-]+)",\s*"[^"]*",?\s*\)')
 WORD = re.compile(r'\(\s*"([a-z-]+)",\s*"([A-Za-z-]+)",\s*Kind::(\w+)(?:\("(\w+)"\))?,')

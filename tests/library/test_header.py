@@ -6,13 +6,12 @@ import sys
 
 import pytest
 
+from install import library_files
 from tests import TOP
-from tests.library.bindings import PYTHON, STRICT, declared, exported, text_of
+from tests.library.declarations import HEADERS, IN_PYTHON, PYTHON, STRICT, called, declared, exported, text_of
 
-sys.path.insert(0, PYTHON)
-import cadf  # noqa: E402
+import cadf  # noqa: E402  by tests.library.declarations
 
-HEADER = os.path.join(TOP, "bindings", "c")
 # What a value of each kind is in a call, where it is given and where it is NULL, and how the noting library prints it.
 VALUES = {"bool": ("true", "true"), "uint8_t": ("'E'", "'E'"), "uint64_t": ("9", "9"), "uint8_t *": ("buffer", "NULL"), "size_t *": ("&length", "&length")}
 PRINTED = {"bool": ("%d", "{0}"), "uint8_t": ("%d", "{0}"), "uint64_t": ("%d", "(int){0}"), "size_t": ("%d", "(int){0}"), "uint8_t *": ("%d", "{0} != NULL"),
@@ -21,7 +20,7 @@ INPUT = "const struct cadf_bytes *"
 PROGRAM = '#include "cadf.h"\nint main(void) {\n    struct cadf_bytes two[2] = {cadf_bytes_of("a", 1), cadf_bytes_of("bc", 2)};\n    uint8_t buffer[5]; size_t length;\n%s    return 0;\n}\n'
 
 
-def called(name, kinds, is_given):
+def call(name, kinds, is_given):
     """A call of the function whose inputs have 1 and 2 bytes, or are NULL, and what the noting library has to print of it."""
     words, told, inputs = [], [], 0
     for at, kind in enumerate(kinds):
@@ -57,14 +56,33 @@ def test_wrappers(tmp_path, language, words):
     """In C and in C++ each function takes NULL for what is nothing, and hands all else on in its order."""
     if language == "c++" and subprocess.run(["gcc", "-x", "c++", "-fsyntax-only", os.devnull], stderr=subprocess.DEVNULL).returncode:
         pytest.skip("gcc has no C++ here (Debian: g++)")
-    calls = [called(name, kinds, is_given) for name, kinds, _ in declared() if kinds for is_given in (True, False)]
-    (tmp_path / "main").write_text(PROGRAM % "".join(call for call, _ in calls))
+    calls = [call(name, kinds, is_given) for name, kinds, _ in declared() if kinds for is_given in (True, False)]
+    (tmp_path / "main").write_text(PROGRAM % "".join(made for made, _ in calls))
     (tmp_path / "noting.c").write_text(noting())
-    for command in (["gcc", *STRICT, "-c", "noting.c", "-I", HEADER], ["gcc", *words, "-I", HEADER, "-x", language, "main", "-x", "none", "noting.o", "-o", "program"]):
+    for command in (["gcc", *STRICT, "-c", "noting.c", "-I", HEADERS], ["gcc", *words, "-I", HEADERS, "-x", language, "main", "-x", "none", "noting.o", "-o", "program"]):
         done = subprocess.run(command, cwd=tmp_path, stderr=subprocess.PIPE, universal_newlines=True)
         assert done.returncode == 0, done.stderr
     said = subprocess.run([tmp_path / "program"], check=True, stdout=subprocess.PIPE, universal_newlines=True).stdout
     assert said.splitlines() == [told for _, told in calls]
+
+
+def test_functions():
+    """The header declares what the crate exports, and so does the package."""
+    crate = {name: (words, result) for name, words, result in exported()}
+    assert {name: (words, result) for name, words, result in declared()} == crate
+    assert dict(called()) == {name: [IN_PYTHON[word] for word in words] for name, (words, _) in crate.items() if words}
+
+
+def test_versions():
+    """The library, the command and the package have one version."""
+    number = ".".join(re.findall(r"const (?:MAJOR|MINOR|PATCH): u32 = (\d+);", text_of("crates", library_files.CRATE, "src", "lib.rt")))
+    told = re.search(r'\.version\("(.*?)"\)', text_of("crates", "cadf_words", "src", "table.rt")).group(1)
+    assert number == told == library_files.version(TOP)
+
+
+def test_package():
+    """The package's own tests that need no library."""
+    subprocess.run([sys.executable, "-m", "unittest", "tests.test_package"], cwd=PYTHON, check=True, env={**os.environ, "PYTHONDONTWRITEBYTECODE": "1"})
 
 
 def test_names():

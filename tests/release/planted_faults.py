@@ -4,7 +4,7 @@
 
 The faults are the rows of tests/release/planted.py; NAMEs choose those whose names begin so. A test that fails without a
 fault shows nothing, so each is run without one first. FILE is the command that the tests try, crates/cadf/out/cadf unless
-given. Prints a line a row, and what stayed unseen at the end. The status is 1 if a fault was not seen.
+given. Prints a line a row. The status is 1 if a fault was not seen.
 """
 import argparse
 import concurrent.futures
@@ -20,7 +20,7 @@ import time
 
 from tests import TOP
 from tests.machine import built
-from tests.release.planted import ROWS, UNSEEN
+from tests.release.planted import NOT_PLANTED, ROWS
 
 SECONDS = 600  # for a test and a fault
 PYTHON = "/usr/bin/python3"  # where Debian's packages are
@@ -77,34 +77,40 @@ class Planter:
     """Trees in which faults are planted, each by one thread at a time."""
 
     def __init__(self, folder, count, binary):
-        self.trees = queue.Queue()
+        self.trees, self.unseen = queue.Queue(), []
         for number in range(count):
             self.trees.put(copied_tree(os.path.join(folder, str(number)), binary))
 
-    def plain(self, aim):
-        """What a test says of a tree without a fault: why its rows show nothing, or None."""
-        top = self.trees.get()
-        try:
-            status, said = run(aim, top)
-            return "the test fails without it: %s" % last_reason(said) if status else "skipped: %s" % last_reason(said) if is_skipped(said) else None
-        finally:
-            self.trees.put(top)
-
-    def planted(self, row):
-        """Whether the row's test sees its fault, the seconds that it took, and what the test said of it."""
+    def try_test(self, aim, rows):
+        """Runs a test without a fault, and then with each that it has to see."""
         top, begun = self.trees.get(), time.monotonic()
-        try:
-            path = os.path.join(top, row.file)
-            with open(path, encoding="utf-8") as file:
-                text = file.read()
-            if text.count(row.right) != 1:
-                return False, 0, "%s: the text is there %d times" % (row.file, text.count(row.right))
-            write(path, text.replace(row.right, row.wrong))
-            status, said = run(row.aim, top)
-            write(path, text)
-            return bool(status), time.monotonic() - begun, "it hangs" if status is None else last_reason(said)
-        finally:
-            self.trees.put(top)
+        status, said = run(aim, top)
+        if status:
+            self.say(rows, False, begun, "the test fails without it: " + last_reason(said))
+        elif is_skipped(said):
+            self.say(rows, False, begun, "the test is skipped: " + last_reason(said))
+        else:
+            for row in rows:
+                begun = time.monotonic()
+                self.say([row], *self.planted(row, top, begun))
+        self.trees.put(top)
+
+    def planted(self, row, top, begun):
+        """Whether the row's test sees its fault in a tree, since when it ran, and what it said of it."""
+        path = os.path.join(top, row.file)
+        with open(path, encoding="utf-8") as file:
+            text = file.read()
+        if text.count(row.right) != 1:
+            return False, begun, "%s: the text is there %d times" % (row.file, text.count(row.right))
+        write(path, text.replace(row.right, row.wrong))
+        status, said = run(row.aim, top)
+        write(path, text)
+        return status != 0, begun, "it hangs" if status is None else last_reason(said)
+
+    def say(self, rows, is_seen, begun, said):
+        for row in rows:
+            print("%-34s %-6s %4.0f s  %s" % (row.name, "seen" if is_seen else "UNSEEN", time.monotonic() - begun, said), flush=True)
+            self.unseen += [] if is_seen else [row.name]
 
 
 def write(path, text):
@@ -126,26 +132,14 @@ def main():
     parser.add_argument("names", nargs="*", metavar="NAME")
     options = parser.parse_args()
     rows = [row for row in ROWS if not options.names or row.name.startswith(tuple(options.names))]
-    unseen = []
     with tempfile.TemporaryDirectory(prefix="planted-") as folder, concurrent.futures.ThreadPoolExecutor(options.jobs) as pool:
-        print("%d faults; first %d tests without one" % (len(rows), len({row.aim for row in rows})), flush=True)
         planter = Planter(folder, options.jobs, os.path.abspath(options.binary))
-        aims = sorted({row.aim for row in rows})
-        plain = dict(zip(aims, pool.map(planter.plain, aims)))
-        tried = [row for row in rows if plain[row.aim] is None]
-        for row in rows:
-            if plain[row.aim] is not None:
-                unseen.append("%s: %s" % (row.name, plain[row.aim]))
-        for row, (is_seen, seconds, said) in zip(tried, pool.map(planter.planted, tried)):
-            print("%-32s %-6s %4.0f s  %s" % (row.name, "seen" if is_seen else "UNSEEN", seconds, said), flush=True)
-            if not is_seen:
-                unseen.append("%s: %s" % (row.name, said))
-    for name, why in UNSEEN.items() if not options.names else ():
-        print("%-32s not aimed at: %s" % (name, why))
-    for line in unseen:
-        print("UNSEEN: " + line)
-    print("%d of %d planted faults are seen" % (len(rows) - len(unseen), len(rows)))
-    sys.exit(1 if unseen else 0)
+        aims = dict.fromkeys(row.aim for row in rows)
+        list(pool.map(lambda aim: planter.try_test(aim, [row for row in rows if row.aim == aim]), aims))
+    for name, why in NOT_PLANTED.items() if not options.names else ():
+        print("%-34s not planted: %s" % (name, why))
+    print("%d of %d planted faults are seen" % (len(rows) - len(planter.unseen), len(rows)))
+    sys.exit(1 if planter.unseen else 0)
 
 
 if __name__ == "__main__":

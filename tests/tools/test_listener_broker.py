@@ -21,7 +21,7 @@ from tests.tools.copies import copied
 from tests.tools.listeners import LISTEN, Listeners, lines_of, lost, recorded
 from tests.tools.programs import tool
 
-pytestmark = [pytest.mark.broker, pytest.mark.timeout(600),
+pytestmark = [pytest.mark.broker, pytest.mark.xdist_group("broker"), pytest.mark.timeout(600),
               pytest.mark.skipif(broker.missing() is not None, reason="%s isn't there" % broker.missing())]
 
 READ = tool("cadf-from-openstack")

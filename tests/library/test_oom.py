@@ -1,6 +1,4 @@
-"""Refuses allocations of the calls of crates/drivers in turn, and judges what they answer then.
-
-    python3 -m tests.library.oom [PROGRAM]
+"""Allocations of the calls of crates/drivers are refused in turn: what they answer then.
 
 Each row of crates/drivers/stdin is given to the program again and again: once with nothing refused, and then with each
 allocation refused in turn that it makes from the end of the row to its answer; of a row with more than WAYS says, every
@@ -30,11 +28,11 @@ import json
 import os
 import re
 import subprocess
-import sys
-import tempfile
 from typing import NamedTuple
 
-from tests.machine import CRATES, built, compiled, side_by_side
+import pytest
+
+from tests.machine import CRATES, compiled, side_by_side
 from tests.tables import fields
 
 PROGRAM = "drivers"
@@ -194,7 +192,7 @@ class Sweep:
             if ended == (0, b""):
                 return
             if ended != UNREAD or not found:
-                sys.exit("oom: %s refused: %s: ended with %s" % (way, found and found[-1], ended))
+                pytest.fail("%s refused: %s: ended with %s" % (way, found and found[-1], ended))
             begin = found[-1].next()
 
     def counts(self, rows, way, most):
@@ -204,11 +202,11 @@ class Sweep:
             row, first = rows[it.row], it if first is None else first
             verdict = row.verdict(it.answer) if it.turn else "whole" if it.answer == row.right else None
             if verdict is None or it.held != first.held:
-                sys.exit("oom: %s: %s refused: %.400s" % (row.asked[:200], way, it))
+                pytest.fail("%s: %s refused: %.400s" % (row.asked[:200], way, it))
             counts[it.row][verdict] += 1
             row.bytes += it.asked if way == "one" and verdict == "left" else 0
         if any(count["whole"] != 1 for count in counts):
-            sys.exit("oom: %s: not all rows were run" % way)
+            pytest.fail("%s: not all rows were run" % way)
         return counts
 
     def all_counts(self, rows):
@@ -251,18 +249,9 @@ def faults(rows, counts):
     yield from ("%s has no row with a long chain" % call for call in SHARING if long[call] == 0 and call != STEADY)
 
 
-def main():
-    program = os.path.abspath(sys.argv[1]) if len(sys.argv) > 1 else built(PROGRAM)
+@pytest.mark.needs("gcc")
+@pytest.mark.timeout(1800)
+def test_rows(drivers, tmp_path):
     rows = [Row(*both) for both in zip(rows_of("stdin"), rows_of("stdout"))]
     rows = [row for row in rows if not row.is_left_out()]
-    with tempfile.TemporaryDirectory() as folder:
-        counts = Sweep(folder, program).all_counts(rows)
-    wrong = list(faults(rows, counts))
-    if wrong:
-        sys.exit("\n".join("oom: " + one for one in wrong))
-    refused = sum(sum(count.values()) - count["whole"] for both in counts for count in both.values())
-    print("oom: %d rows, %d allocations refused: as they should be" % (len(rows), refused))
-
-
-if __name__ == "__main__":
-    main()
+    assert list(faults(rows, Sweep(tmp_path, drivers).all_counts(rows))) == []

@@ -1,21 +1,18 @@
-"""Compares chain trees and flat sets of lists with plain sets of Python, exhaustively where they are small.
-
-    python3 -m tests.library.plain_sets [PROGRAM]
+"""Chain trees and flat sets of lists beside plain sets of Python, exhaustively where they are small.
 
 The calls are rows for the driver of sets, which the program crates/drivers answers. A tree holds some of the 6 chains
 of one or two texts, of two; a flat set some of the 7 lists of up to two texts, or of the 15 of up to three.
 """
 import itertools
 import json
-import os
 import subprocess
-import sys
 import tempfile
 
-from tests.machine import built, side_by_side
+import pytest
+
+from tests.machine import side_by_side
 from tests.tables import fields
 
-PROGRAM = "drivers"
 PARTS = 16  # runs
 LONG = sorted(one for size in range(4) for one in itertools.product("ab", repeat=size))
 SHORT = [one for one in LONG if len(one) <= 2]
@@ -144,15 +141,8 @@ def faults(program, rows):
             yield "%s %.300s: wanted %.200s, came %.200s" % (call, words, fields.line(wanted)[:-1], answer)
 
 
-def main():
-    program = os.path.abspath(sys.argv[1]) if len(sys.argv) > 1 else built(PROGRAM)
-    rows = [row for _, cases in CASES for case in cases for row in case]
-    parts = [rows[at::PARTS] for at in range(PARTS)]
-    wrong = [fault for found in side_by_side(lambda part: list(faults(program, part)), parts) for fault in found]
-    if wrong:
-        sys.exit("\n".join("plain-sets: " + fault for fault in wrong[:10]))
-    print("plain-sets: %s" % ", ".join("%d %s" % (len(cases), name) for name, cases in CASES))
-
-
-if __name__ == "__main__":
-    main()
+@pytest.mark.parametrize("cases", [cases for _, cases in CASES], ids=[name for name, _ in CASES])
+def test_calls(drivers, cases):
+    rows = [row for case in cases for row in case]
+    parts = [rows[at::PARTS] for at in range(min(PARTS, len(rows)))]
+    assert [fault for found in side_by_side(lambda part: list(faults(drivers, part)), parts) for fault in found][:10] == []

@@ -1,0 +1,248 @@
+"""The library from C and from Python, built over what `rt ci` has left and installed under a folder.
+
+bindings/c/call.c and the package answer each call of examples/vectors, and of generated ones, as the command does.
+"""
+import os
+import re
+import subprocess
+import sys
+
+import pytest
+
+from install import library_files, needs
+from tests import TOP
+from tests.command import vectors
+from tests.generated.compare import alike, answered
+from tests.generated.generate import KINDS_WITH_SKETCHES, Case
+from tests.library.declarations import HEADERS, PYTHON, STRICT, declared
+from tests.machine import side_by_side
+from tests.reference.command import DIRECTORY, Answer, Call, Usage
+
+pytestmark = [pytest.mark.xdist_group("bindings"), pytest.mark.timeout(3600), pytest.mark.needs("gcc")]
+
+SECONDS = 300  # that a program may take
+GENERATED, SEED = 500, 1
+REFUSED = ["-DREFUSES", "-Wl,--wrap=malloc,--wrap=realloc,--wrap=free"]
+SANITIZED = ["-fsanitize=address,undefined", "-fno-sanitize-recover=all"]
+
+
+def ran(*words, seconds=SECONDS, **options):
+    """Runs a program that has to end well. Returns what it said."""
+    done = subprocess.run(words, stdin=subprocess.DEVNULL, stdout=subprocess.PIPE, stderr=subprocess.STDOUT, timeout=seconds, **options)
+    said = done.stdout.decode(errors="replace")
+    assert done.returncode == 0, said
+    return said
+
+
+@pytest.fixture(scope="module")
+def prefix(cadf, tmp_path_factory):
+    """A folder under which the library is installed."""
+    if os.path.isdir(os.path.join(TOP, "crates", "cadf_memory", "out", "rlib")):
+        ran(os.path.join(TOP, "build", "library"), "--over-ci", seconds=None)
+    elif not os.path.exists(library_files.archive(TOP)):
+        pytest.skip("the library isn't built: rt ci, or build/library")
+    folder = str(tmp_path_factory.mktemp("library"))
+    ran(os.path.join(TOP, "install", "install"), "--any", folder)
+    return folder
+
+
+@pytest.fixture(scope="module")
+def version(cadf):
+    return ran(cadf, "--version").strip()
+
+
+@pytest.fixture(scope="module")
+def caller(prefix, tmp_path_factory):
+    """The program of bindings/c/call.c."""
+    return compiled(prefix, str(tmp_path_factory.mktemp("caller")), "call", "call.c")
+
+
+def flags(prefix, *words):
+    """What pkg-config says of the library under the prefix; what its file says, where it isn't here."""
+    place = os.path.join(prefix, "lib", "pkgconfig")
+    try:
+        return ran("pkg-config", *words, "cadf", env={**os.environ, "PKG_CONFIG_PATH": place}).split()
+    except FileNotFoundError:
+        return ["-I" + os.path.join(prefix, "include"), "-L" + os.path.join(prefix, "lib"), "-lcadf"]
+
+
+def compiled(prefix, folder, name, source, *options):
+    """The program of a source of bindings/c: with the archive where options say so, else with the shared library."""
+    made, archive = os.path.join(folder, name), os.path.join(prefix, "lib", "libcadf.a")
+    linked = [archive] if "-static-cadf" in options else [*flags(prefix, "--libs"), "-Wl,-rpath," + os.path.join(prefix, "lib")]
+    words = [word for word in options if word != "-static-cadf"]
+    ran("gcc", *STRICT, *words, *flags(prefix, "--cflags"), os.path.join(HEADERS, source), *linked, "-o", made)
+    return made
+
+
+def test_symbols(prefix):
+    """Both libraries show the functions of the header alone; the shared one needs the C library alone, by its own name."""
+    names = sorted(name for name, _, _ in declared())
+    shared = os.path.join(prefix, "lib", library_files.SONAME)
+    for words in (["nm", "-D", "--defined-only", shared], ["nm", "-g", "--defined-only", os.path.join(prefix, "lib", "libcadf.a")]):
+        found = sorted(line.split()[2] for line in ran(*words).splitlines() if len(line.split()) == 3)
+        assert found == names
+    with open(shared, "rb") as file:
+        assert list(needs.libraries(file.read())) in ([], ["libc.so.6"])
+    told = ran("readelf", "-dlW", shared)
+    assert "[%s]" % library_files.SONAME in told and "TEXTREL" not in told and "RWE" not in told
+
+
+def test_shared(prefix, tmp_path, version):
+    ran(compiled(prefix, str(tmp_path), "shared", "test.c"), version)
+
+
+def test_each_allocation_refused(prefix, tmp_path, version):
+    """Under gcc's sanitizers."""
+    ran(compiled(prefix, str(tmp_path), "sanitized", "test.c", "-static-cadf", *REFUSED, *SANITIZED), version)
+
+
+def under_valgrind(*words):
+    """Runs a program under valgrind. A call into a buffer that nothing was written to reads nothing of it."""
+    ran("valgrind", "-q", "--error-exitcode=9", "--leak-check=full", "--show-leak-kinds=definite", *words)
+
+
+@pytest.mark.needs("valgrind")
+def test_valgrind(prefix, tmp_path, version):
+    under_valgrind(compiled(prefix, str(tmp_path), "plain", "test.c", "-static-cadf", "-g"), version)
+
+
+@pytest.mark.needs("valgrind")
+def test_valgrind_of_call(caller):
+    under_valgrind(caller, "show", os.path.join(TOP, "examples", "vectors", "both.cadf"))
+
+
+def environment(prefix):
+    shared = os.path.join(prefix, "lib", library_files.SONAME)
+    return {**os.environ, "CADF_LIBRARY": shared, "PYTHONPATH": PYTHON, "PYTHONDONTWRITEBYTECODE": "1"}
+
+
+def guide_program():
+    """The program in Python that docs/GUIDE.md shows, and the line that it prints first."""
+    with open(os.path.join(TOP, "docs", "GUIDE.md"), encoding="utf-8") as page:
+        program = re.search(r"(?ms)^```python\n(.*?)^```$", page.read()).group(1)
+    return program, re.search(r"# (Check\(.*\))$", program, re.MULTILINE).group(1)
+
+
+def test_python(prefix):
+    """The tests in Python, of which none may be left out."""
+    said = ran(sys.executable, "-m", "unittest", "discover", "-s", "tests", "-t", ".", cwd=PYTHON, env=environment(prefix))
+    assert "skipped" not in said
+
+
+@pytest.mark.parametrize("kind", ["folder", "wheel"])
+def test_installed_by_pip(prefix, tmp_path, kind):
+    """The package as pip installs it, without a network, with the guide's program."""
+    venv, alone = tmp_path / "venv", {**environment(prefix), "PYTHONPATH": ""}
+    if subprocess.run([sys.executable, "-m", "venv", venv], stdout=subprocess.DEVNULL, stderr=subprocess.DEVNULL, check=False).returncode:
+        pytest.skip("venv isn't there (Debian: python3-venv)")
+    package = PYTHON if kind == "folder" else str(tmp_path / library_files.wheel(TOP, str(tmp_path)))
+    if kind == "wheel":
+        alone.pop("CADF_LIBRARY")  # it has its own
+    ran(venv / "bin" / "pip", "install", "-q", "--no-index", "--disable-pip-version-check", "--force-reinstall", package, env=alone)
+    program, line = guide_program()
+    assert ran(venv / "bin" / "python", "-c", program, cwd=tmp_path, env=alone).splitlines()[:1] == [line]
+
+
+def test_example(prefix):
+    """examples/in-process.py runs, where pycadf is."""
+    for python in dict.fromkeys((sys.executable, "/usr/bin/python3")):
+        said = ran(python, os.path.join(TOP, "examples", "in-process.py"), env=environment(prefix)) if os.path.exists(python) else ""
+    if "is not here" in said:
+        pytest.skip("pycadf isn't there (Debian: python3-pycadf)")
+
+
+# ---- beside the command
+
+def number(word):
+    """The number that the command reads of a word; 0, which is refused in the same way, for one that it refuses."""
+    text = word.decode()
+    return int(text) if re.fullmatch(r"[1-9][0-9]{0,17}", text) else 0
+
+
+def chosen(word):
+    """The number of an option of `sketch`: 0 for none, and 2, which is refused in the same way, for one that the command refuses."""
+    if word is None:
+        return 0
+    found = int(word) if re.fullmatch(rb"[1-9][0-9]{0,19}", word) else 0
+    return found if 0 < found < 1 << 64 else 2
+
+
+class InProcess:
+    """A call of the command's, as one of the library: its function, and the arguments before the inputs."""
+
+    def __init__(self, words, files):
+        from cadf import _library
+
+        found = Call(words)  # Usage: the words are no call
+        self.command, self.log = found.command.decode().replace("-", "_"), found.log
+        self.names, self.conflicts = list(found.files), found.conflicts
+        self.texts = [files.get(name, DIRECTORY) for name in self.names]
+        self.ruling = found.ruling if self.command == "rule" else None
+        self.sites = number(found.sites) if self.command == "rehearse" else None
+        self.sketched = [chosen(found.given.get(option)) for option in (b"--cells", b"--salt")]
+        if DIRECTORY in self.texts or self.command not in _library.FUNCTIONS:
+            raise Usage  # a file that can't be read: the library reads none
+
+    def in_python(self):
+        """What the package answers, as the command's answer."""
+        import cadf
+
+        first, second = (self.texts + [b""])[0], (self.texts + [b"", b""])[1]
+        calls = {
+            "join": lambda: cadf.join(self.texts, None if self.log is None else self.log.decode()),
+            "missing": lambda: cadf.missing(first, second),
+            "missing_by": lambda: cadf.missing_by(first, second),
+            "missing_by_sketch": lambda: cadf.missing_by_sketch(first, second),
+            "sketch": lambda: cadf.sketch(first, *(number or None for number in self.sketched)),
+            "inventory": lambda: cadf.inventory(first),
+            "show": lambda: cadf.show(first, self.conflicts),
+            "check": lambda: cadf._call("check", 16, cadf._given(first)),
+            "rule": lambda: cadf.rule(self.ruling[0], self.ruling[1], number(self.ruling[2].encode()), first),
+            "rehearse": lambda: cadf.rehearse(self.log.decode(), self.sites, first),
+        }
+        try:
+            return Answer(0, calls[self.command](), b"")
+        except cadf.CadfError as error:
+            return Answer(error.status, b"", b"cadf: %s\n" % error.text.encode())
+
+    def in_c(self):
+        """The words of bindings/c/call.c; None where it has none: an empty log that is given, a name that begins as an option."""
+        if self.log == b"" and self.command == "join":
+            return None
+        before = {"join": [self.log or b""], "rehearse": [self.log or b"", b"%d" % (self.sites or 0)],
+                  "sketch": [b"%d" % number for number in self.sketched]}.get(self.command, [])
+        if self.ruling:
+            before = [self.ruling[0].encode(), self.ruling[1].encode(), b"%d" % number(self.ruling[2].encode())]
+        name = "conflicts" if self.conflicts else self.command.replace("_", "-")
+        return [name.encode(), *before, *self.names]
+
+
+def cases(count, seed):
+    """The calls of examples/vectors and generated ones, each with a name."""
+    for name, words, files, _ in vectors.calls():
+        yield name, words, files
+    for place in range(count):
+        case = Case(KINDS_WITH_SKETCHES, seed, place)
+        yield "case %d (%s)" % (place, case.kind), case.words, case.files
+
+
+def difference(binary, caller, name, words, files):
+    """How the library answers otherwise than the command; None where it doesn't, and `left out` for no call of the library."""
+    try:
+        one = InProcess(words, files)
+    except Usage:
+        return "left out"
+    wanted = answered(binary, words, files)
+    if not alike(wanted, one.in_python()):
+        return "%s: the package answers %s" % (name, vars(one.in_python()))
+    if one.in_c() and not alike(wanted, answered(caller, one.in_c(), files)):
+        return "%s: call.c answers otherwise" % name
+    return None
+
+
+def test_beside_the_command(cadf, prefix, caller, monkeypatch):
+    monkeypatch.setenv("CADF_LIBRARY", os.path.join(prefix, "lib", library_files.SONAME))
+    found = side_by_side(lambda case: difference(cadf, caller, *case), list(cases(GENERATED, SEED)))
+    assert [one for one in found if one not in (None, "left out")][:1] == []
+    assert found.count(None) > GENERATED // 2
