@@ -49,6 +49,8 @@ FAULTS = [
     ("secret", "Permission denied", dict(dict.fromkeys((*PLAIN, "take it as the site"), 3), spool=1)),
     ("inventory", "an inventory, which holds no facts: `cadf missing-by SITE INVENTORY` answers it", {call: 1 for call in READERS if call != "agree"}),
     ("sketch", "a sketch, which holds no facts: `cadf missing-by-sketch SITE SKETCH` answers it", {call: 1 for call in READERS if call != "agree"}),
+    ("index", "the file `site` of a folder: name the folder, or the files that it names", dict.fromkeys(READERS, 1)),
+    ("split", "a split file, which no command reads: `cadf-take --by UNIT SITE/ FILE..` makes files of its parts", dict.fromkeys(READERS, 1)),
     ("conflicts", "a conflict list, which cadf writes and does not read: take the site's file", dict.fromkeys(READERS, 1)),
     ("script", "a script: `cadf rehearse` reads it", dict.fromkeys(READERS, 1)),
     ("page", "a page of cadf-report: take the site's file", dict.fromkeys(READERS, 1)),
@@ -135,6 +137,8 @@ def make_files(trial):
     trial.cadf("inventory", "inventory", "good.cadf")
     trial.cadf("sketch", "sketch", "good.cadf")
     trial.cadf("conflicts", "show", "--conflicts", "good.cadf")
+    put("index", 'CADF-SITE 1\nL "g"\nB day\n')
+    put("split", 'CADF-SPLIT 1\nL "g"\nB day\n')
     put("script", "learn 0 {}\n")
     put("page", "<!DOCTYPE html>\n" * 200)
     with open("good.cadf", "rb") as file:
