@@ -39,8 +39,9 @@ OTHER_KINDS = {
     b"CADF-SPLIT ": "a split file, which no command reads: `cadf-take --by UNIT SITE/ FILE..` makes files of its parts",
     b'{"conflicts":': "a conflict list, which cadf writes and does not read: take the site's file",
     b"learn ": "a script: `cadf rehearse` reads it",
-    b"<!DOCTYPE html>": "a page of cadf-report: take the site's file",
+    b"<!doctype html>": "a page of cadf-report: take the site's file",
 }
+OF_FACTS = {b"CADF-REPLICA ": "a replica file: `cadf-take SITE FILE` takes it as it is"}
 OF_NO_KIND = re.compile("version|not JSON|event 0: ")  # what cadf says of them
 DAMAGED = "the file is damaged: fetch it again, or restore it as the guide says under `A damaged site`"
 # What to do about a refusal, by how its text begins.
@@ -51,6 +52,9 @@ ADVICE = {
     "digest": DAMAGED,
     "truncated": DAMAGED,
     "trailing bytes": DAMAGED,
+    "log line": DAMAGED,
+    "line ": DAMAGED,
+    "version": "a later release wrote it, or line ends were changed on the way: fetch it again, or have `cadf show` of it sent",
 }
 
 
@@ -217,9 +221,9 @@ class Input:
         return kind_of(self.first(max(map(len, OTHER_KINDS))))
 
 
-def kind_of(first):
-    """What else than facts begins with these bytes, or None."""
-    return next((words for begin, words in OTHER_KINDS.items() if first.startswith(begin)), None)
+def kind_of(first, others=()):
+    """What else than facts begins with these bytes, or than what is read in place of facts, or None."""
+    return next((words for begin, words in {**OTHER_KINDS, **dict(others)}.items() if first.startswith(begin)), None)
 
 
 def copy_of(pipe):

@@ -38,7 +38,7 @@ CALLS = {
 READERS = ("which", "agree", "take", "take it as the site", "conflicts", "report", "spool", "spool it as the site")
 PLAIN = ("which", "agree", "take", "conflicts", "report", "from-openstack", "choices", "listen", "authority")
 # Of each fault: the file, what is said of it, and by which calls, with the status of each.
-DAMAGED = "digest: the file is damaged: fetch it again, or restore it as the guide says under `A damaged site`"
+DAMAGED = "the file is damaged: fetch it again, or restore it as the guide says under `A damaged site`"
 NO_LOG = "no log named: an event by itself names none: give --log ID, or a file that does"
 OTHER = "other log%s: one site has one log; `cadf check FILE` says which log a file is of"
 FAULTS = [
@@ -55,8 +55,19 @@ FAULTS = [
     ("script", "a script: `cadf rehearse` reads it", dict.fromkeys(READERS, 1)),
     ("page", "a page of cadf-report: take the site's file", dict.fromkeys(READERS, 1)),
     ("inventory", "it begins as an inventory, which holds no facts: `cadf missing-by SITE INVENTORY` answers it", {"from-openstack": 1}),
+    ("sketch", "it begins as a sketch, which holds no facts: `cadf missing-by-sketch SITE SKETCH` answers it", {"from-openstack": 1}),
+    ("conflicts", "it begins as a conflict list, which cadf writes and does not read: take the site's file", {"from-openstack": 1}),
+    ("script", "it begins as a script: `cadf rehearse` reads it", {"from-openstack": 1}),
+    ("page", "it begins as a page of cadf-report: take the site's file", {"from-openstack": 1}),
     ("good.cadf", "it begins as a replica file: `cadf-take SITE FILE` takes it as it is", {"from-openstack": 1}),
-    ("damaged", DAMAGED, dict.fromkeys(READERS, 1)),
+    ("inventory", "an inventory, which holds no facts: `cadf missing-by SITE INVENTORY` answers it", {"choices": 1}),
+    ("page", "a page of cadf-report: take the site's file", {"choices": 1}),
+    ("good.cadf", "a replica file: `cadf-take SITE FILE` takes it as it is", {"choices": 1}),
+    ("damaged", "digest: " + DAMAGED, dict.fromkeys(READERS, 1)),
+    ("cut", "truncated: " + DAMAGED, dict.fromkeys(READERS, 1)),
+    ("lacking", "line 4: order: " + DAMAGED, dict.fromkeys(READERS, 1)),
+    ("of-windows", "version: a later release wrote it, or line ends were changed on the way: fetch it again, or have `cadf show` of it sent",
+     dict.fromkeys(READERS, 1)),
     ("event.json", NO_LOG, dict.fromkeys(("agree", "conflicts", "no log", "a new site"), 1)),
     ("event.json", NO_LOG, {"take it as the site": 1}),
     ("event.json", "an event by itself, and no site's file: name another SITE", {"spool it as the site": 1}),
@@ -83,6 +94,8 @@ FULL = [
 WRONG = [
     ('"%s: %s" % (text, advice) for begin', "text for begin", "damaged"),
     ("if first.startswith(begin)), None)", "if False), None)", "script"),
+    ('    "line ": DAMAGED,\n', "", "lacking"),
+    ('b"<!doctype html>": ', 'b"<!DOCTYPE html>": ', "page"),
     ('"standard input" if name == "-" else name), fault.strerror)', '"standard input" if name == "-" else name), "read fault")', "absent"),
     ("if isinstance(getattr(sys.stdout, \"buffer\", None), io.RawIOBase):", "if False:", "conflicts --rule choices open.cadf"),
     ("cadf(words, inputs, output.fileno(), where=path)", "cadf(words, inputs, output.fileno())", "agree SITE many.json"),
@@ -140,9 +153,14 @@ def make_files(trial):
     put("index", 'CADF-SITE 1\nL "g"\nB day\n')
     put("split", 'CADF-SPLIT 1\nL "g"\nB day\n')
     put("script", "learn 0 {}\n")
-    put("page", "<!DOCTYPE html>\n" * 200)
+    done = subprocess.run([os.path.join(TOOLS, "cadf-report"), "good.cadf"], stdout=subprocess.PIPE, check=True, env=dict(os.environ, CADF=trial.binary))
+    put("page", done.stdout)
     with open("good.cadf", "rb") as file:
-        put("damaged", file.read().replace(b"read", b"reap"))
+        good = file.read()
+    put("damaged", good.replace(b"read", b"reap"))
+    put("cut", good[:-20])
+    put("lacking", good.replace(b'[2,0,"e1"]\n', b""))
+    put("of-windows", good.replace(b"\n", b"\r\n"))
     os.mkdir("folder")
     put("secret", document(["e3"]))
     os.chmod("secret", 0o600)

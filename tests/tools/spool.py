@@ -144,7 +144,7 @@ def tries_kinds(trial):
              "f.log": b"2024-03-01 12:00:00.1 7 INFO x [-] no event\n", "g": b"", "h.jsonl": document("e6") + b"\n"}
     bad = {"cut.json": (document("e7")[:-1], "not JSON"), "empty.json": (b"", "not JSON"), "lines.json": (message("e8", "e9"), "not JSON"),
            "other.json": (document("e7", log="h"), 'other log: "h": one site has one log; `cadf check FILE` says which log a file is of'),
-           "short.cadf": (replica[:-9], "truncated: " + DAMAGED), "asks.cadf": (b"CADF-INVENTORY 1\n", "an inventory, which holds no facts: `cadf missing-by SITE INVENTORY` answers it"), "later": (b"CADF-REPLICA 3\n", "version"),
+           "short.cadf": (replica[:-9], "truncated: " + DAMAGED), "asks.cadf": (b"CADF-INVENTORY 1\n", "an inventory, which holds no facts: `cadf missing-by SITE INVENTORY` answers it"), "later": (b"CADF-REPLICA 3\n", "version: a later release wrote it, or line ends were changed on the way: fetch it again, or have `cadf show` of it sent"),
            "action.json": (document("e7").replace(b'"read"', b"1"), "event 1: action"), "x.gz": (b"\x1f\x8b\x08", "compressed: unpack it by gunzip, and put it back")}
     left = {"n.part": b"x", "n.jsonl.torn": b"{", ".hidden": b"x"}
     folder = trial.site(**kinds, **{name: data for name, (data, _) in bad.items()}, **left)

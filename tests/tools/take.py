@@ -137,6 +137,20 @@ def takes(trial):
     trial.ends("by PATH", trial.take("s.cadf", "one.json", env={"CADF": "", "PATH": path}), 0)
 
 
+def takes_standard_input(trial):
+    """`-` is what a pipe brings, as the answer to an inventory, or a file, and is read more than once."""
+    for what, line, status, after, said in (
+            ("an answer", '"$CADF" inventory s.cadf | "$CADF" missing-by two.cadf /dev/stdin | "$TAKE" s.cadf -', 0, trial.both, ""),
+            ("a file", '"$TAKE" s.cadf - <two.json', 0, trial.both, ""),
+            ("nothing", 'true | "$TAKE" s.cadf -', 1, trial.one, "cadf-take: standard input: not JSON\n"),
+            ("no standard input", '"$TAKE" s.cadf - <&-', 3, trial.one, "cadf-take: standard input: Bad file descriptor\n")):
+        trial.site(site=trial.one)
+        with open("two.cadf", "wb") as file:
+            file.write(trial.two)
+        trial.ends(what, ended("/bin/sh", ["-c", line], env=dict(os.environ, CADF=trial.binary, TAKE=trial.tool)), status, said)
+        trial.leaves(what, after, trial.one if after == trial.both else None)
+
+
 def keeps_access(trial):
     """The site's mode and group stay, its owner as far as this user may give it, and its access control list.
 
@@ -306,6 +320,7 @@ WRONG = [
     ("it copies all bits of the mode", "os.fstat(old).st_mode & 0o777)", "stat.S_IMODE(os.fstat(old).st_mode))", keeps_no_bits),
     ("it opens what is no regular file", "if not stat.S_ISREG(mode):", "if False:", waits_for_none),
     ("it waits for the writer of a FIFO", "own | flags | os.O_NONBLOCK", "own | flags", waits_for_none),
+    ("it reads a pipe twice", 'file = copy_of(open(0, "rb", closefd=False)) if name', 'file = open(0, "rb", closefd=False) if name', takes_standard_input),
     ("it takes any lock", "if os.fstat(file).st_mode not in LOCK_MODES:", "if False:", waits_for_none),
     ("its lock is for the group of each site", "0o660 if is_shared else 0o600", "0o660", keeps_access),
 ]
@@ -389,7 +404,7 @@ def main():
         os.chmod(folder, 0o755)  # for other users
         os.chdir(folder)
         trial = Trial(binary)
-        for part in (takes, keeps_access, refuses, fails, keeps_no_bits, waits_for_none, shares, catches):
+        for part in (takes, takes_standard_input, keeps_access, refuses, fails, keeps_no_bits, waits_for_none, shares, catches):
             part(trial)
         faulty(trial, None, trial.two)
         faulty(trial, trial.one, trial.both, site=trial.one, before=trial.two)
