@@ -25,27 +25,6 @@ use Rattle.cadf_json.proofs.Splits.{itself, float-put}
 use Rattle.cadf_json.proofs.Texts.{has_float-IsWhole}
 use Rattle.cadf_json.proofs.Turns.{item_read, items_over, member_read, members_over}
 
--- ---- numbers
-
-pub whole_number : (s : List ℕ) → IsWholeText s → IsNumberPassed s false
-whole_number s h =
-    (number (number_in s), (ap (option_map number) (number_of-whole s h), has_float-IsWhole (number (number_in s)) (IsWhole-data_in (json.number s) h)))
-
--- the one token of a number's text
-one_number : (s : List ℕ) → IsNumber s → tokens s ≡ Token.number s ∷ []
-unfolding ArePrintable print_from
-one_number s h =
-    let printed = tokens-print (Token.number s ∷ []) (h, tt) in
-    let text : print (Token.number s ∷ []) ≡ s = append-nil s in
-    ap tokens (sym text) ∙ printed
-
-pub number_read : (s : List ℕ) (d : Data) (b : Bool) → IsNumber s → read s ≡ Some d → b ≡ has_float d → IsNumberPassed s b
-number_read s d b h e f =
-    let whole : read s ≡ option_map number (number_of s) =
-    ap (λ ts. option_and_then of_json (option_and_then (λ p. if_last p.0 p.1) (value 127 ts))) (one_number s h)
-    ∙ ap (λ o. option_and_then of_json (option_and_then (λ p. if_last p.0 p.1) o)) (value_is 127 (Token.number s ∷ [])) in
-    (d, (sym whole ∙ e, sym f))
-
 -- ---- items
 
 or_none : (b : Bool) → (b || false) ≡ (false || b)

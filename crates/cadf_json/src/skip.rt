@@ -1,18 +1,15 @@
 //! Skips values, and finds only whether a number that counts has a fraction.
 ghost use Rattle.std.specs.Prelude.{◌≡◌, ◌<◌, length, true, false, IfOk, IfSome, OnOk, option_map};
-ghost use Rattle.json.specs.Print.{IsNumber};
 ghost use Rattle.serde_json.specs.Data.{Data, Members, put};
 ghost use Rattle.serde_json.specs.Written.{has_float};
 ghost use Rattle.cadf_json.specs.Passed.{IsPassed, AreItemsPassed, AreMembersPassed, IsNumberPassed, HasCounted, IsValueWith, SpellsList};
 ghost use Rattle.cadf_json.specs.Value.{IsNoJson};
 
 use crate::Memory;
-use crate::number::is_whole;
+use crate::number::Number;
 use crate::read::TreeFault;
 use crate::tree::MAX_DEPTH;
-use crate::value::has_fraction;
 use json::{Reader, Scratch, Token};
-use serde_json::Value;
 use std::alloc::Global;
 
 /// Skips the next value and returns whether a number that counts has a fraction. Lists and objects may nest `depth`
@@ -27,7 +24,7 @@ fn skip_any(alloc: Global, reader: &mut Reader<'_>, depth: usize) -> Result<bool
     };
     match token {
         Token::String(_) => Ok(false),
-        Token::Number(text) => Ok(is_fraction(alloc, text)?),
+        Token::Number(text) => Ok(is_fraction(text)?),
         Token::Bool(_) => Ok(false),
         Token::Null => Ok(false),
         Token::EndObject | Token::EndArray | Token::Key(_) | Token::Bad => Err(
@@ -108,17 +105,12 @@ fn counted_with<'a>(
 }
 
 /// Returns whether the number has a fraction, or is out of range. `NeedsFullParse` if it has no value.
-pub(crate) fn is_fraction(alloc: Global, text: &str) -> Result<bool, TreeFault>
-    requires { IsNumber text.now }
+pub(crate) fn is_fraction(text: &str) -> Result<bool, TreeFault>
     ensures { IfOk result (IsNumberPassed text.now) }
 {
-    if is_whole(text) {
-        return Ok(false);
-    }
-    match Value::from_str(alloc, text) {
-        Ok(value) => Ok(has_fraction(&value)),
-        Err(error) if error.is_memory() => Err(TreeFault::Memory),
-        Err(_) => Err(TreeFault::NeedsFullParse),
+    match Number::parse(text) {
+        Some(number) => Ok(number.is_float()),
+        None => Err(TreeFault::NeedsFullParse),
     }
 }
 

@@ -1,9 +1,8 @@
-use Rattle.serde_json.specs.View.{view}
-use Rattle.cadf_json.proofs.PassedOver.{whole_number, number_read}
+use Rattle.std.proofs.Common.{option_map, sym, ap, ◌∙◌}
+use Rattle.serde_json.specs.Data.{number}
+use Rattle.cadf_json.specs.Number.{num_of}
 use Rattle.cadf_json.proofs.skip.is_fraction.Goals as goal
 
-pub returns-then-is_whole : goal.returns-then-is_whole
-returns-then-is_whole c = whole_number c.args.text.now (c.is_whole.ensures.yes c.if-is_whole.true)
-
-pub returns-in-Ok : goal.returns-in-Ok
-returns-in-Ok c = number_read c.args.text.now (view c.in-Ok.value) c.has_fraction.result c.requires c.in-Ok.ensures.ok c.has_fraction.ensures
+pub returns-in-Some : goal.returns-in-Some
+returns-in-Some c =
+    (number (num_of c.in-Some.number), (ap (option_map number) (sym c.parse.ensures ∙ ap (option_map num_of) c.in-Some.is), sym c.is_float.ensures))
