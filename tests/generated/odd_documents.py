@@ -22,7 +22,7 @@ LOOKED_FOR = EVENT_NAMES + [
     "eventTime", "initiator", "initiatorId", "outcome", "reporter", "reporterId", "reporterTime", "metricId"]
 NEAR_ENDS = ["\x00", " ", "!", '"', '"x', "#", "I", "\\", "/", "\x7f", "\u00e9", "\uffff", "\U00010000", "a", "s", "z", "0"]
 REACHES = [1, 2, 31, 32, 62, 63, 64, 65, 66, 127, 128, 129]
-# How many items a list has that makes an event large. An event of more than 16,384 values may be read in another way.
+# How many items a list has that makes an event large.
 COUNTS = [16000, 16300, 16384, 16400, 20000]
 ITEMS = [b"0", b"null", b"[]", b"{}", b'""', b'"a"', b'{"":0}']
 BLANKS = [b" ", b"\n", b"\r", b"\t", b"  ", b" \t\r\n"]

@@ -247,8 +247,7 @@ NO_VALUES = [
     ("CADF-REPLICA 1\n", "NotJson"),
 ]
 
-# An event, a body or a step of at most so many values is read as a tree, a larger one as the texts of its members. The
-# answer is the same.
+# An event, a body or a step may have more values than these: it is judged as a small one.
 MOST = 16384
 
 

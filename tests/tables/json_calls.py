@@ -1,12 +1,13 @@
 """Calls of JSON values, of sources and sinks, and of times, with what they answer."""
 from tests.tables.texts import nested
 
-# What is asked of a value that is held, or of a tree.
+# What is asked of a value.
 ASKED = {
     "kind": ["View::is_null", "View::is_object", "View::is_list", "View::as_text", "View::len", "View::depth"],
     "item": ["View::item"],
     "member": ["View::member"],
     "name": ["View::name_at"],
+    "items": ["View::items"],
     "members": ["View::members"],
     "within": ["View::members_nest_within"],
     "rewritten_text": ["View::rewritten_text"],
@@ -14,22 +15,17 @@ ASKED = {
 }
 
 CALLS = {
-    **{"%s %s" % (how, asked): calls for how in ("value", "tree") for asked, calls in ASKED.items()},
-    "value text": ["Json::read", "Json::view", "View::text"],
-    "tree text": ["Tree::of_text", "Tree::read", "Tree::view"],
+    **{"value %s" % asked: calls for asked, calls in ASKED.items()},
+    "value text": ["Json::read", "Json::view", "View::text", "View::write"],
+    # A text that is read into the memory of another one's value.
+    "reused value": ["Json::new", "Json::read_into"],
+    "reused canonical": ["Json::read_canonical_into"],
     # On a text of which a part is repeated: what is before it, the part, how often, what is after it.
-    "repeated tree": ["Tree::of_text", "Tree::read"],
-    "repeated split": ["Tree::read"],
-    "row member": ["ObjectRow::of_text", "ObjectRow::text"],
-    "row within": ["ObjectRow::members_nest_within"],
-    "row rewritten_text": ["ObjectRow::rewritten_text"],
-    "split_rows": ["ObjectRow::read", "ObjectRow::into_bytes"],
+    "repeated value": ["Json::read"],
+    "repeated split": ["Json::read_next"],
     "canonical": ["Json::read_canonical"],
     "quoted": ["quoted"],
-    "split": ["read_object_streaming", "ItemVisitor::take"],
-    "check_list": ["check_list"],
-    "has_json_syntax": ["has_json_syntax"],
-    "find_fraction": ["find_fraction"],
+    "split": ["read_object_streaming", "ItemVisitor::take", "Json::read_next"],
     "is_canonical": ["is_canonical"],
     "spells_object": ["spells_object"],
     "spells_object_with": ["spells_object_with"],
@@ -38,7 +34,6 @@ CALLS = {
     "text_at": ["text_at"],
     "plain_text": ["plain_text"],
     "list_texts": ["ListTexts::of", "ListTexts::next_text"],
-    "list_rows": ["ListTexts::next_row"],
     "read_to_limit": ["read_to_limit", "MemorySource::new", "Source::read"],
     "read_rest": ["cadf_json::read_rest"],
     "borrow_next": ["Source::borrow_next", "MemorySource::borrowable"],
@@ -49,7 +44,7 @@ CALLS = {
 }
 
 CANONICAL, VALUES, STREAMS, TIMES = (
-    "Canonical JSON text", "ARCHITECTURE: Values and trees", "ARCHITECTURE: Sources and sinks", "Times")
+    "Canonical JSON text", "ARCHITECTURE: Values", "ARCHITECTURE: Sources and sinks", "Times")
 
 # Texts of JSON, and the canonical texts of what they spell.
 SPELLED = [
@@ -67,7 +62,7 @@ SPELLED = [
     (nested(127), nested(127)),
 ]
 
-# Texts in which a name stands twice: the last one counts, and they have no tree.
+# Texts in which a name stands twice: the last one counts.
 TWICE = [
     ('{"a":1,"a":2}', '{"a":2}'),
     ('{"a":1,"b":3,"\\u0061":2}', '{"a":2,"b":3}'),
@@ -123,6 +118,9 @@ FOUND = [
     ('"x"', ["item", 0], ["none"]),
     (MEMBERS, ["members"], ["ok", "deep", "[[]]", "id", "1", "t", '"x"']),
     ("[1]", ["members"], ["ok"]),
+    ('[1,[2,{"b":3,"a":4}],"x"]', ["items"], ["ok", "1", '[2,{"a":4,"b":3}]', '"x"']),
+    (PARTS, ["items"], ["ok"]),
+    ("null", ["items"], ["ok"]),
     ('{"b":[1,[2],{"z":null}],"a":"x","d":{},"c":true}', ["members"],
      ["ok", "a", '"x"', "b", '[1,[2],{"z":null}]', "c", "true", "d", "{}"]),
     # A member's limit, and that of the others.
@@ -140,54 +138,24 @@ FOUND = [
     ('{"x":1,"id":1,"tags":[]}', ["rewritten_text", "time", "t", "id", "tags"], ["ok", '{"x":1}']),
 ]
 
-# Objects that are read as the texts of their members, a member's name, and its text, if it is there. Of two members of one
-# name the later one counts.
-ROWS_OF = [
-    (PARTS, "b", ['[1,"x",null]']),
-    (PARTS, "c", []),
-    (PARTS, "", []),
-    ('{"a":1,"b":[],"a":{"c":2}}', "a", ['{"c":2}']),
-    ('{"a":1,"b":[],"a":{"c":2}}', "b", ["[]"]),
-    ('{"\\u0061":1,"":"\\u0041\\n"}', "a", ["1"]),
-    ('{"\\u0061":1,"":"\\u0041\\n"}', "", ['"A\\n"']),
-    ('{"a":{"y":1.5,"x":"\\/","y":-1},"é":7}', "a", ['{"x":"/","y":-1}']),
-    (LATE[65], "a", ["1"]),
-    (LATE[65], "b64", ["0"]),
-    (' { } ', "a", []),
-    ('{"a":%s}' % nested(126), "a", [nested(126)]),
-]
-OTHER_THAN_ROWS = ["null", "7", '"{}"', ' [ { "a" : 1 } ] ', "true", nested(127)]
-NO_ROWS = ["", "{", '{"a"', '{"a":1', '{"a":01}', '{"a":1,}', "[1,]", "1.5", "[-0]", '{"a":1.5}', '{"a":1.5,"a":1}', '{"a":1e400}',
-           '{"a":18446744073709551616}', '{"a":%s}' % nested(127), nested(128), "{} {}", "[] 1", '{"a":1}}']
-# Objects, and what the items of their member `list` have at `id`, each read over the memory of the one before.
-ROW_LISTS = [
-    ('{"list":[{"a":[1,2,3],"id":"x"},{"id":null},7,{"b":"a longer text"},{"id":1,"id":{"d":1,"c":[]}}],"id":0}',
-     ['"x"', "null", "no object", "absent", '{"c":[],"d":1}']),
-    (' { "list" : [ { } , [ { "id" : 1 } ] ] } ', ["absent", "no object"]),
-    ('{"list":[{"a":{"b":1.5,"b":1},"id":"\\u0041"}]}', ['"A"']),
-    ('{"list":[{"id":%s}]}' % nested(124), [nested(124)]),
-    ('{"list":[]}', []),
-]
-NO_ROW_LISTS = ['{"list":[{"id":1.5}]}', '{"list":[1.5]}', '{"list":[{"id":1},{"id"]}', '{"list":[{"id":1}],"list":[]}',
-                '{"list":[{"id":%s}]}' % nested(125)]
-
-# A tree has at most so many values.
+# As many items, or members, as these.
 MOST = 16384
-# Texts of which a part is repeated, and what their trees are: those with as many values, and with one more.
+# Texts of which a part is repeated, and what their values are.
 COUNTED = [
-    (("[", "0,", MOST - 2, "0]"), [False, False, True, MOST - 1, 1]),
-    (("[", "0,", MOST - 1, "0]"), ["err", "TooLarge"]),
-    (('{"a":[', "{},", MOST - 3, "{}]}"), [False, True, False, 1, 3]),
-    (('{"a":[', "{},", MOST - 2, "{}]}"), ["err", "TooLarge"]),
-    (("[", '{"":[]},', MOST // 2, "0]"), ["err", "TooLarge"]),
+    (("[", "0,", MOST, "0]"), [False, False, True, MOST + 1, 1]),
+    (('{"a":[', "{},", MOST, "{}]}"), [False, True, False, 1, 3]),
+    (("[", '{"":[]},', MOST, "0]"), [False, False, True, MOST + 1, 3]),
 ]
 
-# Lists, a name, and the text there of each item, or that the item has no such member or is no object.
-LISTED = [
-    (' [ { "id" : 1 } , 7 , {"b":2} , [{"id":3}] , {"id":{"id":[]}} ] ', ["1", "no object", "absent", "no object", '{"id":[]}']),
-    ('[{"id":1,"id":"\\u0041"},null,{}]', ['"A"', "no object", "absent"]),
-    ("[]", []), ("null", []),
-    ('[{"id":%s}]' % nested(125), [nested(125)]),
+# Texts, each read into the memory of another one's value, and what is told of it.
+REUSED = [
+    ("value", '{"a":["x","y"],"b":{"c":"z"}}', '["u"]', ["ok", '["u"]']),
+    ("value", "[1.5]", '{"b":1,"a":2}', ["ok", '{"a":2,"b":1}']),
+    ("value", "[", "null", ["ok", "null"]),
+    ("value", '{"a":1}', "[1.5]", ["err", "NotWhole"]),
+    ("value", '{"a":1}', "[1.5", ["err", "NotJson"]),
+    ("canonical", '"a long text"', '{"a":"b"}', ["ok", '{"a":"b"}']),
+    ("canonical", '{"a":1}', '{"b":1,"a":2}', ["err", "NotCanonical"]),
 ]
 
 # Objects of which `list` is taken: the items, and the names and texts of the other members.
@@ -207,31 +175,16 @@ AROUND = [
     ('{"b":{"z":"\\"","y":{"d":[{}],"c":[],"":null}},"list":[],"a":%s}' % LATE[65], [],
      ["a", '{"a":1,' + LATE[65][1:].replace(',"a":1', ""), "b", '{"y":{"":null,"c":[],"d":[{}]},"z":"\\""}']),
     ('{"list":[],"x":%s}' % nested(126), [], ["x", nested(126)]),
+    ('{"list":[{"a":1,"a":1},{"b":1.5,"b":2}]}', ['{"a":1}', '{"b":2}'], []),
     ('{"list":[%s]}' % nested(125), [nested(125)], []),
 ]
 WITHOUT_LIST = ["{}", ' {"b":{"list":[1]},"a":[{}]} ', '{"b":1,"b":2}']
 NO_SPLIT = ["", "[]", '{"list":[]', '{"list":[]} {}', '{"list":[1.5]}', '{"list":{}}', '{"list":null}', '{"a":1} 2',
-            '{"b":[0.5],"list":[]}', '{"list":[],"list":[]}', '{"list":[{"a":1,"a":1}]}', '{"a":1.5,"a":1,"list":[]}',
+            '{"b":[0.5],"list":[]}', '{"list":[],"list":[]}', '{"a":1.5,"a":1,"list":[]}',
             '{"b":[0.5]}', '{"list":[],"b":{"c":[-0]}}', '{"list":[],"x":%s}' % nested(127), '{"list":[%s]}' % nested(126),
             '{"list":[],"x":{"a":1e400,"a":1}}', '{"list":[],"x":[1,]}']
 
-# Lists that are passed over with nothing kept, and texts that aren't.
-PASSED = ["[]", ' [ { "a" : 1 } , { "a" : [ ] } ] ', "[-9223372036854775808,18446744073709551615,0,-1]",
-          '[null,true,false,"\\u0041"]', '[{"a":1,"a":{"b":2,"b":[]}}]', nested(127)]
-NOT_PASSED = ["", "{}", "7", "[", "[]]", "[] []", "[1,]", "[1.5]", '[{"a":[1e2]}]', "[-0]", "[18446744073709551616]",
-              "[-9223372036854775809]", '[{"a":1]', '[{"a":}]', nested(128)]
-
-# Texts that may be JSON, and texts that are none.
-MAY_BE = ["{}", "[1.5]", ' {"a":1,"a":2} ', '"\\u0041"', "7", nested(127)]
-MAY_NOT = ["", '{"a":[{"a":1},{"a"', "[1,]", "[] []", '{"a":01}', "nul", nested(128)]
-
-# Texts whose value has a number that isn't whole, texts whose value has none, and texts of which it isn't told.
-FRACTIONS = ["1.5", "-0", "[1,[{\"a\":1e2}]]", '{"a":1,"a":1.5}', '{"a":1.5,"b":1}', '{"a":1.5,"a":2.5}', '{"a":{"b":1,"b":1e1},"c":[]}',
-             "18446744073709551616", "[-9223372036854775809,1]"]
-NO_FRACTIONS = ["0", "[1,[{\"a\":-7}]]", '{"a":1,"a":2}', '"1.5"', " {} ", nested(127)]
-NOT_TOLD = ['{"a":1.5,"a":1}', "1e400", "[1.5,1e400]", "[1.5", "1.5 1", "", nested(128)]
-
-# Canonical texts that are judged with no tree, and how deep they nest.
+# Canonical texts that are judged with no value, and how deep they nest.
 JUDGED = [("null", 0), ("[]", 1), ('"\\u0001\\t\\""', 0), ('{"":{"a":[-9223372036854775808,18446744073709551615,0]},"a":1}', 3),
           ('{"type\\u0000":4,"type\\"x":1,"typeURI":2,"é":"\x7f"}', 1), (nested(100), 100), (nested(127), 127)]
 # Texts that are not canonical: by an escape, a number, a blank, the order of names, or since they are no JSON.
@@ -313,26 +266,20 @@ def values():
     """Values, their texts, and why others are none."""
     for text, spelled in SPELLED:
         yield "value", ["text", text], ["ok", spelled], CANONICAL
-        yield "tree", ["text", text], ["ok", spelled], VALUES
     for spelled in {spelled: None for _, spelled in SPELLED}:
         yield "canonical", [spelled], ["ok", spelled], CANONICAL
     for text, spelled in TWICE:
         yield "value", ["text", text], ["ok", spelled], CANONICAL
-        yield "tree", ["text", text], ["err", "NeedsFullParse"], VALUES
     yield "value", ["text", '{"a":1,"a":1.5}'], ["err", "NotWhole"], CANONICAL
     for number in NOT_WHOLE:
         for text in (number, '{"measurements":[{"metricId":"m1","result":%s}]}' % number):
             yield "value", ["text", text], ["err", "NotWhole"], CANONICAL
-            yield "tree", ["text", text], ["err", "NeedsFullParse"], VALUES
     for number in WHOLE:
         text = '{"measurements":[{"metricId":"m1","result":%s}]}' % number
         yield "value", ["text", text], ["ok", text], CANONICAL
     for data in NO_JSON:
         yield "value", ["text", data], ["err", "NotJson"], CANONICAL
-    for text in ("", "[1", "[1]]", "{} {}", '{"a"}', "[1,]", '"\\ud800"', "nul", nested(128)):
-        yield "tree", ["text", text], ["err", "NeedsFullParse"], VALUES
-    yield "tree", ["text", LATE[64]], ["ok", '{"a":1,' + LATE[64][1:].replace(',"a":1', "")], VALUES
-    yield "tree", ["text", LATE[65]], ["err", "NeedsFullParse"], VALUES
+    yield "value", ["text", LATE[64]], ["ok", '{"a":1,' + LATE[64][1:].replace(',"a":1', "")], CANONICAL
     yield "value", ["text", LATE[65]], ["ok", '{"a":1,' + LATE[65][1:].replace(',"a":1', "")], CANONICAL
     yield "value", ["text", "1e400"], ["err", "NotJson"], CANONICAL
     for text, fault in NO_CANONICAL:
@@ -340,36 +287,20 @@ def values():
 
 
 def looks():
-    """What is seen of a value, whether it is held or in a tree."""
+    """What is seen of a value."""
     for text, *kind in KINDS:
-        for how in ("value", "tree"):
-            yield how, ["kind", text], kind, VALUES
+        yield "value", ["kind", text], kind, VALUES
     for text, asked, found in FOUND:
-        for how in ("value", "tree"):
-            yield how, [asked[0], text, *asked[1:]], found, VALUES
+        yield "value", [asked[0], text, *asked[1:]], found, VALUES
 
 
 def objects():
-    """Objects that are read as the texts of their members, and trees with many values."""
-    for text, name, found in ROWS_OF:
-        yield "row", ["member", text, name], ["some", *found] if found else ["none"], VALUES
-    for text, asked, found in FOUND:
-        if asked[0] in ("within", "rewritten_text") and text.startswith("{"):
-            yield "row", [asked[0], text, *asked[1:]], found, VALUES
-    for text in OTHER_THAN_ROWS:
-        yield "row", ["member", text, "a"], ["none"], VALUES
-    for text in NO_ROWS:
-        yield "row", ["member", text, "a"], ["err", "NeedsFullParse"], VALUES
-    for text, found in ROW_LISTS:
-        yield "split_rows", [text, "id"], ["around", *found], VALUES
-    yield "split_rows", ['{"lists":[{"id":1}]}', "id"], ["none"], VALUES
-    for text in NO_ROW_LISTS:
-        yield "split_rows", [text, "id"], ["err", "NeedsFullParse"], VALUES
+    """Values with many parts, and values that are read into the memory of others."""
     for text, kind in COUNTED:
-        yield "repeated", ["tree", *text], kind, VALUES
-    # The visitor reads a tree of each item. Other members may have more values.
-    yield "repeated", ["split", '{"list":[0,[', "0,", MOST - 1, "0],1]}"], ["err", "TooLarge"], VALUES
+        yield "repeated", ["value", *text], kind, VALUES
     yield "repeated", ["split", '{"list":[7],"a":[', "0,", MOST, '0],"a":1}'], ["around", 1, "7", "a", "1"], VALUES
+    for how, first, text, answer in REUSED:
+        yield "reused", [how, first, text], answer, VALUES
 
 
 def made():
@@ -378,26 +309,13 @@ def made():
 
 
 def passed():
-    """Objects of which a list is taken, lists that are passed over, and texts that may be JSON."""
+    """Objects of which a list is taken, and texts that are judged."""
     for text, items, texts in AROUND:
         yield "split", [text], ["around", len(items), *items, *texts], VALUES
     for text in WITHOUT_LIST:
         yield "split", [text], ["none"], VALUES
     for text in NO_SPLIT:
         yield "split", [text], ["err", "NeedsFullParse"], VALUES
-    for text in PASSED:
-        yield "check_list", [text], ["ok"], VALUES
-    for text in NOT_PASSED:
-        yield "check_list", [text], ["err", "NeedsFullParse"], VALUES
-    for text in MAY_BE:
-        yield "has_json_syntax", [text], [True], VALUES
-    for text in MAY_NOT:
-        yield "has_json_syntax", [text], [False], VALUES
-    for fraction, texts in [(True, FRACTIONS), (False, NO_FRACTIONS)]:
-        for text in texts:
-            yield "find_fraction", [text], ["some", fraction], VALUES
-    for text in NOT_TOLD:
-        yield "find_fraction", [text], ["none"], VALUES
     for text, depth in JUDGED:
         yield "is_canonical", [text, depth], [True], CANONICAL
         yield "is_canonical", [text, 255], [True], CANONICAL
@@ -423,11 +341,8 @@ def passed():
         yield "plain_text", [text], ["some", *found] if found else ["none"], VALUES
     for text, items in LISTS:
         yield "list_texts", [text], ["some", *items], VALUES
-    for text, found in LISTED:
-        yield "list_rows", [text, "id"], ["some", *found], VALUES
     for text in NO_LISTS:
         yield "list_texts", [text], ["none"], VALUES
-        yield "list_rows", [text, "id"], ["none"], VALUES
 
 
 def streams():

@@ -1,19 +1,17 @@
 -- The items of a list, read one by one from the tokens of its canonical text.
-use Rattle.std.proofs.Common.{◌≡◌, ℕ, ◌≤◌, List, [], ◌∷◌, ◌++◌, Bool, true, false, Option, Some, None, option_map, refl, sym, ap, ◌∙◌, subst, arith}
+use Rattle.std.proofs.Common.{◌≡◌, ℕ, ◌≤◌, List, [], ◌∷◌, Bool, true, false, Option, Some, None, option_map, refl, sym, ap, ◌∙◌, subst, arith}
 use Rattle.json.specs.Token.{Token}
 use Rattle.json.specs.Lex.{tokens}
 use Rattle.json.specs.Json.{value, after_end_array}
 use Rattle.json.specs.Tree as tree
 use Rattle.json.specs.Tree.{json_tokens, items_tokens, members_tokens}
 use Rattle.json.proofs.Printed.Trees.{value-json_tokens}
-use Rattle.serde_json.specs.Data.{Data, null, boolean, number, string, array, object, Items, no_items, item, Members, no_members, member, items_depth}
+use Rattle.serde_json.specs.Data.{Data, null, boolean, number, string, array, object, Items, no_items, item, items_depth}
 use Rattle.serde_json.specs.Read.{of_json, converted}
-use Rattle.serde_json.specs.Written.{outline, items_outline, members_outline, number_text}
-use Rattle.cadf_json.specs.Parts.{is_object, parts_in, to_list}
-use Rattle.cadf_json.specs.Rows.{IsItemRead, IsNextRow}
-use Rattle.cadf_json.specs.TokenUtf8.{HaveUtf8}
+use Rattle.serde_json.specs.Written.{outline, items_outline, number_text}
+use Rattle.cadf_json.specs.Parts.{parts_in, to_list}
 use Rattle.cadf_json.specs.Spelling.{IsRead}
-use Rattle.cadf_json.specs.Value.{IsValue, IsWhole, ItemsAreWhole, MembersAreWhole, text}
+use Rattle.cadf_json.specs.Value.{IsValue, ItemsAreWhole, text}
 use Rattle.cadf_json.specs.ListTexts.{is_listed, begins_list, AreLeft, IsNextText}
 use Rattle.cadf_json.proofs.Canonicals.{canonical_tokens}
 use Rattle.cadf_json.proofs.ObjectTexts.{IsNextToken}
@@ -115,59 +113,3 @@ next_at (item d es) ts rest s ds whole deep is all going read =
 pub next_left : (ts rest : List Token) (s : List ℕ) → after_end_array ts ≡ None → IsRead 126 ts rest s → (ds : List Data) → AreLeft false ts ds
     → IsNextText ds s false rest
 next_left ts rest s going read ds (es, whole, deep, is, all) = next_at es ts rest s ds whole deep is all going read
-
--- ---- the next item as an object
-
-row_at : (es : Items) (ts rest : List Token) (o : Option Data) (ds : List Data) → ItemsAreWhole es → items_depth es ≤ 126
-    → ts ≡ items_tokens (items_outline es) → ds ≡ to_list es → after_end_array ts ≡ None → IsItemRead 126 ts rest o → IsNextRow ds o false rest
-row_at no_items ts rest o ds whole deep is all going read =
-    let bad : ◌≡◌ {A = Option (List Token)} (Some []) None = ap after_end_array (sym is) ∙ going in absurd cc
-row_at (item d es) ts rest o ds whole deep is all going read =
-    let after = items_tokens (items_outline es) in
-    let low : tree.depth (outline d) ≤ 126 = omega (arith, deep, depth-outline d) in
-    let first : value 126 ts ≡ Some (outline d, after) = ap (value 126) is ∙ value-json_tokens (outline d) 126 after low in
-    let here : converted of_json (value 126 ts) ≡ Some (d, after) =
-    ap (converted of_json) first ∙ ap (λ o. option_map {U = Data × List Token} (λ x. (x, after)) o) (of_json-outline d whole.0) in
-    of_row o here read
-  where
-    same_pair : (x y : Data) (r s : List Token) → ◌≡◌ {A = Option (Data × List Token)} (Some (x, r)) (Some (y, s)) → (x ≡ y) × (r ≡ s)
-    same_pair x y r s e = let both : ◌≡◌ {A = Data × List Token} (x, r) (y, s) = cc in (ap (λ p. p.0) both, ap (λ p. p.1) both)
-
-    of_row : (o : Option Data) → converted of_json (value 126 ts) ≡ Some (d, items_tokens (items_outline es)) → IsItemRead 126 ts rest o → IsNextRow ds o false rest
-    of_row None here read =
-        let same = same_pair read.0 d rest (items_tokens (items_outline es)) (sym read.1.0 ∙ here) in
-        (d, (to_list es, (all, sym (ap is_object same.0) ∙ read.1.2, (es, whole.1, omega (arith, deep), same.1, refl))))
-    of_row (Some x) here read =
-        let same = same_pair x d rest (items_tokens (items_outline es)) (sym read ∙ here) in
-        (to_list es, (all ∙ ap (λ y. y ∷ to_list es) (sym same.0), (es, whole.1, omega (arith, deep), same.1, refl)))
-
-pub next_row_left : (ts rest : List Token) (o : Option Data) → after_end_array ts ≡ None → IsItemRead 126 ts rest o → (ds : List Data) → AreLeft false ts ds
-    → IsNextRow ds o false rest
-next_row_left ts rest o going read ds (es, whole, deep, is, all) = row_at es ts rest o ds whole deep is all going read
-
--- ---- the tokens of a whole value are UTF-8
-
-utf8_append : (ts us : List Token) → HaveUtf8 ts → HaveUtf8 us → HaveUtf8 (ts ++ us)
-utf8_append [] us h k = k
-utf8_append (t ∷ ts) us h k = (h.0, utf8_append ts us h.1 k)
-
-mutual
-  tokens_utf8_of : (d : Data) → IsWhole d → HaveUtf8 (json_tokens (outline d))
-  tokens_utf8_of null w = (tt, tt)
-  tokens_utf8_of (boolean b) w = (tt, tt)
-  tokens_utf8_of (number n) w = (tt, tt)
-  tokens_utf8_of (string s) w = (w, tt)
-  tokens_utf8_of (array ds) w = (tt, items_utf8_of ds w)
-  tokens_utf8_of (object ms) w = (tt, members_utf8_of ms w.0)
-
-  items_utf8_of : (ds : Items) → ItemsAreWhole ds → HaveUtf8 (items_tokens (items_outline ds))
-  items_utf8_of no_items w = (tt, tt)
-  items_utf8_of (item d ds) w = utf8_append (json_tokens (outline d)) (items_tokens (items_outline ds)) (tokens_utf8_of d w.0) (items_utf8_of ds w.1)
-
-  members_utf8_of : (ms : Members) → MembersAreWhole ms → HaveUtf8 (members_tokens (members_outline ms))
-  members_utf8_of no_members w = (tt, tt)
-  members_utf8_of (member k d ms) w =
-      (w.0, utf8_append (json_tokens (outline d)) (members_tokens (members_outline ms)) (tokens_utf8_of d w.1) (members_utf8_of ms w.2))
-
-pub left_utf8 : (ts : List Token) (ds : List Data) → AreLeft false ts ds → HaveUtf8 ts
-left_utf8 ts ds (es, whole, deep, is, all) = subst HaveUtf8 (sym is) (items_utf8_of es whole)

@@ -51,17 +51,29 @@ use Rattle.serde_json.specs.Find.{is_float}
 use Rattle.serde_json.specs.Written.{number_text, has_float, items_have_float, members_have_float, items_text, members_text, comma_if}
 use Rattle.cadf_json.specs.Value.{text}
 use Rattle.cadf_json.specs.Tree.{IsWholeText, number_in}
-use Rattle.cadf_json.specs.Passed.{IsNumberPassed}
-use Rattle.cadf_json.specs.Spelling.{IsNumberSpelled, IsAt, AreEntries, AreAt, name_text}
+use Rattle.cadf_json.specs.Spelling.{IsNumberPassed, IsNumberSpelled, IsAt, AreEntries, AreAt, name_text}
 use Rattle.cadf_json.specs.Canonical.{is_name_above}
 use Rattle.cadf_json.specs.declared.spelling.Span.{Span}
 use Rattle.cadf_json.proofs.Orders.{AreBelow, joined, joined-none, joined-one, push_if_last, AreBelow-further, AreBelow-joined}
 use Rattle.cadf_json.proofs.Passing.{followed, followed-none, followed-last, with_last, further, parsed_none}
-use Rattle.cadf_json.proofs.PassedOver.{or_shift, float-with_last}
 use Rattle.cadf_json.proofs.RisingRows.{less_from, both_true}
 use Rattle.cadf_json.proofs.Settled.{IsWhole-data_in, number_in_is, number_of-whole}
 use Rattle.cadf_json.proofs.Texts.{has_float-IsWhole}
 use Rattle.cadf_json.proofs.Turns.{item_read, items_over, member_read, members_over}
+
+-- ---- fractions among items
+
+none_or : (b : Bool) → (b || false) ≡ (false || b)
+none_or true = refl
+none_or false = refl
+
+or_shift : (a b c : Bool) → (a || (b || c)) ≡ ((a || b) || c)
+or_shift true b c = refl
+or_shift false b c = refl
+
+float-with_last : (ds : Items) (d : Data) → items_have_float (with_last d ds) ≡ (items_have_float ds || has_float d)
+float-with_last no_items d = none_or (has_float d)
+float-with_last (item e ds) d = ap (λ b. has_float e || b) (float-with_last ds d) ∙ or_shift (has_float e) (items_have_float ds) (has_float d)
 
 -- ---- numbers
 

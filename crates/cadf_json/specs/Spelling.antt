@@ -29,6 +29,10 @@ AreMembersSpelled depth ts rest before after fraction =
     (ms : Members) × (converted (λ ms. of_members ms no_members) (members (value depth) (length ts) ts) ≡ Some (ms, rest))
     × (members_have_float ms ≡ fraction) × (after ≡ before ++ text (object ms))
 
+-- a number's text, and whether it has a fraction
+abbrev pub IsNumberPassed : List ℕ → Bool → Type 0
+IsNumberPassed s fraction = (d : Data) × ((option_map number (number_of s) ≡ Some d) × (has_float d ≡ fraction))
+
 -- the text of a number was appended, and the flag says whether it isn't whole
 abbrev pub IsNumberSpelled : List ℕ → List ℕ → List ℕ → Bool → Type 0
 IsNumberSpelled s before after fraction =

@@ -1,6 +1,6 @@
 //! Checks whether a text is canonical, without building a tree.
 
-ghost use Rattle.std.specs.Prelude.{◌≡◌, ◌≢◌, ◌<◌, length, true, false, IfOk, option_map};
+ghost use Rattle.std.specs.Prelude.{◌≡◌, ◌≢◌, ◌<◌, [], length, true, false, IfOk, option_map, string_bytes};
 ghost use Rattle.json.specs.Lex.{tokens};
 ghost use Rattle.json.specs.Print.{print, ArePrintable};
 ghost use Rattle.cadf_json.specs.Canonical.{IsCanonicalWithin, IsOrdered, IsUnordered, AreItemsOrdered, AreItemsUnordered};
@@ -8,8 +8,7 @@ ghost use Rattle.cadf_json.specs.Canonical.{AreMembersOrdered, AreMembersUnorder
 
 use crate::Memory;
 use crate::number::is_whole;
-use crate::part_rewrite::finished;
-use crate::tree::MAX_DEPTH;
+use crate::read::MAX_DEPTH;
 use json::{Reader, Scratch, Token, Writer};
 use std::alloc::Global;
 use std::cmp::Ordering;
@@ -99,6 +98,17 @@ pub(crate) fn is_above(last: Option<&str>, name: &str) -> bool
             Ordering::Greater => false,
         },
         None => true,
+    }
+}
+
+/// Returns all the text that was written.
+fn finished(writer: Writer) -> String
+    requires { writer.before ≡ [] }
+    ensures { string_bytes result ≡ print writer.tokens }
+{
+    match String::from_utf8(writer.into_inner()) {
+        Ok(text) => text,
+        Err(_) => unreachable!(),
     }
 }
 

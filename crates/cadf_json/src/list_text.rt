@@ -5,13 +5,11 @@ ghost use Rattle.json.specs.Reads.{token_of};
 ghost use Rattle.serde_json.specs.Data.{Data};
 ghost use Rattle.cadf_json.specs.Parts.{parts_in};
 ghost use Rattle.cadf_json.specs.Value.{IsValue, text as text_of};
-ghost use Rattle.cadf_json.specs.Rows.{IsNextRow};
 ghost use Rattle.cadf_json.specs.ListTexts.{is_listed, begins_list, AreLeft, IsNextText};
 
 use crate::Memory;
-use crate::object_row::ObjectRow;
-use crate::read::TreeFault;
 use crate::spelling::read_text;
+use crate::stream_fault::StreamFault;
 use json::{Reader, Scratch, Token};
 use std::alloc::Global;
 
@@ -51,7 +49,7 @@ impl<'a> ListTexts<'a> {
 
     /// Returns the canonical text of the next item, or `None` after the last. `NeedsFullParse`: this parser can't read
     /// the item.
-    pub fn next_text(&mut self) -> Result<Option<String>, TreeFault>
+    pub fn next_text(&mut self) -> Result<Option<String>, StreamFault>
         ensures text { IfOk result (λ found. (ds : List Data) → AreLeft self.old.ended self.old.reader ds
             → MatchOption found (ds ≡ []) (λ s. IsNextText ds (string_bytes s) self.new.ended self.new.reader)) }
         ensures shorter { IfOk result (λ found. IfSome found (λ _. length self.new.reader < length self.old.reader)) }
@@ -65,30 +63,6 @@ impl<'a> ListTexts<'a> {
         }
         let text = read_text(self.alloc, &mut self.reader, ITEM_DEPTH, &mut self.buffer)?;
         Ok(Some(text))
-    }
-
-    /// Reads the next item as an object, or returns `None` after the last. The inner `None`: the item is no object.
-    /// `NeedsFullParse`: this parser can't read the item.
-    pub fn next_row(&mut self) -> Result<Option<Option<ObjectRow<'a>>>, TreeFault>
-        requires { (ds : List Data) × AreLeft self.old.ended self.old.reader ds }
-        ensures row { IfOk result (λ found. (ds : List Data) → AreLeft self.old.ended self.old.reader ds
-            → MatchOption found (ds ≡ []) (λ o. IsNextRow ds o self.new.ended self.new.reader)) }
-        ensures shorter { IfOk result (λ found. IfSome found (λ _. length self.new.reader < length self.old.reader)) }
-    {
-        if self.ended {
-            return Ok(None);
-        }
-        if self.reader.take_end_array() {
-            self.ended = true;
-            return Ok(None);
-        }
-        let row = ObjectRow::read(
-            self.alloc,
-            &mut self.reader,
-            ITEM_DEPTH,
-            Vec::new(self.alloc),
-        )?;
-        Ok(Some(row))
     }
 }
 

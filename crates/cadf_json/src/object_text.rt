@@ -9,7 +9,7 @@ ghost use Rattle.cadf_json.specs.Value.{IsValue, text as text_of};
 ghost use Rattle.cadf_json.specs.Canonical.{begins_object, text_of_token, text_in, is_text, FindsText};
 
 use crate::Memory;
-use crate::tree::MAX_DEPTH;
+use crate::read::MAX_DEPTH;
 use json::{Reader, Scratch, Token};
 use std::alloc::Global;
 

@@ -1,183 +1,119 @@
-//! A parser from tokens to a value whose members are in order, in one pass.
-ghost use Rattle.std.specs.Prelude.{◌≡◌, ◌<◌, length, Some, IfOk, OnOk};
-ghost use Rattle.json.specs.Json.{value, items, members};
-ghost use Rattle.json.specs.Value.{value_view, items_view, members_view};
-ghost use Rattle.serde_json.specs.Data.{no_members, put};
-ghost use Rattle.serde_json.specs.Read.{of_json, of_items, of_members, converted};
-ghost use Rattle.cadf_json.specs.Tree.{data_in, listed_in, named_in, IsNormalizedWithin, AreItemsWithin, AreMembersWithin};
+//! The one descent from tokens to nodes.
+ghost use Rattle.std.specs.Prelude.{◌≡◌, ◌<◌, length, OnOk};
+ghost use Rattle.cadf_json.specs.Reading.{IsRead, IsNoValue, AreItemsRead, AreNoItems, AreMembersRead, AreNoMembers};
 
-use crate::Memory;
-use crate::number::is_whole;
-use crate::place::place_of;
-use json::{Reader, Token, Value};
-use std::alloc::{AllocFailed, Global};
-use thiserror::Error;
+use crate::node::Node;
+use crate::order::{end_members, rises_to};
+use crate::push::{ReadFault, extent_from, push_number, push_string};
+use json::{Reader, Token};
+use std::alloc::Global;
 
-/// Vectors of at most this many items are shrunk: a vector that has grown has capacity for at least four.
-const FEW: usize = 2;
+/// How deep lists and objects may nest.
+pub(crate) const MAX_DEPTH: usize = 127;
 
-/// Why a text has no tree.
-#[derive(Clone, Copy, Debug, Drop, PartialEq, Eq, Error)]
-pub enum TreeFault {
-    /// The streaming parser can't decide about the text; use the full parser.
-    #[error("not plain")]
-    NeedsFullParse,
-    /// It has more values than a tree may have.
-    #[error("too large")]
-    TooLarge,
-    /// An allocation failed.
-    #[error("out of memory")]
-    Memory,
-}
-
-impl From<Memory> for TreeFault {
-    ghost use Rattle.std.specs.Prelude.{◌≡◌};
-    ghost use Rattle.cadf_json.specs.declared.read.TreeFault.TheVariants.{Memory as OutOfMemory};
-
-    ghost from_gives = { λ _ e. e ≡ OutOfMemory };
-
-    fn from(_refused: Memory) -> TreeFault {
-        TreeFault::Memory
-    }
-}
-
-impl<T: Drop> From<AllocFailed<T>> for TreeFault {
-    ghost use Rattle.std.specs.Prelude.{◌≡◌};
-    ghost use Rattle.cadf_json.specs.declared.read.TreeFault.TheVariants.{Memory as OutOfMemory};
-
-    ghost from_gives = { λ _ e. e ≡ OutOfMemory };
-
-    fn from(_refused: AllocFailed<T>) -> TreeFault {
-        TreeFault::Memory
-    }
-}
-
-/// Reads the next value, with its members in order. Arrays and objects may nest `depth` deep. Counts the values down from
-/// `budget`. `TooLarge` if there are more; `NeedsFullParse` if this parser can't decide.
-#[cycle(read)]
-pub(crate) fn read<'a>(
+/// Appends the nodes and the texts of the next value. Lists and objects may nest `depth` deep. `NotJson` if none comes
+/// next. The content of `spare` is lost.
+#[cycle(read_value)]
+pub(crate) fn read_value(
     alloc: Global,
-    reader: &mut Reader<'a>,
+    reader: &mut Reader<'_>,
     depth: usize,
-    budget: &mut usize,
-) -> Result<Value<'a>, TreeFault>
-    ensures ok { IfOk result
-        (λ v. converted of_json (value depth reader.old) ≡ Some (data_in (value_view v), reader.new)) }
-    ensures within { IfOk result (λ v. IsNormalizedWithin depth (value_view v)) }
+    nodes: &mut Vec<Node>,
+    texts: &mut Vec<u8>,
+    spare: &mut Vec<Node>,
+) -> Result<(), ReadFault>
+    ensures ok { OnOk result (IsRead depth reader.old reader.new nodes.old.items nodes.new.items texts.old.items texts.new.items) }
+    ensures not_json { result ≡ Err ReadFault.NotJson → IsNoValue depth reader.old }
     ensures shorter { OnOk result (length reader.new < length reader.old) }
 {
-    if *budget == 0 {
-        return Err(TreeFault::TooLarge);
-    }
-    *budget -= 1;
     let Some(token) = reader.next() else {
-        return Err(TreeFault::NeedsFullParse);
+        return Err(ReadFault::NotJson);
     };
     match token {
-        Token::String(text) => Ok(Value::String(text)),
-        Token::Number(text) => if is_whole(text) {
-            Ok(Value::Number(text))
-        } else {
-            Err(TreeFault::NeedsFullParse)
-        },
-        Token::Bool(b) => Ok(Value::Bool(b)),
-        Token::Null => Ok(Value::Null),
-        Token::EndObject | Token::EndArray | Token::Key(_) | Token::Bad => Err(
-            TreeFault::NeedsFullParse,
-        ),
+        Token::String(text) => Ok(push_string(text, nodes, texts)?),
+        Token::Number(text) => Ok(push_number(text, nodes, texts)?),
+        Token::Bool(b) => Ok(nodes.push(Node::Bool(b))?),
+        Token::Null => Ok(nodes.push(Node::Null)?),
+        Token::EndObject | Token::EndArray | Token::Key(_) | Token::Bad => Err(ReadFault::NotJson),
         Token::BeginArray => {
             if depth == 0 {
-                return Err(TreeFault::NeedsFullParse);
+                return Err(ReadFault::NotJson);
             }
-            Ok(Value::Array(read_items(alloc, reader, depth - 1, budget)?))
+            Ok(read_items(alloc, reader, depth - 1, nodes, texts, spare)?)
         }
         Token::BeginObject => {
             if depth == 0 {
-                return Err(TreeFault::NeedsFullParse);
+                return Err(ReadFault::NotJson);
             }
-            Ok(Value::Object(read_members(alloc, reader, depth - 1, budget)?))
+            Ok(read_members(alloc, reader, depth - 1, nodes, texts, spare)?)
         }
     }
 }
 
-/// Reads the next items, up to the closing bracket.
-#[cycle(read)]
+/// Appends a list of the next items, the opening bracket of which was read.
+#[cycle(read_value)]
 #[inline(never)]
-fn read_items<'a>(
+fn read_items(
     alloc: Global,
-    reader: &mut Reader<'a>,
+    reader: &mut Reader<'_>,
     depth: usize,
-    budget: &mut usize,
-) -> Result<Vec<Value<'a>>, TreeFault>
-    ensures ok { IfOk result
-        (λ v. converted of_items (items (value depth) (length reader.old) reader.old)
-        ≡ Some (listed_in (items_view v.items), reader.new)) }
-    ensures within { IfOk result (λ v. AreItemsWithin depth (items_view v.items)) }
+    nodes: &mut Vec<Node>,
+    texts: &mut Vec<u8>,
+    spare: &mut Vec<Node>,
+) -> Result<(), ReadFault>
+    ensures ok { OnOk result (AreItemsRead depth reader.old reader.new nodes.old.items nodes.new.items texts.old.items texts.new.items) }
+    ensures not_json { result ≡ Err ReadFault.NotJson → AreNoItems depth reader.old }
     ensures shorter { OnOk result (length reader.new < length reader.old) }
 {
-    let mut found = Vec::new(alloc);
+    let at = nodes.len();
+    nodes.push(Node::Null)?;
+    let mut count: u32 = 0;
     'items: while !reader.take_end_array() {
-        let item = read(alloc, reader, depth, budget)?;
-        found.push(item)?;
+        read_value(alloc, reader, depth, nodes, texts, spare)?;
+        if count == u32::MAX {
+            return Err(ReadFault::Memory);
+        }
+        count += 1;
     }
-    Ok(trimmed(found))
+    let extent = extent_from(nodes, at, count)?;
+    nodes[at] = Node::Array(extent);
+    Ok(())
 }
 
-/// Reads the next members, up to the closing brace, into the order of their names.
-#[cycle(read)]
+/// Appends an object of the next members, the opening brace of which was read.
+#[cycle(read_value)]
 #[inline(never)]
 fn read_members<'a>(
     alloc: Global,
     reader: &mut Reader<'a>,
     depth: usize,
-    budget: &mut usize,
-) -> Result<Vec<(&'a str, Value<'a>)>, TreeFault>
-    ensures ok { IfOk result
-        (λ v. converted (λ ms. of_members ms no_members)
-        (members (value depth) (length reader.old) reader.old)
-        ≡ Some (named_in (members_view v.items), reader.new)) }
-    ensures within { IfOk result (λ v. AreMembersWithin depth (members_view v.items)) }
+    nodes: &mut Vec<Node>,
+    texts: &mut Vec<u8>,
+    spare: &mut Vec<Node>,
+) -> Result<(), ReadFault>
+    ensures ok { OnOk result (AreMembersRead depth reader.old reader.new nodes.old.items nodes.new.items texts.old.items texts.new.items) }
+    ensures not_json { result ≡ Err ReadFault.NotJson → AreNoMembers depth reader.old }
     ensures shorter { OnOk result (length reader.new < length reader.old) }
 {
-    let mut found = Vec::new(alloc);
+    let at = nodes.len();
+    nodes.push(Node::Null)?;
+    let mut count: u32 = 0;
+    let mut last: Option<&'a str> = None;
+    let mut rising = true;
     'members: loop {
         let Ok(key) = reader.next_key() else {
-            return Err(TreeFault::NeedsFullParse);
+            return Err(ReadFault::NotJson);
         };
         let Some(name) = key else {
-            return Ok(trimmed(found));
+            return Ok(end_members(alloc, rising, at, count, nodes, texts, spare)?);
         };
-        let member = read(alloc, reader, depth, budget)?;
-        put_member(&mut found, name, member, depth)?;
+        rising = rises_to(rising, last, name);
+        push_string(name, nodes, texts)?;
+        read_value(alloc, reader, depth, nodes, texts, spare)?;
+        if count == u32::MAX {
+            return Err(ReadFault::Memory);
+        }
+        count += 1;
+        last = Some(name);
     }
-}
-
-/// Shrinks the vector to its length, if it is at most `FEW`.
-fn trimmed<T>(mut found: Vec<T>) -> Vec<T>
-    ensures { result.items ≡ found.items }
-{
-    if found.len() <= FEW {
-        found.shrink_to_fit();
-    }
-    found
-}
-
-/// Inserts a further member at its place. `NeedsFullParse` if `place_of` finds none.
-pub(crate) fn put_member<'a>(
-    found: &mut Vec<(&'a str, Value<'a>)>,
-    name: &'a str,
-    member: Value<'a>,
-    depth: usize,
-) -> Result<(), TreeFault>
-    requires { AreMembersWithin depth (members_view found.old.items)
-        × IsNormalizedWithin depth (value_view member) }
-    ensures named { OnOk result (named_in (members_view found.new.items)
-        ≡ put name.now (data_in (value_view member.entry)) (named_in (members_view found.old.items))) }
-    ensures within { OnOk result (AreMembersWithin depth (members_view found.new.items)) }
-{
-    let Some(at) = place_of(found, name) else {
-        return Err(TreeFault::NeedsFullParse);
-    };
-    found.insert(at, (name, member))?;
-    Ok(())
 }

@@ -4,9 +4,9 @@ ghost use Rattle.serde_json.specs.Data.{Data};
 ghost use Rattle.cadf_json.specs.TokenUtf8.{HaveUtf8};
 ghost use Rattle.cadf_json.specs.StreamedObjects.{TakesItem, PassesItems, PassesList, AreSplit, IsSplit};
 
-use crate::read::TreeFault;
 use crate::rising::{pairs_in_order, put_pair, rises_to};
 use crate::spelling::read_text;
+use crate::stream_fault::StreamFault;
 use json::{Reader, Scratch, Token};
 use std::alloc::Global;
 use std::collections::BTreeMap;
@@ -20,7 +20,7 @@ pub trait ItemVisitor {
 
     /// Reads a further item, which may nest `depth` deep, and takes it. `NeedsFullParse`: the visitor can't decide what the
     /// item is.
-    fn take(&mut self, reader: &mut Reader<'_>, depth: usize) -> Result<(), TreeFault>
+    fn take(&mut self, reader: &mut Reader<'_>, depth: usize) -> Result<(), StreamFault>
         requires depth { depth ≤ 127 }
         requires utf8 { HaveUtf8 reader.old }
         ensures ok { OnOk result (TakesItem took self.old self.new depth reader.old reader.new) }
@@ -32,7 +32,7 @@ fn pass_items<T: ItemVisitor>(
     reader: &mut Reader<'_>,
     depth: usize,
     taker: &mut T,
-) -> Result<(), TreeFault>
+) -> Result<(), StreamFault>
     requires depth { depth ≤ 127 }
     requires utf8 { HaveUtf8 reader.old }
     ensures ok { OnOk result
@@ -50,7 +50,7 @@ fn pass_list<T: ItemVisitor>(
     reader: &mut Reader<'_>,
     depth: usize,
     taker: &mut T,
-) -> Result<(), TreeFault>
+) -> Result<(), StreamFault>
     requires depth { depth ≤ 127 }
     requires utf8 { HaveUtf8 reader.old }
     ensures ok { OnOk result
@@ -58,10 +58,10 @@ fn pass_list<T: ItemVisitor>(
     ensures shorter { OnOk result (length reader.new < length reader.old) }
 {
     let Some(Token::BeginArray) = reader.next() else {
-        return Err(TreeFault::NeedsFullParse);
+        return Err(StreamFault::NeedsFullParse);
     };
     if depth == 0 {
-        return Err(TreeFault::NeedsFullParse);
+        return Err(StreamFault::NeedsFullParse);
     }
     pass_items(reader, depth - 1, taker)?;
     Ok(())
@@ -82,7 +82,7 @@ fn read_around<'a, T: ItemVisitor>(
     depth: usize,
     name: &str,
     taker: &mut T,
-) -> Result<TextsAround<'a>, TreeFault>
+) -> Result<TextsAround<'a>, StreamFault>
     requires depth { (1 ≤ depth) × (depth ≤ 127) }
     requires utf8 { HaveUtf8 reader.old }
     ensures { IfOk result (λ a. AreSplit T.took taker.old taker.new name.now a.taken a.texts.items depth reader.old reader.new) }
@@ -95,7 +95,7 @@ fn read_around<'a, T: ItemVisitor>(
     let mut taken = false;
     'members: loop {
         let Ok(key) = reader.next_key() else {
-            return Err(TreeFault::NeedsFullParse);
+            return Err(StreamFault::NeedsFullParse);
         };
         let Some(key) = key else {
             return Ok(TextsAround {
@@ -109,7 +109,7 @@ fn read_around<'a, T: ItemVisitor>(
             put_pair(alloc, rising, &mut row, &mut map, key, text)?;
             last = Some(key);
         } else if taken {
-            return Err(TreeFault::NeedsFullParse);
+            return Err(StreamFault::NeedsFullParse);
         } else {
             pass_list(reader, depth, taker)?;
             taken = true;
@@ -126,16 +126,16 @@ pub fn read_object_streaming<'a, T: ItemVisitor>(
     scratch: &'a mut Scratch,
     name: &str,
     taker: &mut T,
-) -> Result<Option<Vec<(&'a str, String)>>, TreeFault>
+) -> Result<Option<Vec<(&'a str, String)>>, StreamFault>
     ensures ok { IfOk result (λ found. IfSome found (λ texts. IsSplit T.took taker.old taker.new text.now name.now texts.items)) }
 {
     let mut reader = Reader::new(text, scratch)?;
     let Some(Token::BeginObject) = reader.next() else {
-        return Err(TreeFault::NeedsFullParse);
+        return Err(StreamFault::NeedsFullParse);
     };
     let around = read_around(alloc, &mut reader, MEMBER_DEPTH, name, taker)?;
     if reader.next().is_some() {
-        return Err(TreeFault::NeedsFullParse);
+        return Err(StreamFault::NeedsFullParse);
     }
     if around.taken {
         Ok(Some(around.texts))

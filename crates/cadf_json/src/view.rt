@@ -1,80 +1,61 @@
 //! A borrowed part of a value.
-ghost use Rattle.std.specs.Prelude.{◌≡◌, IfOk, IfSome, length, nat_le, option_map, is_some, slice_get, string_bytes};
+ghost use Rattle.std.specs.Prelude.{◌≡◌, ◌++◌, OnOk, IfOk, IfSome, length, nat_le, option_map, is_some, slice_get, string_bytes};
 ghost use Rattle.serde_json.specs.Find.{as_null, as_str, as_array, get};
 ghost use Rattle.serde_json.specs.Data.{string as text_value, object as object_of, depth as nesting};
-ghost use Rattle.serde_json.specs.View.{view as data_of};
-ghost use Rattle.cadf_json.specs.Parts.{is_object, parts_in, names_in, members_in};
+ghost use Rattle.cadf_json.specs.Parts.{is_object, parts_in, names_in, items_in, members_in, to_list, values_of};
 ghost use Rattle.cadf_json.specs.Rewritten.{texts_of, without, replaced, all_members, limit_for, limits_of};
 ghost use Rattle.cadf_json.specs.Value.{IsValue, text as text_of};
+ghost use Rattle.cadf_json.specs.Flat.{decode, Stands};
 
 use crate::Memory;
+use crate::depth::depth_of;
+use crate::items::Items;
 use crate::members::Members;
-use crate::owned::{count_in, depth, members_nest_within, name_in, part_in, text_in};
-use crate::part::Part;
+use crate::node::Node;
 use crate::rewrite::rewritten_text;
-use serde_json::Value;
+use crate::walk::find_member;
+use crate::write::{text_at, write_value};
 use std::alloc::Global;
 use std::marker::Model;
 
-/// The value of which a view borrows a part.
+/// A part of a `Json`.
 #[derive(Drop)]
-pub(crate) enum Basis<'v, 'a> {
-    /// An owned value.
-    Owned(&'v Value),
-    /// A tree that borrows its text.
-    Plain(Part<'v, 'a>),
+pub struct View<'v> {
+    nodes: &'v [Node],
+    texts: &'v [u8],
 }
 
-/// A part of a `Json` or of a `Tree`.
-#[derive(Drop)]
-pub struct View<'v, 'a> {
-    basis: Basis<'v, 'a>,
-}
-
-impl<'v, 'a> Model for View<'v, 'a> {
+impl<'v> Model for View<'v> {
     ghost use Rattle.serde_json.specs.Data.{Data};
     ghost use Rattle.cadf_json.specs.Coding.{data_code};
-    ghost use Rattle.cadf_json.specs.Basis.{basis_data};
     ghost use Rattle.cadf_json.specs.Value.{IsValue};
+    ghost use Rattle.cadf_json.specs.Flat.{decode, Stands};
 
     ghost Value = { Data };
 
     ghost coded = { data_code };
 
-    ghost view = { λ w. basis_data w.basis };
+    ghost view = { λ w. decode w.texts.now w.nodes.now };
 
-    ghost invariant = { λ w. IsValue (basis_data w.basis) };
+    ghost invariant = { λ w. Stands w.texts.now (decode w.texts.now w.nodes.now) w.nodes.now × IsValue (decode w.texts.now w.nodes.now) };
 }
 
-impl<'v, 'a> View<'v, 'a> {
-    /// Borrows an owned value.
-    pub(crate) fn of_value(value: &'v Value) -> View<'v, 'a>
-        requires { IsValue (data_of value.now) }
-        ensures { result ≡ data_of value.now }
+impl<'v> View<'v> {
+    /// Borrows the nodes and the texts of a value.
+    pub(crate) fn of(nodes: &'v [Node], texts: &'v [u8]) -> View<'v>
+        requires { Stands texts.now (decode texts.now nodes.now) nodes.now × IsValue (decode texts.now nodes.now) }
+        ensures { result ≡ decode texts.now nodes.now }
     {
-        View {
-            basis: Basis::Owned(value),
-        }
-    }
-
-    /// Makes a view of a part of a tree.
-    pub(crate) fn of_part(part: Part<'v, 'a>) -> View<'v, 'a>
-        ensures part { result ≡ part.entry }
-        ensures value { IsValue part.entry }
-    {
-        part.type_invariant();
-        View {
-            basis: Basis::Plain(part),
-        }
+        View { nodes, texts }
     }
 
     /// Returns the text, or `None` if the part is no text.
     pub fn as_text(&self) -> Option<&'v str>
         ensures { option_map (λ s. s.now) result ≡ as_str self.now }
     {
-        match &self.basis {
-            Basis::Owned(value) => value.as_str(),
-            Basis::Plain(part) => part.as_text(),
+        match self.nodes[0] {
+            Node::Text(place) => Some(text_at(self.texts, place)),
+            _ => None,
         }
     }
 
@@ -82,61 +63,80 @@ impl<'v, 'a> View<'v, 'a> {
     pub fn is_null(&self) -> bool
         ensures { result ≡ is_some (as_null self.now) }
     {
-        match &self.basis {
-            Basis::Owned(value) => value.is_null(),
-            Basis::Plain(part) => part.is_null(),
-        }
+        matches!(self.nodes[0], Node::Null)
     }
 
     /// Returns whether the part is an object, which may be empty.
     pub fn is_object(&self) -> bool
         ensures { result ≡ is_object self.now }
     {
-        match &self.basis {
-            Basis::Owned(value) => value.is_object(),
-            Basis::Plain(part) => part.is_object(),
-        }
+        matches!(self.nodes[0], Node::Object(_))
     }
 
     /// Returns whether the part is a list, which may be empty.
     pub fn is_list(&self) -> bool
         ensures { result ≡ is_some (as_array self.now) }
     {
-        match &self.basis {
-            Basis::Owned(value) => value.is_array(),
-            Basis::Plain(part) => part.is_list(),
-        }
+        matches!(self.nodes[0], Node::Array(_))
     }
 
     /// Counts the items or members: 0 for a scalar.
     pub fn len(&self) -> usize
         ensures { result ≡ length (parts_in self.now) }
     {
-        match &self.basis {
-            Basis::Owned(value) => count_in(value),
-            Basis::Plain(part) => part.len(),
-        }
-    }
-
-    /// Returns the item at `index`, or the value of the member at `index` in the order of names. `None` past the last.
-    pub fn item(&self, index: usize) -> Option<View<'v, 'a>>
-        ensures part { result ≡ slice_get (parts_in self.now) index }
-        ensures value { IfSome result IsValue }
-    {
-        match &self.basis {
-            Basis::Owned(value) => Some(View::of_value(part_in(value, index)?)),
-            Basis::Plain(part) => Some(View::of_part(part.item(index)?)),
+        match self.nodes[0] {
+            Node::Array(extent) => extent.count as usize,
+            Node::Object(extent) => extent.count as usize,
+            _ => 0,
         }
     }
 
     /// Returns the value of the member `name`, or `None` if there is none.
-    pub fn member(&self, name: &str) -> Option<View<'v, 'a>>
+    pub fn member(&self, name: &str) -> Option<View<'v>>
         ensures part { result ≡ get name.now self.now }
         ensures value { IfSome result IsValue }
     {
-        match &self.basis {
-            Basis::Owned(value) => Some(View::of_value(value.get(name)?)),
-            Basis::Plain(part) => Some(View::of_part(part.member(name)?)),
+        match self.nodes[0] {
+            Node::Object(_) => {
+                let found = find_member(&self.nodes[1..], self.texts, name.as_bytes())?;
+                Some(View::of(found, self.texts))
+            }
+            _ => None,
+        }
+    }
+
+    /// Returns the items of a list in order, none of anything else.
+    pub fn items(&self) -> Items<'v>
+        ensures { result ≡ items_in self.now }
+    {
+        if self.is_list() {
+            Items::of(&self.nodes[1..], self.texts)
+        } else {
+            Items::of(&self.nodes[..0], self.texts)
+        }
+    }
+
+    /// Returns the members of an object in the order of their names, none of anything else.
+    pub fn members(&self) -> Members<'v>
+        ensures members { result ≡ members_in self.now }
+    {
+        if self.is_object() {
+            Members::of(&self.nodes[1..], self.texts)
+        } else {
+            Members::of(&self.nodes[..0], self.texts)
+        }
+    }
+
+    /// Returns the item at `index`, or the value of the member at `index` in the order of names. `None` past the last.
+    /// Passes those before it: a loop over all takes `items` or `members`.
+    pub fn item(&self, index: usize) -> Option<View<'v>>
+        ensures part { result ≡ slice_get (parts_in self.now) index }
+        ensures value { IfSome result IsValue }
+    {
+        if self.is_list() {
+            item_at(self.items(), index)
+        } else {
+            value_at(self.members(), index)
         }
     }
 
@@ -145,20 +145,14 @@ impl<'v, 'a> View<'v, 'a> {
     pub fn name_at(&self, index: usize) -> Option<&'v str>
         ensures { option_map (λ s. s.now) result ≡ slice_get (names_in self.now) index }
     {
-        match &self.basis {
-            Basis::Owned(value) => name_in(value, index),
-            Basis::Plain(part) => part.name_at(index),
+        let mut left = index;
+        for member in self.members() {
+            if left == 0 {
+                return Some(member.name);
+            }
+            left -= 1;
         }
-    }
-
-    /// Returns the members of an object in the order of their names, none of anything else.
-    pub fn members(&self) -> Members<'v, 'a>
-        ensures members { result ≡ members_in self.now }
-    {
-        match &self.basis {
-            Basis::Owned(value) => Members::of_value(value),
-            Basis::Plain(part) => Members::of_part(part),
-        }
+        None
     }
 
     /// Returns whether each member nests at most as deep as the limit of its name, or as `others`.
@@ -166,10 +160,12 @@ impl<'v, 'a> View<'v, 'a> {
         ensures { result
             ≡ all_members (λ k d. nat_le (nesting d) (limit_for (limits_of limits.now) others k)) (members_in self.now) }
     {
-        match &self.basis {
-            Basis::Owned(value) => members_nest_within(value, limits, others),
-            Basis::Plain(part) => part.members_nest_within(limits, others),
+        for member in self.members() {
+            if member.value.depth() > limit_of(limits, others, member.name) {
+                return false;
+            }
         }
+        true
     }
 
     /// Encodes the canonical text of an object without the members of these names, and with this text at that name if
@@ -184,27 +180,22 @@ impl<'v, 'a> View<'v, 'a> {
         ensures { IfOk result (λ s. string_bytes s
             ≡ text_of (object_of (replaced name.now (text_value text.now) (without (texts_of left_out.now) (members_in self.now))))) }
     {
-        match &self.basis {
-            Basis::Owned(value) => rewritten_text(alloc, value, left_out, name, text),
-            Basis::Plain(part) => part.rewritten_text(alloc, left_out, name, text),
-        }
+        self.type_invariant();
+        rewritten_text(alloc, self.members(), left_out, name, text)
     }
 
     /// States the type invariant of a part: it is a value. Does nothing.
     pub fn type_invariant(&self)
         ensures { IsValue self.now }
     {
-        let _basis = &self.basis;
+        let _nodes = &self.nodes;
     }
 
     /// Returns a further borrow of the same part.
-    pub fn reborrow(&self) -> View<'v, 'a>
+    pub fn reborrow(&self) -> View<'v>
         ensures { result ≡ self.now }
     {
-        match &self.basis {
-            Basis::Owned(value) => View::of_value(value),
-            Basis::Plain(part) => View::of_part(part.reborrow()),
-        }
+        View::of(self.nodes, self.texts)
     }
 
     /// Computes how deep lists and objects nest: 0 for a scalar.
@@ -212,10 +203,8 @@ impl<'v, 'a> View<'v, 'a> {
         ensures depth { result ≡ nesting self.now }
         ensures value { IsValue self.now }
     {
-        match &self.basis {
-            Basis::Owned(value) => depth(value),
-            Basis::Plain(part) => part.depth(),
-        }
+        self.type_invariant();
+        depth_of(self)
     }
 
     /// Encodes the part as canonical text. `Memory` if an allocation fails.
@@ -223,9 +212,58 @@ impl<'v, 'a> View<'v, 'a> {
         ensures text { IfOk result (λ s. string_bytes s ≡ text_of self.now) }
         ensures value { IsValue self.now }
     {
-        match &self.basis {
-            Basis::Owned(value) => text_in(alloc, value),
-            Basis::Plain(part) => part.text(alloc),
+        self.type_invariant();
+        let mut out = Vec::new(alloc);
+        self.write(alloc, &mut out)?;
+        Ok(unsafe { String::from_utf8_unchecked(out) })
+    }
+
+    /// Appends the canonical text of the part. `Memory` if an allocation fails.
+    pub fn write(&self, alloc: Global, out: &mut Vec<u8>) -> Result<(), Memory>
+        ensures { OnOk result (out.new.items ≡ out.old.items ++ text_of self.now) }
+    {
+        write_value(alloc, self.nodes, self.texts, out)
+    }
+}
+
+/// Returns the item at `index`, or `None` past the last.
+fn item_at<'v>(items: Items<'v>, index: usize) -> Option<View<'v>>
+    ensures part { result ≡ slice_get (to_list items.entry) index }
+    ensures value { IfSome result IsValue }
+{
+    let mut left = index;
+    for item in items {
+        if left == 0 {
+            return Some(item);
+        }
+        left -= 1;
+    }
+    None
+}
+
+/// Returns the value of the member at `index`, or `None` past the last.
+fn value_at<'v>(members: Members<'v>, index: usize) -> Option<View<'v>>
+    ensures part { result ≡ slice_get (values_of members.entry) index }
+    ensures value { IfSome result IsValue }
+{
+    let mut left = index;
+    for member in members {
+        if left == 0 {
+            return Some(member.value);
+        }
+        left -= 1;
+    }
+    None
+}
+
+/// Returns how deep the member `name` may nest: the limit listed for it, or `others`.
+fn limit_of(limits: &[(&str, u8)], others: u8, name: &str) -> u8
+    ensures { result ≡ limit_for (limits_of limits.now) others name.now }
+{
+    for (listed, limit) in limits {
+        if name == *listed {
+            return *limit;
         }
     }
+    others
 }

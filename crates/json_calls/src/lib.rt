@@ -3,7 +3,6 @@
 
 mod lists;
 mod looks;
-mod objects;
 mod passes;
 mod quotes;
 mod splits;
@@ -18,15 +17,10 @@ use std::alloc::{AllocError as Memory, Global};
 pub fn answered(alloc: Global, call: &Call) -> Result<String, Memory> {
     match call.name() {
         "value" => looks::value(alloc, call),
-        "tree" => looks::tree(alloc, call),
-        "row" => objects::row(alloc, call),
-        "split_rows" => objects::split_rows(alloc, call.text(1), call.text(2)),
+        "reused" => looks::reused(alloc, call),
         "canonical" => looks::canonical(alloc, call.text(1)),
         "quoted" => quotes::quoted(alloc, call.text(1)),
         "split" => splits::split(alloc, call.text(1)),
-        "check_list" => passes::list(alloc, call.text(1)),
-        "has_json_syntax" => passes::has_json_syntax(alloc, call.text(1)),
-        "find_fraction" => passes::find_fraction(alloc, call.text(1)),
         "is_canonical" => passes::is_canonical(alloc, call.text(1), call.text(2)),
         "spells_object" => passes::spells_object(alloc, call.text(1)),
         "spells_object_with" => passes::spells_object_with(alloc, call.text(1)),
@@ -35,7 +29,6 @@ pub fn answered(alloc: Global, call: &Call) -> Result<String, Memory> {
         "text_at" => lists::text_at(alloc, call.text(1), call.text(2)),
         "plain_text" => lists::plain_text(alloc, call.text(1)),
         "list_texts" => lists::list_texts(alloc, call.text(1)),
-        "list_rows" => lists::list_rows(alloc, call.text(1), call.text(2)),
         "read_to_limit" => streams::whole(alloc, call),
         "read_rest" => streams::rest(alloc, call),
         "borrow_next" => streams::borrowed(alloc, call),
@@ -53,7 +46,7 @@ fn repeated(alloc: Global, call: &Call) -> Result<String, Memory> {
     let bytes = call.repeated(alloc)?;
     let text = str::from_utf8(bytes.as_slice()).unwrap_or("");
     match call.text(1) {
-        "tree" => looks::tree_kind(alloc, text),
+        "value" => looks::value_kind(alloc, bytes.as_slice()),
         "split" => splits::split(alloc, text),
         _ => calls::answer(alloc, "no such call", &[]),
     }

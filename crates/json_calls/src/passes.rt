@@ -3,20 +3,6 @@
 use json::Scratch;
 use std::alloc::{AllocError as Memory, Global};
 
-/// Answers whether the text is a list that can be skipped.
-pub(crate) fn list(alloc: Global, text: &str) -> Result<String, Memory> {
-    match cadf_json::check_list(alloc, text) {
-        Ok(()) => calls::answer(alloc, "ok", &[]),
-        Err(fault) => calls::refused(alloc, &fault),
-    }
-}
-
-/// Answers whether the text has JSON's syntax.
-pub(crate) fn has_json_syntax(alloc: Global, text: &str) -> Result<String, Memory> {
-    let may = cadf_json::has_json_syntax(alloc, text)?;
-    format!(in alloc; "{may}")
-}
-
 /// Answers whether the text is canonical, of a value that nests no deeper than the number.
 pub(crate) fn is_canonical(alloc: Global, text: &str, depth: &str) -> Result<String, Memory> {
     let Ok(depth) = depth.parse::<u8>() else {
@@ -58,12 +44,4 @@ pub(crate) fn has_text_at(
 ) -> Result<String, Memory> {
     let has = cadf_json::has_text_at(alloc, text, name, expected)?;
     format!(in alloc; "{has}")
-}
-
-/// Answers whether a number of the text that counts isn't whole, if the parser can decide.
-pub(crate) fn find_fraction(alloc: Global, text: &str) -> Result<String, Memory> {
-    match cadf_json::find_fraction(alloc, text)? {
-        Some(fraction) => format!(in alloc; "some\t{fraction}"),
-        None => calls::answer(alloc, "none", &[]),
-    }
 }

@@ -1,10 +1,17 @@
-use Rattle.std.proofs.Common.{sym, ap, ◌∙◌}
-use Rattle.serde_json.specs.View.{view}
-use Rattle.serde_json.specs.Written.{has_float}
-use Rattle.serde_json.proofs.Views.{view-Object}
-use Rattle.cadf_json.proofs.Texts.{has_float-IsWhole}
+use Rattle.std.proofs.Common.{◌≡◌, ◌++◌, [], ◌∷◌, false, IsUtf8, sym, ap, ◌∙◌, subst, arith, rules}
+use Rattle.serde_json.specs.Data.{string, object}
+use Rattle.serde_json.specs.Written.{members_text}
+use Rattle.cadf_json.specs.Rewritten.{without, replaced, texts_of}
+use Rattle.cadf_json.proofs.Rewriting.{AreMembers-without, AreMembers-replaced}
+use Rattle.cadf_json.proofs.TextBytes.{text_utf8}
 use Rattle.cadf_json.proofs.rewrite.rewritten_text.Goals as goal
 
-pub push_members-requires : goal.push_members-requires
-push_members-requires c =
-    sym (ap has_float (ap view c.in-Object.is ∙ view-Object c.in-Object.members)) ∙ has_float-IsWhole _ c.requires.0
+pub from_utf8_unchecked-requires : goal.from_utf8_unchecked-requires
+from_utf8_unchecked-requires c =
+    let names = texts_of c.args.left_out.now in
+    let kept = AreMembers-without names c.args.members c.requires in
+    let ms = replaced c.args.name.now (string c.args.text.now) (without names c.args.members) in
+    let whole = AreMembers-replaced c.args.name.now (string c.args.text.now) (without names c.args.members) c.utf8.text (omega arith) kept in
+    let brace : c.push.new.self.items ≡ 123 ∷ [] = search rules in
+    let spelled = c.in_ok-push_members.ensures ∙ ap (λ xs. xs ++ members_text false ms) brace in
+    subst IsUtf8 (sym spelled) (text_utf8 (object ms) (whole.0, whole.1))

@@ -1,0 +1,45 @@
+-- The first node of a list or an object has the count of its items or members.
+use Rattle.std.proofs.Common.{◌≡◌, ℕ, suc, List, length, refl, sym, ap, ◌∙◌, inl, inr}
+use Rattle.std.specs.Prelude.{slice_index_or}
+use Rattle.serde_json.specs.Data.{Data, null, boolean, number, string, array, object, Items, no_items, item, Members, no_members, member}
+use Rattle.cadf_json.specs.Parts.{to_list, values_of, parts_in}
+use Rattle.cadf_json.specs.declared.node.Extent.{Extent}
+use Rattle.cadf_json.specs.declared.node.Node.{Node}
+use Rattle.cadf_json.specs.declared.node.Node.TheVariants.{Null, Bool as Truth, Whole, Fraction, Text, Array, Object}
+use Rattle.cadf_json.specs.Flat.{Stands, items_count, members_count}
+
+count_items : (ds : Items) → items_count ds ≡ length (to_list ds)
+count_items no_items = refl
+count_items (item d ds) = ap suc (count_items ds)
+
+count_members : (ms : Members) → members_count ms ≡ length (values_of ms)
+count_members no_members = refl
+count_members (member k d ms) = ap suc (count_members ms)
+
+-- what the node counts
+abbrev count_in : Node → ℕ
+count_in Null = 0
+count_in (Truth b) = 0
+count_in (Whole p) = 0
+count_in Fraction = 0
+count_in (Text p) = 0
+count_in (Array e) = e.count
+count_in (Object e) = e.count
+
+abbrev first_count : List Node → ℕ
+first_count xs = count_in (slice_index_or xs 0 Null)
+
+counts : (t : List ℕ) (d : Data) (xs : List Node) → Stands t d xs → first_count xs ≡ length (parts_in d)
+counts t null xs h = ap first_count h
+counts t (boolean b) xs h = ap first_count h
+counts t (number n) xs (inl (p, (is, at, whole))) = ap first_count is
+counts t (number n) xs (inr (is, odd)) = ap first_count is
+counts t (string s) xs (p, (is, at)) = ap first_count is
+counts t (array ds) xs (e, (ys, (is, extent, h))) = ap first_count is ∙ extent.1 ∙ count_items ds
+counts t (object ms) xs (e, (ys, (is, extent, h))) = ap first_count is ∙ extent.1 ∙ count_members ms
+
+pub list_count : (t : List ℕ) (d : Data) (xs : List Node) (e : Extent) → Stands t d xs → slice_index_or xs 0 Null ≡ Array e → e.count ≡ length (parts_in d)
+list_count t d xs e h is = sym (ap count_in is) ∙ counts t d xs h
+
+pub object_count : (t : List ℕ) (d : Data) (xs : List Node) (e : Extent) → Stands t d xs → slice_index_or xs 0 Null ≡ Object e → e.count ≡ length (parts_in d)
+object_count t d xs e h is = sym (ap count_in is) ∙ counts t d xs h

@@ -1,0 +1,75 @@
+-- The first of several values: how many nodes it has.
+use Rattle.std.proofs.Common.{◌≡◌, ℕ, suc, ◌+◌, List, [], ◌∷◌, ◌++◌, length, take, drop, refl, sym, ap, ap₂, ◌∙◌, subst, arith, inl, inr, append-nil, length-append}
+use Rattle.std.proofs.Math.Seq.{take-append_seam, drop-append_seam}
+use Rattle.serde_json.specs.Data.{Num, Data, null, boolean, number, string, array, object, Members, member}
+use Rattle.cadf_json.specs.declared.node.Node.{Node}
+use Rattle.cadf_json.specs.declared.node.Node.TheVariants.{Null, Bool as Truth, Whole, Fraction, Text, Array, Object}
+use Rattle.cadf_json.specs.declared.node.Place.{Place}
+use Rattle.cadf_json.specs.Flat.{size_of, IsTextAt, NumberStands, Stands, MembersStand, text_at}
+use Rattle.cadf_json.specs.Reading.{IsFirstMember}
+
+-- a value begins with a node that says how many it has
+pub record Begins (xs : List Node) : Type 0 where
+  pub x : Node
+  pub ys : List Node
+  pub is : xs ≡ x ∷ ys
+  pub size : size_of x ≡ length xs
+
+begins_with : (xs ys : List Node) (x : Node) → xs ≡ x ∷ ys → size_of x ≡ suc (length ys) → Begins xs
+begins_with xs ys x is size = record { x = x; ys = ys; is = is; size = size ∙ ap length (sym is) }
+
+number_begins : (t : List ℕ) (n : Num) (xs : List Node) → NumberStands t n xs → Begins xs
+number_begins t n xs (inl (p, (is, at, whole))) = begins_with xs [] (Whole p) is refl
+number_begins t n xs (inr (is, float)) = begins_with xs [] Fraction is refl
+
+pub begins : (t : List ℕ) (d : Data) (xs : List Node) → Stands t d xs → Begins xs
+begins t null xs h = begins_with xs [] Null h refl
+begins t (boolean b) xs h = begins_with xs [] (Truth b) h refl
+begins t (number n) xs h = number_begins t n xs h
+begins t (string s) xs (p, (is, at)) = begins_with xs [] (Text p) is refl
+begins t (array ds) xs (e, (ys, (is, extent, h))) = begins_with xs ys (Array e) is extent.0
+begins t (object ms) xs (e, (ys, (is, extent, h))) = begins_with xs ys (Object e) is extent.0
+
+-- the first member: its name's place, and the first node of its value
+pub record Opens (t : List ℕ) (nodes : List Node) (k : List ℕ) (d : Data) (ms : Members) : Type 0 where
+  pub place : Place
+  pub x : Node
+  pub ys : List Node
+  pub zs : List Node
+  pub is : nodes ≡ Text place ∷ (x ∷ ys) ++ zs
+  pub at : IsTextAt t place k
+  pub size : size_of x ≡ suc (length ys)
+  pub value : Stands t d (x ∷ ys)
+  pub rest : MembersStand t ms zs
+
+pub opens : (t : List ℕ) (nodes : List Node) (k : List ℕ) (d : Data) (ms : Members) → MembersStand t (member k d ms) nodes → Opens t nodes k d ms
+opens t nodes k d ms (p, (ys, (zs, (is, at, h, j)))) =
+    let b = begins t d ys h in
+    record {
+      place = p;
+      x = b.x;
+      ys = b.ys;
+      zs = zs;
+      is = is ∙ ap (λ xs. Text p ∷ xs ++ zs) b.is;
+      at = at;
+      size = b.size ∙ ap length b.is;
+      value = subst (Stands t d) b.is h;
+      rest = j;
+    }
+
+pub first_of : (t : List ℕ) (nodes : List Node) (k : List ℕ) (d : Data) (ms : Members) (name : List ℕ) (n : ℕ) → (o : Opens t nodes k d ms)
+    → name ≡ text_at t o.place → n ≡ size_of o.x + 1 → IsFirstMember t nodes k d ms name n
+first_of t nodes k d ms name n o named sized =
+    let lead = Text o.place ∷ o.x ∷ o.ys in
+    let size = o.size in
+    let long : length nodes ≡ length lead + length o.zs = ap length o.is ∙ length-append lead o.zs in
+    let is_n : n ≡ length lead = omega (arith, sized, size) in
+    let taken : take n nodes ≡ lead = ap₂ take is_n o.is ∙ take-append_seam lead o.zs in
+    record {
+      name_is = named ∙ o.at.is;
+      some = omega (arith, is_n);
+      within = omega (arith, is_n, long);
+      one = (o.place, (o.x ∷ o.ys, ([], (taken ∙ ap (λ xs. Text o.place ∷ xs) (sym (append-nil (o.x ∷ o.ys))), o.at, o.value, refl))));
+      value = subst (Stands t d) (sym (ap (drop 1) taken)) o.value;
+      rest = subst (MembersStand t ms) (sym (ap₂ drop is_n o.is ∙ drop-append_seam lead o.zs)) o.rest;
+    }

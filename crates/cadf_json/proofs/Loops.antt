@@ -1,0 +1,300 @@
+-- The loops of the descent: items and members, appended as they are read.
+use Rattle.std.proofs.Common.{◌≡◌, ℕ, zero, suc, ◌+◌, ◌-◌, ◌<◌, ◌≤◌, List, [], ◌∷◌, ◌++◌, length, set, Bool, true, false, ◌&&◌, Option, Some, None, option_map, refl, sym, ap, ◌∙◌, subst, arith, append_assoc, append-nil, length-append}
+use Rattle.std.proofs.Common.{Less, nat_cmp}
+use Rattle.std.specs.Cmp.Lexicographic.{slice_cmp}
+use Rattle.std.proofs.Math.Seq.{set-append_seam}
+use Rattle.json.specs.Token.{Token}
+use Rattle.json.specs.Json as json
+use Rattle.json.specs.Json.{Parse, parse_map, after_end_array, read_key, items, members, value}
+use Rattle.json.specs.Reads.{opens}
+use Rattle.json.proofs.Grammar.{items_fail, items_more, members_fail, members_more, members_no_key}
+use Rattle.serde_json.specs.Data.{Data, array, object, Items, no_items, Members, no_members, member, put}
+use Rattle.serde_json.specs.Read.{of_json, of_items, of_members, converted}
+use Rattle.cadf_json.specs.Canonical.{is_name_above}
+use Rattle.cadf_json.proofs.Orders.{AreBelow, joined, push_if_last, AreBelow-further, AreBelow-joined}
+use Rattle.cadf_json.proofs.Passing.{followed, followed-none, with_last, further as further_items, parsed_none}
+use Rattle.cadf_json.proofs.RisingRows.{less_from, both_true}
+use Rattle.cadf_json.proofs.Turns.{item_read, items_over, member_read, members_over}
+use Rattle.cadf_json.specs.declared.node.Node.{Node}
+use Rattle.cadf_json.specs.declared.node.Node.TheVariants.{Null, Text, Array}
+use Rattle.cadf_json.specs.declared.node.Extent.{Extent}
+use Rattle.cadf_json.specs.Flat.{IsTextAt, Stands, TextStands, ItemsStand, MembersStand, items_count, members_count, put_all}
+use Rattle.cadf_json.specs.Reading.{Grown, IsOpen, IsClosed, ordered}
+use Rattle.cadf_json.proofs.Standing.{text_further, items_further, members_further, items_last, members_last, count_last, count_joined}
+
+-- ---- what can't be read
+
+too_deep_at : (ts : List Token) → opens ts ≡ true → converted of_json (value 0 ts) ≡ None
+unfolding value
+too_deep_at [] e = absurd cc
+too_deep_at (Token.begin_object ∷ ts) e = refl
+too_deep_at (Token.end_object ∷ ts) e = absurd cc
+too_deep_at (Token.begin_array ∷ ts) e = refl
+too_deep_at (Token.end_array ∷ ts) e = absurd cc
+too_deep_at (Token.key s ∷ ts) e = absurd cc
+too_deep_at (Token.string s ∷ ts) e = absurd cc
+too_deep_at (Token.number s ∷ ts) e = absurd cc
+too_deep_at (Token.boolean b ∷ ts) e = absurd cc
+too_deep_at (Token.null ∷ ts) e = absurd cc
+too_deep_at (Token.bad ∷ ts) e = absurd cc
+
+pub too_deep : (depth : ℕ) (ts : List Token) → depth ≡ 0 → opens ts ≡ true → converted of_json (value depth ts) ≡ None
+too_deep depth ts e h = ap (λ n. converted of_json (value n ts)) e ∙ too_deep_at ts h
+
+some_none : (o : Option Data) (r : List Token) → option_map {U = Data × List Token} (λ b. (b, r)) o ≡ None → o ≡ None
+some_none None r e = refl
+some_none (Some d) r e = absurd cc
+
+no_item : (j : json.Json) (o : Option (json.Items × List Token)) → of_json j ≡ None → converted of_items (parse_map (json.item j) o) ≡ None
+no_item j None e = refl
+no_item j (Some q) e = rw e refl
+
+no_member : (k : List ℕ) (j : json.Json) (got : Members) (o : Option (json.Members × List Token)) → of_json j ≡ None
+    → converted (λ ms. of_members ms got) (parse_map (json.member k j) o) ≡ None
+no_member k j got None e = refl
+no_member k j got (Some q) e = rw e refl
+
+module _ (p : Parse json.Json) where
+  item_failed_at : (n : ℕ) (ts : List Token) (o : Option (json.Json × List Token)) → p ts ≡ o → after_end_array ts ≡ None → converted of_json o ≡ None
+      → converted of_items (items p n ts) ≡ None
+  unfolding items
+  item_failed_at zero ts o is going e = refl
+  item_failed_at (suc n) ts None is going e = ap (converted of_items) (items_fail p (suc n) ts going is)
+  item_failed_at (suc n) ts (Some q) is going e =
+      ap (converted of_items) (items_more p (suc n) ts q.1 q.0 (omega arith) going is) ∙ no_item q.0 _ (some_none (of_json q.0) q.1 e)
+
+  pub item_failed : (n : ℕ) (ts : List Token) → after_end_array ts ≡ None → converted of_json (p ts) ≡ None → converted of_items (items p n ts) ≡ None
+  item_failed n ts going e = item_failed_at n ts (p ts) refl going e
+
+  member_failed_at : (got : Members) (n : ℕ) (k : List ℕ) (ts s : List Token) (o : Option (json.Json × List Token)) → p s ≡ o
+      → read_key ts ≡ Some (Some k, s) → converted of_json o ≡ None → converted (λ ms. of_members ms got) (members p n ts) ≡ None
+  unfolding members
+  member_failed_at got zero k ts s o is key e = refl
+  member_failed_at got (suc n) k ts s None is key e = ap (converted (λ ms. of_members ms got)) (members_fail p (suc n) k ts s key is)
+  member_failed_at got (suc n) k ts s (Some q) is key e =
+      ap (converted (λ ms. of_members ms got)) (members_more p (suc n) k ts s q.1 q.0 (omega arith) key is)
+      ∙ no_member k q.0 got _ (some_none (of_json q.0) q.1 e)
+
+  pub member_failed : (got : Members) (n : ℕ) (k : List ℕ) (ts s : List Token) → read_key ts ≡ Some (Some k, s) → converted of_json (p s) ≡ None
+      → converted (λ ms. of_members ms got) (members p n ts) ≡ None
+  member_failed got n k ts s key e = member_failed_at got n k ts s (p s) refl key e
+
+  pub key_failed : (got : Members) (n : ℕ) (ts : List Token) → read_key ts ≡ None → converted (λ ms. of_members ms got) (members p n ts) ≡ None
+  key_failed got n ts key = ap (converted (λ ms. of_members ms got)) (members_no_key p n ts key)
+
+-- ---- items
+
+pub record ItemsRead (p : Parse json.Json) (start now : List Token) (old nodes : List Node) (t u : List ℕ) (count : ℕ) : Type 0 where
+  pub bound : ℕ
+  pub enough : length now ≤ bound
+  pub got : Items
+  pub left : converted of_items (items p (length start) start) ≡ parse_map (followed got) (converted of_items (items p bound now))
+  pub shorter : length now ≤ length start
+  pub xs : List Node
+  pub more : List ℕ
+  pub nodes_are : nodes ≡ old ++ Null ∷ xs
+  pub texts_are : u ≡ t ++ more
+  pub stands : ItemsStand u got xs
+  pub counted : count ≡ items_count got
+
+-- the list or object that the node at the seam begins
+pub closed_at : (old nodes new xs : List Node) (x : Node) (place : ℕ) → nodes ≡ old ++ Null ∷ xs → place ≡ length old → new ≡ set nodes place x
+    → new ≡ old ++ x ∷ xs
+closed_at old nodes new xs x place is at stored =
+    stored ∙ ap (λ n. set nodes n x) at ∙ ap (λ ys. set ys (length old) x) is ∙ set-append_seam old Null xs x
+
+pub size_is : (old nodes xs : List Node) (place len size : ℕ) → nodes ≡ old ++ Null ∷ xs → place ≡ length old → len ≡ length nodes → size ≡ len - place
+    → size ≡ suc (length xs)
+size_is old nodes xs place len size is at whole e =
+    let long = ap length is ∙ length-append old (Null ∷ xs) in
+    omega (arith, long, at, whole, e)
+
+module _ (p : Parse json.Json) (start : List Token) (old : List Node) (t : List ℕ) where
+  pub items_start : ItemsRead p start start old (old ++ Null ∷ []) t t 0
+  items_start = record {
+    bound = length start;
+    enough = omega arith;
+    got = no_items;
+    left = parsed_none _;
+    shorter = omega arith;
+    xs = [];
+    more = [];
+    nodes_are = refl;
+    texts_are = sym (append-nil t);
+    stands = refl;
+    counted = refl;
+  }
+
+  pub one_more_item : (now r : List Token) (nodes new : List Node) (u v : List ℕ) (count : ℕ) (d : Data) → ItemsRead p start now old nodes t u count
+      → after_end_array now ≡ None → converted of_json (p now) ≡ Some (d, r) → Grown (λ u xs. Stands u d xs) nodes new u v → length r < length now
+      → ItemsRead p start r old new t v (count + 1)
+  one_more_item now r nodes new u v count d h going read g less =
+      let enough = h.enough in
+      let shorter = h.shorter in
+      let counted = h.counted in
+      let one = count_last h.got d in
+      record {
+        bound = h.bound - 1;
+        enough = omega (arith, enough, less);
+        got = with_last d h.got;
+        left = h.left ∙ ap (parse_map (followed h.got)) (item_read p h.bound now r d (omega (arith, enough, less)) going read) ∙ further_items h.got d _;
+        shorter = omega (arith, shorter, less);
+        xs = h.xs ++ g.xs;
+        more = h.more ++ g.more;
+        nodes_are = g.nodes ∙ ap (λ ys. ys ++ g.xs) h.nodes_are ∙ append_assoc old (Null ∷ h.xs) g.xs;
+        texts_are = g.texts ∙ ap (λ ys. ys ++ g.more) h.texts_are ∙ append_assoc t h.more g.more;
+        stands = items_last v h.got d h.xs g.xs (subst (λ w. ItemsStand w h.got h.xs) (sym g.texts) (items_further u g.more h.got h.xs h.stands)) g.stands;
+        counted = omega (arith, counted, one);
+      }
+
+  pub all_items : (now r : List Token) (nodes new : List Node) (u : List ℕ) (count place len : ℕ) (e : Extent) → ItemsRead p start now old nodes t u count
+      → after_end_array now ≡ Some r → place ≡ length old → len ≡ length nodes → (e.size ≡ len - place) × (e.count ≡ count) → new ≡ set nodes place (Array e)
+      → (ds : Items) × ((converted of_items (items p (length start) start) ≡ Some (ds, r)) × Grown (λ u xs. Stands u (array ds) xs) old new t u)
+  all_items now r nodes new u count place len e h over at whole extent stored = (
+    h.got,
+    (
+      h.left ∙ ap (parse_map (followed h.got)) (items_over p h.bound now r h.enough over) ∙ ap (λ es. Some (es, r)) (followed-none h.got),
+      record {
+        xs = Array e ∷ h.xs;
+        more = h.more;
+        nodes = closed_at old nodes new h.xs (Array e) place h.nodes_are at stored;
+        texts = h.texts_are;
+        stands = (e, (h.xs, (refl, (size_is old nodes h.xs place len e.size h.nodes_are at whole extent.0, extent.1 ∙ h.counted), h.stands)));
+      },
+    ),
+  )
+
+  pub no_items_here : (now : List Token) (nodes : List Node) (u : List ℕ) (count : ℕ) → ItemsRead p start now old nodes t u count → after_end_array now ≡ None
+      → converted of_json (p now) ≡ None → converted of_items (items p (length start) start) ≡ None
+  no_items_here now nodes u count h going e = h.left ∙ ap (parse_map (followed h.got)) (item_failed p h.bound now going e)
+
+-- ---- members
+
+pub put_last : (ms : Members) (k : List ℕ) (d : Data) (found : Members) → put_all (joined ms (member k d no_members)) found ≡ put k d (put_all ms found)
+put_last no_members k d found = refl
+put_last (member l e ms) k d found = put_last ms k d (put l e found)
+
+-- the last name, above which further ones are
+abbrev pub IsLast : Members → Option (List ℕ) → Type 0
+IsLast got None = got ≡ no_members
+IsLast got (Some l) = (k : List ℕ) → slice_cmp nat_cmp l k ≡ Less → AreBelow got k
+
+below_next : (got : Members) (last : Option (List ℕ)) (k : List ℕ) → IsLast got last → is_name_above last k ≡ true → AreBelow got k
+below_next got None k h above = subst (λ ms. AreBelow ms k) (sym h) tt
+below_next got (Some l) k h above = h k (less_from (slice_cmp nat_cmp l k) above)
+
+-- while the names rise, the members are in order
+pub record AreRising (got : Members) (last : Option (List ℕ)) : Type 0 where
+  pub ends : IsLast got last
+  pub same : put_all got no_members ≡ got
+
+rises_further : (got : Members) (last : Option (List ℕ)) (k : List ℕ) (d : Data) → AreRising got last → is_name_above last k ≡ true
+    → AreRising (joined got (member k d no_members)) (Some k)
+rises_further got last k d h above =
+    let below = below_next got last k h.ends above in
+    record {
+      ends = λ j r. AreBelow-joined got k d j (AreBelow-further got k j below r) r;
+      same = put_last got k d no_members ∙ ap (put k d) h.same ∙ push_if_last got k d below;
+    }
+
+pub record MembersRead (p : Parse json.Json) (start now : List Token) (old nodes : List Node) (t u : List ℕ) (count : ℕ) (last : Option (List ℕ))
+    (rising : Bool) : Type 0 where
+  pub bound : ℕ
+  pub enough : length now ≤ bound
+  pub got : Members
+  pub left : converted (λ ms. of_members ms no_members) (members p (length start) start)
+      ≡ converted (λ ms. of_members ms (put_all got no_members)) (members p bound now)
+  pub shorter : length now ≤ length start
+  pub in_order : rising ≡ true → AreRising got last
+  pub xs : List Node
+  pub more : List ℕ
+  pub nodes_are : nodes ≡ old ++ Null ∷ xs
+  pub texts_are : u ≡ t ++ more
+  pub stands : MembersStand u got xs
+  pub counted : count ≡ members_count got
+
+module _ (p : Parse json.Json) (start : List Token) (old : List Node) (t : List ℕ) where
+  pub members_start : MembersRead p start start old (old ++ Null ∷ []) t t 0 None true
+  members_start = record {
+    bound = length start;
+    enough = omega arith;
+    got = no_members;
+    left = refl;
+    shorter = omega arith;
+    in_order = λ r. record { ends = refl; same = refl };
+    xs = [];
+    more = [];
+    nodes_are = refl;
+    texts_are = sym (append-nil t);
+    stands = refl;
+    counted = refl;
+  }
+
+  pub one_more_member : (now s r : List Token) (nodes mid new : List Node) (u v w : List ℕ) (count : ℕ) (last : Option (List ℕ)) (rising : Bool)
+      (k : List ℕ) (d : Data) → MembersRead p start now old nodes t u count last rising → read_key now ≡ Some (Some k, s)
+      → Grown (λ u xs. TextStands u k xs) nodes mid u v → converted of_json (p s) ≡ Some (d, r) → Grown (λ u xs. Stands u d xs) mid new v w
+      → length r < length now → MembersRead p start r old new t w (count + 1) (Some k) (rising && is_name_above last k)
+  one_more_member now s r nodes mid new u v w count last rising k d h key named read g less =
+      let enough = h.enough in
+      let shorter = h.shorter in
+      let counted = h.counted in
+      let one = count_joined h.got k d in
+      let place = named.stands.0 in
+      let is : named.xs ≡ Text place ∷ [] = named.stands.1.0 in
+      let mid_are : mid ≡ nodes ++ Text place ∷ [] = named.nodes ∙ ap (λ ys. nodes ++ ys) is in
+      let new_are : new ≡ nodes ++ Text place ∷ g.xs = g.nodes ∙ ap (λ ys. ys ++ g.xs) mid_are ∙ append_assoc nodes (Text place ∷ []) g.xs in
+      let before = subst (λ y. MembersStand y h.got h.xs) (sym named.texts) (members_further u named.more h.got h.xs h.stands) in
+      record {
+        bound = h.bound - 1;
+        enough = omega (arith, enough, less);
+        got = joined h.got (member k d no_members);
+        left = h.left ∙ member_read p (put_all h.got no_members) h.bound k now s r d (omega (arith, enough, less)) key read
+            ∙ ap (λ found. converted (λ ms. of_members ms found) (members p (h.bound - 1) r)) (sym (put_last h.got k d no_members));
+        shorter = omega (arith, shorter, less);
+        in_order = λ still. let both = both_true rising (is_name_above last k) still in rises_further h.got last k d (h.in_order both.0) both.1;
+        xs = h.xs ++ Text place ∷ g.xs;
+        more = h.more ++ (named.more ++ g.more);
+        nodes_are = new_are ∙ ap (λ ys. ys ++ Text place ∷ g.xs) h.nodes_are ∙ append_assoc old (Null ∷ h.xs) (Text place ∷ g.xs);
+        texts_are = g.texts ∙ ap (λ ys. ys ++ g.more) (named.texts ∙ ap (λ ys. ys ++ named.more) h.texts_are)
+            ∙ append_assoc (t ++ h.more) named.more g.more ∙ append_assoc t h.more (named.more ++ g.more);
+        stands = members_last w h.got k d place h.xs g.xs
+            (subst (λ y. MembersStand y h.got h.xs) (sym g.texts) (members_further v g.more h.got h.xs before))
+            (subst (λ y. IsTextAt y place k) (sym g.texts) (text_further v g.more place k named.stands.1.1)) g.stands;
+        counted = omega (arith, counted, one);
+      }
+
+  pub is_open : (now : List Token) (nodes : List Node) (u : List ℕ) (count : ℕ) (last : Option (List ℕ)) (rising : Bool) (place : ℕ)
+      → (h : MembersRead p start now old nodes t u count last rising) → place ≡ length old → IsOpen u old nodes place h.got
+  is_open now nodes u count last rising place h at = record { xs = h.xs; is = h.nodes_are; place_is = at; stands = h.stands }
+
+  ordered_all : (rising : Bool) (got : Members) (last : Option (List ℕ)) → (rising ≡ true → AreRising got last) → ordered rising got ≡ put_all got no_members
+  ordered_all true got last h = sym (h refl).same
+  ordered_all false got last h = refl
+
+  pub all_members : (now r : List Token) (nodes new : List Node) (u : List ℕ) (count : ℕ) (last : Option (List ℕ)) (rising : Bool)
+      → (h : MembersRead p start now old nodes t u count last rising) → read_key now ≡ Some (None, r) → IsClosed u old new (ordered rising h.got)
+      → (ms : Members) × ((converted (λ ms. of_members ms no_members) (members p (length start) start) ≡ Some (ms, r))
+      × Grown (λ u xs. Stands u (object ms) xs) old new t u)
+  all_members now r nodes new u count last rising h key closed = (
+    put_all h.got no_members,
+    (
+      h.left ∙ members_over p (put_all h.got no_members) h.bound now r h.enough key,
+      record {
+        xs = closed.0;
+        more = h.more;
+        nodes = closed.1.0;
+        texts = h.texts_are;
+        stands = subst (λ ms. Stands u (object ms) closed.0) (ordered_all rising h.got last h.in_order) closed.1.1;
+      },
+    ),
+  )
+
+  pub no_key_here : (now : List Token) (nodes : List Node) (u : List ℕ) (count : ℕ) (last : Option (List ℕ)) (rising : Bool)
+      → MembersRead p start now old nodes t u count last rising → read_key now ≡ None
+      → converted (λ ms. of_members ms no_members) (members p (length start) start) ≡ None
+  no_key_here now nodes u count last rising h key = h.left ∙ key_failed p (put_all h.got no_members) h.bound now key
+
+  pub no_member_here : (now s : List Token) (nodes : List Node) (u : List ℕ) (count : ℕ) (last : Option (List ℕ)) (rising : Bool) (k : List ℕ)
+      → MembersRead p start now old nodes t u count last rising → read_key now ≡ Some (Some k, s) → converted of_json (p s) ≡ None
+      → converted (λ ms. of_members ms no_members) (members p (length start) start) ≡ None
+  no_member_here now s nodes u count last rising k h key e = h.left ∙ member_failed p (put_all h.got no_members) h.bound k now s key e

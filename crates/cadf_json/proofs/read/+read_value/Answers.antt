@@ -1,0 +1,236 @@
+use Rattle.std.proofs.Common.{◌≡◌, ◌-◌, ◌+◌, ◌<◌, ◌++◌, [], ◌∷◌, length, set, true, Some, None, Err, option_map, refl, sym, ap, ◌∙◌, subst, arith, rules, append-nil}
+use Rattle.json.specs.Json.{parse_map, after_end_array, read_key, items, members, value}
+use Rattle.json.specs.Reads.{token_of}
+use Rattle.json.proofs.Grammar.{value_is, value-begin_array, value-begin_object, read_key-shorter}
+use Rattle.serde_json.specs.Data.{null, boolean, number, string, array, object}
+use Rattle.serde_json.specs.Read.{of_json, converted}
+use Rattle.cadf_json.proofs.Turns.{converted-array, converted-object}
+use Rattle.cadf_json.specs.declared.node.Node.TheVariants.{Null, Array}
+use Rattle.cadf_json.specs.declared.push.ReadFault.TheVariants.{NotJson}
+use Rattle.json.specs.Reads.{opens}
+use Rattle.cadf_json.proofs.Loops.{too_deep, ItemsRead, MembersRead, items_start, one_more_item, all_items, no_items_here}
+use Rattle.cadf_json.proofs.Loops.{members_start, one_more_member, is_open, all_members, no_key_here, no_member_here}
+use Rattle.cadf_json.proofs.read.+read_value.Goals as goal
+
+-- ---- a value
+
+pub read_value-returns-in_default-clause-not_json : goal.read_value-returns-in_default-clause-not_json
+read_value-returns-in_default-clause-not_json t c h =
+    let none : c.args.reader.now ≡ [] = grind arith in
+    ap (converted of_json) (ap (value c.args.depth) none ∙ value_is c.args.depth [])
+
+pub read_value-returns-in-EndObject-clause-not_json : goal.read_value-returns-in-EndObject-clause-not_json
+read_value-returns-in-EndObject-clause-not_json t c h =
+    let first = c.in-Some.ensures.value in
+    let none : value c.args.depth c.args.reader.now ≡ None = rw (value_is c.args.depth c.args.reader.now, first) (grind arith) in
+    ap (converted of_json) none
+
+pub read_value-returns-in_err-push_number-in-Number-clause-not_json : goal.read_value-returns-in_err-push_number-in-Number-clause-not_json
+read_value-returns-in_err-push_number-in-Number-clause-not_json t c h =
+    let rest = c.next.new.self in
+    let is = c.in-Some.ensures.value ∙ ap (λ k. token_of k ∷ rest) c.in-Number.is in
+    let failed : Err c.in_err-push_number-in-Number.field-0.0 ≡ Err NotJson = search rules in
+    ap (converted of_json) (ap (value c.args.depth) is ∙ value_is c.args.depth _)
+    ∙ ap (λ n. option_map (λ d. (d, rest)) (option_map number n)) (c.in_err-push_number-in-Number.ensures.not_json failed)
+
+pub read_value-returns-then-depth-eq0-clause-not_json : goal.read_value-returns-then-depth-eq0-clause-not_json
+read_value-returns-then-depth-eq0-clause-not_json t c h =
+    let rest = c.next.new.self in
+    let is = c.in-Some.ensures.value ∙ ap (λ k. token_of k ∷ rest) c.in-BeginArray.is in
+    too_deep c.args.depth c.args.reader.now c.if-depth-eq0.true (ap opens is)
+
+pub read_value-returns-then-depth-eq0-2-clause-not_json : goal.read_value-returns-then-depth-eq0-2-clause-not_json
+read_value-returns-then-depth-eq0-2-clause-not_json t c h =
+    let rest = c.next.new.self in
+    let is = c.in-Some.ensures.value ∙ ap (λ k. token_of k ∷ rest) c.in-BeginObject.is in
+    too_deep c.args.depth c.args.reader.now c.if-depth-eq0-2.true (ap opens is)
+
+pub read_value-returns-in_err-read_items-in-BeginArray-clause-not_json : goal.read_value-returns-in_err-read_items-in-BeginArray-clause-not_json
+read_value-returns-in_err-read_items-in-BeginArray-clause-not_json t c h =
+    let rest = c.next.new.self in
+    let is = c.in-Some.ensures.value ∙ ap (λ k. token_of k ∷ rest) c.in-BeginArray.is in
+    let opened = ap (converted of_json) (ap (value c.args.depth) is ∙ value-begin_array c.args.depth rest (omega arith))
+    ∙ converted-array (items (value (c.args.depth - 1)) (length rest) rest) in
+    let failed : Err c.in_err-read_items-in-BeginArray.field-0.0 ≡ Err NotJson = search rules in
+    opened ∙ ap (parse_map array) (c.in_err-read_items-in-BeginArray.ensures.not_json failed)
+
+pub read_value-returns-in_err-read_members-in-BeginObject-clause-not_json : goal.read_value-returns-in_err-read_members-in-BeginObject-clause-not_json
+read_value-returns-in_err-read_members-in-BeginObject-clause-not_json t c h =
+    let rest = c.next.new.self in
+    let is = c.in-Some.ensures.value ∙ ap (λ k. token_of k ∷ rest) c.in-BeginObject.is in
+    let opened = ap (converted of_json) (ap (value c.args.depth) is ∙ value-begin_object c.args.depth rest (omega arith))
+    ∙ converted-object (members (value (c.args.depth - 1)) (length rest) rest) in
+    let failed : Err c.in_err-read_members-in-BeginObject.field-0.0 ≡ Err NotJson = search rules in
+    opened ∙ ap (parse_map object) (c.in_err-read_members-in-BeginObject.ensures.not_json failed)
+
+pub read_value-returns-in_ok-push_string-in-String-clause-ok : goal.read_value-returns-in_ok-push_string-in-String-clause-ok
+read_value-returns-in_ok-push_string-in-String-clause-ok t c =
+    let rest = c.next.new.self in
+    let is = c.in-Some.ensures.value ∙ ap (λ k. token_of k ∷ rest) c.in-String.is in
+    (string c.in-String.text.now, (ap (converted of_json) (ap (value c.args.depth) is ∙ value_is c.args.depth _), c.in_ok-push_string-in-String.ensures))
+
+pub read_value-returns-in_ok-push_number-in-Number-clause-ok : goal.read_value-returns-in_ok-push_number-in-Number-clause-ok
+read_value-returns-in_ok-push_number-in-Number-clause-ok t c =
+    let rest = c.next.new.self in
+    let is = c.in-Some.ensures.value ∙ ap (λ k. token_of k ∷ rest) c.in-Number.is in
+    let read = c.in_ok-push_number-in-Number.ensures.ok in (
+      number read.0,
+      (
+        ap (converted of_json) (ap (value c.args.depth) is ∙ value_is c.args.depth _) ∙ ap (λ n. option_map (λ d. (d, rest)) (option_map number n)) read.1.0,
+        read.1.1,
+      ),
+    )
+
+pub read_value-returns-in_ok-push-in-Bool-clause-ok : goal.read_value-returns-in_ok-push-in-Bool-clause-ok
+read_value-returns-in_ok-push-in-Bool-clause-ok t c =
+    let rest = c.next.new.self in
+    let is = c.in-Some.ensures.value ∙ ap (λ k. token_of k ∷ rest) c.in-Bool.is in (
+      boolean c.in-Bool.b,
+      (
+        ap (converted of_json) (ap (value c.args.depth) is ∙ value_is c.args.depth _),
+        record { xs = _ ∷ []; more = []; nodes = search rules; texts = sym (append-nil _); stands = refl },
+      ),
+    )
+
+pub read_value-returns-in_ok-push-in-Null-clause-ok : goal.read_value-returns-in_ok-push-in-Null-clause-ok
+read_value-returns-in_ok-push-in-Null-clause-ok t c =
+    let rest = c.next.new.self in
+    let is = c.in-Some.ensures.value ∙ ap (λ k. token_of k ∷ rest) c.in-Null.is in (
+      null,
+      (
+        ap (converted of_json) (ap (value c.args.depth) is ∙ value_is c.args.depth _),
+        record { xs = _ ∷ []; more = []; nodes = search rules; texts = sym (append-nil _); stands = refl },
+      ),
+    )
+
+pub read_value-returns-in_ok-read_items-in-BeginArray-clause-ok : goal.read_value-returns-in_ok-read_items-in-BeginArray-clause-ok
+read_value-returns-in_ok-read_items-in-BeginArray-clause-ok t c =
+    let rest = c.next.new.self in
+    let is = c.in-Some.ensures.value ∙ ap (λ k. token_of k ∷ rest) c.in-BeginArray.is in
+    let opened = ap (converted of_json) (ap (value c.args.depth) is ∙ value-begin_array c.args.depth rest (omega arith))
+    ∙ converted-array (items (value (c.args.depth - 1)) (length rest) rest) in
+    let done = c.in_ok-read_items-in-BeginArray.ensures.ok in
+    (array done.0, (opened ∙ ap (parse_map array) done.1.0, done.1.1))
+
+pub read_value-returns-in_ok-read_members-in-BeginObject-clause-ok : goal.read_value-returns-in_ok-read_members-in-BeginObject-clause-ok
+read_value-returns-in_ok-read_members-in-BeginObject-clause-ok t c =
+    let rest = c.next.new.self in
+    let is = c.in-Some.ensures.value ∙ ap (λ k. token_of k ∷ rest) c.in-BeginObject.is in
+    let opened = ap (converted of_json) (ap (value c.args.depth) is ∙ value-begin_object c.args.depth rest (omega arith))
+    ∙ converted-object (members (value (c.args.depth - 1)) (length rest) rest) in
+    let done = c.in_ok-read_members-in-BeginObject.ensures.ok in
+    (object done.0, (opened ∙ ap (parse_map object) done.1.0, done.1.1))
+
+-- ---- items
+
+pub read_items-items-init : goal.read_items-items-init
+read_items-items-init t c =
+    let old = c.args.nodes.now.items in
+    let u = c.args.texts.now.items in
+    let pushed : c.push.new.self.items ≡ old ++ Null ∷ [] = search rules in
+    let len = c.args.nodes.now.ok.0 in
+    let at = c.len-at.ensures in (
+      subst (λ xs. ItemsRead (value c.args.depth) c.args.reader.now c.args.reader.now old xs u u 0) (sym pushed)
+          (items_start (value c.args.depth) c.args.reader.now old u),
+      omega (arith, len, at),
+    )
+
+pub read_items-returns-in_err-read_value-clause-not_json : goal.read_items-returns-in_err-read_value-clause-not_json
+read_items-returns-in_err-read_value-clause-not_json t c h =
+    let l = c.items in
+    let going : (after_end_array l.reader ≡ None) × (c.take_end_array.new.self ≡ l.reader) = grind arith in
+    let failed : Err c.in_err-read_value.field-0.0 ≡ Err NotJson = search rules in
+    no_items_here (value c.args.depth) c.args.reader.now c.args.nodes.now.items c.args.texts.now.items l.reader l.nodes.items l.texts.items l.count l.invariant.0
+    going.0 (subst (λ ts. converted of_json (value c.args.depth ts) ≡ None) going.1 (c.in_err-read_value.ensures.not_json failed))
+
+pub read_items-items-preserved : goal.read_items-items-preserved
+read_items-items-preserved t c =
+    let l = c.items in
+    let p = value c.args.depth in
+    let going : (after_end_array l.reader ≡ None) × (c.take_end_array.new.self ≡ l.reader) = grind arith in
+    let done = c.in_ok-read_value.ensures in
+    let r = c.read_value.new.reader in
+    let less : length r < length l.reader = rw (← going.1) done.shorter in
+    let read = done.ok in (
+      one_more_item p c.args.reader.now c.args.nodes.now.items c.args.texts.now.items l.reader r l.nodes.items c.read_value.new.nodes.items l.texts.items
+          c.read_value.new.texts.items l.count read.0 l.invariant.0 going.0 (rw (← going.1) read.1.0) read.1.1 less,
+      l.invariant.1,
+    )
+
+pub read_items-returns-clause-ok : goal.read_items-returns-clause-ok
+read_items-returns-clause-ok t c =
+    let l = c.items in
+    let len = l.nodes.ok.0 in
+    all_items (value c.args.depth) c.args.reader.now c.args.nodes.now.items c.args.texts.now.items l.reader c.take_end_array.new.self l.nodes.items
+    (set l.nodes.items c.len-at.result (Array c.in_ok-extent.extent)) l.texts.items l.count c.len-at.result l.nodes.len c.in_ok-extent.extent l.invariant.0 (grind arith)
+    l.invariant.1 (omega (arith, len)) c.in_ok-extent.ensures refl
+
+-- ---- members
+
+pub read_members-members-init : goal.read_members-members-init
+read_members-members-init t c =
+    let old = c.args.nodes.now.items in
+    let u = c.args.texts.now.items in
+    let pushed : c.push.new.self.items ≡ old ++ Null ∷ [] = search rules in
+    let len = c.args.nodes.now.ok.0 in
+    let at = c.len-at.ensures in (
+      subst (λ xs. MembersRead (value c.args.depth) c.args.reader.now c.args.reader.now old xs u u 0 None true) (sym pushed)
+          (members_start (value c.args.depth) c.args.reader.now old u),
+      omega (arith, len, at),
+    )
+
+pub read_members-returns-in_default-clause-not_json : goal.read_members-returns-in_default-clause-not_json
+read_members-returns-in_default-clause-not_json t c h =
+    let l = c.members in
+    let key : read_key l.reader ≡ None = grind arith in
+    no_key_here (value c.args.depth) c.args.reader.now c.args.nodes.now.items c.args.texts.now.items l.reader l.nodes.items l.texts.items l.count
+    (option_map (λ x. x.now) l.last) l.rising l.invariant.0 key
+
+pub read_members-returns-in_default-key-clause-ok : goal.read_members-returns-in_default-key-clause-ok
+read_members-returns-in_default-key-clause-ok t c =
+    let l = c.members in
+    let p = value c.args.depth in
+    let start = c.args.reader.now in
+    let old = c.args.nodes.now.items in
+    let u = c.args.texts.now.items in
+    let last = option_map (λ x. x.now) l.last in
+    let s = c.next_key.new.self in
+    let over = c.in-Ok.ensures.value ∙ ap (λ o. Some (option_map (λ x. x.now) o, s)) c.in_default-key.is in
+    let h = l.invariant.0 in
+    let open_now = is_open p start old u l.reader l.nodes.items l.texts.items l.count last l.rising c.len-at.result h l.invariant.1 in
+    all_members p start old u l.reader s l.nodes.items c.end_members.new.nodes.items l.texts.items l.count last l.rising h over
+    (c.in_ok-end_members.ensures old h.got open_now h.counted)
+
+pub read_members-returns-in_err-read_value-clause-not_json : goal.read_members-returns-in_err-read_value-clause-not_json
+read_members-returns-in_err-read_value-clause-not_json t c h =
+    let l = c.members in
+    let k = c.in-Some.name in
+    let s = c.next_key.new.self in
+    let named : read_key l.reader ≡ Some (Some k.now, s) = c.in-Ok.ensures.value ∙ ap (λ o. Some (option_map (λ x. x.now) o, s)) c.in-Some.is in
+    let failed : Err c.in_err-read_value.field-0.0 ≡ Err NotJson = search rules in
+    no_member_here (value c.args.depth) c.args.reader.now c.args.nodes.now.items c.args.texts.now.items l.reader s l.nodes.items l.texts.items l.count
+    (option_map (λ x. x.now) l.last) l.rising k.now l.invariant.0 named (c.in_err-read_value.ensures.not_json failed)
+
+pub read_members-members-preserved : goal.read_members-members-preserved
+read_members-members-preserved t c =
+    let l = c.members in
+    let p = value c.args.depth in
+    let start = c.args.reader.now in
+    let old = c.args.nodes.now.items in
+    let u = c.args.texts.now.items in
+    let last = option_map (λ x. x.now) l.last in
+    let k = c.in-Some.name in
+    let s = c.next_key.new.self in
+    let named : read_key l.reader ≡ Some (Some k.now, s) = c.in-Ok.ensures.value ∙ ap (λ o. Some (option_map (λ x. x.now) o, s)) c.in-Some.is in
+    let done = c.in_ok-read_value.ensures in
+    let r = c.read_value.new.reader in
+    let sooner = read_key-shorter l.reader (Some k.now) s named in
+    let later = done.shorter in
+    let less : length r < length l.reader = omega (arith, sooner, later) in
+    let read = done.ok in (
+      subst (λ b. MembersRead p start r old c.read_value.new.nodes.items u c.read_value.new.texts.items (l.count + 1) (Some k.now) b) (sym c.rises_to-rising.ensures)
+          (one_more_member p start old u l.reader s r l.nodes.items c.push_string.new.nodes.items c.read_value.new.nodes.items l.texts.items
+          c.push_string.new.texts.items c.read_value.new.texts.items l.count last l.rising k.now read.0 l.invariant.0 named c.in_ok-push_string.ensures read.1.0
+          read.1.1 less),
+      l.invariant.1,
+    )

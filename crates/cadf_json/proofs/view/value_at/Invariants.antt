@@ -1,0 +1,7 @@
+use Rattle.std.proofs.Common.{◌≡◌, slice_get}
+use Rattle.cadf_json.specs.Parts.{values_of}
+use Rattle.cadf_json.proofs.view.value_at.Given as goal
+
+abbrev pub invariant-loop-member : goal.invariant-loop-member
+invariant-loop-member l =
+    slice_get (values_of l.fn.members) l.index ≡ slice_get (values_of l.member-iterator) l.left

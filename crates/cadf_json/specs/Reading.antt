@@ -1,0 +1,85 @@
+-- What is appended as tokens are read: the nodes and the texts of the values.
+use Rattle.std.specs.Prelude.{◌≡◌, ℕ, ◌<◌, ◌≤◌, List, [], ◌∷◌, ◌++◌, length, take, drop, slice_range, Bool, true, false, Option, Some, None, ⊤}
+use Rattle.std.specs.Borrow.{Bor}
+use Rattle.json.specs.Token.{Token}
+use Rattle.json.specs.Json.{value, items, members}
+use Rattle.serde_json.specs.Data.{Num, Data, array, object, Items, Members, no_members, member}
+use Rattle.serde_json.specs.Read.{number_of, of_json, of_items, of_members, converted}
+use Rattle.cadf_json.specs.declared.node.Node.{Node}
+use Rattle.cadf_json.specs.declared.node.Node.TheVariants.{Null}
+use Rattle.cadf_json.specs.declared.order.Span.{Span}
+use Rattle.cadf_json.specs.Flat.{Stands, NumberStands, MembersStand, put_all}
+
+-- nodes and texts were appended, and S holds of them
+pub record Grown (S : List ℕ → List Node → Type 0) (old new : List Node) (t u : List ℕ) : Type 0 where
+  pub xs : List Node
+  pub more : List ℕ
+  pub nodes : new ≡ old ++ xs
+  pub texts : u ≡ t ++ more
+  pub stands : S u xs
+
+abbrev pub IsRead : ℕ → List Token → List Token → List Node → List Node → List ℕ → List ℕ → Type 0
+IsRead depth ts rest old new t u = (d : Data) × ((converted of_json (value depth ts) ≡ Some (d, rest)) × Grown (λ u xs. Stands u d xs) old new t u)
+
+abbrev pub IsNoValue : ℕ → List Token → Type 0
+IsNoValue depth ts = converted of_json (value depth ts) ≡ None
+
+abbrev pub AreItemsRead : ℕ → List Token → List Token → List Node → List Node → List ℕ → List ℕ → Type 0
+AreItemsRead depth ts rest old new t u =
+    (ds : Items) × ((converted of_items (items (value depth) (length ts) ts) ≡ Some (ds, rest)) × Grown (λ u xs. Stands u (array ds) xs) old new t u)
+
+abbrev pub AreNoItems : ℕ → List Token → Type 0
+AreNoItems depth ts = converted of_items (items (value depth) (length ts) ts) ≡ None
+
+abbrev pub AreMembersRead : ℕ → List Token → List Token → List Node → List Node → List ℕ → List ℕ → Type 0
+AreMembersRead depth ts rest old new t u =
+    (ms : Members) × ((converted (λ ms. of_members ms no_members) (members (value depth) (length ts) ts) ≡ Some (ms, rest))
+    × Grown (λ u xs. Stands u (object ms) xs) old new t u)
+
+abbrev pub AreNoMembers : ℕ → List Token → Type 0
+AreNoMembers depth ts = converted (λ ms. of_members ms no_members) (members (value depth) (length ts) ts) ≡ None
+
+abbrev pub IsNumberRead : List ℕ → List Node → List Node → List ℕ → List ℕ → Type 0
+IsNumberRead s old new t u = (n : Num) × ((number_of s ≡ Some n) × Grown (λ u xs. NumberStands u n xs) old new t u)
+
+-- an object is open: its members follow the node at the place
+pub record IsOpen (t : List ℕ) (old nodes : List Node) (place : ℕ) (ms : Members) : Type 0 where
+  pub xs : List Node
+  pub is : nodes ≡ old ++ Null ∷ xs
+  pub place_is : place ≡ length old
+  pub stands : MembersStand t ms xs
+
+abbrev pub ordered : Bool → Members → Members
+ordered true ms = ms
+ordered false ms = put_all ms no_members
+
+abbrev pub IsClosed : List ℕ → List Node → List Node → Members → Type 0
+IsClosed t old nodes ms = (xs : List Node) × ((nodes ≡ old ++ xs) × Stands t (object ms) xs)
+
+-- the span of a member: its name's node, and those of its value
+pub record IsSpan (t : List ℕ) (nodes : List Node) (p : Span) (k : List ℕ) (d : Data) : Type 0 where
+  pub rise : p.start ≤ p.end
+  pub within : p.end ≤ length nodes
+  pub stands : MembersStand t (member k d no_members) (slice_range nodes p.start p.end)
+
+abbrev pub AreSpans : List ℕ → List Node → List (Bor (List ℕ) × Span) → Members → Type 0
+AreSpans t nodes [] no_members = ⊤
+AreSpans t nodes [] (member k d ms) = ⊥
+AreSpans t nodes (e ∷ es) no_members = ⊥
+AreSpans t nodes (e ∷ es) (member k d ms) = (e.0.now ≡ k) × IsSpan t nodes e.1 k d × AreSpans t nodes es ms
+
+-- the nodes begin with a member of n nodes, and those of the others follow
+pub record IsFirstMember (t : List ℕ) (nodes : List Node) (k : List ℕ) (d : Data) (ms : Members) (name : List ℕ) (n : ℕ) : Type 0 where
+  pub name_is : name ≡ k
+  pub some : 1 < n
+  pub within : n ≤ length nodes
+  pub one : MembersStand t (member k d no_members) (take n nodes)
+  pub value : Stands t d (drop 1 (take n nodes))
+  pub rest : MembersStand t ms (drop n nodes)
+
+-- a member of that name was found: its nodes
+abbrev pub IsFound : List ℕ → Option Data → Option (List Node) → Type 0
+IsFound t None None = ⊤
+IsFound t None (Some xs) = ⊥
+IsFound t (Some d) None = ⊥
+IsFound t (Some d) (Some xs) = Stands t d xs

@@ -1,0 +1,119 @@
+//! Nodes and decoded texts, appended.
+ghost use Rattle.std.specs.Prelude.{◌≡◌, ◌-◌, ◌≤◌, ◌++◌, None, IfOk, OnOk, vec_len};
+ghost use Rattle.serde_json.specs.Data.{Num};
+ghost use Rattle.serde_json.specs.Read.{number_of};
+ghost use Rattle.serde_json.specs.Written.{number_text};
+ghost use Rattle.cadf_json.specs.Flat.{IsTextAt, NumberStands, TextStands};
+ghost use Rattle.cadf_json.specs.Value.{IsWholeNumber};
+ghost use Rattle.cadf_json.specs.Reading.{Grown, IsNumberRead};
+
+use crate::node::{Extent, Node, Place};
+use crate::number::Number;
+use std::alloc::{AllocError, AllocFailed};
+
+/// Why no value was read.
+#[derive(Clone, Copy, Debug, Drop)]
+pub(crate) enum ReadFault {
+    NotJson,
+    Memory,
+}
+
+impl From<AllocError> for ReadFault {
+    ghost use Rattle.std.specs.Prelude.{◌≡◌};
+    ghost use Rattle.cadf_json.specs.declared.push.ReadFault.TheVariants.{Memory as OutOfMemory};
+
+    ghost from_gives = { λ _ e. e ≡ OutOfMemory };
+
+    fn from(_refused: AllocError) -> ReadFault {
+        ReadFault::Memory
+    }
+}
+
+impl<T: Drop> From<AllocFailed<T>> for ReadFault {
+    ghost use Rattle.std.specs.Prelude.{◌≡◌};
+    ghost use Rattle.cadf_json.specs.declared.push.ReadFault.TheVariants.{Memory as OutOfMemory};
+
+    ghost from_gives = { λ _ e. e ≡ OutOfMemory };
+
+    fn from(_refused: AllocFailed<T>) -> ReadFault {
+        ReadFault::Memory
+    }
+}
+
+/// The greatest length of the texts, and the greatest number of nodes.
+pub(crate) const MOST: usize = u32::MAX as usize;
+
+/// Appends a decoded text, and returns its place. `Memory` past 4 GiB.
+pub(crate) fn push_text(text: &str, texts: &mut Vec<u8>) -> Result<Place, AllocError>
+    ensures texts { OnOk result (texts.new.items ≡ texts.old.items ++ text.now) }
+    ensures place { IfOk result (λ p. IsTextAt texts.new.items p text.now) }
+{
+    let start = texts.len();
+    if start > MOST {
+        return Err(AllocError);
+    }
+    if text.len() > MOST - start {
+        return Err(AllocError);
+    }
+    texts.extend_from_slice(text.as_bytes())?;
+    Ok(Place {
+        start: start as u32,
+        end: (start + text.len()) as u32,
+    })
+}
+
+/// Appends a text and its node.
+pub(crate) fn push_string(
+    text: &str,
+    nodes: &mut Vec<Node>,
+    texts: &mut Vec<u8>,
+) -> Result<(), AllocError>
+    ensures { OnOk result (Grown (λ u xs. TextStands u text.now xs) nodes.old.items nodes.new.items texts.old.items texts.new.items) }
+{
+    let place = push_text(text, texts)?;
+    nodes.push(Node::Text(place))?;
+    Ok(())
+}
+
+/// Appends a number. `NotJson` if it has no value.
+pub(crate) fn push_number(
+    text: &str,
+    nodes: &mut Vec<Node>,
+    texts: &mut Vec<u8>,
+) -> Result<(), ReadFault>
+    ensures ok { OnOk result (IsNumberRead text.now nodes.old.items nodes.new.items texts.old.items texts.new.items) }
+    ensures not_json { result ≡ Err ReadFault.NotJson → number_of text.now ≡ None }
+{
+    let mut buffer = itoa::Buffer::new();
+    match Number::parse(text) {
+        Some(Number::Unsigned(n)) => Ok(push_whole(buffer.format(n), nodes, texts)?),
+        Some(Number::Negative(n)) => Ok(push_whole(buffer.format(n), nodes, texts)?),
+        Some(Number::Float(_)) => Ok(nodes.push(Node::Fraction)?),
+        None => Err(ReadFault::NotJson),
+    }
+}
+
+/// Appends a whole number in canonical spelling.
+fn push_whole(spelled: &str, nodes: &mut Vec<Node>, texts: &mut Vec<u8>) -> Result<(), AllocError>
+    ensures { OnOk result ((n : Num) → IsWholeNumber n → spelled.now ≡ number_text n
+        → Grown (λ u xs. NumberStands u n xs) nodes.old.items nodes.new.items texts.old.items texts.new.items) }
+{
+    let place = push_text(spelled, texts)?;
+    nodes.push(Node::Whole(place))?;
+    Ok(())
+}
+
+/// Returns the extent of a list or an object whose parts were appended after the node at `at`. `Memory` past 2^32 nodes.
+pub(crate) fn extent_from(nodes: &Vec<Node>, at: usize, count: u32) -> Result<Extent, AllocError>
+    requires { at ≤ vec_len nodes.now }
+    ensures { IfOk result (λ e. (e.size ≡ vec_len nodes.now - at) × (e.count ≡ count)) }
+{
+    let size = nodes.len() - at;
+    if size > MOST {
+        return Err(AllocError);
+    }
+    Ok(Extent {
+        size: size as u32,
+        count,
+    })
+}
