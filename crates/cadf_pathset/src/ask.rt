@@ -70,7 +70,8 @@ impl PathSet {
     pub fn child_texts(&self, prefix: &[&str]) -> Result<Vec<String>, Memory>
         ensures { IfOk result (λ found. map string_bytes found.items ≡ set.rising (heads (suffixes_after self.now (texts_at prefix.now)))) }
     {
-        self.suffix_set(prefix).child_texts()
+        let children = self.suffix_set(prefix).children()?;
+        continued(self.alloc, &[], children.as_slice())
     }
 
     /// Counts the texts directly after the prefix that two or more different texts follow. `u64::MAX` if there are

@@ -1,11 +1,11 @@
 //! The suffixes after a prefix in a set, borrowed from the set.
-ghost use Rattle.std.specs.Prelude.{◌≡◌, [], IfOk, length, get_or, map, string_bytes};
+ghost use Rattle.std.specs.Prelude.{◌≡◌, [], IfOk, length, get_or};
 ghost use Rattle.std.specs.List.Sorted.{IsStrictlySortedBy};
 ghost use Rattle.std.specs.Option.{option_copied, option_map};
 ghost use Rattle.cadf_join.specs.Contents.{next_after, suffixes_of, texts_cmp};
 ghost use Rattle.cadf_join.specs.Longest.{longest_of};
 ghost use Rattle.cadf_join.specs.Maps.{heads};
-ghost use Rattle.cadf_join.specs.Prefixes.{all_texts};
+ghost use Rattle.cadf_join.specs.Prefixes.{all_texts, texts_at};
 ghost use Rattle.cadf_join.specs.Sets as set;
 
 use crate::Memory;
@@ -86,11 +86,11 @@ impl<'a> SuffixSet<'a> {
         self.range.longest()
     }
 
-    /// Copies the first texts, each once, in order.
-    pub fn child_texts(&self) -> Result<Vec<String>, Memory>
-        ensures { IfOk result (λ found. map string_bytes found.items ≡ set.rising (heads self.now)) }
+    /// Lists the first texts, each once, in order. No text is copied.
+    pub fn children(&self) -> Result<Vec<&'a str>, Memory>
+        ensures { IfOk result (λ found. texts_at found.items ≡ set.rising (heads self.now)) }
     {
-        self.range.child_texts(self.alloc)
+        self.range.children(self.alloc)
     }
 
     /// Copies the suffixes, in order.
