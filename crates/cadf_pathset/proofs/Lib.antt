@@ -21,6 +21,7 @@ pub mod Merging
 pub mod Narrowed
 pub mod Nexts
 pub mod Orders
+pub mod Placed
 pub mod Ranges
 pub mod Replaced
 pub mod Several

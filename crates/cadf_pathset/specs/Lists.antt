@@ -8,7 +8,9 @@
 --     last_starts_with ls p  whether the last of the lists begins with p
 --     last_list s            the last list of a set in its order; the empty list if there is none
 --     chosen_of flags ls     the lists whose flags are set
-use Rattle.std.specs.Prelude.{Bool, true, false, cond, List, [], ◌∷◌, Option, Some, None}
+--     at_places is ls        the members of ls at these indices, in the order of the indices; none for an index that is too great
+use Rattle.std.specs.Prelude.{ℕ, Bool, true, false, cond, List, [], ◌∷◌, Option, Some, None, slice_get}
+use Rattle.std.specs.List.{filter_map}
 use Rattle.std.specs.declared.cmp.Ordering.{Ordering}
 use Rattle.std.specs.declared.cmp.Ordering.TheVariants.{Less, Equal, Greater}
 use Rattle.std.specs.Ordering.{is_eq, is_lt, match_ordering}
@@ -51,3 +53,6 @@ abbrev pub chosen_of : List Bool → List Texts → List Texts
 chosen_of [] ls = []
 chosen_of (b ∷ bs) [] = []
 chosen_of (b ∷ bs) (l ∷ ls) = cond b (l ∷ chosen_of bs ls) (chosen_of bs ls)
+
+abbrev pub at_places : {A : Type 0} → List ℕ → List A → List A
+at_places is ls = filter_map (slice_get ls) is

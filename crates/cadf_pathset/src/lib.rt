@@ -21,6 +21,7 @@ mod sort;
 mod suffix_range;
 mod suffix_set;
 mod union;
+mod walk;
 
 pub use builder::PathSetBuilder;
 pub use cadf_join::{Join, Memory, Visitor, Walk};

@@ -1,21 +1,20 @@
 //! A vector of lists of texts that share the storage of common prefixes.
-ghost use Rattle.std.specs.Prelude.{◌≡◌, ◌≤◌, ◌+◌, ◌<◌, ◌++◌, [], ◌∷◌, ◌↔◌, OnOk, OnErr, IfOk, IfSome, IsTrue, None, Some, true, false};
-ghost use Rattle.std.specs.Prelude.{length, take, drop, get_or, map};
+ghost use Rattle.std.specs.Prelude.{◌≡◌, ◌≤◌, ◌+◌, ◌<◌, ◌++◌, [], ◌∷◌, ◌↔◌, OnOk, OnErr, IfErr, IfOk, IfSome, IsTrue, None, Some, true, false};
+ghost use Rattle.std.specs.Prelude.{length, take, drop, get_or, map, slice_get};
 ghost use Rattle.std.specs.Cmp.Lexicographic.{pointwise};
-ghost use Rattle.std.specs.List.{AllByRecursion, list_any};
+ghost use Rattle.std.specs.List.{AllByRecursion, cons_option, list_any};
 ghost use Rattle.std.specs.declared.cmp.Ordering.TheVariants.{Less};
 ghost use Rattle.std.specs.List.Sorted.{IsStrictlySortedBy};
 ghost use Rattle.std.specs.Option.{option_copied, option_map};
 ghost use Rattle.std.specs.Ordering.{eq_by_cmp, is_eq, is_lt};
 ghost use Rattle.cadf_join.specs.Contents.{is_after, texts_cmp};
 ghost use Rattle.cadf_join.specs.Prefixes.{chain_texts, texts_at};
-ghost use Rattle.cadf_pathset.specs.Lists.{last_of, last_starts_with, is_above_last, is_before, prefix_cmp};
+ghost use Rattle.cadf_pathset.specs.Lists.{at_places, last_of, last_starts_with, is_above_last, is_before, prefix_cmp};
 ghost use Rattle.cadf_pathset.specs.Nodes.{Agree, AreThere, lists_at};
 ghost use Rattle.cadf_join.specs.Sets as set;
 ghost use Rattle.cadf_pathset.specs.Merge.{sorted_merge};
 ghost use Rattle.cadf_pathset.specs.Sections.{behind};
 
-use crate::Memory;
 use crate::as_text::AsText;
 use crate::compare::{begins_with, list_cmp, same_list};
 use crate::cursor::Cursor;
@@ -24,6 +23,8 @@ use crate::nodes::{Nodes, common_depth};
 use crate::sort::sorted;
 use crate::suffix_range::SuffixRange;
 use crate::union::merge_into;
+use crate::walk::visit_all;
+use crate::{Memory, Visitor};
 use std::alloc::Global;
 use std::cmp::Ordering;
 use std::marker::Model;
@@ -206,6 +207,18 @@ impl PathVec {
         Cursor::new(self.alloc, &self.nodes, numbers)
     }
 
+    /// Passes the lists at these indices, in the order of the indices, to the visitor, like `Walk::walk`. Passes over an
+    /// index that is too great.
+    pub fn walk_at<S: Visitor>(&self, places: &[usize], visitor: &mut S) -> Result<(), S::Fault>
+        ensures shown { OnOk result (S.takes visitor.old (at_places places.now self.now) visitor.new) }
+        ensures stopped { IfErr result (λ f. S.stops visitor.old (at_places places.now self.now) f visitor.new) }
+    {
+        let numbers = numbers_at(self.alloc, self.numbers.as_slice(), places)?;
+        let cursor = Cursor::new(self.alloc, &self.nodes, numbers.as_slice());
+        let mut path = Vec::new(self.alloc);
+        visit_all(cursor, &mut path, visitor)
+    }
+
     /// Borrows all lists as suffixes of the empty prefix.
     pub fn whole(&self) -> SuffixRange<'_>
         ensures { result ≡ self.now }
@@ -329,6 +342,30 @@ impl PathVec {
         ensures { result ≡ length self.now }
     {
         self.numbers.len()
+    }
+}
+
+/// Returns the numbers at these indices, in the order of the indices. Passes over an index that is too great.
+fn numbers_at(alloc: Global, numbers: &[usize], places: &[usize]) -> Result<Vec<usize>, Memory>
+    ensures { IfOk result (λ found. found.items ≡ at_places places.now numbers.now) }
+{
+    let mut found = Vec::with_capacity(alloc, places.len())?;
+    for place in places {
+        push_at(numbers, *place, &mut found)?;
+    }
+    Ok(found)
+}
+
+/// Appends the number at that index, if there is one.
+fn push_at(numbers: &[usize], place: usize, found: &mut Vec<usize>) -> Result<(), Memory>
+    ensures { OnOk result (found.new.items ≡ found.old.items ++ cons_option (slice_get numbers.now place) []) }
+{
+    match numbers.get(place) {
+        Some(number) => {
+            found.push(*number)?;
+            Ok(())
+        }
+        None => Ok(()),
     }
 }
 

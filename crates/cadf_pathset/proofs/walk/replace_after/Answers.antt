@@ -1,7 +1,7 @@
 use Rattle.std.proofs.Common.{take, ap, ◌++◌, ◌∙◌}
 use Rattle.cadf_join.specs.Prefixes.{texts_at}
 use Rattle.cadf_pathset.proofs.Replaced.{front_stays, path_replaced}
-use Rattle.cadf_pathset.proofs.path_set.replace_after.Goals as goal
+use Rattle.cadf_pathset.proofs.walk.replace_after.Goals as goal
 
 pub returns-clause-kept : goal.returns-clause-kept
 returns-clause-kept c =

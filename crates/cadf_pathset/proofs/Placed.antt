@@ -1,0 +1,41 @@
+-- The members at some indices, of lists that are numbered.
+use Rattle.std.proofs.Common.{◌≡◌, ℕ, ◌+◌, ◌<◌, zero, suc, List, [], ◌∷◌, ◌++◌, drop, length, get_or, map, refl, ap, ◌∙◌, sym, append_assoc}
+use Rattle.std.proofs.lemmas.List.{drop_more}
+use Rattle.std.specs.Prelude.{Option, Some, None, slice_get, option_map}
+use Rattle.std.specs.List.{AllByRecursion, cons_option, filter_map}
+use Rattle.std.proofs.lemmas.Option.{slice_get-map}
+use Rattle.cadf_pathset.specs.Lists.{at_places}
+
+-- the members of a list that is the image of another
+pub placed_map : {A B : Type 0} (f : A → B) (is : List ℕ) (xs : List A) → map f (at_places is xs) ≡ at_places is (map f xs)
+placed_map f [] xs = refl
+placed_map {A} {B} f (i ∷ is) xs =
+    by (slice_get xs i) (at_places is xs) ∙ (λ j. cons_option (sym (slice_get-map f xs i) j) (placed_map f is xs j))
+  where
+    by : (o : Option A) (rest : List A) → map f (cons_option o rest) ≡ cons_option (option_map f o) (map f rest)
+    by None rest = refl
+    by (Some x) rest = refl
+
+-- what holds of each member holds of those at some indices
+held_at : {A : Type 0} (P : A → Type 0) (xs : List A) (i : ℕ) (rest : List A) → AllByRecursion P xs → AllByRecursion P rest
+    → AllByRecursion P (cons_option (slice_get xs i) rest)
+held_at P [] i rest h r = r
+held_at P (x ∷ xs) zero rest h r = (h.0, r)
+held_at P (x ∷ xs) (suc i) rest h r = held_at P xs i rest h.1 r
+
+pub placed_all : {A : Type 0} (P : A → Type 0) (is : List ℕ) (xs : List A) → AllByRecursion P xs → AllByRecursion P (at_places is xs)
+placed_all P [] xs h = tt
+placed_all P (i ∷ is) xs h = held_at P xs i (at_places is xs) h (placed_all P is xs h)
+
+-- one more index
+front_of : {A : Type 0} (o : Option A) (rest : List A) → cons_option o [] ++ rest ≡ cons_option o rest
+front_of None rest = refl
+front_of (Some x) rest = refl
+
+pub placed_more : {A : Type 0} (old new : List A) (is : List ℕ) (n d : ℕ) (xs all : List A) → n < length is
+    → new ≡ old ++ cons_option (slice_get xs (get_or is n d)) [] → old ++ at_places (drop n is) xs ≡ all → new ++ at_places (drop (n + 1) is) xs ≡ all
+placed_more old new is n d xs all below e h =
+    let rest = at_places (drop (n + 1) is) xs in
+    let o = slice_get xs (get_or is n d) in
+    ap (λ z. z ++ rest) e ∙ append_assoc old (cons_option o []) rest ∙ ap (λ z. old ++ z) (front_of o rest)
+    ∙ ap (λ js. old ++ at_places js xs) (sym (drop_more is n d below)) ∙ h
