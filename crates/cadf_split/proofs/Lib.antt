@@ -4,3 +4,5 @@ pub mod Conflicts
 pub mod KeyPlaces
 pub mod Dates
 pub mod Shown
+pub mod PartFiles
+pub mod Writing

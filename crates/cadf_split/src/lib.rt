@@ -7,9 +7,7 @@ mod lines;
 mod places;
 mod unit;
 mod window;
+mod write;
 
-pub use key::keys_of;
-pub use lines::{digest_line, part_line, top_of};
-pub use places::places_by_key;
 pub use unit::Unit;
-pub use window::window_at;
+pub use write::write_split;
