@@ -20,7 +20,6 @@ use Rattle.cadf_json.specs.Tree.{
   IsNormalized,
   ItemsAreNormalized,
   MembersAreNormalized,
-  IsNormalizedWithin,
 }
 
 number_read : (n : Num) → IsWholeNumber n → number_of (number_text n) ≡ Some n
@@ -37,13 +36,6 @@ number_in_is s h = rw (number_is s h)
 
 pub number_of-whole : (s : List ℕ) → IsWholeText s → number_of s ≡ Some (number_in s)
 number_of-whole s h = rw (number_is s h)
-
-pub IsWholeText-unsigned : (s : List ℕ) (n : ℕ) → n < 2 ^ 64 → s ≡ decimal n → IsWholeText s
-IsWholeText-unsigned s n h e = (unsigned n, h, e)
-
-pub IsWholeText-signed : (s : List ℕ) (z : ℤ) → int_lt z (pos 0) ≡ true → SFits w64 z → s ≡ signed_decimal z → IsWholeText s
-IsWholeText-signed s (pos n) below fits e = absurd (grind arith)
-IsWholeText-signed s (negsuc n) below fits e = (negative (negsuc n), grind arith, e)
 
 mutual
   pub outline-data_in : (j : json.Json) → IsNormalized j → outline (data_in j) ≡ j
@@ -85,6 +77,3 @@ HasNumbers-settled j h = subst HasNumbers (outline-data_in j h) (HasNumbers-outl
 
 pub print-settled : (j : json.Json) → IsNormalized j → print (json_tokens j) ≡ compact_text (data_in j)
 print-settled j h = ap (λ i. print (json_tokens i)) (sym (outline-data_in j h)) ∙ print-outline (data_in j)
-
-pub IsValue-settled : (j : json.Json) → IsNormalizedWithin 127 j → IsValue (data_in j)
-IsValue-settled j h = (IsWhole-data_in j h.0, h.1)

@@ -67,13 +67,3 @@ abbrev mutual
   pub MembersAreNormalized : json.Members → Type 0
   MembersAreNormalized json.no_members = ⊤
   MembersAreNormalized (json.member k j ms) = IsUtf8 k × IsNormalized j × MembersAreNormalized ms
-
--- it is normalized, and nests no deeper than this
-abbrev pub IsNormalizedWithin : ℕ → json.Json → Type 0
-IsNormalizedWithin n j = IsNormalized j × (depth (data_in j) ≤ n)
-
-abbrev pub AreItemsWithin : ℕ → json.Items → Type 0
-AreItemsWithin n js = ItemsAreNormalized js × (items_depth (listed_in js) ≤ n)
-
-abbrev pub AreMembersWithin : ℕ → json.Members → Type 0
-AreMembersWithin n ms = (MembersAreNormalized ms × Rises (named_in ms)) × (members_depth (named_in ms) ≤ n)

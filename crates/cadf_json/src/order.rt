@@ -1,7 +1,6 @@
 //! Members in the order of their names.
-ghost use Rattle.std.specs.Prelude.{◌≡◌, ◌&&◌, ◌+◌, ◌<◌, ◌≤◌, ◌++◌, option_map, OnOk, IfOk, length, take, drop, vec_len, List as ListOf};
+ghost use Rattle.std.specs.Prelude.{◌≡◌, ◌+◌, ◌<◌, ◌≤◌, ◌++◌, OnOk, IfOk, length, take, drop, vec_len, List as ListOf};
 ghost use Rattle.serde_json.specs.Data.{Members, no_members};
-ghost use Rattle.cadf_json.specs.Canonical.{is_name_above};
 ghost use Rattle.cadf_json.specs.declared.node.Node.{Node as NodeOf};
 ghost use Rattle.cadf_json.specs.Flat.{MembersStand, put_all, members_count};
 ghost use Rattle.cadf_json.specs.Reading.{IsOpen, IsClosed, ordered, AreSpans};
@@ -10,7 +9,6 @@ use crate::node::Node;
 use crate::push::extent_from;
 use crate::walk::first_member;
 use std::alloc::{AllocError, Global};
-use std::cmp::Ordering;
 use std::collections::BTreeMap;
 
 /// Where the nodes of a member are: those of its name and its value.
@@ -18,27 +16,6 @@ use std::collections::BTreeMap;
 pub(crate) struct Span {
     pub(crate) start: usize,
     pub(crate) end: usize,
-}
-
-/// Returns whether the name is above the last one, if there is one.
-fn is_above(last: Option<&str>, name: &str) -> bool
-    ensures { result ≡ is_name_above (option_map (λ s. s.now) last.entry) name.now }
-{
-    match last {
-        Some(last) => match last.cmp(name) {
-            Ordering::Less => true,
-            Ordering::Equal => false,
-            Ordering::Greater => false,
-        },
-        None => true,
-    }
-}
-
-/// Returns whether the names rise, if they did up to the last one.
-pub(crate) fn rises_to(rising: bool, last: Option<&str>, name: &str) -> bool
-    ensures { result ≡ rising && is_name_above (option_map (λ s. s.now) last.entry) name.now }
-{
-    rising && is_above(last, name)
 }
 
 /// Writes the node of an object whose members were appended after the node at `at`, once they are in order.

@@ -3,8 +3,9 @@ ghost use Rattle.std.specs.Prelude.{◌≡◌, ◌<◌, length, OnOk};
 ghost use Rattle.cadf_json.specs.Reading.{IsRead, IsNoValue, AreItemsRead, AreNoItems, AreMembersRead, AreNoMembers};
 
 use crate::node::Node;
-use crate::order::{end_members, rises_to};
+use crate::order::end_members;
 use crate::push::{ReadFault, extent_from, push_number, push_string};
+use crate::rising::rises_to;
 use json::{Reader, Token};
 use std::alloc::Global;
 

@@ -7,7 +7,7 @@ ghost use Rattle.cadf_json.specs.Flat.{decode, IsFlat, ItemsStand, MembersStand,
 
 use crate::Memory;
 use crate::node::{Node, Place};
-use crate::spelling::push_quoted;
+use crate::spelling::{push_bool, push_comma_if, push_quoted};
 use crate::walk::first_member;
 use std::alloc::Global;
 
@@ -108,25 +108,4 @@ fn write_members(
     }
     out.push(b'}')?;
     Ok(())
-}
-
-/// Appends a comma, if something stands before.
-pub(crate) fn push_comma_if(later: bool, out: &mut Vec<u8>) -> Result<(), Memory>
-    ensures { OnOk result (out.new.items ≡ out.old.items ++ comma_if later) }
-{
-    if later {
-        out.push(b',')?;
-    }
-    Ok(())
-}
-
-/// Appends the word of a boolean.
-fn push_bool(b: bool, out: &mut Vec<u8>) -> Result<(), Memory>
-    ensures { OnOk result (out.new.items ≡ out.old.items ++ text_of (boolean b)) }
-{
-    if b {
-        out.extend_from_slice(b"true")
-    } else {
-        out.extend_from_slice(b"false")
-    }
 }
