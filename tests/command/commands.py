@@ -30,6 +30,16 @@ COMMANDS = {
         limited=["join log.json", "join one.cadf two.cadf", "join one.1.cadf two.cadf"],
         deep=["join deep.json", "join deep.cadf deep.json"],
     ),
+    "split": Command(
+        operands='FILE...', writes_pieces=True,
+        small=["split --by day log.json", "split --by month both.cadf", "split --by=hour both.1.cadf other.cadf",
+               "split --by day event.json --log g", "split --by day log.json stranger.json", "split --by day log.cadf absent.cadf",
+               "split --by day event.json", "split log.json", "split --by week log.json", "split --by hour --log= log.json"],
+        worked=["split --by day chains.cadf", "split --by month conflict.cadf facts.cadf", "split --by hour ruled.cadf"],
+        large=["split --by hour many.json", "split --by day many.cadf log.json"],
+        limited=["split --by day log.json", "split --by month one.cadf two.cadf"],
+        deep=["split --by day deep.json"],
+    ),
     "missing": Command(
         operands='FROM TO', writes_pieces=True,
         small=["missing both.cadf log.cadf", "missing log.json other.json", "missing both.cadf both.cadf",

@@ -3,7 +3,7 @@ that cut, readers whose bytes can be borrowed, and their answers by the second i
 
 Each of `KINDS` makes a driver's name, a call with its words and the fields of its answer.
 """
-from tests.generated.generate import KINDS_WITH_SKETCHES, Case
+from tests.generated.generate import KINDS_WITH_SPLITS, Case
 from tests.reference.command import DIRECTORY, OPTIONS, Call, Usage, answer
 
 LARGEST = 20000  # bytes of a file; a larger one takes too many reads
@@ -15,7 +15,7 @@ def engine(call):
     name = "run_" + call.command.decode().replace("-", "_")
     own = {
         b"join": lambda: [call.log or b""], b"rehearse": lambda: [call.log, call.sites], b"rule": lambda: call.ruling,
-        b"show": lambda: ["conflicts" if call.conflicts else "log"],
+        b"split": lambda: [call.unit, call.log or b""], b"show": lambda: ["conflicts" if call.conflicts else "log"],
         b"sketch": lambda: [call.given.get(option, b"") for option in OPTIONS[b"sketch"]]}
     return name, own.get(call.command, lambda: [])()
 
@@ -49,7 +49,7 @@ def engines(chance):
     pieces = iter(lambda: chance.randint(0, LONGEST_PIECE), -1)
     made = None
     while made is None:
-        made = called(Case(KINDS_WITH_SKETCHES, chance.randrange(2 ** 32), 0), pieces)
+        made = called(Case(KINDS_WITH_SPLITS, chance.randrange(2 ** 32), 0), pieces)
     return ("engine", *made)
 
 KINDS = [engines]

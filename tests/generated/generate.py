@@ -255,6 +255,33 @@ def joins(chance):
     return ["join"] + inputs[:place] + log + inputs[place:], files
 
 
+def near_border(chance):
+    """A time close to the border of a window, at some offset."""
+    hour, offset = chance.choice([("23", "Z"), ("00", "Z"), ("12", "Z"), ("13", "Z"), ("23", "-01:00"), ("00", "+01:00"), ("09", "-14:00")])
+    day = chance.choice(["2024-02-29", "2024-03-01", "2023-12-31", "2024-01-01", "1969-12-31", "1970-01-01", "0001-01-01", "9998-12-31"])
+    return "%sT%s:%s%s" % (day, hour, chance.choice(["00:00", "59:59", "59:59.999999999", "00:00.000000001"]), offset)
+
+
+def splits(chance):
+    """Calls of `split`, of which a few have no unit or another word for one. Many events are close to a border."""
+    files = {"folder": DIRECTORY}
+    for place, document in enumerate(documents_told(chance)):
+        for told in document["events"]:
+            if chance.random() < 0.6:
+                told["eventTime"] = near_border(chance)
+        if chance.random() < 0.03:
+            document["id"] = "h"
+        atoms = with_rulings(chance, atoms_of([document]))
+        data = some_file_of(chance, document["id"], atoms) if chance.random() < 0.6 else as_input(chance, document)
+        files["f%d" % place] = damaged(chance, data) if chance.random() < 0.03 else data
+    inputs = [name for name in files if name != "folder"] + chance.choice([[]] * 20 + [["folder"], ["nothere"]])
+    chance.shuffle(inputs)
+    unit = chance.choice([["--by", "month"], ["--by", "day"], ["--by=day"], ["--by", "hour"]] * 15 + [
+        [], ["--by"], ["--by="], ["--by", "Day"], ["--by=days"], ["--by", "day", "--by", "hour"]])
+    log = chance.choice([[]] * 12 + [["--log", "g"], ["--log=h"], ["--log="]])
+    return ["split", *chance.choice([[*unit, *log, *inputs], [*inputs, *log, *unit], [*log, *inputs, *unit]])], files
+
+
 def missings(chance):
     told = documents_told(chance, 2, 5)
     files = {}
@@ -593,6 +620,7 @@ KINDS = {
     bare_documents: 12, faults_in_turn: 12, large_events: 6}
 KINDS_WITH_REHEARSALS = {**KINDS, rehearsals: 12}
 KINDS_WITH_SKETCHES = {**KINDS_WITH_REHEARSALS, sketches: 14, damaged_sketches: 16, misleading_sketches: 12, sketch_words: 5}
+KINDS_WITH_SPLITS = {**KINDS_WITH_SKETCHES, splits: 14}
 
 
 class Case:

@@ -32,6 +32,8 @@ COMPLETED = [
     ("missing-by a", ["missing-by", "a.cadf"]), ("missing-by a.cadf b", ["missing-by", "a.cadf", "b.json"]),
     ("sk", ["sketch"]), ("sketch a", ["sketch", "a.cadf"]), ("sketch --c", ["sketch", "--cells"]), ("sketch --s", ["sketch", "--salt"]),
     ("sketch --cells a", ["sketch", "--cells", "a"]), ("sketch --cells 3 --salt 1 b", ["sketch", "--cells", "3", "--salt", "1", "b.json"]),
+    ("sp", ["split"]), ("split --b", ["split", "--by"]), ("split --by m", ["split", "--by", "month"]),
+    ("split --by day a", ["split", "--by", "day", "a.cadf"]), ("split --by hour --log a", ["split", "--by", "hour", "--log", "a"]),
     ("missing-by-s", ["missing-by-sketch"]), ("missing-by-sketch a.cadf b", ["missing-by-sketch", "a.cadf", "b.json"]),
     ("rule E a", ["rule", "E", "a"]), ("rule E e1 a", ["rule", "E", "e1", "a"]),
     ("rule E e1 1 a", ["rule", "E", "e1", "1", "a.cadf"]), ("rehearse a", ["rehearse", "a"]),
@@ -44,7 +46,8 @@ COMPLETED = [
 INSERTED = [
     ("", [*COMMANDS]), ("help ", ["help", *COMMANDS]), ("m", ["missing", "missing-by", "missing-by-sketch"]), ("rule ", ["rule", *"EGMPR"]),
     ("show --", ["show", "--conflicts", "--help"]), ("join --", ["join", "--help", "--log"]),
-    ("sketch --", ["sketch", "--cells", "--help", "--salt"]),
+    ("sketch --", ["sketch", "--cells", "--help", "--salt"]), ("split --", ["split", "--by", "--help", "--log"]),
+    ("split --by ", ["split", "--by", "day", "hour", "month"]),
 ]
 CASES = [(typed, COMPLETE, words) for typed, words in COMPLETED] + [(typed, INSERT_ALL, words) for typed, words in INSERTED]
 

@@ -6,7 +6,7 @@ what differs from the one before.
 """
 import re
 
-from tests.tables import rows as worked, sketch_rows as sketched, worked_files as made
+from tests.tables import rows as worked, sketch_rows as sketched, split_rows, worked_files as made
 from tests.tables.document_rows import BOTH, NORTH, conflicts, log
 from tests.tables.exchange_rows import OTHER_LOG
 from tests.tables.texts import C1, C2, CF, K1, KF, V1, V2, digits, document, inventory, replica
@@ -16,6 +16,7 @@ CALLS = {
     "load": ["load", "Loaded::log", "ReplicaFeed::after_magic", "Source::borrow_next", "MemorySource::borrowable"],
     "load_within": ["load_within"],
     "run_join": ["run_join"],
+    "run_split": ["run_split"],
     "run_missing": ["run_missing"],
     "run_missing_by": ["run_missing_by"],
     "run_inventory": ["run_inventory"],
@@ -54,6 +55,8 @@ def engine(command, readers, to=None):
     name, *own = command.split()
     if name == "join":
         own = own[1:] or [""]
+    if name == "split":
+        own = [own[1], "".join(own[3:])]
     if name == "show":
         own = ["conflicts" if own else "log"]
     if name == "sketch":
@@ -158,6 +161,7 @@ READ = [
     ("inventory", [made.NOTHING_TREE], inventory()),
     ("join", [NONE, EMPTY_LOG], made.NOTHING_TREE),
     ("join", [EMPTY_LOG, made.NOTHING_TREE], made.NOTHING_TREE),
+    ("split --by day", [NONE, EMPTY_LOG], split_rows.split("day")),
     ("missing", [NONE, EMPTY_LOG], made.NOTHING_TREE),
     ("missing-by", [EMPTY_LOG, inventory()], made.NOTHING_TREE),
     ("sketch --cells 3", [NONE], sketched.EMPTY),
@@ -185,14 +189,17 @@ for command, inputs, output in READ:
 fail_reads("missing", [made.TWO_TREE, made.TWO_TREE], made.NOTHING_TREE, 1, 97)
 fail_reads("missing-by", [made.EVENT_TREE, inventory(*sorted([digits(C1), digits(K1)]))], made.NOTHING_TREE, 1, 97)
 
-# A command, its inputs, what is written, and whether it goes out line by line or whole: each write fails in turn.
-LINES, WHOLE = True, False
+# A command, its inputs, what is written, and what goes out at once, as a pattern: each write fails in turn.
+LINES, WHOLE, PARTS = ".*\n", "(?s).+", "CADF-SPLIT.*\n.*\n.*\n|CADF-REPLICA.*\n.*\n|.*\n"
 WRITTEN = [
     ("show", [made.CHAINS_TREE], log(BOTH), WHOLE),
     ("show --conflicts", [EMPTY_LOG], conflicts(), WHOLE),
     ("check", [EMPTY_LOG], 'ok "g" atoms 0 conflicts 0\n', WHOLE),
     ("inventory", [EMPTY_LOG], inventory(), LINES),
     ("join", [EMPTY_LOG, V1], made.EVENT_TREE, LINES),
+    ("split --by hour", [EMPTY_LOG], split_rows.split("hour"), PARTS),
+    ("split --by day", [made.UNHELD], split_rows.split(
+        "day", ("shared", made.RULING_TREE), ("2024-03-01", made.EVENT_TREE)), PARTS),
     ("missing", [EMPTY_LOG, NONE], made.NOTHING_TREE, LINES),
     ("missing", [made.TWO, made.EVENT_TREE], made.SECOND_TREE, LINES),
     ("missing-by", [made.NOTHING_TREE, inventory()], made.NOTHING_TREE, LINES),
@@ -203,24 +210,24 @@ WRITTEN = [
 ]
 
 
-def taken(output, lines, piece):
+def taken(output, at_once, piece):
     """What each write takes of the text."""
-    offered = output.splitlines(True) if lines else [output]
+    offered = re.findall(at_once, output)
     return [one[at:at + piece] for one in map(data, offered) for at in range(0, len(one), piece)]
 
 
-def fail_writes(command, inputs, output, lines, piece, way):
+def fail_writes(command, inputs, output, at_once, piece, way):
     """A row of a command of which each write fails in turn, until a run meets none."""
-    pieces = taken(output, lines, piece)
+    pieces = taken(output, at_once, piece)
     call, words = engine(command, map(reader, inputs), writer(piece, way, "N"))
     row("each", each(1, len(pieces) + 1, call, words),
         ["err", "WriteFault", *pieces[:-1], "ok", pieces[-1]], STREAMS)
 
 
-for command, inputs, output, lines in WRITTEN:
+for command, inputs, output, at_once in WRITTEN:
     for piece in (1, 7, 50):
         for way in ("refuses", "takes-nothing"):
-            fail_writes(command, inputs, output, lines, piece, way)
+            fail_writes(command, inputs, output, at_once, piece, way)
 
 # A command, its readers, and its fault by name, where the first write would fail: nothing is written before all else.
 FAILING, GOOD, EVENT, BAD = reader(EMPTY_LOG, ALL, 1), reader(EMPTY_LOG), reader(V1), reader("{")
@@ -238,6 +245,13 @@ IN_ORDER = [
     ("join --log g", [EVENT, OTHER], ["OtherLog", 2]),
     ("join", [EVENT, GOOD, OTHER], ["OtherLog", 3]),
     ("join", [GOOD], ["WriteFault"]),
+    ("split --by day", [], ["NoLog"]),
+    ("split --by day", [BAD, FAILING], NOT_JSON_1),
+    ("split --by day", [EVENT, FAILING], ["ReadFault", 2]),
+    ("split --by day --log g", [OTHER, BAD], NOT_JSON_2),
+    ("split --by day", [EVENT, EVENT], ["NoLog"]),
+    ("split --by day", [EVENT, GOOD, OTHER], ["OtherLog", 3]),
+    ("split --by day", [GOOD], ["WriteFault"]),
     ("missing", [BAD, FAILING], NOT_JSON_1),
     ("missing", [EVENT, FAILING], ["ReadFault", 2]),
     ("missing", [EVENT, BAD], NOT_JSON_2),

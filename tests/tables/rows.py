@@ -1,6 +1,6 @@
 """Worked rows of documents, of replica files in both formats, of rulings, inventories and rehearsals: what is written is
 told here, by hashlib or in full. Those of documents stand in document_rows.py, those of several inputs in
-exchange_rows.py, those of sketches in sketch_rows.py.
+exchange_rows.py, those of sketches in sketch_rows.py, those of split files in split_rows.py.
 
     python3 -m tests.tables.rows [BINARY]
 
@@ -13,7 +13,7 @@ import sys
 
 from tests.generated.compare import alike, answered, commands_of
 from tests.reference.command import Answer, answer
-from tests.tables import document_rows, exchange_rows, sketch_rows
+from tests.tables import document_rows, exchange_rows, sketch_rows, split_rows
 from tests.tables.document_rows import conflicts, log
 from tests.tables.texts import B1, BF, C1, CF, K1, KF, S1, S2, digits, inventory, line, lined, replica, tree
 from tests.tables.worked_files import (
@@ -27,7 +27,7 @@ LETTERED = min(digits(one) for one in (C1, K1, CF, KF) if any(digit in digits(on
 SIZES = [
     (B1, 148), (C1, 189), (replica(), 88), (replica(C1), 278), (CHAINS, 807), (inventory(), 90),
     (inventory(digits(C1)), 155),
-    (NOTHING_TREE, 88), (EVENT_TREE, 294), (CHAINS_TREE, 409)]
+    (NOTHING_TREE, 88), (EVENT_TREE, 294), (CHAINS_TREE, 409), *split_rows.SIZES]
 
 NORTH, SOUTH = line("P", "name", '"north"'), line("P", "name", '"south"')
 F, T = document_rows.FAILED, document_rows.ONE
@@ -264,6 +264,14 @@ def sketch_rows_called():
         yield called(name, command, files, refusal(said))
 
 
+def split_rows_called():
+    """The rows of split files."""
+    for name, options, files, output in split_rows.SPLIT:
+        yield called(name, "split " + options, files, Answer(0, output.encode(), b""))
+    for name, options, files, said in split_rows.SPLIT_REFUSED:
+        yield called(name, "split " + options, files, refusal(said))
+
+
 def file_rows():
     """Each row of this file: its name, words, files as text, and answer."""
     for name, command, source, by, output in WRITTEN:
@@ -281,11 +289,12 @@ def file_rows():
 
 
 def all_rows():
-    """The rows of this file, and those of documents, of several inputs and of sketches."""
+    """The rows of this file, and those of documents, of several inputs, of sketches and of split files."""
     yield from file_rows()
     yield from document_rows_called()
     yield from exchange_rows_called()
     yield from sketch_rows_called()
+    yield from split_rows_called()
 
 
 def with_bytes(rows):

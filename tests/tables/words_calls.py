@@ -17,6 +17,7 @@ Usage: cadf <COMMAND>
 
 Commands:
   join               Writes the replica file of what all inputs tell
+  split              Writes what all inputs tell in parts by time, each as a replica file
   missing            Writes the replica file of what TO lacks of FROM
   missing-by         Writes the replica file of what FROM has beyond INVENTORY
   inventory          Writes the digests of all that a file tells
@@ -43,6 +44,19 @@ Arguments:
 Options:
       --log <ID>  The log's identifier, else that of the first input that names one
   -h, --help      Print help
+""",
+    "split": """\
+Writes what all inputs tell in parts by time, each as a replica file
+
+Usage: cadf split [OPTIONS] --by <UNIT> <FILE>...
+
+Arguments:
+  <FILE>...  Replica files, logs or events
+
+Options:
+      --by <UNIT>  How long a part is, in UTC [possible values: month, day, hour]
+      --log <ID>   The log's identifier, else that of the first input that names one
+  -h, --help       Print help
 """,
     "missing": """\
 Writes the replica file of what TO lacks of FROM
@@ -171,6 +185,9 @@ TAKEN = [
     (["join", "--log=", "", "b", "b"], ["Join", "some", "", "", "b", "b"]),
     (["join", "--log=--log", "--", "--log", "-h"], ["Join", "some", "--log", "--log", "-h"]),
     (["join", "-"], ["Join", "none", "-"]),
+    (["split", "--by", "day", "a"], ["Split", "day", "none", "a"]),
+    (["split", "a", "--log=g", "b", "--by=month"], ["Split", "month", "some", "g", "a", "b"]),
+    (["split", "--by=hour", "--", "--by", "day"], ["Split", "hour", "none", "--by", "day"]),
     (["missing", "a", "b"], ["Missing", "a", "b"]),
     (["missing", "--", "-a", "--help"], ["Missing", "-a", "--help"]),
     (["missing-by", "a", "b"], ["MissingBy", "a", "b"]),
@@ -191,7 +208,7 @@ TAKEN = [
 # Words that are refused: the fault, with a tip where there is one, and the usage behind it.
 REFUSED = [
     ([], "'cadf' requires a subcommand but one was not provided\n"
-         "  [subcommands: join, missing, missing-by, inventory, sketch, missing-by-sketch, rule, rehearse, show, check, help]", "<COMMAND>"),
+         "  [subcommands: join, split, missing, missing-by, inventory, sketch, missing-by-sketch, rule, rehearse, show, check, help]", "<COMMAND>"),
     ([""], "unrecognized subcommand ''", "<COMMAND>"),
     (["nothing"], "unrecognized subcommand 'nothing'\n\n  tip: a similar subcommand exists: 'join'", "<COMMAND>"),
     (["shwo", "a"], "unrecognized subcommand 'shwo'\n\n  tip: a similar subcommand exists: 'show'", "<COMMAND>"),
@@ -206,6 +223,10 @@ REFUSED = [
     (["join", "--logs=g", "a"], "unexpected argument '--logs' found\n\n  tip: a similar argument exists: '--log'",
      "join --log <ID> <FILE>..."),
     (["join", "-V"], "unexpected argument '-V' found\n\n  tip: to pass '-V' as a value, use '-- -V'", "join [OPTIONS] <FILE>..."),
+    (["split", "a"], "the following required arguments were not provided:\n  --by <UNIT>", "split --by <UNIT> <FILE>..."),
+    (["split", "--by", "day"], "the following required arguments were not provided:\n  <FILE>...", "split --by <UNIT> <FILE>..."),
+    (["split", "--by", "day", "--by", "day", "a"], "the argument '--by <UNIT>' cannot be used multiple times",
+     "split [OPTIONS] --by <UNIT> <FILE>..."),
     (["missing", "a"], "the following required arguments were not provided:\n  <TO>", "missing <FROM> <TO>"),
     (["missing-by", "a", "b", "c"], "unexpected argument 'c' found", "missing-by <FROM> <INVENTORY>"),
     (["inventory"], "the following required arguments were not provided:\n  <FILE>", "inventory <FILE>"),
@@ -244,5 +265,10 @@ ROWS += [row(["help", "help"], ["help", HELP_OF_HELP])]
 ROWS += [row([flag], ["help", "cadf 0.1.0\n"]) for flag in ("--version", "-V")]
 ROWS += [row(words, ["ok", *fields]) for words, fields in TAKEN]
 ROWS += [row(words, ["refused", refusal(fault, usage)]) for words, fault, usage in REFUSED]
+ROWS += [row(["split", "--by", unit, "a"], ["refused", "error: invalid value '%s' for '--by <UNIT>'\n"
+              "  [possible values: month, day, hour]%s\n\nFor more information, try '--help'.\n" % (unit, tip)])
+         for unit, tip in (("week", ""), ("Day", "\n\n  tip: a similar value exists: 'day'"), ("2024", ""))]
+ROWS += [row(["split", "--by=", "a"], ["refused", "error: a value is required for '--by <UNIT>' but none was supplied\n"
+                                       "  [possible values: month, day, hour]\n\nFor more information, try '--help'.\n"])]
 ROWS += [row(["join", "--log"], ["refused", "error: a value is required for '--log <ID>' but none was supplied\n\n"
                                  "For more information, try '--help'.\n"])]

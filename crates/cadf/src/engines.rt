@@ -1,11 +1,13 @@
 //! Opens the files of a request, and runs its engine on them.
-use crate::given::{cells_given, letter_given, log_given, place_given, salt_given, sites_given};
+use crate::given::{
+    cells_given, letter_given, log_given, place_given, salt_given, sites_given, unit_given,
+};
 use crate::stop::Stop;
 use cadf_arguments::{read_key, read_log};
 use cadf_json::{FromStd, Sink};
 use cadf_tool::{
     ToolFault, run_check, run_inventory, run_join, run_missing, run_missing_by,
-    run_missing_by_sketch, run_rehearse, run_rule, run_show, run_sketch,
+    run_missing_by_sketch, run_rehearse, run_rule, run_show, run_sketch, run_split,
 };
 use cadf_words::Request;
 use std::alloc::Global;
@@ -47,6 +49,20 @@ fn join<W: Sink>(
     let log = log_given(rt.alloc(), log)?;
     let mut inputs = open_all(rt, rt.alloc(), paths)?;
     Ok(run_join(rt.alloc(), log, inputs.as_mut_slice(), output)?)
+}
+
+/// Runs `split` on files.
+fn split<W: Sink>(
+    rt: &HostRuntime,
+    by: &str,
+    log: Option<&str>,
+    paths: &[&str],
+    output: &mut W,
+) -> Result<(), Stop> {
+    let log = log_given(rt.alloc(), log)?;
+    let mut inputs = open_all(rt, rt.alloc(), paths)?;
+    let unit = unit_given(by);
+    Ok(run_split(rt.alloc(), unit, log, inputs.as_mut_slice(), output)?)
 }
 
 /// Runs `missing` on two files.
@@ -153,6 +169,7 @@ pub(crate) fn run_engine<W: Sink>(
 ) -> Result<(), Stop> {
     match request {
         Request::Join { log, files } => join(rt, *log, files.as_slice(), output),
+        Request::Split { by, log, files } => split(rt, by, *log, files.as_slice(), output),
         Request::Missing { from, to } => missing(rt, from, to, output),
         Request::MissingBy { from, inventory } => missing_by(rt, from, inventory, output),
         Request::Inventory { file } => inventory(rt, file, output),

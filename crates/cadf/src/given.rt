@@ -3,7 +3,7 @@ use cadf_arguments::{
     ArgumentFault, check_cells, check_letter, check_place, check_salt, check_sites, read_log,
 };
 use cadf_event::Name;
-use cadf_tool::{Cells, Salt};
+use cadf_tool::{Cells, Salt, Unit};
 use std::alloc::Global;
 
 /// Reads the identifier of the log, if one is given. `LogName`: it is no name.
@@ -11,6 +11,15 @@ pub(crate) fn log_given(alloc: Global, word: Option<&str>) -> Result<Option<Name
     match word {
         Some(word) => Ok(Some(read_log(alloc, word)?)),
         None => Ok(None),
+    }
+}
+
+/// Reads the unit of time of a split. The parser accepts no other words than these three.
+pub(crate) fn unit_given(word: &str) -> Unit {
+    match word {
+        "month" => Unit::Month,
+        "day" => Unit::Day,
+        _ => Unit::Hour,
     }
 }
 

@@ -11,6 +11,11 @@ pub enum Request<'a> {
         log: Option<&'a str>,
         files: Vec<&'a str>,
     },
+    Split {
+        by: &'a str,
+        log: Option<&'a str>,
+        files: Vec<&'a str>,
+    },
     Missing {
         from: &'a str,
         to: &'a str,
@@ -97,6 +102,11 @@ fn request_of<'a>(
 ) -> Result<Request<'a>, Reply> {
     Ok(match name {
         "join" => Request::Join {
+            log: matches.get_str("log"),
+            files: files(alloc, matches)?,
+        },
+        "split" => Request::Split {
+            by: word(matches, "by"),
             log: matches.get_str("log"),
             files: files(alloc, matches)?,
         },

@@ -14,13 +14,19 @@ enum Kind {
     Text,
     /// `--NAME` and a text of that name, which may be empty.
     Option(&'static str),
+    /// `--NAME` and a unit of time, which has to be given.
+    Unit,
     /// `--NAME` alone.
     Flag,
 }
 
 /// Each command, and its help.
-const COMMANDS: [(&str, &str); 10] = [
+const COMMANDS: [(&str, &str); 11] = [
     ("join", "Writes the replica file of what all inputs tell"),
+    (
+        "split",
+        "Writes what all inputs tell in parts by time, each as a replica file",
+    ),
     (
         "missing",
         "Writes the replica file of what TO lacks of FROM",
@@ -54,7 +60,7 @@ const COMMANDS: [(&str, &str); 10] = [
 ];
 
 /// Each word of a command, in their order: the command, the word's name, how it is given, and its help.
-const WORDS: [(&str, &str, Kind, &str); 22] = [
+const WORDS: [(&str, &str, Kind, &str); 25] = [
     (
         "join",
         "log",
@@ -62,6 +68,14 @@ const WORDS: [(&str, &str, Kind, &str); 22] = [
         "The log's identifier, else that of the first input that names one",
     ),
     ("join", "FILE", Kind::Files, "Replica files, logs or events"),
+    ("split", "by", Kind::Unit, "How long a part is, in UTC"),
+    (
+        "split",
+        "log",
+        Kind::Option("ID"),
+        "The log's identifier, else that of the first input that names one",
+    ),
+    ("split", "FILE", Kind::Files, "Replica files, logs or events"),
     ("missing", "FROM", Kind::File, "The sender's file"),
     (
         "missing",
@@ -144,6 +158,9 @@ const WORDS: [(&str, &str, Kind, &str); 22] = [
     ("check", "FILE", Kind::File, "A replica file or a log"),
 ];
 
+/// The units of time.
+const UNITS: [&str; 3] = ["month", "day", "hour"];
+
 /// Makes the argument of that name.
 fn argument<'a>(alloc: Global, name: &'a str, kind: Kind, help: &'a str) -> Arg<'a> {
     let argument = Arg::new(alloc, name).help(help);
@@ -155,6 +172,11 @@ fn argument<'a>(alloc: Global, name: &'a str, kind: Kind, help: &'a str) -> Arg<
             .long(name)
             .value_name(value)
             .value_parser(ValueParser::string()),
+        Kind::Unit => argument
+            .long(name)
+            .value_name("UNIT")
+            .required(true)
+            .value_parser(ValueParser::Names(&UNITS)),
         Kind::Flag => argument.long(name).action(ArgAction::SetTrue),
     }
 }

@@ -5,8 +5,9 @@ use crate::words::Words;
 use cadf_event::Name;
 use cadf_json::{MemorySink, MemorySource};
 use cadf_tool::{
-    Cells, CountingSink, Salt, ToolFault, run_check, run_inventory, run_join, run_missing,
-    run_missing_by, run_missing_by_sketch, run_rehearse, run_rule, run_show, run_sketch, status,
+    Cells, CountingSink, Salt, ToolFault, Unit, run_check, run_inventory, run_join, run_missing,
+    run_missing_by, run_missing_by_sketch, run_rehearse, run_rule, run_show, run_sketch, run_split,
+    status,
 };
 use calls::{push, push_number, refused};
 use std::alloc::{AllocError as Memory, Global};
@@ -17,14 +18,33 @@ type Ran = Option<Result<(), ToolFault>>;
 /// What an engine writes to. Its bytes are counted, as the command counts them.
 type Output = CountingSink<MemorySink>;
 
+/// Makes the sources of the readers from that word on.
+fn sources<'a>(alloc: Global, words: Words<'a>, first: usize) -> Option<Vec<MemorySource<'a>>> {
+    let mut inputs: Vec<MemorySource<'a>> = Vec::new(alloc);
+    for place in (first..words.count()).step_by(3) {
+        inputs.push(words.source(place)).ok()?;
+    }
+    Some(inputs)
+}
+
 /// Runs `run_join`. Its words are a log, empty for none, and readers.
 fn join(alloc: Global, words: Words<'_>, sink: &mut Output) -> Ran {
     let log = Name::read(alloc, words.text(4)).ok();
-    let mut inputs: Vec<MemorySource<'_>> = Vec::new(alloc);
-    for place in (5..words.count()).step_by(3) {
-        inputs.push(words.source(place)).ok()?;
-    }
+    let mut inputs = sources(alloc, words, 5)?;
     Some(run_join(alloc, log, inputs.as_mut_slice(), sink))
+}
+
+/// Runs `run_split`. Its words are a unit, a log, empty for none, and readers.
+fn split(alloc: Global, words: Words<'_>, sink: &mut Output) -> Ran {
+    let unit = match words.text(4) {
+        "month" => Unit::Month,
+        "day" => Unit::Day,
+        "hour" => Unit::Hour,
+        _ => return None,
+    };
+    let log = Name::read(alloc, words.text(5)).ok();
+    let mut inputs = sources(alloc, words, 6)?;
+    Some(run_split(alloc, unit, log, inputs.as_mut_slice(), sink))
 }
 
 /// Runs `run_missing`. Its words are two readers.
@@ -78,6 +98,7 @@ fn show(alloc: Global, words: Words<'_>, sink: &mut Output) -> Ran {
 fn run(alloc: Global, words: Words<'_>, sink: &mut Output) -> Ran {
     match words.text(0) {
         "run_join" => join(alloc, words, sink),
+        "run_split" => split(alloc, words, sink),
         "run_missing" => missing(alloc, words, sink),
         "run_missing_by" => missing_by(alloc, words, sink),
         "run_inventory" => Some(run_inventory(alloc, &mut words.source(4), sink)),

@@ -41,6 +41,16 @@ fn joined(alloc: Global, log: Option<&str>, files: &[&str]) -> Result<String, Me
     Ok(line)
 }
 
+/// Returns a request for `split`, as a line.
+fn split(alloc: Global, by: &str, log: Option<&str>, files: &[&str]) -> Result<String, Memory> {
+    let mut line = calls::answer(alloc, "ok", &["Split", by])?;
+    push_option(&mut line, log)?;
+    for file in files {
+        calls::push(&mut line, file)?;
+    }
+    Ok(line)
+}
+
 /// Returns a request for `sketch`, as a line.
 fn sketched(
     alloc: Global,
@@ -59,6 +69,7 @@ fn sketched(
 fn asked(alloc: Global, request: &Request<'_>) -> Result<String, Memory> {
     match request {
         Request::Join { log, files } => joined(alloc, *log, files.as_slice()),
+        Request::Split { by, log, files } => split(alloc, by, *log, files.as_slice()),
         Request::Missing { from, to } => calls::answer(alloc, "ok", &["Missing", from, to]),
         Request::MissingBy { from, inventory } => calls::answer(
             alloc,

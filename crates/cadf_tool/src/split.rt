@@ -1,0 +1,40 @@
+//! The engine of `split`: joins inputs into one replica, and writes its split file.
+ghost use Rattle.cadf_split.specs.Split.{split_text};
+ghost use Rattle.cadf_tool.specs.Join.{join_of};
+ghost use Rattle.cadf_tool.specs.Run.{all, IsWritten, IsRun};
+
+use crate::fault::{ToolFault, answered};
+use crate::join::join;
+use cadf_event::Name;
+use cadf_json::{Sink, Source};
+use cadf_set::Replica;
+use cadf_split::{Unit, write_split};
+use std::alloc::Global;
+
+/// Writes the split file of the replica. `WriteFault` if a write fails, `Memory` if an allocation fails.
+fn write_parts<W: Sink>(
+    alloc: Global,
+    unit: Unit,
+    replica: &Replica,
+    output: &mut W,
+) -> Result<(), ToolFault>
+    ensures { IsWritten W.Sink output.old output.new (split_text unit replica.now) result }
+{
+    answered(write_split(alloc, unit, replica, output))
+}
+
+/// Writes the split file by that unit of the union of all inputs, with the given log or, if none is given, the first
+/// that an input names. Writes nothing before all inputs are accepted. `Err`: why nothing was written, or only a prefix.
+pub fn run_split<R: Source, W: Sink>(
+    alloc: Global,
+    unit: Unit,
+    log: Option<Name>,
+    inputs: &mut [R],
+    output: &mut W,
+) -> Result<(), ToolFault>
+    ensures { IsRun (all R.Source inputs.old inputs.new) (join_of log) (split_text unit)
+        W.Sink output.old output.new result }
+{
+    let replica = join(alloc, log, inputs)?;
+    write_parts(alloc, unit, &replica, output)
+}
