@@ -13,6 +13,10 @@ LONGEST_PIECE = 9
 def engine(call):
     """The name of the engine of a command line, and its own words."""
     name = "run_" + call.command.decode().replace("-", "_")
+    if call.command == b"missing" and len(call.files) > 2:
+        return name + "_unions", [call.senders]
+    if call.command != b"join" and len(call.files) > (2 if call.again else 1):
+        name += "_union"
     own = {
         b"join": lambda: [call.log or b""], b"rehearse": lambda: [call.log, call.sites], b"rule": lambda: call.ruling,
         b"split": lambda: [call.unit, call.log or b""], b"show": lambda: ["conflicts" if call.conflicts else "log"],

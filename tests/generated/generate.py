@@ -304,6 +304,37 @@ def missings(chance):
     return ["missing"] + operands, files
 
 
+def unions(chance):
+    """A call that reads several files, of which some are events by themselves, of another log, damaged or not there."""
+    told = documents_told(chance, 2, 5)
+    files = {"folder": DIRECTORY}
+    for name in "abcd":
+        log = "g" if chance.random() < 0.9 else "h"
+        files[name] = some_file_of(chance, log, atoms_of([one for one in told if chance.random() < 0.5]))
+        if chance.random() < 0.3:
+            files[name] = spelled_oddly(chance, event(chance) if chance.random() < 0.5 else dict(chance.choice(told), id=log))
+        if chance.random() < 0.04:
+            files[name] = damaged(chance, files[name])
+    atoms = grounded_part(chance, atoms_of(told))
+    files["i"], files["s"] = inventory_of("g", atoms), sketch_file("g", sketch_with("g", {digest_of(atom) for atom in atoms}, 33, 1))
+    letter, key = chance.choice(sorted({atom[:2] for atom in atoms_of(told) if len(atom) == 3}) or [("E", "e1")])
+    several = [chance.choice("abcd") for _ in range(chance.randint(1, 4))]
+    if chance.random() < 0.05:
+        several.insert(chance.randint(0, len(several)), chance.choice(["folder", "nothere"]))
+    command = chance.choice([
+        ["show"], ["show", "--conflicts"], ["check"], ["inventory"], ["sketch", "--cells", "9"],
+        ["rule", letter, key, chance.choice("1123")], ["missing"], ["missing"], ["missing-by"], ["missing-by-sketch"]])
+    if not command[0].startswith("missing"):
+        return command + several, files
+    last = {"missing": chance.choice("abcd"), "missing-by": "i", "missing-by-sketch": "s"}[command[0]]
+    words = [several[0], last]
+    for name in several[1:]:
+        option = chance.choice(["--from", "--to"]) if command == ["missing"] else "--from"
+        place = chance.randint(0, 2)
+        words[place:place] = chance.choice([[option, name], ["%s=%s" % (option, name)]])
+    return command + words, files
+
+
 def nearly(chance, digest):
     """The digest with another digit, mostly behind its front."""
     place = max(chance.randrange(64), chance.randrange(64))
@@ -617,7 +648,7 @@ KINDS = {
     words: 5, large: 1, inventories: 10,
     damaged_inventories: 18, rules: 12,
     doubled_names: 12, numbers_anywhere: 8, escapes_anywhere: 10, depths_anywhere: 10, near_names: 10, far_members: 10,
-    bare_documents: 12, faults_in_turn: 12, large_events: 6}
+    bare_documents: 12, faults_in_turn: 12, large_events: 6, unions: 14}
 KINDS_WITH_REHEARSALS = {**KINDS, rehearsals: 12}
 KINDS_WITH_SKETCHES = {**KINDS_WITH_REHEARSALS, sketches: 14, damaged_sketches: 16, misleading_sketches: 12, sketch_words: 5}
 KINDS_WITH_SPLITS = {**KINDS_WITH_SKETCHES, splits: 14}

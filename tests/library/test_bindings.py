@@ -183,6 +183,8 @@ class InProcess:
         self.sketched = [chosen(found.given.get(option)) for option in (b"--cells", b"--salt")]
         if DIRECTORY in self.texts or self.command not in _library.FUNCTIONS:
             raise Usage  # a file that can't be read: the library reads none
+        if self.command != "join" and len(self.names) != (2 if self.command.startswith("missing") else 1):
+            raise Usage  # a union: the library joins by a call of its own
 
     def in_python(self):
         """What the package answers, as the command's answer."""

@@ -11,11 +11,13 @@ from tests.reference.sketch_files import cells_of, missing_by_sketch, read_sketc
 from tests.reference.split_files import UNITS, split_of
 
 DIRECTORY = object()  # stands for the content of a folder
-SEVERAL = (b"join", b"split")  # the commands that want one file or more
-# How many words each other command wants beside its options.
-WORDS_WANTED = {b"missing": 2, b"missing-by": 2, b"inventory": 1, b"show": 1, b"check": 1, b"rehearse": 3,
-                b"rule": 4, b"sketch": 1, b"missing-by-sketch": 2}
+# How many words each command wants beside its options, and those that take further files behind them.
+WORDS_WANTED = {b"join": 1, b"split": 1, b"missing": 2, b"missing-by": 2, b"inventory": 1, b"show": 1, b"check": 1,
+                b"rehearse": 3, b"rule": 4, b"sketch": 1, b"missing-by-sketch": 2}
+SEVERAL = (b"join", b"split", b"inventory", b"show", b"check", b"rule", b"sketch")
 OPTIONS = {b"join": [b"--log"], b"split": [b"--by", b"--log"], b"sketch": [b"--cells", b"--salt"]}  # those with a value
+# Options with a file, which may be given again and again: a further file of the sender's or of the receiver's.
+AGAIN = {b"missing": [b"--from", b"--to"], b"missing-by": [b"--from"], b"missing-by-sketch": [b"--from"]}
 
 
 class Usage(Exception):
@@ -37,14 +39,16 @@ class Call:
             b"".join(word + b"\n" for word in words).decode()
         except UnicodeDecodeError:
             raise Usage
-        if not words or words[0] not in (*SEVERAL, *WORDS_WANTED):
+        if not words or words[0] not in WORDS_WANTED:
             raise Usage
         self.command, self.given, self.conflicts, self.files = words[0], {}, False, []
+        self.again = {option: [] for option in AGAIN.get(self.command, [])}
         self.rest = list(words[1:])
         while self.rest:
             self.take(self.rest.pop(0))
         self.log = self.given.get(b"--log")
-        if len(self.files) != WORDS_WANTED.get(self.command, max(1, len(self.files))):
+        wanted = WORDS_WANTED[self.command]
+        if len(self.files) < wanted or len(self.files) > wanted and self.command not in SEVERAL:
             raise Usage
         self.unit = self.given.get(b"--by", b"").decode()
         if self.command == b"split" and self.unit not in UNITS:
@@ -54,6 +58,10 @@ class Call:
         if self.command == b"rule":
             self.ruling = [word.decode() for word in self.files[:3]]
             del self.files[:3]
+        if self.again:  # FROM and each further one, then TO and each further one
+            sender, receiver = self.files
+            self.senders = 1 + len(self.again[b"--from"])
+            self.files = [sender, *self.again[b"--from"], receiver, *self.again.get(b"--to", [])]
 
     def take(self, word):
         """One word, and the one behind it where it is an option's value."""
@@ -65,6 +73,8 @@ class Call:
             self.rest = []
         elif self.command == b"show" and word == b"--conflicts" and not self.conflicts:
             self.conflicts = True
+        elif option in self.again:
+            self.again[option].append(value if is_joined else self.value())
         elif option in OPTIONS.get(self.command, []) and option not in self.given:
             self.given[option] = value if is_joined else self.value()
         else:
@@ -80,7 +90,7 @@ def read_input(data):
     """The log and the atoms of an input."""
     return read_file(data) if data.startswith(b"CADF-") else document(json_text.read(data))
 
-# What the second input of a command is read as, where it isn't read as any input.
+# What the last input of a command is read as, where it isn't read as any input.
 OF_A_KIND = {b"missing-by": read_inventory, b"missing-by-sketch": read_sketch}
 
 
@@ -109,18 +119,21 @@ def opened(call, files):
 def inputs_of(call, files):
     """The log and the contents of each input."""
     reads = [read_input] * len(call.files)
-    reads[1:] = [OF_A_KIND[call.command]] if call.command in OF_A_KIND else reads[1:]
+    reads[-1] = OF_A_KIND.get(call.command, read_input)
     contents = opened(call, files)
     return [loaded(number, data, read) for number, (data, read) in enumerate(zip(contents, reads), 1)]
 
 
+def sides(call, items):
+    """What there is of each input, by sides: the sender's and the receiver's of a delta, else all in one."""
+    return [items[:call.senders], items[call.senders:]] if call.again else [items]
+
+
 def log_written(call, logs):
     """The log under which is written; every input that names a log must name that one."""
-    if call.command in SEVERAL:
-        named = call.log.decode() if call.log is not None else next((log for log in logs if log is not None), None)
-    else:
-        named = None if None in logs else logs[0]
-    if named is None:
+    first = [next((log for log in side if log is not None), None) for side in sides(call, logs)]
+    named = call.log.decode() if call.log is not None else first[0]
+    if named is None or call.log is None and None in first:
         raise Fault("no log named")
     for number, log in enumerate(logs, 1):
         if log not in (None, named):
@@ -148,16 +161,20 @@ def written(call, files):
     inputs = inputs_of(call, files)
     log = log_written(call, [log for log, _ in inputs])
     sets = [contents for _, contents in inputs]
+    if call.command in OF_A_KIND:
+        sets = [set().union(*sets[:-1]), sets[-1]]
+    else:
+        sets = [set().union(*side) for side in sides(call, sets)]
     if call.command == b"join":
-        return file_of(log, set().union(*sets))
+        return file_of(log, *sets)
     if call.command == b"split":
-        return split_of(log, set().union(*sets), call.unit)
+        return split_of(log, *sets, call.unit)
     if call.command == b"missing":
         return file_of(log, with_carriers(sets[0] - sets[1]))
     if call.command == b"missing-by":
         return file_of(log, missing_by(*sets))
     if call.command == b"missing-by-sketch":
-        return file_of(log, missing_by_sketch(log, *sets))
+        return file_of(log, missing_by_sketch(len(inputs), log, *sets))
     if call.command == b"sketch":
         return sketch_of(log, *sets, cells, salt)
     if call.command == b"rule":

@@ -178,18 +178,18 @@ def sketch_of(log, atoms, cells=None, salt=None):
     return sketch_file(log, sketch_with(log, {digest_of(atom) for atom in atoms}, cells, salt))
 
 
-def read_by(log, own, sketch):
-    """The digests that were sketched, by the own ones."""
+def read_by(number, log, own, sketch):
+    """The digests that were sketched, by the own ones; the sketch is the input of that number."""
     cells = list(sketch.cells)
     turn_all(cells, own, sketch.layout)
     found = own ^ peeled(cells, sketch.layout)
     if file_digest(log, found) != sketch.digest:
-        raise Fault("input 2: too few cells: ask for %d" % cells_to_ask(counts_of(own), sketch.counts))
+        raise Fault("input %d: too few cells: ask for %d" % (number, cells_to_ask(counts_of(own), sketch.counts)))
     return found
 
 
-def missing_by_sketch(log, atoms, sketch):
+def missing_by_sketch(number, log, atoms, sketch):
     """The atoms whose digest was not sketched, each with its carrier."""
     digests = {atom: digest_of(atom) for atom in atoms}
-    there = read_by(log, set(digests.values()), sketch)
+    there = read_by(number, log, set(digests.values()), sketch)
     return with_carriers({atom for atom, digest in digests.items() if digest not in there})

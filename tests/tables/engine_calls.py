@@ -26,6 +26,14 @@ CALLS = {
     "run_rehearse": ["run_rehearse"],
     "run_show": ["run_show"],
     "run_check": ["run_check"],
+    "run_missing_unions": ["run_missing_unions"],
+    "run_missing_by_union": ["run_missing_by_union"],
+    "run_inventory_union": ["run_inventory_union"],
+    "run_sketch_union": ["run_sketch_union"],
+    "run_missing_by_sketch_union": ["run_missing_by_sketch_union"],
+    "run_rule_union": ["run_rule_union"],
+    "run_show_union": ["run_show_union"],
+    "run_check_union": ["run_check_union"],
     "fault": ["status"],
     "metered": ["CountingSink::new", "CountingSink::bytes_written", "CountingSink::over_limit", "CountingSink::into_inner"],
 }
@@ -52,7 +60,10 @@ def writer(piece=ALL, way="never", number=0):
 
 def engine(command, readers, to=None):
     """The engine's call that the words of a command stand for: its name and its words."""
-    name, *own = command.split()
+    (name, *own), readers = command.split(), list(readers)
+    several = len(readers) > (2 if name.startswith("missing") else 1)
+    if name.startswith("missing"):
+        own = [1 + own.count("--from")] if several and name == "missing" else []
     if name == "join":
         own = own[1:] or [""]
     if name == "split":
@@ -62,7 +73,8 @@ def engine(command, readers, to=None):
     if name == "sketch":
         given = dict(re.findall(r"--(\w+)[= ](\w+)", command))
         own = [given.get(option, "") for option in ("cells", "salt")]
-    return "run_" + name.replace("-", "_"), [*(to or writer()), *own, *(word for one in readers for word in one)]
+    kind = "" if name in ("join", "split") or not several else "_unions" if name == "missing" else "_union"
+    return "run_" + name.replace("-", "_") + kind, [*(to or writer()), *own, *(word for one in readers for word in one)]
 
 
 def each(first, last, call, words):
@@ -168,6 +180,14 @@ READ = [
     ("missing-by-sketch", [NONE, sketched.EMPTY], made.NOTHING_TREE),
     ("rule P name 2", [NAMED], made.SOUTH_TREE),
     ("rehearse g 2", [TWO_SITES], "site 0 atoms 0 as 0\nsite 1 atoms 0 as 0\n"),
+    ("show", [made.EVENT_TREE, NONE], log(V1)),
+    ("check", [NONE, EMPTY_LOG], 'ok "g" atoms 0 conflicts 0\n'),
+    ("inventory", [NONE, EMPTY_LOG], inventory()),
+    ("sketch --cells 3", [EMPTY_LOG, NONE], sketched.EMPTY),
+    ("rule P name 2", [NAMED, NONE], made.SOUTH_TREE),
+    ("missing --from --to", [NONE, EMPTY_LOG, EMPTY_LOG, NONE], made.NOTHING_TREE),
+    ("missing-by --from", [EMPTY_LOG, NONE, inventory()], made.NOTHING_TREE),
+    ("missing-by-sketch --from", [NONE, EMPTY_LOG, sketched.EMPTY], made.NOTHING_TREE),
 ]
 
 
@@ -270,7 +290,7 @@ IN_ORDER = [
     ("missing-by-sketch", [EVENT, reader(inventory())], ["Input", 2, "File", "Version"]),
     ("missing-by-sketch", [EVENT, OTHER_SKETCHED], ["NoLog"]),
     ("missing-by-sketch", [GOOD, OTHER_SKETCHED], ["OtherLog", 2]),
-    ("missing-by-sketch", [reader(made.CHAINS), reader(sketched.sketch(3, 1, C2, CF, KF))], ["TooFewCells", sketched.ASKED]),
+    ("missing-by-sketch", [reader(made.CHAINS), reader(sketched.sketch(3, 1, C2, CF, KF))], ["TooFewCells", 2, sketched.ASKED]),
     ("missing-by-sketch", [GOOD, reader(sketched.EMPTY)], ["WriteFault"]),
     ("sketch", [FAILING], ["ReadFault", 1]),
     ("sketch", [BAD], NOT_JSON_1),
@@ -305,6 +325,29 @@ IN_ORDER = [
     ("rehearse g 2", [reader("ask 0\nanswer 1 1\ndeliver 2 1")], ["Rehearse", "WrongAddressee", 3]),
     ("rehearse g 2", [reader("learn 0 " + OTHER_LOG)], ["Rehearse", "OtherLog", 1]),
     ("rehearse g 2", [reader("")], ["WriteFault"]),
+    ("show", [GOOD, OTHER, BAD], ["Input", 3, "Json", "NotJson"]),
+    ("show", [EVENT, GOOD, EVENT], ["WriteFault"]),
+    ("check", [GOOD, OTHER, FAILING], ["ReadFault", 3]),
+    ("inventory", [EVENT, EVENT], ["NoLog"]),
+    ("sketch", [EVENT, GOOD, OTHER], ["OtherLog", 3]),
+    ("rule X e1 0", [GOOD, OTHER], ["OtherLog", 2]),
+    ("rule E e1 2", [GOOD, EVENT], ["NoValue"]),
+    ("rule E e1 1", [GOOD, EVENT], ["WriteFault"]),
+    ("missing --from", [GOOD, OTHER, FAILING], ["ReadFault", 3]),
+    ("missing --from --to", [GOOD, OTHER, EVENT, BAD], ["Input", 4, "Json", "NotJson"]),
+    ("missing --to", [GOOD, EVENT, EVENT], ["NoLog"]),
+    ("missing --from --to", [GOOD, OTHER, EVENT, EVENT], ["NoLog"]),
+    ("missing --from", [EVENT, EVENT, OTHER], ["NoLog"]),
+    ("missing --to", [GOOD, EVENT, OTHER], ["OtherLog", 3]),
+    ("missing --from", [GOOD, OTHER, OTHER], ["OtherLog", 2]),
+    ("missing --from", [EVENT, GOOD, GOOD], ["WriteFault"]),
+    ("missing-by --from", [GOOD, OTHER, reader(NONE)], ["Input", 3, "File", "Version"]),
+    ("missing-by --from", [GOOD, OTHER, OTHER_NOTED], ["OtherLog", 2]),
+    ("missing-by --from", [EVENT, GOOD, OTHER_NOTED], ["OtherLog", 3]),
+    ("missing-by-sketch --from", [EVENT, EVENT, OTHER_SKETCHED], ["NoLog"]),
+    ("missing-by-sketch --from", [EVENT, GOOD, OTHER_SKETCHED], ["OtherLog", 3]),
+    ("missing-by-sketch --from", [reader(made.CHAINS), EVENT, reader(sketched.sketch(3, 1, C2, CF, KF))],
+     ["TooFewCells", 3, sketched.ASKED]),
 ]
 for command, readers, fields in IN_ORDER:
     row(*engine(command, readers, writer(ALL, "refuses", 1)), ["err", *fields], FAULTS)

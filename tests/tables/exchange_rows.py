@@ -1,9 +1,11 @@
 """Worked rows of several inputs: joins, missing parts, inventories and rulings.
 
     from exchange_rows import JOINED, OF_FILES, FILES_REFUSED
+
+Where a command's words have `{}`, the files stand there in turn, else behind the words.
 """
 from tests.tables.document_rows import FAILED, NORTH, ONE, conflicts, entry, event, log
-from tests.tables.texts import BF, C1, CF, K1, S1, S2, S3, V1, V2, VF, digits, document, inventory, line, replica, tree
+from tests.tables.texts import BF, C1, C2, CF, K1, S1, S2, S3, V1, V2, VF, digits, document, inventory, line, replica, tree
 from tests.tables.worked_files import (
     BODY_NODE, CHAINS, CHAINS_TREE, CHAIN_NODES, CHAIN_TREE, CONFLICT, CONFLICT_TREE, EVENT_FILE, EVENT_TREE, FRONT,
     HELD_TREE, NAMED, NAMED_TREE, NAMES, NOTHING, NOTHING_TREE, OTHER_NODE, OTHER_TREE, R1, RULED_TREE, RULING_TREE,
@@ -119,6 +121,25 @@ OF_FILES = [
     ("the counts of a settled property", "check", [SOUTH_TREE], 'ok "g" atoms 4 conflicts 1\n'),
     ("the counts of a ruling without a second body", "check", [UNHELD], 'ok "g" atoms 2 conflicts 0\n'),
     ("the counts of a ruling alone", "check", [RULING_TREE], 'ok "g" atoms 1 conflicts 0\n'),
+    ("the log of two files", "show", [TWO_TREE, document(V1)], log(V1, V2)),
+    ("the log of two documents", "show", [document(V2), document(V1)], log(V1, V2)),
+    ("the log of events and a log", "show", [V1, NOTHING, V2], log(V1, V2)),
+    ("the log of two bodies in two files", "show", [document(ONE), document(FAILED)], log()),
+    ("the conflicts of two bodies in two files", "show --conflicts", [document(FAILED), document(ONE)],
+     conflicts(entry("E", "e1", FAILED, ONE))),
+    ("a ruling in a file of its own", "show", [CONFLICT, RULING_TREE], log(FAILED)),
+    ("the counts of two bodies in two files", "check", [document(ONE), document(FAILED)], 'ok "g" atoms 4 conflicts 1\n'),
+    ("the counts of a file twice", "check", [CONFLICT_TREE, CONFLICT], 'ok "g" atoms 4 conflicts 1\n'),
+    ("the inventory of two files", "inventory", [EVENT_TREE, SECOND_TREE], inventory(*sorted([digits(C1), digits(C2)]))),
+    ("a ruling of a value in the second file", "rule E e1 1", [document(ONE), document(FAILED)], RULED_TREE),
+    ("a delta of two files", "missing {} --from {} {}", [EVENT_TREE, SECOND_TREE, NOTHING], TWO_TREE),
+    ("a delta to two files", "missing {} {} --to {}", [TWO_TREE, NOTHING, EVENT_FILE], SECOND_TREE),
+    ("nothing, to two files", "missing {} {} --to {}", [TWO_TREE, SECOND_TREE, document(V1)], NOTHING_TREE),
+    ("nothing, of two files to two others", "missing {} --from {} {} --to {}", [EVENT_TREE, SECOND_TREE, V1, document(V2)], NOTHING_TREE),
+    ("a chain whose body is in the other file", "missing {} --from {} {}", [document(ONE), document(FAILED), EVENT_FILE], CONFLICT_TREE),
+    ("a delta of an event by itself and a file", "missing {} --from {} {}", [V2, NOTHING, EVENT_FILE], SECOND_TREE),
+    ("a delta of two files by an inventory", "missing-by {} --from {} {}",
+     [EVENT_TREE, SECOND_TREE, inventory(digits(C1))], SECOND_TREE),
 ]
 
 TWICE_NOTED = inventory(digits(C1), digits(C1))
@@ -152,4 +173,22 @@ FILES_REFUSED = [
     ("another kind of that key", "rule G e1 1", [RULED_TREE], "no such value"),
     ("a key of another kind", "rule P r1 1", [NAMED_TREE], "no such value"),
     ("a file that is refused", "rule E e1 1", [replica(line("U", "X", "e1", digits(BF)))], "input 1: line 3: shape"),
+    ("a third file, behind another log", "show", [document(V1), OTHER_LOG, "{"], "input 3: not JSON"),
+    ("another log", "show", [V1, document(V1), OTHER_LOG], "input 3: other log"),
+    ("another log", "check", [NOTHING, EVENT_TREE, OTHER_LOG], "input 3: other log"),
+    ("events by themselves", "check", [V1, V2], "no log named"),
+    ("another log", "inventory", [OTHER_LOG, NOTHING], "input 2: other log"),
+    ("another log", "rule E e1 1", [CONFLICT, OTHER_LOG], "input 2: other log"),
+    ("a key of no file", "rule E e2 1", [CONFLICT, EVENT_TREE], "no such value"),
+    ("a file of TO, behind another log", "missing {} --from {} {} --to {}", [NOTHING, OTHER_LOG, V1, "{"], "input 4: not JSON"),
+    ("a further file of FROM, before TO", "missing {} --from {} {} --to {}", [NOTHING, "{", "CADF-REPLICA 3\n", "{"], "input 2: not JSON"),
+    ("events by themselves as FROM", "missing {} --from {} {}", [V1, V2, NOTHING], "no log named"),
+    ("events by themselves as TO, behind another log", "missing {} --from {} {} --to {}", [NOTHING, OTHER_LOG, V1, V2], "no log named"),
+    ("another log of FROM, before one of TO", "missing {} --from {} {} --to {}", [NOTHING, OTHER_LOG, OTHER_LOG, NOTHING],
+     "input 2: other log"),
+    ("another log of TO", "missing {} --from {} {} --to {}", [V1, NOTHING, V1, OTHER_LOG], "input 4: other log"),
+    ("an inventory, behind another log", "missing-by {} --from {} {}", [EVENT_FILE, OTHER_LOG, TWICE_NOTED], "input 3: line 4: order"),
+    ("an inventory of another log", "missing-by {} --from {} {}", [EVENT_FILE, V1, inventory(log="h")], "input 3: other log"),
+    ("another log, before an inventory's", "missing-by {} --from {} {}", [EVENT_FILE, OTHER_LOG, inventory(log="h")], "input 2: other log"),
+    ("events by themselves", "missing-by {} --from {} {}", [V1, V2, inventory()], "no log named"),
 ]

@@ -221,9 +221,10 @@ def refusal(said, status=1):
 
 
 def called(name, command, files, wanted):
-    """A row of the command's words, and of files that stand behind them in turn."""
-    names = [b"file-%d" % number for number in range(1, len(files) + 1)]
-    return name, [*command.encode().split(), *names], dict(zip(names, files)), wanted
+    """A row of the command's words, and of files that stand for its `{}` in turn, or behind its words where it has none."""
+    names = ["file-%d" % number for number in range(1, len(files) + 1)]
+    words = command.format(*names).split() if "{}" in command else [*command.split(), *names]
+    return name, [word.encode() for word in words], {file.encode(): text for file, text in zip(names, files)}, wanted
 
 
 def document_rows_called():
@@ -258,6 +259,11 @@ def sketch_rows_called():
         yield called(name, "missing-by-sketch", [source, sketch], Answer(0, output.encode(), b""))
     for name, source, sketch, said in sketch_rows.SKETCHES_REFUSED:
         yield called(name, "missing-by-sketch", [source, sketch], refusal(said))
+    for name, command, files, output in sketch_rows.SKETCHED_UNIONS:
+        yield called(name, command, files, Answer(0, output.encode(), b""))
+    for name, sources, sketch, output, said in sketch_rows.OF_UNIONS:
+        wanted = refusal(said) if said else Answer(0, output.encode(), b"")
+        yield called(name, "missing-by-sketch {} --from {} {}", [*sources, sketch], wanted)
     for name, sketch, said in sketch_rows.FILES_REFUSED:
         yield called(name, "missing-by-sketch", [sketch_rows.NOTHING, sketch], refusal("input 2: " + said))
     for name, command, files, said in sketch_rows.OF_FILES_REFUSED:

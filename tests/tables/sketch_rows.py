@@ -6,7 +6,7 @@ Cells and numbers to ask for are worked out here byte by byte and bit by bit, fr
 """
 import hashlib
 
-from tests.tables.texts import C1, C2, CF, K1, KF, S1, S2, V1, digits, document, inventory, lined, replica, tree
+from tests.tables.texts import C1, C2, CF, K1, KF, S1, S2, V1, V2, digits, document, inventory, lined, replica, tree
 from tests.tables.worked_files import (
     BODY_NODE, CHAINS, CHAINS_TREE, CHAIN_NODES, CONFLICT, CONFLICT_TREE, EVENT_FILE, EVENT_TREE, FRONT, K12, NOTHING,
     NOTHING_TREE, OTHER_CHAIN_NODES, OTHER_NODE, OTHER_TREE, RULED_TREE, RULING, RULING_TREE, SECOND_TREE, TAGGED,
@@ -181,6 +181,21 @@ SKETCHES_REFUSED = [
     ("a document as sketch", EVENT_TREE, document(V1), "input 2: truncated"),
     ("no byte as sketch", EVENT_TREE, "", "input 2: truncated"),
     ("a sketch as FROM", WORKED, WORKED, "input 1: version"),
+]
+
+# A call, its files, and the sketch of their union.
+SKETCHED_UNIONS = [
+    ("a sketch of two files", "sketch --cells 3 --salt 18446744073709551615", [EVENT_TREE, SECOND_TREE], sketch(3, 2**64 - 1, C1, C2)),
+    ("a sketch of two documents", "sketch", [document(V2), document(V1)], sketch(198, salt_of(C1, C2), C1, C2)),
+]
+
+# Files of FROM, a sketch, and what is written or refused.
+OF_UNIONS = [
+    ("a delta of two files", [EVENT_TREE, SECOND_TREE], sketch(6, 1, C1), SECOND_TREE, None),
+    ("too few cells for two files", [CHAINS_TREE, EVENT_FILE], sketch(3, 1, C2, CF, KF), None,
+     "input 3: too few cells: ask for %d" % ASKED),
+    ("a sketch of another log than two files", [V1, EVENT_TREE], sketch(3, 1, log="h"), None, "input 3: other log"),
+    ("another log, before a sketch's", [EVENT_TREE, '{"id":"h","events":[]}'], sketch(3, 1, log="h"), None, "input 2: other log"),
 ]
 
 # A call, its files, and what is refused: sketches where another file is asked for, and files that can't be sketched.

@@ -20,13 +20,13 @@ Commands:
   split              Writes what all inputs tell in parts by time, each as a replica file
   missing            Writes the replica file of what TO lacks of FROM
   missing-by         Writes the replica file of what FROM has beyond INVENTORY
-  inventory          Writes the digests of all that a file tells
-  sketch             Writes a short sketch of the digests of all that a file tells
+  inventory          Writes the digests of all that the files tell
+  sketch             Writes a short sketch of the digests of all that the files tell
   missing-by-sketch  Writes the replica file of what FROM has beyond SKETCH
   rule               Writes the replica file with a ruling on a conflict
   rehearse           Plays a schedule, and tells what it leaves at each site
-  show               Prints what a file tells, as a log
-  check              Reads a file whole, and counts its atoms and its conflicts
+  show               Prints what the files tell, as a log
+  check              Reads files whole, and counts their atoms and their conflicts
   help               Print this message or the help of the given subcommand(s)
 
 Options:
@@ -61,45 +61,48 @@ Options:
     "missing": """\
 Writes the replica file of what TO lacks of FROM
 
-Usage: cadf missing <FROM> <TO>
+Usage: cadf missing [OPTIONS] <FROM> <TO>
 
 Arguments:
   <FROM>  The sender's file
   <TO>    The receiver's file, as it is or was
 
 Options:
-  -h, --help  Print help
+      --from <FILE>  A further file of the sender's
+      --to <FILE>    A further file of the receiver's
+  -h, --help         Print help
 """,
     "missing-by": """\
 Writes the replica file of what FROM has beyond INVENTORY
 
-Usage: cadf missing-by <FROM> <INVENTORY>
+Usage: cadf missing-by [OPTIONS] <FROM> <INVENTORY>
 
 Arguments:
   <FROM>       The sender's file
   <INVENTORY>  The receiver's inventory, as it is or was
 
 Options:
-  -h, --help  Print help
+      --from <FILE>  A further file of the sender's
+  -h, --help         Print help
 """,
     "inventory": """\
-Writes the digests of all that a file tells
+Writes the digests of all that the files tell
 
-Usage: cadf inventory <FILE>
+Usage: cadf inventory <FILE>...
 
 Arguments:
-  <FILE>  A replica file or a log
+  <FILE>...  Replica files, logs or events
 
 Options:
   -h, --help  Print help
 """,
     "sketch": """\
-Writes a short sketch of the digests of all that a file tells
+Writes a short sketch of the digests of all that the files tell
 
-Usage: cadf sketch [OPTIONS] <FILE>
+Usage: cadf sketch [OPTIONS] <FILE>...
 
 Arguments:
-  <FILE>  A replica file or a log
+  <FILE>...  Replica files, logs or events
 
 Options:
       --cells <N>  How many cells, a multiple of 3 from 3 to 12582912, else 198
@@ -109,25 +112,26 @@ Options:
     "missing-by-sketch": """\
 Writes the replica file of what FROM has beyond SKETCH
 
-Usage: cadf missing-by-sketch <FROM> <SKETCH>
+Usage: cadf missing-by-sketch [OPTIONS] <FROM> <SKETCH>
 
 Arguments:
   <FROM>    The sender's file
   <SKETCH>  The receiver's sketch, as it is or was
 
 Options:
-  -h, --help  Print help
+      --from <FILE>  A further file of the sender's
+  -h, --help         Print help
 """,
     "rule": """\
 Writes the replica file with a ruling on a conflict
 
-Usage: cadf rule <LETTER> <KEY> <PLACE> <FILE>
+Usage: cadf rule <LETTER> <KEY> <PLACE> <FILE>...
 
 Arguments:
-  <LETTER>  The key's kind: E event, G geolocation, M metric, P property, R resource
-  <KEY>     The identifier or the name that has several values
-  <PLACE>   Which of them is to be shown, from 1 in their order
-  <FILE>    A replica file or a log
+  <LETTER>   The key's kind: E event, G geolocation, M metric, P property, R resource
+  <KEY>      The identifier or the name that has several values
+  <PLACE>    Which of them is to be shown, from 1 in their order
+  <FILE>...  Replica files, logs or events
 
 Options:
   -h, --help  Print help
@@ -146,24 +150,24 @@ Options:
   -h, --help  Print help
 """,
     "show": """\
-Prints what a file tells, as a log
+Prints what the files tell, as a log
 
-Usage: cadf show [OPTIONS] <FILE>
+Usage: cadf show [OPTIONS] <FILE>...
 
 Arguments:
-  <FILE>  A replica file or a log
+  <FILE>...  Replica files, logs or events
 
 Options:
       --conflicts  Print the keys with several values instead
   -h, --help       Print help
 """,
     "check": """\
-Reads a file whole, and counts its atoms and its conflicts
+Reads files whole, and counts their atoms and their conflicts
 
-Usage: cadf check <FILE>
+Usage: cadf check <FILE>...
 
 Arguments:
-  <FILE>  A replica file or a log
+  <FILE>...  Replica files, logs or events
 
 Options:
   -h, --help  Print help
@@ -188,21 +192,30 @@ TAKEN = [
     (["split", "--by", "day", "a"], ["Split", "day", "none", "a"]),
     (["split", "a", "--log=g", "b", "--by=month"], ["Split", "month", "some", "g", "a", "b"]),
     (["split", "--by=hour", "--", "--by", "day"], ["Split", "hour", "none", "--by", "day"]),
-    (["missing", "a", "b"], ["Missing", "a", "b"]),
-    (["missing", "--", "-a", "--help"], ["Missing", "-a", "--help"]),
-    (["missing-by", "a", "b"], ["MissingBy", "a", "b"]),
+    (["missing", "a", "b"], ["Missing", "a", "to", "b"]),
+    (["missing", "--", "-a", "--help"], ["Missing", "-a", "to", "--help"]),
+    (["missing", "--to=c", "a", "--from", "d", "b", "--to", "e", "--from=-f", "--from=a"],
+     ["Missing", "a", "d", "-f", "a", "to", "b", "c", "e"]),
+    (["missing-by", "a", "b"], ["MissingBy", "a", "to", "b"]),
+    (["missing-by", "a", "b", "--from", "-", "--from=--to"], ["MissingBy", "a", "-", "--to", "to", "b"]),
     (["inventory", "a b\tc\u00fc\U0001f512"], ["Inventory", "a b\tc\u00fc\U0001f512"]),
+    (["inventory", "b", "a", "b"], ["Inventory", "b", "a", "b"]),
     (["sketch", "a"], ["Sketch", "none", "none", "a"]),
+    (["sketch", "a", "--salt", "5", "b", "--cells=9", "c"], ["Sketch", "some", "9", "some", "5", "a", "b", "c"]),
     (["sketch", "a", "--salt", "5", "--cells=9"], ["Sketch", "some", "9", "some", "5", "a"]),
     (["sketch", "--cells=", "--salt=-1", "--", "-a"], ["Sketch", "some", "", "some", "-1", "-a"]),
-    (["missing-by-sketch", "a", "b"], ["MissingBySketch", "a", "b"]),
+    (["missing-by-sketch", "a", "b"], ["MissingBySketch", "a", "to", "b"]),
+    (["missing-by-sketch", "a", "--from", "c", "b"], ["MissingBySketch", "a", "c", "to", "b"]),
     (["rule", "E", "e1", "2", "a"], ["Rule", "E", "e1", "2", "a"]),
+    (["rule", "E", "e1", "2", "a", "3", "E"], ["Rule", "E", "e1", "2", "a", "3", "E"]),
     (["rule", "", "", "", ""], ["Rule", "", "", "", ""]),
     (["rehearse", "g", "3", "a"], ["Rehearse", "g", "3", "a"]),
     (["rehearse", "", "065", ""], ["Rehearse", "", "065", ""]),
     (["show", "a"], ["Show", "false", "a"]),
     (["show", "a", "--conflicts"], ["Show", "true", "a"]),
+    (["show", "a", "--conflicts", "b", "--", "--conflicts"], ["Show", "true", "a", "b", "--conflicts"]),
     (["check", "check"], ["Check", "check"]),
+    (["check", "a", "b"], ["Check", "a", "b"]),
 ]
 
 # Words that are refused: the fault, with a tip where there is one, and the usage behind it.
@@ -228,27 +241,31 @@ REFUSED = [
     (["split", "--by", "day", "--by", "day", "a"], "the argument '--by <UNIT>' cannot be used multiple times",
      "split [OPTIONS] --by <UNIT> <FILE>..."),
     (["missing", "a"], "the following required arguments were not provided:\n  <TO>", "missing <FROM> <TO>"),
-    (["missing-by", "a", "b", "c"], "unexpected argument 'c' found", "missing-by <FROM> <INVENTORY>"),
-    (["inventory"], "the following required arguments were not provided:\n  <FILE>", "inventory <FILE>"),
-    (["sketch", "--cells", "9"], "the following required arguments were not provided:\n  <FILE>", "sketch --cells <N> <FILE>"),
+    (["missing", "a", "--from", "b"], "the following required arguments were not provided:\n  <TO>",
+     "missing --from <FILE> <FROM> <TO>"),
+    (["missing-by", "a", "b", "c"], "unexpected argument 'c' found", "missing-by [OPTIONS] <FROM> <INVENTORY>"),
+    (["missing-by", "a", "b", "--to", "c"], "unexpected argument '--to' found\n\n  tip: to pass '--to' as a value, use '-- --to'",
+     "missing-by [OPTIONS] <FROM> <INVENTORY>"),
+    (["inventory"], "the following required arguments were not provided:\n  <FILE>...", "inventory <FILE>..."),
+    (["sketch", "--cells", "9"], "the following required arguments were not provided:\n  <FILE>...", "sketch --cells <N> <FILE>..."),
     (["sketch", "--salt", "1", "--salt", "3", "a"], "the argument '--salt <A>' cannot be used multiple times",
-     "sketch [OPTIONS] <FILE>"),
+     "sketch [OPTIONS] <FILE>..."),
     (["sketch", "--cell", "9", "a"], "unexpected argument '--cell' found\n\n  tip: a similar argument exists: '--cells'",
-     "sketch --cells <N> <FILE>"),
+     "sketch --cells <N> <FILE>..."),
     (["missing-by-sketch", "a"], "the following required arguments were not provided:\n  <SKETCH>",
      "missing-by-sketch <FROM> <SKETCH>"),
-    (["rule", "E"], "the following required arguments were not provided:\n  <KEY>\n  <PLACE>\n  <FILE>",
-     "rule <LETTER> <KEY> <PLACE> <FILE>"),
+    (["rule", "E"], "the following required arguments were not provided:\n  <KEY>\n  <PLACE>\n  <FILE>...",
+     "rule <LETTER> <KEY> <PLACE> <FILE>..."),
     (["rehearse", "g", "2"], "the following required arguments were not provided:\n  <SCRIPT>",
      "rehearse <LOG> <SITES> <SCRIPT>"),
     (["show", "--conflict", "a"], "unexpected argument '--conflict' found\n\n  tip: a similar argument exists: '--conflicts'",
-     "show --conflicts <FILE>"),
+     "show --conflicts <FILE>..."),
     (["show", "--conflicts=1", "a"], "unexpected value '1' for '--conflicts' found; no more were expected",
-     "show --conflicts <FILE>"),
+     "show --conflicts <FILE>..."),
     (["show", "--conflicts", "--conflicts", "a"], "the argument '--conflicts' cannot be used multiple times",
-     "show [OPTIONS] <FILE>"),
-    (["show", "-x", "a"], "unexpected argument '-x' found\n\n  tip: to pass '-x' as a value, use '-- -x'", "show [OPTIONS] <FILE>"),
-    (["check", "a", "b"], "unexpected argument 'b' found", "check <FILE>"),
+     "show [OPTIONS] <FILE>..."),
+    (["show", "-x", "a"], "unexpected argument '-x' found\n\n  tip: to pass '-x' as a value, use '-- -x'", "show [OPTIONS] <FILE>..."),
+    (["check"], "the following required arguments were not provided:\n  <FILE>...", "check <FILE>..."),
 ]
 
 

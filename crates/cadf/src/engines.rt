@@ -1,4 +1,6 @@
 //! Opens the files of a request, and runs its engine on them.
+ghost use Rattle.std.specs.Prelude.{◌≡◌, ◌+◌, ◌<◌, ◌^◌, length, IfOk};
+
 use crate::given::{
     cells_given, letter_given, log_given, place_given, salt_given, sites_given, unit_given,
 };
@@ -6,8 +8,9 @@ use crate::stop::Stop;
 use cadf_arguments::{read_key, read_log};
 use cadf_json::{FromStd, Sink};
 use cadf_tool::{
-    ToolFault, run_check, run_inventory, run_join, run_missing, run_missing_by,
-    run_missing_by_sketch, run_rehearse, run_rule, run_show, run_sketch, run_split,
+    ToolFault, run_check_union, run_inventory_union, run_join, run_missing_by_sketch_union,
+    run_missing_by_union, run_missing_unions, run_rehearse, run_rule_union, run_show_union,
+    run_sketch_union, run_split,
 };
 use cadf_words::Request;
 use std::alloc::Global;
@@ -22,16 +25,20 @@ fn open<R: Files>(rt: &R, path: &str, number: usize) -> Result<FromStd<R::File>,
     }
 }
 
-/// Opens the files at these paths, which are the inputs from 1 on. `ReadFault` names the first that can't be opened,
-/// `Memory` if an allocation fails.
+/// Opens the files at these paths, which are the inputs after so many others. `ReadFault` names the first that can't be
+/// opened, `Memory` if an allocation fails.
 fn open_all<R: Files>(
     rt: &R,
     alloc: Global,
+    before: usize,
     paths: &[&str],
-) -> Result<Vec<FromStd<R::File>>, ToolFault> {
+) -> Result<Vec<FromStd<R::File>>, ToolFault>
+    requires { before + length paths.now < 2 ^ 64 }
+    ensures { IfOk result (λ files. length files.items ≡ length paths.now) }
+{
     let mut files = Vec::new(alloc);
     for path in paths {
-        let file = open(rt, *path, files.len() + 1)?;
+        let file = open(rt, *path, before + files.len() + 1)?;
         if files.push(file).is_err() {
             return Err(ToolFault::Memory);
         }
@@ -47,7 +54,7 @@ fn join<W: Sink>(
     output: &mut W,
 ) -> Result<(), Stop> {
     let log = log_given(rt.alloc(), log)?;
-    let mut inputs = open_all(rt, rt.alloc(), paths)?;
+    let mut inputs = open_all(rt, rt.alloc(), 0, paths)?;
     Ok(run_join(rt.alloc(), log, inputs.as_mut_slice(), output)?)
 }
 
@@ -60,73 +67,88 @@ fn split<W: Sink>(
     output: &mut W,
 ) -> Result<(), Stop> {
     let log = log_given(rt.alloc(), log)?;
-    let mut inputs = open_all(rt, rt.alloc(), paths)?;
+    let mut inputs = open_all(rt, rt.alloc(), 0, paths)?;
     let unit = unit_given(by);
     Ok(run_split(rt.alloc(), unit, log, inputs.as_mut_slice(), output)?)
 }
 
-/// Runs `missing` on two files.
-fn missing<W: Sink>(rt: &HostRuntime, from: &str, to: &str, output: &mut W) -> Result<(), Stop> {
-    let mut from = open(rt, from, 1)?;
-    let mut to = open(rt, to, 2)?;
-    Ok(run_missing(rt.alloc(), &mut from, &mut to, output)?)
+/// Runs `missing` on the files of both sides.
+fn missing<W: Sink>(
+    rt: &HostRuntime,
+    from: &[&str],
+    to: &[&str],
+    output: &mut W,
+) -> Result<(), Stop> {
+    let before = from.len();
+    let mut from = open_all(rt, rt.alloc(), 0, from)?;
+    let mut to = open_all(rt, rt.alloc(), before, to)?;
+    Ok(run_missing_unions(rt.alloc(), from.as_mut_slice(), to.as_mut_slice(), output)?)
 }
 
-/// Runs `missing-by` on a file and an inventory file.
+/// Runs `missing-by` on files and an inventory file.
 fn missing_by<W: Sink>(
     rt: &HostRuntime,
-    from: &str,
+    from: &[&str],
     inventory: &str,
     output: &mut W,
 ) -> Result<(), Stop> {
-    let mut from = open(rt, from, 1)?;
-    let mut inventory = open(rt, inventory, 2)?;
-    Ok(run_missing_by(rt.alloc(), &mut from, &mut inventory, output)?)
+    let number = from.len() + 1;
+    let mut from = open_all(rt, rt.alloc(), 0, from)?;
+    let mut inventory = open(rt, inventory, number)?;
+    Ok(run_missing_by_union(rt.alloc(), from.as_mut_slice(), &mut inventory, output)?)
 }
 
-/// Runs `inventory` on a file.
-fn inventory<W: Sink>(rt: &HostRuntime, file: &str, output: &mut W) -> Result<(), Stop> {
-    let mut input = open(rt, file, 1)?;
-    Ok(run_inventory(rt.alloc(), &mut input, output)?)
+/// Runs `inventory` on files.
+fn inventory<W: Sink>(rt: &HostRuntime, paths: &[&str], output: &mut W) -> Result<(), Stop> {
+    let mut inputs = open_all(rt, rt.alloc(), 0, paths)?;
+    Ok(run_inventory_union(rt.alloc(), inputs.as_mut_slice(), output)?)
 }
 
-/// Runs `sketch` on a file. `options` are the number of cells and the salt, if they are given.
+/// Runs `sketch` on files. `options` are the number of cells and the salt, if they are given.
 fn sketch<W: Sink>(
     rt: &HostRuntime,
     options: [Option<&str>; 2],
-    file: &str,
+    paths: &[&str],
     output: &mut W,
 ) -> Result<(), Stop> {
     let cells = cells_given(options[0])?;
     let salt = salt_given(options[1])?;
-    let mut input = open(rt, file, 1)?;
-    Ok(run_sketch(rt.alloc(), cells, salt, &mut input, output)?)
+    let mut inputs = open_all(rt, rt.alloc(), 0, paths)?;
+    Ok(run_sketch_union(rt.alloc(), cells, salt, inputs.as_mut_slice(), output)?)
 }
 
-/// Runs `missing-by-sketch` on a file and a sketch file.
+/// Runs `missing-by-sketch` on files and a sketch file.
 fn missing_by_sketch<W: Sink>(
     rt: &HostRuntime,
-    from: &str,
+    from: &[&str],
     sketch: &str,
     output: &mut W,
 ) -> Result<(), Stop> {
-    let mut from = open(rt, from, 1)?;
-    let mut sketch = open(rt, sketch, 2)?;
-    Ok(run_missing_by_sketch(rt.alloc(), &mut from, &mut sketch, output)?)
+    let number = from.len() + 1;
+    let mut from = open_all(rt, rt.alloc(), 0, from)?;
+    let mut sketch = open(rt, sketch, number)?;
+    Ok(run_missing_by_sketch_union(rt.alloc(), from.as_mut_slice(), &mut sketch, output)?)
 }
 
-/// Runs `rule` on a file. `ruling` is the letter, the key and the place.
+/// Runs `rule` on files. `ruling` is the letter, the key and the place.
 fn rule<W: Sink>(
     rt: &HostRuntime,
     ruling: [&str; 3],
-    file: &str,
+    paths: &[&str],
     output: &mut W,
 ) -> Result<(), Stop> {
     let letter = letter_given(ruling[0])?;
     let key = read_key(rt.alloc(), ruling[1])?;
     let place = place_given(ruling[2])?;
-    let mut input = open(rt, file, 1)?;
-    Ok(run_rule(rt.alloc(), letter, &key, place, &mut input, output)?)
+    let mut inputs = open_all(rt, rt.alloc(), 0, paths)?;
+    Ok(run_rule_union(
+        rt.alloc(),
+        letter,
+        &key,
+        place,
+        inputs.as_mut_slice(),
+        output,
+    )?)
 }
 
 /// Runs `rehearse` on a script.
@@ -143,21 +165,21 @@ fn rehearse<W: Sink>(
     Ok(run_rehearse(rt.alloc(), &log, sites, &mut script, output)?)
 }
 
-/// Runs `show` on a file.
+/// Runs `show` on files.
 fn show<W: Sink>(
     rt: &HostRuntime,
     conflicts: bool,
-    file: &str,
+    paths: &[&str],
     output: &mut W,
 ) -> Result<(), Stop> {
-    let mut input = open(rt, file, 1)?;
-    Ok(run_show(rt.alloc(), conflicts, &mut input, output)?)
+    let mut inputs = open_all(rt, rt.alloc(), 0, paths)?;
+    Ok(run_show_union(rt.alloc(), conflicts, inputs.as_mut_slice(), output)?)
 }
 
-/// Runs `check` on a file.
-fn check<W: Sink>(rt: &HostRuntime, file: &str, output: &mut W) -> Result<(), Stop> {
-    let mut input = open(rt, file, 1)?;
-    Ok(run_check(rt.alloc(), &mut input, output)?)
+/// Runs `check` on files.
+fn check<W: Sink>(rt: &HostRuntime, paths: &[&str], output: &mut W) -> Result<(), Stop> {
+    let mut inputs = open_all(rt, rt.alloc(), 0, paths)?;
+    Ok(run_check_union(rt.alloc(), inputs.as_mut_slice(), output)?)
 }
 
 /// Runs the engine that the request names. `Err`: a refused argument, then a file that can't be opened, then the
@@ -170,19 +192,25 @@ pub(crate) fn run_engine<W: Sink>(
     match request {
         Request::Join { log, files } => join(rt, *log, files.as_slice(), output),
         Request::Split { by, log, files } => split(rt, by, *log, files.as_slice(), output),
-        Request::Missing { from, to } => missing(rt, from, to, output),
-        Request::MissingBy { from, inventory } => missing_by(rt, from, inventory, output),
-        Request::Inventory { file } => inventory(rt, file, output),
-        Request::Sketch { cells, salt, file } => sketch(rt, [*cells, *salt], file, output),
-        Request::MissingBySketch { from, sketch } => missing_by_sketch(rt, from, sketch, output),
+        Request::Missing { from, to } => missing(rt, from.as_slice(), to.as_slice(), output),
+        Request::MissingBy { from, inventory } => {
+            missing_by(rt, from.as_slice(), inventory, output)
+        }
+        Request::Inventory { files } => inventory(rt, files.as_slice(), output),
+        Request::Sketch { cells, salt, files } => {
+            sketch(rt, [*cells, *salt], files.as_slice(), output)
+        }
+        Request::MissingBySketch { from, sketch } => {
+            missing_by_sketch(rt, from.as_slice(), sketch, output)
+        }
         Request::Rule {
             letter,
             key,
             place,
-            file,
-        } => rule(rt, [letter, key, place], file, output),
+            files,
+        } => rule(rt, [letter, key, place], files.as_slice(), output),
         Request::Rehearse { log, sites, script } => rehearse(rt, log, sites, script, output),
-        Request::Show { conflicts, file } => show(rt, *conflicts, file, output),
-        Request::Check { file } => check(rt, file, output),
+        Request::Show { conflicts, files } => show(rt, *conflicts, files.as_slice(), output),
+        Request::Check { files } => check(rt, files.as_slice(), output),
     }
 }

@@ -36,7 +36,7 @@ pub one_or_four : (fault : ToolFault) → is_of_memory fault ≡ true → (statu
 one_or_four (Input n f) h = inl refl
 one_or_four NoLog h = inl refl
 one_or_four (OtherLog n) h = inl refl
-one_or_four (TooFewCells cells) h = inl refl
+one_or_four (TooFewCells n cells) h = inl refl
 one_or_four (Script line) h = inl refl
 one_or_four (Rehearse f) h = inl refl
 one_or_four NoValue h = inl refl

@@ -124,7 +124,7 @@ unfailed_behind zero ss h = h
 unfailed_behind (suc k) [] h = tt
 unfailed_behind (suc k) (s ∷ ss) h = unfailed_behind k ss h.1
 
-all_never : (old new : List SourceState) → NoReadFailed old → NoReadFailed new → (n : ℕ) → IsRefusedAt old new n ReadFailed → ⊥
+all_never : (old new : List SourceState) → NoReadFailed old → NoReadFailed new → (n : ℕ) → IsRefusedAt 1 old new n ReadFailed → ⊥
 all_never old new a b n h =
     first_never (drop (length h.before) old) (drop (length h.before) new) (unfailed_behind (length h.before) old a)
     (unfailed_behind (length h.before) new b) h.refused
@@ -137,7 +137,7 @@ module _ {A M : Type 0} (sources : Sources A) (work : A → Result M ToolFault �
   of_memory (Input n f) h = refl
   of_memory NoLog h = refl
   of_memory (OtherLog n) h = refl
-  of_memory (TooFewCells cells) h = refl
+  of_memory (TooFewCells n cells) h = refl
   of_memory (Script line) h = refl
   of_memory (Rehearse f) h = refl
   of_memory NoValue h = refl
@@ -156,8 +156,8 @@ pub first_of_memory_two : {T U M : Type 0} (reader : InputSpec T) (other : Input
 first_of_memory_two reader other safe safe' work from to fault f =
     of_memory (two reader f.source other f.following) work
     (λ n h. elim h [
-      | inl x ↦ safe f.source.old f.source.new f.before f.after x.1
-      | inr x ↦ safe' f.following.old f.following.new f.following_before f.following_after x.2
+      | inl x ↦ safe f.source.old f.source.new f.before f.after x.0.1
+      | inr x ↦ safe' f.following.old f.following.new f.following_before f.following_after x.1.1
     ]) fault f.first
 
 pub first_of_memory_all : {M : Type 0} (work : List Loaded → Result M ToolFault) (inputs : List (List ℕ)) (fault : ToolFault)

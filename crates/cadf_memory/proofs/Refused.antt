@@ -46,7 +46,7 @@ module _ {A M : Type 0} (sources : Sources A) (work : A â†’ Result M ToolFault â
   kept (Input n f) h = h
   kept NoLog h = h
   kept (OtherLog n) h = h
-  kept (TooFewCells cells) h = h
+  kept (TooFewCells n cells) h = h
   kept (Script line) h = h
   kept (Rehearse f) h = h
   kept NoValue h = h

@@ -27,7 +27,7 @@ abbrev pub unwritten_of : ToolFault → ToolFault
 unwritten_of (Input n f) = Input n f
 unwritten_of NoLog = NoLog
 unwritten_of (OtherLog n) = OtherLog n
-unwritten_of (TooFewCells cells) = TooFewCells cells
+unwritten_of (TooFewCells n cells) = TooFewCells n cells
 unwritten_of (Script line) = Script line
 unwritten_of (Rehearse f) = Rehearse f
 unwritten_of NoValue = NoValue
@@ -68,7 +68,8 @@ IsFirstOfTwo reader other work from to fault = IsFirstOfTwoBy reader other (IsVa
 abbrev pub seen_as : List SourceState → List SourceState → Sources (List Loaded)
 seen_as old new = record {
   are = AreLoaded old new;
-  refused = IsRefusedAt old new;
+  refused = IsRefusedAt 1 old new;
+  unread = new ≡ old;
   unfailed = NoneFailed old new;
   bounded = Unit {0};
 }

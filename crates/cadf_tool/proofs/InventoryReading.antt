@@ -12,7 +12,7 @@ use Rattle.cadf_tool.specs.Faults.{of_load}
 use Rattle.cadf_tool.specs.InventoryInput.{inventory_kind, inventory_spec}
 use Rattle.cadf_tool.specs.MissingBy.{IsInventoryInput}
 use Rattle.cadf_tool.specs.Run.{SourceTransition, numbered, IsReadAs, IsUnread}
-use Rattle.cadf_tool.proofs.KindReading.{ReadsKind, IsDecidedFirst, kind_read, kind_unread}
+use Rattle.cadf_tool.proofs.KindReading.{IsDecidedFirst, kind_read, kind_unread}
 
 decided_first : IsDecidedFirst inventory_kind
 decided_first limit failed bytes f d = ap inventory_model_or_fault (refused_verdict inventory_grammar limit failed bytes f d)

@@ -19,6 +19,8 @@ pub mod TakenAlone
 pub mod KeptInputs
 pub mod InputUnions
 pub mod UnitingLemmas
+pub mod Unions
+pub mod UnionDeltas
 pub mod HeldReplicas
 pub mod ShownAgain
 pub mod DigestBytes

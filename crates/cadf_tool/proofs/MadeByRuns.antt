@@ -1,5 +1,5 @@
 -- What engines write for derived files.
-use Rattle.std.proofs.Common.{◌≡◌, ℕ, List, map, ◌++◌, Option, Some, None, Ok, Err, Result, IfSome, refl, sym, ap, subst}
+use Rattle.std.proofs.Common.{◌≡◌, ℕ, List, map, ◌++◌, Option, Some, Ok, Err, Result, IfSome, refl, ap, subst}
 use Rattle.std.specs.Io.KnownBytes.{Appends}
 use Rattle.std.proofs.KnownBytes.{Consumes-whole}
 use Rattle.cadf_json.specs.declared.stream.Source.{Ghosts as Source}

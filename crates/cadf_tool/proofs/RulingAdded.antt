@@ -63,11 +63,10 @@ use Rattle.cadf_line.proofs.Lists.{Some-same, filter_map_listed}
 use Rattle.cadf_atom.proofs.RulingTexts.{hex_is_digest}
 use Rattle.sha2.specs.Sha256.{sha256}
 use Rattle.cadf_tool.specs.declared.fault.ToolFault.{ToolFault}
-use Rattle.cadf_tool.specs.declared.input.Loaded.{Loaded}
 use Rattle.cadf_tool.specs.Faults.{FaultStage, Reading, Working, Writing, OutOfMemoryStage, fault_stage}
 use Rattle.cadf_tool.specs.Run.{IsWorkFaultBy, IsWorked}
-use Rattle.cadf_tool.specs.Told.{log_named, atoms_loaded, under_log}
-use Rattle.cadf_tool.specs.Rule.{value_at, ruling_on, ruling_for, ruling_at, with_ruling, ruled_in, ruled_of}
+use Rattle.cadf_tool.specs.Told.{under_log}
+use Rattle.cadf_tool.specs.Rule.{value_at, ruling_on, ruling_for, ruling_at, with_ruling, ruled_in}
 use Rattle.cadf_tool.proofs.DigestBytes.{is_digest}
 
 -- ---- the value at a place
@@ -275,8 +274,3 @@ ruling_refused h letter key text place fault same worked =
     at Working w = ap (with_ruling h) w
     at Writing w = w
     at OutOfMemoryStage w = w
-
-pub rule_held : (letter key : Text) (place : ℕ) (loaded : Loaded) (h : ReplicaModel) (result : Result ReplicaModel ToolFault) → log_named loaded ≡ Some h.log
-    → h.atoms ≡ atoms_loaded loaded → IsWorked (ruled_in letter key place (Ok h)) result → IsWorked (ruled_of letter key place loaded) result
-rule_held letter key place loaded h result named atoms worked =
-    subst (λ (held : Result ReplicaModel ToolFault). IsWorked (ruled_in letter key place held) result) (λ i. under_log (sym named i) (atoms i)) worked

@@ -1,15 +1,11 @@
 -- The parts of a run, combined.
-use Rattle.std.proofs.Common.{◌≡◌, Result, Ok, Err, inr}
+use Rattle.std.proofs.Common.{◌≡◌, Result, Ok, Err, sym, subst, inl, inr}
 use Rattle.cadf_tool.specs.declared.fault.ToolFault.{ToolFault}
+use Rattle.cadf_tool.specs.declared.fault.ToolFault.TheVariants.{Memory}
 use Rattle.cadf_tool.specs.Faults.{FaultStage, Reading, Working, Writing, OutOfMemoryStage, fault_stage}
 use Rattle.cadf_tool.specs.Run.{
-  SourceTransition,
-  InputSpec,
   Sources,
-  numbered,
-  two,
-  IsReadAs,
-  IsReadWithin,
+  both,
   IsFirstFault,
   IsFirstFaultBy,
   IsUnread,
@@ -46,28 +42,48 @@ module _ {A M : Type 0} (sources : Sources A) (work : A → Result M ToolFault �
   worked a (Err fault) bounded read unfailed w =
       record { is = not_worked a fault (fault_stage fault) read unfailed w; bounded = bounded }
 
--- ---- two sources
+-- ---- sources after others
 
-module _ {T U M : Type 0} (reader : InputSpec T) (t : SourceTransition) (other : InputSpec U) (u : SourceTransition)
-    (work : T × U → Result M ToolFault → Type 0) (within : IsReadWithin reader.limit t) where
-  -- the work on both sources
-  pub both_worked : (value : T) (value' : U) (expected : Result M ToolFault) → IsReadAs reader t value
-      → IsReadAs other u value' → IsReadWithin other.limit u
-      → IsWorkedBy (work (value, value')) expected → IsExpectedBy (two reader t other u) work expected
-  both_worked value value' expected read read' within' w =
-      worked (two reader t other u) work (value, value') expected (within, within') (read, read') (read.1, read'.1) w
+module _ {A B M : Type 0} (first : Sources A) (second : Sources B) (work : A × B → Result M ToolFault → Type 0)
+    (within : first.bounded) (within' : second.bounded) where
+  -- the work on all
+  pub both_worked : (a : A) (b : B) (expected : Result M ToolFault) → first.are a → first.unfailed → second.are b → second.unfailed
+      → IsWorkedBy (work (a, b)) expected → IsExpectedBy (both first second) work expected
+  both_worked a b expected read unfailed read' unfailed' w =
+      worked (both first second) work (a, b) expected (within, within') (read, read') (unfailed, unfailed') w
 
-  second_not_read_at : (value : T) (fault : ToolFault) (s : FaultStage) → IsReadAs reader t value
-      → IsFirstFault (numbered 2 other u) Ok fault s → IsFirstFaultBy (two reader t other u) work fault s
-  second_not_read_at value fault (Reading n f) read (is, (number, refuses)) = (is, inr (number, (value, read), refuses))
-  second_not_read_at value fault Working read (a, are, e) = absurd (never a e)
+  first_not_read_at : (fault : ToolFault) (s : FaultStage) → second.unread → second.unfailed → IsFirstFault first Ok fault s
+      → IsFirstFaultBy (both first second) work fault s
+  first_not_read_at fault (Reading n f) unread unfailed (is, refused) = (is, inl (refused, unread))
+  first_not_read_at fault Working unread unfailed (a, are, e) = absurd (never a e)
     where
-      never : (a : U) → ◌≡◌ {A = Result U ToolFault} (Ok a) (Err fault) → ⊥
+      never : (a : A) → ◌≡◌ {A = Result A ToolFault} (Ok a) (Err fault) → ⊥
       never a e = cc
-  second_not_read_at value fault Writing read h = h
-  second_not_read_at value fault OutOfMemoryStage read h = (read.1, h)
+  first_not_read_at fault Writing unread unfailed h = h
+  first_not_read_at fault OutOfMemoryStage unread unfailed h = (h, unfailed)
 
-  -- the first was read, and the second was not
-  pub second_not_read : (value : T) (fault : ToolFault) → IsReadAs reader t value → IsReadWithin other.limit u
-      → IsUnread (numbered 2 other u) fault → IsExpectedBy (two reader t other u) work (Err fault)
-  second_not_read value fault read within' h = record { is = second_not_read_at value fault (fault_stage fault) read h; bounded = (within, within') }
+  -- not all of the first were read, and none of the second
+  pub first_not_read : (fault : ToolFault) → second.unread → second.unfailed → IsUnread first fault → IsExpectedBy (both first second) work (Err fault)
+  first_not_read fault unread unfailed h =
+      record { is = first_not_read_at fault (fault_stage fault) unread unfailed h; bounded = (within, within') }
+
+  second_not_read_at : (a : A) (fault : ToolFault) (s : FaultStage) → first.are a → first.unfailed → IsFirstFault second Ok fault s
+      → IsFirstFaultBy (both first second) work fault s
+  second_not_read_at a fault (Reading n f) read unfailed (is, refused) = (is, inr ((a, read), refused))
+  second_not_read_at a fault Working read unfailed (b, are, e) = absurd (never b e)
+    where
+      never : (b : B) → ◌≡◌ {A = Result B ToolFault} (Ok b) (Err fault) → ⊥
+      never b e = cc
+  second_not_read_at a fault Writing read unfailed h = h
+  second_not_read_at a fault OutOfMemoryStage read unfailed h = (unfailed, h)
+
+  -- the first were read, and not all of the second
+  pub second_not_read : (a : A) (fault : ToolFault) → first.are a → first.unfailed → IsUnread second fault
+      → IsExpectedBy (both first second) work (Err fault)
+  second_not_read a fault read unfailed h =
+      record { is = second_not_read_at a fault (fault_stage fault) read unfailed h; bounded = (within, within') }
+
+  -- there was no memory
+  pub both_starved : (fault : ToolFault) → fault ≡ Memory → first.unfailed → second.unfailed → IsExpectedBy (both first second) work (Err fault)
+  both_starved fault is unfailed unfailed' =
+      subst (λ f. IsExpectedBy (both first second) work (Err f)) (sym is) (record { is = (unfailed, unfailed'); bounded = (within, within') })

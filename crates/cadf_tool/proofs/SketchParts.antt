@@ -1,12 +1,11 @@
 -- The results of `sketch` and `missing-by-sketch` for inputs.
-use Rattle.std.proofs.Common.{◌≡◌, ◌⊎◌, ℕ, List, Option, None, Some, IfSome, unwrap_or, Result, Ok, Err, true, refl, sym, ap, ◌∙◌, subst, inl, inr}
+use Rattle.std.proofs.Common.{◌≡◌, ℕ, List, Option, None, Some, IfSome, unwrap_or, Result, Ok, Err, true, refl, sym, ap, ◌∙◌, subst}
 use Rattle.cadf_join.specs.Contents.{Text, Contents}
 use Rattle.cadf_line.specs.Digest.{atom_digest}
 use Rattle.cadf_line.specs.Missing.{missing_by}
 use Rattle.cadf_set.specs.Inventory.{InventoryModel}
 use Rattle.cadf_set.specs.Replica.{ReplicaModel}
 use Rattle.cadf_inventory.specs.InventoryFile.{IsInventory, inventory_digest, DoNotCollide}
-use Rattle.cadf_sketch.specs.Answers.{IsAnswer}
 use Rattle.cadf_sketch.specs.Layouts.{LayoutModel, are_cells, default_cells, layout_with}
 use Rattle.cadf_sketch.specs.Sketches.{SketchModel, sketch_of, own_salt, asked}
 use Rattle.cadf_sketch.proofs.AskedLemmas.{asked_is}
@@ -14,28 +13,11 @@ use Rattle.cadf_sketch.proofs.DigestLemmas.{same_inventory}
 use Rattle.cadf_sketch.proofs.SketchFileLemmas.{sketch-file-tells}
 use Rattle.cadf_tool.specs.declared.input.Loaded.{Loaded}
 use Rattle.cadf_tool.specs.declared.fault.ToolFault.{ToolFault}
-use Rattle.cadf_tool.specs.declared.fault.ToolFault.TheVariants.{NoLog, Memory}
 use Rattle.cadf_tool.specs.Exchange.{IsReadOf, IsSketchReadOf, IsPartByRead}
 use Rattle.cadf_tool.specs.MissingBy.{inventory_model_of}
-use Rattle.cadf_tool.specs.Run.{IsWorkedBy}
-use Rattle.cadf_tool.specs.Sketch.{sketch_of_result, sketch_model_of, IsAnswerTo, IsAnswerOfResult, IsPartBySketch}
+use Rattle.cadf_tool.specs.Sketch.{sketch_of_result, sketch_model_of, IsAnswerOfResult, IsPartBySketch}
 use Rattle.cadf_tool.specs.Told.{log_named, atoms_loaded, under_log, replica_model_of}
 use Rattle.cadf_tool.proofs.InventoryParts.{Notes, notes, notes_inventory, IsPartBy}
-
-module _ (loaded : Loaded) (sketch : SketchModel) where
-  -- the result is that for the replica of the input
-  pub part_held : (h : ReplicaModel) (result : Result ReplicaModel ToolFault) → log_named loaded ≡ Some h.log → h.atoms ≡ atoms_loaded loaded
-      → IsWorkedBy (IsAnswerTo sketch h) result → IsWorkedBy (IsPartBySketch (loaded, sketch)) result
-  part_held h result named atoms worked =
-      subst (λ (held : Result ReplicaModel ToolFault). IsWorkedBy (IsAnswerOfResult sketch held) result) (λ i. under_log (sym named i) (atoms i)) worked
-
-  -- an input that names no log has no delta
-  pub part_unheld : (fault : ToolFault) → (fault ≡ NoLog) ⊎ (fault ≡ Memory) → (fault ≡ NoLog → log_named loaded ≡ None)
-      → IsWorkedBy (IsPartBySketch (loaded, sketch)) (Err fault)
-  part_unheld fault (inl is) none =
-      subst (λ f. IsWorkedBy (IsPartBySketch (loaded, sketch)) (Err f)) (sym is)
-      (subst (λ (o : Option Text). IsAnswerOfResult sketch (under_log o (atoms_loaded loaded)) (Err NoLog)) (sym (none is)) refl)
-  part_unheld fault (inr is) none = subst (λ f. IsWorkedBy (IsPartBySketch (loaded, sketch)) (Err f)) (sym is) tt
 
 -- ---- the inventory that was sketched
 
@@ -111,7 +93,7 @@ answer_read from sketch part answer = by (replica_model_of from) refl answer
     never : (fault : ToolFault) → ◌≡◌ {A = Result ReplicaModel ToolFault} (Ok part) (Err fault) → ⊥
     never fault e = cc
 
-    by : (r : Result ReplicaModel ToolFault) → replica_model_of from ≡ r → IsAnswerOfResult sketch r (Ok part)
+    by : (r : Result ReplicaModel ToolFault) → replica_model_of from ≡ r → IsAnswerOfResult 2 sketch r (Ok part)
         → (read : InventoryModel) × IsPartByRead from sketch read part
     by (Ok held) is k = (k.theirs, (held, is, k, refl))
     by (Err fault) is k = absurd (never fault k)

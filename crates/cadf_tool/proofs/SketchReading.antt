@@ -12,7 +12,7 @@ use Rattle.cadf_tool.specs.Faults.{of_load}
 use Rattle.cadf_tool.specs.Sketch.{IsSketchInput}
 use Rattle.cadf_tool.specs.SketchInput.{sketch_kind, sketch_spec}
 use Rattle.cadf_tool.specs.Run.{SourceTransition, numbered, IsReadAs, IsUnread}
-use Rattle.cadf_tool.proofs.KindReading.{ReadsKind, IsDecidedFirst, kind_read, kind_unread}
+use Rattle.cadf_tool.proofs.KindReading.{IsDecidedFirst, kind_read, kind_unread}
 
 decided_first : IsDecidedFirst sketch_kind
 decided_first limit failed bytes f d = ap sketch_model_or_fault (refused_verdict sketch_grammar limit failed bytes f d)

@@ -38,7 +38,7 @@ abbrev pub status_of : ToolFault → ℕ
 status_of (Input n f) = 1
 status_of NoLog = 1
 status_of (OtherLog n) = 1
-status_of (TooFewCells cells) = 1
+status_of (TooFewCells n cells) = 1
 status_of (Script line) = 1
 status_of (Rehearse f) = 1
 status_of NoValue = 1

@@ -2,8 +2,9 @@
 --     inventory_model_of loaded   the log of an input, and the digests of its atoms; or why there are none
 --     missing_by_of from noted    the delta: the atoms of FROM whose digest the inventory lacks, under their log, or why there is none
 --     part_by both                the same of a pair, FROM first
+--     part_by_union both          the same of a list of inputs, which is joined, and an inventory
 --     IsInventoryInput limit b n  the bytes are the file of this inventory, within the limit
-use Rattle.std.specs.Prelude.{◌≡◌, ◌≤◌, ℕ, List, length, Option, Some, None, Result, Ok, Err}
+use Rattle.std.specs.Prelude.{◌≡◌, ◌≤◌, ◌+◌, ℕ, List, length, Option, Some, None, Result, Ok, Err}
 use Rattle.cadf_join.specs.Contents.{Text}
 use Rattle.cadf_line.specs.Digest.{atom_digest}
 use Rattle.cadf_set.specs.Inventory.{InventoryModel}
@@ -11,10 +12,12 @@ use Rattle.cadf_line.specs.Missing.{Digests, digests_of, missing_by}
 use Rattle.cadf_set.specs.Replica.{ReplicaModel}
 use Rattle.cadf_inventory.specs.InventoryFile.{inventory_file, IsInventory}
 use Rattle.cadf_tool.specs.declared.input.Loaded.{Loaded}
+use Rattle.cadf_tool.specs.declared.input.Loaded.TheVariants.{Replica}
 use Rattle.cadf_tool.specs.declared.fault.ToolFault.{ToolFault}
 use Rattle.cadf_tool.specs.declared.fault.ToolFault.TheVariants.{NoLog}
 use Rattle.cadf_tool.specs.Told.{log_named, atoms_loaded}
-use Rattle.cadf_tool.specs.Missing.{under_one_log}
+use Rattle.cadf_tool.specs.Join.{join_of, on_ok}
+use Rattle.cadf_tool.specs.Missing.{under_one_log_at}
 
 -- the digests under the log, if one is named
 abbrev pub inventory_model_under : Option Text → Digests → Result InventoryModel ToolFault
@@ -26,11 +29,18 @@ abbrev pub inventory_model_of : Loaded → Result InventoryModel ToolFault
 inventory_model_of loaded = inventory_model_under (log_named loaded) (digests_of atom_digest (atoms_loaded loaded))
 
 -- THE DELTA AGAINST AN INVENTORY: the least grounded set that contains the atoms of FROM whose digest the inventory lacks
+abbrev pub missing_by_at : ℕ → Loaded → InventoryModel → Result ReplicaModel ToolFault
+missing_by_at number from noted = under_one_log_at number (log_named from) (Some noted.log) (missing_by atom_digest (atoms_loaded from) noted.digests)
+
 abbrev pub missing_by_of : Loaded → InventoryModel → Result ReplicaModel ToolFault
-missing_by_of from noted = under_one_log (log_named from) (Some noted.log) (missing_by atom_digest (atoms_loaded from) noted.digests)
+missing_by_of from noted = missing_by_at 2 from noted
 
 abbrev pub part_by : Loaded × InventoryModel → Result ReplicaModel ToolFault
 part_by both = missing_by_of both.0 both.1
+
+-- the inventory is numbered after the inputs
+abbrev pub part_by_union : List Loaded × InventoryModel → Result ReplicaModel ToolFault
+part_by_union both = on_ok (join_of None both.0) (λ h. missing_by_at (length both.0 + 1) (Replica h) both.1)
 
 -- the bytes are the file of this inventory, within the limit
 pub record IsInventoryInput (limit : ℕ) (bytes : List ℕ) (noted : InventoryModel) : Type 0 where

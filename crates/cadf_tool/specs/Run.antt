@@ -1,5 +1,5 @@
 -- THE RUN of an engine: it reads its sources one after another, computes one result from them, and writes the text of the result.
---     one, two, all                             the outcome of reading one source, two sources, or a list of them
+--     one, two, all, both                       the outcome of reading one source, two sources, a list of them, or two lists
 --     IsExpectedBy sources work expected        the expected result: one that the work allows for the sources, or the first fault
 --     IsWritten sink old new text r             all of the text was written, or a prefix of it
 --     IsRunBy sources work tell sink old new r  the run has the result r
@@ -60,6 +60,8 @@ pub record Sources (A : Type 0) : Type 1 where
   pub are : A → Type 0
   -- the source of that number is refused for that fault; those before it were read, and those after it were not
   pub refused : ℕ → LoadFault → Type 0
+  -- none was read
+  pub unread : Type 0
   -- no read of any source failed
   pub unfailed : Type 0
   -- the number of reads of each source is at most its limit and 2
@@ -70,6 +72,7 @@ abbrev pub numbered : {T : Type 0} → ℕ → InputSpec T → SourceTransition 
 numbered number reader t = record {
   are = IsReadAs reader t;
   refused = λ n f. (n ≡ number) × reader.refuses t.old t.new f;
+  unread = t.new ≡ t.old;
   unfailed = IsUnfailed t;
   bounded = IsReadWithin reader.limit t;
 }
@@ -77,16 +80,18 @@ numbered number reader t = record {
 abbrev pub one : {T : Type 0} → InputSpec T → SourceTransition → Sources T
 one reader t = numbered 1 reader t
 
--- the second is read if the first was accepted
-abbrev pub two : {T U : Type 0} → InputSpec T → SourceTransition → InputSpec U → SourceTransition → Sources (T × U)
-two {T} reader t other u = record {
-  are = λ both. IsReadAs reader t both.0 × IsReadAs other u both.1;
-  refused = λ n f.
-      ((n ≡ 1) × reader.refuses t.old t.new f × (u.new ≡ u.old))
-      ⊎ ((n ≡ 2) × ((value : T) × IsReadAs reader t value) × other.refuses u.old u.new f);
-  unfailed = IsUnfailed t × IsUnfailed u;
-  bounded = IsReadWithin reader.limit t × IsReadWithin other.limit u;
+-- those of the second are read if those of the first were accepted
+abbrev pub both : {A B : Type 0} → Sources A → Sources B → Sources (A × B)
+both {A} first second = record {
+  are = λ pair. first.are pair.0 × second.are pair.1;
+  refused = λ n f. (first.refused n f × second.unread) ⊎ (((a : A) × first.are a) × second.refused n f);
+  unread = first.unread × second.unread;
+  unfailed = first.unfailed × second.unfailed;
+  bounded = first.bounded × second.bounded;
 }
+
+abbrev pub two : {T U : Type 0} → InputSpec T → SourceTransition → InputSpec U → SourceTransition → Sources (T × U)
+two reader t other u = both (one reader t) (numbered 2 other u)
 
 -- ---- inputs in a list
 
@@ -105,20 +110,24 @@ IsRefusedFirst [] ns f = ⊥
 IsRefusedFirst (o ∷ os) [] f = ⊥
 IsRefusedFirst (o ∷ os) (n ∷ ns) f = IsRefusedAs o n f × (ns ≡ os)
 
--- the source of that number was refused, after those before it were read. Sources are counted from 1
-pub record IsRefusedAt (old new : List SourceState) (number : ℕ) (f : LoadFault) : Type 0 where
+-- the source of that number was refused, after those before it in the list were read. The first of the list has the number `first`
+pub record IsRefusedAt (first : ℕ) (old new : List SourceState) (number : ℕ) (f : LoadFault) : Type 0 where
   pub before : List Loaded
-  pub counted : number ≡ length before + 1
+  pub counted : number ≡ first + length before
   pub loaded : AreLoaded (take (length before) old) (take (length before) new) before
   pub refused : IsRefusedFirst (drop (length before) old) (drop (length before) new) f
 
-abbrev pub all : {S : Type 0} → Source S → List S → List S → Sources (List Loaded)
-all source old new = record {
+abbrev pub all_from : {S : Type 0} → ℕ → Source S → List S → List S → Sources (List Loaded)
+all_from first source old new = record {
   are = AreLoaded (map (source_state source) old) (map (source_state source) new);
-  refused = IsRefusedAt (map (source_state source) old) (map (source_state source) new);
+  refused = IsRefusedAt first (map (source_state source) old) (map (source_state source) new);
+  unread = map (source_state source) new ≡ map (source_state source) old;
   unfailed = NoneFailed (map (source_state source) old) (map (source_state source) new);
   bounded = AreReadWithin (map source.reads old) (map source.reads new);
 }
+
+abbrev pub all : {S : Type 0} → Source S → List S → List S → Sources (List Loaded)
+all source old new = all_from 1 source old new
 
 -- ---- the expected result
 
@@ -185,6 +194,13 @@ pub record IsWritten {W T : Type 0} (sink : Sink W) (old new : W) (text : Text)
 abbrev pub IsAnswer : {W M T : Type 0} → (M → Text) → Sink W → W → W → Result M ToolFault → Result T ToolFault → Type 0
 IsAnswer tell sink old new (Ok made) result = IsWritten sink old new (tell made) result
 IsAnswer tell sink old new (Err fault) result = (result ≡ Err fault) × (new ≡ old)
+
+-- the work was done, and its result was told
+pub record IsToldBy {M W T : Type 0} (allowed : Result M ToolFault → Type 0) (tell : M → Text) (sink : Sink W) (old new : W)
+    (result : Result T ToolFault) : Type 0 where
+  pub made : Result M ToolFault
+  pub worked : IsWorkedBy allowed made
+  pub answer : IsAnswer tell sink old new made result
 
 pub record IsRunBy {A M W T : Type 0} (sources : Sources A) (work : A → Result M ToolFault → Type 0) (tell : M → Text)
     (sink : Sink W) (old new : W) (result : Result T ToolFault) : Type 0 where

@@ -2,8 +2,9 @@
 --     AreAsked cells salt                 a sketch can have this number of cells and this salt, as far as they are given
 --     sketch_model_of cells salt loaded   the sketch of an input's inventory, or why there is none
 --     IsPartBySketch both answer          a result for an input and a sketch; a relation, since it leaves open which digests peeling finds
+--     IsPartOfUnionBySketch both answer   the same of a list of inputs, which is joined, and a sketch
 --     IsSketchInput limit b s             the bytes are the file of this sketch, within the limit
-use Rattle.std.specs.Prelude.{◌≡◌, ◌<◌, ◌≤◌, ◌^◌, ℕ, true, List, length, Option, IfSome, unwrap_or, Result, Ok, Err}
+use Rattle.std.specs.Prelude.{◌≡◌, ◌<◌, ◌≤◌, ◌+◌, ◌^◌, ℕ, true, List, length, Option, None, IfSome, unwrap_or, Result, Ok, Err}
 use Rattle.cadf_set.specs.Inventory.{InventoryModel}
 use Rattle.cadf_set.specs.Replica.{ReplicaModel}
 use Rattle.cadf_sketch.specs.Answers.{inventory_of, IsAnswer}
@@ -16,6 +17,7 @@ use Rattle.cadf_sketch.specs.declared.reading.ReadFault.TheVariants as read
 use Rattle.cadf_tool.specs.declared.input.Loaded.{Loaded}
 use Rattle.cadf_tool.specs.declared.fault.ToolFault.{ToolFault}
 use Rattle.cadf_tool.specs.declared.fault.ToolFault.TheVariants.{OtherLog, TooFewCells, Memory}
+use Rattle.cadf_tool.specs.Join.{join_of}
 use Rattle.cadf_tool.specs.MissingBy.{inventory_model_of}
 use Rattle.cadf_tool.specs.Told.{replica_model_of}
 
@@ -32,23 +34,27 @@ sketch_of_result cells salt (Err fault) = Err fault
 abbrev pub sketch_model_of : Option ℕ → Option ℕ → Loaded → Result SketchModel ToolFault
 sketch_model_of cells salt loaded = sketch_of_result cells salt (inventory_model_of loaded)
 
--- the sketch is the second input
-abbrev pub of_read : ReadFault → ToolFault
-of_read read.OtherLog = OtherLog 2
-of_read (read.TooFewCells cells) = TooFewCells cells
-of_read read.Memory = Memory
+-- the sketch is the input of that number
+abbrev pub of_read : ℕ → ReadFault → ToolFault
+of_read number read.OtherLog = OtherLog number
+of_read number (read.TooFewCells cells) = TooFewCells number cells
+of_read number read.Memory = Memory
 
-abbrev pub IsAnswerTo : SketchModel → ReplicaModel → Result ReplicaModel ToolFault → Type 0
-IsAnswerTo sketch held (Ok part) = IsAnswer held sketch part
-IsAnswerTo sketch held (Err fault) = (f : ReadFault) × (fault ≡ of_read f) × IsReadFault (inventory_of held) sketch f
+abbrev pub IsAnswerTo : ℕ → SketchModel → ReplicaModel → Result ReplicaModel ToolFault → Type 0
+IsAnswerTo number sketch held (Ok part) = IsAnswer held sketch part
+IsAnswerTo number sketch held (Err fault) = (f : ReadFault) × (fault ≡ of_read number f) × IsReadFault (inventory_of held) sketch f
 
-abbrev pub IsAnswerOfResult : SketchModel → Result ReplicaModel ToolFault → Result ReplicaModel ToolFault → Type 0
-IsAnswerOfResult sketch (Ok held) answer = IsAnswerTo sketch held answer
-IsAnswerOfResult sketch (Err fault) answer = answer ≡ Err fault
+abbrev pub IsAnswerOfResult : ℕ → SketchModel → Result ReplicaModel ToolFault → Result ReplicaModel ToolFault → Type 0
+IsAnswerOfResult number sketch (Ok held) answer = IsAnswerTo number sketch held answer
+IsAnswerOfResult number sketch (Err fault) answer = answer ≡ Err fault
 
 -- THE DELTA AGAINST A SKETCH: the one against an inventory that has the sketch's digest
 abbrev pub IsPartBySketch : Loaded × SketchModel → Result ReplicaModel ToolFault → Type 0
-IsPartBySketch both answer = IsAnswerOfResult both.1 (replica_model_of both.0) answer
+IsPartBySketch both answer = IsAnswerOfResult 2 both.1 (replica_model_of both.0) answer
+
+-- the sketch is numbered after the inputs
+abbrev pub IsPartOfUnionBySketch : List Loaded × SketchModel → Result ReplicaModel ToolFault → Type 0
+IsPartOfUnionBySketch both answer = IsAnswerOfResult (length both.0 + 1) both.1 (join_of None both.0) answer
 
 -- the bytes are the file of this sketch, within the limit
 pub record IsSketchInput (limit : ℕ) (bytes : List ℕ) (sketch : SketchModel) : Type 0 where

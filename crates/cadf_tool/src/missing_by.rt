@@ -1,43 +1,47 @@
-//! What an input has beyond an inventory, as a replica file.
+//! The engine of `missing-by`: what a union of inputs has beyond an inventory, as a replica file.
+ghost use Rattle.std.specs.Prelude.{◌≡◌, ◌+◌, ◌<◌, ◌^◌, length, List, None};
 ghost use Rattle.cadf_tool.specs.WrittenFile.{file};
+ghost use Rattle.cadf_tool.specs.declared.input.Loaded.{Loaded};
 ghost use Rattle.cadf_tool.specs.declared.input.Loaded.TheVariants as loaded;
 ghost use Rattle.cadf_tool.specs.InventoryInput.{inventory_spec};
-ghost use Rattle.cadf_tool.specs.MissingBy.{missing_by_of, part_by};
-ghost use Rattle.cadf_tool.specs.Run.{two, transition_of, input_spec, IsExpected, IsWorked, IsRun};
+ghost use Rattle.cadf_tool.specs.JoinState.{IsJoinState};
+ghost use Rattle.cadf_tool.specs.MissingBy.{missing_by_at, part_by, part_by_union};
+ghost use Rattle.cadf_tool.specs.Run.{all, both, numbered, two, transition_of, input_spec, IsExpected, IsWorked, IsRun};
 
 use crate::fault::ToolFault;
-use crate::input::Loaded;
-use crate::inputs::{load_inventory, load_one};
-use crate::join::write_file;
-use crate::told::replica_of;
+use crate::inputs::load_inventory;
+use crate::join::{next, union_with, write_file};
+use crate::join_state::JoinState;
 use cadf_json::{Sink, Source};
 use cadf_set::{Inventory, Replica, ReplicaFault};
 use std::alloc::Global;
 
-/// Returns the delta of the replica for the inventory. `OtherLog` if they are of different logs, `Memory` if an
-/// allocation fails.
-fn beyond(from: &Replica, inventory: &Inventory) -> Result<Replica, ToolFault>
-    ensures { IsWorked (missing_by_of (loaded.Replica from.now) inventory.now) result }
+/// Returns the delta of the replica for the inventory, which is input `number`. `OtherLog` if they are of different
+/// logs, `Memory` if an allocation fails.
+fn beyond(number: usize, from: &Replica, inventory: &Inventory) -> Result<Replica, ToolFault>
+    ensures { IsWorked (missing_by_at number (loaded.Replica from.now) inventory.now) result }
 {
     match from.missing_by(inventory) {
         Ok(part) => Ok(part),
-        Err(ReplicaFault::OtherLog) => Err(ToolFault::OtherLog(2)),
+        Err(ReplicaFault::OtherLog) => Err(ToolFault::OtherLog(number)),
         Err(ReplicaFault::Ungrounded) => unreachable!(),
         Err(ReplicaFault::Memory) => Err(ToolFault::Memory),
     }
 }
 
-/// Returns the delta of a loaded input for the inventory. `Err`: the input names no log, they are of different logs, or
-/// an allocation failed.
-fn part(alloc: Global, from: Loaded, inventory: &Inventory) -> Result<Replica, ToolFault>
-    ensures { IsWorked (missing_by_of from inventory.now) result }
+/// Returns the delta of the union for the inventory, which is input `number`. `NoLog`: no input of the union names a
+/// log. `OtherLog`: an input or the inventory is of another log.
+fn part(number: usize, from: JoinState, inventory: &Inventory) -> Result<Replica, ToolFault>
+    ensures { (froms : List Loaded) → number ≡ length froms + 1 → IsJoinState 1 None froms from
+        → IsWorked (part_by_union (froms, inventory.now)) result }
 {
-    let from = replica_of(alloc, from)?;
-    beyond(&from, inventory)
+    match from.end() {
+        Ok(from) => beyond(number, &from, inventory),
+        Err(fault) => Err(fault),
+    }
 }
 
-/// Loads both inputs, the second as an inventory file, and returns the delta of the first for the second. `Err`: an
-/// input is refused, the first names no log, they are of different logs, a read failed, or an allocation.
+/// Loads both inputs, the second as an inventory file, and returns the delta of the first for the second.
 fn missing_by<R: Source>(
     alloc: Global,
     from: &mut R,
@@ -46,9 +50,25 @@ fn missing_by<R: Source>(
     ensures { IsExpected (two input_spec (transition_of R.Source from.old from.new) inventory_spec (transition_of R.Source inventory.old inventory.new))
         part_by result }
 {
-    let first = load_one(alloc, 1, from, None)?;
-    let second = load_inventory(alloc, 2, inventory)?;
-    part(alloc, first, &second)
+    let first = next(alloc, JoinState::new(alloc, None), 1, from, None)?;
+    let noted = load_inventory(alloc, 2, inventory)?;
+    part(2, first, &noted)
+}
+
+/// Loads all inputs, the last as an inventory file, and returns the delta of the union of the others for it.
+fn missing_by_union<R: Source>(
+    alloc: Global,
+    from: &mut [R],
+    inventory: &mut R,
+) -> Result<Replica, ToolFault>
+    requires { length from.old + 1 < 2 ^ 64 }
+    ensures { IsExpected (both (all R.Source from.old from.new)
+        (numbered (length from.old + 1) inventory_spec (transition_of R.Source inventory.old inventory.new))) part_by_union result }
+{
+    let number = from.len() + 1;
+    let union = union_with(alloc, JoinState::new(alloc, None), 1, from, None)?;
+    let noted = load_inventory(alloc, number, inventory)?;
+    part(number, union, &noted)
 }
 
 /// Writes the replica file of the delta of `from` against `inventory`: the least replica that has each atom whose
@@ -64,5 +84,22 @@ pub fn run_missing_by<R: Source, W: Sink>(
         part_by file W.Sink output.old output.new result }
 {
     let part = missing_by(alloc, from, inventory)?;
+    write_file(alloc, &part, output)
+}
+
+/// Writes the replica file of the delta of the union of all `from` against `inventory`, which is counted last. `Err`:
+/// why nothing was written, or only a prefix.
+pub fn run_missing_by_union<R: Source, W: Sink>(
+    alloc: Global,
+    from: &mut [R],
+    inventory: &mut R,
+    output: &mut W,
+) -> Result<(), ToolFault>
+    requires { length from.old + 1 < 2 ^ 64 }
+    ensures { IsRun (both (all R.Source from.old from.new)
+        (numbered (length from.old + 1) inventory_spec (transition_of R.Source inventory.old inventory.new)))
+        part_by_union file W.Sink output.old output.new result }
+{
+    let part = missing_by_union(alloc, from, inventory)?;
     write_file(alloc, &part, output)
 }

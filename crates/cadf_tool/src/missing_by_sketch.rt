@@ -1,51 +1,80 @@
-//! The engine of `missing-by-sketch`: the delta of an input against a sketch, as a replica file.
+//! The engine of `missing-by-sketch`: the delta of a union of inputs against a sketch, as a replica file.
+ghost use Rattle.std.specs.Prelude.{◌≡◌, ◌+◌, ◌<◌, ◌^◌, length, List, None};
 ghost use Rattle.cadf_tool.specs.WrittenFile.{file};
-ghost use Rattle.cadf_tool.specs.Sketch.{IsAnswerTo, IsPartBySketch};
+ghost use Rattle.cadf_tool.specs.declared.input.Loaded.{Loaded};
+ghost use Rattle.cadf_tool.specs.JoinState.{IsJoinState};
+ghost use Rattle.cadf_tool.specs.Sketch.{IsAnswerTo, IsPartBySketch, IsPartOfUnionBySketch};
 ghost use Rattle.cadf_tool.specs.SketchInput.{sketch_spec};
-ghost use Rattle.cadf_tool.specs.Run.{two, transition_of, input_spec, IsExpectedBy, IsWorkedBy, IsRunBy};
+ghost use Rattle.cadf_tool.specs.Run.{all, both, numbered, two, transition_of, input_spec, IsExpectedBy, IsWorkedBy, IsRunBy};
 
 use crate::fault::ToolFault;
-use crate::input::Loaded;
-use crate::inputs::{load_one, load_sketch};
-use crate::join::write_file;
-use crate::told::replica_of;
+use crate::inputs::load_sketch;
+use crate::join::{next, union_with, write_file};
+use crate::join_state::JoinState;
 use cadf_json::{Sink, Source};
 use cadf_set::Replica;
 use cadf_sketch::{ReadFault, Sketch, missing_by_sketch};
 use std::alloc::Global;
 
-/// Returns the delta of the replica for the sketch. `OtherLog` if they are of different logs, `TooFewCells` if the
-/// sketch has too few cells, `Memory` if an allocation fails.
-fn beyond(alloc: Global, from: &Replica, sketch: &Sketch) -> Result<Replica, ToolFault>
-    ensures { IsWorkedBy (IsAnswerTo sketch.now from.now) result }
+/// Returns the delta of the replica for the sketch, which is input `number`. `OtherLog` if they are of different logs,
+/// `TooFewCells` if the sketch has too few cells, `Memory` if an allocation fails.
+fn beyond(
+    alloc: Global,
+    number: usize,
+    from: &Replica,
+    sketch: &Sketch,
+) -> Result<Replica, ToolFault>
+    ensures { IsWorkedBy (IsAnswerTo number sketch.now from.now) result }
 {
     match missing_by_sketch(alloc, from, sketch) {
         Ok(part) => Ok(part),
-        Err(ReadFault::OtherLog) => Err(ToolFault::OtherLog(2)),
-        Err(ReadFault::TooFewCells(cells)) => Err(ToolFault::TooFewCells(cells)),
+        Err(ReadFault::OtherLog) => Err(ToolFault::OtherLog(number)),
+        Err(ReadFault::TooFewCells(cells)) => Err(ToolFault::TooFewCells(number, cells)),
         Err(ReadFault::Memory) => Err(ToolFault::Memory),
     }
 }
 
-/// Returns the delta of a loaded input for the sketch. `Err`: the input names no log, they are of different logs, the
-/// sketch has too few cells, or an allocation failed.
-fn part(alloc: Global, from: Loaded, sketch: &Sketch) -> Result<Replica, ToolFault>
-    ensures { IsWorkedBy (IsPartBySketch (from, sketch.now)) result }
+/// Returns the delta of the union for the sketch, which is input `number`. `NoLog`: no input of the union names a log.
+/// `OtherLog`: an input or the sketch is of another log. `TooFewCells`: the sketch has too few cells.
+fn part(
+    alloc: Global,
+    number: usize,
+    from: JoinState,
+    sketch: &Sketch,
+) -> Result<Replica, ToolFault>
+    ensures { (froms : List Loaded) → number ≡ length froms + 1 → IsJoinState 1 None froms from
+        → IsWorkedBy (IsPartOfUnionBySketch (froms, sketch.now)) result }
 {
-    let held = replica_of(alloc, from)?;
-    beyond(alloc, &held, sketch)
+    match from.end() {
+        Ok(held) => beyond(alloc, number, &held, sketch),
+        Err(fault) => Err(fault),
+    }
 }
 
-/// Loads both inputs, the second as a sketch file, and returns the delta of the first for the second. `Err`: an input
-/// is refused, the first names no log, they are of different logs, the sketch has too few cells, a read failed, or an
-/// allocation.
+/// Loads both inputs, the second as a sketch file, and returns the delta of the first for the second.
 fn load_part<R: Source>(alloc: Global, from: &mut R, sketch: &mut R) -> Result<Replica, ToolFault>
     ensures { IsExpectedBy (two input_spec (transition_of R.Source from.old from.new) sketch_spec (transition_of R.Source sketch.old sketch.new))
         IsPartBySketch result }
 {
-    let first = load_one(alloc, 1, from, None)?;
-    let second = load_sketch(alloc, 2, sketch)?;
-    part(alloc, first, &second)
+    let first = next(alloc, JoinState::new(alloc, None), 1, from, None)?;
+    let read = load_sketch(alloc, 2, sketch)?;
+    part(alloc, 2, first, &read)
+}
+
+/// Loads all inputs, the last as a sketch file, and returns the delta of the union of the others for it.
+fn load_part_of_union<R: Source>(
+    alloc: Global,
+    from: &mut [R],
+    sketch: &mut R,
+) -> Result<Replica, ToolFault>
+    requires { length from.old + 1 < 2 ^ 64 }
+    ensures { IsExpectedBy (both (all R.Source from.old from.new)
+        (numbered (length from.old + 1) sketch_spec (transition_of R.Source sketch.old sketch.new))) IsPartOfUnionBySketch result }
+{
+    let number = from.len() + 1;
+    let union = union_with(alloc, JoinState::new(alloc, None), 1, from, None)?;
+    let read = load_sketch(alloc, number, sketch)?;
+    part(alloc, number, union, &read)
 }
 
 /// Writes the replica file of the delta of `from` against `sketch`: what `run_missing_by` writes for the inventory that
@@ -61,5 +90,22 @@ pub fn run_missing_by_sketch<R: Source, W: Sink>(
         IsPartBySketch file W.Sink output.old output.new result }
 {
     let part = load_part(alloc, from, sketch)?;
+    write_file(alloc, &part, output)
+}
+
+/// Writes the replica file of the delta of the union of all `from` against `sketch`, which is counted last. `Err`: why
+/// nothing was written, or only a prefix.
+pub fn run_missing_by_sketch_union<R: Source, W: Sink>(
+    alloc: Global,
+    from: &mut [R],
+    sketch: &mut R,
+    output: &mut W,
+) -> Result<(), ToolFault>
+    requires { length from.old + 1 < 2 ^ 64 }
+    ensures { IsRunBy (both (all R.Source from.old from.new)
+        (numbered (length from.old + 1) sketch_spec (transition_of R.Source sketch.old sketch.new)))
+        IsPartOfUnionBySketch file W.Sink output.old output.new result }
+{
+    let part = load_part_of_union(alloc, from, sketch)?;
     write_file(alloc, &part, output)
 }

@@ -1,15 +1,16 @@
-//! The engine of `sketch`: a short sketch of an input's inventory, as a sketch file.
+//! The engine of `sketch`: a short sketch of the inventory of the union of inputs, as a sketch file.
 ghost use Rattle.std.specs.Prelude.{◌≡◌, IfOk, unwrap_or};
 ghost use Rattle.cadf_sketch.specs.Answers.{inventory_of};
 ghost use Rattle.cadf_sketch.specs.Layouts.{default_cells};
 ghost use Rattle.cadf_sketch.specs.SketchFile.{sketch_file};
 ghost use Rattle.cadf_sketch.specs.Sketches.{asked};
-ghost use Rattle.cadf_tool.specs.Sketch.{sketch_model_of};
-ghost use Rattle.cadf_tool.specs.Run.{one, transition_of, input_spec, IsExpected, IsWorked, IsWritten, IsRun};
+ghost use Rattle.cadf_tool.specs.Sketch.{AreAsked, sketch_model_of};
+ghost use Rattle.cadf_tool.specs.Join.{of_union};
+ghost use Rattle.cadf_tool.specs.Run.{one, all, transition_of, input_spec, IsValue, IsWorked, IsWritten, IsToldBy, IsRun};
+ghost use Rattle.cadf_tool.specs.declared.input.Loaded.TheVariants as loaded;
 
-use crate::fault::{ToolFault, answered, refused};
-use crate::input::{Loaded, load};
-use crate::told::replica_of;
+use crate::fault::{ToolFault, answered};
+use crate::join::{join, join_one};
 use cadf_json::{Memory, Sink, Source};
 use cadf_set::Replica;
 use cadf_sketch::{Cells, Salt, Sketch, write_sketch};
@@ -39,35 +40,18 @@ fn sketch_of(
     Sketch::of(alloc, &inventory, cells_or_default(cells), salt)
 }
 
-/// Makes the sketch of a loaded input. `NoLog` if the input names no log, `Memory` if an allocation fails.
+/// Makes the same sketch, as the work of an engine.
 fn sketched(
     alloc: Global,
     cells: Option<Cells>,
     salt: Option<Salt>,
-    loaded: Loaded,
+    replica: &Replica,
 ) -> Result<Sketch, ToolFault>
-    ensures { IsWorked (sketch_model_of cells salt loaded) result }
+    ensures { IsWorked (sketch_model_of cells salt (loaded.Replica replica.now)) result }
 {
-    let replica = replica_of(alloc, loaded)?;
-    match sketch_of(alloc, cells, salt, &replica) {
+    match sketch_of(alloc, cells, salt, replica) {
         Ok(sketch) => Ok(sketch),
         Err(_) => Err(ToolFault::Memory),
-    }
-}
-
-/// Loads the only input of an engine, and makes its sketch. `Err`: it is refused or names no log, a read failed, or an
-/// allocation.
-fn load_sketched<R: Source>(
-    alloc: Global,
-    cells: Option<Cells>,
-    salt: Option<Salt>,
-    input: &mut R,
-) -> Result<Sketch, ToolFault>
-    ensures { IsExpected (one input_spec (transition_of R.Source input.old input.new)) (sketch_model_of cells salt) result }
-{
-    match load(alloc, input) {
-        Ok(loaded) => sketched(alloc, cells, salt, loaded),
-        Err(fault) => Err(refused(1, fault)),
     }
 }
 
@@ -76,6 +60,20 @@ fn write_sketched<W: Sink>(alloc: Global, sketch: &Sketch, output: &mut W) -> Re
     ensures { IsWritten W.Sink output.old output.new (sketch_file sketch.now) result }
 {
     answered(write_sketch(alloc, sketch, output))
+}
+
+/// Makes the sketch of the replica, and writes its file.
+fn write_sketched_of<W: Sink>(
+    alloc: Global,
+    cells: Option<Cells>,
+    salt: Option<Salt>,
+    replica: &Replica,
+    output: &mut W,
+) -> Result<(), ToolFault>
+    ensures { IsToldBy (IsValue (sketch_model_of cells salt) (loaded.Replica replica.now)) sketch_file W.Sink output.old output.new result }
+{
+    let sketch = sketched(alloc, cells, salt, replica)?;
+    write_sketched(alloc, &sketch, output)
 }
 
 /// Writes the sketch file of an input's inventory. The number of cells is `Cells::by_default` if none is given. If no
@@ -88,9 +86,31 @@ pub fn run_sketch<R: Source, W: Sink>(
     input: &mut R,
     output: &mut W,
 ) -> Result<(), ToolFault>
-    ensures { IsRun (one input_spec (transition_of R.Source input.old input.new)) (sketch_model_of cells salt)
+    ensures written { IsRun (one input_spec (transition_of R.Source input.old input.new)) (sketch_model_of cells salt)
         sketch_file W.Sink output.old output.new result }
+    // A number of cells and a salt that are given are such that a sketch can have.
+    ensures asked { AreAsked cells salt }
 {
-    let sketch = load_sketched(alloc, cells, salt, input)?;
-    write_sketched(alloc, &sketch, output)
+    match join_one(alloc, input) {
+        Ok(replica) => write_sketched_of(alloc, cells, salt, &replica, output),
+        Err(fault) => Err(fault),
+    }
+}
+
+/// Writes the sketch file of the union of all inputs. `Err`: why nothing was written, or only a prefix.
+pub fn run_sketch_union<R: Source, W: Sink>(
+    alloc: Global,
+    cells: Option<Cells>,
+    salt: Option<Salt>,
+    inputs: &mut [R],
+    output: &mut W,
+) -> Result<(), ToolFault>
+    ensures written { IsRun (all R.Source inputs.old inputs.new) (of_union (sketch_model_of cells salt))
+        sketch_file W.Sink output.old output.new result }
+    ensures asked { AreAsked cells salt }
+{
+    match join(alloc, None, inputs) {
+        Ok(replica) => write_sketched_of(alloc, cells, salt, &replica, output),
+        Err(fault) => Err(fault),
+    }
 }

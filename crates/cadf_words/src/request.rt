@@ -17,30 +17,30 @@ pub enum Request<'a> {
         files: Vec<&'a str>,
     },
     Missing {
-        from: &'a str,
-        to: &'a str,
+        from: Vec<&'a str>,
+        to: Vec<&'a str>,
     },
     MissingBy {
-        from: &'a str,
+        from: Vec<&'a str>,
         inventory: &'a str,
     },
     Inventory {
-        file: &'a str,
+        files: Vec<&'a str>,
     },
     Sketch {
         cells: Option<&'a str>,
         salt: Option<&'a str>,
-        file: &'a str,
+        files: Vec<&'a str>,
     },
     MissingBySketch {
-        from: &'a str,
+        from: Vec<&'a str>,
         sketch: &'a str,
     },
     Rule {
         letter: &'a str,
         key: &'a str,
         place: &'a str,
-        file: &'a str,
+        files: Vec<&'a str>,
     },
     Rehearse {
         log: &'a str,
@@ -49,10 +49,10 @@ pub enum Request<'a> {
     },
     Show {
         conflicts: bool,
-        file: &'a str,
+        files: Vec<&'a str>,
     },
     Check {
-        file: &'a str,
+        files: Vec<&'a str>,
     },
 }
 
@@ -66,28 +66,45 @@ fn files<'a>(alloc: Global, matches: &ArgMatches<'a>) -> Result<Vec<&'a str>, Al
     Vec::from_slice(alloc, matches.get_strs("FILE").unwrap_or_default())
 }
 
+/// Returns the word of the name `first`, then the words of the option `more`. `Err` if an allocation fails.
+fn first_and_more<'a>(
+    alloc: Global,
+    matches: &ArgMatches<'a>,
+    first: &str,
+    more: &str,
+) -> Result<Vec<&'a str>, AllocError> {
+    let mut files = Vec::new(alloc);
+    files.push(word(matches, first))?;
+    files.extend_from_slice(matches.get_strs(more).unwrap_or_default())?;
+    Ok(files)
+}
+
 /// Makes the request of a command that writes a delta, or what a receiver sends to ask for one. `Unnamed` for any other
-/// name.
-fn exchange_of<'a>(name: &str, matches: &ArgMatches<'a>) -> Result<Request<'a>, Reply> {
+/// name, `Memory` if an allocation fails.
+fn exchange_of<'a>(
+    alloc: Global,
+    name: &str,
+    matches: &ArgMatches<'a>,
+) -> Result<Request<'a>, Reply> {
     Ok(match name {
         "missing" => Request::Missing {
-            from: word(matches, "FROM"),
-            to: word(matches, "TO"),
+            from: first_and_more(alloc, matches, "FROM", "from")?,
+            to: first_and_more(alloc, matches, "TO", "to")?,
         },
         "missing-by" => Request::MissingBy {
-            from: word(matches, "FROM"),
+            from: first_and_more(alloc, matches, "FROM", "from")?,
             inventory: word(matches, "INVENTORY"),
         },
         "inventory" => Request::Inventory {
-            file: word(matches, "FILE"),
+            files: files(alloc, matches)?,
         },
         "sketch" => Request::Sketch {
             cells: matches.get_str("cells"),
             salt: matches.get_str("salt"),
-            file: word(matches, "FILE"),
+            files: files(alloc, matches)?,
         },
         "missing-by-sketch" => Request::MissingBySketch {
-            from: word(matches, "FROM"),
+            from: first_and_more(alloc, matches, "FROM", "from")?,
             sketch: word(matches, "SKETCH"),
         },
         _ => return Err(Reply::Unnamed),
@@ -114,7 +131,7 @@ fn request_of<'a>(
             letter: word(matches, "LETTER"),
             key: word(matches, "KEY"),
             place: word(matches, "PLACE"),
-            file: word(matches, "FILE"),
+            files: files(alloc, matches)?,
         },
         "rehearse" => Request::Rehearse {
             log: word(matches, "LOG"),
@@ -123,12 +140,12 @@ fn request_of<'a>(
         },
         "show" => Request::Show {
             conflicts: matches.get_flag("conflicts"),
-            file: word(matches, "FILE"),
+            files: files(alloc, matches)?,
         },
         "check" => Request::Check {
-            file: word(matches, "FILE"),
+            files: files(alloc, matches)?,
         },
-        _ => return exchange_of(name, matches),
+        _ => return exchange_of(alloc, name, matches),
     })
 }
 

@@ -14,6 +14,8 @@ enum Kind {
     Text,
     /// `--NAME` and a text of that name, which may be empty.
     Option(&'static str),
+    /// `--NAME` and a file, any number of times.
+    More,
     /// `--NAME` and a unit of time, which has to be given.
     Unit,
     /// `--NAME` alone.
@@ -35,10 +37,10 @@ const COMMANDS: [(&str, &str); 11] = [
         "missing-by",
         "Writes the replica file of what FROM has beyond INVENTORY",
     ),
-    ("inventory", "Writes the digests of all that a file tells"),
+    ("inventory", "Writes the digests of all that the files tell"),
     (
         "sketch",
-        "Writes a short sketch of the digests of all that a file tells",
+        "Writes a short sketch of the digests of all that the files tell",
     ),
     (
         "missing-by-sketch",
@@ -52,15 +54,15 @@ const COMMANDS: [(&str, &str); 11] = [
         "rehearse",
         "Plays a schedule, and tells what it leaves at each site",
     ),
-    ("show", "Prints what a file tells, as a log"),
+    ("show", "Prints what the files tell, as a log"),
     (
         "check",
-        "Reads a file whole, and counts its atoms and its conflicts",
+        "Reads files whole, and counts their atoms and their conflicts",
     ),
 ];
 
 /// Each word of a command, in their order: the command, the word's name, how it is given, and its help.
-const WORDS: [(&str, &str, Kind, &str); 25] = [
+const WORDS: [(&str, &str, Kind, &str); 29] = [
     (
         "join",
         "log",
@@ -83,6 +85,18 @@ const WORDS: [(&str, &str, Kind, &str); 25] = [
         Kind::File,
         "The receiver's file, as it is or was",
     ),
+    (
+        "missing",
+        "from",
+        Kind::More,
+        "A further file of the sender's",
+    ),
+    (
+        "missing",
+        "to",
+        Kind::More,
+        "A further file of the receiver's",
+    ),
     ("missing-by", "FROM", Kind::File, "The sender's file"),
     (
         "missing-by",
@@ -90,7 +104,18 @@ const WORDS: [(&str, &str, Kind, &str); 25] = [
         Kind::File,
         "The receiver's inventory, as it is or was",
     ),
-    ("inventory", "FILE", Kind::File, "A replica file or a log"),
+    (
+        "missing-by",
+        "from",
+        Kind::More,
+        "A further file of the sender's",
+    ),
+    (
+        "inventory",
+        "FILE",
+        Kind::Files,
+        "Replica files, logs or events",
+    ),
     (
         "sketch",
         "cells",
@@ -103,13 +128,24 @@ const WORDS: [(&str, &str, Kind, &str); 25] = [
         Kind::Option("A"),
         "An odd number below 2^64, else one that follows from the digests",
     ),
-    ("sketch", "FILE", Kind::File, "A replica file or a log"),
+    (
+        "sketch",
+        "FILE",
+        Kind::Files,
+        "Replica files, logs or events",
+    ),
     ("missing-by-sketch", "FROM", Kind::File, "The sender's file"),
     (
         "missing-by-sketch",
         "SKETCH",
         Kind::File,
         "The receiver's sketch, as it is or was",
+    ),
+    (
+        "missing-by-sketch",
+        "from",
+        Kind::More,
+        "A further file of the sender's",
     ),
     (
         "rule",
@@ -129,7 +165,7 @@ const WORDS: [(&str, &str, Kind, &str); 25] = [
         Kind::Text,
         "Which of them is to be shown, from 1 in their order",
     ),
-    ("rule", "FILE", Kind::File, "A replica file or a log"),
+    ("rule", "FILE", Kind::Files, "Replica files, logs or events"),
     (
         "rehearse",
         "LOG",
@@ -154,8 +190,13 @@ const WORDS: [(&str, &str, Kind, &str); 25] = [
         Kind::Flag,
         "Print the keys with several values instead",
     ),
-    ("show", "FILE", Kind::File, "A replica file or a log"),
-    ("check", "FILE", Kind::File, "A replica file or a log"),
+    ("show", "FILE", Kind::Files, "Replica files, logs or events"),
+    (
+        "check",
+        "FILE",
+        Kind::Files,
+        "Replica files, logs or events",
+    ),
 ];
 
 /// The units of time.
@@ -172,6 +213,10 @@ fn argument<'a>(alloc: Global, name: &'a str, kind: Kind, help: &'a str) -> Arg<
             .long(name)
             .value_name(value)
             .value_parser(ValueParser::string()),
+        Kind::More => argument
+            .long(name)
+            .value_name("FILE")
+            .action(ArgAction::Append),
         Kind::Unit => argument
             .long(name)
             .value_name("UNIT")

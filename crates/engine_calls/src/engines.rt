@@ -5,9 +5,10 @@ use crate::words::Words;
 use cadf_event::Name;
 use cadf_json::{MemorySink, MemorySource};
 use cadf_tool::{
-    Cells, CountingSink, Salt, ToolFault, Unit, run_check, run_inventory, run_join, run_missing,
-    run_missing_by, run_missing_by_sketch, run_rehearse, run_rule, run_show, run_sketch, run_split,
-    status,
+    Cells, CountingSink, Salt, ToolFault, Unit, run_check, run_check_union, run_inventory,
+    run_inventory_union, run_join, run_missing, run_missing_by, run_missing_by_sketch,
+    run_missing_by_sketch_union, run_missing_by_union, run_missing_unions, run_rehearse, run_rule,
+    run_rule_union, run_show, run_show_union, run_sketch, run_sketch_union, run_split, status,
 };
 use calls::{push, push_number, refused};
 use std::alloc::{AllocError as Memory, Global};
@@ -18,19 +19,23 @@ type Ran = Option<Result<(), ToolFault>>;
 /// What an engine writes to. Its bytes are counted, as the command counts them.
 type Output = CountingSink<MemorySink>;
 
-/// Makes the sources of the readers from that word on.
-fn sources<'a>(alloc: Global, words: Words<'a>, first: usize) -> Option<Vec<MemorySource<'a>>> {
-    let mut inputs: Vec<MemorySource<'a>> = Vec::new(alloc);
+/// Makes the readers of the words from that place on.
+fn sources<'w>(
+    alloc: Global,
+    words: Words<'w>,
+    first: usize,
+) -> Result<Vec<MemorySource<'w>>, Memory> {
+    let mut inputs = Vec::new(alloc);
     for place in (first..words.count()).step_by(3) {
-        inputs.push(words.source(place)).ok()?;
+        inputs.push(words.source(place))?;
     }
-    Some(inputs)
+    Ok(inputs)
 }
 
 /// Runs `run_join`. Its words are a log, empty for none, and readers.
 fn join(alloc: Global, words: Words<'_>, sink: &mut Output) -> Ran {
     let log = Name::read(alloc, words.text(4)).ok();
-    let mut inputs = sources(alloc, words, 5)?;
+    let mut inputs = sources(alloc, words, 5).ok()?;
     Some(run_join(alloc, log, inputs.as_mut_slice(), sink))
 }
 
@@ -43,7 +48,7 @@ fn split(alloc: Global, words: Words<'_>, sink: &mut Output) -> Ran {
         _ => return None,
     };
     let log = Name::read(alloc, words.text(5)).ok();
-    let mut inputs = sources(alloc, words, 6)?;
+    let mut inputs = sources(alloc, words, 6).ok()?;
     Some(run_split(alloc, unit, log, inputs.as_mut_slice(), sink))
 }
 
@@ -94,6 +99,93 @@ fn show(alloc: Global, words: Words<'_>, sink: &mut Output) -> Ran {
     Some(run_show(alloc, conflicts, &mut words.source(5), sink))
 }
 
+/// Runs `run_missing_unions`. Its words are the number of readers of FROM, those, and the readers of TO.
+fn missing_unions(alloc: Global, words: Words<'_>, sink: &mut Output) -> Ran {
+    let mut from = sources(alloc, words, 5).ok()?;
+    let mut to = Vec::new(alloc);
+    while from.len() > words.number(4) {
+        to.insert(0, from.pop()?).ok()?;
+    }
+    Some(run_missing_unions(
+        alloc,
+        from.as_mut_slice(),
+        to.as_mut_slice(),
+        sink,
+    ))
+}
+
+/// Runs `run_missing_by_union`. Its words are readers, the inventory's last.
+fn missing_by_union(alloc: Global, words: Words<'_>, sink: &mut Output) -> Ran {
+    let mut from = sources(alloc, words, 4).ok()?;
+    let mut inventory = from.pop()?;
+    Some(run_missing_by_union(alloc, from.as_mut_slice(), &mut inventory, sink))
+}
+
+/// Runs `run_missing_by_sketch_union`. Its words are readers, the sketch's last.
+fn missing_by_sketch_union(alloc: Global, words: Words<'_>, sink: &mut Output) -> Ran {
+    let mut from = sources(alloc, words, 4).ok()?;
+    let mut sketch = from.pop()?;
+    Some(run_missing_by_sketch_union(alloc, from.as_mut_slice(), &mut sketch, sink))
+}
+
+/// Runs `run_inventory_union`. Its words are readers.
+fn inventory_union(alloc: Global, words: Words<'_>, sink: &mut Output) -> Ran {
+    let mut inputs = sources(alloc, words, 4).ok()?;
+    Some(run_inventory_union(alloc, inputs.as_mut_slice(), sink))
+}
+
+/// Runs `run_check_union`. Its words are readers.
+fn check_union(alloc: Global, words: Words<'_>, sink: &mut Output) -> Ran {
+    let mut inputs = sources(alloc, words, 4).ok()?;
+    Some(run_check_union(alloc, inputs.as_mut_slice(), sink))
+}
+
+/// Runs `run_sketch_union`. Its words are those of `run_sketch`, with further readers.
+fn sketch_union(alloc: Global, words: Words<'_>, sink: &mut Output) -> Ran {
+    let cells = Cells::of(words.number(4) as u64);
+    let salt = Salt::of(words.number(5) as u64);
+    let mut inputs = sources(alloc, words, 6).ok()?;
+    Some(run_sketch_union(alloc, cells, salt, inputs.as_mut_slice(), sink))
+}
+
+/// Runs `run_rule_union`. Its words are those of `run_rule`, with further readers.
+fn rule_union(alloc: Global, words: Words<'_>, sink: &mut Output) -> Ran {
+    let letter = words.text(4).chars().next()?;
+    let key = Name::read(alloc, words.text(5)).ok()?;
+    let place = words.number(6) as u64;
+    let mut inputs = sources(alloc, words, 7).ok()?;
+    Some(run_rule_union(
+        alloc,
+        letter,
+        &key,
+        place,
+        inputs.as_mut_slice(),
+        sink,
+    ))
+}
+
+/// Runs `run_show_union`. Its words are those of `run_show`, with further readers.
+fn show_union(alloc: Global, words: Words<'_>, sink: &mut Output) -> Ran {
+    let conflicts = words.text(4) == "conflicts";
+    let mut inputs = sources(alloc, words, 5).ok()?;
+    Some(run_show_union(alloc, conflicts, inputs.as_mut_slice(), sink))
+}
+
+/// Runs the engine over unions of that name. `None` if there is none, or if its words don't fit.
+fn run_union(alloc: Global, words: Words<'_>, sink: &mut Output) -> Ran {
+    match words.text(0) {
+        "run_missing_unions" => missing_unions(alloc, words, sink),
+        "run_missing_by_union" => missing_by_union(alloc, words, sink),
+        "run_inventory_union" => inventory_union(alloc, words, sink),
+        "run_sketch_union" => sketch_union(alloc, words, sink),
+        "run_missing_by_sketch_union" => missing_by_sketch_union(alloc, words, sink),
+        "run_rule_union" => rule_union(alloc, words, sink),
+        "run_show_union" => show_union(alloc, words, sink),
+        "run_check_union" => check_union(alloc, words, sink),
+        _ => None,
+    }
+}
+
 /// Runs the engine of that name. `None` if there is none, or if its words don't fit.
 fn run(alloc: Global, words: Words<'_>, sink: &mut Output) -> Ran {
     match words.text(0) {
@@ -108,7 +200,7 @@ fn run(alloc: Global, words: Words<'_>, sink: &mut Output) -> Ran {
         "run_rehearse" => rehearse(alloc, words, sink),
         "run_show" => show(alloc, words, sink),
         "run_check" => Some(run_check(alloc, &mut words.source(4), sink)),
-        _ => None,
+        _ => run_union(alloc, words, sink),
     }
 }
 

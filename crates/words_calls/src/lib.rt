@@ -31,13 +31,34 @@ fn push_option(line: &mut String, word: Option<&str>) -> Result<(), Memory> {
     }
 }
 
+/// Returns a request, as a line: its name and words, and the files.
+fn of_files(alloc: Global, words: &[&str], files: &[&str]) -> Result<String, Memory> {
+    let mut line = calls::answer(alloc, "ok", words)?;
+    push_all(&mut line, files)?;
+    Ok(line)
+}
+
+/// Adds all of these words.
+fn push_all(line: &mut String, words: &[&str]) -> Result<(), Memory> {
+    for word in words {
+        calls::push(line, word)?;
+    }
+    Ok(())
+}
+
+/// Returns a request for a delta, as a line: the files of the sender, then those of the receiver.
+fn delta(alloc: Global, name: &str, from: &[&str], to: &[&str]) -> Result<String, Memory> {
+    let mut line = of_files(alloc, &[name], from)?;
+    calls::push(&mut line, "to")?;
+    push_all(&mut line, to)?;
+    Ok(line)
+}
+
 /// Returns a request for `join`, as a line.
 fn joined(alloc: Global, log: Option<&str>, files: &[&str]) -> Result<String, Memory> {
     let mut line = calls::answer(alloc, "ok", &["Join"])?;
     push_option(&mut line, log)?;
-    for file in files {
-        calls::push(&mut line, file)?;
-    }
+    push_all(&mut line, files)?;
     Ok(line)
 }
 
@@ -56,12 +77,12 @@ fn sketched(
     alloc: Global,
     cells: Option<&str>,
     salt: Option<&str>,
-    file: &str,
+    files: &[&str],
 ) -> Result<String, Memory> {
     let mut line = calls::answer(alloc, "ok", &["Sketch"])?;
     push_option(&mut line, cells)?;
     push_option(&mut line, salt)?;
-    calls::push(&mut line, file)?;
+    push_all(&mut line, files)?;
     Ok(line)
 }
 
@@ -70,36 +91,42 @@ fn asked(alloc: Global, request: &Request<'_>) -> Result<String, Memory> {
     match request {
         Request::Join { log, files } => joined(alloc, *log, files.as_slice()),
         Request::Split { by, log, files } => split(alloc, by, *log, files.as_slice()),
-        Request::Missing { from, to } => calls::answer(alloc, "ok", &["Missing", from, to]),
-        Request::MissingBy { from, inventory } => calls::answer(
+        Request::Missing { from, to } => delta(alloc, "Missing", from.as_slice(), to.as_slice()),
+        Request::MissingBy { from, inventory } => delta(
             alloc,
-            "ok",
-            &["MissingBy", from, inventory],
+            "MissingBy",
+            from.as_slice(),
+            &[*inventory],
         ),
-        Request::Inventory { file } => calls::answer(alloc, "ok", &["Inventory", file]),
-        Request::Sketch { cells, salt, file } => sketched(alloc, *cells, *salt, file),
-        Request::MissingBySketch { from, sketch } => calls::answer(
+        Request::Inventory { files } => of_files(alloc, &["Inventory"], files.as_slice()),
+        Request::Sketch { cells, salt, files } => sketched(alloc, *cells, *salt, files.as_slice()),
+        Request::MissingBySketch { from, sketch } => delta(
             alloc,
-            "ok",
-            &["MissingBySketch", from, sketch],
+            "MissingBySketch",
+            from.as_slice(),
+            &[*sketch],
         ),
         Request::Rule {
             letter,
             key,
             place,
-            file,
-        } => calls::answer(alloc, "ok", &["Rule", letter, key, place, file]),
+            files,
+        } => of_files(
+            alloc,
+            &["Rule", letter, key, place],
+            files.as_slice(),
+        ),
         Request::Rehearse { log, sites, script } => calls::answer(
             alloc,
             "ok",
             &["Rehearse", log, sites, script],
         ),
-        Request::Show { conflicts, file } => calls::answer(
+        Request::Show { conflicts, files } => of_files(
             alloc,
-            "ok",
-            &["Show", if *conflicts { "true" } else { "false" }, file],
+            &["Show", if *conflicts { "true" } else { "false" }],
+            files.as_slice(),
         ),
-        Request::Check { file } => calls::answer(alloc, "ok", &["Check", file]),
+        Request::Check { files } => of_files(alloc, &["Check"], files.as_slice()),
     }
 }
 

@@ -11,12 +11,12 @@ pub returns-in-Ok-clause-ok : goal.returns-in-Ok-clause-ok
 returns-in-Ok-clause-ok c =
     run_made sketch_file _ _ _ _ c.new-buffer.result c.run_sketch.new.output refl refl _ _ _ c.new-buffer.ensures.before c.new-buffer.ensures.text
     c.length.ensures (λ same. search rules) input_spec (sketch_model_of c.args.cells c.args.salt) _ _
-    (ap Some c.new-source.ensures) c.in-Ok.ensures
+    (ap Some c.new-source.ensures) c.in-Ok.ensures.written
 
 pub returns-in-Err-clause-err : goal.returns-in-Err-clause-err
 returns-in-Err-clause-err c =
     run_refused sketch_file _ _ _ c.in-Err.fault c.unwritten.result c.unwritten.ensures input_spec (sketch_model_of c.args.cells c.args.salt) _ _
-    (ap Some c.new-source.ensures) refl refl c.in-Err.ensures
+    (ap Some c.new-source.ensures) refl refl c.in-Err.ensures.written
 
 pub returns-in-Err-clause-only : goal.returns-in-Err-clause-only
 returns-in-Err-clause-only c = first_of_memory input_spec input_safe _ _ _ (returns-in-Err-clause-err c)

@@ -1,21 +1,17 @@
-use Rattle.std.proofs.lemmas.Result.{err_from_is_err_and}
+use Rattle.std.proofs.Common.{None, [], ◌∷◌, subst}
 use Rattle.cadf_tool.specs.InventoryInput.{inventory_spec}
 use Rattle.cadf_tool.specs.MissingBy.{part_by}
-use Rattle.cadf_tool.specs.Run.{transition_of, input_spec, IsValue}
-use Rattle.cadf_tool.proofs.Runs.{both_worked, second_not_read}
+use Rattle.cadf_tool.specs.Run.{one, numbered, transition_of, input_spec, IsValue, IsWorked}
+use Rattle.cadf_tool.proofs.Runs.{both_worked}
+use Rattle.cadf_tool.proofs.Unions.{first_place}
+use Rattle.cadf_tool.proofs.UnionDeltas.{part_by_one, number_two}
 use Rattle.cadf_tool.proofs.missing_by.missing_by.Goals as goal
 
 pub returns : goal.returns
 returns g c =
-    both_worked input_spec (transition_of g.R.Source c.args.from.now c.load_one.new.input) inventory_spec
-    (transition_of g.R.Source c.args.inventory.now c.load_inventory.new.input) (IsValue part_by)
-    c.in_ok-first.ensures.reads c.in_ok-first.first c.in_ok-second.second c.part.result c.in_ok-first.ensures.ok c.in_ok-second.ensures.ok
-    c.in_ok-second.ensures.reads c.part.ensures
-
-pub returns-in_err-second : goal.returns-in_err-second
-returns-in_err-second g c =
-    let p = err_from_is_err_and c.from_residual-in_err-second.result c.from_residual-in_err-second.ensures.1 in
-    rw (p.1, p.2) (second_not_read input_spec (transition_of g.R.Source c.args.from.now c.load_one.new.input) inventory_spec
-    (transition_of g.R.Source c.args.inventory.now c.load_inventory.new.input)
-    (IsValue part_by) c.in_ok-first.ensures.reads c.in_ok-first.first c.in_err-second.field-0.0 c.in_ok-first.ensures.ok c.in_err-second.ensures.reads
-    c.in_err-second.ensures.err)
+    let f = c.in_ok-first.ensures.ok in
+    both_worked (one input_spec (transition_of g.R.Source c.args.from.now c.next.new.input))
+    (numbered 2 inventory_spec (transition_of g.R.Source c.args.inventory.now c.load_inventory.new.input)) (IsValue part_by)
+    c.in_ok-first.ensures.reads c.in_ok-noted.ensures.reads f.0 c.in_ok-noted.noted c.part.result f.1 f.1.1 c.in_ok-noted.ensures.ok c.in_ok-noted.ensures.ok.1
+    (subst (λ r. IsWorked r c.part.result) (part_by_one f.0 c.in_ok-noted.noted)
+    (c.part.ensures (f.0 ∷ []) (number_two f.0) (f.2 1 None [] first_place (c.new.ensures 1))))

@@ -1,21 +1,17 @@
-use Rattle.std.proofs.lemmas.Result.{err_from_is_err_and}
+use Rattle.std.proofs.Common.{None, [], ◌∷◌}
 use Rattle.cadf_tool.specs.Sketch.{IsPartBySketch}
 use Rattle.cadf_tool.specs.SketchInput.{sketch_spec}
-use Rattle.cadf_tool.specs.Run.{transition_of, input_spec}
-use Rattle.cadf_tool.proofs.Runs.{both_worked, second_not_read}
+use Rattle.cadf_tool.specs.Run.{one, numbered, transition_of, input_spec}
+use Rattle.cadf_tool.proofs.Runs.{both_worked}
+use Rattle.cadf_tool.proofs.Unions.{first_place}
+use Rattle.cadf_tool.proofs.UnionDeltas.{by_sketch_worked, number_two}
 use Rattle.cadf_tool.proofs.missing_by_sketch.load_part.Goals as goal
 
 pub returns : goal.returns
 returns g c =
-    both_worked input_spec (transition_of g.R.Source c.args.from.now c.load_one.new.input) sketch_spec
-    (transition_of g.R.Source c.args.sketch.now c.load_sketch.new.input) IsPartBySketch
-    c.in_ok-first.ensures.reads c.in_ok-first.first c.in_ok-second.second c.part.result c.in_ok-first.ensures.ok c.in_ok-second.ensures.ok
-    c.in_ok-second.ensures.reads c.part.ensures
-
-pub returns-in_err-second : goal.returns-in_err-second
-returns-in_err-second g c =
-    let p = err_from_is_err_and c.from_residual-in_err-second.result c.from_residual-in_err-second.ensures.1 in
-    rw (p.1, p.2) (second_not_read input_spec (transition_of g.R.Source c.args.from.now c.load_one.new.input) sketch_spec
-    (transition_of g.R.Source c.args.sketch.now c.load_sketch.new.input)
-    IsPartBySketch c.in_ok-first.ensures.reads c.in_ok-first.first c.in_err-second.field-0.0 c.in_ok-first.ensures.ok c.in_err-second.ensures.reads
-    c.in_err-second.ensures.err)
+    let f = c.in_ok-first.ensures.ok in
+    both_worked (one input_spec (transition_of g.R.Source c.args.from.now c.next.new.input))
+    (numbered 2 sketch_spec (transition_of g.R.Source c.args.sketch.now c.load_sketch.new.input)) IsPartBySketch
+    c.in_ok-first.ensures.reads c.in_ok-read.ensures.reads f.0 c.in_ok-read.read c.part.result f.1 f.1.1 c.in_ok-read.ensures.ok c.in_ok-read.ensures.ok.1
+    (by_sketch_worked f.0 c.in_ok-read.read c.part.result
+    (c.part.ensures (f.0 ∷ []) (number_two f.0) (f.2 1 None [] first_place (c.new.ensures 1))))

@@ -1,7 +1,11 @@
-use Rattle.cadf_tool.proofs.SketchParts.{part_held, part_unheld}
+use Rattle.std.proofs.Common.{None}
+use Rattle.cadf_tool.proofs.UnionDeltas.{by_sketch, by_no_sketch}
 use Rattle.cadf_tool.proofs.missing_by_sketch.part.Goals as goal
 
-pub returns : goal.returns
-returns c =
-    let told = c.in_ok-held.ensures.ok in
-    part_held c.args.from c.args.sketch.now c.in_ok-held.held c.beyond.result told.0 told.1 c.beyond.ensures
+pub returns-in-Ok : goal.returns-in-Ok
+returns-in-Ok c froms count from =
+    by_sketch froms c.args.number c.args.sketch.now count c.in-Ok.held c.beyond.result (c.in-Ok.ensures 1 None froms from) c.beyond.ensures
+
+pub returns-in-Err : goal.returns-in-Err
+returns-in-Err c froms count from =
+    by_no_sketch froms c.args.number c.args.sketch.now count c.in-Err.fault (c.in-Err.ensures 1 None froms from)

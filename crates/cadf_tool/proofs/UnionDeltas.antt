@@ -1,0 +1,194 @@
+-- Deltas between unions of inputs, and of one input each.
+use Rattle.std.proofs.Common.{
+  ◌≡◌,
+  ◌+◌,
+  ℕ,
+  Bool,
+  true,
+  false,
+  cond,
+  List,
+  [],
+  ◌∷◌,
+  length,
+  Option,
+  None,
+  Some,
+  Result,
+  Ok,
+  Err,
+  refl,
+  sym,
+  ap,
+  ◌∙◌,
+  subst,
+  arith,
+}
+use Rattle.std.specs.Option.{option_or}
+use Rattle.cadf_join.specs.Contents.{Text, Contents}
+use Rattle.cadf_join.specs.laws.Contents.{texts_total, texts_same}
+use Rattle.cadf_join.specs.laws.Sets as sets
+use Rattle.cadf_line.specs.Digest.{atom_digest}
+use Rattle.cadf_line.specs.Missing.{missing, missing_by}
+use Rattle.cadf_set.specs.Inventory.{InventoryModel}
+use Rattle.cadf_set.specs.Replica.{ReplicaModel}
+use Rattle.cadf_sketch.specs.Sketches.{SketchModel}
+use Rattle.cadf_tool.specs.declared.input.Loaded.{Loaded}
+use Rattle.cadf_tool.specs.declared.input.Loaded.TheVariants.{Replica}
+use Rattle.cadf_tool.specs.declared.fault.ToolFault.{ToolFault}
+use Rattle.cadf_tool.specs.declared.fault.ToolFault.TheVariants.{NoLog, OtherLog}
+use Rattle.cadf_tool.specs.declared.join_state.JoinState.{JoinState}
+use Rattle.cadf_tool.specs.declared.join_state.JoinState.TheVariants.{Unnamed, Given, United, Other}
+use Rattle.cadf_tool.specs.Faults.{FaultStage, Reading, Working, Writing, OutOfMemoryStage, fault_stage}
+use Rattle.cadf_tool.specs.Join.{first_named, is_other, union_of, unless_other, join_in, join_from, join_of, on_ok}
+use Rattle.cadf_tool.specs.JoinState.{IsNamed, IsJoinState, log_joined}
+use Rattle.cadf_tool.specs.Missing.{under_one_log_at, missing_of, part_of, if_named, part_of_unions}
+use Rattle.cadf_tool.specs.MissingBy.{missing_by_at, part_by, part_by_union}
+use Rattle.cadf_tool.specs.Run.{IsWorkFaultBy, IsWorked, IsWorkedBy}
+use Rattle.cadf_tool.specs.Sketch.{IsAnswerOfResult, IsAnswerTo, IsPartBySketch, IsPartOfUnionBySketch}
+use Rattle.cadf_tool.specs.Told.{log_named, atoms_loaded, under_log}
+use Rattle.cadf_tool.proofs.Unions.{on_value, on_fault, join_one}
+use Rattle.cadf_tool.proofs.UnitingLemmas.{not_other, other_named}
+
+-- ---- a delta between unions, by the states of their joins
+
+abbrev delta_of : (first : ℕ) (tos : List Loaded) → ReplicaModel → Result ReplicaModel ToolFault
+delta_of first tos h = on_ok (join_from first (Some h.log) tos) (λ k. missing_of (Replica h) (Replica k))
+
+module _ (froms tos : List Loaded) (from : JoinState) (joined : IsJoinState 1 None froms from) where
+  abbrev next : ℕ
+  next = length froms + 1
+
+  pub to_unnamed : first_named tos ≡ None → part_of_unions (froms, tos) ≡ Err NoLog
+  to_unnamed e = ap (λ o. if_named o (on_ok (join_of None froms) (λ h. delta_of next tos h))) e
+
+  named_to : IsNamed tos → part_of_unions (froms, tos) ≡ on_ok (join_of None froms) (λ h. delta_of next tos h)
+  named_to (log, e) = ap (λ o. if_named o (on_ok (join_of None froms) (λ h. delta_of next tos h))) e
+
+  log_is : (h : ReplicaModel) → join_of None froms ≡ Ok h → log_joined from ≡ Some h.log
+  log_is h e = by from joined
+    where
+      differ : (fault : ToolFault) → ◌≡◌ {A = Result ReplicaModel ToolFault} (Err fault) (Ok h) → ⊥
+      differ fault f = cc
+
+      absent : (k : ReplicaModel) → ◌≡◌ {A = Option Text} None (Some k.log) → ⊥
+      absent k f = cc
+
+      same : (k : ReplicaModel) → ◌≡◌ {A = Result ReplicaModel ToolFault} (Ok k) (Ok h) → k ≡ h
+      same k f = cc
+
+      by : (s : JoinState) → IsJoinState 1 None froms s → log_joined s ≡ Some h.log
+      by (Unnamed ds) j = absurd (differ NoLog (sym (ap (λ o. join_in 1 o froms) j.0) ∙ e))
+      by (Given k) j = absurd (absent k j.0)
+      by (United k) j = ap (λ (m : ReplicaModel). Some m.log) (same k (sym j.0 ∙ e))
+      by (Other n) j = absurd (differ (OtherLog n) (sym j ∙ e))
+
+  module _ (h : ReplicaModel) (e : join_of None froms ≡ Ok h) where
+    delta_is : IsNamed tos → part_of_unions (froms, tos) ≡ delta_of next tos h
+    delta_is named = named_to named ∙ ap (λ r. on_ok r (λ k. delta_of next tos k)) e
+
+    pub to_united : (k : ReplicaModel) (result : Result ReplicaModel ToolFault) → IsJoinState next (log_joined from) tos (United k)
+        → IsWorked (missing_of (Replica h) (Replica k)) result → IsWorked (part_of_unions (froms, tos)) result
+    to_united k result t w =
+        let is : join_from next (Some h.log) tos ≡ Ok k = subst (λ o. join_from next o tos ≡ Ok k) (log_is h e) t.0 in
+        subst (λ r. IsWorked r result) (sym (delta_is t.1 ∙ ap (λ r. on_ok r (λ m. missing_of (Replica h) (Replica m))) is)) w
+
+    pub to_other : (n : ℕ) → IsJoinState next (log_joined from) tos (Other n) → part_of_unions (froms, tos) ≡ Err (OtherLog n)
+    to_other n t =
+        let is : join_from next (Some h.log) tos ≡ Err (OtherLog n) = subst (λ o. join_from next o tos ≡ Err (OtherLog n)) (log_is h e) t in
+        delta_is (other_named next (log_joined from) tos n t) ∙ ap (λ r. on_ok r (λ m. missing_of (Replica h) (Replica m))) is
+
+  pub from_refused : (fault : ToolFault) → IsNamed tos → IsWorked (join_of None froms) (Err fault) → IsWorked (part_of_unions (froms, tos)) (Err fault)
+  from_refused fault named w =
+      subst (λ r. IsWorked r (Err fault)) (sym (named_to named)) (on_fault (λ h. delta_of next tos h) (join_of None froms) fault w)
+
+-- ---- a delta against an inventory
+
+module _ (froms : List Loaded) where
+  pub by_inventory : (number : ℕ) (noted : InventoryModel) → number ≡ length froms + 1 → (h : ReplicaModel) (result : Result ReplicaModel ToolFault)
+      → join_of None froms ≡ Ok h → IsWorked (missing_by_at number (Replica h) noted) result → IsWorked (part_by_union (froms, noted)) result
+  by_inventory number noted is h result e w =
+      on_value (λ k. missing_by_at (length froms + 1) (Replica k) noted) (join_of None froms) h result e
+      (subst (λ n. IsWorked (missing_by_at n (Replica h) noted) result) is w)
+
+  pub by_no_inventory : (noted : InventoryModel) (fault : ToolFault) → IsWorked (join_of None froms) (Err fault)
+      → IsWorked (part_by_union (froms, noted)) (Err fault)
+  by_no_inventory noted fault w = on_fault (λ k. missing_by_at (length froms + 1) (Replica k) noted) (join_of None froms) fault w
+
+-- ---- a delta against a sketch
+
+module _ (froms : List Loaded) (number : ℕ) (sketch : SketchModel) (is : number ≡ length froms + 1) where
+  pub by_sketch : (h : ReplicaModel) (result : Result ReplicaModel ToolFault) → join_of None froms ≡ Ok h
+      → IsWorkedBy (IsAnswerTo number sketch h) result → IsWorkedBy (IsPartOfUnionBySketch (froms, sketch)) result
+  by_sketch h result e w = subst (λ n. IsWorkedBy (IsAnswerOfResult n sketch (join_of None froms)) result) is
+      (subst (λ r. IsWorkedBy (IsAnswerOfResult number sketch r) result) (sym e) w)
+
+  pub by_no_sketch : (fault : ToolFault) → IsWorked (join_of None froms) (Err fault) → IsWorkedBy (IsPartOfUnionBySketch (froms, sketch)) (Err fault)
+  by_no_sketch fault w = at (fault_stage fault) w
+    where
+      at : (s : FaultStage) → IsWorkFaultBy (λ r. join_of None froms ≡ r) fault s → IsWorkFaultBy (IsPartOfUnionBySketch (froms, sketch)) fault s
+      at (Reading n f) h = h
+      at Working h = subst (λ r. IsAnswerOfResult (length froms + 1) sketch r (Err fault)) (sym h) refl
+      at Writing h = h
+      at OutOfMemoryStage h = h
+
+-- ---- one input each
+
+pub two_is : (l : Loaded) → length (l ∷ []) + 1 ≡ 2
+two_is l = omega arith
+
+pub number_two : (l : Loaded) → 2 ≡ length (l ∷ []) + 1
+number_two l = sym (two_is l)
+
+pub second_place : (l : Loaded) → 2 ≡ (length (l ∷ []) + 1) + length {A = Loaded} []
+second_place l = omega arith
+
+pub part_one : (f t : Loaded) → part_of_unions (f ∷ [], t ∷ []) ≡ part_of (f, t)
+part_one f t =
+    ap (λ r. if_named (first_named (t ∷ [])) (on_ok r (λ h. delta_of (length (f ∷ []) + 1) (t ∷ []) h))) (join_one 1 f)
+    ∙ ap (λ n. if_named (first_named (t ∷ [])) (on_ok (under_log (log_named f) (atoms_loaded f)) (λ h. delta_of n (t ∷ []) h))) (two_is f)
+    ∙ by (log_named f) (log_named t) refl
+  where
+    held : Text → Contents → ReplicaModel
+    held log s = record { log = log; atoms = s }
+
+    joined : (log x : Text) (b : Bool) → log_named t ≡ Some x → is_other log (Some x) ≡ b
+        → join_from 2 (Some log) (t ∷ []) ≡ cond b (Err (OtherLog 2)) (Ok (held log (atoms_loaded t)))
+    joined log x b is other =
+        ap (λ o. unless_other (cond (is_other log o) (Some 2) None) (held log (union_of (t ∷ [])))) is
+        ∙ ap (λ c. unless_other (cond c (Some 2) None) (held log (union_of (t ∷ [])))) other ∙ of b
+      where
+        of : (c : Bool) → unless_other (cond c (Some 2) None) (held log (union_of (t ∷ []))) ≡ cond c (Err (OtherLog 2)) (Ok (held log (atoms_loaded t)))
+        of true = refl
+        of false = ap (λ s. Ok (held log s)) (sets.union-empty texts_total texts_same (atoms_loaded t))
+
+    both_named : (log x : Text) (b : Bool) → log_named t ≡ Some x → is_other log (Some x) ≡ b
+        → delta_of 2 (t ∷ []) (held log (atoms_loaded f)) ≡ cond b (Err (OtherLog 2)) (Ok (held log (missing (atoms_loaded f) (atoms_loaded t))))
+    both_named log x true is other = ap (λ r. on_ok r (λ k. missing_of (Replica (held log (atoms_loaded f))) (Replica k))) (joined log x true is other)
+    both_named log x false is other =
+        ap (λ r. on_ok r (λ k. missing_of (Replica (held log (atoms_loaded f))) (Replica k))) (joined log x false is other)
+        ∙ ap (λ c. cond c (Err (OtherLog 2)) (Ok (held log (missing (atoms_loaded f) (atoms_loaded t))))) (not_other log)
+
+    by : (o p : Option Text) → log_named t ≡ p → if_named (option_or p None) (on_ok (under_log o (atoms_loaded f)) (λ h. delta_of 2 (t ∷ []) h))
+        ≡ under_one_log_at 2 o p (missing (atoms_loaded f) (atoms_loaded t))
+    by None None is = refl
+    by None (Some x) is = refl
+    by (Some log) None is = refl
+    by (Some log) (Some x) is =
+        both_named log x (is_other log (Some x)) is refl
+
+pub part_by_one : (f : Loaded) (noted : InventoryModel) → part_by_union (f ∷ [], noted) ≡ part_by (f, noted)
+part_by_one f noted =
+    ap (λ r. on_ok r (λ h. missing_by_at (length (f ∷ []) + 1) (Replica h) noted)) (join_one 1 f)
+    ∙ ap (λ n. on_ok (under_log (log_named f) (atoms_loaded f)) (λ h. missing_by_at n (Replica h) noted)) (two_is f)
+    ∙ by (log_named f) (atoms_loaded f)
+  where
+    by : (o : Option Text) (s : Contents) → on_ok (under_log o s) (λ h. missing_by_at 2 (Replica h) noted)
+        ≡ under_one_log_at 2 o (Some noted.log) (missing_by atom_digest s noted.digests)
+    by None s = refl
+    by (Some log) s = refl
+
+pub by_sketch_worked : (f : Loaded) (sketch : SketchModel) (r : Result ReplicaModel ToolFault) → IsWorkedBy (IsPartOfUnionBySketch (f ∷ [], sketch)) r
+    → IsWorkedBy (IsPartBySketch (f, sketch)) r
+by_sketch_worked f sketch r w = subst (λ n. IsWorkedBy (IsAnswerOfResult n sketch (under_log (log_named f) (atoms_loaded f))) r) (two_is f)
+    (subst (λ j. IsWorkedBy (IsAnswerOfResult (length (f ∷ []) + 1) sketch j) r) (join_one 1 f) w)

@@ -1,0 +1,185 @@
+-- Engines over the union of several inputs: their work on the union, and one input in place of several.
+use Rattle.std.proofs.Common.{
+  ◌≡◌,
+  ℕ,
+  cond,
+  List,
+  [],
+  ◌∷◌,
+  ◌+◌,
+  length,
+  arith,
+  Option,
+  None,
+  Some,
+  Result,
+  Ok,
+  Err,
+  refl,
+  sym,
+  ap,
+  ◌∙◌,
+  subst,
+}
+use Rattle.std.specs.Option.{option_or}
+use Rattle.cadf_json.specs.declared.stream.Source.{Ghosts as Source}
+use Rattle.cadf_json.specs.declared.stream.Sink.{Ghosts as Sink}
+use Rattle.cadf_join.specs.Contents.{Text, Contents}
+use Rattle.cadf_join.specs.laws.Contents.{texts_total, texts_same}
+use Rattle.cadf_join.specs.laws.Sets as sets
+use Rattle.cadf_line.specs.Digest.{atom_digest}
+use Rattle.cadf_line.specs.Missing.{digests_of}
+use Rattle.cadf_set.specs.Replica.{ReplicaModel}
+use Rattle.cadf_tool.specs.declared.input.Loaded.{Loaded}
+use Rattle.cadf_tool.specs.declared.input.Loaded.TheVariants.{Replica}
+use Rattle.cadf_tool.specs.declared.fault.ToolFault.{ToolFault}
+use Rattle.cadf_tool.specs.Faults.{FaultStage, Reading, Working, Writing, OutOfMemoryStage, fault_stage}
+use Rattle.cadf_tool.specs.Join.{is_other, join_in, join_from, join_of, on_ok, of_union}
+use Rattle.cadf_tool.specs.MissingBy.{inventory_model_under, inventory_model_of}
+use Rattle.cadf_tool.specs.Rule.{ruled_in, ruled_of}
+use Rattle.cadf_tool.specs.Run.{
+  SourceTransition,
+  Sources,
+  one,
+  all,
+  input_spec,
+  IsValue,
+  IsFirstFaultBy,
+  IsExpected,
+  IsWorkFaultBy,
+  IsWorked,
+  IsToldBy,
+  IsRun,
+}
+use Rattle.cadf_tool.specs.Sketch.{sketch_of_result, sketch_model_of}
+use Rattle.cadf_tool.specs.Told.{log_named, atoms_loaded, under_log, replica_model_of}
+use Rattle.cadf_tool.proofs.LoadedLists.{none_failed}
+use Rattle.cadf_tool.proofs.Runs.{worked}
+use Rattle.cadf_tool.proofs.UnitingLemmas.{is_united, not_other}
+
+-- ---- a work after another
+
+module _ {H M : Type 0} (work : H → Result M ToolFault) where
+  -- the result of the first is a value, or a fault
+  pub on_value : (before : Result H ToolFault) (h : H) (result : Result M ToolFault) → before ≡ Ok h → IsWorked (work h) result → IsWorked (on_ok before work) result
+  on_value before h result e w = subst (λ x. IsWorked (on_ok x work) result) (sym e) w
+
+  pub on_fault : (before : Result H ToolFault) (fault : ToolFault) → IsWorked before (Err fault) → IsWorked (on_ok before work) (Err fault)
+  on_fault before fault w = at (fault_stage fault) w
+    where
+      at : (s : FaultStage) → IsWorkFaultBy (λ r. before ≡ r) fault s → IsWorkFaultBy (λ r. on_ok before work ≡ r) fault s
+      at (Reading n f) h = h
+      at Working h = ap (λ x. on_ok x work) h
+      at Writing h = h
+      at OutOfMemoryStage h = h
+
+-- ---- a run, by what was read and what was made of it
+
+module _ {A H M W T : Type 0} (sources : Sources A) (read : A → Result H ToolFault) (work : H → Result M ToolFault)
+    (whole : A → Result M ToolFault) (is : (a : A) → whole a ≡ on_ok (read a) work) (tell : M → Text) (sink : Sink W) (old new : W) where
+  -- the work on what was read was told
+  pub told_run : (unfailed : (a : A) → sources.are a → sources.unfailed) (h : H) (result : Result T ToolFault) → IsExpected sources read (Ok h)
+      → IsToldBy (IsValue work h) tell sink old new result → IsRun sources whole tell sink old new result
+  told_run unfailed h result expected told =
+      let a = expected.is in
+      record {
+        expected = told.made;
+        first = worked sources (IsValue whole) a.0 told.made expected.bounded a.1 (unfailed a.0 a.1)
+            (subst (λ r. IsWorked r told.made) (sym (is a.0)) (on_value work (read a.0) h told.made a.2 told.worked));
+        answer = told.answer;
+      }
+
+  -- nothing was read
+  pub refused_run : (fault : ToolFault) → new ≡ old → IsExpected sources read (Err fault) → IsRun {T = T} sources whole tell sink old new (Err fault)
+  refused_run fault same expected = record {
+    expected = Err fault;
+    first = record { is = at (fault_stage fault) expected.is; bounded = expected.bounded };
+    answer = (refl, same);
+  }
+    where
+      at : (s : FaultStage) → IsFirstFaultBy sources (IsValue read) fault s → IsFirstFaultBy sources (IsValue whole) fault s
+      at (Reading n f) h = h
+      at Working (a, are, e) = (a, are, is a ∙ ap (λ r. on_ok r work) e)
+      at Writing h = h
+      at OutOfMemoryStage h = h
+
+-- ---- the work on one input
+
+pub first_place : 1 ≡ 1 + length {A = Loaded} []
+first_place = omega arith
+
+-- one input is its own union
+pub join_one : (first : ℕ) (l : Loaded) → join_from first None (l ∷ []) ≡ replica_model_of l
+join_one first l = by (log_named l) refl
+  where
+    by : (o : Option Text) → log_named l ≡ o → join_from first None (l ∷ []) ≡ under_log o (atoms_loaded l)
+    by None is = ap (λ o. join_in first (option_or o None) (l ∷ [])) is
+    by (Some log) is =
+        is_united first None (l ∷ []) (record { log = log; atoms = atoms_loaded l }) (ap (λ o. option_or o None) is)
+        (ap (λ o. cond (is_other log o) (Some first) None) is ∙ ap (λ b. cond b (Some first) None) (not_other log))
+        (sym (sets.union-empty texts_total texts_same (atoms_loaded l)))
+
+-- the work is that on the replica of the input
+abbrev IsOfReplica : {M : Type 0} → (Loaded → Result M ToolFault) → Type 0
+IsOfReplica work = (l : Loaded) → work l ≡ on_ok (replica_model_of l) (λ h. work (Replica h))
+
+pub of_replica : IsOfReplica replica_model_of
+of_replica l = by (log_named l) (atoms_loaded l)
+  where
+    by : (o : Option Text) (s : Contents) → under_log o s ≡ on_ok (under_log o s) (λ h. replica_model_of (Replica h))
+    by None s = refl
+    by (Some log) s = refl
+
+pub of_inventory : IsOfReplica inventory_model_of
+of_inventory l = by (log_named l) (atoms_loaded l)
+  where
+    by : (o : Option Text) (s : Contents) → inventory_model_under o (digests_of atom_digest s)
+        ≡ on_ok (under_log o s) (λ h. inventory_model_of (Replica h))
+    by None s = refl
+    by (Some log) s = refl
+
+pub of_sketch : (cells salt : Option ℕ) → IsOfReplica (sketch_model_of cells salt)
+of_sketch cells salt l = by (log_named l) (atoms_loaded l)
+  where
+    by : (o : Option Text) (s : Contents) → sketch_of_result cells salt (inventory_model_under o (digests_of atom_digest s))
+        ≡ on_ok (under_log o s) (λ h. sketch_model_of cells salt (Replica h))
+    by None s = refl
+    by (Some log) s = refl
+
+pub of_ruled : (letter key : Text) (place : ℕ) → IsOfReplica (ruled_of letter key place)
+of_ruled letter key place l = by (log_named l) (atoms_loaded l)
+  where
+    by : (o : Option Text) (s : Contents) → ruled_in letter key place (under_log o s)
+        ≡ on_ok (under_log o s) (λ h. ruled_of letter key place (Replica h))
+    by None s = refl
+    by (Some log) s = refl
+
+-- the union of one input is the input, for each such work
+pub one_worked : {M : Type 0} (work : Loaded → Result M ToolFault) → IsOfReplica work → (l : Loaded) → of_union work (l ∷ []) ≡ work l
+one_worked work via l = ap (λ r. on_ok r (λ h. work (Replica h))) (join_one 1 l) ∙ sym (via l)
+
+-- ---- engines, by the replica that was read
+
+module _ {M W T : Type 0} (work : Loaded → Result M ToolFault) (tell : M → Text) (sink : Sink W) (old new : W) where
+  module _ {S : Type 0} (source : Source S) (inputs after : List S) where
+    pub union_told : (h : ReplicaModel) (result : Result T ToolFault) → IsExpected (all source inputs after) (join_of None) (Ok h)
+        → IsToldBy (IsValue work (Replica h)) tell sink old new result → IsRun (all source inputs after) (of_union work) tell sink old new result
+    union_told h result expected told =
+        told_run (all source inputs after) (join_of None) (λ k. work (Replica k)) (of_union work) (λ ls. refl) tell sink old new
+        (λ ls are. none_failed _ _ ls are) h result expected told
+
+    pub union_refused : (fault : ToolFault) → new ≡ old → IsExpected (all source inputs after) (join_of None) (Err fault)
+        → IsRun {T = T} (all source inputs after) (of_union work) tell sink old new (Err fault)
+    union_refused fault same expected =
+        refused_run (all source inputs after) (join_of None) (λ k. work (Replica k)) (of_union work) (λ ls. refl) tell sink old new fault same expected
+
+  module _ (via : IsOfReplica work) (t : SourceTransition) where
+    pub one_told : (h : ReplicaModel) (result : Result T ToolFault) → IsExpected (one input_spec t) replica_model_of (Ok h)
+        → IsToldBy (IsValue work (Replica h)) tell sink old new result → IsRun (one input_spec t) work tell sink old new result
+    one_told h result expected told =
+        told_run (one input_spec t) replica_model_of (λ k. work (Replica k)) work via tell sink old new (λ l are. are.1) h result expected told
+
+    pub one_refused : (fault : ToolFault) → new ≡ old → IsExpected (one input_spec t) replica_model_of (Err fault)
+        → IsRun {T = T} (one input_spec t) work tell sink old new (Err fault)
+    one_refused fault same expected =
+        refused_run (one input_spec t) replica_model_of (λ k. work (Replica k)) work via tell sink old new fault same expected
