@@ -77,7 +77,12 @@ const WORDS: [(&str, &str, Kind, &str); 29] = [
         Kind::Option("ID"),
         "The log's identifier, else that of the first input that names one",
     ),
-    ("split", "FILE", Kind::Files, "Replica files, logs or events"),
+    (
+        "split",
+        "FILE",
+        Kind::Files,
+        "Replica files, logs or events",
+    ),
     ("missing", "FROM", Kind::File, "The sender's file"),
     (
         "missing",

@@ -106,12 +106,7 @@ fn missing_unions(alloc: Global, words: Words<'_>, sink: &mut Output) -> Ran {
     while from.len() > words.number(4) {
         to.insert(0, from.pop()?).ok()?;
     }
-    Some(run_missing_unions(
-        alloc,
-        from.as_mut_slice(),
-        to.as_mut_slice(),
-        sink,
-    ))
+    Some(run_missing_unions(alloc, from.as_mut_slice(), to.as_mut_slice(), sink))
 }
 
 /// Runs `run_missing_by_union`. Its words are readers, the inventory's last.
@@ -154,14 +149,7 @@ fn rule_union(alloc: Global, words: Words<'_>, sink: &mut Output) -> Ran {
     let key = Name::read(alloc, words.text(5)).ok()?;
     let place = words.number(6) as u64;
     let mut inputs = sources(alloc, words, 7).ok()?;
-    Some(run_rule_union(
-        alloc,
-        letter,
-        &key,
-        place,
-        inputs.as_mut_slice(),
-        sink,
-    ))
+    Some(run_rule_union(alloc, letter, &key, place, inputs.as_mut_slice(), sink))
 }
 
 /// Runs `run_show_union`. Its words are those of `run_show`, with further readers.

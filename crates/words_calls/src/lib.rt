@@ -111,11 +111,7 @@ fn asked(alloc: Global, request: &Request<'_>) -> Result<String, Memory> {
             key,
             place,
             files,
-        } => of_files(
-            alloc,
-            &["Rule", letter, key, place],
-            files.as_slice(),
-        ),
+        } => of_files(alloc, &["Rule", letter, key, place], files.as_slice()),
         Request::Rehearse { log, sites, script } => calls::answer(
             alloc,
             "ok",
