@@ -42,7 +42,6 @@ STAGES = [
         "calls": "python3 -m tests.tables.make --check",
         "mutants": ".ci/mutants --placed",
         "judge": "python3 -m tests.proofs.judge",
-        "old-names": "python3 -m tests.docs.old_names",
         "pages": "python3 -m tests.docs.pages",
         "promises": "python3 -m tests.docs.promises",
         "unbuilt": "pytest -m unbuilt",
