@@ -40,6 +40,7 @@ LONGEST_INDEX = 2 ** 28  # bytes
 TRIES = 100  # of a reader, before takes that never end are a fault
 MOST_NEW = 400  # windows that a take begins, unless more are allowed
 MOST_STRANGERS = 20  # that are named
+PIECE = 2 ** 16  # bytes of a line that are held at once
 MOST_AT_ONCE = 2 ** 28  # bytes of inputs that are split at once, if there are several
 MOST_SEEN = 2 ** 20  # bytes of a window's smaller files, in which a take looks for what it brings
 SEVERAL = 7  # files of a size that are joined into one
@@ -316,14 +317,13 @@ class Parts:
             raise NoSplit
 
     def copy(self, output):
-        """Writes the part's file. Returns the digest on its last line."""
-        for line in self.stream:
-            output.write(line)
-            if line.startswith(b"Z "):
-                found = LAST_LINE.fullmatch(line)
-                if found:
-                    self.hash.update(line)
-                    return found[1].decode()
+        """Writes the part's file, a piece of a line at a time. Returns the digest on its last line."""
+        for piece in iter(lambda: self.stream.readline(PIECE), b""):
+            output.write(piece)
+            found = LAST_LINE.fullmatch(piece)  # no other line ends so
+            if found:
+                self.hash.update(piece)
+                return found[1].decode()
         raise NoSplit
 
 

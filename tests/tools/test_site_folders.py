@@ -168,6 +168,15 @@ def test_a_take_writes_the_windows_of_what_it_takes(site):
     assert {oct(os.stat(name).st_mode & 0o777) for name in site.folder.iterdir()} == {"0o600"}
 
 
+def test_a_long_line_is_written_by_pieces(site):
+    """Some of the pieces begin as the last line of a file does."""
+    value = contents(0, 3)
+    for event, text in zip(value["events"], ("Z " * 100000, " " + "Z " * 100000)):
+        event["name"] = text
+    site.takes(value)
+    assert site.listed() == site.settled(atoms_of(value))
+
+
 @pytest.mark.parametrize("mode, of_files, of_lock", [(0o750, 0o640, 0o600), (0o770, 0o660, 0o660)])
 def test_new_files_have_the_folders_permissions(site, mode, of_files, of_lock):
     site.folder.mkdir()
@@ -535,6 +544,7 @@ def test_what_a_site_names_and_lacks_is_named(here):
 
 @pytest.mark.parametrize("check, right, wrong", [
     (test_a_take_writes_the_windows_of_what_it_takes, "self.give(file, 0o666 & self.found.st_mode)", "self.give(file, 0o644)"),
+    (test_a_long_line_is_written_by_pieces, "found = LAST_LINE.fullmatch(piece)", 'found = re.match(rb"Z (.*)", piece)'),
     (test_what_is_held_already_changes_nothing, "digest in digests or self.is_held(part, size)", "False"),
     (test_what_is_held_already_changes_nothing, '.count(b"\\n") == NOTHING', '.count(b"\\n") >= NOTHING'),
     (test_a_settled_folder_is_a_function_of_its_facts, "for each in self.digests(part) if each not in digests]", "for each in self.digests(part)]"),
