@@ -22,7 +22,7 @@ import stat
 import subprocess
 import tempfile
 
-from cadf_toolkit import (CADF, REFUSED, Fault, Input, cadf, check_end, name_shown, open_descriptor, opened, opened_file, other_log, say,
+from cadf_toolkit import (CADF, FAILED, REFUSED, Fault, Input, Refusal, cadf, check_end, name_shown, open_descriptor, opened, opened_file, other_log, say,
                           started_cadf, sync, wait_for_lock)
 
 UNITS = {"month": len("2024-03"), "day": len("2024-03-01"), "hour": len("2024-03-01T12")}  # with the length of a window's name
@@ -513,7 +513,11 @@ class Taking:
             yield inputs
 
     def cadf(self, words, inputs, output):
-        return cadf(words, inputs, output, [self.lock], self.folder.name)
+        """Runs cadf on files of the site. A refusal of one is a fault of the site, and of no file that is taken."""
+        try:
+            return cadf(words, inputs, output, [self.lock], self.folder.name)
+        except Refusal as fault:
+            raise Fault(str(fault), FAILED if fault.status == REFUSED else fault.status) from None
 
     # The steps of a take
 
@@ -651,7 +655,8 @@ def take(name, inputs, unit=None, log=None, wait=None, most_new=MOST_NEW):
             os.mkdir(name, 0o700)
     with taking(name, unit, log, wait) as found:
         if found.index is None:
-            sync(os.path.dirname(os.path.abspath(name)))
+            with contextlib.suppress(PermissionError):  # who may go through a folder may not read it
+                sync(os.path.dirname(os.path.abspath(name)))
         for group in groups(inputs):
             by, named = (found.index.unit, found.index.name()) if found.index else (unit, log)
             found.add(["--by", by, *([] if named is None else ["--log=" + named])], group, most_new)

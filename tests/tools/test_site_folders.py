@@ -390,6 +390,19 @@ def test_an_odd_index_is_refused(site, data):
     assert refused.value.status == 1
 
 
+def test_a_damaged_window_is_no_fault_of_what_is_taken(site):
+    site.takes(contents(0, 1, 2))
+    path = next(site.folder.glob("2024-02-29.*"))
+    path.write_bytes(path.read_bytes().replace(b"read", b"reap"))
+    before = site.listed()
+    for options, files in (([], [site.put(contents(3))]), (["--settle"], [])):
+        site.takes(contents(5), by=())
+        answer = site.take(*options, files=files)
+        assert answer.status == (3 if files else 0)
+        assert not files or answer.error.startswith(b"cadf-take: %s: digest: the file is damaged" % os.fsencode(path))
+    assert before.items() - {("site", before["site"])} <= site.listed().items()
+
+
 def test_a_lost_index_loses_no_window(site):
     site.takes(contents(0, 1))
     (site.folder / "site").unlink()

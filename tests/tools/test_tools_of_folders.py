@@ -143,6 +143,17 @@ def test_spool_takes_into_a_folder(sites):
     assert sites.run("spool", "--log", "h", "north", "spool")[0] == 1 and (sites.path / "spool" / "taking" / "d.json").exists()
 
 
+def test_a_damaged_window_lets_what_arrives_wait(sites):
+    sites.north.takes(contents(0, 2))
+    path = next(sites.north.folder.glob("2024-02-29.*"))
+    path.write_bytes(path.read_bytes().replace(b"read", b"reap"))
+    arrives(sites, "a.json", contents(3))
+    arrives(sites, "b.json", contents(5))
+    status, _, said = sites.run("spool", "north", "spool")
+    assert status == 3 and any("a.json: waits: " in line and "digest: the file is damaged" in line for line in said)
+    assert (sites.path / "spool" / "taking" / "a.json").exists() and (sites.path / "spool" / "taken" / "b.json").exists()
+
+
 def test_spool_sets_aside_what_begins_many_windows(sites):
     sites.north.takes(contents(0))
     times = ["%04d-01-01T00:00:00Z" % year for year in range(1000, 1402)]
@@ -158,6 +169,7 @@ def test_spool_sets_aside_what_begins_many_windows(sites):
     (test_agree_reads_windows_that_differ, "if first.parts.get(part) != second.parts.get(part):", "if True:"),
     (test_which_judges_each_file, "if found != [entry]:", "if False:"),
     (test_a_key_of_two_windows_is_open, "for fact in windows.facts:", "for fact in ():"),
+    (test_a_damaged_window_lets_what_arrives_wait, "FAILED if fault.status == REFUSED else fault.status", "fault.status"),
     (test_spool_takes_into_a_folder, "if cadf_site.is_folder(self.site):", "if False:"),
 ])
 def test_a_wrong_version_is_caught(tmp_path, check, right, wrong):
