@@ -48,6 +48,7 @@ DAMAGED = "the file is damaged: fetch it again, or restore it as the guide says 
 ADVICE = {
     "too large": "no file above 2^30 bytes is read; give smaller ones to a site's folder: cadf-take --by day SITE/ FILE..",
     "no log named": "an event by itself names none: give --log ID, or a file that does",
+    "log name": "an identifier has 1 to 1,024 bytes of UTF-8, and no control character",
     "other log": "one site has one log; `cadf check FILE` says which log a file is of",
     "digest": DAMAGED,
     "truncated": DAMAGED,
@@ -193,6 +194,13 @@ class Parser(argparse.ArgumentParser):
         super().error(printable(message))
 
 
+def site_name(text):
+    """The name of a site, as a word of a command line. ArgumentTypeError: it would be standard input, which is no site."""
+    if text == "-":
+        raise argparse.ArgumentTypeError("a site is replaced, so it cannot be standard input; ./- is a file of that name")
+    return text
+
+
 # ---- Inputs
 
 class Input:
@@ -227,7 +235,7 @@ def kind_of(first, others=()):
 
 
 def copy_of(pipe):
-    """What can be read once, as a private file."""
+    """What can be read once, as a private file. OSError: it can't be read, or the copy not be written."""
     copy = tempfile.TemporaryFile()
     shutil.copyfileobj(pipe, copy)
     copy.flush()
@@ -235,7 +243,7 @@ def copy_of(pipe):
 
 
 def opened_file(name, flags=0, folder=None):
-    """A regular file that is open for reading. Anything else is refused, and not waited for."""
+    """A regular file that is open for reading. OSError: it can't be opened, or is anything else, which isn't waited for."""
     file = open(name, "rb", opener=lambda path, own: os.open(path, own | flags | os.O_NONBLOCK, dir_fd=folder))
     mode = os.fstat(file.fileno()).st_mode
     if not stat.S_ISREG(mode):
@@ -245,14 +253,17 @@ def opened_file(name, flags=0, folder=None):
 
 
 def opened_or_copied(name):
-    """A regular file that is open for reading, or a copy of what a pipe brings."""
+    """A regular file that is open for reading, or a copy of what a pipe brings. OSError: it is neither, or can't be opened."""
     with open(name, "rb") as file:
         return copy_of(file) if stat.S_ISFIFO(os.fstat(file.fileno()).st_mode) else opened_file(name)
 
 
 @contextlib.contextmanager
 def opened(names, pipes=False):
-    """Opens the files of these names for a call. `-` is standard input, which is copied, since it can be read once."""
+    """Opens the files of these names for a call. `-` is standard input, which is copied, since it can be read once.
+
+    Fault: one of them can't be opened.
+    """
     _, most = resource.getrlimit(resource.RLIMIT_NOFILE)
     resource.setrlimit(resource.RLIMIT_NOFILE, (most, most))  # `cadf` opens each once more
     with contextlib.ExitStack() as files:
@@ -294,7 +305,10 @@ def explained(said, which=None):
 
 @contextlib.contextmanager
 def started(words, **options):
-    """Starts a program, which doesn't outlive the call. A tool that is asked to end ends what it has started itself."""
+    """Starts a program, which doesn't outlive the call. A tool that is asked to end ends what it has started itself.
+
+    OSError: it can't be started.
+    """
     child = subprocess.Popen(words, **options)
     with child, Progress(" ".join(map(os.path.basename, words[:2]))):
         try:
@@ -312,7 +326,7 @@ def started_cadf(words, inputs, output, keep=()):
 
 
 def check_end(child, said, inputs):
-    """Raises why `cadf` ended, unless it did what it was asked. `said` is what it wrote to standard error."""
+    """Raises the Refusal of `cadf`, which has written `said` to standard error, or the Fault that it ended otherwise, if it did."""
     status = child.wait()
     if status not in (DONE, REFUSED, USAGE, FAILED, MEMORY):
         raise Fault("%s: ended by %s" % (CADF, "status %d" % status if status > 0 else "signal %d" % -status))
@@ -321,9 +335,10 @@ def check_end(child, said, inputs):
 
 
 def cadf(words, inputs, output=subprocess.DEVNULL, keep=(), where=None):
-    """Runs `cadf` with these words over open inputs. Returns what it wrote, if `output` is a pipe. Raises its refusal.
+    """Runs `cadf` with these words over open inputs. Returns what it wrote, if `output` is a pipe.
 
-    `where` names the file that is written, by a descriptor, so that a failed write is told with the system's words.
+    `where` names the file that is written, by a descriptor, so that a failed write is told with the system's words. Refusal:
+    what `cadf` refuses. Fault: it ended otherwise, or could not write. OSError: it can't be started.
     """
     with started_cadf(words, inputs, output, keep) as child:
         written, said = child.communicate()
@@ -363,7 +378,10 @@ def open_descriptor(file):
 
 
 def wait_for_lock(file, name, seconds):
-    """Waits for the lock of an open file, at most so long, without limit for None. Who can read the file can hold the lock."""
+    """Waits for the lock of an open file, at most so long, without limit for None. Who can read the file can hold the lock.
+
+    Fault: others may read the file, or the time is over.
+    """
     if os.fstat(file).st_mode not in LOCK_MODES:
         raise Fault("%s: it has to be a file of mode 0600, or 0660 for a group: who can read it can hold it" % name_shown(name))
     begun, told = time.monotonic(), False
@@ -382,7 +400,10 @@ def wait_for_lock(file, name, seconds):
 
 @contextlib.contextmanager
 def new_file(name, inputs):
-    """A new private file. What a killed call left there goes first; unless it was renamed, the file goes at the end."""
+    """A new private file. What a killed call left there goes first; unless it was renamed, the file goes at the end.
+
+    Fault: it is one of the inputs. OSError: it can't be made.
+    """
     with contextlib.suppress(FileNotFoundError):
         for each in inputs:
             if os.path.samestat(os.lstat(name), os.fstat(each.file.fileno())):

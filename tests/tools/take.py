@@ -187,7 +187,8 @@ def refuses(trial):
             ("another log", ["--log", "h", "s.cadf", "one.json"], 1, "cadf-take: one.json: other log: .."),
             ("absent", ["s.cadf", "absent"], 3, "cadf-take: absent: No such file or directory\n"),
             ("an odd name", ["s.cadf", "a\x1b\u202e"], 3, 'cadf-take: "a\\u001b\\u202e": No such file or directory\n'),
-            ("no log's name", ["--log=", "s.cadf", "one.json"], 2, "cadf-take: log name\n"),
+            ("no log's name", ["--log=", "s.cadf", "one.json"], 2, "cadf-take: log name: an identifier has 1 to 1,024 bytes of UTF-8, and no control character\n"),
+            ("no site", ["-", "one.json"], 2, "usage: .."),
             ("no words", [], 2, "usage: .."), ("no file", ["s.cadf"], 2, "usage: .."),
             ("an option", ["--force", "s.cadf", "one.json"], 2, "usage: ..")):
         trial.site(site=trial.one, before=trial.two)
