@@ -5,6 +5,7 @@ import pty
 import re
 import subprocess
 import sys
+import time
 
 import pytest
 
@@ -51,11 +52,23 @@ def test_a_call_that_lasts_has_one_line_which_is_cleared(slow):
     assert seconds == sorted(seconds) and seconds[-1] >= 2
 
 
-def test_nothing_elsewhere_and_of_a_short_call(slow):
+def test_nothing_elsewhere(slow):
     done = subprocess.run([os.path.join(TOOLS, "cadf-which"), SITE], stdin=subprocess.DEVNULL, capture_output=True, check=True,
                           env={**os.environ, "CADF": slow(4)})
     assert (done.stdout, done.stderr) == (b"", b"")
-    assert shown(os.path.join(TOP, "tests", "reference", "cadf")) == (0, b"")
+
+
+def test_nothing_of_a_short_call(tmp_path):
+    quick = tmp_path / "quick"
+    quick.write_text("#!/bin/sh\necho 'ok \"g\" atoms 1 conflicts 0'\n")
+    quick.chmod(0o755)
+    for _ in range(10):
+        begun = time.monotonic()
+        answer = shown(str(quick))
+        if time.monotonic() - begun < 2:  # else a busy machine made it a long one
+            assert answer == (0, b"")
+            return
+    pytest.skip("a machine that takes two seconds for anything")
 
 
 def test_a_refusal_has_a_line_of_its_own(slow, tmp_path):
