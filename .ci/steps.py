@@ -41,7 +41,6 @@ STAGES = [
         "test": "python3 -m tests",
         "calls": "python3 -m tests.tables.make --check",
         "mutants": ".ci/mutants --placed",
-        "judge": "python3 -m tests.proofs.judge",
         "pages": "python3 -m tests.docs.pages",
         "promises": "python3 -m tests.docs.promises",
         "unbuilt": "pytest -m unbuilt",
@@ -51,7 +50,6 @@ STAGES = [
     }),
     ("built programs", 0, {
         "built": "pytest -m built",
-        "bits": "python3 -m tests.generated.bits",
         "take": "python3 -m tests.tools.take",
         "spool": "python3 -m tests.tools.spool",
         "compare": "python3 -m tests.generated.compare",

@@ -1,21 +1,19 @@
-"""Tests how .ci/mutants judges wrong bodies, by a prover of its own that says what the kit's prover says.
-
-    python3 -m tests.proofs.judge
+"""How .ci/mutants judges wrong bodies, by a prover of its own that says what the kit's prover says.
 
 The prover knows one function, and an answer by hand that fits its own body alone. The trials must find fault with a
 judge that tries no goal again, and with one that leaves a clause where it is.
 """
 import contextlib
-import importlib.machinery
-import importlib.util
 import os
 import shutil
-import stat
 import sys
 import tempfile
 
+import pytest
+
 from tests import TOP
 from tests.proofs import corpus
+from tests.tools.programs import loaded
 
 CRATE, FILE, FUNCTION, OLD = "cadf_terms", "src/outcome.rt", "root_len", "return i;"
 GOAL = "returns-then-b-eq47-clause-end"
@@ -37,12 +35,13 @@ TRIALS = [("return 0 + i;", None, corpus.PROVES), ("return i + 1;", None, GOAL),
           ("return i + 1;", "end", corpus.PROVES), ("return i + 1;", "within", GOAL)]
 
 
-def judge(prover):
-    """Loads .ci/mutants, with that prover and a copy of the one crate."""
-    loader = importlib.machinery.SourceFileLoader("mutants", os.path.join(TOP, ".ci", "mutants"))
-    module = importlib.util.module_from_spec(importlib.util.spec_from_loader("mutants", loader))
-    loader.exec_module(module)
-    module.RT, module.copied_tree = prover, copied_crate
+@pytest.fixture
+def mutants(tmp_path):
+    """.ci/mutants as a module, with that prover and a copy of the one crate."""
+    prover, module = tmp_path / "rt", loaded(os.path.join(TOP, ".ci", "mutants"))
+    prover.write_text(PROVER, encoding="utf-8")
+    prover.chmod(0o700)
+    module.RT, module.copied_tree = str(prover), copied_crate
     return module
 
 
@@ -55,32 +54,27 @@ def copied_crate(crate):
         yield top
 
 
-def wrong(mutants):
-    """Lists the trials that the judge judges wrongly."""
+def verdicts(mutants):
+    """What the judge says in each trial."""
     rows = [corpus.Row(CRATE, ["%s %s" % (FILE, FUNCTION), "- " + OLD, "+ " + new]) for new, _, _ in TRIALS]
-    for row, (new, clause, right) in zip(rows, TRIALS):
-        verdicts = [verdict for _, verdict in mutants.try_rows([row], clause)]
-        if verdicts != [right]:
-            yield "%s without %s: %s in place of %s" % (new, clause, verdicts, right)
+    return [[verdict for _, verdict in mutants.try_rows([row], clause)] for row, (_, clause, _) in zip(rows, TRIALS)]
 
 
-def main():
-    with tempfile.TemporaryDirectory() as folder:
-        prover = os.path.join(folder, "rt")
-        with open(prover, "w", encoding="utf-8") as file:
-            file.write(PROVER)
-        os.chmod(prover, stat.S_IRWXU)
-        right, hasty, blind = judge(prover), judge(prover), judge(prover)
-        hasty.taken_away = lambda *_: False
-        blind.try_rows = lambda rows, _: right.try_rows(rows)
-        faults = list(wrong(right))
-        faults += [] if list(wrong(hasty)) else ["a judge that tries no goal again passes"]
-        faults += [] if list(wrong(blind)) else ["a judge that leaves the clause where it is passes"]
-    for fault in faults:
-        print("judge: " + fault)
-    print("judge: %d trials" % len(TRIALS))
-    sys.exit(1 if faults else 0)
+RIGHT = [[verdict] for _, _, verdict in TRIALS]
 
 
-if __name__ == "__main__":
-    main()
+def test_judge(mutants):
+    assert verdicts(mutants) == RIGHT
+
+
+def test_hasty_judge(mutants):
+    """One that tries no goal again is found at fault."""
+    mutants.taken_away = lambda *_: False
+    assert verdicts(mutants) != RIGHT
+
+
+def test_blind_judge(mutants):
+    """So is one that leaves a clause where it is."""
+    try_rows = mutants.try_rows
+    mutants.try_rows = lambda rows, _: try_rows(rows)
+    assert verdicts(mutants) != RIGHT
