@@ -7,8 +7,8 @@ from typing import NamedTuple
 PAGE = "share/cadf/report/"
 CHANGED, INSTALLED, PACKAGES, UNITS = ("tests/package/test_%s.py -k " % name for name in ("builds", "installed", "packages", "units"))
 
-CRASH, TURNS, OPENSTACK, LISTENER, BROKER, COMPARED = (
-    "tests/tools/test_%s.py -k " % name for name in ("crash_order", "turns", "from_openstack", "listener", "listener_broker", "compared"))
+CRASH, TURNS, OPENSTACK, LISTENER, COMPARED = (
+    "tests/tools/test_%s.py -k " % name for name in ("crash_order", "turns", "from_openstack", "listener", "compared"))
 REPORTS, MEANING = ("tests/tools/test_report%s.py -k " % name for name in ("", "_meaning"))
 HEADER, TOLD = "tests/library/test_header.py -k ", "tests/docs/test_told.py -k "
 TOOLKIT = "tests/tools/test_toolkit.py"
@@ -68,8 +68,8 @@ ROWS = [
     Row("openstack: each 500th line is lost", "tools/cadf-from-openstack", "self.is_whole):\n                    kind =", "self.is_whole):\n                    if place % 500 == 0:\n                        continue\n                    kind =", OPENSTACK + "test_many_lines"),
     Row("openstack: documents of 2^31 bytes", "tools/cadf-from-openstack", "LARGEST = 2 ** 30", "LARGEST = 2 ** 31", OPENSTACK + "test_files"),
     # ---- The listener
-    Row("listener: queue not durable", "tools/cadf-listen", "durable=True, auto_delete=False", "durable=False, auto_delete=False", BROKER + "test_queue_stays"),
-    Row("listener: queue deleted", "tools/cadf-listen", "durable=True, auto_delete=False", "durable=True, auto_delete=True", BROKER + "test_queue_stays"),
+    Row("listener: queue not durable", "tools/cadf-listen", "durable=True, auto_delete=False", "durable=False, auto_delete=False", LISTENER + "test_makes_queue"),
+    Row("listener: queue deleted", "tools/cadf-listen", "durable=True, auto_delete=False", "durable=True, auto_delete=True", LISTENER + "test_makes_queue"),
     Row("listener: binds once", "tools/cadf-listen", "time.monotonic() + BETWEEN_BINDINGS", 'float("inf")', LISTENER + "test_binds_again"),
     Row("listener: URL read once", "tools/cadf-listen", "    retries, turn = Retries(), 0\n", "    retries, turn, text = Retries(), 0, url_of(options)\n    options.url = text\n", LISTENER + "test_reads_url_again"),
     Row("listener: no memory is tried again", "tools/cadf-listen", "        except (Fault, MemoryError):\n", "        except Fault:\n", LISTENER + "test_memory"),

@@ -50,6 +50,27 @@ def test_binds_again(program, monkeypatch):
     assert program.lines == ["exchanges that no service has made yet: nova", "exchanges that no service has made yet: none"]
 
 
+def test_makes_queue(program, monkeypatch):
+    """The queue that it makes outlasts it, and a restart of the broker."""
+    made = []
+
+    class Absent(Exception):
+        pass
+
+    def declare(name, **how):
+        if how == {"passive": True}:
+            raise Absent
+        made.append((name, how))
+
+    channel = types.SimpleNamespace(queue_declare=declare, close=lambda: None)
+    monkeypatch.setattr(program, "amqp", types.SimpleNamespace(NotFound=Absent))
+    program.find_queue(types.SimpleNamespace(channel=lambda: channel), "own", True)
+    assert made == [("own", {"durable": True, "auto_delete": False})]
+    with pytest.raises(Absent):
+        program.find_queue(types.SimpleNamespace(channel=lambda: channel), "own", False)
+    assert len(made) == 1
+
+
 def test_reads_url_again(program, monkeypatch, tmp_path):
     """A password that was changed in the file holds for the next connection."""
     url, seen = tmp_path / "url", []
