@@ -20,7 +20,8 @@ SYSTEM = "/lib/systemd/system"
 INSTANCE = "audit"
 OLDEST = 250  # the first systemd-analyze that judges files in a folder
 SERVICE, TIMER = "cadf-spool@.service", "cadf-spool@.timer"
-MOST_EXPOSED = {SERVICE: 0.5, "cadf-listen@.service": 2.5, "cadf-spool-folders@.service": 10}  # of 10, for each service
+SYNC, TIMERS = "cadf-sync@.service", (TIMER, "cadf-sync@.timer")
+MOST_EXPOSED = {SERVICE: 0.5, SYNC: 1.2, "cadf-listen@.service": 2.5, "cadf-spool-folders@.service": 10}  # of 10, for each service
 # What docs/OPERATING.md says of them: no capability, network or device; two folders to write to; each five minutes. A run
 # of an input of 2^30 bytes takes four times as much memory.
 SAID = [
@@ -29,6 +30,9 @@ SAID = [
     (SERVICE, "Service", "StateDirectory", "cadf/%i"), (SERVICE, "Service", "ReadWritePaths", "/var/spool/cadf/%i"),
     (SERVICE, "Service", "MemoryMax", "5G"), (TIMER, "Timer", "OnCalendar", "*:0/5"), (TIMER, "Timer", "Persistent", "yes"),
     ("cadf-listen@.service", "Service", "StateDirectory", "cadf/%i cadf/%i/bus"),
+    (SYNC, "Service", "CapabilityBoundingSet", ""), (SYNC, "Service", "StateDirectory", "cadf/%i"),
+    (SYNC, "Service", "EnvironmentFile", "/etc/cadf/%i.peer"), (SYNC, "Service", "LoadCredential", "key:/etc/cadf/%i.key"),
+    ("cadf-sync@.timer", "Timer", "OnCalendar", "*:0/15"),
 ]
 
 
@@ -58,7 +62,7 @@ def root(tmp_path_factory):
     shutil.copy2("/bin/systemd-tmpfiles", folder / "usr" / "bin")
     system = folder / "etc" / "systemd" / "system"
     system.mkdir(parents=True)
-    for name in (TIMER, *MOST_EXPOSED):
+    for name in (*TIMERS, *MOST_EXPOSED):
         shutil.copy2(os.path.join(UNITS, name), system)
     return folder
 
@@ -70,7 +74,7 @@ def instance(name):
 @pytest.mark.needs("systemd-analyze")
 def test_understood(root):
     names = sorted(name for name in os.listdir(UNITS) if name.endswith((".service", ".timer")))
-    assert names == sorted([TIMER, *MOST_EXPOSED])
+    assert names == sorted([*TIMERS, *MOST_EXPOSED])
     assert analyzed("verify", "--man=no", "--root=%s" % root, *map(instance, names)) == (0, "")
 
 
@@ -99,3 +103,14 @@ def test_words(cadf, tmp_path):
     assert done.status == 0, done
     agreed = ended(os.path.join(TOP, "tools", "cadf-agree"), [str(site), os.path.join(VECTORS, "north.cadf")], env=environment)
     assert agreed == (0, b"", b"")
+
+
+def test_words_of_the_exchange(cadf, tmp_path):
+    """cadf-sync takes the words of its unit, over sites of its own, on this machine."""
+    program, *words = shlex.split(settings(SYNC)["Service"]["ExecStart"])
+    for place, own in (("$OPTIONS", "--pull"), ("/var/lib/cadf/%i/site", str(tmp_path / "site.cadf")), ("${PEER}", os.path.join(VECTORS, "north.cadf"))):
+        words[words.index(place)] = own
+    done = ended(os.path.join(TOP, "tools", program), words, env={**os.environ, "CADF": cadf})
+    assert done.status == 0, done
+    with open(os.path.join(VECTORS, "north.cadf"), "rb") as file:
+        assert (tmp_path / "site.cadf").read_bytes() == file.read()

@@ -227,6 +227,18 @@ def listens(trial):
     trial.say("what it received is taken", status == 0 and atoms() == before + 1, said + journal("cadf-bus@audit"))
 
 
+def exchanges(trial):
+    """The unit of the exchange, with a peer that is a site of this machine, so that it needs no sshd."""
+    peer = "/var/lib/cadf/audit/peer.cadf"
+    os.makedirs("/etc/cadf", exist_ok=True)
+    for name, text in (("audit.peer", "PEER=%s\nOPTIONS=--push\n" % peer), ("audit.key", "none\n")):
+        with open(os.path.join("/etc/cadf", name), "w", encoding="ascii") as file:
+            file.write(text)
+    runs_lines(trial, "SYNC.md", "systemctl enable --now cadf-sync@audit.timer")
+    status, said = run("systemctl", "start", "cadf-sync@audit.service")
+    trial.say("the peer has what the site holds", status == 0 and run("cadf-agree", SITE, peer)[0] == 0, said + journal("cadf-sync@audit"))
+
+
 def journal(unit):
     return run("journalctl", "--no-pager", "-o", "cat", "-n", "20", "-u", unit)[1]
 
@@ -285,6 +297,7 @@ def inside(kills):
         is_filtered(trial)
         survives(trial, kills)
         listens(trial)
+        exchanges(trial)
         upgrades(trial)
         goes(trial)
     except Exception as fault:  # what else went wrong is told outside

@@ -1,0 +1,367 @@
+"""What two ends of cadf-sync write to each other: first lines, messages of items, and the limits that hold for both.
+
+docs/FORMATS.md has the form. Nothing that is read is trusted: each number has a limit, each wait an end.
+"""
+import contextlib
+import json
+import os
+import re
+import select
+import tempfile
+import threading
+import time
+from typing import NamedTuple
+
+from cadf_toolkit import FAILED, REFUSED, Fault, Input, printable
+
+VERSION = 1
+FIRST = re.compile(rb"CADF-SYNC ([1-9][0-9]{0,5}) (\{.*\})")
+HEAD = re.compile(rb"([a-z]{1,16}) (0|[1-9][0-9]{0,9})")
+PART = r"shared|all|\d{4}-\d\d(?:-\d\d(?:T\d\d)?)?"
+ENTRY = re.compile(("(" + PART + r") ([a-z]{1,16}) (0|[1-9][0-9]{0,9})\n").encode())
+LEAST, LARGEST = 2 ** 10, 2 ** 30  # bytes of a message at most, as of a file that cadf reads
+ENOUGH = 2 ** 24  # bytes after which another message begins: what it brought is taken before a link may be cut
+LONGEST = 86400  # seconds of silence
+LONGEST_FIRST, LONGEST_HEAD, LONGEST_ENTRY = 2 ** 15, 32, 64  # bytes of a line
+LONGEST_TEXT = 2000  # characters of what the other end says
+MOST_ITEMS = 10000  # of a message
+MOST_WAITS = 1000  # of an end that works, one after another
+BEAT = 10  # seconds between two signs of life of an end that works
+BLOCK, PIECE = 2 ** 16, 4096  # bytes that are read at once; that have to come in time, and go without blocking
+LOOK = 100  # milliseconds between two looks whether a wait goes on
+
+
+class Item(NamedTuple):
+    """What a message says of a part: of that kind, with the bytes of a file from that place on."""
+    part: str
+    kind: str
+    file: object = None
+    begin: int = 0
+    length: int = 0
+
+    def line(self):
+        return b"%s %s %d\n" % (self.part.encode(), self.kind.encode(), self.length)
+
+    def blocks(self):
+        """Yields the bytes."""
+        at, end = self.begin, self.begin + self.length
+        while at < end:
+            block = os.pread(self.file.fileno(), min(BLOCK, end - at), at)
+            if not block:
+                raise Fault("%s: it became shorter while it was read" % self.part)
+            at += len(block)
+            yield block
+
+    def content(self):
+        return b"".join(self.blocks())
+
+    def input(self, name):
+        """The bytes as an input of their own, which goes with the call."""
+        copy = tempfile.TemporaryFile()
+        for block in self.blocks():
+            copy.write(block)
+        copy.flush()
+        return Input(name, copy)
+
+
+class Store:
+    """A private file to which items are written one after another. It goes with the call."""
+
+    def __init__(self):
+        self.file, self.end = tempfile.TemporaryFile(buffering=0), 0
+
+    def begin(self):
+        """Returns the descriptor to which the next item is written."""
+        self.file.truncate(self.end)
+        self.file.seek(self.end)
+        return self.file.fileno()
+
+    def item(self, part, kind):
+        """The item of what was written since."""
+        begin, self.end = self.end, os.fstat(self.file.fileno()).st_size
+        return Item(part, kind, self.file, begin, self.end - begin)
+
+    def put(self, part, kind, content=b""):
+        """Writes an item of these bytes."""
+        file = self.begin()
+        while content:
+            content = content[os.write(file, content):]
+        return self.item(part, kind)
+
+
+def batches(items, limit):
+    """Yields the items in lists that are messages of at most so many bytes, and of about as many as one should have."""
+    batch, size = [], 1
+    for each in items:
+        own = len(each.line()) + each.length
+        if own + 1 > limit:
+            raise Fault("%s: %d bytes, and a message has at most %d: raise --limit at both ends" % (each.part, own, limit), REFUSED)
+        if batch and (size + own > min(limit, ENOUGH) or len(batch) == MOST_ITEMS):
+            yield batch
+            batch, size = [], 1
+        batch.append(each)
+        size += own
+    if batch:
+        yield batch
+
+
+class Message(NamedTuple):
+    """A message that was read whole: its word, and a private file of its bytes."""
+    word: str
+    file: object
+    length: int
+
+    def content(self, most=LARGEST):
+        """Its bytes, at most so many."""
+        return os.pread(self.file.fileno(), min(most, self.length), 0)
+
+    def items(self, kinds):
+        """Its items, which are of these kinds. None if it has none, or they are not what its bytes are."""
+        with open("/dev/fd/%d" % self.file.fileno(), "rb") as lines:
+            found, begin = [], 0
+            while (line := lines.readline(LONGEST_ENTRY)) != b"\n":
+                begin += len(line)
+                entry = ENTRY.fullmatch(line)
+                if not entry or entry[2].decode() not in kinds or len(found) == MOST_ITEMS:
+                    return None
+                found.append((entry[1].decode(), entry[2].decode(), int(entry[3])))
+            begin += len(line)
+        items = []
+        for part, kind, length in found:
+            items.append(Item(part, kind, self.file, begin, length))
+            begin += length
+        return items if begin == self.length and items else None
+
+
+class Limits(NamedTuple):
+    """Bytes of a message, seconds of silence, bytes of a session."""
+    limit: int = LARGEST
+    timeout: float = 60
+    most: int = 2 ** 63
+
+
+class Wrong(Fault):
+    """The other end says what it may not say."""
+
+    def __init__(self, text):
+        super().__init__(text, REFUSED)
+
+
+class Link:
+    """One end of a connection, by the descriptors from which it is read and to which it is written."""
+
+    def __init__(self, reading, writing, peer, limits):
+        self.reading, self.writing, self.peer, self.limits = reading, writing, peer, limits
+        self.ahead, self.received, self.sent, self.is_stopped = b"", 0, 0, False
+        self.limit, self.beat = LARGEST, BEAT  # for the other end: bytes of a message, seconds between two signs of life
+        self.progress = lambda: None
+
+    # ---- Bytes
+
+    def ready(self, file, event, ending):
+        """Waits until the file can be read or written, at most until that time."""
+        waiting = select.poll()
+        waiting.register(file, event)
+        while not waiting.poll(LOOK):
+            self.progress()
+            if self.is_stopped:
+                raise Fault("%s: stopped" % self.peer)
+            if time.monotonic() >= ending:
+                raise Fault("%s: silent for %g seconds: try again, or wait longer by --timeout" % (self.peer, self.limits.timeout))
+
+    def check_most(self):
+        if self.received + self.sent > self.limits.most:
+            raise Wrong("%s: more than %d bytes in one session: if that is meant, raise --most" % (self.peer, self.limits.most))
+
+    def ending(self):
+        return time.monotonic() + self.limits.timeout
+
+    def read(self, ending):
+        """Reads some bytes ahead. False at the end of the connection."""
+        self.ready(self.reading, select.POLLIN, ending)
+        block = os.read(self.reading, BLOCK)
+        self.received += len(block)
+        self.check_most()
+        self.ahead += block
+        return bool(block)
+
+    def line(self, longest):
+        """The next line, without its line feed, whole in time. None at the end of the connection."""
+        ending, begun = self.ending(), time.monotonic()
+        while b"\n" not in self.ahead:
+            if len(self.ahead) >= longest:
+                raise Wrong("%s: a line without an end: %s" % (self.peer, shown(self.ahead)))
+            if not self.read(ending):
+                if self.ahead:
+                    raise Fault("%s: cut in a line after %.1f seconds: %s" % (self.peer, time.monotonic() - begun, shown(self.ahead)))
+                return None
+        line, _, self.ahead = self.ahead.partition(b"\n")
+        if len(line) >= longest:
+            raise Wrong("%s: a line that is too long: %s" % (self.peer, shown(line)))
+        return line
+
+    def receive(self, length):
+        """A private file of the next bytes. Of each piece all has to come in time."""
+        file = tempfile.TemporaryFile()
+        while length:
+            ending = self.ending()
+            while len(self.ahead) < min(length, PIECE):
+                if not self.read(ending):
+                    raise Fault("%s: cut in a message, of which %d bytes lack: make the call again" % (self.peer, length - len(self.ahead)))
+            block, self.ahead = self.ahead[:length], self.ahead[length:]
+            file.write(block)
+            length -= len(block)
+        file.flush()
+        return file
+
+    def send(self, data):
+        """Writes all the bytes, each piece in time."""
+        for begin in range(0, len(data), PIECE):
+            piece, ending = data[begin:begin + PIECE], self.ending()
+            while piece:
+                self.ready(self.writing, select.POLLOUT, ending)
+                try:
+                    count = os.write(self.writing, piece)
+                except BrokenPipeError:
+                    raise Fault("%s: it ended: make the call again" % self.peer) from None
+                self.sent += count
+                self.check_most()
+                piece = piece[count:]
+
+    # ---- Messages
+
+    def send_message(self, word, content=b"", items=()):
+        """Writes a message of these bytes, or of items."""
+        table = b"".join(each.line() for each in items) + b"\n" if items else content
+        self.send(b"%s %d\n" % (word.encode(), len(table) + sum(each.length for each in items)) + table)
+        for each in items:
+            for block in each.blocks():
+                self.send(block)
+
+    def message(self, words):
+        """The next message, whose word is one of these. None at the end of the connection. Signs of life are passed over."""
+        for _ in range(MOST_WAITS + 1):
+            line = self.line(LONGEST_HEAD)
+            if line is None:
+                return None
+            head = HEAD.fullmatch(line)
+            word, length = (head[1].decode(), int(head[2])) if head else (None, 0)
+            if word == "wait" and length == 0:
+                continue
+            if word not in words:
+                raise Wrong("%s: no message that it may send: %s" % (self.peer, shown(line)))
+            if length > self.limits.limit:
+                raise Wrong("%s: a message of %d bytes, and --limit is %d" % (self.peer, length, self.limits.limit))
+            return Message(word, self.receive(length), length)
+        raise Wrong("%s: it says that it works, again and again, and nothing else" % self.peer)
+
+    @contextlib.contextmanager
+    def beside(self, work):
+        """Has the work done meanwhile, in a thread. It is stopped at the end. Yields a list that gets its fault."""
+        faults = []
+
+        def run():
+            try:
+                work()
+            except (Fault, OSError) as fault:
+                faults.append(fault)
+
+        thread = threading.Thread(target=run, daemon=True)
+        thread.start()
+        try:
+            yield thread, faults
+        finally:
+            self.is_stopped = True
+            thread.join()
+            self.is_stopped = False
+
+    @contextlib.contextmanager
+    def busy(self):
+        """Writes a sign of life now and then while this end works."""
+        done = threading.Event()
+
+        def beat():
+            while not done.wait(self.beat):
+                self.send(b"wait 0\n")
+
+        with self.beside(beat):
+            try:
+                yield
+            finally:
+                done.set()
+
+    def asked(self, word, answer, content=b"", items=()):
+        """Sends a request and reads its answer meanwhile, which has that word."""
+        with self.beside(lambda: self.send_message(word, content, items)) as (thread, faults):
+            found = self.answer(answer)
+            thread.join(self.limits.timeout)
+            is_early = thread.is_alive()
+        if is_early or faults:
+            raise Wrong("%s: it answers before it was asked" % self.peer)
+        return found
+
+    def answer(self, word):
+        """The answer to a request that was sent, which has that word. Raises the fault that the other end tells."""
+        found = self.message((word, "fault"))
+        if found is None:
+            raise Fault("%s: the connection ended: make the call again" % self.peer)
+        if found.word == "fault":
+            raise fault_of(self.peer, found.content(4 * LONGEST_TEXT))
+        return found
+
+    # ---- First lines
+
+    def send_first(self, version, **members):
+        text = json.dumps(members, ensure_ascii=True, separators=(",", ":"), sort_keys=True)
+        self.send(b"CADF-SYNC %d %s\n" % (version, text.encode()))
+
+    def own(self, **members):
+        """The members of a first line, with the limits of this end."""
+        return dict(members, limit=self.limits.limit, timeout=self.limits.timeout)
+
+    def keep_to(self, members):
+        """Keeps to the limits of the other end, by the members of its first line."""
+        self.limit = number_of(members, "limit", LEAST, LARGEST)
+        self.beat = min(BEAT, number_of(members, "timeout", 1, LONGEST) / 4)
+
+    def first(self):
+        """The version and the members of the other end's first line. None at the end of the connection, bytes if it is no such line."""
+        try:
+            line = self.line(LONGEST_FIRST)
+        except Wrong:
+            return self.ahead
+        if line is None:
+            return None
+        found = FIRST.fullmatch(line)
+        try:
+            return (int(found[1]), json.loads(found[2])) if found else line
+        except (ValueError, RecursionError):
+            return line
+
+
+def number_of(members, name, least, most):
+    """The number of a first line's member."""
+    value = members.get(name)
+    if type(value) is not int or not least <= value <= most:
+        raise Wrong("no %s in the first line" % name)
+    return value
+
+
+def text_of(members, name):
+    """The text of a first line's member, or None for null and for none."""
+    value = members.get(name)
+    if value is not None and (not isinstance(value, str) or len(value) > LONGEST_FIRST):
+        raise Wrong("no text in the first line: %s" % name)
+    return value
+
+
+def shown(data):
+    """The first of some bytes, as text that can be printed."""
+    return printable(json.dumps(data[:200].decode("utf-8", "backslashreplace"), ensure_ascii=False))
+
+
+def fault_of(peer, content):
+    """The fault that the other end tells: a digit, the status, and a text."""
+    text = content.decode("utf-8", "backslashreplace")
+    status = int(text[0]) if text[:1] in ("1", "3", "4") else FAILED
+    return Fault("%s: %s" % (peer, printable(text[2:LONGEST_TEXT])), status)

@@ -1,0 +1,90 @@
+"""Numbers of a tool's run, in a file that the textfile collector of Prometheus' node_exporter reads.
+
+A run that succeeds replaces the file whole. One that fails leaves it, so the time of the last success grows old.
+"""
+import contextlib
+import os
+import re
+import secrets
+import subprocess
+import sys
+import tempfile
+import time
+
+import cadf_site
+from cadf_toolkit import DIFFERS, DONE, FAILED, MEMORY, REFUSED, Fault, cadf, name_shown, naming, started, tool
+
+HELP = {
+    "facts_taken": "Facts that the last run took into the site; of cadf-spool, those that it held before among them.",
+    "facts_lacked": "Facts of the other site that the site lacks.",
+    "facts_lacked_by_peer": "Facts that the peer lacked when the last run compared.",
+    "files": "Files of the last run, by what became of them.",
+    "open_conflicts": "Open conflicts of the windows that the last run changed.",
+    "largest_window_bytes": "Bytes of the site's largest window.",
+    "last_success_timestamp_seconds": "When the last run that succeeded ended.",
+}
+COUNTED = re.compile(r"open (\d+), settled \d+$")  # what cadf-conflicts says at its end
+
+
+def escaped(value):
+    return value.replace("\\", "\\\\").replace('"', '\\"').replace("\n", "\\n")
+
+
+def text_of(labels, values):
+    """The text of values, each (name, further labels, number), with the time of this success; the first counts of equal ones."""
+    lines = {}
+    for name, more, number in [*values, ("last_success_timestamp_seconds", {}, int(time.time()))]:
+        lines.setdefault("# HELP cadf_%s %s" % (name, HELP[name]), "\n# TYPE cadf_%s gauge\n" % name)
+        shown = ",".join('%s="%s"' % (label, escaped(value)) for label, value in {**labels, **more}.items())
+        lines.setdefault("cadf_%s{%s}" % (name, shown), " %d\n" % number)
+    return "".join(map("".join, lines.items()))
+
+
+def write(path, labels, values):
+    """Replaces the file, which all may read, by values with these labels, to which the tool's name is added."""
+    working = "%s.%s" % (path, secrets.token_hex(8))
+    with naming(path):
+        try:
+            with open(os.open(working, os.O_WRONLY | os.O_CREAT | os.O_EXCL, 0o644), "w", encoding="utf-8") as file:
+                file.write(text_of({"tool": tool(), **labels}, values))
+                os.fchmod(file.fileno(), 0o644)
+            os.rename(working, path)
+        except BaseException:
+            with contextlib.suppress(OSError):
+                os.unlink(working)
+            raise
+
+
+def largest_window(name):
+    """The bytes of a site's largest window; of all of a site that is a file."""
+    if not os.path.lexists(name):
+        return 0
+    if not cadf_site.is_folder(name):
+        return os.stat(name).st_size
+    with cadf_site.opened_site(name) as (_, inputs):
+        sizes = {}
+        for (part, _), each in inputs.items():
+            sizes[part] = sizes.get(part, 0) + os.fstat(each.file.fileno()).st_size
+    return max(sizes.values(), default=0)
+
+
+def open_conflicts(name, parts=None):
+    """How many conflicts are open in a site; in a folder, if parts are given, of these windows and of what is of no time."""
+    if parts is None or not cadf_site.is_folder(name):
+        return listed_conflicts(name)
+    with cadf_site.opened_site(name, lambda part: part in parts or part == cadf_site.SHARED) as (_, inputs), tempfile.TemporaryFile() as file:
+        if not parts or not inputs:
+            return 0
+        cadf(["join"], list(inputs.values()), file.fileno())
+        return listed_conflicts("/dev/fd/%d" % file.fileno(), [file.fileno()])
+
+
+def listed_conflicts(name, keep=()):
+    """How many open keys the tool beside this one lists."""
+    beside = os.path.join(os.path.dirname(os.path.realpath(sys.argv[0])), "cadf-conflicts")
+    with started([sys.executable, beside, "--", name], stdin=subprocess.DEVNULL, stdout=subprocess.DEVNULL, stderr=subprocess.PIPE, pass_fds=keep) as child:
+        said = child.communicate()[1].decode("utf-8", "backslashreplace").strip()
+    counted = COUNTED.search(said)
+    if child.returncode not in (DONE, DIFFERS) or not counted:
+        raise Fault("%s: cadf-conflicts: %s" % (name_shown(name), said), child.returncode if child.returncode in (REFUSED, MEMORY) else FAILED)
+    return int(counted[1])

@@ -1,0 +1,800 @@
+"""cadf-sync: two sites hold the union, whatever the other end says, and whenever the connection ends.
+
+What sites have to hold is made by the second implementation. The far side is tests/tools/far_side.py where bytes are
+counted, cut or made up, and a real sshd on loopback where there is one.
+"""
+import datetime
+import hashlib
+import json
+import os
+import random
+import shutil
+import signal
+import socket
+import subprocess
+import sys
+import threading
+import time
+
+import pytest
+
+from tests import TOP
+from tests.machine import ended, side_by_side
+from tests.reference.events import document
+from tests.reference.inventory_files import inventory_of
+from tests.reference.json_text import spelled
+from tests.reference.replica_files import file_of, read_file
+from tests.reference.split_files import parts_of
+from tests.tools.copies import copied
+
+sys.path.insert(0, os.path.join(TOP, "share", "cadf"))
+import cadf_site
+
+TOOLS = os.path.join(TOP, "tools")
+REFERENCE = os.path.join(TOP, "tests", "reference", "cadf")
+FAR = os.path.join(TOP, "tests", "tools", "far_side.py")
+MOST_DIFFERING, MOST_EQUAL, MOST_TURNS = 100000, 40000, 6  # bytes both ways beyond the answers, turns of the line
+CUTS = 50
+FIRST = b'CADF-SYNC 1 {"limit":1073741824,"log":"g","timeout":60,"unit":null,"writes":true}\n'
+EVENT = {"eventType": "activity", "action": "read", "outcome": "success", "initiatorId": "u1", "targetId": "t1",
+         "observerId": "s1"}
+
+
+def facts(*keys, log="g"):
+    """The atoms of events of these numbers, on 28 days, each with a tag."""
+    events = [dict(EVENT, id="e%d" % key, eventTime="2024-03-%02dT12:00:00Z" % (1 + key % 28), tags=["t"]) for key in keys]
+    return document({"id": log, "events": events, "name": "x"})[1]
+
+
+class Sites:
+    """A folder with sites, and the tool over them."""
+
+    def __init__(self, path, cadf=REFERENCE, tools=TOOLS):
+        self.path, self.cadf, self.tools = path, cadf, tools
+
+    def put(self, name, atoms, log="g"):
+        (self.path / name).write_bytes(file_of(log, atoms))
+
+    def holds(self, name):
+        return read_file((self.path / name).read_bytes())[1]
+
+    def environment(self):
+        return dict(os.environ, CADF=self.cadf, TOOLS=self.tools)
+
+    def sync(self, *words):
+        return ended(os.path.join(self.tools, "cadf-sync"), words, env=self.environment(), cwd=self.path)
+
+    def far(self, *words):
+        """What `--rsh` is to be for a mode of far_side.py."""
+        return "--rsh=%s %s %s" % (sys.executable, FAR, " ".join(map(str, words)))
+
+    def lied_to(self, data, *words, mode="says", timeout=20):
+        """What the tool answers if the far side writes this. Its site has to stay as it was."""
+        (self.path / "lie").write_bytes(data)
+        before = sorted((each.name, each.read_bytes()) for each in self.path.iterdir())
+        answer = self.sync("--timeout=%d" % timeout, *words, self.far(mode, self.path / "lie"), "here.cadf", "h:there.cadf")
+        assert sorted((each.name, each.read_bytes()) for each in self.path.iterdir()) == before
+        return answer
+
+    def served(self, data, *words):
+        """What the serving end answers."""
+        return ended(os.path.join(self.tools, "cadf-sync"), ["--serve", "--timeout=20", *words, "here.cadf"], input=data,
+                     env=self.environment(), cwd=self.path)
+
+
+@pytest.fixture
+def sites(tmp_path):
+    return Sites(tmp_path)
+
+
+def said(answer):
+    return answer.error.decode()
+
+
+# ---- What both sites hold
+
+@pytest.mark.parametrize("way, here, there", [
+    ((), (1, 2, 3, 4), (1, 2, 3, 4)), (("--pull",), (1, 2, 3, 4), (3, 4)), (("--push",), (1, 2, 3), (1, 2, 3, 4)),
+])
+def test_two_files(sites, way, here, there):
+    sites.put("here.cadf", facts(1, 2, 3))
+    sites.put("there.cadf", facts(3, 4))
+    answer = sites.sync(*way, "here.cadf", "there.cadf")
+    assert (answer.status, answer.error) == (0, b"")
+    new = 2 if way != ("--push",) else 0, 4 if way != ("--pull",) else 0
+    assert answer.output.decode().startswith("took %d facts here, %d there; 1 of 1 windows differed; " % new)
+    assert (sites.path / "here.cadf").read_bytes() == file_of("g", facts(*here))
+    assert (sites.path / "there.cadf").read_bytes() == file_of("g", facts(*there))
+
+
+def test_equal_sites_cost_a_line(sites):
+    for name in ("here.cadf", "there.cadf"):
+        sites.put(name, facts(1, 2))
+    answer = sites.sync("--json", "here.cadf", "there.cadf")
+    told = json.loads(answer.output)
+    assert told["bytes_sent"] + told["bytes_received"] < 400
+    assert {name: told[name] for name in ("taken_here", "taken_there", "windows", "windows_differed")} == {
+        "taken_here": 0, "taken_there": 0, "windows": 1, "windows_differed": 0}
+    assert not (sites.path / "here.cadf.lock").exists()
+
+
+@pytest.mark.parametrize("words, name", [(("there.cadf", "new.cadf"), "new.cadf"), (("--pull", "new.cadf", "there.cadf"), "new.cadf")])
+def test_a_site_that_is_not_there_is_made(sites, words, name):
+    sites.put("there.cadf", facts(1, 2))
+    assert sites.sync("--quiet", *words) == (0, b"", b"")
+    assert (sites.path / name).read_bytes() == file_of("g", facts(1, 2))
+
+
+def test_since_leaves_older_windows(sites):
+    sites.put("here.cadf", facts(1, 10))
+    sites.put("there.cadf", facts(2, 11))
+    assert sites.sync("--since=2024-03-11", "here.cadf", "there.cadf").status == 0
+    assert sites.holds("here.cadf") == facts(1, 10, 11) and sites.holds("there.cadf") == facts(2, 10, 11)
+
+
+def test_names_are_quoted_for_the_far_shell(sites):
+    """A name with what a shell would run is a name there too."""
+    name = "it's; touch wrong #.cadf"
+    sites.put("here.cadf", facts(1))
+    sites.put(name, facts(2))
+    (sites.path / "shell").write_text('#!/bin/sh\n[ "$1 $2" = "-- h" ] && PATH=%s:$PATH exec sh -c "$3"\n' % sites.tools)
+    (sites.path / "shell").chmod(0o755)
+    answer = sites.sync("--rsh=./shell", "here.cadf", "h:" + name)
+    assert answer.status == 0, answer
+    assert sites.holds("here.cadf") == sites.holds(name) == facts(1, 2) and not (sites.path / "wrong").exists()
+
+
+def test_conflicts_and_metrics(sites):
+    """Open conflicts of the first site end with 5; the numbers of a run are in a file that a failed run leaves."""
+    other = {(*atom[:2], atom[2].replace('"outcome":"success"', '"outcome":"failure"'), *atom[3:]) for atom in facts(2)}
+    sites.put("here.cadf", facts(1, 2))
+    sites.put("there.cadf", other)
+    answer = sites.sync("--conflicts", "--metrics=m.prom", "here.cadf", "there.cadf")
+    assert answer.status == 5 and answer.output.endswith(b"; 1 open conflicts\n"), answer
+    text = (sites.path / "m.prom").read_text()
+    numbers = dict(line.split(" ") for line in text.splitlines() if not line.startswith("#"))
+    labels = '{tool="cadf-sync",site="here.cadf",peer="there.cadf"}'
+    assert abs(int(numbers.pop("cadf_last_success_timestamp_seconds" + labels)) - time.time()) < 60
+    assert numbers == {"cadf_%s%s" % (name, labels): str(number) for name, number in (
+        ("facts_taken", 2), ("facts_lacked_by_peer", 4), ("open_conflicts", 1),
+        ("largest_window_bytes", len(file_of("g", facts(1, 2) | other))))}
+    assert sites.sync("--metrics=m.prom", "here.cadf", "none/none.cadf").status != 0
+    assert (sites.path / "m.prom").read_text() == text and sorted(os.listdir(sites.path)) == sorted(
+        ["m.prom", *(name + end for name in ("here.cadf", "there.cadf") for end in ("", ".before", ".lock"))])
+    done = ended(os.path.join(sites.tools, "cadf-agree"), ["--metrics=a.prom", "here.cadf", "there.cadf"], env=sites.environment(), cwd=sites.path)
+    assert done.status == 0
+    assert 'cadf_facts_lacked{tool="cadf-agree",sites="here.cadf there.cadf",site="here.cadf",of="there.cadf"} 0\n' in (sites.path / "a.prom").read_text()
+
+
+@pytest.mark.parametrize("words, part", [
+    (("a.cadf",), "two SITEs"), (("a.cadf", "b.cadf", "c.cadf"), "two SITEs"), (("h:a.cadf", "b.cadf"), "the first SITE is on this machine"),
+    (("a.cadf", "--", "-oProxyCommand=x:b.cadf"), "doesn't begin with `-`"), (("a.cadf", "[-x]:b.cadf"), "doesn't begin with `-`"),
+    (("a.cadf", ":b.cadf"), "no HOST:SITE"), (("a.cadf", "h::b"), "no HOST:SITE"), (("a.cadf", "h:"), "no HOST:SITE"),
+    (("--since=2024", "a.cadf", "b.cadf"), "WINDOW is"), (("--pull", "--push", "a.cadf", "b.cadf"), "not allowed with"),
+    (("--limit=2000000000", "a.cadf", "b.cadf"), "--limit"), (("--serve", "a.cadf", "b.cadf"), "--serve has one SITE"),
+])
+def test_usage(sites, words, part):
+    answer = sites.sync(*words)
+    assert answer.status == 2 and part in said(answer)
+
+
+def test_a_colon_after_a_slash_is_of_this_machine(sites):
+    sites.put("a.cadf", facts(1))
+    sites.put("h:b.cadf", facts(2))
+    assert sites.sync("a.cadf", "./h:b.cadf").status == 0
+    assert sites.holds("h:b.cadf") == facts(1, 2)
+
+
+@pytest.mark.parametrize("here, there, words, part", [
+    (None, None, (), "neither site is there"), ("g", "h", (), "other log"), ("g", "junk", (), "version"),
+])
+def test_refused_sites(sites, here, there, words, part):
+    for name, log in (("here.cadf", here), ("there.cadf", there)):
+        if log == "junk":
+            (sites.path / name).write_bytes(b"CADF-OTHER 1\n")
+        elif log:
+            sites.put(name, facts(1, log=log), log)
+    before = {each.name: each.read_bytes() for each in sites.path.iterdir()}
+    answer = sites.sync(*words, "here.cadf", "there.cadf")
+    assert answer.status == 1 and part in said(answer), answer
+    assert {each.name: each.read_bytes() for each in sites.path.iterdir()} == before
+
+
+# ---- A far side that lies
+
+def message(word, content=b""):
+    return b"%s %d\n%s" % (word, len(content), content)
+
+
+def items(*found):
+    """The bytes of a message of items, each (part, kind, content)."""
+    return b"".join(b"%s %s %d\n" % (part, kind, len(content)) for part, kind, content in found) + b"\n" + b"".join(each[2] for each in found)
+
+
+DIGEST = b"0" * 64
+LIST = message(b"list", b"W all %s\n" % DIGEST)
+OTHER = file_of("h", facts(9, log="h"))
+GOOD = file_of("g", facts(9))
+
+
+def first(**members):
+    return b"CADF-SYNC 1 %s\n" % json.dumps(dict({"limit": 2 ** 30, "timeout": 60, "log": "g", "unit": None, "writes": True}, **members)).encode()
+
+
+def answered(*found):
+    return FIRST + LIST + message(b"answer", items(*found))
+
+
+SKETCHED = (b"all", b"inventory", inventory_of("g", []))
+LIES = {
+    "a greeting": (b"Welcome to h!\n", 1, 'the far shell prints "Welcome to h!"'),
+    "a greeting first": (b"Last login\r\n" + FIRST, 1, "the far shell prints"),
+    "colours": (b"\x1b[31mred\n", 1, 'the far shell prints "\\u001b[31mred"'),
+    "zeros": (b"\0" * 40000, 1, "the far shell prints"),
+    "a line without an end": (b"CADF-SYNC 1 {" + b" " * 40000, 1, "the far shell prints"),
+    "version 2": (b"CADF-SYNC 2 {}\n", 1, "speaks version 2 of the exchange"),
+    "version 0": (b"CADF-SYNC 0 {}\n", 1, "the far shell prints"),
+    "no object": (b"CADF-SYNC 1 []\n", 1, "the far shell prints"),
+    "deep": (b"CADF-SYNC 1 {\"a\":" + b"[" * 9000 + b"]" * 9000 + b"}\n", 1, "the far shell prints"),
+    "no limit": (b"CADF-SYNC 1 {}\n", 1, "no limit"),
+    "limit -1": (first(limit=-1), 1, "no limit"),
+    "limit true": (first(limit=True), 1, "no limit"),
+    "limit 2^40": (first(limit=2 ** 40), 1, "no limit"),
+    "timeout 0": (first(timeout=0), 1, "no timeout"),
+    "timeout 1.5": (first(timeout=1.5), 1, "no timeout"),
+    "unit": (first(unit="week"), 1, "no unit"),
+    "log 7": (first(log=7), 1, "no text in the first line: log"),
+    "other log": (first(log="h"), 1, 'other log: "h"'),
+    "read only": (first(writes=False), 1, "use --pull"),
+    "a fault at first": (first(fault="1 \x1b]0;title\x07no"), 1, "\\x1b]0;title\\x07no"),
+    "a fault of no status": (first(fault="no"), 3, "h:there.cadf: "),
+    "another word": (FIRST + message(b"answer"), 1, "no message that it may send"),
+    "a shell's word": (FIRST + b"rm -rf\n", 1, "no message that it may send"),
+    "a length of 20 digits": (FIRST + b"list 10000000000000000000\n", 1, "no message that it may send"),
+    "a negative length": (FIRST + b"list -1\n", 1, "no message that it may send"),
+    "a length with a zero": (FIRST + b"list 05\nxxxxx", 1, "no message that it may send"),
+    "a length of 2^31": (FIRST + b"list 2147483648\n", 1, "--limit is 1073741824"),
+    "a wait with bytes": (FIRST + b"wait 1\nx", 1, "no message that it may send"),
+    "waits": (FIRST + b"wait 0\n" * 1001, 1, "it says that it works"),
+    "a path": (FIRST + message(b"list", b"W ../../x %s\n" % DIGEST), 1, "no list of windows"),
+    "a window without a unit": (FIRST + message(b"list", b"W 2024-03-01 %s\n" % DIGEST), 1, "no list of windows"),
+    "a short digest": (FIRST + message(b"list", b"W all 00\n"), 1, "no list of windows"),
+    "twice": (FIRST + message(b"list", b"W all %s\n" % DIGEST * 2), 1, "no list of windows"),
+    "windows that fall": (first(unit="day") + message(b"list", b"W 2024-03-02 %s\nW 2024-03-01 %s\n" % (DIGEST, DIGEST)), 1, "no list"),
+    "a day that is a path": (first(unit="day") + message(b"list", b"W 2024-03-0/ %s\n" % DIGEST), 1, "no list of windows"),
+    "too many windows": (first(unit="day") + message(b"list", b"".join(
+        b"W %04d-01-01 %s\n" % (year, DIGEST) for year in range(1000, 1500))), 1, "allow them by --windows 500"),
+    "no line feed at last": (FIRST + message(b"list", b"W all %s" % DIGEST), 1, "no list of windows"),
+    "a fault with escapes": (FIRST + message(b"fault", b"4 \x1b[2J"), 4, "\\x1b[2J"),
+    "no items": (FIRST + LIST + message(b"answer"), 1, "no items that may answer"),
+    "lengths that lie": (FIRST + LIST + message(b"answer", b"all facts 900\n\nx"), 1, "no items that may answer"),
+    "no kind": (answered((b"all", b"shell", b"")), 1, "no items that may answer"),
+    "another part": (answered((b"shared", b"facts", GOOD)), 1, "no answer for inventory of all: facts of shared"),
+    "another kind": (answered((b"all", b"sketch", b"")), 1, "no answer for inventory of all: sketch of all"),
+    "too many items": (answered(*[(b"all", b"none", b"")] * 3), 1, "no items that may answer"),
+    "cells after an inventory": (answered((b"all", b"more", b"300")), 1, "no answer for inventory of all: more of all"),
+    "facts that are none": (answered((b"all", b"facts", b"\x7fELF"), SKETCHED), 1, "all from h:there.cadf: not JSON"),
+    "facts of another log": (answered((b"all", b"facts", OTHER), SKETCHED), 1, 'other log: "h"'),
+    "facts that are cut": (answered((b"all", b"facts", GOOD[:-9]), SKETCHED), 1, "truncated"),
+    "facts that were changed": (answered((b"all", b"facts", GOOD.replace(b"u1", b"u2")), SKETCHED), 1, "digest"),
+    "an inventory that is none": (answered((b"all", b"none", b""), (b"all", b"inventory", b"x\n")), 1, "version"),
+    "an inventory of another log": (answered((b"all", b"none", b""), (b"all", b"inventory", inventory_of("h", []))), 1, "other log"),
+    "a sketch that is none": (answered((b"all", b"none", b""), (b"all", b"sketch", b"x\n")), 1, "version"),
+    "a number that is none": (answered((b"all", b"none", b""), SKETCHED) + message(b"taken", b"-1\n"), 1, "no number of facts"),
+}
+
+
+@pytest.mark.parametrize("kind", LIES)
+def test_a_far_side_that_lies(sites, kind):
+    sites.put("here.cadf", facts(1))
+    data, status, part = LIES[kind]
+    answer = sites.lied_to(data)
+    assert answer.status == status and part in said(answer), answer
+    assert said(answer).startswith("cadf-sync: ") and said(answer).count("\n") == 1 and said(answer)[:-1].isprintable()
+
+
+@pytest.mark.parametrize("mode, data, words, part", [
+    ("mute", b"", (), "silent for 1 seconds"),
+    ("says", FIRST + b"list 500\nW all", (), "silent for 1 seconds"),
+    ("mute", FIRST, (), "silent for 1 seconds"),
+    ("endless", FIRST + b"wait 0\n", (), "it says that it works"),
+    ("endless", b"a greeting without an end", (), "the far shell prints"),
+    ("endless", FIRST + b"list 1000000000\nW all\n", ("--most=5000000",), "more than 5000000 bytes in one session"),
+    ("endless", FIRST + LIST + b"answer 1000000\nall facts 0\n", (), "no items that may answer"),
+    ("drips", FIRST, (), "silent for 1 seconds"),
+])
+def test_a_far_side_without_an_end(sites, mode, data, words, part):
+    sites.put("here.cadf", facts(1))
+    answer = sites.lied_to(data, *words, mode=mode, timeout=20 if mode == "endless" else 1)
+    assert answer.status in (1, 3) and part in said(answer), answer
+
+
+def test_a_fault_is_heard_while_much_is_written(sites):
+    """The far side reads nothing of a request that no pipe holds, and says why."""
+    sites.put("here.cadf", facts(*range(3000)))
+    answer = sites.lied_to(FIRST + message(b"list") + message(b"fault", b"1 enough"), "--push", mode="mute")
+    assert (answer.status, said(answer)) == (1, "cadf-sync: h:there.cadf: enough\n")
+
+
+@pytest.mark.parametrize("rsh, status, part", [
+    ("true", 3, "it ended with status 0 before its first line"), ("false", 3, "it ended with status 1 before its first line"),
+    ("./none", 3, "./none: No such file or directory"), ("sh -c 'echo \x1b[2Jno key >&2; exit 255'", 3, "no key"),
+])
+def test_a_far_side_that_is_not_there(sites, rsh, status, part):
+    sites.put("here.cadf", facts(1))
+    answer = sites.sync("--rsh=" + rsh, "here.cadf", "h:there.cadf")
+    assert answer.status == status and part in said(answer) and "\x1b" not in said(answer), answer
+
+
+# ---- A caller that lies
+
+def hello(**members):
+    return b"CADF-SYNC 1 %s\n" % json.dumps(dict({"limit": 2 ** 30, "timeout": 60, "log": "g", "since": None, "site": "here.cadf", "unit": None}, **members)).encode()
+
+
+CALLS = {
+    "a shell's words": (b"id\n", 1, "no first line of cadf-sync"),
+    "no line feed": (b"CADF-SYNC 1 {}", 3, "cut in a line"),
+    "too long": (b"C" * 40000, 1, "no first line of cadf-sync"),
+    "version 2": (b"CADF-SYNC 2 {}\n", 1, "speaks version 2"),
+    "no site": (hello(site=None), 1, "another site"),
+    "another site": (hello(site="/etc/passwd"), 1, "another site"),
+    "a site above": (hello(site="../here.cadf"), 1, "another site"),
+    "another log": (hello(log="h"), 1, "other log"),
+    "no unit": (hello(unit="week"), 1, "no unit or no window"),
+    "no window": (hello(since="../x"), 1, "no unit or no window"),
+    "no limit": (hello(limit=0), 1, "no limit"),
+    "a list as a site": (hello(site=["here.cadf"]), 1, "no text in the first line: site"),
+    "another word": (hello() + message(b"shell", b"id"), 1, "no message that it may send"),
+    "too large": (hello() + b"take 1073741825\n", 1, "--limit is 1073741824"),
+    "cut": (hello() + b"take 100\nall", 3, "cut in a message"),
+    "no items": (hello() + message(b"ask"), 1, "no items that may be in a request `ask`"),
+    "a path": (hello() + message(b"ask", items((b"../x", b"whole", b""))), 1, "no items"),
+    "another unit's window": (hello() + message(b"ask", items((b"2024-03-01", b"whole", b""))), 1, "no items"),
+    "facts that are asked": (hello() + message(b"ask", items((b"all", b"facts", GOOD))), 1, "no items"),
+    "no number of cells": (hello() + message(b"ask", items((b"all", b"tell", b"7"))), 1, "no number of cells"),
+    "too many cells": (hello() + message(b"ask", items((b"all", b"tell", b"999999999"))), 1, "no number of cells"),
+    "no sketch": (hello() + message(b"ask", items((b"all", b"sketch", b"x\n"))), 1, "version"),
+    "no facts": (hello() + message(b"take", items((b"all", b"facts", b"x"))), 1, "not JSON"),
+    "facts of another log": (hello() + message(b"take", items((b"all", b"facts", OTHER))), 1, 'other log: "h"'),
+    "facts and none": (hello() + message(b"take", items((b"all", b"facts", GOOD), (b"all", b"facts", b"{"))), 1, "not JSON"),
+    "waits": (hello() + b"wait 0\n" * 1001, 1, "it says that it works"),
+}
+
+
+@pytest.mark.parametrize("kind", CALLS)
+def test_a_caller_that_lies(sites, kind):
+    sites.put("here.cadf", facts(1))
+    before = sorted((each.name, each.read_bytes()) for each in sites.path.iterdir())
+    data, status, part = CALLS[kind]
+    answer = sites.served(data)
+    assert answer.status == status and part in answer.output.decode(), answer
+    assert answer.error == b"" and (b"fault" in answer.output.splitlines()[0] or b"\nfault " in answer.output)
+    assert sorted((each.name, each.read_bytes()) for each in sites.path.iterdir()) == before
+
+
+def test_a_site_that_is_read_alone(sites):
+    sites.put("here.cadf", facts(1))
+    answer = sites.served(hello() + message(b"take", items((b"all", b"facts", GOOD))), "--read-only")
+    assert answer.status == 1 and b"use --pull" in answer.output and sites.holds("here.cadf") == facts(1)
+    assert b'"writes":false' in answer.output
+
+
+def test_a_silent_caller(sites):
+    sites.put("here.cadf", facts(1))
+    reading, writing = os.pipe()
+    done = subprocess.run([os.path.join(sites.tools, "cadf-sync"), "--serve", "--timeout=1", "here.cadf"], stdin=reading,
+                          capture_output=True, cwd=sites.path, env=sites.environment(), timeout=30, check=False)
+    os.close(writing)
+    os.close(reading)
+    assert done.returncode == 3 and b"silent for 1 seconds" in done.stdout
+
+
+# ---- Folders, by the built command
+
+def index_of(parts):
+    """The file `site` that names these files, by part, as FORMATS writes it."""
+    text = 'CADF-SITE 1\nL "g"\nB day\n' + "".join("F %s %s\n" % each for each in sorted(parts, key=lambda each: (each[0] != "shared", each)))
+    return text.encode() + b"Z %s\n" % hashlib.sha256(text.encode()).hexdigest().encode()
+
+
+def settled(atoms):
+    """What a settled folder of these atoms has, by name."""
+    files = {part: file_of("g", own) for part, own in parts_of(atoms, "day").items()}
+    digests = {part: data[-65:-1].decode() for part, data in files.items()}
+    named = {"%s.%s.cadf" % (part, digests[part]): data for part, data in files.items()}
+    return dict(named, site=index_of(digests.items()))
+
+
+class Folders(Sites):
+    """The same with sites that are folders, if their names end with a slash."""
+
+    def put(self, name, atoms, log="g"):
+        if not name.endswith("/"):
+            return super().put(name, atoms, log)
+        (self.path / name).mkdir(mode=0o700)
+        for each, data in settled(atoms).items():
+            (self.path / name / each).write_bytes(data)
+
+    def files(self, name):
+        """What the folder's `site` names, and `site`, by name."""
+        index = cadf_site.Index.read((self.path / name / "site").read_bytes())
+        named = ["site", *(cadf_site.file_name(*entry) for entry in index.entries())]
+        return {each: (self.path / name / each).read_bytes() for each in named}
+
+    def holds(self, name):
+        if not name.endswith("/"):
+            return super().holds(name)
+        return set().union(*(read_file(data)[1] for each, data in self.files(name).items() if each != "site"))
+
+    def takes(self, name, *words):
+        """Has cadf-take do this with a site."""
+        assert ended(os.path.join(self.tools, "cadf-take"), [*words[:-1], name, *words[-1]], env=self.environment(), cwd=self.path).status == 0
+
+    def settle(self, name):
+        self.takes(name, "--settle", [])
+        self.takes(name, "--settle", [])
+        return self.files(name)
+
+    def equal(self, *words):
+        """What the tool says, in JSON, of an exchange that has to succeed."""
+        answer = self.sync("--json", *words)
+        assert (answer.status, answer.error) == (0, b""), answer
+        return json.loads(answer.output)
+
+    def counted(self, *words):
+        """The bytes to the far side, from it, and the turns of an exchange, counted at the pipe."""
+        self.equal(self.far("count", self.path / "counts"), *words)
+        return list(map(int, (self.path / "counts").read_text().split()))
+
+
+@pytest.fixture
+def folders(tmp_path, cadf):
+    if ended(cadf, ["help", "split"]).status:
+        pytest.skip("the command has no split")
+    return Folders(tmp_path, cadf)
+
+
+@pytest.mark.parametrize("here, there", [("here/", "there/"), ("here/", "there.cadf"), ("here.cadf", "there/")])
+def test_folders(folders, here, there):
+    """Folders and files meet; a settled folder is a function of its facts."""
+    folders.put(here, facts(1, 2, 3))
+    folders.put(there, facts(3, 4, 31))
+    union = facts(1, 2, 3, 4, 31)
+    assert folders.equal(here, there)["windows_differed"] == 4
+    assert folders.holds(here) == folders.holds(there) == union
+    for name in (here, there):
+        if name.endswith("/"):
+            assert folders.settle(name) == settled(union)
+        else:
+            assert (folders.path / name).read_bytes() == file_of("g", union)
+    assert folders.equal(here, there)["windows_differed"] == 0
+
+
+@pytest.mark.parametrize("way, here, there", [("--pull", (1, 2, 3, 4), (3, 4)), ("--push", (1, 2, 3), (1, 2, 3, 4))])
+def test_folders_one_way(folders, way, here, there):
+    folders.put("here/", facts(1, 2, 3))
+    folders.put("there/", facts(3, 4))
+    folders.equal(way, "here/", "there/")
+    assert folders.holds("here/") == facts(*here) and folders.holds("there/") == facts(*there)
+
+
+def test_a_folder_that_is_not_there_is_made(folders):
+    folders.put("there/", facts(1, 2))
+    folders.equal("--pull", "new/", "there/")
+    assert folders.files("new/") == settled(facts(1, 2))
+
+
+def test_windows_of_several_files_are_compared_by_their_union(folders):
+    """The digest of a union is kept beside the files, so equal windows are not read again."""
+    folders.put("here/", facts(1, 29, 57))
+    folders.put("there/", facts(1))
+    for key in (29, 57):
+        folders.put("%d.cadf" % key, facts(key))
+        folders.takes("there/", ["%d.cadf" % key])
+    assert len(folders.files("there/")) > len(folders.files("here/"))
+    assert folders.equal("here/", "there/")["windows_differed"] == 0
+    unions = (folders.path / "there" / ".unions").read_bytes()
+    assert folders.equal("here/", "there/")["windows_differed"] == 0
+    assert (folders.path / "there" / ".unions").read_bytes() == unions
+    (folders.path / "there" / ".unions").write_bytes(unions.replace(b"U ", b"U 0", 1))
+    assert folders.equal("here/", "there/")["windows_differed"] == 0
+
+
+@pytest.mark.parametrize("words, part", [
+    (("--since=2024-03", "here/", "there/"), "name such a one"), (("here/", "months/"), "have both by one unit"),
+    (("--windows=2", "few/", "there/"), "allow them by --windows 3"), (("there/", "--", "few/"), None),
+])
+def test_refused_folders(folders, words, part):
+    folders.put("here/", facts(1, 2))
+    folders.put("few/", facts(8))
+    folders.put("there/", facts(1, 2, 3))
+    folders.put("m.cadf", facts(1))
+    folders.takes("months/", "--by=month", ["m.cadf"])
+    before = folders.files("few/")
+    answer = folders.sync(*words)
+    assert (answer.status, part in said(answer)) == (1, True) if part else answer.status == 0, answer
+    assert (folders.files("few/") == before) is bool(part)
+
+
+def test_three_sites_in_a_ring(folders):
+    """After two rounds all hold what one of them held."""
+    names = ["a/", "b.cadf", "c/"]
+    for number, name in enumerate(names):
+        folders.put(name, facts(number, number + 1, 20 + number))
+    for _ in range(2):
+        for here, there in zip(names, names[1:] + names[:1]):
+            folders.equal(here, there)
+    union = facts(0, 1, 2, 3, 20, 21, 22)
+    assert [folders.holds(name) for name in names] == [union] * 3
+    assert folders.settle("a/") == folders.settle("c/") == settled(union)
+
+
+def test_two_calls_at_once_in_both_directions_end(folders):
+    for number in range(3):
+        here, there = "here%d/" % number, "there%d/" % number
+        folders.put(here, facts(*range(1, 20)))
+        folders.put(there, facts(*range(10, 30)))
+        done = side_by_side(lambda words: folders.sync(*words), [(here, there), (there, here)])
+        assert [each.status for each in done] == [0, 0], done
+        assert folders.holds(here) == folders.holds(there) == facts(*range(1, 30))
+
+
+def test_takes_meanwhile_lose_nothing(folders):
+    """Others take into both sites while they are made equal again and again."""
+    names = ["here/", "there.cadf"]
+    for number, name in enumerate(names):
+        folders.put(name, facts(100 + number))
+    keys = range(1, 25)
+    for key in keys:
+        folders.put("%d.cadf" % key, facts(key))
+    taking = threading.Thread(target=lambda: [folders.takes(names[key % 2], ["%d.cadf" % key]) for key in keys])
+    taking.start()
+    while taking.is_alive():
+        folders.equal(*names)
+    taking.join()
+    folders.equal(*names)
+    assert folders.holds(names[0]) == folders.holds(names[1]) == facts(100, 101, *keys)
+
+
+@pytest.mark.parametrize("names", [("here.cadf", "there.cadf"), ("here/", "there/")])
+def test_a_connection_that_is_cut(folders, names):
+    """At random bytes: both sites are the old or the new ones. Made again, the call completes."""
+    old, union = [facts(*range(1, 40)), facts(*range(30, 60))], facts(*range(1, 60))
+    folders.put(names[0], old[0])
+    folders.put(names[1], old[1])
+    for name in names:
+        subprocess.run(["cp", "-a", name, "kept-" + name], cwd=folders.path, check=True)
+    total = sum(folders.counted(names[0], "h:" + names[1])[:2])
+    assert folders.holds(names[0]) == folders.holds(names[1]) == union
+
+    def cut(number):
+        chance, own = random.Random(number), Folders(folders.path / str(number), folders.cadf)
+        own.path.mkdir()
+        for name in names:
+            subprocess.run(["cp", "-a", folders.path / ("kept-" + name), own.path / name.rstrip("/")], check=True)
+        answer = own.sync("--timeout=20", own.far("cut", chance.randrange(1, total)), names[0], "h:" + names[1])
+        found = [own.holds(name) for name in names]
+        made_again = own.sync("--quiet", *names)
+        return (answer.status == 3 and len(said(answer).splitlines()) < 3 and found[0] in (old[0], union) and found[1] in (old[1], union)
+                and made_again == (0, b"", b"") and own.holds(names[0]) == own.holds(names[1]) == union or (answer, made_again))
+
+    assert side_by_side(cut, range(CUTS // 2)) == [True] * (CUTS // 2)
+
+
+def test_a_call_that_is_killed(folders):
+    """At random moments, with the other end or without it: both sites are the old or the new ones."""
+    old, union = [facts(*range(1, 40)), facts(*range(30, 60))], facts(*range(1, 60))
+
+    def killed(number):
+        chance, own = random.Random(number), Folders(folders.path / str(number), folders.cadf)
+        own.path.mkdir()
+        for name, atoms in zip(("here/", "there/"), old):
+            own.put(name, atoms)
+        with subprocess.Popen([os.path.join(own.tools, "cadf-sync"), "--quiet", "here/", "there/"], cwd=own.path, env=own.environment(),
+                              stdout=subprocess.DEVNULL, stderr=subprocess.DEVNULL, start_new_session=True) as child:
+            time.sleep(chance.uniform(0.05, 0.8))
+            (os.kill if number % 2 else os.killpg)(child.pid, signal.SIGKILL)
+        found = [own.holds("here/"), own.holds("there/")]
+        answer = own.sync("--quiet", "here/", "there/")
+        return found[0] in (old[0], union) and found[1] in (old[1], union) and answer.status == 0 and own.holds("here/") == union
+
+    assert all(side_by_side(killed, range(8)))
+
+
+def year(number):
+    """About that many atoms, an event each, on the days of a year."""
+    days = [str(datetime.date(2023, 1, 1) + datetime.timedelta(days=day)) for day in range(365)]
+    return {("E", "e%d" % key, spelled(dict(EVENT, eventTime=days[key % 365] + "T12:00:00Z"))) for key in range(number)}
+
+
+def test_bytes_and_turns(folders):
+    """Of two folders of 365 windows and 10^5 facts, counted at the pipe."""
+    atoms = year(100000)
+    day = sorted(atom for atom in atoms if '"eventTime":"2023-05-05T' in atom[2])
+    folders.put("here/", atoms)
+    subprocess.run(["cp", "-a", "here", "there"], cwd=folders.path, check=True)
+    whole = folders.files("here/")
+    for name, lacking in (("here/", day[:50]), ("there/", day[50:100])):
+        [old] = [each for each in whole if each.startswith("2023-05-05.")]
+        data = file_of("g", set(day) - set(lacking))
+        (folders.path / name / ("2023-05-05.%s.cadf" % data[-65:-1].decode())).write_bytes(data)
+        index = whole["site"].replace(old[11:-5].encode(), data[-65:-1])
+        (folders.path / name / "site").write_bytes(index[:-67] + b"Z %s\n" % hashlib.sha256(index[:-67]).hexdigest().encode())
+    answers = len(file_of("g", set(day[:50]))) + len(file_of("g", set(day[50:100])))
+    sent, received, turns = folders.counted("here/", "h:there/")
+    assert sent + received - answers <= MOST_DIFFERING and turns <= MOST_TURNS, (sent, received, turns)
+    assert folders.settle("here/") == folders.settle("there/") == whole
+    sent, received, turns = folders.counted("here/", "h:there/")
+    assert sent + received <= MOST_EQUAL and turns == 1, (sent, received, turns)
+
+
+def test_turns_of_many_windows(folders):
+    """Of 365 windows that all differ, one by more than any sketch shows."""
+    atoms, many = year(730), {("E", "x%d" % key, spelled(dict(EVENT, eventTime="2023-05-05T12:00:00Z"))) for key in range(900)}
+    here, there = set(sorted(atoms)[::2]) | set(sorted(many)[:500]), set(sorted(atoms)[1::2]) | set(sorted(many)[300:])
+    folders.put("here/", here)
+    folders.put("there/", there)
+    _, _, turns = folders.counted("here/", "h:there/")
+    assert turns <= MOST_TURNS
+    assert folders.holds("here/") == folders.holds("there/") == here | there
+
+
+def test_small_messages(folders):
+    """With a small limit an exchange takes more messages, and ends equal."""
+    folders.put("here/", facts(*range(1, 60)))
+    folders.put("there/", facts(*range(40, 90)))
+    folders.equal("--limit=3000", "here/", "there/")
+    assert folders.holds("here/") == folders.holds("there/") == facts(*range(1, 90))
+
+
+@pytest.mark.parametrize("way", ["--pull", "--push"])
+def test_signs_of_life(tmp_path, way, tools=TOOLS):
+    """An end whose command takes longer than the other waits says that it works."""
+    slow = tmp_path / "slow"
+    slow.write_text("#!/bin/sh\n[ $1 = missing-by ] && sleep 8\nexec %s \"$@\"\n" % REFERENCE)
+    slow.chmod(0o755)
+    own = Sites(tmp_path, str(slow), tools)
+    own.put("here.cadf", facts(1))
+    own.put("there.cadf", facts(2))
+    assert own.sync("--quiet", "--timeout=6", way, "here.cadf", "there.cadf") == (0, b"", b"")
+
+
+# ---- Tools that do wrong are caught
+
+WRONG = [
+    ("        if site is None or os.path.abspath(site) != os.path.abspath(self.site):\n", "        if False:\n",
+     lambda sites: test_a_caller_that_lies(sites, "another site")),
+    ("        if self.options.read_only:\n", "        if False:\n", lambda sites: test_a_site_that_is_read_alone(sites)),
+    ("        if items is None or not all(is_part(each.part, self.end.unit) for each in items):\n", "        if items is None:\n",
+     lambda sites: test_a_caller_that_lies(sites, "another unit's window")),
+    ("                if log is not None and log != self.log:\n", "                if False:\n",
+     lambda sites: test_a_caller_that_lies(sites, "facts of another log")),
+    ("            if length > self.limits.limit:\n", "            if False:\n", lambda sites: test_a_far_side_that_lies(sites, "a length of 2^31")),
+    ("        for _ in range(MOST_WAITS + 1):\n", "        for _ in range(MOST_WAITS + 10):\n", lambda sites: test_a_far_side_that_lies(sites, "waits")),
+    (" or len(found) == MOST_LISTED \\\n                        or before is not None and order(listed[1]) <= before:\n", ":\n",
+     lambda sites: test_a_far_side_that_lies(sites, "twice")),
+    ("not is_part(listed[1], unit)", "False", lambda sites: test_a_far_side_that_lies(sites, "a window without a unit")),
+    ("                if answer.part != asked.part or answer.kind not in ANSWERS[asked.kind]:\n", "                if False:\n",
+     lambda sites: test_a_far_side_that_lies(sites, "another part")),
+    ("    return Fault(\"%s: %s\" % (peer, printable(text[2:LONGEST_TEXT])), status)\n", "    return Fault(\"%s: %s\" % (peer, text[2:LONGEST_TEXT]), status)\n",
+     lambda sites: test_a_far_side_that_lies(sites, "a fault with escapes")),
+    ("\"cadf-sync --serve -- \" + shlex.quote(site)", "\"cadf-sync --serve -- \" + site", test_names_are_quoted_for_the_far_shell),
+    ("            while not done.wait(self.beat):\n", "            while not done.wait(1000):\n",
+     lambda sites: test_signs_of_life(sites.path, "--pull", sites.tools)),
+    ("        with self.beside(lambda: self.send_message(word, content, items)) as (thread, faults):\n",
+     "        self.send_message(word, content, items)\n        with self.beside(lambda: None) as (thread, faults):\n",
+     test_a_fault_is_heard_while_much_is_written),
+    ("part == SHARED or since is None or part >= since", "True", test_since_leaves_older_windows),
+    ("self.pushed.append(found)", "self.pulled.append(found)", lambda sites: test_two_files(sites, (), (1, 2, 3, 4), (1, 2, 3, 4))),
+]
+
+
+@pytest.mark.parametrize("number", range(len(WRONG)))
+def test_wrong_tools_are_caught(tmp_path, number):
+    right, wrong, check = WRONG[number]
+    (tmp_path / "sites").mkdir()
+    tools = copied(str(tmp_path), right, wrong)
+    assert tools, "no such text: %s" % right
+    with pytest.raises(AssertionError):
+        check(Sites(tmp_path / "sites", tools=tools))
+
+
+# ---- By a real sshd, on loopback
+
+SSHD_SETTINGS = """
+Port {port}
+ListenAddress 127.0.0.1
+HostKey {folder}/host
+PidFile none
+AuthorizedKeysFile {folder}/keys
+StrictModes no
+UsePAM no
+PasswordAuthentication no
+PermitRootLogin prohibit-password
+AllowTcpForwarding yes
+SetEnv PATH={tools}:{path} CADF={cadf}
+Subsystem sftp internal-sftp
+"""
+PRIVILEGES = "/run/sshd"  # a folder without which an sshd of root doesn't start
+
+
+def free_port():
+    with socket.socket() as one:
+        one.bind(("127.0.0.1", 0))
+        return one.getsockname()[1]
+
+
+class Ssh(Sites):
+    """Sites that are reached by an sshd, with a key that may do all, and one that may serve `there.cadf`."""
+
+    def __init__(self, path):
+        super().__init__(path)
+        self.port = free_port()
+        for name in ("host", "all", "one"):
+            subprocess.run(["ssh-keygen", "-q", "-t", "ed25519", "-N", "", "-f", path / name], check=True)
+        forced = 'restrict,command="cadf-sync --serve %s" ' % (path / "there.cadf")
+        (path / "keys").write_bytes(forced.encode() + (path / "one.pub").read_bytes() + (path / "all.pub").read_bytes())
+        (path / "settings").write_text(SSHD_SETTINGS.format(port=self.port, folder=path, tools=TOOLS, path=os.environ["PATH"], cadf=REFERENCE))
+
+    def ssh(self, key):
+        """The words that reach the sshd by a key."""
+        return ["ssh", "-F", "none", "-p", str(self.port), "-i", str(self.path / key), "-o", "IdentitiesOnly=yes", "-o", "BatchMode=yes",
+                "-o", "UserKnownHostsFile=%s" % (self.path / "known")]
+
+    def sync_by(self, key, *words):
+        return self.sync("--rsh=" + " ".join(self.ssh(key)), *words)
+
+    def asks(self, *words, data=b""):
+        """What a client gets that asks for something else with the key that is restricted."""
+        return ended(self.ssh("one")[0], [*self.ssh("one")[1:], *words], input=data)
+
+
+@pytest.fixture
+def ssh(tmp_path):
+    is_made = not os.geteuid() and not os.path.isdir(PRIVILEGES)
+    if is_made:
+        os.mkdir(PRIVILEGES, 0o755)
+    found = Ssh(tmp_path)
+    with subprocess.Popen([shutil.which("sshd", path="/usr/sbin:" + os.environ["PATH"]), "-D", "-q", "-f", tmp_path / "settings"]) as child:
+        try:
+            for _ in range(100):
+                with socket.socket() as one:
+                    if one.connect_ex(("127.0.0.1", found.port)) == 0:
+                        break
+                time.sleep(0.1)
+            with open(tmp_path / "known", "wb") as known:
+                subprocess.run(["ssh-keyscan", "-p", str(found.port), "127.0.0.1"], stdout=known, stderr=subprocess.DEVNULL, check=True)
+            yield found
+        finally:
+            child.terminate()
+            if is_made:
+                os.rmdir(PRIVILEGES)
+
+
+@pytest.mark.needs("ssh", "ssh-keygen", "/usr/sbin/sshd")
+def test_ssh(ssh):
+    """An open key exchanges; a restricted one exchanges with its site alone, and nothing else is done for it."""
+    ssh.put("here.cadf", facts(1))
+    ssh.put("there.cadf", facts(2))
+    ssh.put("other.cadf", facts(3))
+    there, other = "127.0.0.1:%s" % (ssh.path / "there.cadf"), "127.0.0.1:%s" % (ssh.path / "other.cadf")
+    for key, keys in (("all", (1, 2)), ("one", (1, 2, 4))):
+        ssh.put("here.cadf", facts(1, keys[-1]))
+        answer = ssh.sync_by(key, "here.cadf", there)
+        assert (answer.status, answer.error) == (0, b""), answer
+        assert ssh.holds("here.cadf") == ssh.holds("there.cadf") == facts(*keys)
+    before = sorted((each.name, each.read_bytes()) for each in ssh.path.iterdir())
+    answer = ssh.sync_by("one", "here.cadf", other)
+    assert answer.status == 1 and "another site than the one that is served here" in said(answer), answer
+    wrong = ssh.path / "wrong"
+    assert ssh.asks("-tt", "127.0.0.1", "touch", str(wrong), data=b"touch %s\nexit\n" % os.fsencode(wrong)).status not in (0, None)
+    for words in (["127.0.0.1"], ["127.0.0.1", "touch", str(wrong)], ["-s", "127.0.0.1", "sftp"],
+                  ["127.0.0.1", "cadf-sync", "--serve", str(ssh.path / "other.cadf")]):
+        answer = ssh.asks(*words, data=b"touch %s\nexit\n" % os.fsencode(wrong))
+        assert answer.status not in (0, None) and b"no first line of cadf-sync" in answer.output, (words, answer)
+    answer = ssh.asks("-W", "127.0.0.1:%d" % ssh.port, "127.0.0.1")
+    assert answer.status not in (0, None) and b"prohibited" in answer.error and b"SSH-2.0" not in answer.output, answer
+    answer = ssh.asks("-o", "ExitOnForwardFailure=yes", "-N", "-R", "127.0.0.1:%d:127.0.0.1:%d" % (free_port(), ssh.port), "127.0.0.1")
+    assert answer.status not in (0, None) and b"remote port forwarding failed" in answer.error, answer
+    assert sorted((each.name, each.read_bytes()) for each in ssh.path.iterdir()) == before
