@@ -82,14 +82,18 @@ def test_spool_killed(cadf, tmp_path):
     slow = put(tmp_path, "slow", SLOW, 0o755)
     child = subprocess.Popen([tool("cadf-spool"), "--unchanged", "0", "--log", "g", tmp_path / "site.cadf", spool],
                              env={**os.environ, "CADF": str(slow), "BUILT": cadf, "PLACE": str(tmp_path)}, stderr=subprocess.DEVNULL)
-    wait_until(lambda: has_started(child.pid, slow))
-    child.kill()
-    child.wait()
-    with open(spool / ".spool.lock", "r+") as lock:
-        with pytest.raises(BlockingIOError):
-            fcntl.flock(lock, fcntl.LOCK_EX | fcntl.LOCK_NB)
+    try:
+        wait_until(lambda: has_started(child.pid, slow))
+        child.kill()
+        child.wait()
+        with open(spool / ".spool.lock", "r+") as lock:
+            with pytest.raises(BlockingIOError):
+                fcntl.flock(lock, fcntl.LOCK_EX | fcntl.LOCK_NB)
+            (tmp_path / "go").touch()
+            fcntl.flock(lock, fcntl.LOCK_EX)
+    finally:
+        child.kill()
         (tmp_path / "go").touch()
-        fcntl.flock(lock, fcntl.LOCK_EX)
 
 
 @pytest.mark.parametrize("number", [signal.SIGHUP, signal.SIGINT, signal.SIGTERM])
