@@ -69,7 +69,7 @@ def is_skipped(said):
 
 def last_reason(said):
     """What a failed test said last of why."""
-    reasons = re.findall(r"(?m)^E +(.*)$", said)
+    reasons = re.findall(r"(?m)^E +(\S.*)$", said)
     return reasons[0][:100] if reasons else said.strip().rpartition("\n")[2][:100]
 
 
