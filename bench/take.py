@@ -200,7 +200,6 @@ def main():
     options = parser.parse_args()
     binary = os.path.abspath(options.binary)
     environment = dict(os.environ, CADF=binary)
-    subprocess.run([binary, "--version"], check=True)
     with tempfile.TemporaryDirectory(dir=".") as folder:
         tell_disk(folder, binary, environment)
         measure_growth(folder, options.takes, environment)
