@@ -13,7 +13,6 @@ import pytest
 
 from tests import TOP
 from tests.machine import ended
-from tests.reference.atoms import with_carriers
 from tests.reference.events import document
 from tests.reference.replica_files import file_of, read_file
 from tests.reference.split_files import in_order, parts_of
