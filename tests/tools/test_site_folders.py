@@ -20,7 +20,6 @@ from tests.tools.copies import copied
 from tests.tools.faulty import calls_of
 
 TOOLS = os.path.join(TOP, "tools")
-REFERENCE = os.path.join(TOP, "tests", "reference", "cadf")
 CALLS = "os.open os.rename os.unlink os.fchmod os.fsync os.mkdir os.listdir fcntl.flock"
 EVENT = {"eventType": "activity", "action": "read", "outcome": "success", "initiatorId": "u1", "targetId": "t1",
          "observerId": "s1"}
@@ -53,11 +52,12 @@ def index_of(files, unit="day"):
 
 class Site:
     """A folder beside the files that are taken into it."""
+    command = None  # that the tools run
 
     def __init__(self, path, tools=TOOLS, name="site"):
         self.path, self.tool, self.count = path, os.path.join(tools, "cadf-take"), 0
         self.folder = path / name
-        self.environment = dict(os.environ, CADF=REFERENCE)
+        self.environment = dict(os.environ, CADF=self.command)
 
     def put(self, value):
         self.count += 1
@@ -140,17 +140,17 @@ class Site:
             cadf_site.take(str(self.folder), inputs, *by)
 
 
+@pytest.fixture(autouse=True)
+def command(cadf, monkeypatch):
+    """Has the tools run the command that is tried, and calls of the module in this process too."""
+    monkeypatch.setattr(Site, "command", cadf)
+    for module in (cadf_toolkit, cadf_site):
+        monkeypatch.setattr(module, "CADF", cadf)
+
+
 @pytest.fixture
 def site(tmp_path):
     return Site(tmp_path)
-
-
-@pytest.fixture
-def here(site, monkeypatch):
-    """The site, for calls of the module in this process."""
-    monkeypatch.setattr(cadf_toolkit, "CADF", REFERENCE)
-    monkeypatch.setattr(cadf_site, "CADF", REFERENCE)
-    return site
 
 
 # ---- What a take leaves
@@ -218,7 +218,7 @@ def test_a_settled_folder_is_a_function_of_its_facts(site):
         assert each.listed() == site.settled(atoms_of(*values))
 
 
-def test_files_of_a_window_are_joined_by_seven(here):
+def test_files_of_a_window_are_joined_by_seven(site):
     sizes = {"a": 100, "b": 4095}
     assert cadf_site.to_join(sizes, 2 ** 24) is None
     sizes.update({letter: 7 for letter in "cdefghi"})
@@ -226,43 +226,42 @@ def test_files_of_a_window_are_joined_by_seven(here):
     assert cadf_site.to_join({letter: 2 ** 22 + place for place, letter in enumerate("gfedcba")}, 2 ** 30) == list("gfedcba")
     assert cadf_site.to_join(dict.fromkeys("abcdef", 4096) | {"g": 4095}, 2 ** 24) is None
     for key in range(0, 24, 3):
-        here.takes_here(here.put(contents(key)), "day")
-    assert list(map(len, here.files().values())) == [2] and here.left() == []
-    assert here.atoms() == atoms_of(contents(*range(0, 24, 3)))
+        site.takes_here(site.put(contents(key)), "day")
+    assert list(map(len, site.files().values())) == [2] and site.left() == []
+    assert site.atoms() == atoms_of(contents(*range(0, 24, 3)))
 
 
-@pytest.mark.release
-def test_a_day_by_five_minutes(here):
+def test_a_day_by_five_minutes(site):
     """288 takes of some events each, an hour a window, are settled as one join of each hour."""
     documents = []
     for number in range(288):
         times = ["2024-03-01T%02d:%02d:%02dZ" % (number // 12, number % 12 * 5, second) for second in (0, 20, 59)]
         events = [dict(EVENT, id="%s-%d" % (time, number), eventTime=time, tags=["t%d" % (number % 3)]) for time in times]
         documents.append({"id": "g", "events": events, "resources": [{"id": "r%d" % (number % 7), "typeURI": "service"}]})
-        here.takes_here(here.put(documents[-1]), "hour")
-    cadf_site.settle(str(here.folder))
-    assert here.settled(atoms_of(*documents), "hour").items() <= here.listed().items()
-    assert len(here.files()) == 25
+        site.takes_here(site.put(documents[-1]), "hour")
+    cadf_site.settle(str(site.folder))
+    assert site.settled(atoms_of(*documents), "hour").items() <= site.listed().items()
+    assert len(site.files()) == 25
 
 
-def test_what_is_joined_in_a_take_has_a_bound(here, monkeypatch):
+def test_what_is_joined_in_a_take_has_a_bound(site, monkeypatch):
     monkeypatch.setattr(cadf_site, "MOST_JOINED", 6000)
     monkeypatch.setattr(cadf_site, "MOST_SEEN", 0)
     for key in range(0, 42, 3):
-        here.takes_here(here.put(contents(key, key + 1)), "day")
-    assert sorted(map(len, here.files().values())) != [2, 2]
-    assert here.atoms() == atoms_of(contents(*range(0, 42, 3), *range(1, 42, 3)))
+        site.takes_here(site.put(contents(key, key + 1)), "day")
+    assert sorted(map(len, site.files().values())) != [2, 2]
+    assert site.atoms() == atoms_of(contents(*range(0, 42, 3), *range(1, 42, 3)))
 
 
-def test_a_window_beyond_the_limit_has_few_files(here, monkeypatch, capsys):
+def test_a_window_beyond_the_limit_has_few_files(site, monkeypatch, capsys):
     values = [contents(key) for key in range(0, 15, 3)]
     for value in values:
-        here.takes(value)
-    size = max(name.stat().st_size for name in here.folder.glob("2024-*.cadf"))
+        site.takes(value)
+    size = max(name.stat().st_size for name in site.folder.glob("2024-*.cadf"))
     monkeypatch.setattr(cadf_site, "LARGEST", 2 * size)
-    cadf_site.settle(str(here.folder) + "/")
+    cadf_site.settle(str(site.folder) + "/")
     assert "the window 2024-02-29 is larger than a file may be, and has 3 files" in capsys.readouterr().err
-    assert here.atoms() == atoms_of(*values) and list(map(len, here.files().values())) == [3]
+    assert site.atoms() == atoms_of(*values) and list(map(len, site.files().values())) == [3]
 
 
 def test_a_site_that_is_a_file_becomes_a_folder(site):
@@ -348,17 +347,17 @@ def test_strangers_are_named_and_passed_over(site):
 
 
 @pytest.mark.parametrize("name", ["site", "window", ".lock"])
-def test_links_are_refused(here, name):
-    here.takes(contents(0))
-    path = here.folder / (next(n for n in here.listed() if n != "site") if name == "window" else name)
-    path.rename(here.path / "moved")
-    path.symlink_to(here.path / "moved")
+def test_links_are_refused(site, name):
+    site.takes(contents(0))
+    path = site.folder / (next(n for n in site.listed() if n != "site") if name == "window" else name)
+    path.rename(site.path / "moved")
+    path.symlink_to(site.path / "moved")
     if name != ".lock":
-        with pytest.raises(cadf_toolkit.Fault, match="symbolic link"), cadf_site.opened_site(str(here.folder)):
+        with pytest.raises(cadf_toolkit.Fault, match="symbolic link"), cadf_site.opened_site(str(site.folder)):
             pass
-    answer = here.take(files=[here.put(contents(3))])
+    answer = site.take(files=[site.put(contents(3))])
     if name == "window":  # which a take needn't read
-        answer = here.take("--settle")
+        answer = site.take("--settle")
     assert answer.status == 3 and str(path).encode() in answer.error
 
 
@@ -416,12 +415,12 @@ def test_a_lost_index_loses_no_window(site):
 
 # ---- Kills, faults, and several at once
 
-def test_a_kill_before_each_call_leaves_all_or_nothing(here):
+def test_a_kill_before_each_call_leaves_all_or_nothing(site):
     first, second = contents(0, 1), contents(3, 4, 5)
-    here.takes(first)
-    source, old, new = here.put(second), atoms_of(first), atoms_of(first, second)
+    site.takes(first)
+    source, old, new = site.put(second), atoms_of(first), atoms_of(first, second)
     seen = []
-    for calls, copy in here.copies(files=[source]):
+    for calls, copy in site.copies(files=[source]):
         seen.append(copy.atoms())
         copy.takes_here(source)
         assert copy.atoms() == new and copy.left() == [], calls
@@ -429,61 +428,60 @@ def test_a_kill_before_each_call_leaves_all_or_nothing(here):
     assert all(each in (old, new) for each in seen)
 
 
-def test_each_name_is_given_to_what_is_on_the_disk(here):
-    here.takes(contents(0, 1))
-    words = ["--", ".", here.put(contents(3, 4, 5))]
-    done, calls = calls_of(CALLS, here.tool, words, env=here.environment, cwd=here.folder, told="../calls")
+def test_each_name_is_given_to_what_is_on_the_disk(site):
+    site.takes(contents(0, 1))
+    words = ["--", ".", site.put(contents(3, 4, 5))]
+    done, calls = calls_of(CALLS, site.tool, words, env=site.environment, cwd=site.folder, told="../calls")
     assert done.status == 0 and calls.count("rename") == 3
     places = [place for place, call in enumerate(calls) if call == "rename"]
     assert all(calls[place - 1] == "fsync" for place in places) and calls[places[-1] - 5:] .count("fsync") >= 3
 
 
-def test_a_kill_of_a_first_take_leaves_a_site_or_none(here):
-    source, new = here.put(contents(0, 1)), atoms_of(contents(0, 1))
-    here.folder.mkdir()
-    for _, copy in here.copies("--by", "day", files=[source]):
+def test_a_kill_of_a_first_take_leaves_a_site_or_none(site):
+    source, new = site.put(contents(0, 1)), atoms_of(contents(0, 1))
+    site.folder.mkdir()
+    for _, copy in site.copies("--by", "day", files=[source]):
         assert not (copy.folder / "site").exists() or copy.atoms() in (set(), new)
         copy.takes_here(source, "day")
         assert copy.atoms() == new and copy.left() == []
 
 
-def test_a_kill_before_each_call_of_settling_loses_nothing(here):
+def test_a_kill_before_each_call_of_settling_loses_nothing(site):
     values = [contents(key, key + 1) for key in range(0, 6, 3)]
     for value in values:
-        here.takes(value)
+        site.takes(value)
     atoms = atoms_of(*values)
-    for _, copy in here.copies("--settle"):
+    for _, copy in site.copies("--settle"):
         assert copy.atoms() == atoms
         cadf_site.settle(str(copy.folder))
         cadf_site.settle(str(copy.folder))
         assert copy.listed() == copy.settled(atoms)
 
 
-@pytest.mark.release
-def test_each_call_that_fails_leaves_all_or_nothing(here):
+def test_each_call_that_fails_leaves_all_or_nothing(site):
     first, second = contents(0, 1), contents(3, 4, 5)
-    old, new, source = atoms_of(first), atoms_of(first, second), here.put(second)
-    here.takes(first)
-    shutil.copytree(here.folder, here.path / "first")
-    _, calls = calls_of(CALLS, here.tool, [".", source], env=here.environment, cwd=here.folder, told="../calls")
+    old, new, source = atoms_of(first), atoms_of(first, second), site.put(second)
+    site.takes(first)
+    shutil.copytree(site.folder, site.path / "first")
+    _, calls = calls_of(CALLS, site.tool, [".", source], env=site.environment, cwd=site.folder, told="../calls")
     for place in range(1, len(calls) + 1):
-        shutil.rmtree(here.folder)
-        shutil.copytree(here.path / "first", here.folder)
-        done, _ = calls_of(CALLS, here.tool, [".", source], "failed", place, env=here.environment, cwd=here.folder, told="../calls")
+        shutil.rmtree(site.folder)
+        shutil.copytree(site.path / "first", site.folder)
+        done, _ = calls_of(CALLS, site.tool, [".", source], "failed", place, env=site.environment, cwd=site.folder, told="../calls")
         assert done.status in (0, 3), (place, calls[place - 1], done)
-        assert here.atoms() in ((new,) if done.status == 0 else (old, new)), (place, calls[place - 1])
-        here.takes_here(source)
-        assert here.atoms() == new and here.left() == []
+        assert site.atoms() in ((new,) if done.status == 0 else (old, new)), (place, calls[place - 1])
+        site.takes_here(source)
+        assert site.atoms() == new and site.left() == []
 
 
-def test_two_takers_and_three_readers_at_once(here):
+def test_two_takers_and_three_readers_at_once(site):
     """Each take brings two events of one day and one of the other. Some are killed, and made again. So is settling, at random."""
-    here.takes(contents(0, 1, 2))
+    site.takes(contents(0, 1, 2))
     seen, stop, chance = [], threading.Event(), random.Random(7)
 
     def read():
         while not stop.is_set():
-            with cadf_site.opened_site(str(here.folder)) as (_, inputs):
+            with cadf_site.opened_site(str(site.folder)) as (_, inputs):
                 atoms = set().union(*(read_file(each.whole())[1] for each in inputs.values()))
             sizes = {part: len(own) for part, own in parts_of(atoms, "day").items()}
             seen.append(sizes["2024-02-29"] == 2 * sizes["2024-03-01"])
@@ -491,7 +489,7 @@ def test_two_takers_and_three_readers_at_once(here):
     def took(keys, files):
         for key, file in zip(keys, files):
             while True:
-                running = subprocess.Popen(here.words(files=[file]), env=here.environment, stderr=subprocess.DEVNULL)
+                running = subprocess.Popen(site.words(files=[file]), env=site.environment, stderr=subprocess.DEVNULL)
                 with contextlib.suppress(subprocess.TimeoutExpired):
                     running.wait(chance.uniform(0.05, 0.6) if key % 2 else None)
                 running.kill()
@@ -501,14 +499,14 @@ def test_two_takers_and_three_readers_at_once(here):
 
     def settled():
         while not stop.is_set():
-            running = subprocess.Popen(here.words("--settle"), env=here.environment, stderr=subprocess.DEVNULL)
+            running = subprocess.Popen(site.words("--settle"), env=site.environment, stderr=subprocess.DEVNULL)
             with contextlib.suppress(subprocess.TimeoutExpired):
                 running.wait(chance.uniform(0.05, 0.6))
             running.kill()
             running.wait()
 
     keys = list(range(3, 24, 3))
-    files = [here.put(contents(key, key + 1, key + 2)) for key in keys]
+    files = [site.put(contents(key, key + 1, key + 2)) for key in keys]
     takers = [threading.Thread(target=took, args=(keys[start::2], files[start::2])) for start in range(2)]
     readers = [threading.Thread(target=work) for work in (read, read, read, settled)]
     for each in takers + readers:
@@ -519,35 +517,35 @@ def test_two_takers_and_three_readers_at_once(here):
     for each in readers:
         each.join()
     assert len(seen) > 3 and all(seen)
-    assert here.atoms() == atoms_of(contents(*range(24)))
-    here.settles()
-    here.settles()
-    assert here.listed() == here.settled(atoms_of(contents(*range(24))))
+    assert site.atoms() == atoms_of(contents(*range(24)))
+    site.settles()
+    site.settles()
+    assert site.listed() == site.settled(atoms_of(contents(*range(24))))
 
 
-def test_a_reader_looks_again(here, monkeypatch):
+def test_a_reader_looks_again(site, monkeypatch):
     """A take and a settling come after a reader has read `site`, so that files are gone that it names."""
-    here.takes(contents(0, 1))
-    here.takes(contents(3))
-    real, files = cadf_site.Folder.input, iter([here.put(contents(6)), None])
+    site.takes(contents(0, 1))
+    site.takes(contents(3))
+    real, files = cadf_site.Folder.input, iter([site.put(contents(6)), None])
 
     def late(folder, name):
         if name != "site" and (file := next(files, None)):
             monkeypatch.setattr(cadf_site.Folder, "input", real)
-            here.settles()
-            assert here.take(files=[file]).status == 0
+            site.settles()
+            assert site.take(files=[file]).status == 0
         return real(folder, name)
 
     monkeypatch.setattr(cadf_site.Folder, "input", late)
-    with cadf_site.opened_site(str(here.folder)) as (_, inputs):
+    with cadf_site.opened_site(str(site.folder)) as (_, inputs):
         assert set().union(*(read_file(each.whole())[1] for each in inputs.values())) == atoms_of(contents(0, 1, 3, 6))
 
 
-def test_what_a_site_names_and_lacks_is_named(here):
-    here.takes(contents(0, 1))
-    path = next(here.folder.glob("2024-*.cadf"))
+def test_what_a_site_names_and_lacks_is_named(site):
+    site.takes(contents(0, 1))
+    path = next(site.folder.glob("2024-*.cadf"))
     path.unlink()
-    with pytest.raises(cadf_toolkit.Fault, match="not there: the site is damaged") as fault, cadf_site.opened_site(str(here.folder)):
+    with pytest.raises(cadf_toolkit.Fault, match="not there: the site is damaged") as fault, cadf_site.opened_site(str(site.folder)):
         pass
     assert str(path) in str(fault.value)
 

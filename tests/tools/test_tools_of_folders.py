@@ -6,7 +6,7 @@ import pytest
 
 from tests.machine import ended
 from tests.tools.copies import copied
-from tests.tools.test_site_folders import DAYS, EVENT, REFERENCE, TOOLS, Site, atoms_of, contents
+from tests.tools.test_site_folders import DAYS, EVENT, TOOLS, Site, atoms_of, contents
 
 # A command that tells which files it is given.
 TELLING = """#!/bin/sh
@@ -24,7 +24,7 @@ class Sites:
         self.south.count = 100  # of its files' names
         self.told = path / "told"
         telling = path / "telling"
-        telling.write_text(TELLING % (self.told, REFERENCE))
+        telling.write_text(TELLING % (self.told, Site.command))
         telling.chmod(0o755)
         self.environment = dict(os.environ, CADF=str(telling))
 
@@ -41,9 +41,15 @@ class Sites:
     def file(self, name, *values):
         """A file of what these documents hold."""
         documents = [self.north.put(value) for value in values]
-        answer = ended(REFERENCE, ["join", *documents])
+        answer = ended(Site.command, ["join", *documents])
         (self.path / name).write_bytes(answer.output)
         return name
+
+
+@pytest.fixture(autouse=True)
+def command(cadf, monkeypatch):
+    """Has the tools run the command that is tried."""
+    monkeypatch.setattr(Site, "command", cadf)
 
 
 @pytest.fixture
@@ -74,8 +80,8 @@ def test_agree_reads_windows_that_differ(sites):
 def test_agree_of_a_folder_and_others(sites):
     sites.north.takes(contents(0, 2, name="n"))
     file = sites.file("file.cadf", contents(0, 2, name="n"))
-    (sites.path / "inventory").write_bytes(ended(REFERENCE, ["inventory", file], cwd=sites.path).output)
-    (sites.path / "sketch").write_bytes(ended(REFERENCE, ["sketch", file], cwd=sites.path).output)
+    (sites.path / "inventory").write_bytes(ended(Site.command, ["inventory", file], cwd=sites.path).output)
+    (sites.path / "sketch").write_bytes(ended(Site.command, ["sketch", file], cwd=sites.path).output)
     assert sites.run("agree", "north", file, "inventory", "sketch") == (0, "", [])
     sites.south.takes(contents(0), by=("--by", "hour"))
     said = ["north lacks 2 facts of south", "south lacks 3 facts of north"]
