@@ -562,7 +562,7 @@ def test_unasked():
     assert done.status == 1
     assert not done.error.decode().splitlines()[0].endswith(", event 99: tag 99, and 50 more")
     assert done.error.decode().splitlines()[0].endswith("tag 99, tag 100, and 50 more")
-    for kind, text in (("an inventory", "CADF-INVENTORY 1\n"), ("a page of cadf-report", "<!DOCTYPE html>\n"), ("a script", "learn 0 {}\n")):
+    for kind, text in (("an inventory", "CADF-INVENTORY 1\n"), ("a page of cadf-report", "<!doctype html>\n"), ("a script", "learn 0 {}\n")):
         put("odd", text.encode())
         assert ended(TOOL, ["--log", "g", "odd"]).error.decode().startswith("cadf-from-openstack: odd: it begins as %s" % kind), kind
 
