@@ -245,7 +245,7 @@ REFUSED = [
      "missing --from <FILE> <FROM> <TO>"),
     (["missing-by", "a", "b", "c"], "unexpected argument 'c' found", "missing-by [OPTIONS] <FROM> <INVENTORY>"),
     (["missing-by", "a", "b", "--to", "c"], "unexpected argument '--to' found\n\n  tip: to pass '--to' as a value, use '-- --to'",
-     "missing-by [OPTIONS] <FROM> <INVENTORY>"),
+     "missing-by <FROM> <INVENTORY>"),
     (["inventory"], "the following required arguments were not provided:\n  <FILE>...", "inventory <FILE>..."),
     (["sketch", "--cells", "9"], "the following required arguments were not provided:\n  <FILE>...", "sketch --cells <N> <FILE>..."),
     (["sketch", "--salt", "1", "--salt", "3", "a"], "the argument '--salt <A>' cannot be used multiple times",
