@@ -140,7 +140,7 @@ def main():
     if os.path.lexists(site):
         sys.exit("join-many: %s: it is there already; `cadf-take` takes files into it" % options.out)
     words = ["cadf-take", "--by", options.by, "--windows", "999999", *(["--log", options.log] if options.log else [])]
-    where = {"n_workers": options.workers, "threads_per_worker": 1, "dashboard_address": None, "silence_logs": logging.CRITICAL}
+    where = {"n_workers": options.workers, "threads_per_worker": 1, "dashboard_address": ":0", "silence_logs": logging.CRITICAL}
     try:
         with tempfile.TemporaryDirectory(prefix=os.path.basename(site) + ".", dir=os.path.dirname(site)) as folder, \
                 Client(options.scheduler) if options.scheduler else Client(**where) as client:
