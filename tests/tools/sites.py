@@ -23,7 +23,7 @@ VECTORS = os.path.join(TOP, "examples", "vectors")
 EVENT = {"eventType": "activity", "eventTime": "2024-03-01T12:00:00Z", "action": "read", "outcome": "success",
          "initiatorId": "u1", "targetId": "t1", "observerId": "s1"}
 # What to do next, which tries_advice alone looks at.
-ADVICE = re.compile(": (the file is damaged|one site has one log|an event by itself).*")
+ADVICE = re.compile(": (the file is damaged|a later release wrote it|one site has one log|an event by itself).*")
 # Above U+FFFF, and in U+E000 to U+FFFF: UTF-8 and UTF-16 order these two otherwise.
 HIGH, LOW = "\U0001f600", "\uffee"
 ROOM = 150 << 20  # bytes of memory for files of some 100 KB
