@@ -528,7 +528,7 @@ WRONG = [
     ("what it runs goes on", [("sys.exit(ended(take, words()))", "sys.exit(take(words()))")], tries_stopped),
     ("a file that is gone ends or fails the run", [("except FileNotFoundError:\n                say(", "except ZeroDivisionError:\n                say(")], tries_withdrawn),
     ("no program has a budget", [("resource.setrlimit(kind, (min(most, hard), hard))", "pass")], tries_budgets),
-    ("a file that costs too much waits", [("raise self.fault(done)\n            if log", "raise Waits(done.status, done.said)\n            if log")], tries_budgets),
+    ("a file that costs too much waits", [("raise self.fault(done)\n            self.facts", "raise Waits(done.said, done.status)\n            self.facts")], tries_budgets),
     ("a program that judges writes anywhere", [("if times == 1:\n                change_only(self.spool.work)", "")], tries_confined),
     ("a file of any size is copied", [("if file.tell() > most:", "if False:")], tries_smaller_size),
     ("holes are filled", [("if block.count(0) < len(block):", "if True:")], tries_sizes),
