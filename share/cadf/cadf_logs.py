@@ -123,10 +123,11 @@ class Text:
 
 
 def typed_instant(text):
-    """The instant that a person typed."""
+    """The instant that a person typed: one of the years from 1 on."""
     at = instant(text)
     try:
-        utc(at)
+        if utc(at) >= "0001":
+            return at
     except (TypeError, ValueError, OverflowError):
-        raise argparse.ArgumentTypeError("not a time: %s" % json.dumps(text))
-    return at
+        pass
+    raise argparse.ArgumentTypeError("not a time: %s" % json.dumps(text))

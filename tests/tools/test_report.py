@@ -368,7 +368,7 @@ def test_stopped(reports):
 
 def test_progress(reports):
     """On a terminal standard error says what is being done, once the call has lasted, and is empty again at the end."""
-    script = ("import runpy, sys; sys.path.insert(0, %r); import cadf_toolkit as kit; kit.QUIET, kit.BETWEEN_LINES = %d, 0; "
+    script = ("import runpy, sys; sys.path.insert(0, %r); import cadf_toolkit as kit; kit.QUIET, kit.BETWEEN_LINES = %d, 0.001; "
               "sys.argv = [%r, 'days.json']; runpy.run_path(sys.argv[0], run_name='__main__')")
     said = []
     for quiet in (0, 60):
@@ -383,6 +383,5 @@ def test_progress(reports):
         os.close(leader)
         assert done.returncode == 0
     lasted, short = said
-    assert (lasted[0], lasted[-2:], short) == ("", ["cadf-report: the page is written", "end"], ["end"])
-    assert lasted[1].endswith(" joins the files")
-    assert "cadf-report: events read: 1" in lasted
+    assert (lasted[0], lasted[-1], short) == ("", "end", ["end"])
+    assert any(line.endswith(" joins the files: 0 s") for line in lasted) and all(line.startswith("cadf-report: ") for line in filter(None, lasted[:-1]))
