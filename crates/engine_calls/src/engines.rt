@@ -101,11 +101,12 @@ fn show(alloc: Global, words: Words<'_>, sink: &mut Output) -> Ran {
 
 /// Runs `run_missing_unions`. Its words are the number of readers of FROM, those, and the readers of TO.
 fn missing_unions(alloc: Global, words: Words<'_>, sink: &mut Output) -> Ran {
+    let count = words.number(4);
+    let first = count.checked_mul(3)?.checked_add(5)?;
     let mut from = sources(alloc, words, 5).ok()?;
-    let mut to = Vec::new(alloc);
-    while from.len() > words.number(4) {
-        to.insert(0, from.pop()?).ok()?;
-    }
+    let mut to = sources(alloc, words, first).ok()?;
+    from.truncate(count);
+    from.len().checked_add(to.len())?.checked_add(1)?;
     Some(run_missing_unions(alloc, from.as_mut_slice(), to.as_mut_slice(), sink))
 }
 
