@@ -15,7 +15,7 @@ def engine(call):
     name = "run_" + call.command.decode().replace("-", "_")
     if call.command == b"missing" and len(call.files) > 2:
         return name + "_unions", [call.senders]
-    if call.command != b"join" and len(call.files) > (2 if call.again else 1):
+    if call.command not in (b"join", b"split") and len(call.files) > (2 if call.again else 1):
         name += "_union"
     own = {
         b"join": lambda: [call.log or b""], b"rehearse": lambda: [call.log, call.sites], b"rule": lambda: call.ruling,
