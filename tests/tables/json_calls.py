@@ -22,18 +22,13 @@ CALLS = {
     "reused canonical": ["Json::read_canonical_into"],
     # On a text of which a part is repeated: what is before it, the part, how often, what is after it.
     "repeated value": ["Json::read"],
-    "repeated split": ["Json::read_next"],
+    "repeated apart": ["Json::read_next"],
     "canonical": ["Json::read_canonical"],
     "quoted": ["quoted"],
-    "split": ["read_object_streaming", "ItemVisitor::take", "Json::read_next"],
+    "apart": ["Json::read_apart", "ItemVisitor::begin", "ItemVisitor::take", "Json::read_next"],
     "is_canonical": ["is_canonical"],
     "spells_object": ["spells_object"],
-    "spells_object_with": ["spells_object_with"],
-    "nests_within": ["nests_within"],
     "has_text_at": ["has_text_at"],
-    "text_at": ["text_at"],
-    "plain_text": ["plain_text"],
-    "list_texts": ["ListTexts::of", "ListTexts::next_text"],
     "read_to_limit": ["read_to_limit", "MemorySource::new", "Source::read"],
     "read_rest": ["cadf_json::read_rest"],
     "borrow_next": ["Source::borrow_next", "MemorySource::borrowable"],
@@ -68,6 +63,9 @@ TWICE = [
     ('{"a":1,"b":3,"\\u0061":2}', '{"a":2,"b":3}'),
     ('{"a":1.5,"a":1}', '{"a":1}'),
     ('[{"x":[{"b":1,"b":2}]}]', '[{"x":[{"b":2}]}]'),
+    # Thirty members, from the last name to the first and once more: a sort of more than twenty takes memory.
+    ("{%s}" % ",".join('"m%02d":%d' % (place % 15, place) for place in range(30, 0, -1)),
+     '{"m00":15,%s}' % ",".join('"m%02d":%d' % (place, place) for place in range(1, 15))),
 ]
 
 # Numbers that refuse a value, and those that it keeps as they stand.
@@ -158,31 +156,38 @@ REUSED = [
     ("canonical", '{"a":1}', '{"b":1,"a":2}', ["err", "NotCanonical"]),
 ]
 
-# Objects of which `list` is taken: the items, and the names and texts of the other members.
-AROUND = [
+# Objects of which the items of `list` are taken: these, and the text of what is left.
+APART = [
     (' { "z" : [1,2], "list" : [ {"b":1,"a":[]} , null , 7, "\\u0041" ] , "id":{"b":3,"a":4}, "a":{"list":[3]} } ',
-     ['{"a":[],"b":1}', "null", "7", '"A"'], ["a", '{"list":[3]}', "id", '{"a":4,"b":3}', "z", "[1,2]"]),
-    (' { "Z" : -1 , "list" : [ ] , "a":{"list":[3]} , "b" : { } } ', [], ["Z", "-1", "a", '{"list":[3]}', "b", "{}"]),
-    ('{"list":[]}', [], []),
-    ('{"\\u006cist":[7]}', ["7"], []),
-    ('{"a":1,"list":[],"a":{"c":[],"b":"\\u0041","c":2}}', [], ["a", '{"b":"A","c":2}']),
-    ('{"id":1,"list":[],"id":"r"}', [], ["id", '"r"']),
-    ('{"b":[{"b":1,"a":2},{}],"":null,"list":[0]}', ["0"], ["", "null", "b", '[{"a":2,"b":1},{}]']),
-    ('{"a":{"b":1.5,"b":1},"list":[]}', [], ["a", '{"b":1}']),
+     ['{"a":[],"b":1}', "null", "7", '"A"'], '{"a":{"list":[3]},"id":{"a":4,"b":3},"list":[],"z":[1,2]}'),
+    (' { "Z" : -1 , "list" : [ ] , "a":{"list":[3]} , "b" : { } } ', [], '{"Z":-1,"a":{"list":[3]},"b":{},"list":[]}'),
+    ('{"list":[]}', [], '{"list":[]}'),
+    ('{"\\u006cist":[7]}', ["7"], '{"list":[]}'),
+    ('{"a":1,"list":[],"a":{"c":[],"b":"\\u0041","c":2}}', [], '{"a":{"b":"A","c":2},"list":[]}'),
+    ('{"id":1,"list":[],"id":"r"}', [], '{"id":"r","list":[]}'),
+    ('{"b":[{"b":1,"a":2},{}],"":null,"list":[0]}', ["0"], '{"":null,"b":[{"a":2,"b":1},{}],"list":[]}'),
+    ('{"a":{"b":1.5,"b":1},"list":[]}', [], '{"a":{"b":1},"list":[]}'),
+    ('{"a":1.5,"a":1,"list":[]}', [], '{"a":1,"list":[]}'),
+    # The later list counts.
+    ('{"list":[1,2],"list":[]}', [], '{"list":[]}'),
+    ('{"list":[1,2],"a":1,"list":[3]}', ["3"], '{"a":1,"list":[]}'),
     # Names that rise up to one that occurred before, or that is less than all.
     ('{"é":1,"list":[],"é":[ { "x" : 1.5 , "y" : [ 1 ] , "x" : { "b" : "\\u0041\\n" , "a" : true , "b" : { } } } ]}',
-     [], ["é", '[{"x":{"a":true,"b":{}},"y":[1]}]']),
+     [], '{"list":[],"é":[{"x":{"a":true,"b":{}},"y":[1]}]}'),
     ('{"b":{"z":"\\"","y":{"d":[{}],"c":[],"":null}},"list":[],"a":%s}' % LATE[65], [],
-     ["a", '{"a":1,' + LATE[65][1:].replace(',"a":1', ""), "b", '{"y":{"":null,"c":[],"d":[{}]},"z":"\\""}']),
-    ('{"list":[],"x":%s}' % nested(126), [], ["x", nested(126)]),
-    ('{"list":[{"a":1,"a":1},{"b":1.5,"b":2}]}', ['{"a":1}', '{"b":2}'], []),
-    ('{"list":[%s]}' % nested(125), [nested(125)], []),
+     '{"a":{"a":1,%s,"b":{"y":{"":null,"c":[],"d":[{}]},"z":"\\""},"list":[]}' % LATE[65][1:].replace(',"a":1', "")),
+    ('{"list":[],"x":%s}' % nested(126), [], '{"list":[],"x":%s}' % nested(126)),
+    ('{"list":[{"a":1,"a":1},{"b":1.5,"b":2}]}', ['{"a":1}', '{"b":2}'], '{"list":[]}'),
+    ('{"list":[%s]}' % nested(125), [nested(125)], '{"list":[]}'),
+    # Objects without the list.
+    ("{}", [], "{}"),
+    (' {"b":{"list":[1]},"a":[{}]} ', [], '{"a":[{}],"b":{"list":[1]}}'),
+    ('{"b":1,"b":2}', [], '{"b":2}'),
 ]
-WITHOUT_LIST = ["{}", ' {"b":{"list":[1]},"a":[{}]} ', '{"b":1,"b":2}']
-NO_SPLIT = ["", "[]", '{"list":[]', '{"list":[]} {}', '{"list":[1.5]}', '{"list":{}}', '{"list":null}', '{"a":1} 2',
-            '{"b":[0.5],"list":[]}', '{"list":[],"list":[]}', '{"a":1.5,"a":1,"list":[]}',
-            '{"b":[0.5]}', '{"list":[],"b":{"c":[-0]}}', '{"list":[],"x":%s}' % nested(127), '{"list":[%s]}' % nested(126),
-            '{"list":[],"x":{"a":1e400,"a":1}}', '{"list":[],"x":[1,]}']
+# Texts that aren't read so: no objects, with another value than a list there, with a number that isn't whole, or no JSON.
+NOT_APART = ["", "[]", '{"list":[]', '{"list":[]} {}', '{"list":[1.5]}', '{"list":{}}', '{"list":null}', '{"a":1} 2',
+             '{"b":[0.5],"list":[]}', '{"list":[1.5],"list":[]}', '{"list":[],"list":7}', '{"b":[0.5]}', '{"list":[],"b":{"c":[-0]}}',
+             '{"list":[],"x":%s}' % nested(127), '{"list":[%s]}' % nested(126), '{"list":[],"x":{"a":1e400,"a":1}}', '{"list":[],"x":[1,]}']
 
 # Canonical texts that are judged with no value, and how deep they nest.
 JUDGED = [("null", 0), ("[]", 1), ('"\\u0001\\t\\""', 0), ('{"":{"a":[-9223372036854775808,18446744073709551615,0]},"a":1}', 3),
@@ -192,15 +197,6 @@ NOT_JUDGED = ['"\\u0041"', '"\\/"', '"\\u001F"', '"\\u000a"', '"\\ud83d\\ude00"'
               "18446744073709551616", "-9223372036854775809", "[1, 2]", "1\n", '{"b":1,"a":2}', '{"a":1,"a":2}',
               '{"a":1.5,"a":1}', "", "[", "[1,]", "{}{}", "nul", nested(128)]
 NAMED = '{"id":"r","name":{"id":"s"},"no":1}'
-# Canonical texts, and the text that the value is, if it is one.
-PLAIN_TEXTS = [('"r"', ["r"]), ('""', [""]), ('"\\n\\\\\\u0001\\""', ['\n\\\x01"']), ('"é😀\x7f"', ["é😀\x7f"]), ("null", []), ("7", []),
-               ('["r"]', []), ('{"id":"r"}', [])]
-TEXTS_AT = [("id", ["some", "r"]), ("name", ["none"]), ("no", ["none"]), ("other", ["none"])]
-
-# Canonical texts of lists and of null, with those of their items, and of values that are no list.
-LISTS = [("[]", []), ("null", []), ('[1,"a",{"b":[2]},[]]', ["1", '"a"', '{"b":[2]}', "[]"]), ('["\\n",-1]', ['"\\n"', "-1"]),
-         (nested(127), [nested(126)])]
-NO_LISTS = ["7", '"null"', "{}", "true", '{"a":[]}']
 
 BYTES = b"twenty-two bytes long!"
 LONG = b"\x07" * 10000
@@ -298,7 +294,7 @@ def objects():
     """Values with many parts, and values that are read into the memory of others."""
     for text, kind in COUNTED:
         yield "repeated", ["value", *text], kind, VALUES
-    yield "repeated", ["split", '{"list":[7],"a":[', "0,", MOST, '0],"a":1}'], ["around", 1, "7", "a", "1"], VALUES
+    yield "repeated", ["apart", '{"list":[7],"a":[', "0,", MOST, '0],"a":1}'], ["apart", 1, "7", '{"a":1,"list":[]}'], VALUES
     for how, first, text, answer in REUSED:
         yield "reused", [how, first, text], answer, VALUES
 
@@ -310,22 +306,16 @@ def made():
 
 def passed():
     """Objects of which a list is taken, and texts that are judged."""
-    for text, items, texts in AROUND:
-        yield "split", [text], ["around", len(items), *items, *texts], VALUES
-    for text in WITHOUT_LIST:
-        yield "split", [text], ["none"], VALUES
-    for text in NO_SPLIT:
-        yield "split", [text], ["err", "NeedsFullParse"], VALUES
+    for text, items, left in APART:
+        yield "apart", [text], ["apart", len(items), *items, left], VALUES
+    for text in NOT_APART:
+        yield "apart", [text], ["no"], VALUES
     for text, depth in JUDGED:
         yield "is_canonical", [text, depth], [True], CANONICAL
         yield "is_canonical", [text, 255], [True], CANONICAL
-        for call in ("spells_object", "spells_object_with"):
-            yield call, [text], [text.startswith("{")], VALUES
-        yield "nests_within", [text, depth], [True], VALUES
-        yield "nests_within", [text, 255], [True], VALUES
+        yield "spells_object", [text], [text.startswith("{")], VALUES
         if depth:
             yield "is_canonical", [text, depth - 1], [False], CANONICAL
-            yield "nests_within", [text, depth - 1], [False], VALUES
     for text in NOT_JUDGED:
         yield "is_canonical", [text, 255], [False], CANONICAL
     for name, expected, has in [("id", "r", True), ("id", "s", False), ("name", "s", False), ("no", "1", False),
@@ -333,16 +323,6 @@ def passed():
         yield "has_text_at", [NAMED, name, expected], [has], VALUES
     yield "has_text_at", ['["id","r"]', "id", "r"], [False], VALUES
     yield "has_text_at", ['{"\\u0001":"\\n"}', "\x01", "\n"], [True], VALUES
-    for name, answer in TEXTS_AT:
-        yield "text_at", [NAMED, name], answer, VALUES
-    yield "text_at", ['["id","r"]', "id"], ["no object"], VALUES
-    yield "text_at", ['{"\\u0001":"\\n"}', "\x01"], ["some", "\n"], VALUES
-    for text, found in PLAIN_TEXTS:
-        yield "plain_text", [text], ["some", *found] if found else ["none"], VALUES
-    for text, items in LISTS:
-        yield "list_texts", [text], ["some", *items], VALUES
-    for text in NO_LISTS:
-        yield "list_texts", [text], ["none"], VALUES
 
 
 def streams():

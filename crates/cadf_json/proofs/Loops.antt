@@ -188,7 +188,7 @@ pub record AreRising (got : Members) (last : Option (List ℕ)) : Type 0 where
   pub ends : IsLast got last
   pub same : put_all got no_members ≡ got
 
-rises_further : (got : Members) (last : Option (List ℕ)) (k : List ℕ) (d : Data) → AreRising got last → is_name_above last k ≡ true
+pub rises_further : (got : Members) (last : Option (List ℕ)) (k : List ℕ) (d : Data) → AreRising got last → is_name_above last k ≡ true
     → AreRising (joined got (member k d no_members)) (Some k)
 rises_further got last k d h above =
     let below = below_next got last k h.ends above in

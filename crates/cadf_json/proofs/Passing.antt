@@ -8,7 +8,7 @@ use Rattle.serde_json.specs.Data.{Data, Items, no_items, item}
 use Rattle.serde_json.specs.Read.{of_json, of_items, converted}
 use Rattle.serde_json.specs.Written.{has_float, items_have_float}
 use Rattle.cadf_json.specs.Parts.{to_list}
-use Rattle.cadf_json.specs.StreamedObjects.{AreTaken}
+use Rattle.cadf_json.specs.Apart.{AreTaken}
 use Rattle.cadf_json.proofs.Turns.{item_read, items_over}
 
 abbrev pub followed : Items → Items → Items
@@ -47,58 +47,44 @@ pub parsed_none : (r : Option (Items × List Token)) → r ≡ parse_map (follow
 parsed_none None = refl
 parsed_none (Some p) = refl
 
-append_none : (ds : List Data) → ds ≡ ds ++ []
-append_none [] = refl
-append_none (d ∷ ds) = ap (λ es. d ∷ es) (append_none ds)
-
-pub record Passing {T : Type 0} (took : T → List Data → Type 0) (old new : T) (p : Parse json.Json) (start now : List Token) : Type 0 where
+-- the items that were taken so far
+pub record Passing {T : Type 0} (took : T → List Data → Type 0) (t : T) (p : Parse json.Json) (start now : List Token) : Type 0 where
   pub bound : ℕ
   pub enough : length now ≤ bound
   pub taken : Items
-  pub are_taken : AreTaken took old new taken
+  pub are_taken : AreTaken took t taken
   pub left : converted of_items (items p (length start) start) ≡ parse_map (followed taken) (converted of_items (items p bound now))
   pub shorter : length now ≤ length start
 
-module _ {T : Type 0} (took : T → List Data → Type 0) where
-  pub none_taken : (t : T) → AreTaken took t t no_items
-  none_taken t = (λ ds h. subst (took t) (append_none ds) h, refl)
+module _ {T : Type 0} (took : T → List Data → Type 0) (p : Parse json.Json) (start : List Token) where
+  pub passing_start : (t : T) → took t [] → Passing took t p start start
+  passing_start t none = record {
+    bound = length start;
+    enough = omega arith;
+    taken = no_items;
+    are_taken = (refl, none);
+    left = parsed_none _;
+    shorter = omega arith;
+  }
 
-  pub one_more_taken : (old mid new : T) (es : Items) (d : Data) → AreTaken took old mid es → has_float d ≡ false
-      → ((ds : List Data) → took mid ds → took new (ds ++ d ∷ [])) → AreTaken took old new (with_last d es)
-  one_more_taken old mid new es d h whole step = (
-    λ ds t. subst (took new) (append_assoc ds (to_list es) (d ∷ []) ∙ ap (λ xs. ds ++ xs) (sym (to_list-last es d))) (step (ds ++ to_list es) (h.0 ds t)),
-    float-last es d h.1 whole,
+  pub passing_more : (old new : T) (now r : List Token) (d : Data) → Passing took old p start now → after_end_array now ≡ None
+      → converted of_json (p now) ≡ Some (d, r)
+      → has_float d ≡ false → length r < length now → ((ds : List Data) → took old ds → took new (ds ++ d ∷ [])) → Passing took new p start r
+  passing_more old new now r d h going read whole less step =
+      let enough = h.enough in
+      let shorter = h.shorter in
+      record {
+        bound = h.bound - 1;
+        enough = omega (arith, enough, less);
+        taken = with_last d h.taken;
+        are_taken = (float-last h.taken d h.are_taken.0 whole, subst (took new) (sym (to_list-last h.taken d)) (step (to_list h.taken) h.are_taken.1));
+        left = h.left ∙ ap (parse_map (followed h.taken)) (item_read p h.bound now r d (omega (arith, enough, less)) going read) ∙ further h.taken d _;
+        shorter = omega (arith, shorter, less);
+      }
+
+  pub passing_over : (t : T) (now r : List Token) → Passing took t p start now → after_end_array now ≡ Some r
+      → (ds : Items) × (AreTaken took t ds × (converted of_items (items p (length start) start) ≡ Some (ds, r)))
+  passing_over t now r h over = (
+    h.taken,
+    (h.are_taken, h.left ∙ ap (parse_map (followed h.taken)) (items_over p h.bound now r h.enough over) ∙ ap (λ es. Some (es, r)) (followed-none h.taken)),
   )
-
-  module _ (p : Parse json.Json) (start : List Token) where
-    pub passing_start : (t : T) → Passing took t t p start start
-    passing_start t = record {
-      bound = length start;
-      enough = omega arith;
-      taken = no_items;
-      are_taken = none_taken t;
-      left = parsed_none _;
-      shorter = omega arith;
-    }
-
-    pub passing_more : (old mid new : T) (now r : List Token) (d : Data) → Passing took old mid p start now → after_end_array now ≡ None
-        → converted of_json (p now) ≡ Some (d, r)
-        → has_float d ≡ false → length r < length now → ((ds : List Data) → took mid ds → took new (ds ++ d ∷ [])) → Passing took old new p start r
-    passing_more old mid new now r d h going read whole less step =
-        let enough = h.enough in
-        let shorter = h.shorter in
-        record {
-          bound = h.bound - 1;
-          enough = omega (arith, enough, less);
-          taken = with_last d h.taken;
-          are_taken = one_more_taken old mid new h.taken d h.are_taken whole step;
-          left = h.left ∙ ap (parse_map (followed h.taken)) (item_read p h.bound now r d (omega (arith, enough, less)) going read) ∙ further h.taken d _;
-          shorter = omega (arith, shorter, less);
-        }
-
-    pub passing_over : (old new : T) (now r : List Token) → Passing took old new p start now → after_end_array now ≡ Some r
-        → (es : Items) × (AreTaken took old new es × (converted of_items (items p (length start) start) ≡ Some (es, r)))
-    passing_over old new now r h over = (
-      h.taken,
-      (h.are_taken, h.left ∙ ap (parse_map (followed h.taken)) (items_over p h.bound now r h.enough over) ∙ ap (λ es. Some (es, r)) (followed-none h.taken)),
-    )

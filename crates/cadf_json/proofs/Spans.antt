@@ -2,9 +2,8 @@
 use Rattle.std.proofs.Common.{◌≡◌, ℕ, ◌+◌, ◌-◌, ◌<◌, ◌≤◌, List, [], ◌∷◌, ◌++◌, length, take, drop, set, refl, sym, ap, ap₂, ◌∙◌, subst, arith, append_assoc, append-nil, length-append, length-drop, take_all}
 use Rattle.std.proofs.Common.{Ordering, Less, Equal, Greater, nat_cmp}
 use Rattle.std.specs.Prelude.{slice_range}
-use Rattle.std.specs.Borrow.{Bor}
 use Rattle.std.specs.Ordering.{match_ordering}
-use Rattle.std.specs.BTreeMap.{insert_entry}
+use Rattle.std.specs.FinMap.Entries as entries
 use Rattle.std.specs.Cmp.Lexicographic.{slice_cmp}
 use Rattle.std.proofs.lemmas.List.{drop-drop}
 use Rattle.std.proofs.Math.Seq.{take-append_seam, drop-append_seam}
@@ -21,28 +20,28 @@ use Rattle.cadf_json.proofs.Standing.{members_last, count_joined}
 use Rattle.cadf_json.proofs.Loops.{closed_at, size_is}
 
 abbrev pub Entry : Type 0
-Entry = Bor (List ℕ) × Span
+Entry = List ℕ × Span
 
-abbrev name_cmp : Bor (List ℕ) → Bor (List ℕ) → Ordering
-name_cmp a b = slice_cmp nat_cmp a.now b.now
+abbrev pub name_cmp : List ℕ → List ℕ → Ordering
+name_cmp = slice_cmp nat_cmp
 
 module _ (t : List ℕ) (nodes : List Node) where
   spans_either : (o : Ordering) (es fs gs : List Entry) (ms ns os : Members) → (o ≡ Less → AreSpans t nodes es ms) → (o ≡ Equal → AreSpans t nodes fs ns)
-      → (o ≡ Greater → AreSpans t nodes gs os) → AreSpans t nodes (match_ordering o es fs gs) (match_ordering o ms ns os)
+      → (o ≡ Greater → AreSpans t nodes gs os) → AreSpans t nodes (entries.by_order o es fs gs) (match_ordering o ms ns os)
   spans_either Less es fs gs ms ns os a b c = a refl
   spans_either Equal es fs gs ms ns os a b c = b refl
   spans_either Greater es fs gs ms ns os a b c = c refl
 
-  pub spans_insert : (es : List Entry) (ms : Members) (k : Bor (List ℕ)) (p : Span) (d : Data) → AreSpans t nodes es ms → IsSpan t nodes p k.now d
-      → AreSpans t nodes (insert_entry name_cmp es k p) (put k.now d ms)
-  spans_insert [] no_members k p d h at = (refl, at, tt)
-  spans_insert [] (member l f ms) k p d h at = absurd h
-  spans_insert (e ∷ es) no_members k p d h at = absurd h
-  spans_insert (e ∷ es) (member l f ms) k p d h at =
-      subst (λ name. AreSpans t nodes (insert_entry name_cmp (e ∷ es) k p) (put k.now d (member name f ms))) h.0
-      (spans_either (slice_cmp nat_cmp k.now e.0.now) _ _ _ _ _ _ (λ o. (refl, at, (refl, subst (λ n. IsSpan t nodes e.1 n f) (sym h.0) h.1, h.2)))
-      (λ o. (refl, subst (λ n. IsSpan t nodes p n d) (same_name k.now e.0.now o) at, h.2))
-      (λ o. (refl, subst (λ n. IsSpan t nodes e.1 n f) (sym h.0) h.1, spans_insert es ms k p d h.2 at)))
+  pub spans_put : (es : List Entry) (ms : Members) (k : List ℕ) (p : Span) (d : Data) → AreSpans t nodes es ms → IsSpan t nodes p k d
+      → AreSpans t nodes (entries.put name_cmp k p es) (put k d ms)
+  spans_put [] no_members k p d h at = (refl, at, tt)
+  spans_put [] (member l f ms) k p d h at = absurd h
+  spans_put (e ∷ es) no_members k p d h at = absurd h
+  spans_put (e ∷ es) (member l f ms) k p d h at =
+      subst (λ name. AreSpans t nodes (entries.put name_cmp k p (e ∷ es)) (put k d (member name f ms))) h.0
+      (spans_either (name_cmp k e.0) _ _ _ _ _ _ (λ o. (refl, at, (refl, subst (λ n. IsSpan t nodes e.1 n f) (sym h.0) h.1, h.2)))
+      (λ o. (refl, subst (λ n. IsSpan t nodes p n d) (same_name k e.0 o) at, h.2))
+      (λ o. (refl, subst (λ n. IsSpan t nodes e.1 n f) (sym h.0) h.1, spans_put es ms k p d h.2 at)))
 
   -- ---- the spans of the members, one after another
 
@@ -76,17 +75,24 @@ module _ (t : List ℕ) (nodes : List Node) where
   pub rest_is : (start : ℕ) → take (length nodes - start) (drop start nodes) ≡ drop start nodes
   rest_is start = take_all (length nodes - start) (drop start nodes) (omega (arith, length-drop start nodes))
 
+  pub stop_within : (start size : ℕ) (k : List ℕ) (d : Data) (later : Members) (name : List ℕ)
+      → IsFirstMember t (take (length nodes - start) (drop start nodes)) k d later name size → start < length nodes → start + size ≤ length nodes
+  stop_within start size k d later name f some =
+      let within = f.within in
+      let rest = ap length (rest_is start) in
+      omega (arith, within, rest, length-drop start nodes, some)
+
   -- one more member
-  pub spanning_more : (start stop size : ℕ) (found : List Entry) (ms : Members) (name : Bor (List ℕ)) (p : Span) (s : Spanning start found ms)
-      → (a : Another start s.before ms) → IsFirstMember t (drop start nodes) a.k a.d a.later name.now size → p.start ≡ start → p.end ≡ stop → stop ≡ start + size
-      → Spanning stop (insert_entry name_cmp found name p) ms
+  pub spanning_more : (start stop size : ℕ) (found : List Entry) (ms : Members) (name : List ℕ) (p : Span) (s : Spanning start found ms)
+      → (a : Another start s.before ms) → IsFirstMember t (drop start nodes) a.k a.d a.later name size → p.start ≡ start → p.end ≡ stop → stop ≡ start + size
+      → Spanning stop (entries.put name_cmp name p found) ms
   spanning_more start stop size found ms name p s a f from to adds =
       let within = f.within in
       let behind = s.within in
       let long = length-drop start nodes in
       let cut : slice_range nodes p.start p.end ≡ take size (drop start nodes) =
       ap₂ (λ x y. take (y - x) (drop x nodes)) from (to ∙ adds) ∙ ap (λ n. take n (drop start nodes)) (omega arith) in
-      let span : IsSpan t nodes p name.now a.d = record {
+      let span : IsSpan t nodes p name a.d = record {
         rise = omega (arith, from, to, adds);
         within = omega (arith, to, adds, within, behind, long);
         stands = subst (λ k. MembersStand t (member k a.d no_members) (slice_range nodes p.start p.end)) (sym f.name_is)
@@ -94,8 +100,8 @@ module _ (t : List ℕ) (nodes : List Node) where
       } in
       record {
         left = a.later;
-        before = put name.now a.d s.before;
-        spans = spans_insert found s.before name p a.d s.spans span;
+        before = put name a.d s.before;
+        spans = spans_put found s.before name p a.d s.spans span;
         puts = ap (λ k. put_all a.later (put k a.d s.before)) f.name_is ∙ a.puts;
         within = omega (arith, adds, within, behind, long);
         stands = subst (MembersStand t a.later) (drop-drop size start nodes ∙ ap (λ n. drop n nodes) (sym adds)) f.rest;

@@ -1,6 +1,10 @@
 -- What is appended as tokens are read: the nodes and the texts of the values.
 use Rattle.std.specs.Prelude.{◌≡◌, ℕ, ◌<◌, ◌≤◌, List, [], ◌∷◌, ◌++◌, length, take, drop, slice_range, Bool, true, false, Option, Some, None, ⊤}
-use Rattle.std.specs.Borrow.{Bor}
+use Rattle.std.specs.Prelude.{if◌then◌else◌}
+use Rattle.std.specs.Ordering.{nat_cmp}
+use Rattle.std.specs.Cmp.Lexicographic.{slice_cmp}
+use Rattle.std.specs.FinMap.Entries as entries
+use Rattle.std.specs.Str.{bytes_eq}
 use Rattle.json.specs.Token.{Token}
 use Rattle.json.specs.Json.{value, items, members}
 use Rattle.serde_json.specs.Data.{Num, Data, array, object, Items, Members, no_members, member}
@@ -62,11 +66,25 @@ pub record IsSpan (t : List ℕ) (nodes : List Node) (p : Span) (k : List ℕ) (
   pub within : p.end ≤ length nodes
   pub stands : MembersStand t (member k d no_members) (slice_range nodes p.start p.end)
 
-abbrev pub AreSpans : List ℕ → List Node → List (Bor (List ℕ) × Span) → Members → Type 0
+abbrev pub AreSpans : List ℕ → List Node → List (List ℕ × Span) → Members → Type 0
 AreSpans t nodes [] no_members = ⊤
 AreSpans t nodes [] (member k d ms) = ⊥
 AreSpans t nodes (e ∷ es) no_members = ⊥
-AreSpans t nodes (e ∷ es) (member k d ms) = (e.0.now ≡ k) × IsSpan t nodes e.1 k d × AreSpans t nodes es ms
+AreSpans t nodes (e ∷ es) (member k d ms) = (e.0 ≡ k) × IsSpan t nodes e.1 k d × AreSpans t nodes es ms
+
+-- the spans put one after another at their names: of two with the same name the later one stays
+abbrev pub put_spans : List Span → List (List ℕ × Span) → List (List ℕ × Span)
+put_spans [] es = es
+put_spans (p ∷ ps) es = put_spans ps (entries.put (slice_cmp nat_cmp) p.name.now p es)
+
+-- of spans in the order of their names the last one of each name
+abbrev pub is_replaced : List ℕ → List Span → Bool
+is_replaced k [] = false
+is_replaced k (p ∷ ps) = bytes_eq p.name.now k
+
+abbrev pub lasts : List Span → List (List ℕ × Span)
+lasts [] = []
+lasts (p ∷ ps) = if is_replaced p.name.now ps then lasts ps else ((p.name.now, p) ∷ lasts ps)
 
 -- the nodes begin with a member of n nodes, and those of the others follow
 pub record IsFirstMember (t : List ℕ) (nodes : List Node) (k : List ℕ) (d : Data) (ms : Members) (name : List ℕ) (n : ℕ) : Type 0 where

@@ -2,11 +2,11 @@
 //! canonical text; and sources and sinks of bytes.
 #![tactic(auto)]
 
+mod apart;
 mod canonical;
 mod depth;
 mod items;
 mod laws;
-mod list_text;
 mod members;
 mod memory;
 mod node;
@@ -19,29 +19,24 @@ mod rewrite;
 mod rising;
 mod spelling;
 mod stream;
-mod stream_fault;
-mod streamed_object;
 mod transfer;
 mod value;
 mod view;
 mod walk;
 mod write;
 
+pub use crate::apart::ItemVisitor;
 pub use crate::canonical::is_canonical;
 pub use crate::items::Items;
 pub use crate::laws::{
-    bytes_spell_values, text_is_injective, text_is_one_line, text_spells_its_value,
+    bytes_spell_values, depth_limit_is_127, text_is_injective, text_is_one_line,
+    text_spells_its_value,
 };
-pub use crate::list_text::ListTexts;
 pub use crate::members::{Member, Members};
 pub use crate::memory::{FailingWrite, MemorySink, MemorySource};
-pub use crate::object_text::{
-    has_text_at, nests_within, plain_text, spells_object, spells_object_with, text_at,
-};
+pub use crate::object_text::{has_text_at, spells_object};
 pub use crate::spelling::push_quoted;
 pub use crate::stream::{Failed, FromStd, Sink, Source};
-pub use crate::stream_fault::StreamFault;
-pub use crate::streamed_object::{ItemVisitor, read_object_streaming};
 pub use crate::transfer::{OutFault, ReadLimitFault, read_rest, read_to_limit, write_all};
 pub use crate::value::{Json, JsonFault, quoted};
 pub use crate::view::View;

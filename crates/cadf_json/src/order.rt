@@ -1,21 +1,24 @@
 //! Members in the order of their names.
-ghost use Rattle.std.specs.Prelude.{◌≡◌, ◌+◌, ◌<◌, ◌≤◌, ◌++◌, OnOk, IfOk, length, take, drop, vec_len, List as ListOf};
+ghost use Rattle.std.specs.Prelude.{◌≡◌, ◌+◌, ◌<◌, ◌≤◌, ◌++◌, [], ℕ, OnOk, IfOk, length, take, drop, vec_len, List as ListOf};
 ghost use Rattle.serde_json.specs.Data.{Members, no_members};
 ghost use Rattle.cadf_json.specs.declared.node.Node.{Node as NodeOf};
 ghost use Rattle.cadf_json.specs.Flat.{MembersStand, put_all, members_count};
-ghost use Rattle.cadf_json.specs.Reading.{IsOpen, IsClosed, ordered, AreSpans};
+ghost use Rattle.cadf_json.specs.Reading.{IsOpen, IsClosed, ordered, AreSpans, put_spans, is_replaced as is_replaced_by, lasts};
 
 use crate::node::Node;
-use crate::push::extent_from;
+use crate::push::{MOST, extent_from};
 use crate::walk::first_member;
 use std::alloc::{AllocError, Global};
-use std::collections::BTreeMap;
 
-/// Where the nodes of a member are: those of its name and its value.
+/// Memory for more nodes isn't kept.
+const MOST_SPARE: usize = 1 << 12;
+
+/// A member: its name, and where its nodes are, those of the name and of the value.
 #[derive(Clone, Copy, Drop)]
-pub(crate) struct Span {
-    pub(crate) start: usize,
-    pub(crate) end: usize,
+struct Span<'v> {
+    name: &'v [u8],
+    start: u32,
+    end: u32,
 }
 
 /// Writes the node of an object whose members were appended after the node at `at`, once they are in order.
@@ -55,15 +58,16 @@ fn settle(
     if rising {
         return Ok(count);
     }
-    let count = put_in_order(alloc, at, nodes, texts, spare)?;
+    let count = put_in_order(alloc, at, count, nodes, texts, spare)?;
     Ok(count)
 }
 
 /// Puts the members that were appended after the node at `at` in the order of their names; of two with the same name
-/// the later one stays. Returns how many there are.
+/// the later one stays. Returns how many there are. Room is made for `count` members.
 fn put_in_order(
     alloc: Global,
     at: usize,
+    count: u32,
     nodes: &mut Vec<Node>,
     texts: &[u8],
     spare: &mut Vec<Node>,
@@ -74,15 +78,25 @@ fn put_in_order(
 {
     let first = at + 1;
     spare.clear();
-    let count = copy_in_order(alloc, &nodes[first..], texts, spare)?;
+    spare.reserve(nodes.len() - first)?;
+    let count = copy_in_order(alloc, count, &nodes[first..], texts, spare)?;
     nodes.truncate(first);
     nodes.extend_from_slice(spare.as_slice())?;
+    free_if_large(alloc, spare);
     Ok(count)
+}
+
+/// Frees the memory if it is for many nodes.
+fn free_if_large(alloc: Global, spare: &mut Vec<Node>) {
+    if spare.len() > MOST_SPARE {
+        *spare = Vec::new(alloc);
+    }
 }
 
 /// Appends the members in the order of their names, and returns how many there are.
 fn copy_in_order(
     alloc: Global,
+    count: u32,
     members: &[Node],
     texts: &[u8],
     out: &mut Vec<Node>,
@@ -92,36 +106,76 @@ fn copy_in_order(
         → ((xs : ListOf NodeOf) × ((out.new.items ≡ out.old.items ++ xs) × MembersStand texts.now (put_all ms no_members) xs))
         × (n ≡ members_count (put_all ms no_members))) }
 {
-    let found = spans_of(alloc, members, texts)?;
-    let mut count: u32 = 0;
-    for entry in found.iter() {
-        let span = entry.1;
-        out.extend_from_slice(&members[span.start..span.end])?;
-        if count == u32::MAX {
-            return Err(AllocError);
-        }
-        count += 1;
-    }
+    let mut spans = spans_of(alloc, count, members, texts)?;
+    sort(&mut spans)?;
+    let count = copy_lasts(members, spans.as_slice(), out)?;
     Ok(count)
 }
 
-/// Finds the span of the last member of each name.
+/// Finds the span of each member. `Memory` past 2^32 nodes.
 fn spans_of<'v>(
     alloc: Global,
+    count: u32,
     members: &[Node],
     texts: &'v [u8],
-) -> Result<BTreeMap<&'v [u8], Span>, AllocError>
+) -> Result<Vec<Span<'v>>, AllocError>
     requires { (ms : Members) × MembersStand texts.now ms members.now }
-    ensures { IfOk result (λ found. (ms : Members) → MembersStand texts.now ms members.now
-        → AreSpans texts.now members.now found.entries (put_all ms no_members)) }
+    ensures { IfOk result (λ spans. (ms : Members) → MembersStand texts.now ms members.now
+        → AreSpans texts.now members.now (put_spans spans.items []) (put_all ms no_members)) }
 {
-    let mut found = BTreeMap::new(alloc);
+    if members.len() > MOST {
+        return Err(AllocError);
+    }
+    let mut spans = Vec::with_capacity(alloc, count as usize)?;
     let mut start = 0;
     'members: while start < members.len() {
         let (name, size) = first_member(&members[start..], texts);
         let end = start + size;
-        found.insert(name, Span { start, end })?;
+        spans.push(Span {
+            name,
+            start: start as u32,
+            end: end as u32,
+        })?;
         start = end;
     }
-    Ok(found)
+    Ok(spans)
+}
+
+/// Sorts members by name. Those with the same name stay in their order.
+fn sort(spans: &mut Vec<Span<'_>>) -> Result<(), AllocError>
+    ensures { OnOk result (lasts spans.new.items ≡ put_spans spans.old.items []) }
+{
+    spans.sort_by(|one, other| one.name.cmp(other.name))
+}
+
+/// Appends the last member of each name, and returns how many there are.
+fn copy_lasts(members: &[Node], spans: &[Span<'_>], out: &mut Vec<Node>) -> Result<u32, AllocError>
+    requires { (texts : ListOf ℕ) × ((ms : Members) × AreSpans texts members.now (lasts spans.now) ms) }
+    ensures { IfOk result (λ n. (texts : ListOf ℕ) (ms : Members) → AreSpans texts members.now (lasts spans.now) ms
+        → ((xs : ListOf NodeOf) × ((out.new.items ≡ out.old.items ++ xs) × MembersStand texts ms xs)) × (n ≡ members_count ms)) }
+{
+    let mut count: u32 = 0;
+    let mut at = 0;
+    'spans: while at < spans.len() {
+        let span = spans[at];
+        at += 1;
+        if !is_replaced(span.name, &spans[at..]) {
+            out.extend_from_slice(&members[span.start as usize..span.end as usize])?;
+            if count == u32::MAX {
+                return Err(AllocError);
+            }
+            count += 1;
+        }
+    }
+    Ok(count)
+}
+
+/// Returns whether the first of the later members has this name too.
+fn is_replaced(name: &[u8], later: &[Span<'_>]) -> bool
+    ensures { result ≡ is_replaced_by name.now later.now }
+{
+    match later {
+        [next, ..] => next.name == name,
+        [] => false,
+    }
 }

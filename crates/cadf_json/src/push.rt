@@ -44,6 +44,7 @@ impl<T: Drop> From<AllocFailed<T>> for ReadFault {
 pub(crate) const MOST: usize = u32::MAX as usize;
 
 /// Appends a decoded text, and returns its place. `Memory` past 4 GiB.
+#[inline(always)]
 pub(crate) fn push_text(text: &str, texts: &mut Vec<u8>) -> Result<Place, AllocError>
     ensures texts { OnOk result (texts.new.items ≡ texts.old.items ++ text.now) }
     ensures place { IfOk result (λ p. IsTextAt texts.new.items p text.now) }
@@ -63,6 +64,7 @@ pub(crate) fn push_text(text: &str, texts: &mut Vec<u8>) -> Result<Place, AllocE
 }
 
 /// Appends a text and its node.
+#[inline(always)]
 pub(crate) fn push_string(
     text: &str,
     nodes: &mut Vec<Node>,

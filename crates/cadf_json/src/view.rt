@@ -181,7 +181,12 @@ impl<'v> View<'v> {
             ≡ text_of (object_of (replaced name.now (text_value text.now) (without (texts_of left_out.now) (members_in self.now))))) }
     {
         self.type_invariant();
-        rewritten_text(alloc, self.members(), left_out, name, text)
+        rewritten_text(alloc, self.room(), self.members(), left_out, name, text)
+    }
+
+    /// Estimates how many bytes the text has, up to a kilobyte: a short text is then encoded without growing.
+    fn room(&self) -> usize {
+        self.nodes.len().min(64) * 16
     }
 
     /// States the type invariant of a part: it is a value. Does nothing.
@@ -213,7 +218,7 @@ impl<'v> View<'v> {
         ensures value { IsValue self.now }
     {
         self.type_invariant();
-        let mut out = Vec::new(alloc);
+        let mut out = Vec::with_capacity(alloc, self.room())?;
         self.write(alloc, &mut out)?;
         Ok(unsafe { String::from_utf8_unchecked(out) })
     }

@@ -1,11 +1,10 @@
 //! Calls of JSON values, of sources and sinks, and of times.
 #![tactic(auto)]
 
-mod lists;
+mod apart;
 mod looks;
 mod passes;
 mod quotes;
-mod splits;
 mod streams;
 mod times;
 mod writers;
@@ -20,15 +19,10 @@ pub fn answered(alloc: Global, call: &Call) -> Result<String, Memory> {
         "reused" => looks::reused(alloc, call),
         "canonical" => looks::canonical(alloc, call.text(1)),
         "quoted" => quotes::quoted(alloc, call.text(1)),
-        "split" => splits::split(alloc, call.text(1)),
+        "apart" => apart::read(alloc, call.text(1).as_bytes()),
         "is_canonical" => passes::is_canonical(alloc, call.text(1), call.text(2)),
         "spells_object" => passes::spells_object(alloc, call.text(1)),
-        "spells_object_with" => passes::spells_object_with(alloc, call.text(1)),
-        "nests_within" => passes::nests_within(alloc, call.text(1), call.text(2)),
         "has_text_at" => passes::has_text_at(alloc, call.text(1), call.text(2), call.text(3)),
-        "text_at" => lists::text_at(alloc, call.text(1), call.text(2)),
-        "plain_text" => lists::plain_text(alloc, call.text(1)),
-        "list_texts" => lists::list_texts(alloc, call.text(1)),
         "read_to_limit" => streams::whole(alloc, call),
         "read_rest" => streams::rest(alloc, call),
         "borrow_next" => streams::borrowed(alloc, call),
@@ -44,10 +38,9 @@ pub fn answered(alloc: Global, call: &Call) -> Result<String, Memory> {
 /// Makes the call of the first word on a text of which a part is repeated.
 fn repeated(alloc: Global, call: &Call) -> Result<String, Memory> {
     let bytes = call.repeated(alloc)?;
-    let text = str::from_utf8(bytes.as_slice()).unwrap_or("");
     match call.text(1) {
         "value" => looks::value_kind(alloc, bytes.as_slice()),
-        "split" => splits::split(alloc, text),
+        "apart" => apart::read(alloc, bytes.as_slice()),
         _ => calls::answer(alloc, "no such call", &[]),
     }
 }

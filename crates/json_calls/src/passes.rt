@@ -1,6 +1,5 @@
 //! Texts that are checked, and not kept.
 
-use json::Scratch;
 use std::alloc::{AllocError as Memory, Global};
 
 /// Answers whether the text is canonical, of a value that nests no deeper than the number.
@@ -12,26 +11,9 @@ pub(crate) fn is_canonical(alloc: Global, text: &str, depth: &str) -> Result<Str
     format!(in alloc; "{is}")
 }
 
-/// Answers whether the value of a canonical text nests no deeper than the number.
-pub(crate) fn nests_within(alloc: Global, text: &str, depth: &str) -> Result<String, Memory> {
-    let Ok(depth) = depth.parse::<u8>() else {
-        return calls::answer(alloc, "no such depth", &[]);
-    };
-    let mut scratch = Scratch::new(alloc);
-    let is = cadf_json::nests_within(&mut scratch, text, depth)?;
-    format!(in alloc; "{is}")
-}
-
 /// Answers whether the value of a canonical text is an object.
 pub(crate) fn spells_object(alloc: Global, text: &str) -> Result<String, Memory> {
     let is = cadf_json::spells_object(alloc, text)?;
-    format!(in alloc; "{is}")
-}
-
-/// Answers the same, by a parser whose memory is kept.
-pub(crate) fn spells_object_with(alloc: Global, text: &str) -> Result<String, Memory> {
-    let mut scratch = Scratch::new(alloc);
-    let is = cadf_json::spells_object_with(&mut scratch, text)?;
     format!(in alloc; "{is}")
 }
 

@@ -23,7 +23,7 @@ returns c = λ old ms o.
     let rest = ap (λ ns. take (length ns - first) (drop first ns)) c.deref.ensures.value ∙ rest_is t nodes first
     ∙ (open_rest t old nodes c.args.at first ms o refl).0 in
     let done = c.in_ok-count.ensures ms (subst (MembersStand t ms) (sym rest) o.stands) in
-    let copy : c.copy_in_order.new.out.items ≡ done.0.0 = done.0.1.0 ∙ ap (λ ys. ys ++ done.0.0) c.clear.ensures.items in
+    let copy : c.copy_in_order.new.out.items ≡ done.0.0 = done.0.1.0 ∙ ap (λ ys. ys ++ done.0.0) (c.reserve.ensures.items ∙ c.clear.ensures.items) in
     let added : c.extend_from_slice.new.self.items ≡ take first nodes ++ c.copy_in_order.new.out.items = search rules in (
       reopened t old nodes c.extend_from_slice.new.self.items done.0.0 c.args.at first ms (put_all ms no_members) o refl
           (added ∙ ap (λ ys. take first nodes ++ ys) copy) done.0.1.1,

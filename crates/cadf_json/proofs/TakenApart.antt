@@ -1,0 +1,314 @@
+-- Members that are read while the items of one list are taken apart.
+use Rattle.std.proofs.Common.{◌≡◌, ℕ, ◌+◌, ◌-◌, ◌<◌, ◌≤◌, List, [], ◌∷◌, ◌++◌, length, Bool, true, false, true≢false, ◌&&◌, ◌||◌, if◌then◌else◌, Option, Some, None, option_map, bytes_eq, refl, sym, ap, ap₂, ◌∙◌, subst, arith, append_assoc, append-nil}
+use Rattle.std.proofs.Common.{Ordering, Less, Equal, Greater, nat_cmp}
+use Rattle.std.specs.Prelude.{IsUtf8}
+use Rattle.std.specs.Cmp.Lexicographic.{slice_cmp}
+use Rattle.std.proofs.lemmas.Bool.{or_parts}
+use Rattle.std.proofs.lemmas.Slice.Eq.{bytes_eq-Decides}
+use Rattle.json.specs.Token.{Token}
+use Rattle.json.specs.Json as json
+use Rattle.json.specs.Json.{Parse, read_key, members}
+use Rattle.serde_json.specs.Data.{Data, null, boolean, number, string, array, object, Items, no_items, Members, no_members, member, put, depth, members_depth}
+use Rattle.serde_json.specs.Find.{get_member}
+use Rattle.serde_json.specs.Read.{of_json, of_members, converted}
+use Rattle.serde_json.specs.Written.{has_float, items_have_float, members_have_float}
+use Rattle.serde_json.proofs.Views.{get_member-put}
+use Rattle.cadf_json.specs.Apart.{a_fraction, emptied, emptied_at, emptied_in, AreTaken, IsTaken}
+use Rattle.cadf_json.specs.Canonical.{is_name_above}
+use Rattle.cadf_json.specs.Flat.{IsTextAt, Stands, TextStands, MembersStand, members_count, put_all}
+use Rattle.cadf_json.specs.Rewritten.{is_one_of, without}
+use Rattle.cadf_json.specs.Reading.{Grown, IsOpen, IsClosed, ordered}
+use Rattle.cadf_json.specs.Value.{IsWhole, MembersAreWhole, RisesFrom, Rises, IsValue}
+use Rattle.cadf_json.specs.declared.node.Node.{Node}
+use Rattle.cadf_json.specs.declared.node.Node.TheVariants.{Null, Text}
+use Rattle.cadf_json.proofs.Looks.{member_here, member_passed}
+use Rattle.cadf_json.proofs.Loops.{AreRising, rises_further, put_last}
+use Rattle.cadf_json.proofs.Orders.{joined}
+use Rattle.cadf_json.proofs.Rewriting.{get-put}
+use Rattle.cadf_json.proofs.RisingRows.{both_true}
+use Rattle.cadf_json.proofs.Splits.{same_name}
+use Rattle.cadf_json.proofs.Standing.{text_further, members_further, members_last, count_joined}
+use Rattle.cadf_json.proofs.Turns.{member_read, members_over}
+
+apart : (k n : List ℕ) → bytes_eq k n ≡ false → k ≡ n → ⊥
+apart k n h e = true≢false (sym ((bytes_eq-Decides k n).1 e) ∙ h)
+
+other_order_at : (b : Bool) (k n : List ℕ) → bytes_eq k n ≡ false → bytes_eq n k ≡ b → b ≡ false
+other_order_at false k n h is = refl
+other_order_at true k n h is = absurd (apart k n h (sym ((bytes_eq-Decides n k).0 is)))
+
+other_order : (k n : List ℕ) → bytes_eq k n ≡ false → bytes_eq n k ≡ false
+other_order k n h = other_order_at (bytes_eq n k) k n h refl
+
+-- ---- a list without its items
+
+float_if : (b : Bool) → has_float (if b then a_fraction else array no_items) ≡ b
+float_if true = refl
+float_if false = refl
+
+float_emptied : (d : Data) → has_float (emptied d) ≡ has_float d
+float_emptied null = refl
+float_emptied (boolean b) = refl
+float_emptied (number n) = refl
+float_emptied (string s) = refl
+float_emptied (array ds) = float_if (items_have_float ds)
+float_emptied (object ms) = refl
+
+-- a list without its items is whole, and nests no deeper
+abbrev Stays : Data → Data → Type 0
+Stays d e = IsWhole e × (depth e ≤ depth d)
+
+stays_emptied : (d : Data) → IsWhole d → has_float d ≡ false → Stays d (emptied d)
+stays_emptied null h f = (h, omega arith)
+stays_emptied (boolean b) h f = (h, omega arith)
+stays_emptied (number n) h f = (h, omega arith)
+stays_emptied (string s) h f = (h, omega arith)
+stays_emptied (array ds) h f = rw f (tt, omega arith)
+stays_emptied (object ms) h f = (h, omega arith)
+
+module _ (name : List ℕ) where
+  float_at : (b : Bool) (d : Data) → has_float (if b then emptied d else d) ≡ has_float d
+  float_at true d = float_emptied d
+  float_at false d = refl
+
+  pub float_in : (ms : Members) → members_have_float (emptied_in name ms) ≡ members_have_float ms
+  float_in no_members = refl
+  float_in (member k d ms) = ap₂ (λ x y. x || y) (float_at (bytes_eq k name) d) (float_in ms)
+
+  stays_at : (b : Bool) (d : Data) → IsWhole d → has_float d ≡ false → Stays d (if b then emptied d else d)
+  stays_at true d h f = stays_emptied d h f
+  stays_at false d h f = (h, omega arith)
+
+  stays_in : (ms : Members) → MembersAreWhole ms → members_have_float ms ≡ false
+      → MembersAreWhole (emptied_in name ms) × (members_depth (emptied_in name ms) ≤ members_depth ms)
+  stays_in no_members h f = (tt, omega arith)
+  stays_in (member k d ms) h f =
+      let both = or_parts (has_float d) (members_have_float ms) f in
+      let here = stays_at (bytes_eq k name) d h.1 both.0 in
+      let rest = stays_in ms h.2 both.1 in
+      let a = here.1 in
+      let b = rest.1 in
+      ((h.0, here.0, rest.0), omega (arith, a, b))
+
+  rises_from : (k : List ℕ) (ms : Members) → RisesFrom k ms → RisesFrom k (emptied_in name ms)
+  rises_from k no_members h = tt
+  rises_from k (member l d ms) h = (h.0, rises_from l ms h.1)
+
+  rises_in : (ms : Members) → Rises ms → Rises (emptied_in name ms)
+  rises_in no_members h = tt
+  rises_in (member k d ms) h = rises_from k ms h
+
+  pub value_in : (ms : Members) → IsValue (object ms) → members_have_float ms ≡ false → IsValue (object (emptied_in name ms))
+  value_in ms v f =
+      let stays = stays_in ms v.0.0 f in
+      let low = stays.1 in
+      let deep = v.1 in
+      ((stays.0, rises_in ms v.0.1), omega (arith, low, deep))
+
+  -- ---- members that are put
+
+  emptied-joined : (ms : Members) (k : List ℕ) (d : Data)
+      → emptied_in name (joined ms (member k d no_members)) ≡ joined (emptied_in name ms) (member k (emptied_at name k d) no_members)
+  emptied-joined no_members k d = refl
+  emptied-joined (member l e ms) k d = ap (member l (emptied_at name l e)) (emptied-joined ms k d)
+
+  emptied-put_at : (o : Ordering) (k l : List ℕ) (d e : Data) (ms : Members) → slice_cmp nat_cmp k l ≡ o
+      → put k (emptied_at name k d) (emptied_in name ms) ≡ emptied_in name (put k d ms)
+      → put k (emptied_at name k d) (emptied_in name (member l e ms)) ≡ emptied_in name (put k d (member l e ms))
+  emptied-put_at Less k l d e ms is rest = rw is refl
+  emptied-put_at Equal k l d e ms is rest = rw is (ap (λ n. member l (emptied_at name n d) (emptied_in name ms)) (same_name k l is))
+  emptied-put_at Greater k l d e ms is rest = rw is (ap (member l (emptied_at name l e)) rest)
+
+  emptied-put : (k : List ℕ) (d : Data) (ms : Members) → put k (emptied_at name k d) (emptied_in name ms) ≡ emptied_in name (put k d ms)
+  emptied-put k d no_members = refl
+  emptied-put k d (member l e ms) = emptied-put_at (slice_cmp nat_cmp k l) k l d e ms refl (emptied-put k d ms)
+
+  emptied-all : (ms found : Members) → put_all (emptied_in name ms) (emptied_in name found) ≡ emptied_in name (put_all ms found)
+  emptied-all no_members found = refl
+  emptied-all (member k d ms) found = ap (put_all (emptied_in name ms)) (emptied-put k d found) ∙ emptied-all ms (put k d found)
+
+-- ---- what is left of the members
+
+get_at : (b : Bool) (name j k : List ℕ) (d : Data) (ms : Members) → bytes_eq j k ≡ b
+    → get_member j (emptied_in name ms) ≡ option_map (emptied_at name j) (get_member j ms)
+    → get_member j (emptied_in name (member k d ms)) ≡ option_map (emptied_at name j) (get_member j (member k d ms))
+get_at true name j k d ms is rest =
+    member_here j k (emptied_at name k d) (emptied_in name ms) is ∙ ap (λ n. Some (emptied_at name n d)) (sym ((bytes_eq-Decides j k).0 is))
+    ∙ sym (ap (option_map (emptied_at name j)) (member_here j k d ms is))
+get_at false name j k d ms is rest =
+    member_passed j k (emptied_at name k d) (emptied_in name ms) is ∙ rest ∙ sym (ap (option_map (emptied_at name j)) (member_passed j k d ms is))
+
+pub get-emptied : (name j : List ℕ) (ms : Members) → get_member j (emptied_in name ms) ≡ option_map (emptied_at name j) (get_member j ms)
+get-emptied name j no_members = refl
+get-emptied name j (member k d ms) = get_at (bytes_eq j k) name j k d ms refl (get-emptied name j ms)
+
+same_at : (name j : List ℕ) (o : Option Data) → bytes_eq j name ≡ false → option_map (emptied_at name j) o ≡ o
+same_at name j None other = refl
+same_at name j (Some d) other = rw other refl
+
+-- members of other names stay
+pub get-other : (name j : List ℕ) (ms : Members) → bytes_eq j name ≡ false → get_member j (emptied_in name ms) ≡ get_member j ms
+get-other name j ms other = get-emptied name j ms ∙ same_at name j (get_member j ms) other
+
+some_there : (e : Data) → ◌≡◌ {A = Option Data} (Some e) None → ⊥
+some_there e h = cc
+
+none_at : (b : Bool) (name k : List ℕ) (d : Data) (ms : Members) → bytes_eq name k ≡ b → get_member name (member k d ms) ≡ None
+    → (get_member name ms ≡ None → emptied_in name ms ≡ ms) → emptied_in name (member k d ms) ≡ member k d ms
+none_at true name k d ms is none rest = absurd (some_there d (sym (member_here name k d ms is) ∙ none))
+none_at false name k d ms is none rest =
+    rw (other_order name k is) (ap (member k d) (rest (sym (member_passed name k d ms is) ∙ none)))
+
+-- without a member of that name all stay
+pub none-emptied : (name : List ℕ) (ms : Members) → get_member name ms ≡ None → emptied_in name ms ≡ ms
+none-emptied name no_members none = refl
+none-emptied name (member k d ms) none = none_at (bytes_eq name k) name k d ms refl none (none-emptied name ms)
+
+without_at : (b c : Bool) (names : List (List ℕ)) (name k : List ℕ) (d : Data) (ms : Members) → is_one_of names k ≡ b → bytes_eq k name ≡ c
+    → is_one_of names name ≡ true → without names (emptied_in name ms) ≡ without names ms
+    → without names (emptied_in name (member k d ms)) ≡ without names (member k d ms)
+without_at true c names name k d ms is equal listed rest = rw is rest
+without_at false true names name k d ms is equal listed rest =
+    absurd (true≢false (sym listed ∙ ap (is_one_of names) (sym ((bytes_eq-Decides k name).0 equal)) ∙ is))
+without_at false false names name k d ms is other listed rest = rw (is, other) (ap (member k d) rest)
+
+pub without-emptied : (names : List (List ℕ)) (name : List ℕ) (ms : Members) → is_one_of names name ≡ true
+    → without names (emptied_in name ms) ≡ without names ms
+without-emptied names name no_members listed = refl
+without-emptied names name (member k d ms) listed =
+    without_at (is_one_of names k) (bytes_eq k name) names name k d ms refl refl listed (without-emptied names name ms listed)
+
+-- ---- the loop
+
+pub record Apart {T : Type 0} (took : T → List Data → Type 0) (t : T) (name : List ℕ) (p : Parse json.Json) (start now : List Token)
+    (old nodes : List Node) (v u : List ℕ) (count : ℕ) (last : Option (List ℕ)) (rising : Bool) : Type 0 where
+  pub bound : ℕ
+  pub enough : length now ≤ bound
+  pub got : Members
+  pub left : converted (λ ms. of_members ms no_members) (members p (length start) start)
+      ≡ converted (λ ms. of_members ms (put_all got no_members)) (members p bound now)
+  pub shorter : length now ≤ length start
+  pub taken : IsTaken took t (get_member name (put_all got no_members))
+  pub in_order : rising ≡ true → AreRising (emptied_in name got) last
+  pub xs : List Node
+  pub more : List ℕ
+  pub nodes_are : nodes ≡ old ++ Null ∷ xs
+  pub texts_are : u ≡ v ++ more
+  pub stands : MembersStand u (emptied_in name got) xs
+  pub counted : count ≡ members_count (emptied_in name got)
+
+module _ {T : Type 0} (took : T → List Data → Type 0) (name : List ℕ) (p : Parse json.Json) (start : List Token) (old : List Node) (v : List ℕ) where
+  pub apart_start : (t : T) → Apart took t name p start start old (old ++ Null ∷ []) v v 0 None true
+  apart_start t = record {
+    bound = length start;
+    enough = omega arith;
+    got = no_members;
+    left = refl;
+    shorter = omega arith;
+    taken = tt;
+    in_order = λ r. record { ends = refl; same = refl };
+    xs = [];
+    more = [];
+    nodes_are = refl;
+    texts_are = sym (append-nil v);
+    stands = refl;
+    counted = refl;
+  }
+
+  -- one more member, and what was taken after it
+  apart_more : (t s : T) (now between r : List Token) (nodes mid new : List Node) (u w x : List ℕ) (count : ℕ) (last : Option (List ℕ)) (rising : Bool)
+      (k : List ℕ) (d : Data) → (h : Apart took t name p start now old nodes v u count last rising) → read_key now ≡ Some (Some k, between)
+      → Grown (λ u xs. TextStands u k xs) nodes mid u w → converted of_json (p between) ≡ Some (d, r)
+      → Grown (λ u xs. Stands u (emptied_at name k d) xs) mid new w x → length r < length now
+      → IsTaken took s (get_member name (put k d (put_all h.got no_members)))
+      → Apart took s name p start r old new v x (count + 1) (Some k) (rising && is_name_above last k)
+  apart_more t s now between r nodes mid new u w x count last rising k d h key named read g less taken =
+      let enough = h.enough in
+      let shorter = h.shorter in
+      let counted = h.counted in
+      let e = emptied_at name k d in
+      let before_got = emptied_in name h.got in
+      let one = count_joined before_got k e in
+      let is_joined = emptied-joined name h.got k d in
+      let place = named.stands.0 in
+      let is : named.xs ≡ Text place ∷ [] = named.stands.1.0 in
+      let mid_are : mid ≡ nodes ++ Text place ∷ [] = named.nodes ∙ ap (λ ys. nodes ++ ys) is in
+      let new_are : new ≡ nodes ++ Text place ∷ g.xs = g.nodes ∙ ap (λ ys. ys ++ g.xs) mid_are ∙ append_assoc nodes (Text place ∷ []) g.xs in
+      let before = subst (λ y. MembersStand y before_got h.xs) (sym named.texts) (members_further u named.more before_got h.xs h.stands) in
+      record {
+        bound = h.bound - 1;
+        enough = omega (arith, enough, less);
+        got = joined h.got (member k d no_members);
+        left = h.left ∙ member_read p (put_all h.got no_members) h.bound k now between r d (omega (arith, enough, less)) key read
+            ∙ ap (λ found. converted (λ ms. of_members ms found) (members p (h.bound - 1) r)) (sym (put_last h.got k d no_members));
+        shorter = omega (arith, shorter, less);
+        taken = subst (λ ms. IsTaken took s (get_member name ms)) (sym (put_last h.got k d no_members)) taken;
+        in_order = λ still. let both = both_true rising (is_name_above last k) still in
+            subst (λ ms. AreRising ms (Some k)) (sym is_joined) (rises_further before_got last k e (h.in_order both.0) both.1);
+        xs = h.xs ++ Text place ∷ g.xs;
+        more = h.more ++ (named.more ++ g.more);
+        nodes_are = new_are ∙ ap (λ ys. ys ++ Text place ∷ g.xs) h.nodes_are ∙ append_assoc old (Null ∷ h.xs) (Text place ∷ g.xs);
+        texts_are = g.texts ∙ ap (λ ys. ys ++ g.more) (named.texts ∙ ap (λ ys. ys ++ named.more) h.texts_are)
+            ∙ append_assoc (v ++ h.more) named.more g.more ∙ append_assoc v h.more (named.more ++ g.more);
+        stands = subst (λ ms. MembersStand x ms (h.xs ++ Text place ∷ g.xs)) (sym is_joined)
+            (members_last x before_got k e place h.xs g.xs
+            (subst (λ y. MembersStand y before_got h.xs) (sym g.texts) (members_further w g.more before_got h.xs before))
+            (subst (λ y. IsTextAt y place k) (sym g.texts) (text_further w g.more place k named.stands.1.1)) g.stands);
+        counted = let same = ap members_count is_joined in omega (arith, counted, one, same);
+      }
+
+  -- a member of another name
+  pub apart_other : (t : T) (now between r : List Token) (nodes mid new : List Node) (u w x : List ℕ) (count : ℕ) (last : Option (List ℕ)) (rising : Bool)
+      (k : List ℕ) (d : Data) → Apart took t name p start now old nodes v u count last rising → bytes_eq k name ≡ false → read_key now ≡ Some (Some k, between)
+      → Grown (λ u xs. TextStands u k xs) nodes mid u w → converted of_json (p between) ≡ Some (d, r)
+      → Grown (λ u xs. Stands u d xs) mid new w x → length r < length now
+      → Apart took t name p start r old new v x (count + 1) (Some k) (rising && is_name_above last k)
+  apart_other t now between r nodes mid new u w x count last rising k d h other key named read g less =
+      let same : emptied_at name k d ≡ d = rw other refl in
+      apart_more t t now between r nodes mid new u w x count last rising k d h key named read
+      (subst (λ e. Grown (λ u xs. Stands u e xs) mid new w x) (sym same) g) less
+      (subst (IsTaken took t) (sym (get-put name k d (put_all h.got no_members) (other_order k name other))) h.taken)
+
+  -- the list, whose items were taken
+  pub apart_list : (t s : T) (now between r : List Token) (nodes mid new : List Node) (u w x : List ℕ) (count : ℕ) (last : Option (List ℕ)) (rising : Bool)
+      (k : List ℕ) (ds : Items) → Apart took t name p start now old nodes v u count last rising → bytes_eq k name ≡ true → read_key now ≡ Some (Some k, between)
+      → Grown (λ u xs. TextStands u k xs) nodes mid u w → converted of_json (p between) ≡ Some (array ds, r)
+      → Grown (λ u xs. Stands u (array no_items) xs) mid new w x → length r < length now → AreTaken took s ds
+      → Apart took s name p start r old new v x (count + 1) (Some k) (rising && is_name_above last k)
+  apart_list t s now between r nodes mid new u w x count last rising k ds h equal key named read g less taken =
+      let same : emptied_at name k (array ds) ≡ array no_items = rw (equal, taken.0) refl in
+      let found = put_all h.got no_members in
+      let there : get_member name (put k (array ds) found) ≡ Some (array ds) =
+      ap (λ n. get_member name (put n (array ds) found)) ((bytes_eq-Decides k name).0 equal) ∙ get_member-put name (array ds) found in
+      apart_more t s now between r nodes mid new u w x count last rising k (array ds) h key named read
+      (subst (λ e. Grown (λ u xs. Stands u e xs) mid new w x) (sym same) g) less (subst (IsTaken took s) (sym there) taken)
+
+  pub apart_open : (t : T) (now : List Token) (nodes : List Node) (u : List ℕ) (count : ℕ) (last : Option (List ℕ)) (rising : Bool) (place : ℕ)
+      → (h : Apart took t name p start now old nodes v u count last rising) → place ≡ length old → IsOpen u old nodes place (emptied_in name h.got)
+  apart_open t now nodes u count last rising place h at = record { xs = h.xs; is = h.nodes_are; place_is = at; stands = h.stands }
+
+  ordered_all : (rising : Bool) (got : Members) (last : Option (List ℕ)) → (rising ≡ true → AreRising got last) → ordered rising got ≡ put_all got no_members
+  ordered_all true got last h = sym (h refl).same
+  ordered_all false got last h = refl
+
+  -- the closing brace
+  pub apart_over : (t : T) (now r : List Token) (nodes new : List Node) (u : List ℕ) (count : ℕ) (last : Option (List ℕ)) (rising : Bool)
+      → (h : Apart took t name p start now old nodes v u count last rising) → read_key now ≡ Some (None, r)
+      → IsClosed u old new (ordered rising (emptied_in name h.got))
+      → (ms : Members) × ((converted (λ ms. of_members ms no_members) (members p (length start) start) ≡ Some (ms, r))
+      × IsTaken took t (get_member name ms) × Grown (λ w xs. Stands w (object (emptied_in name ms)) xs) old new v u)
+  apart_over t now r nodes new u count last rising h key closed = (
+    put_all h.got no_members,
+    (
+      h.left ∙ members_over p (put_all h.got no_members) h.bound now r h.enough key,
+      h.taken,
+      record {
+        xs = closed.0;
+        more = h.more;
+        nodes = closed.1.0;
+        texts = h.texts_are;
+        stands = subst (λ ms. Stands u (object ms) closed.0)
+            (ordered_all rising (emptied_in name h.got) last h.in_order ∙ emptied-all name h.got no_members) closed.1.1;
+      },
+    ),
+  )

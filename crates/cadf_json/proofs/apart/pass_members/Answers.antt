@@ -1,0 +1,111 @@
+use Rattle.std.proofs.Common.{◌≡◌, ◌<◌, ◌+◌, ◌++◌, ◌∷◌, [], length, true, false, Some, None, option_map, bytes_eq, refl, sym, ap, ◌∙◌, subst, arith, rules, append-nil}
+use Rattle.json.specs.Json.{value, read_key}
+use Rattle.json.proofs.Grammar.{read_key-shorter}
+use Rattle.serde_json.specs.Data.{array, no_items}
+use Rattle.cadf_json.specs.Flat.{Stands}
+use Rattle.cadf_json.specs.Reading.{Grown}
+use Rattle.cadf_json.specs.TokenUtf8.{HaveUtf8}
+use Rattle.cadf_json.specs.declared.node.Node.TheVariants.{Null, Array}
+use Rattle.cadf_json.proofs.ReadValues.{rest_utf8, key_utf8}
+use Rattle.cadf_json.proofs.TakenApart.{Apart, apart_start, apart_other, apart_list, apart_open, apart_over}
+use Rattle.cadf_json.proofs.apart.pass_members.Goals as goal
+
+pub members-init : goal.members-init
+members-init g c =
+    let took = g.T.ItemVisitor.took in
+    let old = c.args.nodes.now.items in
+    let u = c.args.texts.now.items in
+    let pushed : c.push.new.self.items ≡ old ++ Null ∷ [] = search rules in
+    let len = c.args.nodes.now.ok.0 in
+    let at = c.len-at.ensures in (
+      subst (λ xs. Apart took c.args.taker.now c.args.name.now (value c.args.depth) c.args.reader.now c.args.reader.now old xs u u 0 None true) (sym pushed)
+          (apart_start took c.args.name.now (value c.args.depth) c.args.reader.now old u c.args.taker.now),
+      omega (arith, len, at),
+      c.requires.utf8,
+    )
+
+pub returns-in_default-key : goal.returns-in_default-key
+returns-in_default-key g c =
+    let took = g.T.ItemVisitor.took in
+    let name = c.args.name.now in
+    let l = c.members in
+    let p = value c.args.depth in
+    let start = c.args.reader.now in
+    let old = c.args.nodes.now.items in
+    let u = c.args.texts.now.items in
+    let last = option_map (λ x. x.now) l.last in
+    let s = c.next_key.new.self in
+    let over : read_key l.reader ≡ Some (None, s) = c.in-Ok.ensures.value ∙ ap (λ o. Some (option_map (λ x. x.now) o, s)) c.in_default-key.is in
+    let h = l.invariant.0 in
+    let open_now = apart_open took name p start old u l.taker l.reader l.nodes.items l.texts.items l.count last l.rising c.len-at.result h l.invariant.1 in
+    apart_over took name p start old u l.taker l.reader s l.nodes.items c.end_members.new.nodes.items l.texts.items l.count last l.rising h over
+    (c.in_ok-end_members.ensures old _ open_now h.counted)
+
+pub members-preserved : goal.members-preserved
+members-preserved g c =
+    let took = g.T.ItemVisitor.took in
+    let name = c.args.name.now in
+    let l = c.members in
+    let p = value c.args.depth in
+    let start = c.args.reader.now in
+    let old = c.args.nodes.now.items in
+    let u = c.args.texts.now.items in
+    let last = option_map (λ x. x.now) l.last in
+    let k = c.in-Some.key in
+    let s = c.next_key.new.self in
+    let named : read_key l.reader ≡ Some (Some k.now, s) = c.in-Ok.ensures.value ∙ ap (λ o. Some (option_map (λ x. x.now) o, s)) c.in-Some.is in
+    let other : bytes_eq k.now name ≡ false = search rules in
+    let done = c.in_ok-read_value.ensures in
+    let r = c.read_value.new.reader in
+    let sooner = read_key-shorter l.reader (Some k.now) s named in
+    let later = done.shorter in
+    let less : length r < length l.reader = omega (arith, sooner, later) in
+    let read = done.ok in (
+      subst (λ b. Apart took l.taker name p start r old c.read_value.new.nodes.items u c.read_value.new.texts.items (l.count + 1) (Some k.now) b)
+          (sym c.rises_to-rising.ensures)
+          (apart_other took name p start old u l.taker l.reader s r l.nodes.items c.push_string.new.nodes.items c.read_value.new.nodes.items l.texts.items
+          c.push_string.new.texts.items c.read_value.new.texts.items l.count last l.rising k.now read.0 l.invariant.0 other named c.in_ok-push_string.ensures
+          read.1.0 read.1.1 less),
+      l.invariant.1,
+      rest_utf8 c.args.depth s r read.0 (key_utf8 l.reader s (Some k.now) l.invariant.2 named) read.1.0,
+    )
+
+pub members-preserved-in_ok-pass_list : goal.members-preserved-in_ok-pass_list
+members-preserved-in_ok-pass_list g c =
+    let took = g.T.ItemVisitor.took in
+    let name = c.args.name.now in
+    let l = c.members in
+    let p = value c.args.depth in
+    let start = c.args.reader.now in
+    let old = c.args.nodes.now.items in
+    let u = c.args.texts.now.items in
+    let last = option_map (λ x. x.now) l.last in
+    let k = c.in-Some.key in
+    let s = c.next_key.new.self in
+    let named : read_key l.reader ≡ Some (Some k.now, s) = c.in-Ok.ensures.value ∙ ap (λ o. Some (option_map (λ x. x.now) o, s)) c.in-Some.is in
+    let equal : bytes_eq k.now name ≡ true = search rules in
+    let done = c.in_ok-pass_list.ensures in
+    let r = c.pass_list.new.reader in
+    let sooner = read_key-shorter l.reader (Some k.now) s named in
+    let later = done.shorter in
+    let less : length r < length l.reader = omega (arith, sooner, later) in
+    let list = done.ok in
+    let w = c.push_string.new.texts.items in
+    let grown : Grown (λ u xs. Stands u (array no_items) xs) c.push_string.new.nodes.items c.pass_list.new.nodes.items w w =
+    record { xs = _ ∷ []; more = []; nodes = list.1.2; texts = sym (append-nil w); stands = (_, ([], (refl, (refl, refl), refl))) } in (
+      subst (λ b. Apart took c.pass_list.new.taker name p start r old c.pass_list.new.nodes.items u w (l.count + 1) (Some k.now) b)
+          (sym c.rises_to-rising.ensures)
+          (apart_list took name p start old u l.taker c.pass_list.new.taker l.reader s r l.nodes.items c.push_string.new.nodes.items
+          c.pass_list.new.nodes.items l.texts.items w w l.count last l.rising k.now list.0 l.invariant.0 equal named c.in_ok-push_string.ensures
+          list.1.1 grown less list.1.0),
+      l.invariant.1,
+      rest_utf8 c.args.depth s r (array list.0) (key_utf8 l.reader s (Some k.now) l.invariant.2 named) list.1.1,
+    )
+
+pub pass_list-requires-clause-utf8 : goal.pass_list-requires-clause-utf8
+pass_list-requires-clause-utf8 g c =
+    let l = c.members in
+    let s = c.next_key.new.self in
+    let k = c.in-Some.key.now in
+    let named : read_key l.reader ≡ Some (Some k, s) = c.in-Ok.ensures.value ∙ ap (λ o. Some (option_map (λ x. x.now) o, s)) c.in-Some.is in
+    key_utf8 l.reader s (Some k) l.invariant.2 named

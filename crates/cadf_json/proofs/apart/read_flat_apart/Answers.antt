@@ -1,0 +1,62 @@
+use Rattle.std.proofs.Common.{◌≡◌, [], ◌∷◌, ◌++◌, length, false, Some, IsUtf8, inr, sym, ap, ◌∙◌, subst, arith, rules}
+use Rattle.json.specs.Token.{Token}
+use Rattle.json.specs.Lex.{tokens}
+use Rattle.json.specs.Json.{parse_map, members, value}
+use Rattle.json.proofs.Grammar.{value-begin_object}
+use Rattle.serde_json.specs.Data.{object}
+use Rattle.serde_json.specs.Read.{of_json, converted}
+use Rattle.serde_json.specs.Written.{members_have_float}
+use Rattle.cadf_json.specs.Apart.{emptied_in}
+use Rattle.cadf_json.specs.Flat.{decode, have_fraction, Stands}
+use Rattle.cadf_json.specs.TokenUtf8.{HaveUtf8}
+use Rattle.cadf_json.specs.Value.{IsValue, SpellsValue}
+use Rattle.cadf_json.proofs.Decoding.{decoded, fraction_is}
+use Rattle.cadf_json.proofs.Spelled.{spelled_is_value}
+use Rattle.cadf_json.proofs.TakenApart.{float_in, value_in}
+use Rattle.cadf_json.proofs.TokenTexts.{tokens_utf8}
+use Rattle.cadf_json.proofs.Turns.{converted-object, whole_read}
+use Rattle.cadf_json.proofs.apart.read_flat_apart.Goals as goal
+
+pub pass_members-requires-clause-utf8 : goal.pass_members-requires-clause-utf8
+pass_members-requires-clause-utf8 g c =
+    let utf8 : IsUtf8 c.in-Ok.text.now = search rules in
+    let begins : tokens c.in-Ok.text.now ≡ Token.begin_object ∷ c.next.new.self = search rules in
+    (subst HaveUtf8 begins (tokens_utf8 c.in-Ok.text.now utf8)).1
+
+pub returns-clause-ok : goal.returns-clause-ok
+returns-clause-ok g c =
+    let bytes = c.args.bytes.now in
+    let same : c.in-Ok.text.now ≡ bytes = search rules in
+    let utf8 : IsUtf8 bytes = search rules in
+    let rest = c.next.new.self in
+    let got = c.in_ok-pass_members.ensures in
+    let ms = got.0 in
+    let g2 = got.1.2 in
+    let begins : tokens bytes ≡ Token.begin_object ∷ rest = search rules in
+    let none : c.pass_members.new.reader ≡ [] = search rules in
+    let opened = ap (converted of_json) (ap (value 127) begins ∙ value-begin_object 127 rest (omega arith))
+    ∙ converted-object (members (value 126) (length rest) rest) in
+    let whole = opened ∙ ap (parse_map object) got.1.0 ∙ ap (λ r. Some (object ms, r)) none in
+    let is = g2.nodes ∙ ap (λ xs. xs ++ g2.xs) c.requires in
+    let e = object (emptied_in c.args.name.now ms) in
+    let float = sym (fraction_is _ e g2.xs g2.stands) ∙ ap have_fraction (sym (c.as_slice.ensures.value ∙ is)) ∙ sym c.has_fraction.ensures ∙ c.if-has_fraction.false in
+    let dec = ap (decode c.pass_members.new.texts.items) is ∙ decoded c.pass_members.new.texts.items e g2.xs g2.stands float in
+    (ms, ((utf8, whole_read (value 127 (tokens bytes)) (object ms) whole, sym (float_in c.args.name.now ms) ∙ float), dec, got.1.1))
+
+pub returns-clause-flat : goal.returns-clause-flat
+unfolding returns-clause-ok
+returns-clause-flat g c =
+    let bytes = c.args.bytes.now in
+    let name = c.args.name.now in
+    let apart = returns-clause-ok g c in
+    let texts = c.pass_members.new.texts.items in
+    let nodes = c.pass_members.new.nodes.items in
+    let got = c.in_ok-pass_members.ensures in
+    let g2 = got.1.2 in
+    let is = g2.nodes ∙ ap (λ xs. xs ++ g2.xs) c.requires in
+    let e = object (emptied_in name got.0) in
+    let dec = apart.1.1 in
+    let good = value_in name got.0 (spelled_is_value bytes (object got.0) apart.1.0) apart.1.0.2 in (
+      inr (subst (λ xs. Stands texts (decode texts nodes) xs) (sym is) (subst (λ x. Stands texts x g2.xs) (sym dec) g2.stands)),
+      subst IsValue (sym dec) good,
+    )

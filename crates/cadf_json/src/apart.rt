@@ -1,0 +1,205 @@
+//! The reading of an object with the items of one list apart: a visitor takes them, and no value keeps them.
+ghost use Rattle.std.specs.Prelude.{◌≡◌, ◌<◌, ◌≤◌, ◌++◌, ◌∷◌, [], List, length, true, IfOk, OnOk};
+ghost use Rattle.serde_json.specs.Data.{Data};
+ghost use Rattle.cadf_json.specs.Apart.{PassesItems, PassesList, PassesMembers, IsApart};
+ghost use Rattle.cadf_json.specs.Flat.{decode, IsFlatValue};
+ghost use Rattle.cadf_json.specs.TokenUtf8.{HaveUtf8};
+ghost use Rattle.cadf_json.specs.Value.{IsValue};
+
+use crate::Memory;
+use crate::node::{Extent, Node};
+use crate::order::end_members;
+use crate::push::{ReadFault, push_string};
+use crate::read::{MAX_DEPTH, read_value};
+use crate::rising::rises_to;
+use crate::value::{Json, JsonFault, has_fraction};
+use crate::view::View;
+use json::{Reader, Scratch, Token};
+use std::alloc::Global;
+
+/// Takes the items of a list in turn.
+pub trait ItemVisitor {
+    /// The visitor took these items.
+    ghost took: { Self → List Data → Type 0 };
+
+    /// Begins a list: items that were taken before don't count.
+    fn begin(&mut self)
+        ensures { took self.new [] };
+
+    /// Takes a further item.
+    fn take(&mut self, item: &View<'_>) -> Result<(), Memory>
+        ensures { OnOk result ((ds : List Data) → took self.old ds → took self.new (ds ++ item.now ∷ [])) };
+}
+
+/// Passes the items up to the closing bracket to the visitor, each in place of the one before. `NotJson` if one of them
+/// is no value, or a number isn't whole.
+fn pass_items<T: ItemVisitor>(
+    alloc: Global,
+    reader: &mut Reader<'_>,
+    depth: usize,
+    item: &mut Json,
+    taker: &mut T,
+) -> Result<(), ReadFault>
+    requires depth { depth ≤ 127 }
+    requires utf8 { HaveUtf8 reader.old }
+    ensures ok { OnOk result (PassesItems T.took taker.new depth reader.old reader.new) }
+    ensures shorter { OnOk result (length reader.new < length reader.old) }
+{
+    taker.begin();
+    'items: while !reader.take_end_array() {
+        match item.read_next(alloc, reader, depth) {
+            Ok(()) => taker.take(&item.view())?,
+            Err(JsonFault::Memory) => return Err(ReadFault::Memory),
+            Err(_) => return Err(ReadFault::NotJson),
+        }
+    }
+    Ok(())
+}
+
+/// Passes the items of the next list to the visitor, and appends the list without them. `NotJson` if no list comes next.
+fn pass_list<T: ItemVisitor>(
+    alloc: Global,
+    reader: &mut Reader<'_>,
+    depth: usize,
+    item: &mut Json,
+    taker: &mut T,
+    nodes: &mut Vec<Node>,
+) -> Result<(), ReadFault>
+    requires depth { depth ≤ 127 }
+    requires utf8 { HaveUtf8 reader.old }
+    ensures ok { OnOk result (PassesList T.took taker.new depth reader.old reader.new nodes.old.items nodes.new.items) }
+    ensures shorter { OnOk result (length reader.new < length reader.old) }
+{
+    let Some(Token::BeginArray) = reader.next() else {
+        return Err(ReadFault::NotJson);
+    };
+    if depth == 0 {
+        return Err(ReadFault::NotJson);
+    }
+    pass_items(alloc, reader, depth - 1, item, taker)?;
+    nodes.push(Node::Array(Extent { size: 1, count: 0 }))?;
+    Ok(())
+}
+
+/// Appends an object of the next members, the opening brace of which was read, but passes the items of the list `name`
+/// to the visitor.
+fn pass_members<'a, T: ItemVisitor>(
+    alloc: Global,
+    reader: &mut Reader<'a>,
+    depth: usize,
+    name: &str,
+    taker: &mut T,
+    nodes: &mut Vec<Node>,
+    texts: &mut Vec<u8>,
+    spare: &mut Vec<Node>,
+) -> Result<(), ReadFault>
+    requires depth { depth ≤ 127 }
+    requires utf8 { HaveUtf8 reader.old }
+    ensures { OnOk result
+        (PassesMembers T.took taker.new name.now depth reader.old reader.new nodes.old.items nodes.new.items texts.old.items texts.new.items) }
+{
+    let at = nodes.len();
+    nodes.push(Node::Null)?;
+    let mut item = Json::new(alloc);
+    let mut count: u32 = 0;
+    let mut last: Option<&'a str> = None;
+    let mut rising = true;
+    'members: loop {
+        let Ok(key) = reader.next_key() else {
+            return Err(ReadFault::NotJson);
+        };
+        let Some(key) = key else {
+            return Ok(end_members(alloc, rising, at, count, nodes, texts, spare)?);
+        };
+        if count == u32::MAX {
+            return Err(ReadFault::Memory);
+        }
+        count += 1;
+        rising = rises_to(rising, last, key);
+        last = Some(key);
+        push_string(key, nodes, texts)?;
+        if key == name {
+            pass_list(alloc, reader, depth, &mut item, taker, nodes)?;
+        } else {
+            read_value(alloc, reader, depth, nodes, texts, spare)?;
+        }
+    }
+}
+
+/// Reads the object that the bytes spell into empty vectors, but passes the items of the list `name` to the visitor.
+fn read_flat_apart<T: ItemVisitor>(
+    alloc: Global,
+    scratch: &mut Scratch,
+    bytes: &[u8],
+    name: &str,
+    taker: &mut T,
+    nodes: &mut Vec<Node>,
+    texts: &mut Vec<u8>,
+    spare: &mut Vec<Node>,
+) -> Result<(), ReadFault>
+    requires { nodes.old.items ≡ [] }
+    ensures ok { OnOk result (IsApart T.took taker.new bytes.now name.now (decode texts.new.items nodes.new.items)) }
+    ensures flat { OnOk result (IsFlatValue texts.new.items nodes.new.items) }
+{
+    let Ok(text) = str::from_utf8(bytes) else {
+        return Err(ReadFault::NotJson);
+    };
+    let mut reader = Reader::new(text, scratch)?;
+    let Some(Token::BeginObject) = reader.next() else {
+        return Err(ReadFault::NotJson);
+    };
+    pass_members(
+        alloc,
+        &mut reader,
+        MAX_DEPTH - 1,
+        name,
+        taker,
+        nodes,
+        texts,
+        spare,
+    )?;
+    if reader.next().is_some() {
+        return Err(ReadFault::NotJson);
+    }
+    if has_fraction(nodes.as_slice()) {
+        return Err(ReadFault::NotJson);
+    }
+    Ok(())
+}
+
+impl Json {
+    /// Reads the object that the bytes spell in place of this value, but passes the items of the list `name`, if there is
+    /// one, to the visitor. Of two lists the later one counts. `false`: the bytes aren't read in this way.
+    pub fn read_apart<T: ItemVisitor>(
+        &mut self,
+        alloc: Global,
+        scratch: &mut Scratch,
+        bytes: &[u8],
+        name: &str,
+        taker: &mut T,
+    ) -> Result<bool, Memory>
+        ensures apart { IfOk result (λ b. b ≡ true → IsApart T.took taker.new bytes.now name.now self.new) }
+        ensures value { IsValue self.new }
+    {
+        self.nodes.clear();
+        self.texts.clear();
+        let read = read_flat_apart(
+            alloc,
+            scratch,
+            bytes,
+            name,
+            taker,
+            &mut self.nodes,
+            &mut self.texts,
+            &mut self.spare,
+        );
+        if read.is_err() {
+            self.nodes.clear();
+        }
+        match read {
+            Ok(()) => Ok(true),
+            Err(ReadFault::NotJson) => Ok(false),
+            Err(ReadFault::Memory) => Err(Memory),
+        }
+    }
+}
