@@ -61,6 +61,20 @@ WRONG_SKETCHES = {
     "greatest.sketch": lambda lines: ["S 12582912" + lines[0][3:], *lines[1:]],
 }
 
+# Seals and proofs with wrong lines: the file that each is made of, and what becomes of its lines from the second on.
+HASH = "0" * 64
+WRONG_SEALS = {
+    "other-root.seal": ("size-8.seal", lambda lines: [*lines[:2], "R " + HASH]),
+    "other-log.seal": ("size-8.seal", lambda lines: ['L "h"', *lines[1:]]),
+    "no-root.seal": ("size-8.seal", lambda lines: lines[:2]),
+    "further-line.seal": ("size-8.seal", lambda lines: [*lines, lines[-1]]),
+    "missing-hash.proof": ("there.proof", lambda lines: lines[:-1]),
+    "further-hash.proof": ("there.proof", lambda lines: [*lines, "H " + HASH]),
+    "place.proof": ("there.proof", lambda lines: [*lines[:2], "P 8" + lines[2][3:], *lines[3:]]),
+    "falling.proof": ("size-8.proof", lambda lines: [*lines[:2], lines[3], lines[2], *lines[4:]]),
+    "late-leaf.proof": ("there.proof", lambda lines: [*lines, "P 7" + lines[2][3:]]),
+}
+
 
 def read(name):
     with open(os.path.join(FOLDER, name), "rb") as file:
@@ -100,6 +114,7 @@ def make():
         put(name, sealed(head(FIRST_LINES[2], "g") + [text.encode() for text in texts]))
     make_sketches()
     make_calls()
+    make_seals()
 
 
 def make_calls():
@@ -122,6 +137,13 @@ def make_sketches():
     sketch = sketch_with("g", {digest}, 6, 1)
     sketch.cells[:-2] = [0] * 4
     put("misleading.sketch", sketch_file("g", sketch))
+
+
+def make_seals():
+    """Writes the seals and proofs that no call writes, each with its digest line."""
+    for name, (source, changed) in WRONG_SEALS.items():
+        first, *lines = read(source).decode().split("\n")[:-2]
+        put(name, sealed([line.encode() for line in (first, *changed(lines))]))
 
 
 def check(binary):

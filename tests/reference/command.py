@@ -6,6 +6,7 @@ from tests.reference.inventory_files import inventory_of, missing_by, read_inven
 from tests.reference.rehearsal import read_script, rehearsal_text, sites_of
 from tests.reference.replica_files import file_of, read_file
 from tests.reference.rulings import check_key, place_of, ruled
+from tests.reference.seal_files import proof_of, read_proof, read_seal, seal_of, verified
 from tests.reference.shown_texts import check_line, conflict_text, log_text
 from tests.reference.sketch_files import cells_of, missing_by_sketch, read_sketch, salt_of, sketch_of
 from tests.reference.split_files import UNITS, split_of
@@ -13,8 +14,9 @@ from tests.reference.split_files import UNITS, split_of
 DIRECTORY = object()  # stands for the content of a folder
 # How many words each command wants beside its options, and those that take further files behind them.
 WORDS_WANTED = {b"join": 1, b"split": 1, b"missing": 2, b"missing-by": 2, b"inventory": 1, b"show": 1, b"check": 1,
-                b"rehearse": 3, b"rule": 4, b"sketch": 1, b"missing-by-sketch": 2}
-SEVERAL = (b"join", b"split", b"inventory", b"show", b"check", b"rule", b"sketch")
+                b"rehearse": 3, b"rule": 4, b"sketch": 1, b"missing-by-sketch": 2, b"seal": 1, b"prove": 2, b"verify": 3}
+SEVERAL = (b"join", b"split", b"inventory", b"show", b"check", b"rule", b"sketch", b"seal", b"prove")
+FLAGS = {b"show": b"--conflicts", b"verify": b"--absent"}
 OPTIONS = {b"join": [b"--log"], b"split": [b"--by", b"--log"], b"sketch": [b"--cells", b"--salt"]}  # those with a value
 # Options with a file, which may be given again and again: a further file of the sender's or of the receiver's.
 AGAIN = {b"missing": [b"--from", b"--to"], b"missing-by": [b"--from"], b"missing-by-sketch": [b"--from"]}
@@ -41,7 +43,7 @@ class Call:
             raise Usage
         if not words or words[0] not in WORDS_WANTED:
             raise Usage
-        self.command, self.given, self.conflicts, self.files = words[0], {}, False, []
+        self.command, self.given, self.flag, self.files = words[0], {}, False, []
         self.again = {option: [] for option in AGAIN.get(self.command, [])}
         self.rest = list(words[1:])
         while self.rest:
@@ -71,8 +73,8 @@ class Call:
         elif word == b"--":
             self.files += self.rest
             self.rest = []
-        elif self.command == b"show" and word == b"--conflicts" and not self.conflicts:
-            self.conflicts = True
+        elif word == FLAGS.get(self.command) and not self.flag:
+            self.flag = True
         elif option in self.again:
             self.again[option].append(value if is_joined else self.value())
         elif option in OPTIONS.get(self.command, []) and option not in self.given:
@@ -91,7 +93,7 @@ def read_input(data):
     return read_file(data) if data.startswith(b"CADF-") else document(json_text.read(data))
 
 # What the last input of a command is read as, where it isn't read as any input.
-OF_A_KIND = {b"missing-by": read_inventory, b"missing-by-sketch": read_sketch}
+OF_A_KIND = {b"missing-by": read_inventory, b"missing-by-sketch": read_sketch, b"verify": read_proof}
 
 
 def loaded(number, data, read):
@@ -120,6 +122,8 @@ def inputs_of(call, files):
     """The log and the contents of each input."""
     reads = [read_input] * len(call.files)
     reads[-1] = OF_A_KIND.get(call.command, read_input)
+    if call.command == b"verify":
+        reads[0] = read_seal
     contents = opened(call, files)
     return [loaded(number, data, read) for number, (data, read) in enumerate(zip(contents, reads), 1)]
 
@@ -131,7 +135,8 @@ def sides(call, items):
 
 def log_written(call, logs):
     """The log under which is written; every input that names a log must name that one."""
-    first = [next((log for log in side if log is not None), None) for side in sides(call, logs)]
+    of_set = logs[1:] if call.command == b"prove" else logs
+    first = [next((log for log in side if log is not None), None) for side in sides(call, of_set)]
     named = call.log.decode() if call.log is not None else first[0]
     if named is None or call.log is None and None in first:
         raise Fault("no log named")
@@ -161,6 +166,10 @@ def written(call, files):
     inputs = inputs_of(call, files)
     log = log_written(call, [log for log, _ in inputs])
     sets = [contents for _, contents in inputs]
+    if call.command == b"verify":
+        return verified(*sets, "absent" if call.flag else "present")
+    if call.command == b"prove":
+        return proof_of(log, sets[0], set().union(*sets[1:]))
     if call.command in OF_A_KIND:
         sets = [set().union(*sets[:-1]), sets[-1]]
     else:
@@ -181,9 +190,11 @@ def written(call, files):
         return file_of(log, ruled(*sets, *call.ruling))
     if call.command == b"inventory":
         return inventory_of(log, *sets)
+    if call.command == b"seal":
+        return seal_of(log, *sets)
     if call.command == b"check":
         return check_line(log, *sets)
-    return conflict_text(log, *sets) if call.conflicts else log_text(log, *sets)
+    return conflict_text(log, *sets) if call.flag else log_text(log, *sets)
 
 
 def answer(words, files):

@@ -1,4 +1,4 @@
-//! Calls of replica files, of inventory files and of the two texts.
+//! Calls of replica, inventory, seal and sketch files, and of the two texts.
 #![tactic(auto)]
 
 mod faults;
@@ -6,6 +6,7 @@ mod feeds;
 mod inventories;
 mod reads;
 mod replicas;
+mod seals;
 mod sketches;
 mod streams;
 mod sweeps;
@@ -30,6 +31,10 @@ pub fn answered(alloc: Global, call: &Call) -> Result<String, Memory> {
         "read_inventory" => inventories::read(alloc, call),
         "write_inventory" => inventories::write(alloc, call),
         "inventory_digest" => inventories::digest(alloc, call),
+        "read_seal" => seals::read(alloc, call),
+        "write_seal" => seals::write(alloc, call),
+        "seal" => seals::seal(alloc, call),
+        "root_of" => seals::root(alloc, call),
         "write_log" | "write_conflicts" => texts::write(alloc, call),
         "read_sketch" => sketches::read(alloc, call),
         "write_sketch" => sketches::write(alloc, call),

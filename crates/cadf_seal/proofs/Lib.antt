@@ -1,0 +1,4 @@
+pub mod Determined
+pub mod SealLemmas
+pub mod ToldLemmas
+pub mod Trees

@@ -1,0 +1,5 @@
+use Rattle.cadf_seal.proofs.ToldLemmas.{count_told}
+use Rattle.cadf_seal.proofs.seal_lines.after_log.Goals as goal
+
+pub returns-in-Some-clause-ok : goal.returns-in-Some-clause-ok
+returns-in-Some-clause-ok c = count_told c.args.line.now c.in-Some.count c.in-Some.ensures

@@ -1,0 +1,5 @@
+pub mod SealFile
+pub mod SealLines
+pub mod SealReads
+pub mod SealVerdict
+pub mod Tree

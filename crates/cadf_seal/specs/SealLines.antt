@@ -1,0 +1,38 @@
+-- The lines of a seal's file that have been read so far, and the values decoded from them.
+--     told_lines told          the lines after the log line that have these values
+--     lines_so_far log told    all lines so far
+--     AreTold told             the invariant of the values so far
+--     IsMore told l more       the line l is allowed next, and `more` has its value too
+--     IsSealOfLines ls s       the lines are those of the seal's file before its digest line
+use Rattle.std.specs.Prelude.{◌≡◌, ◌<◌, ◌^◌, ℕ, List, [], ◌∷◌, ◌++◌, true, None}
+use Rattle.cadf_join.specs.Contents.{Text}
+use Rattle.cadf_event.specs.LogName.{is_name_text}
+use Rattle.cadf_line.specs.Digest.{IsDigest}
+use Rattle.cadf_linefile.specs.Verdict.{log_line}
+use Rattle.cadf_seal.specs.SealFile.{SealModel, seal_header, count_line, root_line, seal_body, IsSeal}
+use Rattle.cadf_seal.specs.SealVerdict.{cause_after}
+use Rattle.cadf_seal.specs.declared.seal_lines.Told.{Told}
+use Rattle.cadf_seal.specs.declared.seal_lines.Told.TheVariants.{Nothing, Count, Whole}
+
+abbrev pub told_lines : Told → List (List ℕ)
+told_lines Nothing = []
+told_lines (Count count) = count_line count ∷ []
+told_lines (Whole count root) = count_line count ∷ root_line root ∷ []
+
+abbrev pub lines_so_far : Text → Told → List (List ℕ)
+lines_so_far log told = seal_header ∷ log_line log ∷ told_lines told
+
+abbrev pub AreTold : Told → Type 0
+AreTold Nothing = Unit {0}
+AreTold (Count count) = count < 2 ^ 64
+AreTold (Whole count root) = (count < 2 ^ 64) × IsDigest root
+
+-- the line is allowed after those so far, and `more` are the values with that of the line
+abbrev pub IsMore : Told → List ℕ → Told → Type 0
+IsMore told line more = (cause_after (told_lines told) line ≡ None) × (told_lines more ≡ told_lines told ++ line ∷ []) × AreTold more
+
+abbrev pub AreSoFar : Text → Told → Type 0
+AreSoFar log told = (is_name_text log ≡ true) × AreTold told
+
+abbrev pub IsSealOfLines : List (List ℕ) → SealModel → Type 0
+IsSealOfLines lines s = (lines ≡ seal_body s) × IsSeal s

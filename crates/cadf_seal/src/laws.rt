@@ -1,0 +1,41 @@
+//! Laws over the definitions alone. Each function's contract is a theorem, and its body is empty.
+ghost use Rattle.std.specs.Prelude.{◌≡◌, ◌≤◌, ℕ, length, false, Ok};
+ghost use Rattle.cadf_join.specs.Sets.{rising};
+ghost use Rattle.cadf_set.specs.Inventory.{InventoryModel};
+ghost use Rattle.cadf_seal.specs.SealFile.{IsSeal, SealFileIsInjective, seal_file, seal_of};
+ghost use Rattle.cadf_seal.specs.SealVerdict.{AcceptsSeals, seal_verdict};
+ghost use Rattle.cadf_seal.specs.Tree.{IsMerkleTree, RootDetermines, DoNotCollide, hashed};
+
+use crate::seal::Seal;
+
+/// States the equations by which RFC 9162, section 2.1, defines the hash of a list of leaves.
+pub fn root_is_of_a_merkle_tree()
+    ensures { IsMerkleTree }
+{}
+
+/// States that a seal determines the log and the set of digests, and a root as many leaves, if what is hashed for them
+/// doesn't collide.
+pub fn seal_determines_inventory()
+    ensures leaves { RootDetermines }
+    ensures inventory { (n m : InventoryModel)
+        → DoNotCollide (hashed (length (rising n.digests)) (rising n.digests)) (hashed (length (rising m.digests)) (rising m.digests))
+        → seal_of n ≡ seal_of m → n ≡ m }
+{}
+
+/// States that a seal's file is injective: seals with equal files are equal.
+pub fn seal_file_is_injective()
+    ensures { SealFileIsInjective }
+{}
+
+/// States that bytes are accepted if and only if they are the file of a seal, within the limit.
+pub fn accepted_bytes_are_seals()
+    ensures { AcceptsSeals }
+{}
+
+/// States that the file of a seal is accepted if it is within the limit, and is read as that seal.
+pub fn seal_is_read_back(seal: &Seal)
+    ensures seal { IsSeal seal.now }
+    ensures read { (limit : ℕ) → length (seal_file seal.now) ≤ limit → seal_verdict limit false (seal_file seal.now) ≡ Ok seal.now }
+{
+    seal.type_invariant();
+}

@@ -1,0 +1,18 @@
+//! Seals: the root of the Merkle tree over all digests of an inventory, and the file of one.
+#![tactic(auto)]
+
+mod laws;
+mod seal;
+mod seal_lines;
+mod seal_read;
+mod seal_write;
+mod tree;
+
+pub use laws::{
+    accepted_bytes_are_seals, root_is_of_a_merkle_tree, seal_determines_inventory,
+    seal_file_is_injective, seal_is_read_back,
+};
+pub use seal::Seal;
+pub use seal_read::read_seal;
+pub use seal_write::write_seal;
+pub use tree::root_of;

@@ -1,0 +1,175 @@
+//! The lines of a seal's file up to its digest line.
+
+ghost use Rattle.std.specs.Prelude.{◌≡◌, ◌<◌, ◌^◌, ◌∷◌, [], IfOk, IfErr, true, drop};
+ghost use Rattle.cadf_linefile.specs.Answers.{CauseIs};
+ghost use Rattle.cadf_seal.specs.SealFile.{seal_header, count_line};
+ghost use Rattle.cadf_seal.specs.SealVerdict.{seal_grammar, is_whole, cause_after, count_in, root_in};
+ghost use Rattle.cadf_seal.specs.SealLines.{told_lines, AreTold, IsMore, IsSealOfLines};
+ghost use Rattle.cadf_seal.specs.declared.seal_lines.Told.TheVariants as told;
+
+use crate::seal::Seal;
+use cadf_event::Name;
+use cadf_inventory::digest_of;
+use cadf_linefile::{Cause, LineDecoder, LineFault};
+use cadf_sketch::number_in;
+use std::alloc::Global;
+use std::marker::Model;
+
+const HEADER: &[u8; 11] = b"CADF-SEAL 1";
+
+/// The first line, which is the same in every seal's file.
+#[derive(Drop)]
+pub struct SealStart;
+
+/// The values decoded from the lines after the log line, so far.
+#[derive(Drop)]
+pub(crate) enum Told {
+    Nothing,
+    Count(u64),
+    Whole(u64, [u8; 32]),
+}
+
+/// The values decoded from the lines so far.
+#[derive(Drop)]
+pub struct SealLines {
+    log: Name,
+    told: Told,
+}
+
+impl Model for SealLines {
+    ghost use Rattle.std.specs.Prelude.{List, ℕ};
+    ghost use Rattle.std.specs.Coded.{coded_ℕ, coded_list};
+    ghost use Rattle.cadf_seal.specs.SealLines.{lines_so_far, AreSoFar};
+
+    ghost Value = { List (List ℕ) };
+
+    ghost coded = { coded_list (coded_list coded_ℕ) };
+
+    ghost view = { λ l. lines_so_far l.log l.told };
+
+    ghost invariant = { λ l. AreSoFar l.log l.told };
+}
+
+/// Decodes the line of the count. `None` if it is no such line.
+fn count_in(line: &[u8]) -> Option<u64>
+    ensures { result ≡ count_in line.now }
+{
+    if line.starts_with(b"N ") {
+        number_in(&line[2..])
+    } else {
+        None
+    }
+}
+
+/// Decodes the line of the root. `None` if it is no such line.
+fn root_in(line: &[u8]) -> Option<[u8; 32]>
+    ensures { result ≡ root_in line.now }
+{
+    if line.starts_with(b"R ") {
+        digest_of(&line[2..])
+    } else {
+        None
+    }
+}
+
+/// Decodes the next line after the log line.
+fn told_more(told: Told, line: &[u8]) -> Result<Told, LineFault>
+    requires { AreTold told }
+    ensures ok { IfOk result (IsMore told line.now) }
+    ensures err { IfErr result (λ e. CauseIs e (cause_after (told_lines told) line.now)) }
+{
+    match told {
+        Told::Nothing => after_log(line),
+        Told::Count(count) => after_count(count, line),
+        Told::Whole(_, _) => Err(LineFault::Here(Cause::Shape)),
+    }
+}
+
+/// Decodes the line after the log line.
+fn after_log(line: &[u8]) -> Result<Told, LineFault>
+    ensures ok { IfOk result (IsMore told.Nothing line.now) }
+    ensures err { IfErr result (λ e. CauseIs e (cause_after [] line.now)) }
+{
+    match count_in(line) {
+        Some(count) => Ok(Told::Count(count)),
+        None => Err(LineFault::Here(Cause::Shape)),
+    }
+}
+
+/// Decodes the line after that of the count.
+fn after_count(count: u64, line: &[u8]) -> Result<Told, LineFault>
+    ensures ok { IfOk result (IsMore (told.Count count) line.now) }
+    ensures err { IfErr result (λ e. CauseIs e (cause_after (count_line count ∷ []) line.now)) }
+{
+    match root_in(line) {
+        Some(root) => Ok(Told::Whole(count, root)),
+        None => Err(LineFault::Here(Cause::Shape)),
+    }
+}
+
+/// Returns whether both lines were read.
+fn is_whole(told: &Told) -> bool
+    ensures { result ≡ is_whole (told_lines told.now) }
+{
+    matches!(told, Told::Whole(_, _))
+}
+
+impl SealLines {
+    /// Returns the seal.
+    pub(crate) fn into_seal(self) -> Seal
+        requires { is_whole (drop 2 self) ≡ true }
+        ensures { IsSealOfLines self result }
+    {
+        let SealLines { log, told } = self;
+        match told {
+            Told::Whole(count, root) => Seal::from_parts(log, count, root),
+            _ => unreachable!(),
+        }
+    }
+}
+
+impl LineDecoder for SealLines {
+    ghost form = { seal_grammar };
+
+    ghost lines = { λ lines. lines };
+
+    type Start = SealStart;
+
+    type Held = ();
+
+    ghost start_line = { λ _. seal_header };
+
+    fn start(line: &[u8]) -> Option<SealStart> {
+        if line == HEADER.as_slice() {
+            Some(SealStart)
+        } else {
+            None
+        }
+    }
+
+    fn new(_alloc: Global, _start: SealStart, log: Name) -> SealLines {
+        SealLines {
+            log,
+            told: Told::Nothing,
+        }
+    }
+
+    fn accept(
+        self,
+        _alloc: Global,
+        _held: Option<&()>,
+        line: &[u8],
+    ) -> Result<SealLines, LineFault> {
+        let SealLines { log, told } = self;
+        let told = told_more(told, line)?;
+        Ok(SealLines { log, told })
+    }
+
+    fn cause_of_previous(&self, _line: &[u8]) -> Option<Cause> {
+        if is_whole(&self.told) {
+            None
+        } else {
+            Some(Cause::Unended)
+        }
+    }
+}

@@ -1,0 +1,94 @@
+"""Rows of the driver of files: seals that are made, read and written.
+
+Words: those of a reading or a writer; a seal's own are a log and digests. The roots are worked out here, as section
+2.1.1 of RFC 9162 defines them.
+"""
+from hashlib import sha256
+
+from tests.tables.texts import C1, C2, CF, K1, KF, T3, digits
+
+CALLS = {
+    "seal": ["Seal::of", "Seal::log", "Seal::count", "Seal::root"],
+    "root_of": ["root_of"],
+    "read_seal": ["read_seal"],
+    "write_seal": ["write_seal"],
+}
+
+SEAL, REFUSAL = "Seal file", "What is refused"
+LIMITS = "ARCHITECTURE: Limits, and files in pieces"
+SINKS = "ARCHITECTURE: Sources and sinks"
+PIECES = [1, 7, 4096]
+LIMIT = 1 << 20  # no file here has so many bytes
+HEAD = 'CADF-SEAL 1\nL "g"\n'
+OF_NOTHING = "e3b0c44298fc1c149afbf4c8996fb92427ae41e4649b934ca495991b7852b855"  # SHA-256 of no bytes
+
+
+def root(leaves):
+    """The hash of a list of leaves: MTH of RFC 9162, section 2.1.1."""
+    if not leaves:
+        return sha256(b"").digest()
+    if len(leaves) == 1:
+        return sha256(b"\x00" + leaves[0]).digest()
+    half = 1
+    while 2 * half < len(leaves):
+        half *= 2
+    return sha256(b"\x01" + root(leaves[:half]) + root(leaves[half:])).digest()
+
+
+def root_of(digests):
+    return root([bytes.fromhex(digest) for digest in sorted(set(digests))]).hex()
+
+
+def closed(text):
+    """The lines with their digest line."""
+    return text + "Z %s\n" % sha256(text.encode()).hexdigest()
+
+
+def seal(*digests, log='"g"'):
+    """The file of the seal of these digests."""
+    return closed("CADF-SEAL 1\nL %s\nN %d\nR %s\n" % (log, len(set(digests)), root_of(digests)))
+
+
+def made(*digests, log="g"):
+    """The answer of the seal of these digests."""
+    return ["ok", log, len(set(digests)), root_of(digests)]
+
+
+MANY = [sha256(b"%d" % number).hexdigest() for number in range(33)]
+SETS = [[], [digits(C1)], [digits(C1), digits(K1)], [digits(CF), digits(KF), digits(C1)], [digits(T3), digits(C2), digits(C1), digits(C2)]]
+ROWS = [("seal", ["g", *held], made(*held), SEAL) for held in SETS]
+ROWS += [("seal", ["g", "x"], ["no inventory"], SEAL), ("root_of", ["x"], ["ok", OF_NOTHING], SEAL)]
+ROWS += [("root_of", ["g", *MANY[:size]], ["ok", root_of(MANY[:size])], SEAL) for size in (*range(10), 15, 16, 17, 31, 32, 33)]
+ROWS.append(("root_of", ["g", "x"], ["no inventory"], SEAL))
+for held in SETS:
+    for size in PIECES:
+        ROWS.append(("read_seal", [LIMIT, size, 0, seal(*held)], made(*held), SEAL))
+        ROWS.append(("write_seal", [size, "never", 0, "g", *held], ["ok", seal(*held)], SEAL))
+ROWS += [
+    ("write_seal", [7, "never", 0, 'a"b'], ["ok", seal(log='"a\\"b"')], SEAL),
+    ("write_seal", [7, "never", 0, "g", "x"], ["no inventory"], SEAL),
+    ("write_seal", [1, "refuses", 18, "g"], ["err", "WriteFault", HEAD[:17]], SINKS),
+    ("write_seal", [1, "takes-nothing", 19, "g"], ["err", "WriteFault", HEAD], SINKS),
+    # A seal need not be of any set.
+    ("read_seal", [LIMIT, 7, 0, closed(HEAD + "N 0\nR %s\n" % (64 * "0"))], ["ok", "g", 0, 64 * "0"], SEAL),
+    ("read_seal", [LIMIT, 7, 0, closed(HEAD + "N %d\nR %s\n" % (2 ** 64 - 1, OF_NOTHING))], ["ok", "g", 2 ** 64 - 1, OF_NOTHING], SEAL),
+    ("read_seal", [156, 7, 0, seal()], made(), LIMITS),
+    ("read_seal", [155, 7, 0, seal()], ["err", "TooLarge"], LIMITS),
+    ("read_seal", [LIMIT, 4096, 2, seal()], ["err", "ReadFault"], LIMITS),
+]
+
+# What is refused, and how.
+COUNT, ROOT = "N 0\n", "R %s\n" % OF_NOTHING
+for text, fault in [
+    ("", "Truncated"), ("CADF-SEAL 2\n", "Version"), ("CADF-INVENTORY 1\n", "Version"), ("CADF-SEAL 1\nL g\n", "LogLine"),
+    (HEAD, "Truncated"), (HEAD + COUNT, "Truncated"), (HEAD + COUNT + ROOT, "Truncated"), (seal()[:-1], "Truncated"),
+    (HEAD + ROOT, "Line 3 Shape"), (HEAD + "N 00\n", "Line 3 Shape"), (HEAD + "N +1\n", "Line 3 Shape"), (HEAD + "N -1\n", "Line 3 Shape"),
+    (HEAD + "N \n", "Line 3 Shape"), (HEAD + "N  0\n", "Line 3 Shape"), (HEAD + "N 0 \n", "Line 3 Shape"), (HEAD + "n 0\n", "Line 3 Shape"),
+    (HEAD + "N %d\n" % 2 ** 64, "Line 3 Shape"), (HEAD + "\n", "Line 3 Shape"), (HEAD.encode() + b"N \xff\n", "Line 3 Shape"),
+    (HEAD + COUNT + COUNT, "Line 4 Shape"), (HEAD + COUNT + "R %s\n" % OF_NOTHING.upper(), "Line 4 Shape"),
+    (HEAD + COUNT + "R %s\n" % OF_NOTHING[1:], "Line 4 Shape"), (HEAD + COUNT + "R %s0\n" % OF_NOTHING, "Line 4 Shape"),
+    (HEAD + COUNT + OF_NOTHING + "\n", "Line 4 Shape"), (HEAD + COUNT + ROOT + ROOT, "Line 5 Shape"), (HEAD + COUNT + ROOT + "\n", "Line 5 Shape"),
+    (closed(HEAD), "Line 2 Unended"), (closed(HEAD + COUNT), "Line 3 Unended"), (HEAD + "Z\n", "Line 2 Unended"),
+    (HEAD + COUNT + ROOT + "Z %s\n" % OF_NOTHING, "Digest"), (HEAD + COUNT + ROOT + "Z\n", "Digest"), (seal() + "\n", "Trailing"),
+]:
+    ROWS += [("read_seal", [LIMIT, size, 0, text], ["err", *fault.split()], REFUSAL) for size in PIECES]
