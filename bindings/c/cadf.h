@@ -5,9 +5,9 @@
  *
  *     CADF_WRITTEN (0)            the text is what the command writes to standard output
  *     CADF_INPUT_REFUSED (1)      an input is refused; the text is the command's error line, without `cadf: ` and line feed
- *     CADF_ARGUMENT_REFUSED (2)   a log, a key, a letter, a place, a number of sites or cells, or a salt is refused; the text
- *                                 says which
- *     CADF_OUT_OF_MEMORY (4)      an allocation failed; the text is `out of memory`, or empty
+ *     CADF_ARGUMENT_REFUSED (2)   a log, a key, a letter, a place, a number of sites or cells, a salt or a unit is refused;
+ *                                 the text says which
+ *     CADF_OUT_OF_MEMORY (4)      an allocation failed; the text is `out of memory`
  *
  * `*length` is the length of the text. If it is above `room`, the buffer has the first `room` bytes of it, and nothing
  * beyond the buffer is touched: call again with so much room. No text ends with a zero byte. For a status above 0, what the
@@ -22,8 +22,8 @@
  * What each caller must ensure; nothing checks it:
  *
  *  - Each address is that of as many bytes as its length or room says, for the whole call. The functions below take NULL
- *    for an output without room, for a log that isn't given, and for an input of no bytes. The elements of the array of
- *    cadf_join are taken as they are: fill them by cadf_bytes_of, or with addresses that aren't NULL.
+ *    for an output without room, for a log that isn't given, and for an input of no bytes. The elements of the arrays of
+ *    cadf_join and cadf_split are taken as they are: fill them by cadf_bytes_of, or with addresses that aren't NULL.
  *  - The output and `*length` overlap neither one another nor an input, and no other thread writes to an input meanwhile.
  *    What the buffer and `*length` held before isn't read.
  *  - A length or a room is at most 2^63-1. An input above 2^30 bytes is refused; a longer output is no input.
@@ -74,6 +74,10 @@ int cadf_check(const struct cadf_bytes *input, uint8_t *output, size_t room, siz
 /* The replica file of all inputs, under the log, or the first that an input names. A log of no bytes is none. */
 int cadf_join(const struct cadf_bytes *inputs, size_t count, const struct cadf_bytes *log,
               uint8_t *output, size_t room, size_t *length);
+
+/* The split file of all inputs by a unit, `month`, `day` or `hour`, under the log, or the first that an input names. */
+int cadf_split(const struct cadf_bytes *by, const struct cadf_bytes *inputs, size_t count, const struct cadf_bytes *log,
+               uint8_t *output, size_t room, size_t *length);
 
 /* The replica file of what `to` lacks of `from`. */
 int cadf_missing(const struct cadf_bytes *from, const struct cadf_bytes *to,
@@ -150,6 +154,15 @@ static inline int cadf_join_or_null(const struct cadf_bytes *inputs, size_t coun
                      output ? output : &nowhere, output ? room : 0, length);
 }
 
+static inline int cadf_split_or_null(const struct cadf_bytes *by, const struct cadf_bytes *inputs, size_t count,
+                                     const struct cadf_bytes *log, uint8_t *output, size_t room, size_t *length)
+{
+    uint8_t nowhere = 0;
+    const struct cadf_bytes none = cadf_bytes_of(NULL, 0), unit = cadf_bytes_at(by), named = cadf_bytes_at(log);
+    return cadf_split(&unit, inputs ? inputs : &none, inputs ? count : 0, &named,
+                      output ? output : &nowhere, output ? room : 0, length);
+}
+
 static inline int cadf_missing_or_null(const struct cadf_bytes *from, const struct cadf_bytes *to,
                                        uint8_t *output, size_t room, size_t *length)
 {
@@ -208,6 +221,7 @@ static inline int cadf_rehearse_or_null(const struct cadf_bytes *log, uint64_t s
 #define cadf_show(...) cadf_show_or_null(__VA_ARGS__)
 #define cadf_check(...) cadf_check_or_null(__VA_ARGS__)
 #define cadf_join(...) cadf_join_or_null(__VA_ARGS__)
+#define cadf_split(...) cadf_split_or_null(__VA_ARGS__)
 #define cadf_missing(...) cadf_missing_or_null(__VA_ARGS__)
 #define cadf_missing_by(...) cadf_missing_by_or_null(__VA_ARGS__)
 #define cadf_missing_by_sketch(...) cadf_missing_by_sketch_or_null(__VA_ARGS__)

@@ -2,7 +2,7 @@
  * The command, by the library: reads the files into memory, calls one function, and writes what it hands out.
  *
  *     call show FILE | conflicts FILE | check FILE | inventory FILE | missing FROM TO | missing-by FROM INVENTORY
- *     call join LOG FILE.. | rule LETTER KEY PLACE FILE | rehearse LOG SITES SCRIPT
+ *     call join LOG FILE.. | split UNIT LOG FILE.. | rule LETTER KEY PLACE FILE | rehearse LOG SITES SCRIPT
  *     call sketch CELLS SALT FILE | missing-by-sketch FROM SKETCH
  *
  * An empty LOG is none, and so is 0 for CELLS or SALT. PLACE, SITES, CELLS and SALT are decimal numbers. The exit status is that of
@@ -44,14 +44,14 @@ static struct cadf_bytes word(const char *text)
     return cadf_bytes_of(text, strlen(text));
 }
 
-static int join(int count, char **words, uint8_t *output, size_t room, size_t *length)
+/* The files of these names, read at the first call. */
+static struct cadf_bytes *files(int count, char **names)
 {
     static struct cadf_bytes inputs[4096];
-    struct cadf_bytes log = word(words[1]);
-    for (int at = 2; at < count && at < 4098; at++)
-        if (!inputs[at - 2].bytes)
-            inputs[at - 2] = file(words[at]);
-    return cadf_join(inputs, count - 2, &log, output, room, length);
+    for (int at = 0; at < count; at++)
+        if (!inputs[at].bytes)
+            inputs[at] = file(names[at]);
+    return inputs;
 }
 
 /* Calls the function that the words name. */
@@ -60,8 +60,14 @@ static int call(int count, char **words, uint8_t *output, size_t room, size_t *l
     static struct cadf_bytes first, second;
     const char *name = words[0];
     bool is_of_two = count == 3 && strcmp(name, "rehearse");
-    if (count >= 2 && count < 4098 && !strcmp(name, "join"))
-        return join(count, words, output, room, length);
+    if (count >= 2 && count < 4098 && !strcmp(name, "join")) {
+        struct cadf_bytes log = word(words[1]);
+        return cadf_join(files(count - 2, words + 2), count - 2, &log, output, room, length);
+    }
+    if (count >= 3 && count < 4099 && !strcmp(name, "split")) {
+        struct cadf_bytes by = word(words[1]), log = word(words[2]);
+        return cadf_split(&by, files(count - 3, words + 3), count - 3, &log, output, room, length);
+    }
     if (!first.bytes && count > 1) {
         first = file(words[is_of_two ? 1 : count - 1]);
         second = is_of_two ? file(words[2]) : word("");

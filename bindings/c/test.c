@@ -73,11 +73,13 @@ static const struct cadf_bytes other_log = TEXT("{\"id\":\"h\",\"events\":[]}");
 static const struct cadf_bytes cut = TEXT("{\"id\":\"g\",");
 static const struct cadf_bytes script = TEXT("learn 0 {\"id\":\"g\",\"events\":[],\"name\":\"a\"}\nsend 0\ndeliver 1 1\n");
 static const struct cadf_bytes bad_script = TEXT("ask 0\nask 00\n");
-static const struct cadf_bytes g = TEXT("g"), h = TEXT("h"), key = TEXT("name"), control = TEXT("\x01"), latin = TEXT("\xff");
+static const struct cadf_bytes g = TEXT("g"), h = TEXT("h"), key = TEXT("name"), control = TEXT("\x01"), day = TEXT("day"), latin = TEXT("\xff");
 
 #define FILE_OF(nodes, digest) "CADF-REPLICA 2\nL \"g\"\n[1,0,\"P\"]\n[2,0,\"name\"]\n" nodes "Z " digest "\n"
 #define A_FILE FILE_OF("[3,1,\"\\\"a\\\"\"]\n", "a0764a54cd022e59d25b5e180f495c67fc980287e011f251b152af3c32425fbb")
 #define BOTH_FILE FILE_OF("[3,1,\"\\\"a\\\"\"]\n[3,1,\"\\\"b\\\"\"]\n", "f1169f82e01d0f2193aadd2a99bc5cf2674061a6dc41c23082c2b1e276c2f2cf")
+#define BOTH_SPLIT "CADF-SPLIT 1\nL \"g\"\nB day\nP shared\n" BOTH_FILE \
+    "Z 8a55b2bd4f2177412f6977f225a2a804569304f5a869c87934eacb159831be45\n"
 #define RULED_FILE FILE_OF("[3,1,\"\\\"a\\\"\"]\n[3,1,\"\\\"b\\\"\"]\n[1,0,\"U\"]\n[2,0,\"P\"]\n[3,0,\"name\"]\n" \
     "[4,1,\"ac8d8342bbb2362d13f0a559a3621bb407011368895164b628a54f7fc33fc43c\"]\n", \
     "756e3e679a3c75ae29cc52a65b9cbfa33d6273da569a5a1e5914ff4190bf58ce")
@@ -173,6 +175,21 @@ CALL(joins_no_log, joined(&cut, &control, OUT))
 CALL(joins_log_no_text, joined(&cut, &latin, OUT))
 CALL(joins_nothing, cadf_join(NULL, 0, NULL, OUT))
 
+static int parted(const struct cadf_bytes *by, const struct cadf_bytes *first, const struct cadf_bytes *log,
+                  uint8_t *output, size_t room, size_t *length)
+{
+    const struct cadf_bytes inputs[] = {*first, b_log};
+    return cadf_split(by, inputs, sizeof inputs / sizeof *inputs, log, output, room, length);
+}
+
+CALL(splits, parted(&day, &a_log, NULL, OUT))
+CALL(splits_other, parted(&day, &a_log, &h, OUT))
+CALL(splits_cut, parted(&day, &cut, NULL, OUT))
+CALL(splits_no_unit, parted(NULL, &cut, &control, OUT))
+CALL(splits_unit_no_text, parted(&latin, &cut, NULL, OUT))
+CALL(splits_no_log, parted(&day, &cut, &control, OUT))
+CALL(splits_nothing, cadf_split(&day, NULL, 0, NULL, OUT))
+
 struct expected {
     const char *name;
     call *call;
@@ -228,6 +245,13 @@ static const struct expected rows[] = {
     ROW(joins_no_log, 2, "log name"),
     ROW(joins_log_no_text, 2, "log name"),
     ROW(joins_nothing, 1, "no log named"),
+    ROW(splits, 0, BOTH_SPLIT),
+    ROW(splits_other, 1, "input 1: other log"),
+    ROW(splits_cut, 1, "input 1: not JSON"),
+    ROW(splits_no_unit, 2, "unit"),
+    ROW(splits_unit_no_text, 2, "unit"),
+    ROW(splits_no_log, 2, "log name"),
+    ROW(splits_nothing, 1, "no log named"),
 };
 
 /* ---- what is tried of each */
@@ -279,7 +303,7 @@ static void with_refusals(const struct expected *row)
         int status = row->call(buffer, sizeof buffer, &length);
         counts = false;
         bool is_right = status == row->status && length == strlen(row->text) && !memcmp(buffer, row->text, length);
-        bool is_memory = status == CADF_OUT_OF_MEMORY && (length == 0 || (length == 13 && !memcmp(buffer, "out of memory", 13)));
+        bool is_memory = status == CADF_OUT_OF_MEMORY && length == 13 && !memcmp(buffer, "out of memory", 13);
         if (!is_right && !is_memory)
             fail(row->name, "a refused allocation gives another answer");
         if (held)

@@ -18,12 +18,12 @@ import ctypes
 import json
 import re
 import sys
-from typing import Any, Dict, Iterable, NamedTuple, Optional, Tuple, Type, Union
+from typing import Any, Dict, Iterable, List, NamedTuple, Optional, Tuple, Type, Union
 
 from . import _library
 
 __all__ = ["CadfError", "Check", "OutOfMemory", "Refused", "WrongArgument", "check", "inventory", "join", "missing", "missing_by",
-           "missing_by_sketch", "rehearse", "rule", "show", "sketch", "version"]
+           "missing_by_sketch", "rehearse", "rule", "show", "sketch", "split", "version"]
 
 Input = Union[bytes, bytearray, memoryview, str]
 
@@ -144,6 +144,26 @@ def _call(name: str, room: int, *arguments: Any) -> bytes:
     return text
 
 
+def _texts(inputs: Iterable[Input]) -> List[bytes]:
+    """The bytes of each of several inputs."""
+    if isinstance(inputs, (str, bytes, bytearray, memoryview)):
+        raise TypeError("inputs is a list of inputs, not one input")
+    return [_of(value) for value in inputs]
+
+
+def _listed(texts: List[bytes]) -> Tuple[Any, int]:
+    """An array of inputs, and their number. The array is never empty."""
+    return (_library.Bytes * max(len(texts), 1))(*map(_given, texts or [b""])), len(texts)
+
+
+def _log(log: Optional[str]) -> bytes:
+    """The bytes of a log that may be given: none for none. An empty one is refused here, since the library takes it for none."""
+    name = b"" if log is None else _of(log)
+    if log is not None and not name:
+        raise WrongArgument("log name")
+    return name
+
+
 def _room(*inputs: bytes) -> int:
     return _ROOM + 2 * sum(map(len, inputs))
 
@@ -159,14 +179,18 @@ def join(inputs: Iterable[Input], log: Optional[str] = None) -> bytes:
 
     Refused: an input is refused, is of another log, or none names a log. WrongArgument: `log` is no name. OutOfMemory.
     """
-    if isinstance(inputs, (str, bytes, bytearray, memoryview)):
-        raise TypeError("inputs is a list of inputs, not one input")
-    texts = [_of(value) for value in inputs]
-    name = b"" if log is None else _of(log)
-    if log is not None and not name:
-        raise WrongArgument("log name")
-    array = (_library.Bytes * max(len(texts), 1))(*map(_given, texts or [b""]))
-    return _call("join", _room(*texts), array, len(texts), _given(name))
+    texts, name = _texts(inputs), _log(log)
+    return _call("join", _room(*texts), *_listed(texts), _given(name))
+
+
+def split(by: str, inputs: Iterable[Input], log: Optional[str] = None) -> bytes:
+    """Returns the split file of all inputs: a replica file for each window of time, with a digest of all of them.
+
+    `by` is "month", "day" or "hour", in UTC. Refused: as by `join`. WrongArgument: `by` is no unit, or `log` no name.
+    OutOfMemory.
+    """
+    unit, texts, name = _of(by), _texts(inputs), _log(log)
+    return _call("split", _room(*texts), _given(unit), *_listed(texts), _given(name))
 
 
 def missing(source: Input, target: Input) -> bytes:

@@ -21,6 +21,7 @@ FUNCTIONS: Dict[str, List[Any]] = {
     "show": [ctypes.c_bool, *_INPUT],
     "check": _INPUT,
     "join": [*_INPUT, ctypes.c_size_t, *_INPUT],
+    "split": [*_INPUT * 2, ctypes.c_size_t, *_INPUT],
     "missing": _INPUT * 2,
     "missing_by": _INPUT * 2,
     "missing_by_sketch": _INPUT * 2,

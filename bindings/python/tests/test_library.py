@@ -41,6 +41,16 @@ class Calls(unittest.TestCase):
         self.refuses(2, "log name", cadf.join, [A], log="")
         self.refuses(2, "log name", cadf.join, [A], log="\x01")
 
+    def test_split(self):
+        whole = cadf.split("day", [A, B])
+        self.assertEqual(whole, cadf.split("day", [cadf.join([B, A])], log="g"))
+        self.assertTrue(whole.startswith(b'CADF-SPLIT 1\nL "g"\nB day\nP shared\n' + cadf.join([A, B])))
+        self.refuses(1, "input 1: other log", cadf.split, "day", [A], log="h")
+        self.refuses(1, "no log named", cadf.split, "hour", [])
+        self.refuses(2, "log name", cadf.split, "day", [A], log="")
+        for unit in ("week", "", "Day", "day\x00"):
+            self.refuses(2, "unit", cadf.split, unit, [A])
+
     def test_a_delta_gives_what_the_whole_gives(self):
         delta = cadf.missing(A, B)
         self.assertEqual(cadf.join([B, delta]), cadf.join([A, B]))

@@ -1,11 +1,9 @@
 //! Opens the files of a request, and runs its engine on them.
 ghost use Rattle.std.specs.Prelude.{◌≡◌, ◌+◌, ◌<◌, ◌^◌, length, IfOk};
 
-use crate::given::{
-    cells_given, letter_given, log_given, place_given, salt_given, sites_given, unit_given,
-};
+use crate::given::{cells_given, letter_given, log_given, place_given, salt_given, sites_given};
 use crate::stop::Stop;
-use cadf_arguments::{read_key, read_log};
+use cadf_arguments::{read_key, read_log, read_unit};
 use cadf_json::{FromStd, Sink};
 use cadf_tool::{
     ToolFault, run_check_union, run_inventory_union, run_join, run_missing_by_sketch_union,
@@ -66,9 +64,9 @@ fn split<W: Sink>(
     paths: &[&str],
     output: &mut W,
 ) -> Result<(), Stop> {
+    let unit = read_unit(by.as_bytes())?;
     let log = log_given(rt.alloc(), log)?;
     let mut inputs = open_all(rt, rt.alloc(), 0, paths)?;
-    let unit = unit_given(by);
     Ok(run_split(rt.alloc(), unit, log, inputs.as_mut_slice(), output)?)
 }
 

@@ -1,9 +1,13 @@
 //! Parses the words other than files: names, numbers and letters.
+ghost use Rattle.std.specs.Prelude.{◌≡◌, ℕ, is_ok, IfOk, IfErr, MatchOption, encode_utf8};
+ghost use Rattle.cadf_line.specs.RulingTexts.{is_value_letter};
+ghost use Rattle.cadf.specs.Given.{begins_plainly, IsNumber};
+
 use cadf_arguments::{
     ArgumentFault, check_cells, check_letter, check_place, check_salt, check_sites, read_log,
 };
 use cadf_event::Name;
-use cadf_tool::{Cells, Salt, Unit};
+use cadf_tool::{Cells, Salt};
 use std::alloc::Global;
 
 /// Reads the identifier of the log, if one is given. `LogName`: it is no name.
@@ -14,21 +18,27 @@ pub(crate) fn log_given(alloc: Global, word: Option<&str>) -> Result<Option<Name
     }
 }
 
-/// Reads the unit of time of a split. The parser accepts no other words than these three.
-pub(crate) fn unit_given(word: &str) -> Unit {
+/// Returns whether the word begins with neither a sign nor a zero.
+fn is_plain(word: &[u8]) -> bool
+    ensures { result ≡ begins_plainly word.now }
+{
     match word {
-        "month" => Unit::Month,
-        "day" => Unit::Day,
-        _ => Unit::Hour,
+        [] => false,
+        [first, ..] => *first != b'+' && *first != b'0',
     }
 }
 
 /// Reads a positive decimal number below 2^64, without a sign or leading zeros. `None` if the word is none.
-fn number_given(word: &str) -> Option<u64> {
-    if word.starts_with('+') || word.starts_with('0') {
+fn number_given(word: &str) -> Option<u64>
+    ensures { MatchOption result ((n : ℕ) → ¬ IsNumber word.now n) (IsNumber word.now) }
+{
+    if !is_plain(word.as_bytes()) {
         return None;
     }
-    word.parse::<u64>().ok()
+    match word.parse::<u64>() {
+        Ok(number) => Some(number),
+        Err(_) => None,
+    }
 }
 
 /// Reads the number of sites of a rehearsal. `Sites`: it isn't 1 to 64.
@@ -40,11 +50,14 @@ pub(crate) fn sites_given(word: &str) -> Result<usize, ArgumentFault> {
 }
 
 /// Reads the letter of a kind of keys. `Letter`: the word is no such letter.
-pub(crate) fn letter_given(word: &str) -> Result<char, ArgumentFault> {
-    let mut letters = word.chars();
-    match (letters.next(), letters.next()) {
-        (Some(letter), None) => check_letter(letter),
-        _ => Err(ArgumentFault::Letter),
+pub(crate) fn letter_given(word: &str) -> Result<char, ArgumentFault>
+    ensures accepts { is_ok result ≡ is_value_letter word.now }
+    ensures ok { IfOk result (λ letter. encode_utf8 letter ≡ word.now) }
+    ensures err { IfErr result (λ f. f ≡ ArgumentFault.Letter) }
+{
+    match word.parse::<char>() {
+        Ok(letter) => check_letter(letter),
+        Err(_) => Err(ArgumentFault::Letter),
     }
 }
 

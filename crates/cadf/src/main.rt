@@ -1,6 +1,10 @@
 //! The command: its words, files and streams, and the exit status.
 #![tactic(auto)]
 
+ghost use Rattle.std.specs.Prelude.{◌≡◌, ◌≢◌, [], IfOk, IfErr};
+ghost use Rattle.std.specs.Io.KnownBytes.{Keeps};
+ghost use Rattle.std.specs.Io.Buffered.{writer_buffer, writer_contents};
+
 mod engines;
 mod given;
 mod stop;
@@ -14,13 +18,13 @@ use std::io::{BufWriter, Write};
 use std::process::ExitCode;
 use std::{env, io};
 
-/// Flushes the buffer. Returns a report if the output is larger than an input may be. `WriteFault` if the flush fails.
-fn flushed<W: Write + Drop>(
-    output: CountingSink<FromStd<W>>,
-) -> Result<Option<OverLimit>, ToolFault> {
-    let over_limit = output.over_limit(FILE_LIMIT);
-    match output.into_inner().into_inner().flush() {
-        Ok(()) => Ok(over_limit),
+/// Flushes the buffer, and returns it. `WriteFault` if the flush fails.
+fn flushed<W: Write + Drop>(mut buffer: BufWriter<W>) -> Result<BufWriter<W>, ToolFault>
+    ensures ok { IfOk result (λ after. (writer_buffer after ≡ []) × Keeps (writer_contents W.contents buffer) (writer_contents W.contents after)) }
+    ensures err { IfErr result (λ f. f ≡ ToolFault.WriteFault) }
+{
+    match buffer.flush() {
+        Ok(()) => Ok(buffer),
         Err(_) => Err(ToolFault::WriteFault),
     }
 }
@@ -33,7 +37,9 @@ fn run_out(rt: &HostRuntime, request: &Request<'_>) -> Result<Option<OverLimit>,
     };
     let mut output = CountingSink::new(FromStd::new(buffer));
     run_engine(rt, request, &mut output)?;
-    Ok(flushed(output)?)
+    let over_limit = output.over_limit(FILE_LIMIT);
+    flushed(output.into_inner().into_inner())?;
+    Ok(over_limit)
 }
 
 /// Runs the request, reports a fault or too large an output on standard error, and returns the exit status.

@@ -22,6 +22,8 @@ pub enum ArgumentFault {
     Cells,
     /// The salt isn't odd.
     Salt,
+    /// The word is no unit of time.
+    Unit,
     /// An allocation failed.
     Memory,
 }
@@ -36,6 +38,7 @@ impl ArgumentFault {
             ArgumentFault::LogName | ArgumentFault::Sites | ArgumentFault::Letter => 2,
             ArgumentFault::Key | ArgumentFault::Place => 2,
             ArgumentFault::Cells | ArgumentFault::Salt => 2,
+            ArgumentFault::Unit => 2,
             ArgumentFault::Memory => 4,
         }
     }
@@ -52,6 +55,7 @@ impl ArgumentFault {
             ArgumentFault::Place => "place",
             ArgumentFault::Cells => "cells",
             ArgumentFault::Salt => "salt",
+            ArgumentFault::Unit => "unit",
             ArgumentFault::Memory => "out of memory",
         }
     }

@@ -1,10 +1,12 @@
-//! Arguments of the engines other than inputs: names, numbers and letters.
+//! Arguments of the engines other than inputs: names, numbers, letters and units of time.
 #![tactic(auto)]
 
 mod fault;
 mod names;
 mod numbers;
+mod units;
 
 pub use crate::fault::ArgumentFault;
 pub use crate::names::{check_letter, read_key, read_log};
 pub use crate::numbers::{check_cells, check_place, check_salt, check_sites};
+pub use crate::units::read_unit;

@@ -1,17 +1,20 @@
-//! Arguments that are no inputs, as C hands them over.
-ghost use Rattle.std.specs.Prelude.{◌≡◌, IfOk};
-ghost use Rattle.cadf_c.specs.Arguments.{log_given, number_given};
+//! Arguments that are no inputs, as C hands them over. `Err`: the first that is refused, or `Memory`.
+ghost use Rattle.std.specs.Prelude.{◌≡◌, ◌||◌, nat_eq, true, false, Some, None, IfOk, IfErr};
+ghost use Rattle.cadf_arguments.specs.Arguments.{unit_named};
+ghost use Rattle.cadf_sketch.specs.Layouts.{are_cells, is_salt};
+ghost use Rattle.cadf_c.specs.Arguments.{log_given, number_given, spells_name, unless, log_refused, split_refused, ruling_refused, rehearsal_refused, sketch_refused, IsArgumentFault};
 
 use cadf_arguments::{
     ArgumentFault, check_cells, check_letter, check_place, check_salt, check_sites, read_key,
-    read_log,
+    read_log, read_unit,
 };
-use cadf_memory::{Cells, Name, Salt};
+use cadf_memory::{Cells, Name, Salt, Unit};
 use std::alloc::Global;
 
-/// Reads the bytes as the identifier of a log. `LogName`: they are none, or not UTF-8.
+/// Reads the bytes as the identifier of a log. `LogName`: they are no name, or not UTF-8.
 fn log_of_bytes(alloc: Global, bytes: &[u8]) -> Result<Name, ArgumentFault>
-    ensures { IfOk result (λ name. name ≡ bytes.now) }
+    ensures ok { IfOk result (λ name. (name ≡ bytes.now) × (spells_name bytes.now ≡ true)) }
+    ensures err { IfErr result (IsArgumentFault (unless (spells_name bytes.now) ArgumentFault.LogName None)) }
 {
     match str::from_utf8(bytes) {
         Ok(text) => read_log(alloc, text),
@@ -19,9 +22,10 @@ fn log_of_bytes(alloc: Global, bytes: &[u8]) -> Result<Name, ArgumentFault>
     }
 }
 
-/// Reads the bytes as a key. `Key`: they are none, or not UTF-8.
+/// Reads the bytes as a key. `Key`: they are no name, or not UTF-8.
 fn key_of_bytes(alloc: Global, bytes: &[u8]) -> Result<Name, ArgumentFault>
-    ensures { IfOk result (λ name. name ≡ bytes.now) }
+    ensures ok { IfOk result (λ name. (name ≡ bytes.now) × (spells_name bytes.now ≡ true)) }
+    ensures err { IfErr result (IsArgumentFault (unless (spells_name bytes.now) ArgumentFault.Key None)) }
 {
     match str::from_utf8(bytes) {
         Ok(text) => read_key(alloc, text),
@@ -31,7 +35,8 @@ fn key_of_bytes(alloc: Global, bytes: &[u8]) -> Result<Name, ArgumentFault>
 
 /// Reads the bytes as the identifier of a log. No bytes are no log.
 pub(crate) fn log_if_any(alloc: Global, bytes: &[u8]) -> Result<Option<Name>, ArgumentFault>
-    ensures { IfOk result (λ log. log ≡ log_given bytes.now) }
+    ensures ok { IfOk result (λ log. (log ≡ log_given bytes.now) × (log_refused bytes.now ≡ None)) }
+    ensures err { IfErr result (IsArgumentFault (log_refused bytes.now)) }
 {
     if bytes.is_empty() {
         return Ok(None);
@@ -42,6 +47,21 @@ pub(crate) fn log_if_any(alloc: Global, bytes: &[u8]) -> Result<Option<Name>, Ar
     }
 }
 
+/// Returns the unit and the log of a split; they are checked in this order.
+pub(crate) fn split_given(
+    alloc: Global,
+    by: &[u8],
+    log: &[u8],
+) -> Result<(Unit, Option<Name>), ArgumentFault>
+    ensures ok { IfOk result (λ given. (unit_named by.now ≡ Some given.0) × (given.1 ≡ log_given log.now)) }
+    ensures accepts { IfOk result (λ _. split_refused by.now log.now ≡ None) }
+    ensures err { IfErr result (IsArgumentFault (split_refused by.now log.now)) }
+{
+    let unit = read_unit(by)?;
+    let log = log_if_any(alloc, log)?;
+    Ok((unit, log))
+}
+
 /// Returns the letter, the key and the place of a ruling; they are checked in this order.
 pub(crate) fn ruling_given(
     alloc: Global,
@@ -49,7 +69,9 @@ pub(crate) fn ruling_given(
     key: &[u8],
     place: u64,
 ) -> Result<(char, Name, u64), ArgumentFault>
-    ensures { IfOk result (λ given. (given.0 ≡ letter) × (given.1 ≡ key.now) × (given.2 ≡ place)) }
+    ensures ok { IfOk result (λ given. (given.0 ≡ letter) × (given.1 ≡ key.now) × (given.2 ≡ place)) }
+    ensures accepts { IfOk result (λ _. ruling_refused letter key.now place ≡ None) }
+    ensures err { IfErr result (IsArgumentFault (ruling_refused letter key.now place)) }
 {
     let letter = check_letter(char::from(letter))?;
     let key = key_of_bytes(alloc, key)?;
@@ -63,7 +85,9 @@ pub(crate) fn rehearsal_given(
     log: &[u8],
     sites: u64,
 ) -> Result<(Name, usize), ArgumentFault>
-    ensures { IfOk result (λ given. (given.0 ≡ log.now) × (given.1 ≡ sites)) }
+    ensures ok { IfOk result (λ given. (given.0 ≡ log.now) × (given.1 ≡ sites)) }
+    ensures accepts { IfOk result (λ _. rehearsal_refused log.now sites ≡ None) }
+    ensures err { IfErr result (IsArgumentFault (rehearsal_refused log.now sites)) }
 {
     let log = log_of_bytes(alloc, log)?;
     let sites = check_sites(sites)?;
@@ -72,7 +96,8 @@ pub(crate) fn rehearsal_given(
 
 /// Returns the number of cells of a sketch. 0 is none.
 fn cells_if_any(cells: u64) -> Result<Option<Cells>, ArgumentFault>
-    ensures { IfOk result (λ given. given ≡ number_given cells) }
+    ensures ok { IfOk result (λ given. (given ≡ number_given cells) × ((nat_eq cells 0 || are_cells cells) ≡ true)) }
+    ensures err { IfErr result (λ fault. (fault ≡ ArgumentFault.Cells) × ((nat_eq cells 0 || are_cells cells) ≡ false)) }
 {
     if cells == 0 {
         return Ok(None);
@@ -85,7 +110,8 @@ fn cells_if_any(cells: u64) -> Result<Option<Cells>, ArgumentFault>
 
 /// Returns the salt of a sketch. 0 is none.
 fn salt_if_any(salt: u64) -> Result<Option<Salt>, ArgumentFault>
-    ensures { IfOk result (λ given. given ≡ number_given salt) }
+    ensures ok { IfOk result (λ given. (given ≡ number_given salt) × ((nat_eq salt 0 || is_salt salt) ≡ true)) }
+    ensures err { IfErr result (λ fault. (fault ≡ ArgumentFault.Salt) × ((nat_eq salt 0 || is_salt salt) ≡ false)) }
 {
     if salt == 0 {
         return Ok(None);
@@ -101,7 +127,9 @@ pub(crate) fn sketch_given(
     cells: u64,
     salt: u64,
 ) -> Result<(Option<Cells>, Option<Salt>), ArgumentFault>
-    ensures { IfOk result (λ given. (given.0 ≡ number_given cells) × (given.1 ≡ number_given salt)) }
+    ensures ok { IfOk result (λ given. (given.0 ≡ number_given cells) × (given.1 ≡ number_given salt)) }
+    ensures accepts { IfOk result (λ _. sketch_refused cells salt ≡ None) }
+    ensures err { IfErr result (IsArgumentFault (sketch_refused cells salt)) }
 {
     let cells = cells_if_any(cells)?;
     let salt = salt_if_any(salt)?;

@@ -2,13 +2,14 @@
 ghost use Rattle.std.specs.Prelude.{◌≡◌, true, IfOk, IfErr};
 ghost use Rattle.cadf_tool.specs.Join.{join_of};
 ghost use Rattle.cadf_tool.specs.WrittenFile.{file};
+ghost use Rattle.cadf_split.specs.Split.{split_text};
 ghost use Rattle.cadf_memory.specs.Memory.{bytes_of};
 ghost use Rattle.cadf_memory.specs.Handed.{IsHandedOut};
 ghost use Rattle.cadf_memory.specs.Made.{IsMadeOfAll};
 ghost use Rattle.cadf_memory.specs.Refused.{is_of_memory, IsFirstOfAll};
 ghost use Rattle.cadf_c.specs.Inputs.{bytes_in};
 
-use cadf_memory::{Name, ToolFault, join};
+use cadf_memory::{Name, ToolFault, Unit, join, split};
 use std::alloc::{AllocError as Memory, Global};
 
 /// Bytes of the caller's: an address and a length.
@@ -42,6 +43,25 @@ pub(crate) fn join_inputs(
 {
     match slices(alloc, inputs) {
         Ok(slices) => join(alloc, log, slices.as_slice(), output),
+        Err(_) => Err(ToolFault::Memory),
+    }
+}
+
+/// Writes the split file by that unit of what all of them contribute, and returns its length.
+#[tactic(auto, using(cadf_memory::proofs::Lists::refused_unread))]
+pub(crate) fn split_inputs(
+    alloc: Global,
+    unit: Unit,
+    log: Option<Name>,
+    inputs: &[CadfBytes<'_>],
+    output: &mut [u8],
+) -> Result<usize, ToolFault>
+    ensures ok { IfOk result (IsHandedOut (IsMadeOfAll (join_of log) (split_text unit) (bytes_in inputs.now)) output.old output.new) }
+    ensures err { IfErr result (λ fault. IsFirstOfAll (join_of log) (bytes_in inputs.now) fault) }
+    ensures only { IfErr result (λ fault. is_of_memory fault ≡ true) }
+{
+    match slices(alloc, inputs) {
+        Ok(slices) => split(alloc, unit, log, slices.as_slice(), output),
         Err(_) => Err(ToolFault::Memory),
     }
 }

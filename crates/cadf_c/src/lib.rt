@@ -1,7 +1,7 @@
 //! The engines over bytes in memory, for C. bindings/c/cadf.h declares them and says what each caller owes.
 #![tactic(auto)]
 
-ghost use Rattle.std.specs.Prelude.{◌≡◌, pos, encode_utf8};
+ghost use Rattle.std.specs.Prelude.{◌≡◌, pos, Some, None, encode_utf8};
 ghost use Rattle.cadf_inventory.specs.InventoryFile.{inventory_file};
 ghost use Rattle.cadf_tool.specs.Run.{input_spec};
 ghost use Rattle.cadf_tool.specs.InventoryInput.{inventory_spec};
@@ -17,20 +17,23 @@ ghost use Rattle.cadf_tool.specs.Rehearse.{script_spec, final_sites};
 ghost use Rattle.cadf_tool.specs.Sites.{sites_text};
 ghost use Rattle.cadf_tool.specs.Join.{join_of};
 ghost use Rattle.cadf_tool.specs.WrittenFile.{file};
+ghost use Rattle.cadf_split.specs.declared.unit.Unit.{Unit};
+ghost use Rattle.cadf_split.specs.Split.{split_text};
+ghost use Rattle.cadf_arguments.specs.Arguments.{unit_named};
 ghost use Rattle.cadf_memory.specs.Handed.{IsHandedOut};
 ghost use Rattle.cadf_memory.specs.Made.{IsMadeOf, IsMadeOfTwo, IsMadeOfTwoBy, IsMadeOfAll};
 ghost use Rattle.cadf_memory.specs.Refused.{IsFirstOf, IsFirstOfTwo, IsFirstOfTwoBy, IsFirstOfAll};
-ghost use Rattle.cadf_c.specs.Statuses.{IsRefused, IsEngineStatus, IsStatus};
-ghost use Rattle.cadf_c.specs.Arguments.{log_given, number_given};
+ghost use Rattle.cadf_c.specs.Statuses.{IsRefused, IsTold};
+ghost use Rattle.cadf_c.specs.Arguments.{log_given, number_given, log_refused, split_refused, ruling_refused, rehearsal_refused, sketch_refused};
 ghost use Rattle.cadf_c.specs.Inputs.{bytes_in};
 
 mod arguments;
 mod inputs;
 mod output;
 
-use crate::arguments::{log_if_any, rehearsal_given, ruling_given, sketch_given};
+use crate::arguments::{log_if_any, rehearsal_given, ruling_given, sketch_given, split_given};
 pub use crate::inputs::CadfBytes;
-use crate::inputs::join_inputs;
+use crate::inputs::{join_inputs, split_inputs};
 use crate::output::{answer, refuse};
 use cadf_memory::{
     check, inventory, missing, missing_by, missing_by_sketch, rehearse, rule, show, sketch,
@@ -51,7 +54,7 @@ pub extern "C" fn cadf_version() -> u32 {
 }
 
 /// Hands out the log of the input, or with `conflicts` the list of its conflicts.
-#[tactic(auto, using(crate::proofs::Statuses::refused))]
+#[tactic(auto, using(crate::proofs::Statuses::refused, crate::proofs::Statuses::answered, crate::proofs::Statuses::argument_refused))]
 #[unsafe(no_mangle)]
 pub extern "C" fn cadf_show(
     alloc: Global,
@@ -64,14 +67,14 @@ pub extern "C" fn cadf_show(
         (IsMadeOf input_spec replica_model_of (shown_text conflicts) input.now.bytes.now)
         output.old output.new length.new }
     ensures refused { result ≡ pos 1 → IsRefused (IsFirstOf input_spec replica_model_of input.now.bytes.now) }
-    ensures only { IsEngineStatus result }
+    ensures told { IsTold None result output.old output.new length.new }
 {
     let made = show(alloc, conflicts, input.bytes, output);
-    answer(alloc, made, output, length)
+    answer(made, output, length)
 }
 
 /// Hands out the line that says what the input holds.
-#[tactic(auto, using(crate::proofs::Statuses::refused))]
+#[tactic(auto, using(crate::proofs::Statuses::refused, crate::proofs::Statuses::answered, crate::proofs::Statuses::argument_refused))]
 #[unsafe(no_mangle)]
 pub extern "C" fn cadf_check(
     alloc: Global,
@@ -83,14 +86,14 @@ pub extern "C" fn cadf_check(
         (IsMadeOf input_spec replica_model_of checked_text input.now.bytes.now)
         output.old output.new length.new }
     ensures refused { result ≡ pos 1 → IsRefused (IsFirstOf input_spec replica_model_of input.now.bytes.now) }
-    ensures only { IsEngineStatus result }
+    ensures told { IsTold None result output.old output.new length.new }
 {
     let made = check(alloc, input.bytes, output);
-    answer(alloc, made, output, length)
+    answer(made, output, length)
 }
 
 /// Hands out the inventory file of the input.
-#[tactic(auto, using(crate::proofs::Statuses::refused))]
+#[tactic(auto, using(crate::proofs::Statuses::refused, crate::proofs::Statuses::answered, crate::proofs::Statuses::argument_refused))]
 #[unsafe(no_mangle)]
 pub extern "C" fn cadf_inventory(
     alloc: Global,
@@ -102,14 +105,14 @@ pub extern "C" fn cadf_inventory(
         (IsMadeOf input_spec inventory_model_of inventory_file input.now.bytes.now)
         output.old output.new length.new }
     ensures refused { result ≡ pos 1 → IsRefused (IsFirstOf input_spec inventory_model_of input.now.bytes.now) }
-    ensures only { IsEngineStatus result }
+    ensures told { IsTold None result output.old output.new length.new }
 {
     let made = inventory(alloc, input.bytes, output);
-    answer(alloc, made, output, length)
+    answer(made, output, length)
 }
 
 /// Hands out the replica file of what `to` lacks of `from`.
-#[tactic(auto, using(crate::proofs::Statuses::refused))]
+#[tactic(auto, using(crate::proofs::Statuses::refused, crate::proofs::Statuses::answered, crate::proofs::Statuses::argument_refused))]
 #[unsafe(no_mangle)]
 pub extern "C" fn cadf_missing(
     alloc: Global,
@@ -122,14 +125,14 @@ pub extern "C" fn cadf_missing(
         (IsMadeOfTwo input_spec input_spec part_of file from.now.bytes.now to.now.bytes.now)
         output.old output.new length.new }
     ensures refused { result ≡ pos 1 → IsRefused (IsFirstOfTwo input_spec input_spec part_of from.now.bytes.now to.now.bytes.now) }
-    ensures only { IsEngineStatus result }
+    ensures told { IsTold None result output.old output.new length.new }
 {
     let made = missing(alloc, from.bytes, to.bytes, output);
-    answer(alloc, made, output, length)
+    answer(made, output, length)
 }
 
 /// Hands out the replica file of what `from` has beyond the inventory.
-#[tactic(auto, using(crate::proofs::Statuses::refused))]
+#[tactic(auto, using(crate::proofs::Statuses::refused, crate::proofs::Statuses::answered, crate::proofs::Statuses::argument_refused))]
 #[unsafe(no_mangle)]
 pub extern "C" fn cadf_missing_by(
     alloc: Global,
@@ -142,15 +145,15 @@ pub extern "C" fn cadf_missing_by(
         (IsMadeOfTwo input_spec inventory_spec part_by file from.now.bytes.now held.now.bytes.now)
         output.old output.new length.new }
     ensures refused { result ≡ pos 1 → IsRefused (IsFirstOfTwo input_spec inventory_spec part_by from.now.bytes.now held.now.bytes.now) }
-    ensures only { IsEngineStatus result }
+    ensures told { IsTold None result output.old output.new length.new }
 {
     let made = missing_by(alloc, from.bytes, held.bytes, output);
-    answer(alloc, made, output, length)
+    answer(made, output, length)
 }
 
 /// Hands out the replica file of the input with one ruling more, for the value at that place of the key's
 /// values. Places count from 1.
-#[tactic(auto, using(crate::proofs::Statuses::refused))]
+#[tactic(auto, using(crate::proofs::Statuses::refused, crate::proofs::Statuses::answered, crate::proofs::Statuses::argument_refused))]
 #[unsafe(no_mangle)]
 pub extern "C" fn cadf_rule(
     alloc: Global,
@@ -165,19 +168,19 @@ pub extern "C" fn cadf_rule(
         (IsMadeOf input_spec (ruled_of (encode_utf8 letter) key.now.bytes.now place) file input.now.bytes.now)
         output.old output.new length.new }
     ensures refused { result ≡ pos 1 → IsRefused (IsFirstOf input_spec (ruled_of (encode_utf8 letter) key.now.bytes.now place) input.now.bytes.now) }
-    ensures only { IsStatus result }
+    ensures told { IsTold (ruling_refused letter key.now.bytes.now place) result output.old output.new length.new }
 {
     match ruling_given(alloc, letter, key.bytes, place) {
         Ok((letter, key, place)) => {
             let made = rule(alloc, letter, &key, place, input.bytes, output);
-            answer(alloc, made, output, length)
+            answer(made, output, length)
         }
-        Err(fault) => refuse(alloc, fault, output, length),
+        Err(fault) => refuse(fault, output, length),
     }
 }
 
 /// Hands out a line for each site of the log after the schedule of the script.
-#[tactic(auto, using(crate::proofs::Statuses::refused))]
+#[tactic(auto, using(crate::proofs::Statuses::refused, crate::proofs::Statuses::answered, crate::proofs::Statuses::argument_refused))]
 #[unsafe(no_mangle)]
 pub extern "C" fn cadf_rehearse(
     alloc: Global,
@@ -191,19 +194,19 @@ pub extern "C" fn cadf_rehearse(
         (IsMadeOf script_spec (final_sites log.now.bytes.now sites) sites_text script.now.bytes.now)
         output.old output.new length.new }
     ensures refused { result ≡ pos 1 → IsRefused (IsFirstOf script_spec (final_sites log.now.bytes.now sites) script.now.bytes.now) }
-    ensures only { IsStatus result }
+    ensures told { IsTold (rehearsal_refused log.now.bytes.now sites) result output.old output.new length.new }
 {
     match rehearsal_given(alloc, log.bytes, sites) {
         Ok((log, sites)) => {
             let made = rehearse(alloc, &log, sites, script.bytes, output);
-            answer(alloc, made, output, length)
+            answer(made, output, length)
         }
-        Err(fault) => refuse(alloc, fault, output, length),
+        Err(fault) => refuse(fault, output, length),
     }
 }
 
 /// Hands out the sketch file of the input: of so many cells, 0 for 198, and with that salt, 0 for the input's own.
-#[tactic(auto, using(crate::proofs::Statuses::refused))]
+#[tactic(auto, using(crate::proofs::Statuses::refused, crate::proofs::Statuses::answered, crate::proofs::Statuses::argument_refused))]
 #[unsafe(no_mangle)]
 pub extern "C" fn cadf_sketch(
     alloc: Global,
@@ -217,19 +220,19 @@ pub extern "C" fn cadf_sketch(
         (IsMadeOf input_spec (sketch_model_of (number_given cells) (number_given salt)) sketch_file input.now.bytes.now)
         output.old output.new length.new }
     ensures refused { result ≡ pos 1 → IsRefused (IsFirstOf input_spec (sketch_model_of (number_given cells) (number_given salt)) input.now.bytes.now) }
-    ensures only { IsStatus result }
+    ensures told { IsTold (sketch_refused cells salt) result output.old output.new length.new }
 {
     match sketch_given(cells, salt) {
         Ok((cells, salt)) => {
             let made = sketch(alloc, cells, salt, input.bytes, output);
-            answer(alloc, made, output, length)
+            answer(made, output, length)
         }
-        Err(fault) => refuse(alloc, fault, output, length),
+        Err(fault) => refuse(fault, output, length),
     }
 }
 
 /// Hands out the replica file of what `from` has beyond the sketch.
-#[tactic(auto, using(crate::proofs::Statuses::refused))]
+#[tactic(auto, using(crate::proofs::Statuses::refused, crate::proofs::Statuses::answered, crate::proofs::Statuses::argument_refused))]
 #[unsafe(no_mangle)]
 pub extern "C" fn cadf_missing_by_sketch(
     alloc: Global,
@@ -242,15 +245,15 @@ pub extern "C" fn cadf_missing_by_sketch(
         (IsMadeOfTwoBy input_spec sketch_spec IsPartBySketch file from.now.bytes.now held.now.bytes.now)
         output.old output.new length.new }
     ensures refused { result ≡ pos 1 → IsRefused (IsFirstOfTwoBy input_spec sketch_spec IsPartBySketch from.now.bytes.now held.now.bytes.now) }
-    ensures only { IsEngineStatus result }
+    ensures told { IsTold None result output.old output.new length.new }
 {
     let made = missing_by_sketch(alloc, from.bytes, held.bytes, output);
-    answer(alloc, made, output, length)
+    answer(made, output, length)
 }
 
 /// Hands out the replica file of what all inputs contribute, under the given log or else the first that an
 /// input names. A log of no bytes is none.
-#[tactic(auto, using(crate::proofs::Statuses::refused))]
+#[tactic(auto, using(crate::proofs::Statuses::refused, crate::proofs::Statuses::answered, crate::proofs::Statuses::argument_refused))]
 #[unsafe(no_mangle)]
 pub extern "C" fn cadf_join(
     alloc: Global,
@@ -263,13 +266,39 @@ pub extern "C" fn cadf_join(
         (IsMadeOfAll (join_of (log_given log.now.bytes.now)) file (bytes_in inputs.now))
         output.old output.new length.new }
     ensures refused { result ≡ pos 1 → IsRefused (IsFirstOfAll (join_of (log_given log.now.bytes.now)) (bytes_in inputs.now)) }
-    ensures only { IsStatus result }
+    ensures told { IsTold (log_refused log.now.bytes.now) result output.old output.new length.new }
 {
     match log_if_any(alloc, log.bytes) {
         Ok(log) => {
             let made = join_inputs(alloc, log, inputs, output);
-            answer(alloc, made, output, length)
+            answer(made, output, length)
         }
-        Err(fault) => refuse(alloc, fault, output, length),
+        Err(fault) => refuse(fault, output, length),
+    }
+}
+
+/// Hands out the split file of what all inputs contribute, by the unit that has that word. The log is that of `cadf_join`.
+#[tactic(auto, using(crate::proofs::Statuses::refused, crate::proofs::Statuses::answered, crate::proofs::Statuses::argument_refused))]
+#[unsafe(no_mangle)]
+pub extern "C" fn cadf_split(
+    alloc: Global,
+    by: &CadfBytes<'_>,
+    inputs: &[CadfBytes<'_>],
+    log: &CadfBytes<'_>,
+    output: &mut [u8],
+    length: &mut usize,
+) -> i32
+    ensures written { result ≡ pos 0 → (unit : Unit) × (unit_named by.now.bytes.now ≡ Some unit) × IsHandedOut
+        (IsMadeOfAll (join_of (log_given log.now.bytes.now)) (split_text unit) (bytes_in inputs.now))
+        output.old output.new length.new }
+    ensures refused { result ≡ pos 1 → IsRefused (IsFirstOfAll (join_of (log_given log.now.bytes.now)) (bytes_in inputs.now)) }
+    ensures told { IsTold (split_refused by.now.bytes.now log.now.bytes.now) result output.old output.new length.new }
+{
+    match split_given(alloc, by.bytes, log.bytes) {
+        Ok((unit, log)) => {
+            let made = split_inputs(alloc, unit, log, inputs, output);
+            answer(made, output, length)
+        }
+        Err(fault) => refuse(fault, output, length),
     }
 }

@@ -6,3 +6,4 @@ pub mod OfMemory
 pub mod Walks
 pub mod Stored
 pub mod Framed
+pub mod Exchange

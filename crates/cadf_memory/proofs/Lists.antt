@@ -5,6 +5,7 @@ use Rattle.cadf_tool.specs.declared.input.Loaded.{Loaded}
 use Rattle.cadf_tool.specs.declared.fault.ToolFault.{ToolFault}
 use Rattle.cadf_tool.specs.declared.fault.ToolFault.TheVariants.{Memory}
 use Rattle.cadf_tool.specs.Inputs.{SourceState, source_state}
+use Rattle.cadf_memory.specs.Memory.{unread}
 use Rattle.cadf_memory.specs.Refused.{NoReadFailed, IsFirstOfAll}
 
 same_lists : {T : Type 0} (x y : T) (xs ys : List T) → x ≡ y → xs ≡ ys → x ∷ xs ≡ y ∷ ys
@@ -23,9 +24,6 @@ module _ {S : Type 0} (source : Source S) where
   none_has_failed never (s ∷ ss) = (never s, none_has_failed never ss)
 
 -- ---- there was no memory before a source was read
-
-abbrev unread : List ℕ → SourceState
-unread bytes = record { left = Some bytes; failures = 0; reads = 0 }
 
 unread_lefts : (inputs : List (List ℕ)) → map (λ (s : SourceState). s.left) (map unread inputs) ≡ map Some inputs
 unread_lefts [] = refl

@@ -9,13 +9,14 @@ ghost use Rattle.cadf_tool.specs.Shown.{shown_text, checked_text};
 ghost use Rattle.cadf_tool.specs.Missing.{part_of};
 ghost use Rattle.cadf_tool.specs.MissingBy.{inventory_model_of, part_by};
 ghost use Rattle.cadf_sketch.specs.SketchFile.{sketch_file};
-ghost use Rattle.cadf_tool.specs.Sketch.{sketch_model_of, IsPartBySketch};
+ghost use Rattle.cadf_tool.specs.Sketch.{AreAsked, sketch_model_of, IsPartBySketch};
 ghost use Rattle.cadf_tool.specs.SketchInput.{sketch_spec};
 ghost use Rattle.cadf_tool.specs.Rule.{ruled_of};
 ghost use Rattle.cadf_tool.specs.Rehearse.{script_spec, final_sites};
 ghost use Rattle.cadf_tool.specs.Sites.{sites_text};
 ghost use Rattle.cadf_tool.specs.Join.{join_of};
 ghost use Rattle.cadf_tool.specs.WrittenFile.{file};
+ghost use Rattle.cadf_split.specs.Split.{split_text};
 ghost use Rattle.cadf_memory.specs.Memory.{bytes_of, slice_left};
 ghost use Rattle.cadf_memory.specs.Handed.{IsHandedOut};
 ghost use Rattle.cadf_memory.specs.Made.{IsMadeOf, IsMadeOfTwo, IsMadeOfTwoBy, IsMadeOfAll};
@@ -27,8 +28,8 @@ use crate::slice_source::SliceSource;
 use cadf_event::Name;
 use cadf_sketch::{Cells, Salt};
 use cadf_tool::{
-    ToolFault, run_check, run_inventory, run_join, run_missing, run_missing_by,
-    run_missing_by_sketch, run_rehearse, run_rule, run_show, run_sketch,
+    ToolFault, Unit, run_check, run_inventory, run_join, run_missing, run_missing_by,
+    run_missing_by_sketch, run_rehearse, run_rule, run_show, run_sketch, run_split,
 };
 use std::alloc::{AllocError as Memory, Global};
 
@@ -166,6 +167,8 @@ pub fn sketch(
     ensures ok { IfOk result (IsHandedOut (IsMadeOf input_spec (sketch_model_of cells salt) sketch_file input.now) output.old output.new) }
     ensures err { IfErr result (λ fault. IsFirstOf input_spec (sketch_model_of cells salt) input.now fault) }
     ensures only { IfErr result (λ fault. is_of_memory fault ≡ true) }
+    // A number of cells and a salt that are given are such that a sketch can have.
+    ensures asked { AreAsked cells salt }
 {
     let mut source = SliceSource::new(input);
     let mut buffer = Buffer::new(output);
@@ -223,6 +226,29 @@ pub fn join(
     };
     let mut buffer = Buffer::new(output);
     match run_join(alloc, log, sources.as_mut_slice(), &mut buffer) {
+        Ok(()) => Ok(buffer.length()),
+        Err(fault) => Err(unwritten(fault)),
+    }
+}
+
+/// Writes the split file by that unit of what all inputs contribute, under the given log or else the first that an
+/// input names.
+pub fn split(
+    alloc: Global,
+    unit: Unit,
+    log: Option<Name>,
+    inputs: &[&[u8]],
+    output: &mut [u8],
+) -> Result<usize, ToolFault>
+    ensures ok { IfOk result (IsHandedOut (IsMadeOfAll (join_of log) (split_text unit) (bytes_of inputs.now)) output.old output.new) }
+    ensures err { IfErr result (λ fault. IsFirstOfAll (join_of log) (bytes_of inputs.now) fault) }
+    ensures only { IfErr result (λ fault. is_of_memory fault ≡ true) }
+{
+    let Ok(mut sources) = sources(alloc, inputs) else {
+        return Err(ToolFault::Memory);
+    };
+    let mut buffer = Buffer::new(output);
+    match run_split(alloc, unit, log, sources.as_mut_slice(), &mut buffer) {
         Ok(()) => Ok(buffer.length()),
         Err(fault) => Err(unwritten(fault)),
     }

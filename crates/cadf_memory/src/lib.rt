@@ -4,12 +4,14 @@
 mod buffer;
 mod engines;
 mod ghost_bytes;
+pub mod laws;
 mod output;
 mod slice_source;
 
 pub use crate::engines::{
     check, inventory, join, missing, missing_by, missing_by_sketch, rehearse, rule, show, sketch,
+    split,
 };
 pub use cadf_event::Name;
 pub use cadf_sketch::{Cells, Salt};
-pub use cadf_tool::{ToolFault, status};
+pub use cadf_tool::{ToolFault, Unit, status};

@@ -100,7 +100,7 @@ begins_with x y (a ∷ b ∷ s) h =
     two false q e = absurd (true≢false (sym e))
 
 module _ {A : Type 0} where
-  chosen : (b : Bool) (o : Option A) (a : A) → cond b o None ≡ Some a → (b ≡ true) × (o ≡ Some a)
+  pub chosen : (b : Bool) (o : Option A) (a : A) → cond b o None ≡ Some a → (b ≡ true) × (o ≡ Some a)
   chosen true o a e = (refl, e)
   chosen false o a e = absurd (cc)
 

@@ -152,11 +152,11 @@ at_digest log before l is =
     ∙ ap (λ b. first_of (at_line (length (body log before)) (cond b (cause_of_end (is_whole (lines_of before))) None))
     (fault_unless (bytes_eq l (digest_line (body log before))) Digest)) is
 
-ended_whole : (whole : Bool) (n : ℕ) (o : Option FileFault) → first_of (at_line n (cause_of_end whole)) o ≡ None → (whole ≡ true) × (o ≡ None)
+pub ended_whole : (whole : Bool) (n : ℕ) (o : Option FileFault) → first_of (at_line n (cause_of_end whole)) o ≡ None → (whole ≡ true) × (o ≡ None)
 ended_whole true n o e = (refl, e)
 ended_whole false n o e = absurd (cc)
 
-no_cause : (n : ℕ) (o : Option Cause) → at_line n o ≡ None → o ≡ None
+pub no_cause : (n : ℕ) (o : Option Cause) → at_line n o ≡ None → o ≡ None
 no_cause n None e = refl
 no_cause n (Some c) e = absurd (cc)
 
@@ -179,7 +179,7 @@ kind = record {
 
 -- ---- such lines are those of a sketch
 
-shape_none : (b : Bool) → shape_unless b ≡ None → b ≡ true
+pub shape_none : (b : Bool) → shape_unless b ≡ None → b ≡ true
 shape_none true e = refl
 shape_none false e = absurd (cc)
 
@@ -188,7 +188,7 @@ both_true true true e = (refl, refl)
 both_true true false e = absurd (true≢false (sym e))
 both_true false b e = absurd (true≢false (sym e))
 
-there : {A : Type 0} (o : Option A) → is_some o ≡ true → (a : A) × (o ≡ Some a)
+pub there : {A : Type 0} (o : Option A) → is_some o ≡ true → (a : A) × (o ≡ Some a)
 there None e = absurd (true≢false (sym e))
 there (Some a) e = (a, refl)
 
@@ -329,7 +329,7 @@ digits_unbroken (x ∷ xs) p =
     both : (p q : Bool) → p ≡ false → q ≡ true → (not p && q) ≡ true
     both p q e f = (λ i. not (e i) && q) ∙ f
 
-decimal_unbroken : (n : ℕ) → n < 2 ^ 64 → is_unbroken (decimal n) ≡ true
+pub decimal_unbroken : (n : ℕ) → n < 2 ^ 64 → is_unbroken (decimal n) ≡ true
 decimal_unbroken n small = digits_unbroken (decimal n) (digits_decimal own n small)
 
 after_unbroken : (ns : List ℕ) → AreWords64 ns → is_unbroken (flat_map (λ m. 32 ∷ decimal m) ns) ≡ true

@@ -27,6 +27,7 @@ pub use laws::{
     sketch_is_read_back,
 };
 pub use layout::{Cells, Layout, Salt};
+pub use numbers::number_in;
 pub use reading::{ReadFault, read};
 pub use sketch::Sketch;
 pub use sketch_read::read_sketch;

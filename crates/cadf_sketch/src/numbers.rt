@@ -29,7 +29,7 @@ pub(crate) fn cut_at_blank(text: &[u8]) -> Option<Cut<'_>>
 }
 
 /// Returns the number of 64 bits whose decimal digits are the word. `None` if there is none.
-pub(crate) fn number_in(word: &[u8]) -> Option<u64>
+pub fn number_in(word: &[u8]) -> Option<u64>
     ensures { result ≡ number_in word.now }
 {
     let Ok(text) = str::from_utf8(word) else {

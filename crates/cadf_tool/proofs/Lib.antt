@@ -32,5 +32,6 @@ pub mod ExchangeWithin
 pub mod ExchangeLemmas
 pub mod ExchangeLaws
 pub mod MadeByRuns
+pub mod Accepted
 pub mod TwoTexts
 pub mod RulingAdded

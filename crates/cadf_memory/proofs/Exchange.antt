@@ -1,0 +1,91 @@
+-- What engines make of derived files in memory.
+use Rattle.std.proofs.Common.{ℕ, List, [], ◌∷◌, map, append-nil, Option, Some, refl, sym, ap, ◌∙◌}
+use Rattle.cadf_join.specs.Contents.{Text}
+use Rattle.cadf_set.specs.Inventory.{InventoryModel}
+use Rattle.cadf_set.specs.Replica.{ReplicaModel}
+use Rattle.cadf_inventory.specs.InventoryFile.{inventory_file}
+use Rattle.cadf_sketch.specs.SketchFile.{sketch_file}
+use Rattle.cadf_tool.specs.WrittenFile.{file}
+use Rattle.cadf_tool.specs.declared.input.Loaded.{Loaded}
+use Rattle.cadf_tool.specs.Told.{log_named, atoms_loaded, replica_model_of}
+use Rattle.cadf_tool.specs.Inputs.{SourceState}
+use Rattle.cadf_tool.specs.Run.{input_spec, AreLoaded}
+use Rattle.cadf_tool.specs.InventoryInput.{inventory_spec}
+use Rattle.cadf_tool.specs.SketchInput.{sketch_spec}
+use Rattle.cadf_tool.specs.Sketch.{AreAsked, sketch_model_of, IsPartBySketch}
+use Rattle.cadf_tool.specs.Join.{join_of}
+use Rattle.cadf_tool.specs.Missing.{part_of}
+use Rattle.cadf_tool.specs.MissingBy.{inventory_model_of, part_by}
+use Rattle.cadf_tool.specs.Rule.{ruling_on, ruling_for, ruled_of}
+use Rattle.cadf_tool.specs.TwoTexts.{IsTextOfFile}
+use Rattle.cadf_tool.specs.Exchange.{Derivation, Joined, Ruled, Operands}
+use Rattle.cadf_tool.specs.Exchange.{IsDerived, IsPartOf, IsInventoryOf, IsPartByOf, IsSketchOf, IsPartBySketchOf, AreSources}
+use Rattle.cadf_tool.proofs.RulingAdded.{ruled_is}
+use Rattle.cadf_tool.proofs.SketchParts.{sketched_is, held_named, answer_read}
+use Rattle.cadf_tool.proofs.ExchangeLaws.{are_read}
+use Rattle.cadf_memory.specs.Memory.{unread}
+use Rattle.cadf_memory.specs.Made.{IsMadeOf, IsMadeOfTwo, IsMadeOfTwoBy, IsMadeOfAll, AreInputs}
+
+-- ---- inputs in a list
+
+-- a source of which all was read
+abbrev ended : List ℕ → SourceState
+ended bytes = record { left = Some []; failures = 0; reads = 0 }
+
+are_loaded : (inputs : List (List ℕ)) (ls : List Loaded) → AreInputs inputs ls → AreLoaded (map unread inputs) (map ended inputs) ls
+are_loaded [] [] h = tt
+are_loaded [] (l ∷ ls) h = absurd h
+are_loaded (b ∷ bs) [] h = absurd h
+are_loaded (b ∷ bs) (l ∷ ls) h = (((b, (sym (append-nil b), refl, h.0)), refl), are_loaded bs ls h.1)
+
+-- ---- the engines
+
+pub join_makes : (log : Option Text) (operands : Operands) (inputs : List (List ℕ)) (text : Text) → AreSources operands (map unread inputs)
+    → IsMadeOfAll (join_of log) file inputs text → IsDerived (Joined log operands) text
+join_makes log operands inputs text given m = (
+  m.loaded,
+  are_read operands (map unread inputs) (map ended inputs) m.loaded given (are_loaded inputs m.loaded m.are),
+  (m.made, m.worked, m.told),
+)
+
+pub missing_makes : (from to : Derivation) (a b : List ℕ) (text : Text) → IsDerived from a → IsDerived to b
+    → IsMadeOfTwo input_spec input_spec part_of file a b text → IsPartOf (λ x. IsDerived from x) (λ x. IsDerived to x) text
+missing_makes from to a b text d e m = (m.first, m.second, (a, d, m.input), (b, e, m.following), (m.made, m.worked, m.told))
+
+pub inventory_makes : (to : Derivation) (b : List ℕ) (text : Text) → IsDerived to b
+    → IsMadeOf input_spec inventory_model_of inventory_file b text → IsInventoryOf (λ x. IsDerived to x) text
+inventory_makes to b text e m = (m.value, m.made, (b, e, m.input), m.worked, m.told)
+
+pub missing_by_makes : (from to : Derivation) (a b : List ℕ) (text : Text) → IsDerived from a → IsInventoryOf (λ x. IsDerived to x) b
+    → IsMadeOfTwo input_spec inventory_spec part_by file a b text → IsPartByOf (λ x. IsDerived from x) (λ x. IsDerived to x) text
+missing_by_makes from to a b text d e m = (m.first, m.second, (a, d, m.input), (b, e, m.following), (m.made, m.worked, m.told))
+
+pub sketch_makes : (cells salt : Option ℕ) (to : Derivation) (b : List ℕ) (text : Text) → AreAsked cells salt → IsDerived to b
+    → IsMadeOf input_spec (sketch_model_of cells salt) sketch_file b text → (noted : InventoryModel) × IsSketchOf (λ x. IsDerived to x) noted text
+sketch_makes cells salt to b text asked e m =
+    let of_noted = sketched_is cells salt m.value m.made m.worked in
+    (of_noted.0, (m.value, cells, salt, asked, (b, e, m.input), of_noted.1, m.told ∙ ap sketch_file of_noted.2))
+
+pub missing_by_sketch_makes : (from to : Derivation) (sketched : InventoryModel) (a b : List ℕ) (text : Text) → IsDerived from a
+    → IsSketchOf (λ x. IsDerived to x) sketched b → IsMadeOfTwoBy input_spec sketch_spec IsPartBySketch file a b text
+    → (read : InventoryModel) × IsPartBySketchOf (λ x. IsDerived from x) (λ x. IsDerived to x) sketched read text
+missing_by_sketch_makes from to sketched a b text d e m =
+    let of_read = answer_read m.first m.second m.made m.worked in
+    (of_read.0, (m.first, m.second, m.made, (a, d, m.input), (b, e, m.following), of_read.1, m.told))
+
+pub rule_makes : (letter key : Text) (place : ℕ) (m : Derivation) (b : List ℕ) (text : Text) → IsDerived m b
+    → IsMadeOf input_spec (ruled_of letter key place) file b text → (value : Text) × IsDerived (Ruled place (ruling_on letter key value) m) text
+rule_makes letter key place of b text d m =
+    let ruled = ruled_is letter key place (log_named m.value) (atoms_loaded m.value) m.made m.worked in
+    (ruled.value, (m.value, (b, d, m.input), ap (ruling_for letter key) ruled.at_place, (m.made, m.worked, m.told)))
+
+pub text_makes : (tell : ReplicaModel → Text) (m : Derivation) (b : List ℕ) (text : Text) → IsDerived m b
+    → IsMadeOf input_spec replica_model_of tell b text → IsTextOfFile tell m text
+text_makes tell of b text d m =
+    let named = held_named (log_named m.value) (atoms_loaded m.value) m.made m.worked in record {
+      bytes = b;
+      made = d;
+      held = m.made;
+      read = record { loaded = m.value; input = m.input; named = named.0; atoms = named.1 };
+      written = m.told;
+    }

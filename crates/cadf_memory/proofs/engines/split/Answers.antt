@@ -1,0 +1,31 @@
+use Rattle.std.proofs.Common.{Some, ap, refl, rules, map, ◌∙◌}
+use Rattle.cadf_tool.specs.Join.{join_of}
+use Rattle.cadf_split.specs.Split.{split_text}
+use Rattle.cadf_memory.specs.Memory.{slice_left}
+use Rattle.cadf_memory.proofs.Lists.{lefts, none_has_failed, refused_unread}
+use Rattle.cadf_memory.proofs.Made.{run_made_all}
+use Rattle.cadf_memory.proofs.OfMemory.{first_of_memory_all}
+use Rattle.cadf_memory.proofs.Refused.{run_refused_all}
+use Rattle.cadf_memory.proofs.engines.split.Goals as goal
+
+pub returns-in_default-clause-err : goal.returns-in_default-clause-err
+returns-in_default-clause-err c = refused_unread (join_of _) _
+
+pub returns-in-Ok-run_split-clause-ok : goal.returns-in-Ok-run_split-clause-ok
+returns-in-Ok-run_split-clause-ok c =
+    run_made_all (split_text _) _ _ _ _ c.new-buffer.result c.run_split.new.output refl refl _ _ _ c.new-buffer.ensures.before c.new-buffer.ensures.text
+    c.length.ensures (λ same. search rules) _ (join_of _)
+    c.as_mut_slice.result.now c.run_split.new.inputs _
+    (lefts _ slice_left (λ s. refl) c.as_mut_slice.result.now
+    ∙ ap (map Some) (ap (map slice_left) c.as_mut_slice.ensures.value ∙ c.in-Ok.ensures)) c.in-Ok-run_split.ensures
+
+pub returns-clause-err : goal.returns-clause-err
+returns-clause-err c =
+    run_refused_all (split_text _) _ _ _ c.in-Err.fault c.unwritten.result c.unwritten.ensures _ (join_of _)
+    c.as_mut_slice.result.now c.run_split.new.inputs _
+    (lefts _ slice_left (λ s. refl) c.as_mut_slice.result.now
+    ∙ ap (map Some) (ap (map slice_left) c.as_mut_slice.ensures.value ∙ c.in-Ok.ensures))
+    (none_has_failed _ (λ s. refl) c.as_mut_slice.result.now) (none_has_failed _ (λ s. refl) c.run_split.new.inputs) c.in-Err.ensures
+
+pub returns-clause-only : goal.returns-clause-only
+returns-clause-only c = first_of_memory_all (join_of _) _ _ (returns-clause-err c)

@@ -1,0 +1,31 @@
+use Rattle.cadf_tool.specs.Shown.{shown_text, checked_text}
+use Rattle.cadf_memory.proofs.Exchange.{join_makes, missing_makes, inventory_makes, missing_by_makes}
+use Rattle.cadf_memory.proofs.Exchange.{sketch_makes, missing_by_sketch_makes, rule_makes, text_makes}
+use Rattle.cadf_memory.proofs.laws.engines_make_files.Goals as goal
+
+pub returns-clause-join : goal.returns-clause-join
+returns-clause-join c = join_makes
+
+pub returns-clause-missing : goal.returns-clause-missing
+returns-clause-missing c = missing_makes
+
+pub returns-clause-inventory : goal.returns-clause-inventory
+returns-clause-inventory c = inventory_makes
+
+pub returns-clause-missing_by : goal.returns-clause-missing_by
+returns-clause-missing_by c = missing_by_makes
+
+pub returns-clause-sketch : goal.returns-clause-sketch
+returns-clause-sketch c = sketch_makes
+
+pub returns-clause-missing_by_sketch : goal.returns-clause-missing_by_sketch
+returns-clause-missing_by_sketch c = missing_by_sketch_makes
+
+pub returns-clause-rule : goal.returns-clause-rule
+returns-clause-rule c = rule_makes
+
+pub returns-clause-show : goal.returns-clause-show
+returns-clause-show c = λ conflicts. text_makes (shown_text conflicts)
+
+pub returns-clause-check : goal.returns-clause-check
+returns-clause-check c = text_makes checked_text

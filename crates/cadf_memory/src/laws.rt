@@ -1,0 +1,50 @@
+//! Laws of what the engines make of bytes in memory, over the clauses that they ensure. Each law is the contract of a
+//! function with an empty body. What follows for the files is in `cadf_tool::exchange`.
+ghost use Rattle.std.specs.Prelude.{ℕ, Bool, List, map, Option};
+ghost use Rattle.cadf_join.specs.Contents.{Text};
+ghost use Rattle.cadf_set.specs.Inventory.{InventoryModel};
+ghost use Rattle.cadf_inventory.specs.InventoryFile.{inventory_file};
+ghost use Rattle.cadf_sketch.specs.SketchFile.{sketch_file};
+ghost use Rattle.cadf_tool.specs.WrittenFile.{file};
+ghost use Rattle.cadf_tool.specs.Told.{replica_model_of};
+ghost use Rattle.cadf_tool.specs.Shown.{shown_text, checked_text};
+ghost use Rattle.cadf_tool.specs.Run.{input_spec};
+ghost use Rattle.cadf_tool.specs.InventoryInput.{inventory_spec};
+ghost use Rattle.cadf_tool.specs.SketchInput.{sketch_spec};
+ghost use Rattle.cadf_tool.specs.Join.{join_of};
+ghost use Rattle.cadf_tool.specs.Missing.{part_of};
+ghost use Rattle.cadf_tool.specs.MissingBy.{inventory_model_of, part_by};
+ghost use Rattle.cadf_tool.specs.Sketch.{AreAsked, sketch_model_of, IsPartBySketch};
+ghost use Rattle.cadf_tool.specs.Rule.{ruling_on, ruled_of};
+ghost use Rattle.cadf_tool.specs.Exchange.{Derivation, Joined, Ruled, Operands};
+ghost use Rattle.cadf_tool.specs.Exchange.{IsDerived, IsPartOf, IsInventoryOf, IsPartByOf, IsSketchOf, IsPartBySketchOf, AreSources};
+ghost use Rattle.cadf_tool.specs.TwoTexts.{IsShown, IsTextOfFile};
+ghost use Rattle.cadf_memory.specs.Memory.{unread};
+ghost use Rattle.cadf_memory.specs.Made.{IsMadeOf, IsMadeOfTwo, IsMadeOfTwoBy, IsMadeOfAll};
+
+/// States what the engines make of derived files: what `cadf_tool::exchange::runs_make_files` states of runs.
+pub fn engines_make_files()
+    ensures join { (log : Option Text) (operands : Operands) (inputs : List (List ℕ)) (text : Text)
+        → AreSources operands (map unread inputs) → IsMadeOfAll (join_of log) file inputs text
+        → IsDerived (Joined log operands) text }
+    ensures missing { (from to : Derivation) (a b : List ℕ) (text : Text) → IsDerived from a → IsDerived to b
+        → IsMadeOfTwo input_spec input_spec part_of file a b text → IsPartOf (IsDerived from) (IsDerived to) text }
+    ensures inventory { (to : Derivation) (b : List ℕ) (text : Text) → IsDerived to b
+        → IsMadeOf input_spec inventory_model_of inventory_file b text → IsInventoryOf (IsDerived to) text }
+    ensures missing_by { (from to : Derivation) (a b : List ℕ) (text : Text) → IsDerived from a → IsInventoryOf (IsDerived to) b
+        → IsMadeOfTwo input_spec inventory_spec part_by file a b text → IsPartByOf (IsDerived from) (IsDerived to) text }
+    ensures sketch { (cells salt : Option ℕ) (to : Derivation) (b : List ℕ) (text : Text) → AreAsked cells salt → IsDerived to b
+        → IsMadeOf input_spec (sketch_model_of cells salt) sketch_file b text
+        → (noted : InventoryModel) × IsSketchOf (IsDerived to) noted text }
+    ensures missing_by_sketch { (from to : Derivation) (sketched : InventoryModel) (a b : List ℕ) (text : Text)
+        → IsDerived from a → IsSketchOf (IsDerived to) sketched b
+        → IsMadeOfTwoBy input_spec sketch_spec IsPartBySketch file a b text
+        → (read : InventoryModel) × IsPartBySketchOf (IsDerived from) (IsDerived to) sketched read text }
+    ensures rule { (letter key : Text) (place : ℕ) (m : Derivation) (b : List ℕ) (text : Text) → IsDerived m b
+        → IsMadeOf input_spec (ruled_of letter key place) file b text
+        → (value : Text) × IsDerived (Ruled place (ruling_on letter key value) m) text }
+    ensures show { (conflicts : Bool) (m : Derivation) (b : List ℕ) (text : Text) → IsDerived m b
+        → IsMadeOf input_spec replica_model_of (shown_text conflicts) b text → IsShown conflicts m text }
+    ensures check { (m : Derivation) (b : List ℕ) (line : Text) → IsDerived m b
+        → IsMadeOf input_spec replica_model_of checked_text b line → IsTextOfFile checked_text m line }
+{}
