@@ -1,4 +1,4 @@
-"""The bill of materials of the built command, as SPDX 2.3: what is linked into it, under which licences, and what it runs with."""
+"""The bill of materials of the command, or of the static one, as SPDX 2.3: what is linked into it, under which licences, and what it runs with."""
 import hashlib
 import json
 import time
@@ -35,8 +35,17 @@ FOLLOWED = {
     "thiserror": Follows("thiserror", "2.0.21", EITHER),
 }
 WITH = {"clap": ["clap_lex", "strsim"]}  # what a library of the kit brings with it
-START_UP = {"GCC start-up code": "GPL-3.0-or-later WITH GCC-exception-3.1", "GNU C Library start-up code": "LGPL-2.1-or-later"}
-RUNS_WITH = {"GNU C Library": "LGPL-2.1-or-later", "Python": "PSF-2.0"}
+OF_GCC, OF_C_LIBRARY = "GPL-3.0-or-later WITH GCC-exception-3.1", "LGPL-2.1-or-later"
+
+
+class Linking(NamedTuple):
+    """What the system's linker adds, and what the program runs with, each with its licence."""
+    adds: dict
+    needs: dict
+
+
+SHARED = Linking({"GCC start-up code": OF_GCC, "GNU C Library start-up code": OF_C_LIBRARY}, {"GNU C Library": OF_C_LIBRARY, "Python": "PSF-2.0"})
+STATIC = Linking({"GCC start-up code and support library": OF_GCC, "GNU C Library": OF_C_LIBRARY}, {})
 
 
 def libraries(top):
@@ -60,24 +69,28 @@ def package(name, licence, version=UNKNOWN, **more):
             "copyrightText": UNKNOWN, **more}
 
 
-def linked(top, kit):
+def linked(top, kit, linking):
     """The parts that are linked into the command."""
     for name in libraries(top):
         of = FOLLOWED.get(name)
         comment = of and {"comment": "follows the Rust crate %s %s" % (of.crate, of.version), "copyrightText": of.holder or UNKNOWN}
         yield package("rattle/" + name, of.licence if of else UNKNOWN, kit, **(comment or {}))
     yield package("rattle/std", UNKNOWN, kit, comment="with core, io, os and libc of the toolchain")
-    yield from (package(name, licence) for name, licence in START_UP.items())
+    yield from (package(name, licence) for name, licence in linking.adds.items())
 
 
-def text(top):
-    """The document, which depends on the binary, its record, the sources and the commit's time alone."""
-    built, binary = record.read(top), record.digest_of_file(record.binary(top))
+def text(top, static=None):
+    """The document of the built command, or of the static one that has these bytes.
+
+    It depends on the binary, its record, the sources and the commit's time alone.
+    """
+    built, linking = record.read(top), SHARED if static is None else STATIC
+    binary = record.digest_of_file(record.binary(top)) if static is None else hashlib.sha256(static).hexdigest()
     said = record.answer([record.binary(top), "--version"], top).split()
     own = package("cadf", UNKNOWN, said[-1] if said else UNKNOWN, checksums=[{"algorithm": "SHA256", "checksumValue": binary}],
                   comment="commit %s, sources %s" % (record.commit(top), built.get("sources", "unknown")))
-    parts = list(linked(top, built.get("kit") or UNKNOWN))
-    around = [package(name, licence) for name, licence in RUNS_WITH.items()]
+    parts = list(linked(top, built.get("kit") or UNKNOWN, linking))
+    around = [package(name, licence) for name, licence in linking.needs.items()]
     relations = [("SPDXRef-DOCUMENT", "DESCRIBES", own), *((own["SPDXID"], "STATIC_LINK", part) for part in parts),
                  *((own["SPDXID"], "DEPENDS_ON", part) for part in around)]
     made = time.gmtime(int(record.answer(["git", "log", "-1", "--format=%ct"], top) or 0))

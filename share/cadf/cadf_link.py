@@ -55,13 +55,14 @@ class Item(NamedTuple):
     def content(self):
         return b"".join(self.blocks())
 
-    def input(self, name):
-        """The bytes as an input of their own, which goes with the call."""
-        copy = tempfile.TemporaryFile()
-        for block in self.blocks():
-            copy.write(block)
-        copy.flush()
-        return Input(name, copy)
+    @contextlib.contextmanager
+    def opened(self, name):
+        """The bytes as an input of their own."""
+        with tempfile.TemporaryFile() as copy:
+            for block in self.blocks():
+                copy.write(block)
+            copy.flush()
+            yield Input(name, copy)
 
 
 class Store:
@@ -88,6 +89,19 @@ class Store:
             content = content[os.write(file, content):]
         return self.item(part, kind)
 
+    def copied(self, part, kind, source):
+        """Writes an item of a file's bytes."""
+        file = self.begin()
+        for block in Item(part, kind, source, 0, os.fstat(source.fileno()).st_size).blocks():
+            while block:
+                block = block[os.write(file, block):]
+        return self.item(part, kind)
+
+
+def most_of_item(limit):
+    """The bytes that an item may have in a message of so many."""
+    return limit - LONGEST_ENTRY - len("\n")
+
 
 def batches(items, limit):
     """Yields the items in lists that are messages of at most so many bytes, and of about as many as one should have."""
@@ -95,7 +109,8 @@ def batches(items, limit):
     for each in items:
         own = len(each.line()) + each.length
         if own + 1 > limit:
-            raise Fault("%s: %d bytes, and a message has at most %d: raise --limit at both ends" % (each.part, own, limit), REFUSED)
+            raise Fault("%s: its %s is too large for a message of %d bytes: raise --limit at both ends, or have smaller windows"
+                        % (each.part, each.kind, limit), REFUSED)
         if batch and (size + own > min(limit, ENOUGH) or len(batch) == MOST_ITEMS):
             yield batch
             batch, size = [], 1
@@ -138,6 +153,10 @@ class Limits(NamedTuple):
     limit: int = LARGEST
     timeout: float = 60
     most: int = 2 ** 63
+
+
+class Told(Fault):
+    """A fault that the other end tells, which then ends by itself."""
 
 
 class Wrong(Fault):
@@ -364,4 +383,5 @@ def fault_of(peer, content):
     """The fault that the other end tells: a digit, the status, and a text."""
     text = content.decode("utf-8", "backslashreplace")
     status = int(text[0]) if text[:1] in ("1", "3", "4") else FAILED
-    return Fault("%s: %s" % (peer, printable(text[2:LONGEST_TEXT])), status)
+    said = printable(text[2:LONGEST_TEXT])
+    return Told(said if said.startswith(peer + ": ") else "%s: %s" % (peer, said), status)

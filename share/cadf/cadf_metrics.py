@@ -12,7 +12,8 @@ import tempfile
 import time
 
 import cadf_site
-from cadf_toolkit import DIFFERS, DONE, FAILED, MEMORY, REFUSED, Fault, cadf, name_shown, naming, started, tool
+from cadf_logs import Text
+from cadf_toolkit import DIFFERS, DONE, FAILED, MEMORY, REFUSED, Fault, cadf, name_shown, naming, opened, started, tool
 
 HELP = {
     "facts_taken": "Facts that the last run took into the site; of cadf-spool, those that it held before among them.",
@@ -70,19 +71,32 @@ def largest_window(name):
 
 def open_conflicts(name, parts=None):
     """How many conflicts are open in a site; in a folder, if parts are given, of these windows and of what is of no time."""
-    if parts is None or not cadf_site.is_folder(name):
+    if not cadf_site.is_folder(name):
+        with opened([name]) as inputs:
+            return shown_conflicts(inputs)
+    if parts is None:
         return listed_conflicts(name)
-    with cadf_site.opened_site(name, lambda part: part in parts or part == cadf_site.SHARED) as (_, inputs), tempfile.TemporaryFile() as file:
-        if not parts or not inputs:
-            return 0
-        cadf(["join"], list(inputs.values()), file.fileno())
-        return listed_conflicts("/dev/fd/%d" % file.fileno(), [file.fileno()])
+    with cadf_site.opened_site(name, lambda part: part in parts or part == cadf_site.SHARED) as (_, inputs):
+        return shown_conflicts(list(inputs.values())) if parts and inputs else 0
 
 
-def listed_conflicts(name, keep=()):
-    """How many open keys the tool beside this one lists."""
+def shown_conflicts(inputs):
+    """How many open keys cadf shows of the union of some inputs."""
+    with tempfile.TemporaryFile() as file:
+        cadf(["show", "--conflicts"], inputs, file.fileno())
+        file.seek(0)
+        text, count = Text(file), 0
+        for member in text.names():
+            for _ in text.items() if member == "conflicts" else [None]:
+                value, _ = text.take()
+                count += member == "conflicts" and "ruled" not in value
+    return count
+
+
+def listed_conflicts(name):
+    """How many open keys the tool beside this one lists, which holds one window of a folder at a time."""
     beside = os.path.join(os.path.dirname(os.path.realpath(sys.argv[0])), "cadf-conflicts")
-    with started([sys.executable, beside, "--", name], stdin=subprocess.DEVNULL, stdout=subprocess.DEVNULL, stderr=subprocess.PIPE, pass_fds=keep) as child:
+    with started([sys.executable, beside, "--", name], stdin=subprocess.DEVNULL, stdout=subprocess.DEVNULL, stderr=subprocess.PIPE) as child:
         said = child.communicate()[1].decode("utf-8", "backslashreplace").strip()
     counted = COUNTED.search(said)
     if child.returncode not in (DONE, DIFFERS) or not counted:

@@ -6,6 +6,7 @@ the moment of a take. A reader needs no lock. A tool imports this as it imports 
   is_folder(name)            whether the name is of a folder
   Folder(name).index()       what its file `site` says: an Index, or None if there is none
   opened_site(name, wanted)  its files as inputs, of the parts that are wanted, as it stood at one moment
+  opened_parts(folder, ..)   the same of a Folder
   opened_whole(names)        the inputs that hold all of these sites, of which each is a file or a folder
   take(..), settle(..)       take inputs into a folder, and join the files of each window
 """
@@ -137,7 +138,7 @@ class Folder:
     """A folder that is open: whatever is renamed around it, names are looked up in it."""
 
     def __init__(self, name):
-        self.name = name.rstrip("/") or "/"
+        self.name, self.read = name.rstrip("/") or "/", (None, None)
         try:
             self.descriptor = os.open(name, os.O_RDONLY | os.O_DIRECTORY)
         except OSError as fault:
@@ -187,12 +188,14 @@ class Folder:
         """What `site` says, or None if it isn't there."""
         try:
             with self.input(INDEX).file as file:
-                index = Index.read(file.read(LONGEST_INDEX))
+                data = file.read(LONGEST_INDEX)
         except FileNotFoundError:
             return None
-        if index is None:
+        if data != self.read[0]:
+            self.read = data, Index.read(data)
+        if self.read[1] is None:
             raise Fault("%s: not the file of a site: %s" % (self.shown(INDEX), DAMAGED), REFUSED)
-        return index
+        return self.read[1]
 
     def is_site(self):
         """Whether a `site` is there."""
@@ -230,7 +233,14 @@ def opened_site(name, wanted=lambda part: True):
 
     Yields what it says, and the inputs by their entries. Takes that come meanwhile change nothing of it.
     """
-    with Folder(name) as folder, contextlib.ExitStack() as files:
+    with Folder(name) as folder, opened_parts(folder, wanted) as found:
+        yield found
+
+
+@contextlib.contextmanager
+def opened_parts(folder, wanted):
+    """Opens the same files of a folder that is open."""
+    with contextlib.ExitStack() as files:
         for _ in range(TRIES):
             index, inputs, missing = folder.site(), {}, None
             entries = [entry for entry in index.entries() if wanted(entry[0])]
@@ -248,7 +258,7 @@ def opened_site(name, wanted=lambda part: True):
                 yield index, inputs
                 return
             files.close()
-    raise Fault("%s: it changed at each of %d looks: try again" % (name_shown(name), TRIES))
+    raise Fault("%s: it changed at each of %d looks: try again" % (folder.shown(), TRIES))
 
 
 @contextlib.contextmanager
@@ -497,7 +507,11 @@ class Taking:
         os.rename(WORKING, name, src_dir_fd=self.folder.descriptor, dst_dir_fd=self.folder.descriptor)
 
     def size(self, name):
-        return os.stat(name, dir_fd=self.folder.descriptor, follow_symlinks=False).st_size
+        """The bytes of a file of the folder. Fault: it isn't there."""
+        try:
+            return os.stat(name, dir_fd=self.folder.descriptor, follow_symlinks=False).st_size
+        except FileNotFoundError:
+            raise Fault("%s: not there: %s" % (self.folder.shown(name), DAMAGED)) from None
 
     def sizes(self, part):
         """The sizes of a part's files, by digest."""

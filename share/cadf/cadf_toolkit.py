@@ -42,12 +42,14 @@ OTHER_KINDS = {
     b"<!doctype html>": "a page of cadf-report: take the site's file",
 }
 OF_FACTS = {b"CADF-REPLICA ": "a replica file: `cadf-take SITE FILE` takes it as it is"}
+OF_LINES = "lines of JSON: `cadf-from-openstack --log ID FILE` makes a document of them"
+LONGEST_FIRST = 2 ** 16  # bytes in which a first line is looked for
 OF_NO_KIND = re.compile("version|not JSON|event 0: ")  # what cadf says of them
 DAMAGED = "the file is damaged: fetch it again, or restore it as the guide says under `A damaged site`"
 # What to do about a refusal, by how its text begins.
 ADVICE = {
     "too large": "no file above 2^30 bytes is read; give smaller ones to a site's folder: cadf-take --by day SITE/ FILE..",
-    "no log named": "an event by itself names none: give --log ID, or a file that does",
+    "no log named": "an event by itself names none: give a file that does, or --log ID if the tool takes it",
     "log name": "an identifier has 1 to 1,024 bytes of UTF-8, and no control character",
     "other log": "one site has one log; `cadf check FILE` says which log a file is of",
     "digest": DAMAGED,
@@ -226,12 +228,23 @@ class Input:
 
     def kind(self):
         """What else the file is than one of facts, or None."""
-        return kind_of(self.first(max(map(len, OTHER_KINDS))))
+        first = self.first(LONGEST_FIRST)
+        return kind_of(first) or (OF_LINES if are_lines(first) else None)
 
 
 def kind_of(first, others=()):
     """What else than facts begins with these bytes, or than what is read in place of facts, or None."""
     return next((words for begin, words in {**OTHER_KINDS, **dict(others)}.items() if first.startswith(begin)), None)
+
+
+def are_lines(first):
+    """Whether these bytes begin with a value of JSON in a line of its own, and go on."""
+    line, _, rest = first.partition(b"\n")
+    try:
+        json.loads(line)
+    except (ValueError, RecursionError):
+        return False
+    return bool(rest.strip())
 
 
 def copy_of(pipe):
@@ -309,7 +322,12 @@ def started(words, **options):
 
     OSError: it can't be started.
     """
-    child = subprocess.Popen(words, **options)
+    try:
+        child = subprocess.Popen(words, **options)
+    except OSError as fault:
+        if words[0] == CADF:
+            fault.strerror += ": name the command by CADF, or put it on PATH"
+        raise
     with child, Progress(" ".join(map(os.path.basename, words[:2]))):
         try:
             yield child
@@ -318,10 +336,15 @@ def started(words, **options):
             raise
 
 
-def started_cadf(words, inputs, output, keep=()):
-    """Starts `cadf` with these words over open inputs. `keep` has further descriptors that it inherits, as that of a lock."""
+def started_cadf(words, inputs, output, keep=(), union=1):
+    """Starts `cadf` with these words over open inputs, of which the first so many are FROM together.
+
+    `keep` has further descriptors that it inherits, as that of a lock.
+    """
+    paths = [each.path() for each in inputs]
+    more = [word for path in paths[1:union] for word in ("--from", path)]
     # With the signals that Python ignores, a limit on a file's size is a failed write of the command, not its end.
-    return started([CADF, *words, "--", *(each.path() for each in inputs)], stdin=subprocess.DEVNULL, stdout=output,
+    return started([CADF, *words, *more, "--", *paths[:1], *paths[union:]], stdin=subprocess.DEVNULL, stdout=output,
                    stderr=subprocess.PIPE, restore_signals=False, pass_fds=[*keep, *(each.file.fileno() for each in inputs)])
 
 
@@ -334,13 +357,13 @@ def check_end(child, said, inputs):
         raise refusal(said.decode("utf-8", "backslashreplace"), status, inputs)
 
 
-def cadf(words, inputs, output=subprocess.DEVNULL, keep=(), where=None):
-    """Runs `cadf` with these words over open inputs. Returns what it wrote, if `output` is a pipe.
+def cadf(words, inputs, output=subprocess.DEVNULL, keep=(), where=None, union=1):
+    """Runs `cadf` with these words over open inputs, as `started_cadf`. Returns what it wrote, if `output` is a pipe.
 
     `where` names the file that is written, by a descriptor, so that a failed write is told with the system's words. Refusal:
     what `cadf` refuses. Fault: it ended otherwise, or could not write. OSError: it can't be started.
     """
-    with started_cadf(words, inputs, output, keep) as child:
+    with started_cadf(words, inputs, output, keep, union) as child:
         written, said = child.communicate()
         if where is not None and said.strip() == b"cadf: write fault":
             raise Fault("%s: write fault%s" % (name_shown(where), write_fault(output)))

@@ -10,11 +10,12 @@ import json
 import os
 import re
 import secrets
+import subprocess
 import tempfile
 
 import cadf_site
 from cadf_link import Store
-from cadf_toolkit import Fault, Input, Refusal, cadf, name_shown, naming, opened_file
+from cadf_toolkit import REFUSED, Fault, Input, Refusal, cadf, check_end, naming, opened_file, started_cadf
 
 ALL, SHARED = "all", cadf_site.SHARED
 UNITS = {length: unit for unit, length in cadf_site.UNITS.items()}
@@ -24,7 +25,8 @@ UNION = re.compile(rb"U ([0-9a-f]{64}) ([0-9a-f]{64})\n")
 SECOND = b"CADF-REPLICA 2\n"
 LAST = re.compile(rb"Z ([0-9a-f]{64})\n")
 LAST_LINE, DIGEST_BYTES, CELL_BYTES = 67, 65, 81  # of a line
-LONG_LINE = 2 ** 10  # bytes; windows of longer lines on average are not taken for small ones
+NODE = re.compile(rb"\[([1-9][0-9]*),([01]),")
+BLOCK = 2 ** 16  # bytes that are read at once
 CELLS, MOST_CELLS = 198, 12582912
 TOO_FEW = "too few cells: ask for "
 ABOVE = b"g"  # all digests
@@ -52,13 +54,21 @@ def last_digest(file):
     return found[1].decode() if found else None
 
 
+def union_digest(inputs):
+    """The digits of the last line of the union's replica file, which may be larger than one that is read, and isn't kept."""
+    if len(inputs) == 1:
+        return last_digest(inputs[0].file)
+    with started_cadf(["join"], inputs, subprocess.PIPE) as child:
+        last = b""
+        for block in iter(lambda: child.stdout.read(BLOCK), b""):
+            last = (last + block)[-LAST_LINE:]
+        check_end(child, child.stderr.read(), inputs)
+    return LAST.fullmatch(last)[1].decode()
+
+
 def head(file, count):
     """The first lines of an open file, which are short."""
     return os.pread(file.fileno(), 2 ** 14, 0).split(b"\n")[:count]
-
-
-def salt():
-    return secrets.randbits(64) | 1
 
 
 def made(words, inputs, name):
@@ -86,8 +96,8 @@ class NoSite:
     def digests(self, *_):
         return {}
 
-    def union(self, _):
-        return contextlib.nullcontext()
+    def files(self, _):
+        return contextlib.nullcontext([])
 
 
 class FileSite:
@@ -118,75 +128,53 @@ class FileSite:
                 self.parts[part] = store.item(part, "facts"), last
 
     @contextlib.contextmanager
-    def union(self, part):
-        """The file of a part as an input, or None."""
+    def files(self, part):
+        """The files of a part as inputs: one, or none."""
         if part == ALL:
-            yield self.input
+            yield [self.input]
         elif part not in self.parts:
-            yield None
+            yield []
         else:
-            input = self.parts[part][0].input("%s of %s" % (part, self.input.name))
-            with input.file:
-                yield input
+            with self.parts[part][0].opened("%s of %s" % (part, self.input.name)) as input:
+                yield [input]
 
 
 class FolderSite:
-    """A site that is a folder, as it is when it is listed; a part of which files have gone since is as it is then."""
+    """A site that is a folder. Each part is as it is when it is opened."""
 
-    def __init__(self, name):
-        self.name = name
-        self.look()
-
-    def look(self):
-        """Reads what `site` says now."""
-        with cadf_site.Folder(self.name) as folder:
-            index = folder.site()
-        self.log, self.unit, self.parts = index.name(), index.unit, index.parts()
+    def __init__(self, folder):
+        index = folder.site()
+        self.folder, self.log, self.unit = folder, index.name(), index.unit
 
     def digests(self, _, since):
         """The digest of each part, from a window on."""
-        self.look()
-        parts = dict(self.parts)
-        keys = {part: key_of(part, files) for part, files in parts.items() if len(files) > 1}
-        with cadf_site.Folder(self.name) as folder:
-            kept = kept_unions(folder)
-            known, found = dict(kept), {}
-            for part, files in parts.items():
-                if not is_wanted(part, since):
-                    continue
-                if part in keys and keys[part] not in known:
-                    with self.union(part) as input:
-                        known[keys[part]] = last_digest(input.file)
-                found[part] = known[keys[part]] if part in keys else files[0]
-            if known != kept:
-                keep_unions(folder, {key: known[key] for key in keys.values() if key in known})
+        kept, known, found = kept_unions(self.folder), {}, {}
+        for part, files in self.folder.site().parts().items():
+            key = key_of(part, files)
+            if key in kept:
+                known[key] = kept[key]
+            if not is_wanted(part, since):
+                continue
+            if len(files) > 1 and key not in known:
+                with self.opened(part) as inputs:
+                    key = key_of(part, [digest for _, digest in inputs])
+                    known[key] = union_digest(list(inputs.values()))
+            found[part] = known[key] if len(files) > 1 else files[0]
+        if known != kept:
+            keep_unions(self.folder, known)
         return found
 
     @contextlib.contextmanager
-    def union(self, part):
-        """The union of the files of a part as an input, or None."""
-        with contextlib.ExitStack() as files:
-            inputs = self.inputs(part, files)
-            if len(inputs) < 2:
-                yield inputs[0] if inputs else None
-            else:
-                union = made(["join"], inputs, "%s of %s" % (part, name_shown(self.name)))
-                with union.file:
-                    yield union
+    def opened(self, part):
+        """The files of a part as inputs, by part and digest."""
+        with cadf_site.opened_parts(self.folder, lambda each: each == part) as (_, inputs):
+            yield inputs
 
-    def inputs(self, part, files):
-        """The files of a part, as inputs that are closed with the stack."""
-        with cadf_site.Folder(self.name) as folder:
-            for _ in range(cadf_site.TRIES):
-                try:
-                    return [files.enter_context(each.file) and each for each in
-                            (folder.input(cadf_site.file_name(part, digest)) for digest in self.parts.get(part, ()))]
-                except FileNotFoundError as fault:
-                    missing, before = fault, self.parts.get(part)
-                self.look()
-                if self.parts.get(part) == before:
-                    raise Fault("%s: not there: %s" % (folder.shown(missing.filename), cadf_site.DAMAGED))
-        raise Fault("%s: it changed at each of %d looks: try again" % (name_shown(self.name), cadf_site.TRIES))
+    @contextlib.contextmanager
+    def files(self, part):
+        """The files of a part as inputs."""
+        with self.opened(part) as inputs:
+            yield list(inputs.values())
 
 
 def is_wanted(part, since):
@@ -238,7 +226,7 @@ def opened_windows(name):
         if not os.path.lexists(name.rstrip("/") or "/"):
             yield NoSite()
         elif cadf_site.is_folder(name):
-            yield NoSite() if not os.listdir(name) else FolderSite(name)
+            yield NoSite() if not os.listdir(name) else FolderSite(files.enter_context(cadf_site.Folder(name)))
         else:
             input = Input(name, files.enter_context(opened_file(name, os.O_NOFOLLOW)))
             yield FileSite(input)
@@ -246,25 +234,30 @@ def opened_windows(name):
 
 # ---- What an exchange says of a window
 
-def sketch(store, part, input, cells):
+def sketch(store, part, inputs, cells):
     """An item of a window's sketch, or of its inventory if that is no longer. `cells` is None for the inventory."""
-    if cells is not None and not is_small(input, cells):
-        cadf(["sketch", "--cells=%d" % cells, "--salt=%d" % salt()], [input], store.begin())
+    if cells is not None and not is_small(inputs, cells):
+        cadf(["sketch", "--cells=%d" % cells, "--salt=%d" % (secrets.randbits(64) | 1)], inputs, store.begin())
         item = store.item(part, "sketch")
         lines = os.pread(item.file.fileno(), 2 ** 15, item.begin).split(b"\n")
         facts, log_line = int(lines[3].split(b" ")[1]), lines[1]
         if item.length < len(b"CADF-INVENTORY 1\n\n") + len(log_line) + DIGEST_BYTES * facts + LAST_LINE:
             return item
         store.end = item.begin
-    cadf(["inventory"], [input], store.begin())
+    cadf(["inventory"], inputs, store.begin())
     return store.item(part, "inventory")
 
 
-def is_small(input, cells):
-    """Whether a window has so few lines that its inventory is no longer than a sketch, which it may be all the same."""
-    most = cells * CELL_BYTES // DIGEST_BYTES
-    data = os.pread(input.file.fileno(), most * LONG_LINE, 0)
-    return data.count(b"\n") <= most and len(data) == os.fstat(input.file.fileno()).st_size
+def is_small(inputs, cells):
+    """Whether files have so few lines that their inventory is no longer than a sketch, which it may be all the same."""
+    most, count = cells * CELL_BYTES // DIGEST_BYTES, 0
+    for each in inputs:
+        with open(each.path(), "rb") as file:
+            for block in iter(lambda: file.read(BLOCK), b""):
+                count += block.count(b"\n")
+                if count > most:
+                    return False
+    return True
 
 
 def cells_of(item):
@@ -279,13 +272,20 @@ def has_facts(item):
     return not (len(lines) > 2 and lines[2].startswith(b"Z "))
 
 
-def beyond(store, part, own, item, name):
+def whole(store, part, inputs):
+    """An item of all facts of a window."""
+    if len(inputs) == 1:
+        return store.copied(part, "facts", inputs[0].file)
+    cadf(["join"], inputs, store.begin())
+    return store.item(part, "facts")
+
+
+def beyond(store, part, inputs, item, name):
     """An item of what a window has beyond a sketch or an inventory, `facts`; or `more` with the cells to ask for."""
-    asked = item.input("the %s of %s from %s" % (item.kind, part, name))
-    with asked.file:
+    with item.opened("the %s of %s from %s" % (item.kind, part, name)) as asked:
         command = "missing-by-sketch" if item.kind == "sketch" else "missing-by"
         try:
-            cadf([command], [own, asked], store.begin())
+            cadf([command], [*inputs, asked], store.begin(), union=len(inputs))
             return store.item(part, "facts")
         except Refusal as fault:
             if not fault.said.startswith(TOO_FEW):
@@ -293,8 +293,57 @@ def beyond(store, part, own, item, name):
             return store.put(part, "more", fault.said[len(TOO_FEW):].encode())
 
 
+class Piece:
+    """A replica file that is written to a store line by line."""
+
+    def __init__(self, store, lines):
+        self.store, self.hash, self.size = store, hashlib.sha256(), 0
+        self.file = open(store.begin(), "wb", closefd=False)
+        self.put(lines)
+
+    def put(self, lines):
+        self.hash.update(lines)
+        self.size += self.file.write(lines)
+
+    def item(self, part):
+        with self.file:
+            self.file.write(b"Z %s\n" % self.hash.hexdigest().encode())
+        return self.store.item(part, "facts")
+
+
+def pieces(store, item, most):
+    """Yields the item; or if it is longer than so many bytes, items that are not, and have its facts together.
+
+    Each has as many of its lines as go into it, after those of the nodes above its first.
+    """
+    if item.length <= most:
+        yield item
+        return
+    piece, above, unmarked = None, [], []
+    with open("/dev/fd/%d" % item.file.fileno(), "rb") as lines:
+        lines.seek(item.begin)
+        head = lines.readline() + lines.readline()
+        for line in itertools.takewhile(lambda line: not line.startswith(b"Z"), lines):
+            depth, mark = NODE.match(line).groups()
+            above[int(depth) - 1:] = [line]
+            unmarked.append(line)
+            if mark == b"0":
+                continue
+            new, unmarked = b"".join(unmarked), []
+            if piece and piece.size + len(new) > most - LAST_LINE:
+                yield piece.item(item.part)
+                piece = None
+            if piece:
+                piece.put(new)
+            else:
+                piece = Piece(store, head + b"".join(above))
+            if piece.size > most - LAST_LINE:
+                raise Fault("%s: a fact of %d bytes, and a message has fewer: raise --limit at both ends" % (item.part, piece.size), REFUSED)
+    yield piece.item(item.part)
+
+
 def count_beyond(inputs, own):
-    """How many facts some inputs have together beyond some windows."""
+    """How many facts some inputs have together beyond others."""
     held = digests(own)
     count, one = 0, next(held, ABOVE)
     for digest in digests(inputs):
@@ -308,7 +357,6 @@ def digests(inputs):
     """Yields the lines of the digests of the facts of some inputs, which rise."""
     if not inputs:
         return
-    union = inputs[0] if len(inputs) == 1 else made(["join"], inputs, "the union")
-    with made(["inventory"], [union], union.name).file as file:
+    with made(["inventory"], inputs, "the inventory").file as file:
         file.seek(0)
         yield from itertools.takewhile(lambda line: not line.startswith(b"Z"), itertools.islice(file, 2, None))

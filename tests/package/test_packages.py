@@ -89,10 +89,10 @@ class Tree:
         return done.returncode, done.stdout.decode(), [os.path.join(self.out, name) for name in made]
 
     def packed(self, *words, **environment):
-        """The one file that install/package makes."""
+        """The files that install/package makes."""
         status, said, made = self.pack(*words, **environment)
-        assert status == 0 and len(made) == 1, said
-        return made[0]
+        assert status == 0 and made, said
+        return made
 
     def refuses(self, why):
         """Expects that nothing is made, for that reason."""
@@ -120,13 +120,13 @@ def clone(tree, name, binary, *words):
 
 
 def packed_twice(first, second, *words):
-    """Expects that both trees make the same file. Returns its path in the folder of both."""
-    one = first.packed(*words, **FIRST)
+    """Expects that both trees make the same files. Returns their paths in the folder of both."""
+    made = first.packed(*words, **FIRST)
     before = os.umask(0o077)
-    other = second.packed(*words, **SECOND)
+    others = second.packed(*words, **SECOND)
     os.umask(before)
-    assert os.path.basename(one) == os.path.basename(other) and read(one) == read(other)
-    return shutil.copy2(one, os.path.dirname(first.folder))
+    assert [(os.path.basename(path), read(path)) for path in made] == [(os.path.basename(path), read(path)) for path in others]
+    return [shutil.copy2(path, os.path.dirname(first.folder)) for path in made]
 
 
 def archived(package, part):
@@ -164,7 +164,8 @@ def second(first, cadf):
 @pytest.fixture(scope="module")
 def package(first, second):
     """The package, made twice: in other folders, zones and languages and with other permissions, with the same bytes."""
-    return packed_twice(first, second)
+    made, = packed_twice(first, second)
+    return made
 
 
 @pytest.fixture
@@ -221,16 +222,25 @@ def test_copyright(package, first):
     assert "@" not in said
 
 
-def test_materials(package, first, cadf):
-    """The bill of materials has the command's own digest, each library that is linked into it, and the licences that the kit says."""
-    told = json.loads(archived(package, "fsys")["usr/share/doc/cadf/sbom.spdx.json"][1])
+def check_materials(data, binary, folder, linked, needed):
+    """Expects a bill of materials with the binary's own digest, each library of the kit, what else is linked, and what it runs with."""
+    told = json.loads(data)
     parts = {part["name"]: part for part in told["packages"]}
-    assert (told["spdxVersion"], parts["cadf"]["checksums"]) == ("SPDX-2.3", [{"algorithm": "SHA256", "checksumValue": record.digest_of_file(cadf)}])
-    assert {"rattle/" + name for name in linked_libraries(first.folder)} <= set(parts)
+    assert (told["spdxVersion"], parts["cadf"]["checksums"]) == ("SPDX-2.3", [{"algorithm": "SHA256", "checksumValue": record.digest_of_file(binary)}])
+    assert {"rattle/" + name for name in linked_libraries(folder)} <= set(parts)
+    found = {(relation["relationshipType"], relation["relatedSpdxElement"]) for relation in told["relationships"]}
+    assert {("STATIC_LINK", parts[name]["SPDXID"]) for name in linked} | {("DEPENDS_ON", parts[name]["SPDXID"]) for name in needed} <= found
+    assert [kind for kind, _ in found].count("DEPENDS_ON") == len(needed)
     assert len({part["SPDXID"] for part in told["packages"]}) == len(told["packages"])
     known = {part["SPDXID"] for part in told["packages"]} | {"SPDXRef-DOCUMENT"}
     assert all({relation["spdxElementId"], relation["relatedSpdxElement"]} <= known for relation in told["relationships"])
     assert {relation["relatedSpdxElement"] for relation in told["relationships"]} == known - {"SPDXRef-DOCUMENT"}
+
+
+def test_materials(package, first, cadf):
+    """The package has the bill of materials of its command."""
+    data = archived(package, "fsys")["usr/share/doc/cadf/sbom.spdx.json"][1]
+    check_materials(data, cadf, first.folder, ["GCC start-up code", "GNU C Library start-up code"], ["GNU C Library", "Python"])
 
 
 def test_versions_of_materials():
@@ -296,17 +306,22 @@ def test_versions(copy):
         git(copy.folder, "commit", "-q", "--allow-empty", "-m", "Go on", time=COMMIT_TIME - len(found))
         if tag:
             git(copy.folder, "tag", tag)
-        found.append(os.path.basename(copy.packed())[len("cadf_"):-len("_amd64.deb")])
+        found.append(os.path.basename(copy.packed()[0])[len("cadf_"):-len("_amd64.deb")])
     for lower, higher in zip(found, found[1:]):
         assert subprocess.run(["dpkg", "--compare-versions", lower, "lt", higher], check=False).returncode == 0, found
 
 
 @pytest.fixture(scope="module")
-def static(first, second, cadf):
-    """The static command, made twice."""
+def made_static(first, second, cadf):
+    """The static command and its bill of materials, made twice."""
     if not has_object(cadf):
         pytest.skip("the object that the command was linked from isn't there")
     return packed_twice(first, second, "--static")
+
+
+@pytest.fixture(scope="module")
+def static(made_static):
+    return made_static[0]
 
 
 def tells_version(static, *words):
@@ -321,6 +336,13 @@ def skip_unless(*words):
     done = subprocess.run(words, check=False, stdin=subprocess.DEVNULL, stdout=subprocess.DEVNULL, stderr=subprocess.DEVNULL)
     if done.returncode:
         pytest.skip("%s isn't allowed" % words[0])
+
+
+def test_static_materials(made_static, first):
+    """The bill of materials beside the static command has the C library among what is linked, and nothing that it runs with."""
+    static, bill = made_static
+    assert bill == static + ".spdx.json"
+    check_materials(read(bill), static, first.folder, ["GCC start-up code and support library", "GNU C Library"], [])
 
 
 def test_static(static):

@@ -20,8 +20,8 @@ SYSTEM = "/lib/systemd/system"
 INSTANCE = "audit"
 OLDEST = 250  # the first systemd-analyze that judges files in a folder
 SERVICE, TIMER = "cadf-spool@.service", "cadf-spool@.timer"
-SYNC, TIMERS = "cadf-sync@.service", (TIMER, "cadf-sync@.timer")
-MOST_EXPOSED = {SERVICE: 0.5, SYNC: 1.2, "cadf-listen@.service": 2.5, "cadf-spool-folders@.service": 10}  # of 10, for each service
+SYNC, SETTLE, TIMERS = "cadf-sync@.service", "cadf-settle@.service", (TIMER, "cadf-sync@.timer", "cadf-settle@.timer")
+MOST_EXPOSED = {SERVICE: 0.5, SETTLE: 0.5, SYNC: 1.2, "cadf-listen@.service": 2.5, "cadf-spool-folders@.service": 10}  # of 10, for each service
 # What docs/OPERATING.md says of them: no capability, network or device; two folders to write to; each five minutes. A run
 # of an input of 2^30 bytes takes four times as much memory.
 SAID = [
@@ -33,6 +33,9 @@ SAID = [
     (SYNC, "Service", "CapabilityBoundingSet", ""), (SYNC, "Service", "StateDirectory", "cadf/%i"),
     (SYNC, "Service", "EnvironmentFile", "/etc/cadf/%i.peer"), (SYNC, "Service", "LoadCredential", "key:/etc/cadf/%i.key"),
     ("cadf-sync@.timer", "Timer", "OnCalendar", "*:0/15"),
+    (SETTLE, "Service", "CapabilityBoundingSet", ""), (SETTLE, "Service", "PrivateNetwork", "yes"),
+    (SETTLE, "Service", "ProtectSystem", "strict"), (SETTLE, "Service", "StateDirectory", "cadf/%i"),
+    ("cadf-settle@.timer", "Timer", "OnCalendar", "*-*-* 03:00"),
 ]
 
 
@@ -91,26 +94,30 @@ def test_setting(unit, section, key, value):
     assert settings(unit)[section][key] == value
 
 
+def runs_line(name, places, cadf):
+    """Runs the line ExecStart of a unit, over places of the test's own."""
+    program, *words = shlex.split(settings(name)["Service"]["ExecStart"])
+    done = ended(os.path.join(TOP, "tools", program), [places.get(word, word) for word in words], env={**os.environ, "CADF": cadf})
+    assert done.status == 0, done
+
+
 def test_words(cadf, tmp_path):
-    """The tool takes the words of the unit, over folders of its own."""
+    """The tools take the words of the units, over folders of the test's own: what came twice is one file of each window then."""
     spool, site = tmp_path / "spool", tmp_path / "site"
     spool.mkdir()
-    shutil.copy(os.path.join(VECTORS, "north.json"), spool)
-    program, *words = shlex.split(settings(SERVICE)["Service"]["ExecStart"])
     places = {"%i": "g", "/var/lib/cadf/%i/site": str(site), "/var/spool/cadf/%i": str(spool)}
-    environment = {**os.environ, "CADF": cadf}
-    done = ended(os.path.join(TOP, "tools", program), [places.get(word, word) for word in words], env=environment)
-    assert done.status == 0, done
-    agreed = ended(os.path.join(TOP, "tools", "cadf-agree"), [str(site), os.path.join(VECTORS, "north.cadf")], env=environment)
+    for name in ("north.json", "south.json"):
+        shutil.copy(os.path.join(VECTORS, name), spool)
+        runs_line(SERVICE, places, cadf)
+    runs_line(SETTLE, places, cadf)
+    named = [line.split()[1] for line in (site / "site").read_text().splitlines() if line.startswith("F ")]
+    assert len(named) > 1 and sorted(named) == sorted(set(named))
+    agreed = ended(os.path.join(TOP, "tools", "cadf-agree"), [str(site), os.path.join(VECTORS, "both.cadf")], env={**os.environ, "CADF": cadf})
     assert agreed == (0, b"", b"")
 
 
 def test_words_of_the_exchange(cadf, tmp_path):
     """cadf-sync takes the words of its unit, over sites of its own, on this machine."""
-    program, *words = shlex.split(settings(SYNC)["Service"]["ExecStart"])
-    for place, own in (("$OPTIONS", "--pull"), ("/var/lib/cadf/%i/site", str(tmp_path / "site.cadf")), ("${PEER}", os.path.join(VECTORS, "north.cadf"))):
-        words[words.index(place)] = own
-    done = ended(os.path.join(TOP, "tools", program), words, env={**os.environ, "CADF": cadf})
-    assert done.status == 0, done
+    runs_line(SYNC, {"$OPTIONS": "--pull", "/var/lib/cadf/%i/site": str(tmp_path / "site.cadf"), "${PEER}": os.path.join(VECTORS, "north.cadf")}, cadf)
     with open(os.path.join(VECTORS, "north.cadf"), "rb") as file:
         assert (tmp_path / "site.cadf").read_bytes() == file.read()

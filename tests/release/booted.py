@@ -11,7 +11,7 @@ there:
 - A run has no capability, reaches no network, and writes nowhere but to its folders.
 - The command runs under the SystemCallFilter of that page, and is killed under one that lacks `openat`.
 - A run is killed KILLS times: the site's file is the old one or the new one, and at the end nothing is lost.
-- The listener's unit has its folder and its URL, and the units of the page take its files.
+- The listener's unit has its folder and its URL, and the units of the page take its files. The site is settled.
 - A later version goes on with what is enabled. Removal stops what runs. A purge leaves sites and spools alone.
 """
 import argparse
@@ -227,6 +227,16 @@ def listens(trial):
     trial.say("what it received is taken", status == 0 and atoms() == before + 1, said + journal("cadf-bus@audit"))
 
 
+def settles(trial):
+    """The timer's unit leaves a file of each window, and all facts."""
+    before = atoms()
+    runs_lines(trial, "OPERATING.md", "systemctl enable --now cadf-settle@audit.timer")
+    status, said = run("systemctl", "start", "cadf-settle@audit.service")
+    with open(SITE + "/site", encoding="utf-8") as file:
+        named = [line.split()[1] for line in file if line.startswith("F ")]
+    trial.say("the site is settled", status == 0 and len(named) == len(set(named)) > 0 and atoms() == before, said + journal("cadf-settle@audit"))
+
+
 def exchanges(trial):
     """The unit of the exchange, with a peer that is a site of this machine, so that it needs no sshd."""
     peer = "/var/lib/cadf/audit/peer.cadf"
@@ -266,6 +276,15 @@ def upgrades(trial):
     trial.say("an upgrade", status == 0 and is_active(TIMER) and atoms() == before + 1, said + journal(UNIT))
 
 
+def contents(folder):
+    """The bytes of each file of a folder."""
+    found = {}
+    for name in os.listdir(folder):
+        with open(os.path.join(folder, name), "rb") as file:
+            found[name] = file.read()
+    return found
+
+
 def goes(trial):
     """Removal stops what runs, and a purge forgets what was enabled: what sites and spools hold stays."""
     run("systemctl", "start", TIMER, "cadf-bus@audit.timer")
@@ -275,13 +294,11 @@ def goes(trial):
     own = [each for each in os.listdir("/proc") if each.isdigit() and os.stat("/proc/" + each).st_uid == os.stat(SITE).st_uid]
     left = run("systemctl", "list-units", "--no-legend", "cadf-*")[1] + " ".join(own)
     trial.say("removal stops what runs", status == 0 and not left.strip(), said + left)
-    with open(SITE, "rb") as file:
-        site = file.read()
+    site = contents(SITE)
     status, said = run("dpkg", "--purge", "cadf")
-    links = [name for name in os.listdir(LINKS) if os.path.islink(LINKS + name) and name.startswith("cadf-spool")] if os.path.isdir(LINKS) else []
+    links = [name for name in os.listdir(LINKS) if os.path.islink(LINKS + name) and name.startswith("cadf-s")] if os.path.isdir(LINKS) else []
     trial.say("a purge", status == 0 and not links and not run("dpkg-query", "--show", "cadf")[1].startswith("cadf"), said + str(links))
-    with open(SITE, "rb") as file:
-        kept = file.read() == site and site.startswith(b"CADF-") and len(os.listdir(SPOOL + "/taken")) > 2
+    kept = contents(SITE) == site and site["site"].startswith(b"CADF-SITE") and len(os.listdir(SPOOL + "/taken")) > 2
     trial.say("sites and spools stay", kept and run("id", "cadf")[0] == 0)
 
 
@@ -297,6 +314,7 @@ def inside(kills):
         is_filtered(trial)
         survives(trial, kills)
         listens(trial)
+        settles(trial)
         exchanges(trial)
         upgrades(trial)
         goes(trial)

@@ -21,6 +21,7 @@ git init -q
 git commit -q --allow-empty -m release
 echo package >cadf_0.1.0_amd64.deb
 echo command >cadf-0.1.0-amd64-static
+echo bill >cadf-0.1.0-amd64-static.spdx.json
 sed -n 's/^tests\/release\/commands\.sh: //p' "$list" >commands
 bash -exo pipefail commands
 echo "release-commands: all $(wc -l <commands) commands ran"

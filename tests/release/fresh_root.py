@@ -19,6 +19,7 @@ import sys
 import tempfile
 
 from tests import TOP
+from tests.docs.shown import pages
 from tests.release import debian
 
 PROGRAMS = "man-db,bash-completion,zsh,python3,jq,openssh-client"  # beside what a minimal Debian has
@@ -62,15 +63,6 @@ class Root(debian.Trials):
         return {place for place in found if not place.startswith(CHANGED)}
 
 
-def pages_with_commands():
-    """The pages of the tree that show commands."""
-    docs = sorted(os.path.join("docs", name) for name in os.listdir(os.path.join(TOP, "docs")) if name.endswith(".md"))
-    for name in ("README.md", *docs):
-        with open(os.path.join(TOP, name), encoding="utf-8") as file:
-            if "\n    $ " in file.read():
-                yield name
-
-
 def bring(package, folder):
     """Brings the package, and the tests of it, into the root."""
     trial = folder + TRIAL
@@ -87,8 +79,8 @@ def use(root):
     root.tries("the vectors", [*MODULE, "tests.command.vectors", "/usr/bin/cadf"])
     root.tries("the vectors, for a user without rights", [*NOBODY, *MODULE, "tests.command.vectors", "/usr/bin/cadf"])
     root.tries("two sites", [TRIAL + "/examples/two-sites.sh", "/usr/bin/cadf"])
-    for page in pages_with_commands():
-        root.tries("the commands of " + page, [*MODULE, "tests.docs.shown", "--commands", page])
+    for page in pages():
+        root.tries("the commands of " + page, [*MODULE, "tests.docs.shown", page])
     root.tries("man cadf", [*NOBODY, "man", "-P", "cat", "cadf"], "EXIT STATUS")  # as root it would keep a page
     root.tries("man cadf-take", [*NOBODY, "man", "-P", "cat", "cadf-take"], "EXIT STATUS")
     root.tries("man -k replicas", ["man", "-k", "replicas"], "cadf (1)")

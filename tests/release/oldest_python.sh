@@ -3,7 +3,7 @@
 #
 #     tests/release/oldest_python.sh [PYTHON]      PYTHON is python3.9 unless it is given
 #
-# tests/tools/spool.py runs by the system's Python; docs/BUS.md has commands of cadf-spool.
+# pytest itself runs by the system's Python, and the tools by the one that is tried.
 set -euo pipefail
 cd "$(dirname "$0")/../.."
 folder=$(mktemp -d)
@@ -11,9 +11,5 @@ trap 'rm -rf "$folder"' EXIT
 ln -s "$(command -v "${1:-python3.9}")" "$folder/python3"
 export PATH=$folder:$PATH PYTHONDONTWRITEBYTECODE=1
 python3 -c 'import sys; sys.exit(sys.version_info[:2] != (3, 9) and "oldest-python: this is Python " + sys.version)'
-for test in take sites; do
-    python3 -m "tests.tools.$test"
-done
-/usr/bin/python3 -m pytest -q tests/tools  # by the system's Python; the tools by the one that is tried
-python3 -m tests.docs.shown README.md docs/GUIDE.md docs/OPENSTACK.md docs/BUS.md docs/REPORT.md
+/usr/bin/python3 -m pytest -q tests/tools tests/docs/test_shown.py
 echo "oldest-python: all by $(python3 --version)"

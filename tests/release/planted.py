@@ -113,8 +113,8 @@ ROWS = [
     Row("FORMATS: 128 levels", "docs/FORMATS.md", "nest at most 127", "nest at most 128", TOLD + "limit"),
     Row("FORMATS: another status", "docs/FORMATS.md", "`input N: a number is not whole` | 1 |", "`input N: a number is not whole` | 2 |", TOLD + "test_status"),
     Row("manual: another default", "share/man/man1/cadf.1", "by default 100.", "by default 1000.", TOLD + "defaults"),
-    Row("gate: a step is gone", ".ci/steps.py", '        "take": "python3 -m tests.tools.take",\n', "", "tests/docs/test_gate.py"),
-    Row("gate: another name in a row", "docs/GATE.md", "| `tests/tools/take.py` | each status", "| `tests/tools/tak.py` | each status", "tests/docs/test_gate.py"),
+    Row("gate: a step is gone", ".ci/steps.py", '        "two-sites": "examples/two-sites.sh",\n', "", "tests/docs/test_gate.py"),
+    Row("gate: another name in a row", "docs/GATE.md", "| `tests/tools/test_take.py` | each status", "| `tests/tools/test_tak.py` | each status", "tests/docs/test_gate.py"),
 ]
 
 # Faults that are not planted, and why.

@@ -35,8 +35,6 @@ def relayed(words, most):
         for each in ready:
             data = os.read(each, 2 ** 16)[:most - sum(counts.values())]
             if not data:
-                if sum(counts.values()) == most:
-                    os._exit(0)  # both ends see that the connection has gone
                 os.close(ways.pop(each))
                 continue
             turns += each == 0 and last != 0
@@ -45,6 +43,8 @@ def relayed(words, most):
                 os.write(ways[each], data)
             except BrokenPipeError:
                 del ways[each]
+            if sum(counts.values()) == most:
+                os._exit(0)  # both ends see that the connection has gone
     return child.wait(), counts[0], sum(counts.values()) - counts[0], turns
 
 

@@ -2,9 +2,13 @@
 
 What they run has to be where they can read it: `shared` copies it there.
 """
+import contextlib
 import os
 import shutil
 import subprocess
+import tempfile
+
+import pytest
 
 PYTHON = "/usr/bin/python3"  # which every user can start
 CALLER, SENDER, OTHER = 2001, 2002, 2003  # who runs the tool, and two who may send
@@ -16,8 +20,21 @@ def as_user(user, group, *words):
     return ["setpriv", "--reuid=%d" % user, "--regid=%d" % group, "--clear-groups", *map(str, words)]
 
 
+def needed(test):
+    """Marks a test that runs programs as other users."""
+    return pytest.mark.root(pytest.mark.needs("setpriv")(test))
+
+
+@contextlib.contextmanager
+def open_folder():
+    """A folder that other users may read, as those of pytest are not."""
+    with tempfile.TemporaryDirectory(prefix="cadf-") as folder:
+        os.chmod(folder, 0o755)
+        yield folder
+
+
 def shared(folder, *paths):
-    """Copies files and folders into a folder that all may read, and returns the copies; None where other users can't run them."""
+    """Copies files and folders into a folder that all may read, and returns the copies; skips a test where others can't read them."""
     os.chmod(folder, 0o755)
     copies = [os.path.join(folder, os.path.basename(path)) for path in paths]
     for path, copy in zip(paths, copies):
@@ -26,15 +43,14 @@ def shared(folder, *paths):
         else:
             shutil.copy(path, copy)
     subprocess.run(["chmod", "-R", "a+rX", *copies], check=True)
-    if os.geteuid() or shutil.which("setpriv") is None:
-        return None
-    tried = [subprocess.run(as_user(SENDER, GROUP, PYTHON, "-c", "import sys; open(sys.argv[1])", copy), stderr=subprocess.DEVNULL, check=False)
-             for copy in copies if not os.path.isdir(copy)]
-    return None if any(done.returncode for done in tried) else copies
+    for copy in copies:
+        if subprocess.run(as_user(SENDER, GROUP, PYTHON, "-c", "import os, sys; sys.exit(not os.access(sys.argv[1], os.R_OK))", copy), check=False).returncode:
+            pytest.skip("other users can't read %s" % copy)
+    return copies
 
 
 def shared_tools(folder, tool, *paths):
     """Copies the tools beside this one, with what they import, and other files as `shared` does."""
     top = os.path.dirname(os.path.dirname(tool))
-    copies = shared(folder, os.path.join(top, "tools"), os.path.join(top, "share"), *paths)
-    return copies and [copies[0], *copies[2:]]
+    tools, _, *copies = shared(folder, os.path.join(top, "tools"), os.path.join(top, "share"), *paths)
+    return [tools, *copies]

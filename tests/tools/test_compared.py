@@ -2,7 +2,7 @@
 import itertools
 import json
 import os
-import random
+import resource
 import subprocess
 import types
 
@@ -36,13 +36,18 @@ def test_peeled(agree, name):
         data = file.read()
     _, sketch = sketch_files.read_sketch(data)
     assert peeled(agree, data, sketch.cells) == sketch_files.peeled(list(sketch.cells), sketch.layout)
-    chance = random.Random(name)
-    for _ in range(50):
+    hypothesis = pytest.importorskip("hypothesis")
+    choices = hypothesis.strategies
+
+    @hypothesis.settings(max_examples=50)
+    @hypothesis.given(choices.lists(choices.tuples(choices.integers(0, len(sketch.cells) - 1), choices.integers(0, 2 ** 256 - 1)), min_size=1, max_size=9))
+    def is_alike(changes):
         cells = list(sketch.cells)
-        for _ in range(chance.randint(1, 9)):
-            digest = chance.getrandbits(256)
-            cells[chance.randrange(len(cells))] ^= digest << 64 | sketch_files.check_of(digest)
+        for place, digest in changes:
+            cells[place] ^= digest << 64 | sketch_files.check_of(digest)
         assert peeled(agree, data, cells) == sketch_files.peeled(list(cells), sketch.layout)
+
+    is_alike()
 
 
 def test_worst_status(cadf, tmp_path):
@@ -68,3 +73,23 @@ def test_every_kind(cadf, tmp_path):
     listed = [tuple(line.split()[:3]) for line in done.stdout.decode().splitlines() if not line.startswith("#")]
     keys = {"E": "e", "R": "r", "G": "l", "M": "m", "P": "p"}
     assert done.returncode == 5 and sorted(listed) == sorted((kind, '"%s"' % key, place) for kind, key in keys.items() for place in "12")
+
+
+def test_long_lines_of_choices(cadf, tmp_path):
+    """A comment may be long, and a line without an end takes no memory."""
+    def ruled(choices):
+        path = tmp_path / "choices"
+        path.write_bytes(choices)
+        os.truncate(path, max(len(choices), most))
+        return subprocess.run([tool("cadf-conflicts"), "--rule", path, open_site], env={**os.environ, "CADF": cadf}, stdout=subprocess.PIPE,
+                              stderr=subprocess.PIPE, preexec_fn=lambda: resource.setrlimit(resource.RLIMIT_AS, (2 ** 28, 2 ** 28)))
+
+    open_site, most = os.path.join(VECTORS, "both.cadf"), 0
+    listed = subprocess.run([tool("cadf-conflicts"), open_site], env={**os.environ, "CADF": cadf}, stdout=subprocess.PIPE).stdout
+    choice = next(line for line in listed.splitlines(True) if not line.startswith(b"#"))
+    plain = ruled(choice)
+    assert plain.returncode == 0 and choice.split()[3] in plain.stdout
+    assert ruled(b"#" + b"x" * 10 ** 5 + b"\n" + choice).stdout == plain.stdout
+    most = 2 ** 28
+    endless = ruled(choice)
+    assert (endless.returncode, endless.stdout) == (1, b"") and endless.stderr.endswith(b"choices: line 2: not LETTER KEY PLACE DIGEST and a line feed\n")

@@ -259,7 +259,7 @@ def test_faults(reports):
     put("cut.json", '{"id":')
     put("event.json", json.dumps(dict(EVENT, id="e")))
     put("other.json", json.dumps({"id": "h", "events": []}))
-    no_log = "event.json: no log named: an event by itself names none: give --log ID, or a file that does"
+    no_log = "event.json: no log named: an event by itself names none: give a file that does, or --log ID if the tool takes it"
     other_log = "other.json: other log: one site has one log; `cadf check FILE` says which log a file is of"
     for what, words, status, said in (
             ("refused", ["both", "cut.json"], 1, "cut.json: not JSON"), ("absent", ["absent"], 3, "absent: No such file or directory"),
@@ -268,7 +268,8 @@ def test_faults(reports):
             ("other site, cut", ["--against", "cut.json", "both"], 1, "cut.json: not JSON")):
         assert reports.answer(*words) == (status, b"", ["cadf-report: " + said]), what
     assert reports.answer("--log", "g", "event.json")[0] == 0
-    assert reports.answer("both", env={"CADF": "/absent/cadf"}) == (3, b"", ["cadf-report: /absent/cadf: No such file or directory"])
+    absent = "cadf-report: /absent/cadf: No such file or directory: name the command by CADF, or put it on PATH"
+    assert reports.answer("both", env={"CADF": "/absent/cadf"}) == (3, b"", [absent])
     assert reports.answer("both", env={"CADF": "true"})[0] == 3
     for words in ([], ["--lo", "g", "both"], ["--from", "yesterday", "both"], ["--until", "2024-02-30", "both"], ["--from", "0000-01-01", "both"]):
         status, output, said = reports.answer(*words)

@@ -548,6 +548,8 @@ def test_what_a_site_names_and_lacks_is_named(site):
     with pytest.raises(cadf_toolkit.Fault, match="not there: the site is damaged") as fault, cadf_site.opened_site(str(site.folder)):
         pass
     assert str(path) in str(fault.value)
+    answer = site.take(files=[site.put(contents(3))])
+    assert answer.status == 3 and b"%s: not there: the site is damaged" % os.fsencode(path) in answer.error
 
 
 # ---- Wrong versions

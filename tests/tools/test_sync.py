@@ -3,6 +3,7 @@
 What sites have to hold is made by the second implementation. The far side is tests/tools/far_side.py where bytes are
 counted, cut or made up, and a real sshd on loopback where there is one.
 """
+import compileall
 import datetime
 import hashlib
 import json
@@ -49,8 +50,8 @@ def facts(*keys, log="g"):
 class Sites:
     """A folder with sites, and the tool over them."""
 
-    def __init__(self, path, cadf=REFERENCE, tools=TOOLS):
-        self.path, self.cadf, self.tools = path, cadf, tools
+    def __init__(self, path, cadf=REFERENCE, tools=TOOLS, patience=20):
+        self.path, self.cadf, self.tools, self.patience = path, cadf, tools, patience
 
     def put(self, name, atoms, log="g"):
         (self.path / name).write_bytes(file_of(log, atoms))
@@ -61,30 +62,42 @@ class Sites:
     def environment(self):
         return dict(os.environ, CADF=self.cadf, TOOLS=self.tools)
 
+    def runs(self, tool, *words, **options):
+        """What a tool answers, which the Python of the tests runs."""
+        return ended(sys.executable, [os.path.join(self.tools, tool), *words], env=self.environment(), cwd=self.path, **options)
+
     def sync(self, *words):
-        return ended(os.path.join(self.tools, "cadf-sync"), words, env=self.environment(), cwd=self.path)
+        return self.runs("cadf-sync", *words)
 
     def far(self, *words):
         """What `--rsh` is to be for a mode of far_side.py."""
         return "--rsh=%s %s %s" % (sys.executable, FAR, " ".join(map(str, words)))
 
-    def lied_to(self, data, *words, mode="says", timeout=20):
+    def lied_to(self, data, *words, mode="says", timeout=None):
         """What the tool answers if the far side writes this. Its site has to stay as it was."""
         (self.path / "lie").write_bytes(data)
         before = sorted((each.name, each.read_bytes()) for each in self.path.iterdir())
-        answer = self.sync("--timeout=%d" % timeout, *words, self.far(mode, self.path / "lie"), "here.cadf", "h:there.cadf")
+        answer = self.sync("--timeout=%d" % (timeout or self.patience), *words, self.far(mode, self.path / "lie"), "here.cadf", "h:there.cadf")
         assert sorted((each.name, each.read_bytes()) for each in self.path.iterdir()) == before
         return answer
 
     def served(self, data, *words):
         """What the serving end answers."""
-        return ended(os.path.join(self.tools, "cadf-sync"), ["--serve", "--timeout=20", *words, "here.cadf"], input=data,
-                     env=self.environment(), cwd=self.path)
+        return self.runs("cadf-sync", "--serve", "--timeout=20", *words, "here.cadf", input=data)
+
+
+@pytest.fixture(scope="session")
+def tools(tmp_path_factory):
+    """The tools, with what they import compiled: most of these tests are starts of them."""
+    folder = str(tmp_path_factory.mktemp("tools"))
+    found = copied(folder)
+    compileall.compile_dir(os.path.join(folder, "share", "cadf"), quiet=1)
+    return found
 
 
 @pytest.fixture
-def sites(tmp_path):
-    return Sites(tmp_path)
+def sites(tmp_path, tools):
+    return Sites(tmp_path, tools=tools)
 
 
 def said(answer):
@@ -144,25 +157,45 @@ def test_names_are_quoted_for_the_far_shell(sites):
     assert sites.holds("here.cadf") == sites.holds(name) == facts(1, 2) and not (sites.path / "wrong").exists()
 
 
+def test_a_refusal_of_the_far_end_is_one_line(sites):
+    sites.put("here.cadf", facts(1))
+    (sites.path / "script").write_text("learn 0 {}\n")
+    assert sites.sync("here.cadf", "script") == (1, b"", b"cadf-sync: script: a script: `cadf rehearse` reads it\n")
+
+
+def numbers(path, labels):
+    """What a file of metrics says, by names, of a run that has just succeeded; all its values have these labels first."""
+    found = dict(line.rsplit(" ", 1) for line in path.read_text().splitlines() if not line.startswith("#"))
+    assert path.stat().st_mode & 0o777 == 0o644 and abs(int(found.pop("cadf_last_success_timestamp_seconds" + labels)) - time.time()) < 60
+    assert all(name.partition("{")[2].startswith(labels[1:-1]) for name in found), found
+    return {name.replace(labels[:-1], "{").replace("{}", "")[len("cadf_"):]: int(value) for name, value in found.items()}
+
+
+def failed(*keys):
+    """The same events as in `facts`, with another outcome."""
+    return {(*atom[:2], atom[2].replace('"outcome":"success"', '"outcome":"failure"'), *atom[3:]) for atom in facts(*keys) if atom[0] == "E"}
+
+
+def ruling(key):
+    """The ruling of the event of this number as `facts` has it."""
+    [body] = [atom[2] for atom in facts(key) if atom[:1] == ("E",) and len(atom) == 3]
+    return {("U", "E", "e%d" % key, hashlib.sha256(body.encode()).hexdigest())}
+
+
 def test_conflicts_and_metrics(sites):
     """Open conflicts of the first site end with 5; the numbers of a run are in a file that a failed run leaves."""
-    other = {(*atom[:2], atom[2].replace('"outcome":"success"', '"outcome":"failure"'), *atom[3:]) for atom in facts(2)}
+    other = failed(2)
     sites.put("here.cadf", facts(1, 2))
     sites.put("there.cadf", other)
     answer = sites.sync("--conflicts", "--metrics=m.prom", "here.cadf", "there.cadf")
     assert answer.status == 5 and answer.output.endswith(b"; 1 open conflicts\n"), answer
+    assert numbers(sites.path / "m.prom", '{tool="cadf-sync",site="here.cadf",peer="there.cadf"}') == {
+        "facts_taken": 2, "facts_lacked_by_peer": 5, "open_conflicts": 1, "largest_window_bytes": len(file_of("g", facts(1, 2) | other))}
     text = (sites.path / "m.prom").read_text()
-    numbers = dict(line.split(" ") for line in text.splitlines() if not line.startswith("#"))
-    labels = '{tool="cadf-sync",site="here.cadf",peer="there.cadf"}'
-    assert abs(int(numbers.pop("cadf_last_success_timestamp_seconds" + labels)) - time.time()) < 60
-    assert numbers == {"cadf_%s%s" % (name, labels): str(number) for name, number in (
-        ("facts_taken", 2), ("facts_lacked_by_peer", 4), ("open_conflicts", 1),
-        ("largest_window_bytes", len(file_of("g", facts(1, 2) | other))))}
     assert sites.sync("--metrics=m.prom", "here.cadf", "none/none.cadf").status != 0
     assert (sites.path / "m.prom").read_text() == text and sorted(os.listdir(sites.path)) == sorted(
         ["m.prom", *(name + end for name in ("here.cadf", "there.cadf") for end in ("", ".before", ".lock"))])
-    done = ended(os.path.join(sites.tools, "cadf-agree"), ["--metrics=a.prom", "here.cadf", "there.cadf"], env=sites.environment(), cwd=sites.path)
-    assert done.status == 0
+    assert sites.runs("cadf-agree", "--metrics=a.prom", "here.cadf", "there.cadf").status == 0
     assert 'cadf_facts_lacked{tool="cadf-agree",sites="here.cadf there.cadf",site="here.cadf",of="there.cadf"} 0\n' in (sites.path / "a.prom").read_text()
 
 
@@ -275,6 +308,7 @@ LIES = {
     "cells after an inventory": (answered((b"all", b"more", b"300")), 1, "no answer for inventory of all: more of all"),
     "facts that are none": (answered((b"all", b"facts", b"\x7fELF"), SKETCHED), 1, "all from h:there.cadf: not JSON"),
     "facts of another log": (answered((b"all", b"facts", OTHER), SKETCHED), 1, 'other log: "h"'),
+    "facts that are held, and more to come": (answered((b"all", b"some", file_of("g", facts(1))), SKETCHED), 1, "it sends again what is held"),
     "facts that are cut": (answered((b"all", b"facts", GOOD[:-9]), SKETCHED), 1, "truncated"),
     "facts that were changed": (answered((b"all", b"facts", GOOD.replace(b"u1", b"u2")), SKETCHED), 1, "digest"),
     "an inventory that is none": (answered((b"all", b"none", b""), (b"all", b"inventory", b"x\n")), 1, "version"),
@@ -383,11 +417,10 @@ def test_a_site_that_is_read_alone(sites):
 def test_a_silent_caller(sites):
     sites.put("here.cadf", facts(1))
     reading, writing = os.pipe()
-    done = subprocess.run([os.path.join(sites.tools, "cadf-sync"), "--serve", "--timeout=1", "here.cadf"], stdin=reading,
-                          capture_output=True, cwd=sites.path, env=sites.environment(), timeout=30, check=False)
+    answer = sites.runs("cadf-sync", "--serve", "--timeout=1", "here.cadf", stdin=reading)
     os.close(writing)
     os.close(reading)
-    assert done.returncode == 3 and b"silent for 1 seconds" in done.stdout
+    assert answer.status == 3 and b"silent for 1 seconds" in answer.output
 
 
 # ---- Folders, by the built command
@@ -429,7 +462,7 @@ class Folders(Sites):
 
     def takes(self, name, *words):
         """Has cadf-take do this with a site."""
-        assert ended(os.path.join(self.tools, "cadf-take"), [*words[:-1], name, *words[-1]], env=self.environment(), cwd=self.path).status == 0
+        assert self.runs("cadf-take", *words[:-1], name, *words[-1]).status == 0
 
     def settle(self, name):
         self.takes(name, "--settle", [])
@@ -449,10 +482,8 @@ class Folders(Sites):
 
 
 @pytest.fixture
-def folders(tmp_path, cadf):
-    if ended(cadf, ["help", "split"]).status:
-        pytest.skip("the command has no split")
-    return Folders(tmp_path, cadf)
+def folders(tmp_path, cadf, tools):
+    return Folders(tmp_path, cadf, tools)
 
 
 @pytest.mark.parametrize("here, there", [("here/", "there/"), ("here/", "there.cadf"), ("here.cadf", "there/")])
@@ -499,6 +530,59 @@ def test_windows_of_several_files_are_compared_by_their_union(folders):
     assert (folders.path / "there" / ".unions").read_bytes() == unions
     (folders.path / "there" / ".unions").write_bytes(unions.replace(b"U ", b"U 0", 1))
     assert folders.equal("here/", "there/")["windows_differed"] == 0
+
+
+NARROW = """#!/bin/sh
+# Reads no file of more bytes than these, as cadf none of more than 2^30. By `missing` cadf-take reads what it joined of small files.
+[ $1 = missing ] || for each; do
+    case $each in /dev/fd/*) [ $(stat -L -c %%s $each) -le %d ] || { echo "cadf: input 1: too large" >&2; exit 1; } ;; esac
+done
+exec %s "$@"
+"""
+NARROW_BYTES = 3000
+
+
+@pytest.mark.parametrize("there", [(), (1, 197)])
+@pytest.mark.parametrize("way", ["--pull", "--push"])
+def test_a_window_larger_than_a_file_may_be(folders, way, there):
+    """A window of several files, of which no file is made that can't be read, goes by parts."""
+    names = ("here/", "there/") if way == "--push" else ("there/", "here/")
+    for name, keys in zip(names, ((), there)):
+        folders.put(name, facts(*keys))
+    for begin in (1, 197, 393):
+        folders.put("more.cadf", facts(*range(begin, begin + 196, 28)))
+        folders.takes(names[0], ["more.cadf"])
+    assert len(file_of("g", facts(*range(1, 589, 28)))) > NARROW_BYTES * 3 // 2
+    (folders.path / "narrow").write_text(NARROW % (NARROW_BYTES, folders.cadf))
+    (folders.path / "shell").write_text("#!/bin/sh\nexec %s %s/cadf-sync --serve --limit=%d there/\n" % (sys.executable, folders.tools, NARROW_BYTES))
+    for name in ("narrow", "shell"):
+        (folders.path / name).chmod(0o755)
+    folders.cadf = str(folders.path / "narrow")
+    folders.equal("--limit=%d" % NARROW_BYTES, "--rsh=./shell", way, "here/", "h:there/")
+    assert folders.holds("here/") == folders.holds("there/") == facts(*range(1, 589, 28))
+
+
+def test_metrics_of_folders(folders):
+    """Of two windows that change one has an open conflict and one a settled one; an open one of an older window doesn't count."""
+    folders.put("here/", facts(1, 2, 3) | failed(1))
+    folders.put("there/", facts(2, 3) | failed(2, 3) | ruling(3))
+    largest = len(file_of("g", facts(2) - facts())) + len(file_of("g", failed(2)))  # two files of one window
+    for here, there, conflicts in ((5, 4, 1), (0, 0, 0)):
+        folders.equal("--metrics=m.prom", "here/", "there/")
+        assert numbers(folders.path / "m.prom", '{tool="cadf-sync",site="here/",peer="there/"}') == {
+            "facts_taken": here, "facts_lacked_by_peer": there, "open_conflicts": conflicts, "largest_window_bytes": largest}
+
+
+def test_metrics_of_a_spool(folders):
+    """What a spool brings into a folder: one file is good, one is set aside."""
+    (folders.path / "spool").mkdir()
+    (folders.path / "spool" / "good.cadf").write_bytes(file_of("g", facts(1, 2) | failed(2)))
+    (folders.path / "spool" / "bad.cadf").write_bytes(file_of("g", facts(3))[:-9])
+    words = ["--by=day", "--log=g", "--unchanged=0", "--metrics=m.prom", "here/", "spool"]
+    assert folders.runs("cadf-spool", *words).status == 1
+    assert numbers(folders.path / "m.prom", '{tool="cadf-spool",site="here/"}') == {
+        "facts_taken": 7, "open_conflicts": 1, 'files{,became="taken"}': 1, 'files{,became="set aside"}': 1, 'files{,became="waiting"}': 0,
+        "largest_window_bytes": len(file_of("g", facts(2) - facts() | failed(2)))}
 
 
 @pytest.mark.parametrize("words, part", [
@@ -560,19 +644,21 @@ def test_takes_meanwhile_lose_nothing(folders):
 @pytest.mark.parametrize("names", [("here.cadf", "there.cadf"), ("here/", "there/")])
 def test_a_connection_that_is_cut(folders, names):
     """At random bytes: both sites are the old or the new ones. Made again, the call completes."""
-    old, union = [facts(*range(1, 40)), facts(*range(30, 60))], facts(*range(1, 60))
-    folders.put(names[0], old[0])
-    folders.put(names[1], old[1])
-    for name in names:
-        subprocess.run(["cp", "-a", name, "kept-" + name], cwd=folders.path, check=True)
-    total = sum(folders.counted(names[0], "h:" + names[1])[:2])
-    assert folders.holds(names[0]) == folders.holds(names[1]) == union
+    old, union = [facts(*range(1, 6)), facts(*range(4, 9))], facts(*range(1, 9))
+
+    def begun(folder):
+        own = Folders(folders.path / folder, folders.cadf, folders.tools)
+        own.path.mkdir()
+        for name, atoms in zip(names, old):
+            own.put(name, atoms)
+        return own
+
+    whole = begun("whole")
+    total = sum(whole.counted(names[0], "h:" + names[1])[:2])
+    assert whole.holds(names[0]) == whole.holds(names[1]) == union
 
     def cut(number):
-        chance, own = random.Random(number), Folders(folders.path / str(number), folders.cadf)
-        own.path.mkdir()
-        for name in names:
-            subprocess.run(["cp", "-a", folders.path / ("kept-" + name), own.path / name.rstrip("/")], check=True)
+        chance, own = random.Random(number), begun(str(number))
         answer = own.sync("--timeout=20", own.far("cut", chance.randrange(1, total)), names[0], "h:" + names[1])
         found = [own.holds(name) for name in names]
         is_valid = answer.status == 3 and len(said(answer).splitlines()) < 3 and found[0] in (old[0], union) and found[1] in (old[1], union)
@@ -586,15 +672,15 @@ def test_a_connection_that_is_cut(folders, names):
 
 def test_a_call_that_is_killed(folders):
     """At random moments, with the other end or without it: both sites are the old or the new ones."""
-    old, union = [facts(*range(1, 40)), facts(*range(30, 60))], facts(*range(1, 60))
+    old, union = [facts(*range(1, 6)), facts(*range(4, 9))], facts(*range(1, 9))
 
     def killed(number):
-        chance, own = random.Random(number), Folders(folders.path / str(number), folders.cadf)
+        chance, own = random.Random(number), Folders(folders.path / str(number), folders.cadf, folders.tools)
         own.path.mkdir()
         for name, atoms in zip(("here/", "there/"), old):
             own.put(name, atoms)
-        with subprocess.Popen([os.path.join(own.tools, "cadf-sync"), "--quiet", "here/", "there/"], cwd=own.path, env=own.environment(),
-                              stdout=subprocess.DEVNULL, stderr=subprocess.DEVNULL, start_new_session=True) as child:
+        with subprocess.Popen([sys.executable, os.path.join(own.tools, "cadf-sync"), "--quiet", "here/", "there/"], cwd=own.path,
+                              env=own.environment(), stdout=subprocess.DEVNULL, stderr=subprocess.DEVNULL, start_new_session=True) as child:
             time.sleep(chance.uniform(0.05, 0.8))
             (os.kill if number % 2 else os.killpg)(child.pid, signal.SIGKILL)
         found = [own.holds("here/"), own.holds("there/")]
@@ -604,10 +690,10 @@ def test_a_call_that_is_killed(folders):
     assert all(side_by_side(killed, range(8)))
 
 
-def year(number):
-    """About that many atoms, an event each, on the days of a year."""
-    days = [str(datetime.date(2023, 1, 1) + datetime.timedelta(days=day)) for day in range(365)]
-    return {("E", "e%d" % key, spelled(dict(EVENT, eventTime=days[key % 365] + "T12:00:00Z"))) for key in range(number)}
+def year(number, length=365):
+    """That many atoms, an event each, on the days of a year, or on so many days."""
+    days = [str(datetime.date(2023, 1, 1) + datetime.timedelta(days=day)) for day in range(length)]
+    return {("E", "e%d" % key, spelled(dict(EVENT, eventTime=days[key % length] + "T12:00:00Z"))) for key in range(number)}
 
 
 def test_bytes_and_turns(folders):
@@ -632,9 +718,9 @@ def test_bytes_and_turns(folders):
 
 
 def test_turns_of_many_windows(folders):
-    """Of 365 windows that all differ, one by more than any sketch shows."""
-    atoms, many = year(730), {("E", "x%d" % key, spelled(dict(EVENT, eventTime="2023-05-05T12:00:00Z"))) for key in range(900)}
-    here, there = set(sorted(atoms)[::2]) | set(sorted(many)[:500]), set(sorted(atoms)[1::2]) | set(sorted(many)[300:])
+    """Of 1,000 windows that all differ, one by more than any sketch shows."""
+    first, many = year(1000, 1000), {("E", "x%d" % key, spelled(dict(EVENT, eventTime="2023-05-05T12:00:00Z"))) for key in range(900)}
+    here, there = first | set(sorted(many)[:500]), year(2000, 1000) - first | set(sorted(many)[300:])
     folders.put("here/", here)
     folders.put("there/", there)
     _, _, turns = folders.counted("here/", "h:there/")
@@ -651,7 +737,7 @@ def test_small_messages(folders):
 
 
 @pytest.mark.parametrize("way", ["--pull", "--push"])
-def test_signs_of_life(tmp_path, way, tools=TOOLS):
+def test_signs_of_life(tmp_path, way, tools):
     """An end whose command takes longer than the other waits says that it works."""
     slow = tmp_path / "slow"
     slow.write_text("#!/bin/sh\n[ $1 = missing-by ] && sleep 8\nexec %s \"$@\"\n" % REFERENCE)
@@ -679,7 +765,8 @@ WRONG = [
     ("not is_part(listed[1], unit)", "False", lambda sites: test_a_far_side_that_lies(sites, "a window without a unit")),
     ("                if answer.part != asked.part or answer.kind not in ANSWERS[asked.kind]:\n", "                if False:\n",
      lambda sites: test_a_far_side_that_lies(sites, "another part")),
-    ("    return Fault(\"%s: %s\" % (peer, printable(text[2:LONGEST_TEXT])), status)\n", "    return Fault(\"%s: %s\" % (peer, text[2:LONGEST_TEXT]), status)\n",
+    ("said if said.startswith(peer + \": \") else ", "", test_a_refusal_of_the_far_end_is_one_line),
+    ("printable(text[2:LONGEST_TEXT])", "text[2:LONGEST_TEXT]",
      lambda sites: test_a_far_side_that_lies(sites, "a fault with escapes")),
     ("\"cadf-sync --serve -- \" + shlex.quote(site)", "\"cadf-sync --serve -- \" + site", test_names_are_quoted_for_the_far_shell),
     ("            while not done.wait(self.beat):\n", "            while not done.wait(1000):\n",
@@ -688,18 +775,34 @@ WRONG = [
      "        self.send_message(word, content, items)\n        with self.beside(lambda: None) as (thread, faults):\n",
      test_a_fault_is_heard_while_much_is_written),
     ("part == SHARED or since is None or part >= since", "True", test_since_leaves_older_windows),
-    ("self.pushed.append(found)", "self.pulled.append(found)", lambda sites: test_two_files(sites, (), (1, 2, 3, 4), (1, 2, 3, 4))),
+    ("self.pushed += pieces(", "self.pulled += pieces(", lambda sites: test_two_files(sites, (), (1, 2, 3, 4), (1, 2, 3, 4))),
 ]
+
+
+WRONG_OF_FOLDERS = [
+    ("first._replace(kind=\"some\")", "first", lambda folders: test_a_window_larger_than_a_file_may_be(folders, "--pull", ())),
+    ("head + b\"\".join(above)", "head + new", lambda folders: test_a_window_larger_than_a_file_may_be(folders, "--push", ())),
+    ("\"ruled\" not in value", "True", test_metrics_of_folders),
+]
+
+
+def is_caught(kind, path, right, wrong, check, **words):
+    """Has a check fail of tools that have one text in the place of another."""
+    (path / "sites").mkdir()
+    tools = copied(str(path), right, wrong)
+    assert tools, "no such text: %s" % right
+    with pytest.raises(AssertionError):
+        check(kind(path / "sites", tools=tools, patience=3, **words))
 
 
 @pytest.mark.parametrize("number", range(len(WRONG)))
 def test_wrong_tools_are_caught(tmp_path, number):
-    right, wrong, check = WRONG[number]
-    (tmp_path / "sites").mkdir()
-    tools = copied(str(tmp_path), right, wrong)
-    assert tools, "no such text: %s" % right
-    with pytest.raises(AssertionError):
-        check(Sites(tmp_path / "sites", tools=tools))
+    is_caught(Sites, tmp_path, *WRONG[number])
+
+
+@pytest.mark.parametrize("number", range(len(WRONG_OF_FOLDERS)))
+def test_wrong_tools_over_folders_are_caught(tmp_path, cadf, number):
+    is_caught(Folders, tmp_path, *WRONG_OF_FOLDERS[number], cadf=cadf)
 
 
 # ---- By a real sshd, on loopback

@@ -2,6 +2,7 @@
 import errno
 import os
 import signal
+import subprocess
 
 import pytest
 
@@ -50,3 +51,13 @@ def test_ended_by_a_signal(kit, capsys, number):
 
     assert kit.ended(run) == 128 + number
     assert capsys.readouterr().err == "cadf-tool: stopped by %s\n" % number.name
+
+
+@pytest.mark.parametrize("words", [["cadf-take", "new.cadf", "event.json"], ["cadf-which", "event.json"], ["cadf-agree", "event.json", "event.json"],
+                                   ["cadf-report", "event.json"], ["cadf-conflicts", "event.json"]])
+def test_no_command(words, tmp_path):
+    """A command that can't be started is named, with what to do."""
+    (tmp_path / "event.json").write_text("{}")
+    done = subprocess.run([os.path.join(TOP, "tools", words[0]), *words[1:]], cwd=tmp_path, env=dict(os.environ, CADF="/none"), stdin=subprocess.DEVNULL,
+                          stdout=subprocess.PIPE, stderr=subprocess.PIPE, timeout=60, check=False)
+    assert done.returncode == 3 and done.stderr.decode() == "%s: /none: No such file or directory: name the command by CADF, or put it on PATH\n" % words[0]

@@ -77,6 +77,17 @@ def test_agree_reads_windows_that_differ(sites):
     assert sites.run("agree", "north/", "south") == (0, "", []) and sites.read() == set()
 
 
+def test_agree_of_windows_of_several_files(sites):
+    """A window is all of its files: those of the north are in its second file, those of the south in its first."""
+    sites.north.takes(contents(0))
+    sites.north.takes(contents(1))
+    sites.south.takes(contents(0))
+    sketch = ended(Site.command, ["sketch", sites.file("file.cadf", contents(0))], cwd=sites.path).output
+    (sites.path / "sketch").write_bytes(sketch)
+    for other in ("south", "sketch"):
+        assert sites.run("agree", "north", other) == sites.run("agree", other, "north") == (5, "", ["%s lacks 2 facts of north" % other])
+
+
 def test_agree_of_a_folder_and_others(sites):
     sites.north.takes(contents(0, 2, name="n"))
     file = sites.file("file.cadf", contents(0, 2, name="n"))
@@ -173,6 +184,7 @@ def test_spool_sets_aside_what_begins_many_windows(sites):
 @pytest.mark.parametrize("check, right, wrong", [
     (test_agree_reads_windows_that_differ, "sorted({*first.parts, *second.parts})", "sorted(first.parts)[1:]"),
     (test_agree_reads_windows_that_differ, "if first.parts.get(part) != second.parts.get(part):", "if True:"),
+    (test_agree_of_windows_of_several_files, "[*site.inputs, sketch.input], len(site.inputs))", "[site.inputs[0], sketch.input])"),
     (test_which_judges_each_file, "if found != [entry]:", "if False:"),
     (test_a_key_of_two_windows_is_open, "for fact in windows.facts:", "for fact in ():"),
     (test_a_damaged_window_lets_what_arrives_wait, "FAILED if fault.status == REFUSED else fault.status", "fault.status"),
