@@ -50,13 +50,8 @@ STAGES = [
     }),
     ("built programs", 0, {
         "built": "pytest -m built",
-        "take": "python3 -m tests.tools.take",
-        "spool": "python3 -m tests.tools.spool",
         "compare": "python3 -m tests.generated.compare",
         "drivers": "python3 -m tests.generated.drivers",
-        "shown": "python3 -m tests.docs.shown README.md docs/GUIDE.md docs/OPENSTACK.md docs/BUS.md docs/REPORT.md",
-        "sites": "python3 -m tests.tools.sites",
-        "faults": "python3 -m tests.tools.faults",
         "week": "examples/week.sh",
         "week-of-folders": "examples/week.sh --by day",
         "many-sites": "examples/many-sites.py",
@@ -151,14 +146,15 @@ class Gate:
     def run(self, step):
         """Runs a step in a process group of its own; its last line says what it did."""
         name, command = step
-        begun, words = time.monotonic(), command.split()
+        begun, words, environment = time.monotonic(), command.split(), ENVIRONMENT
         is_many = words[0] == "pytest"
         if is_many:
             if not self.pytest:
                 return self.say(Ended(name, 0, 0, 0, WITHOUT_PYTEST, is_many))
             words[:1] = self.pytest
+            environment = {**ENVIRONMENT, "PATH": os.path.dirname(self.pytest[0]) + os.pathsep + ENVIRONMENT["PATH"]}  # for the tools too
         with tempfile.TemporaryFile("w+", errors="replace") as log:
-            child = subprocess.Popen(words, cwd=TOP, env=ENVIRONMENT, stdin=subprocess.DEVNULL, stdout=log,
+            child = subprocess.Popen(words, cwd=TOP, env=environment, stdin=subprocess.DEVNULL, stdout=log,
                                      stderr=subprocess.STDOUT, start_new_session=True)
             with self.lock:
                 self.running.add(child.pid)

@@ -141,6 +141,11 @@ def line(numbers):
     return ["[%s]" % ",".join(tiniest(numbers))]
 
 
+def line_after_blank(numbers):
+    """A line that is not canonical: why it is refused depends on all its numbers."""
+    return ["[ %s]" % ",".join("0" for _ in numbers)]
+
+
 TINY = 12  # bytes of memory a byte of tiny objects and fractions
 TREE = 140  # where they are read into a tree of values
 DOCUMENTS, FILES = (DOCUMENT,), (FILE,)
@@ -210,5 +215,7 @@ SHAPES = {
     "overwritten": Shape("`{\"\":0}` beside a fraction that is overwritten", 7, overwritten, forms=DOCUMENTS,
                          memory=TREE),
     "line": Shape("a line of `{\"\":0}`, refused", 7, lines=line, forms=FILES, is_refused=True, memory=4),
-    "line-1": Shape("a line of `{\"\":0}`, refused", 7, lines=line, forms=(FILE_1,), is_refused=True, memory=TREE),
+    "line-blank": Shape("a line of `0` after a blank, refused", 2, lines=line_after_blank, forms=FILES,
+                        is_refused=True, memory=TINY),
+    "line-1": Shape("a line of `{\"\":0}`, refused", 7, lines=line, forms=(FILE_1,), is_refused=True, memory=TINY),
 }

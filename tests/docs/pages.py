@@ -7,9 +7,8 @@ The pages are README, CONTRIBUTING, docs/*.md, the manual page and the README of
 - A sentence has at most 30 words. Code and tables are left out. An inline piece of code is one word, and so is a list
   of them. A paragraph, a list item and a heading end a sentence. A dot ends one only if a blank follows it.
 - No phrase of tests/docs/phrases occurs, in text or in tables.
-- Each command that the page shows is run by somebody. `tests/docs/shown.py` runs the lines `$ command`, so the page is
-  in its step of .ci/steps.py. A command of a block ```sh is a script of the repository, or a line of
-  tests/docs/elsewhere names the script that runs it.
+- Each command that the page shows is run by somebody: the lines `$ command` by `tests/docs/test_shown.py`. A command of
+  a block ```sh is a script of the repository, or a line of tests/docs/elsewhere names the script that runs it.
 
 README has at most 160 lines of at most 120 characters. docs/ARCHITECTURE.md has the picture of the crates that
 crates.txt makes. Each link of every Markdown file into the repository leads to a file, and to a heading of it. Before
@@ -21,7 +20,7 @@ import subprocess
 import sys
 
 from tests import TOP
-from tests.docs.shown import can_run
+from tests.docs import shown
 
 MOST_WORDS = 30
 PAGES = re.compile(r"(README|CONTRIBUTING|docs/\w+|examples/vectors/README)\.md|share/man/man1/cadf\.1")
@@ -162,18 +161,18 @@ def commands_of_blocks(text):
 
 def idle_commands(name, text):
     """A line for each command that a page shows and nobody runs."""
-    if re.search(r"(?m)^    \$ ", text) and name not in re.search(r'"python3 -m tests\.docs\.shown (.*?)"', read(".ci/steps.py")).group(1).split():
-        yield "%s: tests/docs/shown.py doesn't run its commands: see .ci/steps.py" % name
+    if re.search(r"(?m)^    \$ ", text) and name not in shown.pages():
+        yield "%s: tests/docs/test_shown.py doesn't run its commands" % name
     for command in commands_of_blocks(text):
-        if command not in elsewhere() and not can_run(command):
+        if command not in elsewhere() and not shown.can_run(command):
             yield "%s: nothing runs `%s`: name in tests/docs/elsewhere the script that does" % (name, command)
 
 
 def stale_commands(names):
     """A line for each command of tests/docs/elsewhere that no page shows, or whose script isn't there or in GATE."""
-    shown = {command for name in names for command in commands_of_blocks(read(name))}
+    listed = {command for name in names for command in commands_of_blocks(read(name))}
     for command, script in elsewhere().items():
-        if command not in shown:
+        if command not in listed:
             yield "tests/docs/elsewhere: no page shows `%s`" % command
         names = (script, script[:-len(".py")].replace("/", "."))  # by its place, or as a module
         if not os.path.exists(os.path.join(TOP, script)) or not any(name in read("docs/GATE.md") for name in names):

@@ -1,18 +1,13 @@
 """Runs the commands that a page of the documentation shows, and compares what they write with what it shows.
 
-    python3 -m tests.docs.shown [--commands] PAGE...
+    python3 -m tests.docs.shown PAGE...
 
-A block is indented by four spaces. A line `$ command` is run by bash, in one folder for the whole page, with
-the built command first on the path; a here-document goes on to its line END. The lines below it, up to the
-next command or the block's end, are what the command writes to standard output and standard error together;
-a line `..` stands for any lines. The tools are on the path too. A block with a program that need not be on each machine
-is left out where it is not there, and the last line names the program.
-
-A block without `$ ` has commands for the top of the repository: other steps of CI run them, and here the file that each
-names first has to be one that can be run. With --commands that isn't looked at, and only the lines `$ command` are run:
-for pages that are installed. `tests/docs/pages.py` says which pages have to be here.
+This runs them where the package is installed; `tests/docs/test_shown.py` runs those of the tree. A block is indented by four
+spaces. A line `$ command` is run by bash, in one folder for the whole page, with the built command, if it is there, and the
+tools first on the path; a here-document goes on to its line END. The lines below it, up to the next command or the block's
+end, are what the command writes to standard output and standard error together; a line `..` stands for any lines. A block
+with a program that need not be on each machine is left out where it is not there, and the last line names the program.
 """
-import argparse
 import importlib.util
 import os
 import shutil
@@ -24,6 +19,19 @@ from tests import TOP
 
 FOLDERS = [os.path.join(TOP, "crates", "cadf", "out"), os.path.join(TOP, "tools")]
 NOT_EVERYWHERE = ("jq", "ssh-keygen")
+
+
+class Differs(AssertionError):
+    """A command wrote something else than the page shows."""
+
+
+def pages():
+    """The pages of the tree that show commands with what they write."""
+    docs = sorted(os.path.join("docs", name) for name in os.listdir(os.path.join(TOP, "docs")) if name.endswith(".md"))
+    for name in ("README.md", *docs):
+        with open(os.path.join(TOP, name), encoding="utf-8") as file:
+            if "\n    $ " in file.read():
+                yield name
 
 
 def blocks(page):
@@ -86,16 +94,14 @@ def absent_program(block):
     return next((name for name in NOT_EVERYWHERE if name in words and shutil.which(name) is None), None)
 
 
-def check_block(page, block):
-    """Ends with the first line that can't be run, of a block without `$ `."""
-    if not any(line.startswith("$ ") for _, line in block):
-        for number, line in block:
-            if not can_run(line):
-                sys.exit("check-docs: %s:%d: %s can't be run" % (page, number, line.split()[0]))
+def idle_lines(page):
+    """The lines of the blocks without `$ ` that are no commands for the top of the repository, which other steps run."""
+    apart = [block for block in blocks(page) if not any(line.startswith("$ ") for _, line in block)]
+    return [line for block in apart for _, line in block if not can_run(line)]
 
 
 def run_block(page, block, folder):
-    """Runs the block's commands; the number of them, or the first that writes something else."""
+    """Runs the block's commands; the number of them."""
     path = os.pathsep.join(FOLDERS + [os.environ["PATH"]])
     count = 0
     for count, (number, command, shown) in enumerate(calls(block), 1):
@@ -105,17 +111,15 @@ def run_block(page, block, folder):
         if written[-1] == "":
             written.pop()
         if not is_alike(written, shown):
-            sys.exit("check-docs: %s:%d: %s\nwrote:\n%s" % (page, number, command, "\n".join(written)))
+            raise Differs("%s:%d: %s\nwrote:\n%s" % (page, number, command, "\n".join(written)))
     return count
 
 
-def run_page(page, commands_alone):
+def run_page(page):
     """Runs the page's blocks; the number of commands, and the programs that are not here, whose blocks were left out."""
     count, absent = 0, set()
     with tempfile.TemporaryDirectory() as folder:
         for block in blocks(page):
-            if not commands_alone:
-                check_block(page, block)
             program = absent_program(block)
             if program:
                 absent.add(program)
@@ -125,13 +129,12 @@ def run_page(page, commands_alone):
 
 
 def main():
-    parser = argparse.ArgumentParser(description=__doc__, formatter_class=argparse.RawDescriptionHelpFormatter)
-    parser.add_argument("--commands", action="store_true", help="for pages that are installed")
-    parser.add_argument("pages", metavar="PAGE", nargs="+")
-    options = parser.parse_args()
     absent = set()
-    for name in options.pages:
-        count, its = run_page(os.path.join(TOP, name), options.commands)
+    for name in sys.argv[1:]:
+        try:
+            count, its = run_page(os.path.join(TOP, name))
+        except Differs as fault:
+            sys.exit("shown: %s" % fault)
         absent |= its
         print("shown: %s: %d commands do what it shows" % (name, count))
     for program in sorted(absent):

@@ -14,7 +14,6 @@ WORD = re.compile(r'\(\s*"([a-z-]+)",\s*"([A-Za-z-]+)",\s*Kind::(\w+)(?:\("(\w+)
 # How each kind of word is written in a synopsis.
 SHOWN = {"File": "{0}", "Files": "{0}...", "Text": "{0}", "Option": "[--{0} {1}]", "Unit": "--{0} UNIT", "More": "[--{0} FILE]...", "Flag": "[--{0}]"}
 OPTIONS = ("Option", "Unit", "More", "Flag")
-NOT_IN_LIBRARY = ("split",)
 
 
 def page(*names):
@@ -61,14 +60,15 @@ def test_manual():
 
 
 @pytest.mark.parametrize("name", NAMES)
-def test_readme(name):
-    assert "\n| `%s` | " % synopsis(name) in page("README.md")
+@pytest.mark.parametrize("where", ["README.md", "docs/FORMATS.md"])
+def test_tables(name, where):
+    assert "\n| `%s` | " % synopsis(name) in page(where)
 
 
 def test_everywhere():
     """The tests of commands and the library have each command."""
     assert sorted(COMMANDS) == sorted([*NAMES, "help"])
-    assert sorted(name for name, _, _ in declared()) == sorted(["cadf_version", *("cadf_" + name.replace("-", "_") for name in NAMES if name not in NOT_IN_LIBRARY)])
+    assert sorted(name for name, _, _ in declared()) == sorted(["cadf_version", *("cadf_" + name.replace("-", "_") for name in NAMES)])
 
 
 @pytest.mark.parametrize("name", NAMES)

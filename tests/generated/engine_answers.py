@@ -19,7 +19,7 @@ def engine(call):
         name += "_union"
     own = {
         b"join": lambda: [call.log or b""], b"rehearse": lambda: [call.log, call.sites], b"rule": lambda: call.ruling,
-        b"split": lambda: [call.unit, call.log or b""], b"show": lambda: ["conflicts" if call.conflicts else "log"],
+        b"split": lambda: [call.unit, call.log or b""], b"show": lambda: ["conflicts" if call.flag else "log"],
         b"sketch": lambda: [call.given.get(option, b"") for option in OPTIONS[b"sketch"]]}
     return name, own.get(call.command, lambda: [])()
 

@@ -13,7 +13,7 @@ from install import library_files, needs
 from tests import TOP
 from tests.command import vectors
 from tests.generated.compare import alike, answered
-from tests.generated.generate import KINDS_WITH_SKETCHES, Case
+from tests.generated.generate import KINDS_WITH_SPLITS, Case
 from tests.library.declarations import HEADERS, PYTHON, STRICT, declared
 from tests.machine import side_by_side
 from tests.reference.command import DIRECTORY, Answer, Call, Usage
@@ -176,14 +176,15 @@ class InProcess:
 
         found = Call(words)  # Usage: the words are no call
         self.command, self.log = found.command.decode().replace("-", "_"), found.log
-        self.names, self.conflicts = list(found.files), found.conflicts
+        self.names, self.conflicts = list(found.files), found.flag
         self.texts = [files.get(name, DIRECTORY) for name in self.names]
         self.ruling = found.ruling if self.command == "rule" else None
+        self.unit = found.unit
         self.sites = number(found.sites) if self.command == "rehearse" else None
         self.sketched = [chosen(found.given.get(option)) for option in (b"--cells", b"--salt")]
         if DIRECTORY in self.texts or self.command not in _library.FUNCTIONS:
             raise Usage  # a file that can't be read: the library reads none
-        if self.command != "join" and len(self.names) != (2 if self.command.startswith("missing") else 1):
+        if self.command not in ("join", "split") and len(self.names) != (2 if self.command.startswith("missing") else 1):
             raise Usage  # a union: the library joins by a call of its own
 
     def in_python(self):
@@ -193,6 +194,7 @@ class InProcess:
         first, second = (self.texts + [b""])[0], (self.texts + [b"", b""])[1]
         calls = {
             "join": lambda: cadf.join(self.texts, None if self.log is None else self.log.decode()),
+            "split": lambda: cadf.split(self.unit, self.texts, None if self.log is None else self.log.decode()),
             "missing": lambda: cadf.missing(first, second),
             "missing_by": lambda: cadf.missing_by(first, second),
             "missing_by_sketch": lambda: cadf.missing_by_sketch(first, second),
@@ -210,9 +212,10 @@ class InProcess:
 
     def in_c(self):
         """The words of bindings/c/call.c; None where it has none: an empty log that is given, a name that begins as an option."""
-        if self.log == b"" and self.command == "join":
+        if self.log == b"" and self.command in ("join", "split"):
             return None
-        before = {"join": [self.log or b""], "rehearse": [self.log or b"", b"%d" % (self.sites or 0)],
+        before = {"join": [self.log or b""], "split": [self.unit.encode(), self.log or b""],
+                  "rehearse": [self.log or b"", b"%d" % (self.sites or 0)],
                   "sketch": [b"%d" % number for number in self.sketched]}.get(self.command, [])
         if self.ruling:
             before = [self.ruling[0].encode(), self.ruling[1].encode(), b"%d" % number(self.ruling[2].encode())]
@@ -225,7 +228,7 @@ def cases(count, seed):
     for name, words, files, _ in vectors.calls():
         yield name, words, files
     for place in range(count):
-        case = Case(KINDS_WITH_SKETCHES, seed, place)
+        case = Case(KINDS_WITH_SPLITS, seed, place)
         yield "case %d (%s)" % (place, case.kind), case.words, case.files
 
 
