@@ -220,7 +220,9 @@ impl<'v> View<'v> {
         self.type_invariant();
         let mut out = Vec::with_capacity(alloc, self.room())?;
         self.write(alloc, &mut out)?;
-        Ok(unsafe { String::from_utf8_unchecked(out) })
+        let mut text = unsafe { String::from_utf8_unchecked(out) };
+        text.shrink_to_fit();
+        Ok(text)
     }
 
     /// Appends the canonical text of the part. `Memory` if an allocation fails.

@@ -6,8 +6,8 @@ use Rattle.cadf_json.proofs.Rewriting.{AreMembers-without, AreMembers-replaced}
 use Rattle.cadf_json.proofs.TextBytes.{text_utf8}
 use Rattle.cadf_json.proofs.rewrite.rewritten_text.Goals as goal
 
-pub from_utf8_unchecked-requires : goal.from_utf8_unchecked-requires
-from_utf8_unchecked-requires c =
+pub from_utf8_unchecked-text-requires : goal.from_utf8_unchecked-text-requires
+from_utf8_unchecked-text-requires c =
     let names = texts_of c.args.left_out.now in
     let kept = AreMembers-without names c.args.members c.requires in
     let ms = replaced c.args.name.now (string c.args.text.now) (without names c.args.members) in
