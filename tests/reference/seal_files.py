@@ -100,23 +100,15 @@ class ProofLines(Lines):
     """The count, the leaves that are shown, by place, and the hashes of the other subtrees."""
 
     def __init__(self):
-        self.count, self.leaves, self.hidden, self.wanted = None, {}, [], None
+        self.count, self.leaves, self.hidden = None, {}, []
 
     def left(self, line):
-        if not line.startswith(b"Z"):
-            return None
-        return "unended" if self.count is None or len(self.hidden) < self.hidden_wanted() else None
-
-    def hidden_wanted(self):
-        """How many subtrees have no shown leaf."""
-        if self.wanted is None:
-            self.wanted = len(list(subtrees(0, self.count, sorted(self.leaves))))
-        return self.wanted
+        return "unended" if line.startswith(b"Z") and self.count is None else None
 
     def take(self, line):
         if self.count is None:
             self.count = count_in(line)
-        elif HIDDEN.fullmatch(line) and len(self.hidden) < self.hidden_wanted():
+        elif HIDDEN.fullmatch(line):
             self.hidden.append(raw(line[2:]))
         else:
             self.take_shown(SHOWN.fullmatch(line))
@@ -130,6 +122,9 @@ class ProofLines(Lines):
         self.leaves[place] = digest
 
     def root(self):
+        """The root of the tree, or None if the hashes aren't as many as the subtrees."""
+        if len(self.hidden) != len(list(subtrees(0, self.count, sorted(self.leaves)))):
+            return None
         return shown_root(0, self.count, self.leaves, iter(self.hidden))
 
 

@@ -1,7 +1,9 @@
-//! Seals: the root of the Merkle tree over all digests of an inventory, and the file of one.
+//! Seals: the root of the Merkle tree over all digests of an inventory, and proofs of what is among them.
 #![tactic(auto)]
 
 mod laws;
+mod leaf;
+mod proof;
 mod seal;
 mod seal_lines;
 mod seal_read;
@@ -12,6 +14,8 @@ pub use laws::{
     accepted_bytes_are_seals, root_is_of_a_merkle_tree, seal_determines_inventory,
     seal_file_is_injective, seal_is_read_back,
 };
+pub use leaf::Leaf;
+pub use proof::Proof;
 pub use seal::Seal;
 pub use seal_read::read_seal;
 pub use seal_write::write_seal;

@@ -1,0 +1,87 @@
+//! A proof of what is in an inventory.
+ghost use Rattle.std.specs.Prelude.{◌≡◌};
+ghost use Rattle.cadf_event.specs.Known.{IsNameText};
+ghost use Rattle.cadf_seal.specs.ProofFile.{HasProofParts};
+
+use crate::leaf::Leaf;
+use cadf_event::Name;
+use std::marker::Model;
+
+/// Shows, under the seal of an inventory, that digests are in it or that they are not: its log, how many digests it
+/// has, the leaves of its tree that are shown, and the hashes of the greatest subtrees without such a leaf.
+#[derive(Drop)]
+pub struct Proof {
+    log: Name,
+    count: u64,
+    shown: Vec<Leaf>,
+    hidden: Vec<[u8; 32]>,
+}
+
+impl Model for Proof {
+    ghost use Rattle.cadf_seal.specs.ProofFile.{ProofModel, coded_proof, HasProofParts};
+
+    ghost Value = { ProofModel };
+
+    ghost coded = { coded_proof };
+
+    ghost view = { λ p. record { log = p.log; count = p.count; shown = p.shown.items; hidden = p.hidden.items } };
+
+    ghost invariant = { λ p. HasProofParts (record { log = p.log; count = p.count; shown = p.shown.items; hidden = p.hidden.items }) };
+}
+
+impl Proof {
+    /// Makes the proof of these parts.
+    pub(crate) fn from_parts(
+        log: Name,
+        count: u64,
+        shown: Vec<Leaf>,
+        hidden: Vec<[u8; 32]>,
+    ) -> Proof
+        requires { HasProofParts (record { log = log; count = count; shown = shown.items; hidden = hidden.items }) }
+        ensures { result ≡ record { log = log; count = count; shown = shown.items; hidden = hidden.items } }
+    {
+        Proof {
+            log,
+            count,
+            shown,
+            hidden,
+        }
+    }
+
+    /// States the type invariant of a proof. Does nothing.
+    pub fn type_invariant(&self)
+        ensures log { IsNameText self.now.log }
+        ensures parts { HasProofParts self.now }
+    {
+        self.log.type_invariant();
+        let _hidden = &self.hidden;
+    }
+
+    /// Returns the identifier of the log.
+    pub fn log(&self) -> &Name
+        ensures { result.now ≡ self.now.log }
+    {
+        &self.log
+    }
+
+    /// Returns how many digests the inventory has.
+    pub fn count(&self) -> u64
+        ensures { result ≡ self.now.count }
+    {
+        self.count
+    }
+
+    /// Returns the leaves that are shown, in the order of their places.
+    pub fn shown(&self) -> &[Leaf]
+        ensures { result.now ≡ self.now.shown }
+    {
+        self.shown.as_slice()
+    }
+
+    /// Returns the hashes of the greatest subtrees without a shown leaf, left to right.
+    pub fn hidden(&self) -> &[[u8; 32]]
+        ensures { result.now ≡ self.now.hidden }
+    {
+        self.hidden.as_slice()
+    }
+}
