@@ -1,4 +1,5 @@
 -- What a proof shows of the leaves of a tree, and the hashes that stand for the others.
+--     head ds                   the first leaf, if there is one
 --     needs before behind fs    some fact is above the leaf before, if there is one, and below the leaf behind, if there is one
 --     shown before i ds fs      the leaves of ds that facts need, with their places, of which the first is i
 --     until m ss, from m ss     the shown leaves before place m, and the others
@@ -7,14 +8,18 @@
 --                               that are left. None: there are too few
 --     rehashed h a n ss hs      the texts that are hashed for it
 use Rattle.std.specs.Prelude.{◌+◌, ◌-◌, ◌^◌, ℕ, zero, suc, nat_le, nat_lt, List, [], ◌∷◌, ◌++◌, length, take, drop}
-use Rattle.std.specs.Prelude.{Bool, true, false, ◌&&◌, ◌||◌, not, if◌then◌else◌, Option, None, Some}
-use Rattle.std.specs.List.{filter, head}
+use Rattle.std.specs.Prelude.{Bool, true, false, ◌&&◌, ◌||◌, if◌then◌else◌, Option, None, Some}
+use Rattle.std.specs.List.{filter}
 use Rattle.std.specs.Ordering.{is_lt}
 use Rattle.cadf_join.specs.Contents.{Text, text_cmp}
 use Rattle.cadf_seal.specs.Tree.{leaf_hash, node_hash, tree}
 use Rattle.cadf_seal.specs.declared.leaf.Leaf.{Leaf}
 
 -- ---- which leaves are shown
+
+abbrev pub head : List Text → Option Text
+head [] = None
+head (d ∷ ds) = Some d
 
 abbrev pub is_above : Option Text → Text → Bool
 is_above None f = true
