@@ -24,10 +24,10 @@ tree_beyond h ds beyond = ap (λ b. if b then tree h ds else halved h ds) (lt-le
 grows : (k h : ℕ) → 2 ^ h ≤ 2 ^ (k + h)
 grows k h = pow-le-pow_right {n = 2} (omega arith) (omega arith)
 
-within_more : (k h n : ℕ) → n ≤ 2 ^ h → n ≤ 2 ^ (k + h)
+pub within_more : (k h n : ℕ) → n ≤ 2 ^ h → n ≤ 2 ^ (k + h)
 within_more k h n within = omega (arith, within, grows k h)
 
-tree_any : (k h : ℕ) (ds : List Text) → length ds ≤ 2 ^ h → tree (k + h) ds ≡ tree h ds
+pub tree_any : (k h : ℕ) (ds : List Text) → length ds ≤ 2 ^ h → tree (k + h) ds ≡ tree h ds
 tree_any zero h ds within = ap (λ n. tree n ds) (omega arith)
 tree_any (suc k) h ds within =
     let one_more : suc k + h ≡ suc (k + h) = omega arith in
@@ -81,13 +81,13 @@ module _ (h n : ℕ) (ds : List Text) (there : n ≤ length ds) where
   pub next_within : n ≤ 2 ^ h → tree (suc h) (take n ds) ≡ tree h (take n ds)
   next_within within = tree_within h (take n ds) (omega (arith, long, within))
 
-  first_part : 2 ^ h < n → take (2 ^ h) (take n ds) ≡ take (2 ^ h) ds
+  pub first_part : 2 ^ h < n → take (2 ^ h) (take n ds) ≡ take (2 ^ h) ds
   first_part beyond =
       let sum : 2 ^ h + (n - 2 ^ h) ≡ n = omega (arith, beyond) in
       ap (λ k. take (2 ^ h) (take k ds)) (sym sum) ∙ ap (take (2 ^ h)) (take-add (2 ^ h) (n - 2 ^ h) ds)
       ∙ take_at (take (2 ^ h) ds) _ (2 ^ h) (length-take-le (2 ^ h) ds (omega (arith, beyond, there)))
 
-  second_part : 2 ^ h < n → drop (2 ^ h) (take n ds) ≡ take (n - 2 ^ h) (drop (2 ^ h) ds)
+  pub second_part : 2 ^ h < n → drop (2 ^ h) (take n ds) ≡ take (n - 2 ^ h) (drop (2 ^ h) ds)
   second_part beyond =
       let sum : 2 ^ h + (n - 2 ^ h) ≡ n = omega (arith, beyond) in
       ap (λ k. drop (2 ^ h) (take k ds)) (sym sum) ∙ drop-take (2 ^ h) (n - 2 ^ h) ds

@@ -1,3 +1,4 @@
+pub mod Facts
 pub mod ProofFile
 pub mod SealFile
 pub mod SealLines

@@ -1,13 +1,16 @@
 //! Seals: the root of the Merkle tree over all digests of an inventory, and proofs of what is among them.
 #![tactic(auto)]
 
+mod hidden_subtrees;
 mod laws;
 mod leaf;
 mod proof;
+mod proof_write;
 mod seal;
 mod seal_lines;
 mod seal_read;
 mod seal_write;
+mod shown_leaves;
 mod tree;
 
 pub use laws::{
@@ -16,6 +19,7 @@ pub use laws::{
 };
 pub use leaf::Leaf;
 pub use proof::Proof;
+pub use proof_write::write_proof;
 pub use seal::Seal;
 pub use seal_read::read_seal;
 pub use seal_write::write_seal;

@@ -1,10 +1,15 @@
 //! A proof of what is in an inventory.
-ghost use Rattle.std.specs.Prelude.{◌≡◌};
+ghost use Rattle.std.specs.Prelude.{◌≡◌, IfOk};
 ghost use Rattle.cadf_event.specs.Known.{IsNameText};
-ghost use Rattle.cadf_seal.specs.ProofFile.{HasProofParts};
+ghost use Rattle.cadf_seal.specs.ProofFile.{proof_of, HasProofParts};
 
+use crate::hidden_subtrees::hidden_for;
 use crate::leaf::Leaf;
+use crate::shown_leaves::shown_for;
 use cadf_event::Name;
+use cadf_json::Memory;
+use cadf_set::Inventory;
+use std::alloc::Global;
 use std::marker::Model;
 
 /// Shows, under the seal of an inventory, that digests are in it or that they are not: its log, how many digests it
@@ -30,6 +35,19 @@ impl Model for Proof {
 }
 
 impl Proof {
+    /// Makes the proof for the facts: which of them the inventory has, and which it has not. `Memory` if an allocation
+    /// fails.
+    pub fn of(alloc: Global, facts: &Inventory, inventory: &Inventory) -> Result<Proof, Memory>
+        ensures { IfOk result (λ p. p ≡ proof_of facts.now inventory.now) }
+    {
+        inventory.type_invariant();
+        let log = inventory.log().copy(alloc)?;
+        let count = inventory.digests().len() as u64;
+        let shown = shown_for(alloc, facts, inventory)?;
+        let hidden = hidden_for(alloc, inventory, shown.as_slice())?;
+        Ok(Proof::from_parts(log, count, shown, hidden))
+    }
+
     /// Makes the proof of these parts.
     pub(crate) fn from_parts(
         log: Name,

@@ -21,7 +21,7 @@ pub fn root_of(inventory: &Inventory) -> [u8; 32]
 }
 
 /// Returns the height of a tree that has room for that many leaves.
-fn height_for(count: usize) -> u32
+pub(crate) fn height_for(count: usize) -> u32
     requires { count < 2 ^ 63 }
     ensures room { count ≤ 2 ^ result }
     ensures height { result ≤ 63 }
@@ -30,7 +30,7 @@ fn height_for(count: usize) -> u32
 }
 
 /// Hashes the next `count` leaves as a tree that has room for 2 to the power of `height`.
-fn subtree(leaves: &mut Iter<'_, [u8; 32]>, height: u32, count: usize) -> [u8; 32]
+pub(crate) fn subtree(leaves: &mut Iter<'_, [u8; 32]>, height: u32, count: usize) -> [u8; 32]
     requires some { 0 < count }
     requires room { count ≤ 2 ^ height }
     requires height { height ≤ 63 }

@@ -1,0 +1,187 @@
+-- The leaves that facts need, found by a walk over both in order.
+use Rattle.std.proofs.Common.{◌≡◌, ◌∙◌, ◌+◌, ℕ, suc, Bool, true, false, List, [], ◌∷◌, ◌++◌, drop, Option, None, Some, Bor, refl, ap, sym, subst, arith, append_assoc, true≢false}
+use Rattle.std.specs.Prelude.{◌&&◌, ◌||◌, if◌then◌else◌, cond, MatchOption}
+use Rattle.std.specs.List.{AllByRecursion}
+use Rattle.std.specs.List.Sorted.{IsStrictlySortedBy}
+use Rattle.std.specs.Option.{option_copied}
+use Rattle.std.specs.Ordering.{is_lt}
+use Rattle.std.specs.declared.cmp.Ordering.{Ordering}
+use Rattle.std.specs.declared.cmp.Ordering.TheVariants.{Less, Equal, Greater}
+use Rattle.cadf_join.specs.Contents.{Text, text_cmp}
+use Rattle.cadf_join.specs.laws.Contents.{text_total}
+use Rattle.cadf_seal.specs.Facts.{facts_left, AreAscending, above}
+use Rattle.cadf_seal.specs.Shown.{head, is_below, needs, shown}
+use Rattle.cadf_seal.specs.declared.leaf.Leaf.{Leaf}
+use Rattle.cadf_seal.specs.declared.shown_leaves.Facts.{Facts}
+
+-- ---- one fact
+
+less : (a b : Text) → is_lt (text_cmp a b) ≡ true → text_cmp a b ≡ Less
+less a b e = by (text_cmp a b) e
+  where
+    by : (o : Ordering) → is_lt o ≡ true → o ≡ Less
+    by Less e = refl
+    by Equal e = absurd (cc)
+    by Greater e = absurd (cc)
+
+below_both : (a b c : Text) → text_cmp a b ≡ Less → is_lt (text_cmp b c) ≡ true → is_lt (text_cmp a c) ≡ true
+below_both a b c p q = ap is_lt (text_total.trans a b c p (less b c q))
+
+or_none : (a b : Bool) → a ≡ false → (a || b) ≡ b
+or_none a b e = ap (λ x. x || b) e
+
+-- ---- the first fact decides
+
+none_below : (d f : Text) (fs : List Text) → is_lt (text_cmp f d) ≡ false → AllByRecursion (λ g. text_cmp f g ≡ Less) fs → needs None (Some d) fs ≡ false
+unfolding needs
+none_below d f [] e h = refl
+none_below d f (g ∷ fs) e h = or_none (is_lt (text_cmp g d)) (needs None (Some d) fs) (by (is_lt (text_cmp g d)) refl) ∙ none_below d f fs e h.1
+  where
+    by : (b : Bool) → is_lt (text_cmp g d) ≡ b → is_lt (text_cmp g d) ≡ false
+    by true q = absurd (true≢false (sym (below_both f g d h.0 q) ∙ e))
+    by false q = q
+
+pub first_decides : (behind : Option Text) (f : Text) (fs : List Text) → AreAscending (f ∷ fs) → needs None behind (f ∷ fs) ≡ is_below behind f
+unfolding needs IsStrictlySortedBy
+first_decides None f fs h = refl
+first_decides (Some d) f fs h = by (is_lt (text_cmp f d)) refl
+  where
+    by : (b : Bool) → is_lt (text_cmp f d) ≡ b → (is_lt (text_cmp f d) || needs None (Some d) fs) ≡ is_lt (text_cmp f d)
+    by true q = ap (λ x. x || needs None (Some d) fs) q ∙ sym q
+    by false q = or_none (is_lt (text_cmp f d)) (needs None (Some d) fs) q ∙ none_below d f fs q h.0 ∙ sym q
+
+-- ---- facts that are not above the leaf before are not needed any more
+
+above_more : (d f : Text) (fs : List Text) → is_lt (text_cmp d f) ≡ true → above d (f ∷ fs) ≡ f ∷ above d fs
+above_more d f fs e = ap (λ b. cond b (f ∷ above d fs) (above d fs)) e
+
+pub above_less : (d f : Text) (fs : List Text) → is_lt (text_cmp d f) ≡ false → above d (f ∷ fs) ≡ above d fs
+above_less d f fs e = ap (λ b. cond b (f ∷ above d fs) (above d fs)) e
+
+all_above : (d f : Text) (fs : List Text) → text_cmp d f ≡ Less → AllByRecursion (λ g. text_cmp f g ≡ Less) fs → above d fs ≡ fs
+all_above d f [] e h = refl
+all_above d f (g ∷ fs) e h = above_more d g fs (ap is_lt (text_total.trans d f g e h.0)) ∙ ap (λ gs. g ∷ gs) (all_above d f fs e h.1)
+
+pub above_all : (d f : Text) (fs : List Text) → is_lt (text_cmp d f) ≡ true → AreAscending (f ∷ fs) → above d (f ∷ fs) ≡ f ∷ fs
+unfolding IsStrictlySortedBy
+above_all d f fs e h = above_more d f fs e ∙ ap (λ gs. f ∷ gs) (all_above d f fs (less d f e) h.0)
+
+pub above_ascend : (d : Text) (fs : List Text) → AreAscending fs → AreAscending (above d fs)
+unfolding IsStrictlySortedBy
+above_ascend d [] h = tt
+above_ascend d (f ∷ fs) h = by (is_lt (text_cmp d f)) refl (above_ascend d fs h.1)
+  where
+    by : (b : Bool) → is_lt (text_cmp d f) ≡ b → AreAscending (above d fs) → AreAscending (above d (f ∷ fs))
+    by true q rest = subst AreAscending (sym (above_all d f fs q h)) h
+    by false q rest = subst AreAscending (sym (above_less d f fs q)) rest
+
+needs_above : (d : Text) (behind : Option Text) (fs : List Text) → needs (Some d) behind fs ≡ needs None behind (above d fs)
+unfolding needs
+needs_above d behind [] = refl
+needs_above d behind (f ∷ fs) = by (is_lt (text_cmp d f)) refl (needs_above d behind fs)
+  where
+    by : (b : Bool) → is_lt (text_cmp d f) ≡ b → needs (Some d) behind fs ≡ needs None behind (above d fs)
+        → ((is_lt (text_cmp d f) && is_below behind f) || needs (Some d) behind fs) ≡ needs None behind (above d (f ∷ fs))
+    by true q rest = (λ i. (q i && is_below behind f) || rest i) ∙ ap (needs None behind) (sym (above_more d f fs q))
+    by false q rest = (λ i. (q i && is_below behind f) || rest i) ∙ ap (needs None behind) (sym (above_less d f fs q))
+
+needs_kept : (d e : Text) → text_cmp d e ≡ Less → (behind : Option Text) (fs : List Text) → needs (Some e) behind fs ≡ needs (Some e) behind (above d fs)
+unfolding needs
+needs_kept d e before behind [] = refl
+needs_kept d e before behind (f ∷ fs) = by (is_lt (text_cmp d f)) refl (is_lt (text_cmp e f)) refl (needs_kept d e before behind fs)
+  where
+    by : (b : Bool) → is_lt (text_cmp d f) ≡ b → (c : Bool) → is_lt (text_cmp e f) ≡ c → needs (Some e) behind fs ≡ needs (Some e) behind (above d fs)
+        → ((is_lt (text_cmp e f) && is_below behind f) || needs (Some e) behind fs) ≡ needs (Some e) behind (above d (f ∷ fs))
+    by true q c r rest = ap (λ x. (is_lt (text_cmp e f) && is_below behind f) || x) rest ∙ ap (needs (Some e) behind) (sym (above_more d f fs q))
+    by false q true r rest = absurd (true≢false (sym (below_both d e f before r) ∙ q))
+    by false q false r rest = (λ i. (r i && is_below behind f) || rest i) ∙ ap (needs (Some e) behind) (sym (above_less d f fs q))
+
+abbrev here : Bool → ℕ → Text → List Leaf
+here b i d = if b then record { place = i; digest = d } ∷ [] else []
+
+pub shown_here : (before : Option Text) (i : ℕ) (d : Text) (ds fs : List Text)
+    → shown before i (d ∷ ds) fs ≡ here (needs before (head ds) fs) i d ++ shown (Some d) (suc i) ds fs
+shown_here before i d ds fs = by (needs before (head ds) fs)
+  where
+    by : (b : Bool) → (if b then record { place = i; digest = d } ∷ shown (Some d) (suc i) ds fs else shown (Some d) (suc i) ds fs)
+        ≡ here b i d ++ shown (Some d) (suc i) ds fs
+    by true = refl
+    by false = refl
+
+kept : (d e : Text) → text_cmp d e ≡ Less → (i : ℕ) (ds fs : List Text) → AreAscending (e ∷ ds) → shown (Some e) i ds fs ≡ shown (Some e) i ds (above d fs)
+unfolding IsStrictlySortedBy
+kept d e before i [] fs h = refl
+kept d e before i (g ∷ ds) fs h =
+    shown_here (Some e) i g ds fs
+    ∙ (λ j. here (needs_kept d e before (head ds) fs j) i g ++ kept d g (text_total.trans d e g before h.0.0) (suc i) ds fs h.1 j)
+    ∙ sym (shown_here (Some e) i g ds (above d fs))
+
+dropped : (d : Text) (i : ℕ) (ds fs : List Text) → AreAscending (d ∷ ds) → shown (Some d) i ds fs ≡ shown None i ds (above d fs)
+unfolding IsStrictlySortedBy
+dropped d i [] fs h = refl
+dropped d i (e ∷ ds) fs h =
+    shown_here (Some d) i e ds fs
+    ∙ (λ j. here (needs_above d (head ds) fs j) i e ++ kept d e h.0.0 (suc i) ds fs h.1 j)
+    ∙ sym (shown_here None i e ds (above d fs))
+
+-- ---- the facts that are left
+
+pub none_left : (c : Facts) → c.next ≡ None → facts_left c ≡ []
+none_left c e = ap (λ o. facts_left (record { next = o; rest = c.rest })) e
+
+pub some_left : (c : Facts) (f : Bor Text) → c.next ≡ Some f → facts_left c ≡ f.now ∷ c.rest
+some_left c f e = ap (λ o. facts_left (record { next = o; rest = c.rest })) e
+
+pub next_left : (rest left : List Text) (r : Option (Bor Text)) → MatchOption r ((rest ≡ []) × (left ≡ [])) (λ x. rest ≡ x.now ∷ left)
+    → facts_left (record { next = r; rest = left }) ≡ rest
+next_left rest left None e = sym e.0
+next_left rest left (Some f) e = sym e
+
+pub no_fact : (behind : Option Text) (fs : List Text) → fs ≡ [] → false ≡ needs None behind fs
+unfolding needs
+no_fact behind fs e = ap (needs None behind) (sym e)
+
+pub by_first : (behind : Option Text) (fs : List Text) (f : Text) (rest : List Text) → fs ≡ f ∷ rest → AreAscending fs
+    → is_below behind f ≡ needs None behind fs
+by_first behind fs f rest e h = sym (first_decides behind f rest (subst AreAscending e h)) ∙ ap (needs None behind) (sym e)
+
+pub kept_all : (d : Text) (fs total : List Text) (f : Text) (rest : List Text) → fs ≡ f ∷ rest → AreAscending fs → is_lt (text_cmp d f) ≡ true
+    → above d fs ≡ total → fs ≡ total
+kept_all d fs total f rest e h far all = e ∙ sym (above_all d f rest far (subst AreAscending e h)) ∙ ap (above d) (sym e) ∙ all
+
+pub dropped_one : (d : Text) (fs total more : List Text) (f : Text) (rest : List Text) → fs ≡ f ∷ rest → AreAscending fs → is_lt (text_cmp d f) ≡ false
+    → above d fs ≡ total → more ≡ rest → (above d more ≡ total) × AreAscending more
+unfolding IsStrictlySortedBy
+dropped_one d fs total more f rest e h near all is =
+    let falls = subst AreAscending e h in
+    (ap (above d) is ∙ sym (above_less d f rest near) ∙ ap (above d) (sym e) ∙ all, subst AreAscending (sym is) falls.1)
+
+-- ---- one step of the walk
+
+-- a call of `next`
+module _ (xs ys : List Text) where
+  pub head_of : (r : Option (Bor Text)) → MatchOption r ((xs ≡ []) × (ys ≡ [])) (λ x. xs ≡ x.now ∷ ys) → option_copied r ≡ head xs
+  head_of None e = ap head (sym e.0)
+  head_of (Some x) e = ap head (sym e)
+
+  pub rest_of : (r : Option (Bor Text)) → MatchOption r ((xs ≡ []) × (ys ≡ [])) (λ x. xs ≡ x.now ∷ ys) → ys ≡ drop 1 xs
+  rest_of None e = e.1 ∙ ap (drop 1) (sym e.0)
+  rest_of (Some x) e = ap (drop 1) (sym e)
+
+pub tail_ascends : (its : List Text) (d : Text) (ds : List Text) → its ≡ d ∷ ds → AreAscending its → AreAscending ds
+unfolding IsStrictlySortedBy
+tail_ascends its d ds e h =
+    let falls = subst AreAscending e h in
+    falls.1
+
+pub shown_more : (total so_far more : List Leaf) (i : ℕ) (d : Text) (its ds fs rest : List Text) (needed : Bool)
+    → its ≡ d ∷ ds → AreAscending its → needed ≡ needs None (head ds) fs → rest ≡ above d fs → more ≡ so_far ++ here needed i d
+    → so_far ++ shown None i its fs ≡ total → more ++ shown None (i + 1) ds rest ≡ total
+shown_more total so_far more i d its ds fs rest needed is rise found left put so =
+    let next : i + 1 ≡ suc i = omega arith in
+    (λ j. put j ++ shown None (next j) ds (left j))
+    ∙ append_assoc so_far (here needed i d) (shown None (suc i) ds (above d fs))
+    ∙ (λ j. so_far ++ (here (found j) i d ++ sym (dropped d (suc i) ds fs (subst AreAscending is rise)) j))
+    ∙ ap (λ x. so_far ++ x) (sym (shown_here None i d ds fs))
+    ∙ ap (λ x. so_far ++ shown None i x fs) (sym is)
+    ∙ so

@@ -1,0 +1,15 @@
+use Rattle.std.proofs.Common.{◌≡◌, ◌+◌, ◌++◌, None, length, drop}
+use Rattle.cadf_join.specs.Sets.{rising}
+use Rattle.cadf_seal.specs.Facts.{facts_left, AreAscending}
+use Rattle.cadf_seal.specs.ProofFile.{shown_for}
+use Rattle.cadf_seal.specs.Shown.{shown}
+use Rattle.cadf_seal.proofs.shown_leaves.shown_for.Given as goal
+
+-- the leaves so far and those that the facts left need of the leaves left are all
+abbrev pub invariant-loop-leaf : goal.invariant-loop-leaf
+invariant-loop-leaf l =
+    (l.shown.items ++ shown None l.place l.leaf-iterator (facts_left l.facts) ≡ shown_for l.fn.facts l.inventory)
+    × (l.behind ≡ drop 1 l.leaf-iterator)
+    × AreAscending l.leaf-iterator
+    × AreAscending (facts_left l.facts)
+    × (l.place + length l.leaf-iterator ≡ length (rising l.inventory.digests))
