@@ -1,5 +1,6 @@
 pub mod Determined
 pub mod HiddenLemmas
+pub mod Neighbouring
 pub mod ProofParts
 pub mod ProofWriting
 pub mod SealLemmas

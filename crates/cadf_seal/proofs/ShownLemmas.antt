@@ -24,7 +24,7 @@ less a b e = by (text_cmp a b) e
     by Equal e = absurd (cc)
     by Greater e = absurd (cc)
 
-below_both : (a b c : Text) → text_cmp a b ≡ Less → is_lt (text_cmp b c) ≡ true → is_lt (text_cmp a c) ≡ true
+pub below_both : (a b c : Text) → text_cmp a b ≡ Less → is_lt (text_cmp b c) ≡ true → is_lt (text_cmp a c) ≡ true
 below_both a b c p q = ap is_lt (text_total.trans a b c p (less b c q))
 
 or_none : (a b : Bool) → a ≡ false → (a || b) ≡ b

@@ -1,4 +1,5 @@
 pub mod Facts
+pub mod Neighbours
 pub mod ProofFile
 pub mod SealFile
 pub mod SealLines

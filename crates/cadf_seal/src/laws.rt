@@ -2,6 +2,7 @@
 ghost use Rattle.std.specs.Prelude.{◌≡◌, ◌≤◌, ℕ, length, false, Ok};
 ghost use Rattle.cadf_join.specs.Sets.{rising};
 ghost use Rattle.cadf_set.specs.Inventory.{InventoryModel};
+ghost use Rattle.cadf_seal.specs.Neighbours.{FactHasPlace, FactNeeds, FactsNeed};
 ghost use Rattle.cadf_seal.specs.SealFile.{IsSeal, SealFileIsInjective, seal_file, seal_of};
 ghost use Rattle.cadf_seal.specs.SealVerdict.{AcceptsSeals, seal_verdict};
 ghost use Rattle.cadf_seal.specs.Tree.{IsMerkleTree, RootDetermines, DoNotCollide, hashed};
@@ -20,6 +21,14 @@ pub fn seal_determines_inventory()
     ensures inventory { (n m : InventoryModel)
         → DoNotCollide (hashed (length (rising n.digests)) (rising n.digests)) (hashed (length (rising m.digests)) (rising m.digests))
         → seal_of n ≡ seal_of m → n ≡ m }
+{}
+
+/// States which leaves a proof shows: the leaf that is a fact, or the leaves next to a fact that is none, one on each
+/// side of it if there is one there; for several facts what each of them needs, and no other leaf.
+pub fn proof_shows_facts_or_neighbours()
+    ensures place { FactHasPlace }
+    ensures one { FactNeeds }
+    ensures several { FactsNeed }
 {}
 
 /// States that a seal's file is injective: seals with equal files are equal.

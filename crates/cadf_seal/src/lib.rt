@@ -14,8 +14,8 @@ mod shown_leaves;
 mod tree;
 
 pub use laws::{
-    accepted_bytes_are_seals, root_is_of_a_merkle_tree, seal_determines_inventory,
-    seal_file_is_injective, seal_is_read_back,
+    accepted_bytes_are_seals, proof_shows_facts_or_neighbours, root_is_of_a_merkle_tree,
+    seal_determines_inventory, seal_file_is_injective, seal_is_read_back,
 };
 pub use leaf::Leaf;
 pub use proof::Proof;
