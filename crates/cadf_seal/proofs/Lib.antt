@@ -1,9 +1,9 @@
 pub mod Determined
 pub mod HiddenLemmas
+pub mod ModelLemmas
 pub mod Neighbouring
 pub mod ProofParts
 pub mod ProofWriting
 pub mod SealLemmas
 pub mod ShownLemmas
-pub mod ToldLemmas
 pub mod Trees

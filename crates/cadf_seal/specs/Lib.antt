@@ -1,4 +1,6 @@
 pub mod Facts
+pub mod ModelKind
+pub mod ModelReads
 pub mod Neighbours
 pub mod ProofFile
 pub mod SealFile

@@ -3,13 +3,12 @@
 --     lines_so_far log told    all lines so far
 --     AreTold told             the invariant of the values so far
 --     IsMore told l more       the line l is allowed next, and `more` has its value too
---     IsSealOfLines ls s       the lines are those of the seal's file before its digest line
 use Rattle.std.specs.Prelude.{◌≡◌, ◌<◌, ◌^◌, ℕ, List, [], ◌∷◌, ◌++◌, true, None}
 use Rattle.cadf_join.specs.Contents.{Text}
 use Rattle.cadf_event.specs.LogName.{is_name_text}
 use Rattle.cadf_line.specs.Digest.{IsDigest}
 use Rattle.cadf_linefile.specs.Verdict.{log_line}
-use Rattle.cadf_seal.specs.SealFile.{SealModel, seal_header, count_line, root_line, seal_body, IsSeal}
+use Rattle.cadf_seal.specs.SealFile.{seal_header, count_line, root_line}
 use Rattle.cadf_seal.specs.SealVerdict.{cause_after}
 use Rattle.cadf_seal.specs.declared.seal_lines.Told.{Told}
 use Rattle.cadf_seal.specs.declared.seal_lines.Told.TheVariants.{Nothing, Count, Whole}
@@ -33,6 +32,3 @@ IsMore told line more = (cause_after (told_lines told) line ≡ None) × (told_l
 
 abbrev pub AreSoFar : Text → Told → Type 0
 AreSoFar log told = (is_name_text log ≡ true) × AreTold told
-
-abbrev pub IsSealOfLines : List (List ℕ) → SealModel → Type 0
-IsSealOfLines lines s = (lines ≡ seal_body s) × IsSeal s

@@ -3,20 +3,18 @@
 --     cause_after before line   what is wrong with the line, if `before` are the lines between it and the log line
 --     seal_decided              the fault that the bytes decide by themselves, before the source ends
 --     seal_verdict              the seal whose file the bytes are, or the first fault
-use Rattle.std.specs.Prelude.{◌≡◌, ◌↔◌, ◌≤◌, ℕ, nat_eq, List, [], ◌∷◌, length, drop, codes}
-use Rattle.std.specs.Prelude.{Bool, false, is_some, if◌then◌else◌, Option, Some, None, unwrap_or, Result, Ok, Err}
+use Rattle.std.specs.Prelude.{ℕ, nat_eq, List, [], ◌∷◌, length, drop, codes, Bool, is_some, if◌then◌else◌, Option, Some, None, unwrap_or, Result}
 use Rattle.std.specs.List.{starts_with}
-use Rattle.std.specs.Str.{bytes_eq}
 use Rattle.cadf_join.specs.Contents.{Text}
 use Rattle.cadf_linefile.specs.declared.fault.Cause.{Cause}
 use Rattle.cadf_linefile.specs.declared.fault.Cause.TheVariants.{Shape}
 use Rattle.cadf_linefile.specs.declared.fault.FileFault.{FileFault}
 use Rattle.cadf_linefile.specs.LineGrammar.{LineGrammar}
-use Rattle.cadf_linefile.specs.Verdict as frame
-use Rattle.cadf_linefile.specs.Verdict.{log_in_line, begins_digest}
+use Rattle.cadf_linefile.specs.Verdict.{log_in_line}
 use Rattle.cadf_inventory.specs.InventoryVerdict.{digest_of}
-use Rattle.cadf_sketch.specs.SketchVerdict.{number_in, shape_unless, cause_of_end}
-use Rattle.cadf_seal.specs.SealFile.{SealModel, IsSeal, seal_header, seal_file}
+use Rattle.cadf_sketch.specs.SketchVerdict.{number_in, shape_unless}
+use Rattle.cadf_seal.specs.ModelKind.{ModelKind, grammar_of, decided_of, verdict_of, AcceptsModels}
+use Rattle.cadf_seal.specs.SealFile.{SealModel, IsSeal, seal_header, seal_body}
 
 abbrev pub count_in : List ℕ → Option ℕ
 count_in line = if starts_with nat_eq line (codes "N ") then number_in (drop 2 line) else None
@@ -34,14 +32,6 @@ cause_after (count ∷ root ∷ more) line = Some Shape
 abbrev pub is_whole : List (List ℕ) → Bool
 is_whole lines = nat_eq (length lines) 2
 
--- the digest line follows the root
-abbrev pub seal_grammar : LineGrammar
-seal_grammar = record {
-  is_first = λ line. bytes_eq line seal_header;
-  cause_of_previous = λ before line. if begins_digest line then cause_of_end (is_whole (drop 2 before)) else None;
-  cause_of = λ before line. cause_after (drop 2 before) line;
-}
-
 -- ---- the seal of a file's lines
 
 abbrev pub seal_model_in : List (List ℕ) → SealModel
@@ -51,17 +41,19 @@ seal_model_in lines = record { log = []; count = 0; root = [] }
 
 -- ---- the verdict
 
-abbrev pub seal_decided : ℕ → List ℕ → Option FileFault
-seal_decided limit bytes = frame.decided seal_grammar limit bytes
+-- the digest line follows the root
+abbrev pub seal_kind : ModelKind SealModel
+seal_kind = record { header = seal_header; cause_after = cause_after; is_whole = is_whole; body = seal_body; model_in = seal_model_in }
 
-abbrev pub seal_model_or_fault : Result (List (List ℕ)) FileFault → Result SealModel FileFault
-seal_model_or_fault (Ok lines) = Ok (seal_model_in lines)
-seal_model_or_fault (Err fault) = Err fault
+abbrev pub seal_grammar : LineGrammar
+seal_grammar = grammar_of seal_kind
+
+abbrev pub seal_decided : ℕ → List ℕ → Option FileFault
+seal_decided = decided_of seal_kind
 
 abbrev pub seal_verdict : ℕ → Bool → List ℕ → Result SealModel FileFault
-seal_verdict limit failed bytes = seal_model_or_fault (frame.verdict seal_grammar limit failed bytes)
+seal_verdict = verdict_of seal_kind
 
 -- bytes are accepted if and only if they are the file of a seal, within the limit
 abbrev pub AcceptsSeals : Type 0
-AcceptsSeals = (limit : ℕ) (bytes : List ℕ) (s : SealModel) →
-    (seal_verdict limit false bytes ≡ Ok s) ↔ ((bytes ≡ seal_file s) × (length bytes ≤ limit) × IsSeal s)
+AcceptsSeals = AcceptsModels seal_kind IsSeal

@@ -1,4 +1,4 @@
-use Rattle.cadf_seal.proofs.ToldLemmas.{root_told}
+use Rattle.cadf_seal.proofs.SealLemmas.{root_told}
 use Rattle.cadf_seal.proofs.seal_lines.after_count.Goals as goal
 
 pub returns-in-Some-clause-ok : goal.returns-in-Some-clause-ok

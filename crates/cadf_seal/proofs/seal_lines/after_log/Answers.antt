@@ -1,4 +1,4 @@
-use Rattle.cadf_seal.proofs.ToldLemmas.{count_told}
+use Rattle.cadf_seal.proofs.SealLemmas.{count_told}
 use Rattle.cadf_seal.proofs.seal_lines.after_log.Goals as goal
 
 pub returns-in-Some-clause-ok : goal.returns-in-Some-clause-ok
