@@ -2,6 +2,7 @@ pub mod Determined
 pub mod HiddenLemmas
 pub mod ModelLemmas
 pub mod Neighbouring
+pub mod ProofLineLemmas
 pub mod ProofParts
 pub mod ProofWriting
 pub mod SealLemmas

@@ -3,6 +3,9 @@ pub mod ModelKind
 pub mod ModelReads
 pub mod Neighbours
 pub mod ProofFile
+pub mod ProofLines
+pub mod ProofReads
+pub mod ProofVerdict
 pub mod SealFile
 pub mod SealLines
 pub mod SealReads

@@ -3,10 +3,13 @@ ghost use Rattle.std.specs.Prelude.{◌≡◌, ◌≤◌, ℕ, length, false, Ok
 ghost use Rattle.cadf_join.specs.Sets.{rising};
 ghost use Rattle.cadf_set.specs.Inventory.{InventoryModel};
 ghost use Rattle.cadf_seal.specs.Neighbours.{FactHasPlace, FactNeeds, FactsNeed};
+ghost use Rattle.cadf_seal.specs.ProofFile.{IsProof, proof_file};
+ghost use Rattle.cadf_seal.specs.ProofVerdict.{AcceptsProofs, proof_verdict};
 ghost use Rattle.cadf_seal.specs.SealFile.{IsSeal, SealFileIsInjective, seal_file, seal_of};
 ghost use Rattle.cadf_seal.specs.SealVerdict.{AcceptsSeals, seal_verdict};
 ghost use Rattle.cadf_seal.specs.Tree.{IsMerkleTree, RootDetermines, DoNotCollide, hashed};
 
+use crate::proof::Proof;
 use crate::seal::Seal;
 
 /// States the equations by which RFC 9162, section 2.1, defines the hash of a list of leaves.
@@ -47,4 +50,17 @@ pub fn seal_is_read_back(seal: &Seal)
     ensures read { (limit : ℕ) → length (seal_file seal.now) ≤ limit → seal_verdict limit false (seal_file seal.now) ≡ Ok seal.now }
 {
     seal.type_invariant();
+}
+
+/// States that bytes are accepted if and only if they are the file of a proof, within the limit.
+pub fn accepted_bytes_are_proofs()
+    ensures { AcceptsProofs }
+{}
+
+/// States that the file of a proof is accepted if it is within the limit, and is read as that proof.
+pub fn proof_is_read_back(proof: &Proof)
+    ensures proof { IsProof proof.now }
+    ensures read { (limit : ℕ) → length (proof_file proof.now) ≤ limit → proof_verdict limit false (proof_file proof.now) ≡ Ok proof.now }
+{
+    proof.type_invariant();
 }

@@ -5,6 +5,8 @@ mod hidden_subtrees;
 mod laws;
 mod leaf;
 mod proof;
+mod proof_lines;
+mod proof_read;
 mod proof_write;
 mod seal;
 mod seal_lines;
@@ -14,11 +16,13 @@ mod shown_leaves;
 mod tree;
 
 pub use laws::{
-    accepted_bytes_are_seals, proof_shows_facts_or_neighbours, root_is_of_a_merkle_tree,
-    seal_determines_inventory, seal_file_is_injective, seal_is_read_back,
+    accepted_bytes_are_proofs, accepted_bytes_are_seals, proof_is_read_back,
+    proof_shows_facts_or_neighbours, root_is_of_a_merkle_tree, seal_determines_inventory,
+    seal_file_is_injective, seal_is_read_back,
 };
 pub use leaf::Leaf;
 pub use proof::Proof;
+pub use proof_read::read_proof;
 pub use proof_write::write_proof;
 pub use seal::Seal;
 pub use seal_read::read_seal;

@@ -52,7 +52,7 @@ impl Model for SealLines {
 }
 
 /// Decodes the line of the count. `None` if it is no such line.
-fn count_in(line: &[u8]) -> Option<u64>
+pub(crate) fn count_in(line: &[u8]) -> Option<u64>
     ensures { result ≡ count_in line.now }
 {
     if line.starts_with(b"N ") {

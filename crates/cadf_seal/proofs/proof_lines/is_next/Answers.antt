@@ -1,0 +1,23 @@
+use Rattle.std.proofs.Common.{◌∙◌, ap, sym}
+use Rattle.std.specs.Prelude.{◌&&◌}
+use Rattle.std.specs.Ordering.{is_lt}
+use Rattle.std.proofs.lemmas.Bool.{lt-ltb, le-ltb}
+use Rattle.cadf_join.specs.Contents.{text_cmp}
+use Rattle.cadf_seal.proofs.ProofLineLemmas.{next_is}
+use Rattle.cadf_seal.proofs.proof_lines.is_next.Goals as goal
+
+pub returns-then-last-leaf : goal.returns-then-last-leaf
+returns-then-last-leaf c =
+    let last = c.in-Some.last.now in
+    let leaf = c.args.leaf.now in
+    c.is_lt.ensures
+    ∙ ap is_lt c.cmp.ensures
+    ∙ ap (λ b. b && is_lt (text_cmp last.digest leaf.digest)) (sym (lt-ltb last.place leaf.place c.if-last-leaf.true))
+    ∙ next_is c.args.shown.now last leaf c.in-Some.ensures.value
+
+pub returns-else-last-leaf : goal.returns-else-last-leaf
+returns-else-last-leaf c =
+    let last = c.in-Some.last.now in
+    let leaf = c.args.leaf.now in
+    let low = le-ltb last.place leaf.place c.if-last-leaf.false in
+    low ∙ ap (λ b. b && is_lt (text_cmp last.digest leaf.digest)) (sym low) ∙ next_is c.args.shown.now last leaf c.in-Some.ensures.value
