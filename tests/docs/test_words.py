@@ -1,19 +1,16 @@
 """The commands and their words stand in one table, crates/cadf_words/src/table.rt: every other place has just those."""
 import os
 import re
-import subprocess
 
 import pytest
 
 from tests import TOP
 from tests.command.commands import COMMANDS
 from tests.library.declarations import declared
+from tests.tables.completions import COMMANDS as NAMES, PARTS, WORDS, operands, options
 
-COMMAND = re.compile(r'\(\s*"([a-z-]+)",\s*"[^"]*",?\s*\)')
-WORD = re.compile(r'\(\s*"([a-z-]+)",\s*"([A-Za-z-]+)",\s*Kind::(\w+)(?:\("(\w+)"\))?,')
 # How each kind of word is written in a synopsis.
 SHOWN = {"File": "{0}", "Files": "{0}...", "Text": "{0}", "Option": "[--{0} {1}]", "Unit": "--{0} UNIT", "More": "[--{0} FILE]...", "Flag": "[--{0}]"}
-OPTIONS = ("Option", "Unit", "More", "Flag")
 
 
 def page(*names):
@@ -21,18 +18,12 @@ def page(*names):
         return file.read()
 
 
-TABLE = page("crates", "cadf_words", "src", "table.rt").split("const WORDS")
-NAMES = COMMAND.findall(TABLE[0])
-WORDS = {name: [word for word in WORD.findall(TABLE[1]) if word[0] == name] for name in NAMES}
+def shown(words):
+    return " ".join(SHOWN[word.kind].format(word.name, word.value) for word in words)
 
 
 def synopsis(name):
-    words = sorted(WORDS[name], key=lambda word: word[2] not in OPTIONS)
-    return " ".join(["cadf", name, *(SHOWN[kind].format(word, value) for _, word, kind, value in words)])
-
-
-def options(name):
-    return ["--" + word for _, word, kind, _ in WORDS[name] if kind in OPTIONS]
+    return " ".join(["cadf", name, shown([*options(name), *operands(name)])])
 
 
 def plain(roff):
@@ -52,7 +43,7 @@ def synopses():
 
 def test_table():
     """All of the table was read."""
-    assert len(NAMES) == TABLE[0].count('"') // 4 and sum(map(len, WORDS.values())) == TABLE[1].split("\n];")[0].count("Kind::")
+    assert len(NAMES) == PARTS[0].count('"') // 4 and sum(map(len, WORDS.values())) == PARTS[1].count("Kind::")
 
 
 def test_manual():
@@ -74,31 +65,14 @@ def test_everywhere():
 @pytest.mark.parametrize("name", NAMES)
 def test_operands(name):
     """The tests of commands know how many words a command takes."""
-    assert COMMANDS[name].operands == " ".join(SHOWN[kind].format(word) for _, word, kind, _ in WORDS[name] if kind not in OPTIONS)
+    assert COMMANDS[name].operands == shown(operands(name))
 
 
 def test_worked_flag():
-    """CONTRIBUTING shows what a flag adds by lines that are there."""
+    """CONTRIBUTING shows what a flag adds by lines that are there, in at most 12 files."""
     diff = page("CONTRIBUTING.md").split("```diff\n")[1].split("```")[0]
-    shown = re.split(r"(?m)^\+\+\+ (.*)\n", diff)[1:]
-    for name, lines in zip(shown[::2], shown[1::2]):
+    parts = re.split(r"(?m)^\+\+\+ (.*)\n", diff)[1:]
+    assert len(parts) // 2 <= 12
+    for name, lines in zip(parts[::2], parts[1::2]):
         found = page(name).split("\n")
         assert [line for line in lines.splitlines() if line[1:] not in found] == [], name
-
-
-@pytest.mark.needs("bash")
-@pytest.mark.parametrize("name", NAMES)
-def test_bash(name):
-    """bash offers just the options of a command."""
-    script = '. "$0"; COMP_WORDS=(cadf %s --); COMP_CWORD=2; _cadf; printf "%%s\\n" "${COMPREPLY[@]}"' % name
-    place = os.path.join(TOP, "share", "bash-completion", "completions", "cadf")
-    said = subprocess.run(["bash", "-c", script, place], check=True, stdout=subprocess.PIPE, universal_newlines=True).stdout
-    assert sorted(said.split()) == sorted(["--help", *options(name)])
-
-
-@pytest.mark.parametrize("name", NAMES)
-def test_zsh(name):
-    """zsh offers just the options of a command, and has its help."""
-    script = page("share", "zsh", "site-functions", "_cadf")
-    row, = re.findall(r"(?m)^    (?:[a-z-]+ \| )?%s(?: \| [a-z-]+)?\) (.*) ;;$" % name, script)
-    assert re.findall(r"'\*?(--[a-z-]+)", row.replace("$from", "'--from")) == options(name) and "\n    '%s:" % name in script

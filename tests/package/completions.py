@@ -16,6 +16,7 @@ import time
 
 from tests import TOP
 from tests.command.commands import COMMANDS
+from tests.tables.completions import WORDS, options
 
 SECONDS = 60  # for a machine that does other work too
 COMPLETE, INSERT_ALL = "\t", "\x18*"
@@ -45,10 +46,8 @@ COMPLETED = [
 # The same, with all completions of what is typed in its place.
 INSERTED = [
     ("", [*COMMANDS]), ("help ", ["help", *COMMANDS]), ("m", ["missing", "missing-by", "missing-by-sketch"]), ("rule ", ["rule", *"EGMPR"]),
-    ("show --", ["show", "--conflicts", "--help"]), ("join --", ["join", "--help", "--log"]),
-    ("sketch --", ["sketch", "--cells", "--help", "--salt"]), ("split --", ["split", "--by", "--help", "--log"]),
     ("split --by ", ["split", "--by", "day", "hour", "month"]),
-]
+] + [(name + " --", [name, "--help", *("--" + word.name for word in options(name))]) for name in WORDS]
 CASES = [(typed, COMPLETE, words) for typed, words in COMPLETED] + [(typed, INSERT_ALL, words) for typed, words in INSERTED]
 
 # How each shell is started in a folder, with what it reads first. The command becomes a function that writes its words.

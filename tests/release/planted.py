@@ -43,6 +43,8 @@ ROWS = [
     Row("manual: no --set-aside", "share/man/man1/cadf.1", ".BI \\-\\-set\\-aside", ".BI \\-\\-aside", INSTALLED + "test_tool"),
     Row("manual: no --until-empty", "share/man/man1/cadf.1", ".BI \\-\\-until\\-empty", ".BI \\-\\-until", INSTALLED + "test_tool"),
     Row("manual: another version", "share/man/man1/cadf.1", '"cadf 0.1.0"', '"cadf 0.2.0"', INSTALLED + "test_version"),
+    Row("bash: no --conflicts", "share/bash-completion/completions/cadf", "'--conflicts --help'", "--help", INSTALLED + "test_completions"),
+    Row("zsh: no --conflicts", "share/zsh/site-functions/_cadf", "--conflicts[", "--conflict[", INSTALLED + "test_completions"),
     Row("unit: another option", "examples/systemd/cadf-spool@.service", " --log %i ", " --logs %i ", UNITS + "test_words"),
     Row("unit: no folder to write to", "examples/systemd/cadf-spool@.service", "ReadWritePaths=/var/spool/cadf/%i\n", "", UNITS + "test_setting"),
     Row("unit: little memory", "examples/systemd/cadf-spool@.service", "MemoryMax=5G", "MemoryMax=5M", UNITS + "test_setting"),

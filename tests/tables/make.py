@@ -1,7 +1,8 @@
-"""Writes what the drivers are run on, and what they must answer, from their tables.
+"""Writes what the drivers are run on, and what they must answer, from their tables; and the completions.
 
-    python3 -m tests.tables.make                 writes crates/drivers/stdin and crates/drivers/stdout from all tables
-    python3 -m tests.tables.make --check         compares both, and names the first difference
+    python3 -m tests.tables.make                 writes crates/drivers/stdin and crates/drivers/stdout from all tables, and
+                                                 share/ has the completions, from the table of cadf_words
+    python3 -m tests.tables.make --check         compares them, and names the first difference
     python3 -m tests.tables.make --answers FILE  lists each row that FILE, the output of crates/drivers, answers otherwise
 
 The table tests/tables/NAME_calls.py is that of the driver NAME, the crate NAME_calls. A line of stdin begins with the
@@ -17,6 +18,7 @@ import re
 import sys
 
 from tests import TOP
+from tests.tables import completions
 from tests.tables.fields import line
 
 FOLDER = os.path.join(TOP, "tests", "tables")
@@ -78,10 +80,10 @@ def rows():
 
 
 def made():
-    """The two files of the drivers, by their paths."""
+    """The two files of the drivers and those of the completions, by their paths."""
     folder = os.path.join(TOP, "crates", "drivers")
     _, asked, answered = zip(*rows())
-    return {os.path.join(folder, "stdin"): "".join(asked), os.path.join(folder, "stdout"): "".join(answered)}
+    return {os.path.join(folder, "stdin"): "".join(asked), os.path.join(folder, "stdout"): "".join(answered), **completions.made()}
 
 
 def tell():
