@@ -1,7 +1,7 @@
 """Small files of each format, for who writes another implementation: examples/vectors.
 
-    python3 -m tests.command.vectors BINARY  checks that the command, and the second implementation, answer so
-    python3 -m tests.command.vectors --make  writes what the calls write, by the second implementation
+    python3 -m tests.command.vectors [BINARY]  checks that the second implementation, and the command BINARY, answer so
+    python3 -m tests.command.vectors --make    writes what the calls write, by the second implementation
 
 A line of calls.txt is a call's words, ` -> `, and the file that it writes, or its line on standard error. A call of a
 command that the help of BINARY doesn't list is asked of the second implementation alone. Files that no call writes are
@@ -147,8 +147,8 @@ def make_seals():
 
 
 def check(binary):
-    """Tries each call both ways; the number of calls."""
-    count, commands = 0, commands_of(binary)
+    """Tries each call by the second implementation, and by the command if its path is given."""
+    count, commands = 0, commands_of(binary) if binary else ()
     for name, words, files, wanted in calls():
         got_by_binary = [answered(binary, words, files)] if words[0].decode() in commands else []
         for got in (answer(words, files), *got_by_binary):
@@ -162,4 +162,4 @@ if __name__ == "__main__":
     if sys.argv[1:] == ["--make"]:
         make()
     else:
-        check(os.path.abspath(sys.argv[1]))
+        check(os.path.abspath(sys.argv[1]) if sys.argv[1:] else None)
