@@ -4,7 +4,7 @@ A row has a name, a file, a text that is in it once, what stands in its place, a
 """
 from typing import NamedTuple
 
-PAGE = "share/cadf/report/"
+PAGE, SITE = "share/cadf/report/", "share/cadf/cadf_site.py"
 CHANGED, INSTALLED, PACKAGES, UNITS = ("tests/package/test_%s.py -k " % name for name in ("builds", "installed", "packages", "units"))
 
 CRASH, TURNS, OPENSTACK, LISTENER, COMPARED = (
@@ -53,6 +53,11 @@ ROWS = [
     # ---- The tools: what a power cut, a signal or another caller does to them
     Row("take: nothing new, not synced", "tools/cadf-take", "            sync(self.site)  # a call", "            pass  # a call", CRASH + "test_take"),
     Row("take: union for all to read", "share/cadf/cadf_toolkit.py", "os.O_EXCL, 0o600)) as file:", "os.O_EXCL, 0o666)) as file:", CRASH + "test_take"),
+    Row("folder: window not synced", SITE, "            os.fsync(file)\n        os.rename(", "            pass\n        os.rename(", CRASH + "test_take_into"),
+    Row("folder: names not synced", SITE, "        os.fsync(self.folder.descriptor)\n        with self", "        with self", CRASH + "test_take_into"),
+    Row("folder: `site` not synced", SITE, "        self.name(INDEX)\n        os.fsync(self.folder.descriptor)\n", "        self.name(INDEX)\n", CRASH + "test_take_into"),
+    Row("folder: nothing new, not synced", SITE, "            os.fsync(self.folder.descriptor)  # a call", "            pass  # a call", CRASH + "test_take_into"),
+    Row("folder: its name not synced", SITE, "                sync(os.path.dirname(os.path.abspath(name)))", "                pass", CRASH + "test_take_into"),
     Row("take: looks before the lock", "tools/cadf-take", "            with locked(options.site, options.wait) as held:\n",
         "            own = opened_site(options.site)\n            with locked(options.site, options.wait) as held:\n                globals()['opened_site'] = lambda _: own\n", TURNS + "test_take_after"),
     Row("take: lock behind a link", "tools/cadf-take", "os.O_RDWR | os.O_NOFOLLOW | os.O_NONBLOCK", "os.O_RDWR | os.O_NONBLOCK", TURNS + "test_take_behind"),
@@ -62,6 +67,7 @@ ROWS = [
     Row("tools: 3 for MemoryError", "share/cadf/cadf_toolkit.py", "    except MemoryError:\n        status, said = MEMORY,", "    except MemoryError:\n        status, said = FAILED,", TOOLKIT),
     Row("spool: set aside, not synced", "tools/cadf-spool", "dst_dir_fd=self.spool.aside)\n            os.fsync(self.spool.aside)\n", "dst_dir_fd=self.spool.aside)\n", CRASH + "test_spool_in_part"),
     Row("spool: reason not synced", "tools/cadf-spool", "            file.flush()\n            os.fsync(file.fileno())\n", "", CRASH + "test_spool_refuses"),
+    Row("spool: copy not synced", "tools/cadf-spool", "            os.fsync(copy.fileno())\n", "", CRASH + "test_spool_refuses"),
     Row("spool: children without the lock", "tools/cadf-spool", "pass_fds=[self.spool.lock], ", "", TURNS + "test_spool_killed"),
     Row("spool: one group", "tools/cadf-spool", "is_full = size", "is_full = False and size", "tests/tools/test_spool_groups.py -k test_groups"),
     Row("spool: 0 for a file in part", "tools/cadf-spool", 'self.note("set aside", REFUSED)\n            say(', 'self.note("set aside", DONE)\n            say(', "tests/tools/test_spool_groups.py -k test_in_part"),

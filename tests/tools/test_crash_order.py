@@ -54,6 +54,24 @@ def test_take(cadf, tmp_path, held, form):
     assert status == 0 and re.fullmatch(form, told), told
 
 
+@pytest.mark.parametrize("held, form", [
+    (None, "PFw+srF(w+sp)+Fw+srF"),  # the folder's name; a `site` of no window; each window's file, all names, and a `site` of them
+    ("e2", "(w+sp)+Fw+srF"),
+    ("e1", "w+F"),  # nothing new: a call that was killed may have put it there
+])
+def test_take_into_a_folder(cadf, tmp_path, held, form):
+    """A file is on the disk before it has its name, and all names that `site` has before it is replaced."""
+    environment, site = {**os.environ, "CADF": cadf}, tmp_path / "site"
+    (tmp_path / "new.json").write_text(document("e1"))
+    if held:
+        (tmp_path / "held.json").write_text(document(held))
+        subprocess.run([tool("cadf-take"), "--by", "day", site, tmp_path / "held.json"], env=environment, check=True)
+    calls = {"P": r"fsync\(\d+<TMP>\)", "F": r"fsync\(\d+<TMP/site>\)", "w": r"write\(\d+<TMP/site/\.new>", "s": r"fsync\(\d+<TMP/site/\.new>",
+             "p": r'renameat2?\(.*"\.new", .*"2024-03-01\.[0-9a-f]*', "r": r'renameat2?\(.*"\.new", .*"site"'}
+    status, told = steps(tmp_path, [tool("cadf-take"), "--by", "day", site, tmp_path / "new.json"], calls, env=environment)
+    assert status == 0 and re.fullmatch(form, told), told
+
+
 def spooled(cadf, folder, name, content, calls):
     """The steps of a run over a spool with one file."""
     spool = folder / "spool"
@@ -73,11 +91,12 @@ def test_spool_in_part(cadf, tmp_path):
 
 
 def test_spool_refuses(cadf, tmp_path):
-    """Why a file is set aside is on the disk before the file is let go, and then its name."""
-    calls = {"w": r"write\(\d+<TMP/spool/set-aside/cut\.json\.reason>", "s": r"fsync\(\d+<TMP/spool/set-aside/cut\.json\.reason>",
+    """A copy is on the disk before it is in the place of what was sent. So is why it is set aside before it is, and then its name."""
+    calls = {"c": r"write\(\d+<TMP/spool/taking/\.work/copy>", "y": r"fsync\(\d+<TMP/spool/taking/\.work/copy>", "x": r'renameat\(.*"copy", .*taking>, ',
+             "w": r"write\(\d+<TMP/spool/set-aside/cut\.json\.reason>", "s": r"fsync\(\d+<TMP/spool/set-aside/cut\.json\.reason>",
              "m": r"renameat\(.*set-aside>, ", "F": r"fsync\(\d+<TMP/spool/set-aside>"}
     status, told = spooled(cadf, tmp_path, "cut.json", "{", calls)
-    assert status == 1 and re.fullmatch("w+smF", told), told
+    assert status == 1 and re.fullmatch("c+yxw+smF", told), told
 
 
 def test_from_openstack(tmp_path):
