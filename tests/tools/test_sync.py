@@ -9,6 +9,7 @@ import hashlib
 import json
 import os
 import random
+import shlex
 import shutil
 import signal
 import socket
@@ -71,7 +72,7 @@ class Sites:
 
     def far(self, *words):
         """What `--rsh` is to be for a mode of far_side.py."""
-        return "--rsh=%s %s %s" % (sys.executable, FAR, " ".join(map(str, words)))
+        return "--rsh=" + shlex.join([sys.executable, FAR, *map(str, words)])
 
     def lied_to(self, data, *words, mode="says", timeout=None):
         """What the tool answers if the far side writes this. Its site has to stay as it was."""
@@ -150,7 +151,7 @@ def test_names_are_quoted_for_the_far_shell(sites):
     name = "it's; touch wrong #.cadf"
     sites.put("here.cadf", facts(1))
     sites.put(name, facts(2))
-    (sites.path / "shell").write_text('#!/bin/sh\n[ "$1 $2" = "-- h" ] && PATH=%s:$PATH exec sh -c "$3"\n' % sites.tools)
+    (sites.path / "shell").write_text('#!/bin/sh\n[ "$1 $2" = "-- h" ] && PATH=%s:$PATH exec sh -c "$3"\n' % shlex.quote(sites.tools))
     (sites.path / "shell").chmod(0o755)
     answer = sites.sync("--rsh=./shell", "here.cadf", "h:" + name)
     assert answer.status == 0, answer
@@ -553,8 +554,9 @@ def test_a_window_larger_than_a_file_may_be(folders, way, there):
         folders.put("more.cadf", facts(*range(begin, begin + 196, 28)))
         folders.takes(names[0], ["more.cadf"])
     assert len(file_of("g", facts(*range(1, 589, 28)))) > NARROW_BYTES * 3 // 2
-    (folders.path / "narrow").write_text(NARROW % (NARROW_BYTES, folders.cadf))
-    (folders.path / "shell").write_text("#!/bin/sh\nexec %s %s/cadf-sync --serve --limit=%d there/\n" % (sys.executable, folders.tools, NARROW_BYTES))
+    (folders.path / "narrow").write_text(NARROW % (NARROW_BYTES, shlex.quote(folders.cadf)))
+    (folders.path / "shell").write_text("#!/bin/sh\nexec %s --serve --limit=%d there/\n" % (
+        shlex.join([sys.executable, os.path.join(folders.tools, "cadf-sync")]), NARROW_BYTES))
     for name in ("narrow", "shell"):
         (folders.path / name).chmod(0o755)
     folders.cadf = str(folders.path / "narrow")
@@ -740,7 +742,7 @@ def test_small_messages(folders):
 def test_signs_of_life(tmp_path, way, tools):
     """An end whose command takes longer than the other waits says that it works."""
     slow = tmp_path / "slow"
-    slow.write_text("#!/bin/sh\n[ $1 = missing-by ] && sleep 8\nexec %s \"$@\"\n" % REFERENCE)
+    slow.write_text("#!/bin/sh\n[ $1 = missing-by ] && sleep 8\nexec %s \"$@\"\n" % shlex.quote(REFERENCE))
     slow.chmod(0o755)
     own = Sites(tmp_path, str(slow), tools)
     own.put("here.cadf", facts(1))
@@ -818,7 +820,7 @@ UsePAM no
 PasswordAuthentication no
 PermitRootLogin prohibit-password
 AllowTcpForwarding yes
-SetEnv PATH={tools}:{path} CADF={cadf}
+SetEnv PATH="{tools}:{path}" CADF="{cadf}"
 Subsystem sftp internal-sftp
 """
 PRIVILEGES = "/run/sshd"  # a folder without which an sshd of root doesn't start

@@ -1,6 +1,7 @@
 """The tools that read a site, where it is a folder: cadf-agree, cadf-which, cadf-conflicts, cadf-report and cadf-spool."""
 import json
 import os
+import shlex
 
 import pytest
 
@@ -24,7 +25,7 @@ class Sites:
         self.south.count = 100  # of its files' names
         self.told = path / "told"
         telling = path / "telling"
-        telling.write_text(TELLING % (self.told, Site.command))
+        telling.write_text(TELLING % (self.told, shlex.quote(Site.command)))
         telling.chmod(0o755)
         self.environment = dict(os.environ, CADF=str(telling))
 
