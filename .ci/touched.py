@@ -1,12 +1,16 @@
 """What an edit touches: files that differ from a commit, and the crates that have them."""
 import os
 import subprocess
+import sys
 
 TOP = os.path.dirname(os.path.dirname(os.path.abspath(__file__)))
 
 
 def listed(*words):
-    done = subprocess.run(["git", *words], cwd=TOP, check=True, stdout=subprocess.PIPE)
+    try:
+        done = subprocess.run(["git", *words], cwd=TOP, check=True, stdout=subprocess.PIPE)
+    except FileNotFoundError:
+        sys.exit("git, which tells what differs, isn't there")
     return set(filter(None, done.stdout.decode("utf-8", "surrogateescape").split("\0")))
 
 

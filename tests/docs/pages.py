@@ -16,6 +16,7 @@ all this the script refuses wrong pages of its own, one for each fault.
 """
 import os
 import re
+import shutil
 import subprocess
 import sys
 
@@ -251,6 +252,8 @@ def blind_faults():
 
 
 def main():
+    if shutil.which("git") is None:
+        return print("skipped: git, which lists the pages, isn't there")
     names = tracked()
     pages = [name for name in names if PAGES.fullmatch(name)]
     found = [*blind_faults(), *stale_commands(pages)]
@@ -262,7 +265,7 @@ def main():
     print("".join("pages: %s\n" % line for line in found), end="")
     if found:
         sys.exit("pages: %d faults" % len(found))
-    print("pages: %d pages have no fault, and each of %d trials was judged rightly" % (len(pages), len(TRIALS)))
+    return print("pages: %d pages have no fault, and each of %d trials was judged rightly" % (len(pages), len(TRIALS)))
 
 
 if __name__ == "__main__":
