@@ -29,8 +29,14 @@ def pytest_addoption(parser):
     parser.addoption("--release", action="store_true", help="run what runs before a release too")
 
 
-def pytest_collection_modifyitems(items):
-    """Marks each test by whether it runs the built command, so that `-m unbuilt` is what can run before a build."""
+def pytest_collection_modifyitems(config, items):
+    """Marks each test by whether it runs the built command, so that `-m unbuilt` is what can run before a build.
+
+    Leaves out those of a release, which are no skips: docs/GATE.md has them among what runs on demand.
+    """
+    later = [] if config.getoption("--release") else [item for item in items if item.get_closest_marker("release")]
+    config.hook.pytest_deselected(items=later)
+    items[:] = [item for item in items if item not in later]
     for item in items:
         item.add_marker("built" if {"cadf", "drivers"} & set(item.fixturenames) else "unbuilt")
 
@@ -44,8 +50,6 @@ def pytest_runtest_setup(item):
             pytest.skip("%s isn't there" % program)
     if item.get_closest_marker("root") and os.geteuid():
         pytest.skip("it needs root")
-    if item.get_closest_marker("release") and not item.config.getoption("--release"):
-        pytest.skip("it runs with --release")
 
 
 @pytest.fixture(scope="session")

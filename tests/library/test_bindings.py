@@ -75,6 +75,15 @@ def compiled(prefix, folder, name, source, *options):
     return made
 
 
+def test_files(prefix, version):
+    """Each is there, or leads to one that is; that of pkg-config has the version of the command."""
+    described = os.path.join(prefix, "lib", "pkgconfig", "cadf.pc")
+    for name in ("include/cadf.h", "lib/libcadf.so", "lib/" + library_files.SONAME, described):
+        assert os.stat(os.path.join(prefix, name)).st_size, name
+    with open(described, encoding="utf-8") as file:
+        assert "Version: %s\n" % version.split()[1] in file.read()
+
+
 def test_symbols(prefix):
     """Both libraries show the functions of the header alone; the shared one needs the C library alone, by its own name."""
     names = sorted(name for name, _, _ in declared())

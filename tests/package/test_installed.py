@@ -1,6 +1,6 @@
 """The command, its pages, tools and completions under another folder, by install/install; and what is left when they are removed.
 
-The library for C is there where it is built; tests/library/bindings.py builds and tries it.
+tests/library/test_bindings.py does the same with the library for C.
 """
 import os
 import re
@@ -31,7 +31,6 @@ share/doc/cadf/sbom.spdx.json
 """
 UNITS = {".service": "lib/systemd/system/%s.service", ".timer": "lib/systemd/system/%s.timer",
          ".sysusers": "lib/sysusers.d/%s.conf", ".tmpfiles": "lib/tmpfiles.d/%s.conf"}
-LIBRARY = ("include/cadf.h", "lib/libcadf.so", "lib/libcadf.so.0", "lib/pkgconfig/cadf.pc")
 
 
 @pytest.fixture(scope="module")
@@ -100,15 +99,6 @@ def test_tool(run, prefix, tool):
     assert set(LONG_OPTION.findall(done.output.decode())) - {"--help", "--version"} == set(LONG_OPTION.findall(section(manual, tool)))
     assert any(tool in page(name) for name in os.listdir(os.path.join(TOP, "docs")) if name.endswith(".md"))
     assert (prefix / "share/man/man1" / (tool + ".1")).read_text() == ".so man1/cadf.1\n"
-
-
-def test_library(run, prefix):
-    """Where it is built, its files are there, and each link leads to one."""
-    if not (prefix / "lib" / "libcadf.a").exists():
-        pytest.skip("the library isn't built: build/library")
-    assert all((prefix / name).stat().st_size for name in LIBRARY)
-    version = run("cadf", "--version").output.decode().split()[1]
-    assert "Version: %s\n" % version in (prefix / "lib/pkgconfig/cadf.pc").read_text()
 
 
 @pytest.mark.parametrize("name", GUIDES)

@@ -30,7 +30,7 @@ PLACES = {
 }
 
 if __name__ == "__main__":
-    words = [PYTHON, "-m", "pytest", "--collect-only", "-q", "-p", "no:cacheprovider", "tests"]
+    words = [PYTHON, "-m", "pytest", "--collect-only", "--release", "-q", "-p", "no:cacheprovider", "tests"]
     listed = subprocess.run(words, cwd=TOP, check=True, stdout=subprocess.PIPE, universal_newlines=True).stdout
     files = collections.Counter(line.split("::")[0] for line in listed.splitlines() if "::" in line)
     for place, count in [*files.items(), *((place, len(list(cases))) for place, cases in PLACES.items())]:

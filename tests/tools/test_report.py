@@ -181,13 +181,21 @@ def test_sameness(reports):
     assert os.getcwd().encode() not in page
 
 
+# A script begins so that has the tool as a module.
+LOADED = "import sys; sys.path.insert(0, %r); from tests.tools.programs import loaded; m = loaded(%r); " % (TOP, TOOL)
+
+
+def with_setting(reports, name, value, *words):
+    """What the tool answers with another setting."""
+    script = LOADED + "m.%s = %d; sys.argv[:] = ['cadf-report', *%r]; sys.exit(m.main())" % (name, value, list(words))
+    return ended(PYTHON, ["-c", script], env=reports.environment)
+
+
 def test_pieces(reports):
     """A text that is read in the smallest pieces gives the same page: borders fall into every character and number."""
-    environment = dict(reports.environment)
     for name in ("hostile.json", "settled"):
-        script = "import sys; from importlib.machinery import SourceFileLoader as L; m = L('t', %r).load_module(); m.PIECE = %%d; sys.argv[1:] = [%r]; sys.exit(m.main())" % (TOOL, name)
         for size in (1, 7, 4096):
-            answer = ended(PYTHON, ["-W", "ignore", "-c", script % size], env=environment)
+            answer = with_setting(reports, "PIECE", size, name)
             assert answer.status == 0, "pieces of %d" % size
             assert answer.output == reports.page(name), "pieces of %d" % size
     module = loaded(TOOL)
@@ -283,12 +291,6 @@ def test_faults(reports):
     assert (full.status, full.error) == (3, b"cadf-report: standard output: write fault: No space left on device\n")
 
 
-def with_setting(reports, name, value, *words):
-    """What the tool answers with another setting."""
-    script = "import sys; from importlib.machinery import SourceFileLoader as L; m = L('t', %r).load_module(); m.%s = %d; sys.argv[:] = ['cadf-report', *%r]; sys.exit(m.main())"
-    return ended(PYTHON, ["-W", "ignore", "-c", script % (TOOL, name, value, list(words))], env=reports.environment)
-
-
 def test_most_events():
     """As many as docs/REPORT.md says: a browser holds no longer texts."""
     assert loaded(TOOL).MOST_EVENTS == 10 ** 6
@@ -333,8 +335,8 @@ def under(reports, size, *words):
 def test_memory(reports):
     """In too little memory it ends with status 4 and a beginning of the page at most, and leaves nothing behind."""
     put("large.json", json.dumps(plain(10000)))
-    script = "from importlib.machinery import SourceFileLoader as L; L('t', %r).load_module(); print(open('/proc/self/status').read())" % TOOL
-    least = 1024 * int(re.search(rb"VmPeak:\s*(\d+)", ended(PYTHON, ["-W", "ignore", "-c", script]).output)[1])  # below it Python itself fails
+    script = LOADED + "print(open('/proc/self/status').read())"
+    least = 1024 * int(re.search(rb"VmPeak:\s*(\d+)", ended(PYTHON, ["-c", script]).output)[1])  # below it Python itself fails
     sizes = range(least + (4 << 20), least + (40 << 20), 6 << 20)
     page, statuses = reports.page("large.json"), set()
     for size, (answer, left) in zip(sizes, side_by_side(lambda size: under(reports, size, "large.json"), sizes)):
