@@ -4,10 +4,10 @@
     bench/instructions.py [--atoms 10000] [--only join,missing] [BINARY ..]
 
 BINARY is crates/cadf/out/cadf unless given. The inputs are those of bench/show.py (a log document of 10 MB) and of
-bench/join.py (two replica files of so many atoms each that share half of them; `inventory` reads the first). A line has
-the command, its input, and millions of instructions of each BINARY; then the ratios of the first to each other one.
-Counts depend neither on other load nor on the processor's speed. They need valgrind; the script says so if it is not
-there.
+bench/join.py (two replica files of so many atoms each that share half of them; `inventory` and `seal` read the first).
+A line has the command, its input, and millions of instructions of each BINARY; then the ratios of the first to each
+other one. Counts depend neither on other load nor on the processor's speed. They need valgrind; the script says so if
+it is not there.
 """
 import argparse
 import os
@@ -43,6 +43,8 @@ CASES = [
     Case("missing", "format 2", ("first.2", "second.2")),
     Case("inventory", "format 1", ("first.1",)),
     Case("inventory", "format 2", ("first.2",)),
+    Case("seal", "format 1", ("first.1",)),
+    Case("seal", "format 2", ("first.2",)),
 ]
 
 

@@ -88,6 +88,14 @@ COMMANDS = {
         large=["missing-by-sketch many.cadf log.sketch"],
         limited=["missing-by-sketch one.cadf two.sketch"],
     ),
+    "seal": Command(
+        operands='FILE...', writes_pieces=True,
+        small=["seal log.json", "seal both.cadf", "seal both.1.cadf", "seal changed.cadf", "seal log.cadf other.json"],
+        worked=["seal one.cadf"],
+        large=["seal many.cadf"],
+        limited=["seal one.cadf"],
+        deep=["seal deep.cadf"],
+    ),
     "rule": Command(
         operands='LETTER KEY PLACE FILE...', writes_pieces=True,
         small=["rule E e2 1 both.cadf", "rule E e2 1 event.json log.json other.cadf",

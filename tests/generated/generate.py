@@ -55,7 +55,7 @@ def reading(chance, data):
     """A call that reads one input."""
     return chance.choice([
         ["show", "a"], ["show", "a"], ["show", "a"], ["show", "--conflicts", "a"], ["check", "a"], ["join", "a"],
-        ["join", "--log", "g", "a"], ["missing", "a", "a"], ["inventory", "a"], ["missing-by", "a", "i"]]), \
+        ["join", "--log", "g", "a"], ["missing", "a", "a"], ["inventory", "a"], ["seal", "a"], ["missing-by", "a", "i"]]), \
         {"a": data, "i": NO_DIGESTS}
 
 
@@ -322,7 +322,7 @@ def unions(chance):
     if chance.random() < 0.05:
         several.insert(chance.randint(0, len(several)), chance.choice(["folder", "nothere"]))
     command = chance.choice([
-        ["show"], ["show", "--conflicts"], ["check"], ["inventory"], ["sketch", "--cells", "9"],
+        ["show"], ["show", "--conflicts"], ["check"], ["inventory"], ["seal"], ["sketch", "--cells", "9"],
         ["rule", letter, key, chance.choice("1123")], ["missing"], ["missing"], ["missing-by"], ["missing-by-sketch"]])
     if not command[0].startswith("missing"):
         return command + several, files
@@ -370,7 +370,7 @@ def inventories(chance):
     if chance.random() < 0.05:
         files["from"] = spelled_oddly(chance, event(chance))
     if chance.random() < 0.3:
-        return ["inventory", "from" if chance.random() < 0.95 else chance.choice(["folder", "nothere"])], files
+        return [chance.choice(["inventory", "seal"]), "from" if chance.random() < 0.95 else chance.choice(["folder", "nothere"])], files
     log = "g" if chance.random() < 0.94 else chance.choice(["h", "g ", "G"])
     files["by"] = inventory_with(log, some_digests(chance, atoms))
     operands = chance.choice([["from", "by"]] * 20 + [
@@ -495,7 +495,7 @@ def formats(chance):
     files["i"] = inventory_with("g", some_digests(chance, whole))
     return chance.choice([
         ["join", *files][:-1], ["join", *files][:-1], ["join", first], ["missing", first, second], ["missing", first, second],
-        ["missing-by", first, "i"], ["inventory", first], ["show", first], ["check", second]]), files
+        ["missing-by", first, "i"], ["inventory", first], ["seal", first], ["show", first], ["check", second]]), files
 
 
 def example_documents(chance):
@@ -549,7 +549,7 @@ def words(chance):
              "-x": some_file(chance), "g": some_file(chance, "h"), "folder": DIRECTORY,
              "e": spelled_oddly(chance, event(chance)), "i": NO_DIGESTS}
     command = chance.choice([
-        "join", "join", "missing", "missing-by", "inventory", "show", "check", "rule", "Join", "", "joi", "missing-", "--log"])
+        "join", "join", "missing", "missing-by", "inventory", "seal", "show", "check", "rule", "Join", "", "joi", "missing-", "--log"])
     behind = [chance.choice(LIKELY_WORDS if chance.random() < 0.6 else WORDS) for _ in range(chance.randint(0, 4))]
     return [command] + behind, files
 

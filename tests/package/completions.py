@@ -27,7 +27,7 @@ COMPLETED = [
     ("inv", ["inventory"]), ("missing-", ["missing-by"]), ("he", ["help"]), ("--he", ["--help"]), ("--v", ["--version"]),
     ("show a", ["show", "a.cadf"]), ("show c", ["show", "c d.cadf"]), ("show --c", ["show", "--conflicts"]),
     ("show --conflicts b", ["show", "--conflicts", "b.json"]), ("check b", ["check", "b.json"]),
-    ("inventory a", ["inventory", "a.cadf"]), ("join a.cadf b", ["join", "a.cadf", "b.json"]),
+    ("inventory a", ["inventory", "a.cadf"]), ("seal a", ["seal", "a.cadf"]), ("join a.cadf b", ["join", "a.cadf", "b.json"]),
     ("join --l", ["join", "--log"]), ("join --log g a", ["join", "--log", "g", "a.cadf"]),
     ("join --log a", ["join", "--log", "a"]), ("missing a.cadf b", ["missing", "a.cadf", "b.json"]),
     ("missing-by a", ["missing-by", "a.cadf"]), ("missing-by a.cadf b", ["missing-by", "a.cadf", "b.json"]),

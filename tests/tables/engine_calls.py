@@ -9,6 +9,7 @@ import re
 from tests.tables import rows as worked, sketch_rows as sketched, split_rows, worked_files as made
 from tests.tables.document_rows import BOTH, NORTH, conflicts, log
 from tests.tables.exchange_rows import OTHER_LOG
+from tests.tables.seal_rows import seal
 from tests.tables.texts import C1, C2, CF, K1, KF, V1, V2, digits, document, inventory, replica
 
 CALLS = {
@@ -22,6 +23,7 @@ CALLS = {
     "run_inventory": ["run_inventory"],
     "run_sketch": ["run_sketch", "Cells::by_default"],
     "run_missing_by_sketch": ["run_missing_by_sketch"],
+    "run_seal": ["run_seal"],
     "run_rule": ["run_rule"],
     "run_rehearse": ["run_rehearse"],
     "run_show": ["run_show"],
@@ -31,6 +33,7 @@ CALLS = {
     "run_inventory_union": ["run_inventory_union"],
     "run_sketch_union": ["run_sketch_union"],
     "run_missing_by_sketch_union": ["run_missing_by_sketch_union"],
+    "run_seal_union": ["run_seal_union"],
     "run_rule_union": ["run_rule_union"],
     "run_show_union": ["run_show_union"],
     "run_check_union": ["run_check_union"],
@@ -178,12 +181,14 @@ READ = [
     ("missing-by", [EMPTY_LOG, inventory()], made.NOTHING_TREE),
     ("sketch --cells 3", [NONE], sketched.EMPTY),
     ("missing-by-sketch", [NONE, sketched.EMPTY], made.NOTHING_TREE),
+    ("seal", [made.NOTHING_TREE], seal()),
     ("rule P name 2", [NAMED], made.SOUTH_TREE),
     ("rehearse g 2", [TWO_SITES], "site 0 atoms 0 as 0\nsite 1 atoms 0 as 0\n"),
     ("show", [made.EVENT_TREE, NONE], log(V1)),
     ("check", [NONE, EMPTY_LOG], 'ok "g" atoms 0 conflicts 0\n'),
     ("inventory", [NONE, EMPTY_LOG], inventory()),
     ("sketch --cells 3", [EMPTY_LOG, NONE], sketched.EMPTY),
+    ("seal", [NONE, EMPTY_LOG], seal()),
     ("rule P name 2", [NAMED, NONE], made.SOUTH_TREE),
     ("missing --from --to", [NONE, EMPTY_LOG, EMPTY_LOG, NONE], made.NOTHING_TREE),
     ("missing-by --from", [EMPTY_LOG, NONE, inventory()], made.NOTHING_TREE),
@@ -211,6 +216,7 @@ fail_reads("missing-by", [made.EVENT_TREE, inventory(*sorted([digits(C1), digits
 
 # A command, its inputs, what is written, and what goes out at once, as a pattern: each write fails in turn.
 LINES, WHOLE, PARTS = ".*\n", "(?s).+", "CADF-SPLIT.*\n.*\n.*\n|CADF-REPLICA.*\n.*\n|.*\n"
+SEALED = "N.*\nR.*\n|.*\n"
 WRITTEN = [
     ("show", [made.CHAINS_TREE], log(BOTH), WHOLE),
     ("show --conflicts", [EMPTY_LOG], conflicts(), WHOLE),
@@ -225,6 +231,7 @@ WRITTEN = [
     ("missing-by", [made.NOTHING_TREE, inventory()], made.NOTHING_TREE, LINES),
     ("sketch --cells 3 --salt 1", [made.EVENT_TREE], sketched.WORKED, LINES),
     ("missing-by-sketch", [made.TWO, sketched.WORKED], made.SECOND_TREE, LINES),
+    ("seal", [made.EVENT_TREE], seal(digits(C1)), SEALED),
     ("rule P name 2", [NAMED], made.SOUTH_TREE, LINES),
     ("rehearse g 2", [""], "site 0 atoms 0 as 0\nsite 1 atoms 0 as 0\n", WHOLE),
 ]
@@ -300,6 +307,10 @@ IN_ORDER = [
     ("inventory", [BAD], NOT_JSON_1),
     ("inventory", [EVENT], ["NoLog"]),
     ("inventory", [GOOD], ["WriteFault"]),
+    ("seal", [FAILING], ["ReadFault", 1]),
+    ("seal", [BAD], NOT_JSON_1),
+    ("seal", [EVENT], ["NoLog"]),
+    ("seal", [GOOD], ["WriteFault"]),
     ("show", [FAILING], ["ReadFault", 1]),
     ("show", [BAD], NOT_JSON_1),
     ("show", [EVENT], ["NoLog"]),
@@ -330,6 +341,7 @@ IN_ORDER = [
     ("check", [GOOD, OTHER, FAILING], ["ReadFault", 3]),
     ("inventory", [EVENT, EVENT], ["NoLog"]),
     ("sketch", [EVENT, GOOD, OTHER], ["OtherLog", 3]),
+    ("seal", [EVENT, GOOD, OTHER], ["OtherLog", 3]),
     ("rule X e1 0", [GOOD, OTHER], ["OtherLog", 2]),
     ("rule E e1 2", [GOOD, EVENT], ["NoValue"]),
     ("rule E e1 1", [GOOD, EVENT], ["WriteFault"]),

@@ -1,11 +1,12 @@
-"""Worked rows of several inputs: joins, missing parts, inventories and rulings.
+"""Worked rows of several inputs: joins, missing parts, inventories, seals and rulings.
 
     from exchange_rows import JOINED, OF_FILES, FILES_REFUSED
 
 Where a command's words have `{}`, the files stand there in turn, else behind the words.
 """
 from tests.tables.document_rows import FAILED, NORTH, ONE, conflicts, entry, event, log
-from tests.tables.texts import BF, C1, C2, CF, K1, S1, S2, S3, V1, V2, VF, digits, document, inventory, line, replica, tree
+from tests.tables.seal_rows import seal
+from tests.tables.texts import BF, C1, C2, CF, K1, KF, S1, S2, S3, V1, V2, VF, digits, document, inventory, line, replica, tree
 from tests.tables.worked_files import (
     BODY_NODE, CHAINS, CHAINS_TREE, CHAIN_NODES, CHAIN_TREE, CONFLICT, CONFLICT_TREE, EVENT_FILE, EVENT_TREE, FRONT,
     HELD_TREE, NAMED, NAMED_TREE, NAMES, NOTHING, NOTHING_TREE, OTHER_NODE, OTHER_TREE, R1, RULED_TREE, RULING_TREE,
@@ -93,6 +94,12 @@ OF_FILES = [
     ("the inventory of nothing in format 2", "inventory", [NOTHING_TREE], inventory()),
     ("the inventory of an event in format 2", "inventory", [EVENT_TREE], inventory(digits(C1))),
     ("the inventory of a document", "inventory", [document(V1)], inventory(digits(C1))),
+    ("the seal of nothing", "seal", [NOTHING], seal()),
+    ("the seal of nothing in format 2", "seal", [NOTHING_TREE], seal()),
+    ("the seal of an event in format 2", "seal", [EVENT_TREE], seal(digits(C1))),
+    ("the seal of a document", "seal", [document(V1)], seal(digits(C1))),
+    ("the seal of two events", "seal", [TWO], seal(digits(C1), digits(C2))),
+    ("a seal is of atoms, not of nodes", "seal", [CONFLICT_TREE], seal(*map(digits, (CF, KF, C1, K1)))),
     ("nothing by the inventory of it", "missing-by", [EVENT_TREE, inventory(digits(C1))], NOTHING_TREE),
     ("all by an inventory of nothing", "missing-by", [EVENT_FILE, inventory()], EVENT_TREE),
     ("nothing of nothing by an inventory", "missing-by", [NOTHING, inventory(digits(C1))], NOTHING_TREE),
@@ -131,6 +138,8 @@ OF_FILES = [
     ("the counts of two bodies in two files", "check", [document(ONE), document(FAILED)], 'ok "g" atoms 4 conflicts 1\n'),
     ("the counts of a file twice", "check", [CONFLICT_TREE, CONFLICT], 'ok "g" atoms 4 conflicts 1\n'),
     ("the inventory of two files", "inventory", [EVENT_TREE, SECOND_TREE], inventory(*sorted([digits(C1), digits(C2)]))),
+    ("the seal of two files", "seal", [EVENT_TREE, SECOND_TREE], seal(digits(C1), digits(C2))),
+    ("the seal of a file and an event of it", "seal", [TWO_TREE, V2], seal(digits(C1), digits(C2))),
     ("a ruling of a value in the second file", "rule E e1 1", [document(ONE), document(FAILED)], RULED_TREE),
     ("a delta of two files", "missing {} --from {} {}", [EVENT_TREE, SECOND_TREE, NOTHING], TWO_TREE),
     ("a delta to two files", "missing {} {} --to {}", [TWO_TREE, NOTHING, EVENT_FILE], SECOND_TREE),
@@ -167,6 +176,7 @@ FILES_REFUSED = [
     ("an event by itself", "show", [V1], "no log named"),
     ("an event by itself", "check", [V1], "no log named"),
     ("an event by itself", "inventory", [V1], "no log named"),
+    ("an event by itself", "seal", [V1], "no log named"),
     ("an event by itself", "rule E e1 1", [V1], "no log named"),
     ("a ruling alone", "rule E e1 1", [RULING_TREE], "no such value"),
     ("a replica of nothing", "rule E e1 1", [NOTHING], "no such value"),
@@ -178,6 +188,8 @@ FILES_REFUSED = [
     ("another log", "check", [NOTHING, EVENT_TREE, OTHER_LOG], "input 3: other log"),
     ("events by themselves", "check", [V1, V2], "no log named"),
     ("another log", "inventory", [OTHER_LOG, NOTHING], "input 2: other log"),
+    ("a seal", "seal", [seal()], "input 1: version"),
+    ("another log", "seal", [EVENT_TREE, V2, OTHER_LOG], "input 3: other log"),
     ("another log", "rule E e1 1", [CONFLICT, OTHER_LOG], "input 2: other log"),
     ("a key of no file", "rule E e2 1", [CONFLICT, EVENT_TREE], "no such value"),
     ("a file of TO, behind another log", "missing {} --from {} {} --to {}", [NOTHING, OTHER_LOG, V1, "{"], "input 4: not JSON"),

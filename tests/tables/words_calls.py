@@ -23,6 +23,7 @@ Commands:
   inventory          Writes the digests of all that the files tell
   sketch             Writes a short sketch of the digests of all that the files tell
   missing-by-sketch  Writes the replica file of what FROM has beyond SKETCH
+  seal               Writes one hash of all that the files tell
   rule               Writes the replica file with a ruling on a conflict
   rehearse           Plays a schedule, and tells what it leaves at each site
   show               Prints what the files tell, as a log
@@ -122,6 +123,17 @@ Options:
       --from <FILE>  A further file of the sender's
   -h, --help         Print help
 """,
+    "seal": """\
+Writes one hash of all that the files tell
+
+Usage: cadf seal <FILE>...
+
+Arguments:
+  <FILE>...  Replica files, logs or events
+
+Options:
+  -h, --help  Print help
+""",
     "rule": """\
 Writes the replica file with a ruling on a conflict
 
@@ -206,6 +218,8 @@ TAKEN = [
     (["sketch", "--cells=", "--salt=-1", "--", "-a"], ["Sketch", "some", "", "some", "-1", "-a"]),
     (["missing-by-sketch", "a", "b"], ["MissingBySketch", "a", "to", "b"]),
     (["missing-by-sketch", "a", "--from", "c", "b"], ["MissingBySketch", "a", "c", "to", "b"]),
+    (["seal", "a"], ["Seal", "a"]),
+    (["seal", "b", "--", "a", "-b"], ["Seal", "b", "a", "-b"]),
     (["rule", "E", "e1", "2", "a"], ["Rule", "E", "e1", "2", "a"]),
     (["rule", "E", "e1", "2", "a", "3", "E"], ["Rule", "E", "e1", "2", "a", "3", "E"]),
     (["rule", "", "", "", ""], ["Rule", "", "", "", ""]),
@@ -221,7 +235,7 @@ TAKEN = [
 # Words that are refused: the fault, with a tip where there is one, and the usage behind it.
 REFUSED = [
     ([], "'cadf' requires a subcommand but one was not provided\n"
-         "  [subcommands: join, split, missing, missing-by, inventory, sketch, missing-by-sketch, rule, rehearse, show, check, help]", "<COMMAND>"),
+         "  [subcommands: join, split, missing, missing-by, inventory, sketch, missing-by-sketch, seal, rule, rehearse, show, check, help]", "<COMMAND>"),
     ([""], "unrecognized subcommand ''", "<COMMAND>"),
     (["nothing"], "unrecognized subcommand 'nothing'\n\n  tip: a similar subcommand exists: 'join'", "<COMMAND>"),
     (["shwo", "a"], "unrecognized subcommand 'shwo'\n\n  tip: a similar subcommand exists: 'show'", "<COMMAND>"),
@@ -254,6 +268,7 @@ REFUSED = [
      "sketch --cells <N> <FILE>..."),
     (["missing-by-sketch", "a"], "the following required arguments were not provided:\n  <SKETCH>",
      "missing-by-sketch <FROM> <SKETCH>"),
+    (["seal"], "the following required arguments were not provided:\n  <FILE>...", "seal <FILE>..."),
     (["rule", "E"], "the following required arguments were not provided:\n  <KEY>\n  <PLACE>\n  <FILE>...",
      "rule <LETTER> <KEY> <PLACE> <FILE>..."),
     (["rehearse", "g", "2"], "the following required arguments were not provided:\n  <SCRIPT>",

@@ -7,8 +7,8 @@ use cadf_arguments::{read_key, read_log, read_unit};
 use cadf_json::{FromStd, Sink};
 use cadf_tool::{
     ToolFault, run_check_union, run_inventory_union, run_join, run_missing_by_sketch_union,
-    run_missing_by_union, run_missing_unions, run_rehearse, run_rule_union, run_show_union,
-    run_sketch_union, run_split,
+    run_missing_by_union, run_missing_unions, run_rehearse, run_rule_union, run_seal_union,
+    run_show_union, run_sketch_union, run_split,
 };
 use cadf_words::Request;
 use std::alloc::Global;
@@ -128,6 +128,12 @@ fn missing_by_sketch<W: Sink>(
     Ok(run_missing_by_sketch_union(rt.alloc(), from.as_mut_slice(), &mut sketch, output)?)
 }
 
+/// Runs `seal` on files.
+fn seal<W: Sink>(rt: &HostRuntime, paths: &[&str], output: &mut W) -> Result<(), Stop> {
+    let mut inputs = open_all(rt, rt.alloc(), 0, paths)?;
+    Ok(run_seal_union(rt.alloc(), inputs.as_mut_slice(), output)?)
+}
+
 /// Runs `rule` on files. `ruling` is the letter, the key and the place.
 fn rule<W: Sink>(
     rt: &HostRuntime,
@@ -201,6 +207,7 @@ pub(crate) fn run_engine<W: Sink>(
         Request::MissingBySketch { from, sketch } => {
             missing_by_sketch(rt, from.as_slice(), sketch, output)
         }
+        Request::Seal { files } => seal(rt, files.as_slice(), output),
         Request::Rule {
             letter,
             key,

@@ -7,11 +7,11 @@ use Rattle.cadf_json.specs.declared.stream.Sink.{Ghosts as Sink}
 use Rattle.cadf_join.specs.Contents.{Text}
 use Rattle.cadf_set.specs.Inventory.{InventoryModel}
 use Rattle.cadf_set.specs.Replica.{ReplicaModel}
-use Rattle.cadf_inventory.specs.InventoryFile.{inventory_file}
 use Rattle.cadf_sketch.specs.SketchFile.{sketch_file}
 use Rattle.cadf_sketch.specs.Sketches.{SketchModel}
 use Rattle.cadf_tool.specs.WrittenFile.{file}
 use Rattle.cadf_linefile.specs.declared.file_feed.TheConstants.{FILE_LIMIT}
+use Rattle.cadf_tool.specs.declared.input.Loaded.{Loaded}
 use Rattle.cadf_tool.specs.declared.fault.ToolFault.{ToolFault}
 use Rattle.cadf_tool.specs.Told.{log_named, atoms_loaded, replica_model_of}
 use Rattle.cadf_tool.specs.Inputs.{SourceState, source_state}
@@ -21,7 +21,7 @@ use Rattle.cadf_tool.specs.SketchInput.{sketch_spec}
 use Rattle.cadf_tool.specs.Sketch.{AreAsked, sketch_model_of, IsPartBySketch, IsSketchInput}
 use Rattle.cadf_tool.specs.Join.{join_of}
 use Rattle.cadf_tool.specs.Missing.{part_of}
-use Rattle.cadf_tool.specs.MissingBy.{inventory_model_of, part_by, IsInventoryInput}
+use Rattle.cadf_tool.specs.MissingBy.{part_by, IsInventoryInput}
 use Rattle.cadf_tool.specs.Rule.{ruling_on, ruling_for, ruled_of}
 use Rattle.cadf_tool.specs.TwoTexts.{IsTextOfFile}
 use Rattle.cadf_tool.specs.Exchange.{
@@ -31,6 +31,7 @@ use Rattle.cadf_tool.specs.Exchange.{
   Operands,
   IsDerived,
   IsPartOf,
+  IsOutputOf,
   IsInventoryOf,
   IsInventoryReadOf,
   IsPartByOf,
@@ -106,18 +107,20 @@ module _ {S W T : Type 0} (source : Source S) (sink : Sink W) (old new : W) (t :
         ),
       )
 
-  pub inventory_makes : (to : Derivation) (input after : S) → GivesFile (λ b. IsDerived to b) (source_state source input)
-      → IsRun (one input_spec (transition_of source input after)) inventory_model_of inventory_file sink old new (Ok t)
-      → (bytes : List ℕ) × (sink.written new ≡ Some (before ++ bytes)) × IsInventoryOf (λ b. IsDerived to b) bytes
-  inventory_makes to input after s run =
-      by (run_ok (one input_spec (transition_of source input after)) (IsValue inventory_model_of) inventory_file sink old new t run)
+  -- an engine whose work is a function of one input
+  pub output_makes : {M : Type 0} (work : Loaded → Result M ToolFault) (tell : M → Text) (m : Derivation) (input after : S)
+      → GivesFile (λ b. IsDerived m b) (source_state source input)
+      → IsRun (one input_spec (transition_of source input after)) work tell sink old new (Ok t)
+      → (bytes : List ℕ) × (sink.written new ≡ Some (before ++ bytes)) × IsOutputOf work tell (λ b. IsDerived m b) bytes
+  output_makes work tell m input after s run =
+      by (run_ok (one input_spec (transition_of source input after)) (IsValue work) tell sink old new t run)
     where
-      by : HasRun (one input_spec (transition_of source input after)) (IsValue inventory_model_of) inventory_file sink old new t
-          → (bytes : List ℕ) × (sink.written new ≡ Some (before ++ bytes)) × IsInventoryOf (λ b. IsDerived to b) bytes
-      by (loaded, noted, r, made, w) = (
-        inventory_file noted,
-        text_behind sink old new before (inventory_file noted) begun w,
-        (loaded, noted, read_of (λ b. IsDerived to b) (source_state source input) (source_state source after) loaded s r, made, refl),
+      by : HasRun (one input_spec (transition_of source input after)) (IsValue work) tell sink old new t
+          → (bytes : List ℕ) × (sink.written new ≡ Some (before ++ bytes)) × IsOutputOf work tell (λ b. IsDerived m b) bytes
+      by (loaded, made, r, worked, w) = (
+        tell made,
+        text_behind sink old new before (tell made) begun w,
+        (loaded, made, read_of (λ b. IsDerived m b) (source_state source input) (source_state source after) loaded s r, worked, refl),
       )
 
   pub rule_makes : (letter key : Text) (place : ℕ) (m : Derivation) (input after : S) → GivesFile (λ b. IsDerived m b) (source_state source input)

@@ -30,6 +30,7 @@ use Rattle.cadf_join.specs.laws.Sets as sets
 use Rattle.cadf_line.specs.Digest.{atom_digest}
 use Rattle.cadf_line.specs.Missing.{digests_of}
 use Rattle.cadf_set.specs.Replica.{ReplicaModel}
+use Rattle.cadf_seal.specs.SealFile.{seal_of}
 use Rattle.cadf_tool.specs.declared.input.Loaded.{Loaded}
 use Rattle.cadf_tool.specs.declared.input.Loaded.TheVariants.{Replica}
 use Rattle.cadf_tool.specs.declared.fault.ToolFault.{ToolFault}
@@ -52,6 +53,7 @@ use Rattle.cadf_tool.specs.Run.{
   IsRun,
 }
 use Rattle.cadf_tool.specs.Sketch.{sketch_of_result, sketch_model_of}
+use Rattle.cadf_tool.specs.Seal.{seal_model_of}
 use Rattle.cadf_tool.specs.Told.{log_named, atoms_loaded, under_log, replica_model_of}
 use Rattle.cadf_tool.proofs.LoadedLists.{none_failed}
 use Rattle.cadf_tool.proofs.Runs.{worked}
@@ -143,6 +145,14 @@ of_sketch cells salt l = by (log_named l) (atoms_loaded l)
   where
     by : (o : Option Text) (s : Contents) → sketch_of_result cells salt (inventory_model_under o (digests_of atom_digest s))
         ≡ on_ok (under_log o s) (λ h. sketch_model_of cells salt (Replica h))
+    by None s = refl
+    by (Some log) s = refl
+
+pub of_seal : IsOfReplica seal_model_of
+of_seal l = by (log_named l) (atoms_loaded l)
+  where
+    by : (o : Option Text) (s : Contents) → on_ok (inventory_model_under o (digests_of atom_digest s)) (λ n. Ok (seal_of n))
+        ≡ on_ok (under_log o s) (λ h. seal_model_of (Replica h))
     by None s = refl
     by (Some log) s = refl
 

@@ -14,6 +14,7 @@ pub mod Missing
 pub mod MissingBy
 pub mod Sketch
 pub mod SketchInput
+pub mod Seal
 pub mod Rule
 pub mod Rehearse
 pub mod Sites

@@ -36,6 +36,9 @@ pub enum Request<'a> {
         from: Vec<&'a str>,
         sketch: &'a str,
     },
+    Seal {
+        files: Vec<&'a str>,
+    },
     Rule {
         letter: &'a str,
         key: &'a str,
@@ -125,6 +128,9 @@ fn request_of<'a>(
         "split" => Request::Split {
             by: word(matches, "by"),
             log: matches.get_str("log"),
+            files: files(alloc, matches)?,
+        },
+        "seal" => Request::Seal {
             files: files(alloc, matches)?,
         },
         "rule" => Request::Rule {

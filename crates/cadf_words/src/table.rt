@@ -23,7 +23,7 @@ enum Kind {
 }
 
 /// Each command, and its help.
-const COMMANDS: [(&str, &str); 11] = [
+const COMMANDS: [(&str, &str); 12] = [
     ("join", "Writes the replica file of what all inputs tell"),
     (
         "split",
@@ -46,6 +46,7 @@ const COMMANDS: [(&str, &str); 11] = [
         "missing-by-sketch",
         "Writes the replica file of what FROM has beyond SKETCH",
     ),
+    ("seal", "Writes one hash of all that the files tell"),
     (
         "rule",
         "Writes the replica file with a ruling on a conflict",
@@ -62,7 +63,7 @@ const COMMANDS: [(&str, &str); 11] = [
 ];
 
 /// Each word of a command, in their order: the command, the word's name, how it is given, and its help.
-const WORDS: [(&str, &str, Kind, &str); 29] = [
+const WORDS: [(&str, &str, Kind, &str); 30] = [
     (
         "join",
         "log",
@@ -152,6 +153,7 @@ const WORDS: [(&str, &str, Kind, &str); 29] = [
         Kind::More,
         "A further file of the sender's",
     ),
+    ("seal", "FILE", Kind::Files, "Replica files, logs or events"),
     (
         "rule",
         "LETTER",

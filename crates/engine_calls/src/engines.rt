@@ -8,7 +8,8 @@ use cadf_tool::{
     Cells, CountingSink, Salt, ToolFault, Unit, run_check, run_check_union, run_inventory,
     run_inventory_union, run_join, run_missing, run_missing_by, run_missing_by_sketch,
     run_missing_by_sketch_union, run_missing_by_union, run_missing_unions, run_rehearse, run_rule,
-    run_rule_union, run_show, run_show_union, run_sketch, run_sketch_union, run_split, status,
+    run_rule_union, run_seal, run_seal_union, run_show, run_show_union, run_sketch,
+    run_sketch_union, run_split, status,
 };
 use calls::{push, push_number, refused};
 use std::alloc::{AllocError as Memory, Global};
@@ -130,6 +131,12 @@ fn inventory_union(alloc: Global, words: Words<'_>, sink: &mut Output) -> Ran {
     Some(run_inventory_union(alloc, inputs.as_mut_slice(), sink))
 }
 
+/// Runs `run_seal_union`. Its words are readers.
+fn seal_union(alloc: Global, words: Words<'_>, sink: &mut Output) -> Ran {
+    let mut inputs = sources(alloc, words, 4).ok()?;
+    Some(run_seal_union(alloc, inputs.as_mut_slice(), sink))
+}
+
 /// Runs `run_check_union`. Its words are readers.
 fn check_union(alloc: Global, words: Words<'_>, sink: &mut Output) -> Ran {
     let mut inputs = sources(alloc, words, 4).ok()?;
@@ -168,6 +175,7 @@ fn run_union(alloc: Global, words: Words<'_>, sink: &mut Output) -> Ran {
         "run_inventory_union" => inventory_union(alloc, words, sink),
         "run_sketch_union" => sketch_union(alloc, words, sink),
         "run_missing_by_sketch_union" => missing_by_sketch_union(alloc, words, sink),
+        "run_seal_union" => seal_union(alloc, words, sink),
         "run_rule_union" => rule_union(alloc, words, sink),
         "run_show_union" => show_union(alloc, words, sink),
         "run_check_union" => check_union(alloc, words, sink),
@@ -185,6 +193,7 @@ fn run(alloc: Global, words: Words<'_>, sink: &mut Output) -> Ran {
         "run_inventory" => Some(run_inventory(alloc, &mut words.source(4), sink)),
         "run_sketch" => sketch(alloc, words, sink),
         "run_missing_by_sketch" => missing_by_sketch(alloc, words, sink),
+        "run_seal" => Some(run_seal(alloc, &mut words.source(4), sink)),
         "run_rule" => rule(alloc, words, sink),
         "run_rehearse" => rehearse(alloc, words, sink),
         "run_show" => show(alloc, words, sink),

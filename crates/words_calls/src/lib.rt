@@ -106,6 +106,7 @@ fn asked(alloc: Global, request: &Request<'_>) -> Result<String, Memory> {
             from.as_slice(),
             &[*sketch],
         ),
+        Request::Seal { files } => of_files(alloc, &["Seal"], files.as_slice()),
         Request::Rule {
             letter,
             key,
