@@ -98,6 +98,9 @@ int cadf_sketch(uint64_t cells, uint64_t salt, const struct cadf_bytes *input,
 /* The inventory file of the input. */
 int cadf_inventory(const struct cadf_bytes *input, uint8_t *output, size_t room, size_t *length);
 
+/* The seal file of the input: its log, the number of its facts, and one hash of all of them. */
+int cadf_seal(const struct cadf_bytes *input, uint8_t *output, size_t room, size_t *length);
+
 /* The input's replica file with a ruling more: the value at that place, from 1, of the key of that letter is to be shown. */
 int cadf_rule(uint8_t letter, const struct cadf_bytes *key, uint64_t place, const struct cadf_bytes *input,
               uint8_t *output, size_t room, size_t *length);
@@ -202,6 +205,13 @@ static inline int cadf_inventory_or_null(const struct cadf_bytes *input, uint8_t
     return cadf_inventory(&one, output ? output : &nowhere, output ? room : 0, length);
 }
 
+static inline int cadf_seal_or_null(const struct cadf_bytes *input, uint8_t *output, size_t room, size_t *length)
+{
+    uint8_t nowhere = 0;
+    const struct cadf_bytes one = cadf_bytes_at(input);
+    return cadf_seal(&one, output ? output : &nowhere, output ? room : 0, length);
+}
+
 static inline int cadf_rule_or_null(uint8_t letter, const struct cadf_bytes *key, uint64_t place,
                                     const struct cadf_bytes *input, uint8_t *output, size_t room, size_t *length)
 {
@@ -227,6 +237,7 @@ static inline int cadf_rehearse_or_null(const struct cadf_bytes *log, uint64_t s
 #define cadf_missing_by_sketch(...) cadf_missing_by_sketch_or_null(__VA_ARGS__)
 #define cadf_sketch(...) cadf_sketch_or_null(__VA_ARGS__)
 #define cadf_inventory(...) cadf_inventory_or_null(__VA_ARGS__)
+#define cadf_seal(...) cadf_seal_or_null(__VA_ARGS__)
 #define cadf_rule(...) cadf_rule_or_null(__VA_ARGS__)
 #define cadf_rehearse(...) cadf_rehearse_or_null(__VA_ARGS__)
 

@@ -3,7 +3,7 @@
  *
  *     call show FILE | conflicts FILE | check FILE | inventory FILE | missing FROM TO | missing-by FROM INVENTORY
  *     call join LOG FILE.. | split UNIT LOG FILE.. | rule LETTER KEY PLACE FILE | rehearse LOG SITES SCRIPT
- *     call sketch CELLS SALT FILE | missing-by-sketch FROM SKETCH
+ *     call sketch CELLS SALT FILE | missing-by-sketch FROM SKETCH | seal FILE
  *
  * An empty LOG is none, and so is 0 for CELLS or SALT. PLACE, SITES, CELLS and SALT are decimal numbers. The exit status is that of
  * the command; 3 where a file can't be read or the output not written, 2 where the words are none of these.
@@ -78,6 +78,8 @@ static int call(int count, char **words, uint8_t *output, size_t room, size_t *l
         return cadf_check(&first, output, room, length);
     if (count == 2 && !strcmp(name, "inventory"))
         return cadf_inventory(&first, output, room, length);
+    if (count == 2 && !strcmp(name, "seal"))
+        return cadf_seal(&first, output, room, length);
     if (count == 3 && !strcmp(name, "missing"))
         return cadf_missing(&first, &second, output, room, length);
     if (count == 3 && !strcmp(name, "missing-by"))

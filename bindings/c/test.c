@@ -85,6 +85,8 @@ static const struct cadf_bytes g = TEXT("g"), h = TEXT("h"), key = TEXT("name"),
     "756e3e679a3c75ae29cc52a65b9cbfa33d6273da569a5a1e5914ff4190bf58ce")
 #define B_INVENTORY "CADF-INVENTORY 1\nL \"g\"\n996bc98dddbb85f9086eaa19d3baa801145d5cee05855ba7b6536a33eeb07b11\n" \
     "Z a50c88d1acddfe24de2cc6470468677d07207dc1b6d3e11fe4484f4c3585dda7\n"
+#define B_SEAL "CADF-SEAL 1\nL \"g\"\nN 1\nR 0219e6711fc48070eae5013c45fe272208a39a140b050cbad62bc9ae41505858\n" \
+    "Z 7f095e574edd8201ae6470f42794ba8193ddcd1a7e810ebba8dab62418fe7268\n"
 
 #define SKETCH_OF(layout, cells, digest) "CADF-SKETCH 1\nL \"g\"\nS " layout " a50c88d1acddfe24de2cc6470468677d07207dc1b6d3e11fe4484f4c3585dda7\n" \
     "C 1 1 0 0 1 1 0 0 1 0 1 1 0 1 0 1 1 1 1 0 0 1 0 0 1 1 0 0 0 1 1 0 1 " \
@@ -140,6 +142,8 @@ CALL(sketches_many_cells, cadf_sketch(12582915, 1, &cut, OUT))
 CALL(sketches_even_salt, cadf_sketch(3, 2, &cut, OUT))
 CALL(lists, cadf_inventory(&b_log, OUT))
 CALL(lists_cut, cadf_inventory(&cut, OUT))
+CALL(seals, cadf_seal(&b_log, OUT))
+CALL(seals_cut, cadf_seal(&cut, OUT))
 CALL(rules, cadf_rule('P', &key, 1, &both, OUT))
 CALL(rules_no_value, cadf_rule('P', &key, 9, &both, OUT))
 CALL(rules_no_letter, cadf_rule('X', &control, 0, &cut, OUT))
@@ -224,6 +228,8 @@ static const struct expected rows[] = {
     ROW(sketches_even_salt, 2, "salt"),
     ROW(lists, 0, B_INVENTORY),
     ROW(lists_cut, 1, "input 1: not JSON"),
+    ROW(seals, 0, B_SEAL),
+    ROW(seals_cut, 1, "input 1: not JSON"),
     ROW(rules, 0, RULED_FILE),
     ROW(rules_no_value, 1, "no such value"),
     ROW(rules_no_letter, 2, "letter"),

@@ -209,6 +209,7 @@ class InProcess:
             "missing_by_sketch": lambda: cadf.missing_by_sketch(first, second),
             "sketch": lambda: cadf.sketch(first, *(number or None for number in self.sketched)),
             "inventory": lambda: cadf.inventory(first),
+            "seal": lambda: cadf.seal(first),
             "show": lambda: cadf.show(first, self.conflicts),
             "check": lambda: cadf._call("check", 16, cadf._given(first)),
             "rule": lambda: cadf.rule(self.ruling[0], self.ruling[1], number(self.ruling[2].encode()), first),

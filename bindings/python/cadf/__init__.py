@@ -23,7 +23,7 @@ from typing import Any, Dict, Iterable, List, NamedTuple, Optional, Tuple, Type,
 from . import _library
 
 __all__ = ["CadfError", "Check", "OutOfMemory", "Refused", "WrongArgument", "check", "inventory", "join", "missing", "missing_by",
-           "missing_by_sketch", "rehearse", "rule", "show", "sketch", "split", "version"]
+           "missing_by_sketch", "rehearse", "rule", "seal", "show", "sketch", "split", "version"]
 
 Input = Union[bytes, bytearray, memoryview, str]
 
@@ -239,6 +239,14 @@ def inventory(value: Input) -> bytes:
     """
     text = _of(value)
     return _call("inventory", _room(text), _given(text))
+
+
+def seal(value: Input) -> bytes:
+    """Returns the seal file of an input: its log, how many facts it has, and one hash of all of them.
+
+    Refused: the input is refused. OutOfMemory.
+    """
+    return _call("seal", _ROOM, _given(_of(value)))
 
 
 def show(value: Input, conflicts: bool = False) -> bytes:

@@ -27,6 +27,7 @@ FUNCTIONS: Dict[str, List[Any]] = {
     "missing_by_sketch": _INPUT * 2,
     "sketch": [ctypes.c_uint64, ctypes.c_uint64, *_INPUT],
     "inventory": _INPUT,
+    "seal": _INPUT,
     "rule": [ctypes.c_uint8, *_INPUT, ctypes.c_uint64, *_INPUT],
     "rehearse": [*_INPUT, ctypes.c_uint64, *_INPUT],
 }

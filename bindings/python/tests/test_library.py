@@ -57,6 +57,13 @@ class Calls(unittest.TestCase):
         self.assertEqual(cadf.missing_by(A, cadf.inventory(B)), delta)
         self.refuses(1, "input 2: other log", cadf.missing, A, '{"id":"h","events":[]}')
 
+    def test_one_set_has_one_seal(self):
+        seal = cadf.seal(cadf.join([A, B]))
+        self.assertEqual(seal, cadf.seal(cadf.join([B, A, B])))
+        self.assertTrue(seal.startswith(b'CADF-SEAL 1\nL "g"\nN 2\nR '))
+        self.assertNotEqual(seal, cadf.seal(A))
+        self.refuses(1, "input 1: version", cadf.seal, seal)
+
     def test_a_sketch_gives_the_same_delta(self):
         delta, sketch = cadf.missing(A, B), cadf.sketch(B)
         self.assertEqual(cadf.missing_by_sketch(A, sketch), delta)

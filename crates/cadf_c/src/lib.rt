@@ -12,6 +12,8 @@ ghost use Rattle.cadf_tool.specs.MissingBy.{inventory_model_of, part_by};
 ghost use Rattle.cadf_sketch.specs.SketchFile.{sketch_file};
 ghost use Rattle.cadf_tool.specs.Sketch.{sketch_model_of, IsPartBySketch};
 ghost use Rattle.cadf_tool.specs.SketchInput.{sketch_spec};
+ghost use Rattle.cadf_seal.specs.SealFile.{seal_file};
+ghost use Rattle.cadf_tool.specs.Seal.{seal_model_of};
 ghost use Rattle.cadf_tool.specs.Rule.{ruled_of};
 ghost use Rattle.cadf_tool.specs.Rehearse.{script_spec, final_sites};
 ghost use Rattle.cadf_tool.specs.Sites.{sites_text};
@@ -36,7 +38,7 @@ pub use crate::inputs::CadfBytes;
 use crate::inputs::{join_inputs, split_inputs};
 use crate::output::{answer, refuse};
 use cadf_memory::{
-    check, inventory, missing, missing_by, missing_by_sketch, rehearse, rule, show, sketch,
+    check, inventory, missing, missing_by, missing_by_sketch, rehearse, rule, seal, show, sketch,
 };
 use std::alloc::Global;
 
@@ -108,6 +110,25 @@ pub extern "C" fn cadf_inventory(
     ensures told { IsTold None result output.old output.new length.new }
 {
     let made = inventory(alloc, input.bytes, output);
+    answer(made, output, length)
+}
+
+/// Hands out the seal file of the input.
+#[tactic(auto, using(crate::proofs::Statuses::refused, crate::proofs::Statuses::answered, crate::proofs::Statuses::argument_refused))]
+#[unsafe(no_mangle)]
+pub extern "C" fn cadf_seal(
+    alloc: Global,
+    input: &CadfBytes<'_>,
+    output: &mut [u8],
+    length: &mut usize,
+) -> i32
+    ensures written { result ≡ pos 0 → IsHandedOut
+        (IsMadeOf input_spec seal_model_of seal_file input.now.bytes.now)
+        output.old output.new length.new }
+    ensures refused { result ≡ pos 1 → IsRefused (IsFirstOf input_spec seal_model_of input.now.bytes.now) }
+    ensures told { IsTold None result output.old output.new length.new }
+{
+    let made = seal(alloc, input.bytes, output);
     answer(made, output, length)
 }
 

@@ -1,12 +1,12 @@
 -- What engines make of derived files in memory.
-use Rattle.std.proofs.Common.{ℕ, List, [], ◌∷◌, map, append-nil, Option, Some, refl, sym, ap, ◌∙◌}
+use Rattle.std.proofs.Common.{ℕ, List, [], ◌∷◌, map, append-nil, Option, Some, Result, refl, sym, ap, ◌∙◌}
 use Rattle.cadf_join.specs.Contents.{Text}
 use Rattle.cadf_set.specs.Inventory.{InventoryModel}
 use Rattle.cadf_set.specs.Replica.{ReplicaModel}
-use Rattle.cadf_inventory.specs.InventoryFile.{inventory_file}
 use Rattle.cadf_sketch.specs.SketchFile.{sketch_file}
 use Rattle.cadf_tool.specs.WrittenFile.{file}
 use Rattle.cadf_tool.specs.declared.input.Loaded.{Loaded}
+use Rattle.cadf_tool.specs.declared.fault.ToolFault.{ToolFault}
 use Rattle.cadf_tool.specs.Told.{log_named, atoms_loaded, replica_model_of}
 use Rattle.cadf_tool.specs.Inputs.{SourceState}
 use Rattle.cadf_tool.specs.Run.{input_spec, AreLoaded}
@@ -15,11 +15,11 @@ use Rattle.cadf_tool.specs.SketchInput.{sketch_spec}
 use Rattle.cadf_tool.specs.Sketch.{AreAsked, sketch_model_of, IsPartBySketch}
 use Rattle.cadf_tool.specs.Join.{join_of}
 use Rattle.cadf_tool.specs.Missing.{part_of}
-use Rattle.cadf_tool.specs.MissingBy.{inventory_model_of, part_by}
+use Rattle.cadf_tool.specs.MissingBy.{part_by}
 use Rattle.cadf_tool.specs.Rule.{ruling_on, ruling_for, ruled_of}
 use Rattle.cadf_tool.specs.TwoTexts.{IsTextOfFile}
 use Rattle.cadf_tool.specs.Exchange.{Derivation, Joined, Ruled, Operands}
-use Rattle.cadf_tool.specs.Exchange.{IsDerived, IsPartOf, IsInventoryOf, IsPartByOf, IsSketchOf, IsPartBySketchOf, AreSources}
+use Rattle.cadf_tool.specs.Exchange.{IsDerived, IsPartOf, IsOutputOf, IsInventoryOf, IsPartByOf, IsSketchOf, IsPartBySketchOf, AreSources}
 use Rattle.cadf_tool.proofs.RulingAdded.{ruled_is}
 use Rattle.cadf_tool.proofs.SketchParts.{sketched_is, held_named, answer_read}
 use Rattle.cadf_tool.proofs.ExchangeLaws.{are_read}
@@ -52,9 +52,9 @@ pub missing_makes : (from to : Derivation) (a b : List ℕ) (text : Text) → Is
     → IsMadeOfTwo input_spec input_spec part_of file a b text → IsPartOf (λ x. IsDerived from x) (λ x. IsDerived to x) text
 missing_makes from to a b text d e m = (m.first, m.second, (a, d, m.input), (b, e, m.following), (m.made, m.worked, m.told))
 
-pub inventory_makes : (to : Derivation) (b : List ℕ) (text : Text) → IsDerived to b
-    → IsMadeOf input_spec inventory_model_of inventory_file b text → IsInventoryOf (λ x. IsDerived to x) text
-inventory_makes to b text e m = (m.value, m.made, (b, e, m.input), m.worked, m.told)
+pub output_makes : {M : Type 0} (work : Loaded → Result M ToolFault) (tell : M → Text) (of : Derivation) (b : List ℕ) (text : Text)
+    → IsDerived of b → IsMadeOf input_spec work tell b text → IsOutputOf work tell (λ x. IsDerived of x) text
+output_makes work tell of b text e m = (m.value, m.made, (b, e, m.input), m.worked, m.told)
 
 pub missing_by_makes : (from to : Derivation) (a b : List ℕ) (text : Text) → IsDerived from a → IsInventoryOf (λ x. IsDerived to x) b
     → IsMadeOfTwo input_spec inventory_spec part_by file a b text → IsPartByOf (λ x. IsDerived from x) (λ x. IsDerived to x) text

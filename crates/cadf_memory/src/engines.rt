@@ -11,6 +11,8 @@ ghost use Rattle.cadf_tool.specs.MissingBy.{inventory_model_of, part_by};
 ghost use Rattle.cadf_sketch.specs.SketchFile.{sketch_file};
 ghost use Rattle.cadf_tool.specs.Sketch.{AreAsked, sketch_model_of, IsPartBySketch};
 ghost use Rattle.cadf_tool.specs.SketchInput.{sketch_spec};
+ghost use Rattle.cadf_seal.specs.SealFile.{seal_file};
+ghost use Rattle.cadf_tool.specs.Seal.{seal_model_of};
 ghost use Rattle.cadf_tool.specs.Rule.{ruled_of};
 ghost use Rattle.cadf_tool.specs.Rehearse.{script_spec, final_sites};
 ghost use Rattle.cadf_tool.specs.Sites.{sites_text};
@@ -29,7 +31,7 @@ use cadf_event::Name;
 use cadf_sketch::{Cells, Salt};
 use cadf_tool::{
     ToolFault, Unit, run_check, run_inventory, run_join, run_missing, run_missing_by,
-    run_missing_by_sketch, run_rehearse, run_rule, run_show, run_sketch, run_split,
+    run_missing_by_sketch, run_rehearse, run_rule, run_seal, run_show, run_sketch, run_split,
 };
 use std::alloc::{AllocError as Memory, Global};
 
@@ -75,6 +77,20 @@ pub fn inventory(alloc: Global, input: &[u8], output: &mut [u8]) -> Result<usize
     let mut source = SliceSource::new(input);
     let mut buffer = Buffer::new(output);
     match run_inventory(alloc, &mut source, &mut buffer) {
+        Ok(()) => Ok(buffer.length()),
+        Err(fault) => Err(unwritten(fault)),
+    }
+}
+
+/// Writes the seal file of the input.
+pub fn seal(alloc: Global, input: &[u8], output: &mut [u8]) -> Result<usize, ToolFault>
+    ensures ok { IfOk result (IsHandedOut (IsMadeOf input_spec seal_model_of seal_file input.now) output.old output.new) }
+    ensures err { IfErr result (λ fault. IsFirstOf input_spec seal_model_of input.now fault) }
+    ensures only { IfErr result (λ fault. is_of_memory fault ≡ true) }
+{
+    let mut source = SliceSource::new(input);
+    let mut buffer = Buffer::new(output);
+    match run_seal(alloc, &mut source, &mut buffer) {
         Ok(()) => Ok(buffer.length()),
         Err(fault) => Err(unwritten(fault)),
     }

@@ -5,6 +5,7 @@ ghost use Rattle.cadf_join.specs.Contents.{Text};
 ghost use Rattle.cadf_set.specs.Inventory.{InventoryModel};
 ghost use Rattle.cadf_inventory.specs.InventoryFile.{inventory_file};
 ghost use Rattle.cadf_sketch.specs.SketchFile.{sketch_file};
+ghost use Rattle.cadf_seal.specs.SealFile.{seal_file};
 ghost use Rattle.cadf_tool.specs.WrittenFile.{file};
 ghost use Rattle.cadf_tool.specs.Told.{replica_model_of};
 ghost use Rattle.cadf_tool.specs.Shown.{shown_text, checked_text};
@@ -15,9 +16,10 @@ ghost use Rattle.cadf_tool.specs.Join.{join_of};
 ghost use Rattle.cadf_tool.specs.Missing.{part_of};
 ghost use Rattle.cadf_tool.specs.MissingBy.{inventory_model_of, part_by};
 ghost use Rattle.cadf_tool.specs.Sketch.{AreAsked, sketch_model_of, IsPartBySketch};
+ghost use Rattle.cadf_tool.specs.Seal.{seal_model_of};
 ghost use Rattle.cadf_tool.specs.Rule.{ruling_on, ruled_of};
 ghost use Rattle.cadf_tool.specs.Exchange.{Derivation, Joined, Ruled, Operands};
-ghost use Rattle.cadf_tool.specs.Exchange.{IsDerived, IsPartOf, IsInventoryOf, IsPartByOf, IsSketchOf, IsPartBySketchOf, AreSources};
+ghost use Rattle.cadf_tool.specs.Exchange.{IsDerived, IsPartOf, IsInventoryOf, IsPartByOf, IsSketchOf, IsPartBySketchOf, IsSealOf, AreSources};
 ghost use Rattle.cadf_tool.specs.TwoTexts.{IsShown, IsTextOfFile};
 ghost use Rattle.cadf_memory.specs.Memory.{unread};
 ghost use Rattle.cadf_memory.specs.Made.{IsMadeOf, IsMadeOfTwo, IsMadeOfTwoBy, IsMadeOfAll};
@@ -40,6 +42,8 @@ pub fn engines_make_files()
         → IsDerived from a → IsSketchOf (IsDerived to) sketched b
         → IsMadeOfTwoBy input_spec sketch_spec IsPartBySketch file a b text
         → (read : InventoryModel) × IsPartBySketchOf (IsDerived from) (IsDerived to) sketched read text }
+    ensures seal { (m : Derivation) (b : List ℕ) (text : Text) → IsDerived m b
+        → IsMadeOf input_spec seal_model_of seal_file b text → IsSealOf (IsDerived m) text }
     ensures rule { (letter key : Text) (place : ℕ) (m : Derivation) (b : List ℕ) (text : Text) → IsDerived m b
         → IsMadeOf input_spec (ruled_of letter key place) file b text
         → (value : Text) × IsDerived (Ruled place (ruling_on letter key value) m) text }

@@ -1,5 +1,9 @@
+use Rattle.cadf_inventory.specs.InventoryFile.{inventory_file}
+use Rattle.cadf_seal.specs.SealFile.{seal_file}
+use Rattle.cadf_tool.specs.MissingBy.{inventory_model_of}
+use Rattle.cadf_tool.specs.Seal.{seal_model_of}
 use Rattle.cadf_tool.specs.Shown.{shown_text, checked_text}
-use Rattle.cadf_memory.proofs.Exchange.{join_makes, missing_makes, inventory_makes, missing_by_makes}
+use Rattle.cadf_memory.proofs.Exchange.{join_makes, missing_makes, output_makes, missing_by_makes}
 use Rattle.cadf_memory.proofs.Exchange.{sketch_makes, missing_by_sketch_makes, rule_makes, text_makes}
 use Rattle.cadf_memory.proofs.laws.engines_make_files.Goals as goal
 
@@ -10,7 +14,7 @@ pub returns-clause-missing : goal.returns-clause-missing
 returns-clause-missing c = missing_makes
 
 pub returns-clause-inventory : goal.returns-clause-inventory
-returns-clause-inventory c = inventory_makes
+returns-clause-inventory c = output_makes inventory_model_of inventory_file
 
 pub returns-clause-missing_by : goal.returns-clause-missing_by
 returns-clause-missing_by c = missing_by_makes
@@ -20,6 +24,9 @@ returns-clause-sketch c = sketch_makes
 
 pub returns-clause-missing_by_sketch : goal.returns-clause-missing_by_sketch
 returns-clause-missing_by_sketch c = missing_by_sketch_makes
+
+pub returns-clause-seal : goal.returns-clause-seal
+returns-clause-seal c = output_makes seal_model_of seal_file
 
 pub returns-clause-rule : goal.returns-clause-rule
 returns-clause-rule c = rule_makes
