@@ -18,21 +18,21 @@ use Rattle.cadf_seal.proofs.Trees.{tree_within, tree_beyond, root_tree, below_po
 -- ---- what is hashed
 
 -- the text that is hashed for a node
-abbrev node_text : ℕ → List Text → Text
+abbrev pub node_text : ℕ → List Text → Text
 node_text h ds = 1 ∷ tree h (take (2 ^ h) ds) ++ tree h (drop (2 ^ h) ds)
 
-abbrev of_halves : ℕ → List Text → List Text
+abbrev pub of_halves : ℕ → List Text → List Text
 of_halves h ds = node_text h ds ∷ hashed h (take (2 ^ h) ds) ++ hashed h (drop (2 ^ h) ds)
 
-hashed_at : (h : ℕ) (ds : List Text) (b : Bool) → nat_le (length ds) (2 ^ h) ≡ b → hashed (suc h) ds ≡ (if b then hashed h ds else of_halves h ds)
+pub hashed_at : (h : ℕ) (ds : List Text) (b : Bool) → nat_le (length ds) (2 ^ h) ≡ b → hashed (suc h) ds ≡ (if b then hashed h ds else of_halves h ds)
 hashed_at h ds b is = ap (λ c. if c then hashed h ds else of_halves h ds) is
 
-listed_left : (x : Text) (xs ys : List Text) → Listed x xs → Listed x (xs ++ ys)
+pub listed_left : (x : Text) (xs ys : List Text) → Listed x xs → Listed x (xs ++ ys)
 listed_left x [] ys l = absurd l
 listed_left x (y ∷ xs) ys (inl e) = inl e
 listed_left x (y ∷ xs) ys (inr l) = inr (listed_left x xs ys l)
 
-listed_right : (x : Text) (xs ys : List Text) → Listed x ys → Listed x (xs ++ ys)
+pub listed_right : (x : Text) (xs ys : List Text) → Listed x ys → Listed x (xs ++ ys)
 listed_right x [] ys l = l
 listed_right x (y ∷ xs) ys l = inr (listed_right x xs ys l)
 
@@ -42,12 +42,12 @@ long_by : (h : ℕ) (ds : List Text) (b : Bool) → length (tree h ds) ≡ 32 �
 long_by h ds true below = below
 long_by h ds false below = length-sha256 (node_text h ds)
 
-long : (h : ℕ) (ds : List Text) → length (tree h ds) ≡ 32
+pub long : (h : ℕ) (ds : List Text) → length (tree h ds) ≡ 32
 long zero ds = length-sha256 (0 ∷ get_or ds 0 [])
 long (suc h) ds = long_by h ds (nat_le (length ds) (2 ^ h)) (long h ds)
 
 -- hashes of two halves, one after the other, determine both
-halves_of : (a b c d : Text) → length a ≡ 32 → length c ≡ 32 → 1 ∷ a ++ b ≡ 1 ∷ c ++ d → (a ≡ c) × (b ≡ d)
+pub halves_of : (a b c d : Text) → length a ≡ 32 → length c ≡ 32 → 1 ∷ a ++ b ≡ 1 ∷ c ++ d → (a ≡ c) × (b ≡ d)
 halves_of a b c d m n e =
     let same : a ++ b ≡ c ++ d = ap (drop 1) e in
     let first : a ≡ c = sym (take_at a b 32 m) ∙ ap (take 32) same ∙ take_at c d 32 n in

@@ -1,10 +1,13 @@
 pub mod Determined
 pub mod HiddenLemmas
+pub mod Honest
 pub mod ModelLemmas
 pub mod Neighbouring
 pub mod ProofLineLemmas
 pub mod ProofParts
 pub mod ProofWriting
+pub mod Rebuilding
 pub mod SealLemmas
 pub mod ShownLemmas
+pub mod Sound
 pub mod Trees

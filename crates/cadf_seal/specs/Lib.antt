@@ -12,3 +12,4 @@ pub mod SealReads
 pub mod SealVerdict
 pub mod Shown
 pub mod Tree
+pub mod Verified

@@ -6,7 +6,7 @@
 --     hidden h a ds ss          the hashes of the greatest subtrees without a shown leaf, left to right, of at most 2^h leaves from place a on
 --     rebuilt h a n ss hs       the hash of n leaves from place a on, by those that are shown and the hashes of hidden subtrees; and the hashes
 --                               that are left. None: there are too few
---     rehashed h a n ss hs      the texts that are hashed for it
+--     rehashed h a n ss hs      the texts that are hashed for it, if there are enough hashes
 use Rattle.std.specs.Prelude.{◌+◌, ◌-◌, ◌^◌, ℕ, zero, suc, nat_le, nat_lt, List, [], ◌∷◌, ◌++◌, length, take, drop}
 use Rattle.std.specs.Prelude.{Bool, true, false, ◌&&◌, ◌||◌, if◌then◌else◌, Option, None, Some}
 use Rattle.std.specs.List.{filter}
@@ -87,3 +87,22 @@ rebuilt (suc h) a n (s ∷ ss) hs =
     if nat_le n (2 ^ h) then rebuilt h a n (s ∷ ss) hs
     else node_of (rebuilt h a (2 ^ h) (until (a + 2 ^ h) (s ∷ ss)) hs)
     (λ rest. rebuilt h (a + 2 ^ h) (n - 2 ^ h) (from (a + 2 ^ h) (s ∷ ss)) rest)
+
+abbrev pub hash_of : Rebuilt → Text
+hash_of None = []
+hash_of (Some r) = r.0
+
+abbrev pub left_of : Rebuilt → List Text
+left_of None = []
+left_of (Some r) = r.1
+
+abbrev pub rehashed : ℕ → ℕ → ℕ → List Leaf → List Text → List Text
+rehashed zero a n [] hs = []
+rehashed zero a n (s ∷ ss) hs = (0 ∷ s.digest) ∷ []
+rehashed (suc h) a n [] hs = []
+rehashed (suc h) a n (s ∷ ss) hs =
+    if nat_le n (2 ^ h) then rehashed h a n (s ∷ ss) hs
+    else let left = rebuilt h a (2 ^ h) (until (a + 2 ^ h) (s ∷ ss)) hs in
+    let right = rebuilt h (a + 2 ^ h) (n - 2 ^ h) (from (a + 2 ^ h) (s ∷ ss)) (left_of left) in
+    (1 ∷ hash_of left ++ hash_of right)
+    ∷ rehashed h a (2 ^ h) (until (a + 2 ^ h) (s ∷ ss)) hs ++ rehashed h (a + 2 ^ h) (n - 2 ^ h) (from (a + 2 ^ h) (s ∷ ss)) (left_of left)

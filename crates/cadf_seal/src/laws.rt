@@ -8,6 +8,7 @@ ghost use Rattle.cadf_seal.specs.ProofVerdict.{AcceptsProofs, proof_verdict};
 ghost use Rattle.cadf_seal.specs.SealFile.{IsSeal, SealFileIsInjective, seal_file, seal_of};
 ghost use Rattle.cadf_seal.specs.SealVerdict.{AcceptsSeals, seal_verdict};
 ghost use Rattle.cadf_seal.specs.Tree.{IsMerkleTree, RootDetermines, DoNotCollide, hashed};
+ghost use Rattle.cadf_seal.specs.Verified.{TellsAll, ShowsLeaves, TellsTruth};
 
 use crate::proof::Proof;
 use crate::seal::Seal;
@@ -64,3 +65,16 @@ pub fn proof_is_read_back(proof: &Proof)
 {
     proof.type_invariant();
 }
+
+/// States that the proof that is made for facts has the root of the set's leaves, tells of each fact whether it is in the
+/// set, and shows no leaf that none of them needs.
+pub fn made_proof_is_accepted()
+    ensures { (f n : InventoryModel) → TellsAll f n }
+{}
+
+/// States that a proof with the root of a set's leaves shows leaves of the set, and that what it tells of a digest is so,
+/// if what is hashed for both doesn't collide.
+pub fn accepted_proof_is_true()
+    ensures leaves { ShowsLeaves }
+    ensures digests { TellsTruth }
+{}

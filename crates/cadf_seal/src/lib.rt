@@ -14,11 +14,12 @@ mod seal_read;
 mod seal_write;
 mod shown_leaves;
 mod tree;
+mod verify;
 
 pub use laws::{
-    accepted_bytes_are_proofs, accepted_bytes_are_seals, proof_is_read_back,
-    proof_shows_facts_or_neighbours, root_is_of_a_merkle_tree, seal_determines_inventory,
-    seal_file_is_injective, seal_is_read_back,
+    accepted_bytes_are_proofs, accepted_bytes_are_seals, accepted_proof_is_true,
+    made_proof_is_accepted, proof_is_read_back, proof_shows_facts_or_neighbours,
+    root_is_of_a_merkle_tree, seal_determines_inventory, seal_file_is_injective, seal_is_read_back,
 };
 pub use leaf::Leaf;
 pub use proof::Proof;
@@ -28,3 +29,4 @@ pub use seal::Seal;
 pub use seal_read::read_seal;
 pub use seal_write::write_seal;
 pub use tree::root_of;
+pub use verify::VerifyFault;

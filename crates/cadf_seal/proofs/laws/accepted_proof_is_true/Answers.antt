@@ -1,0 +1,8 @@
+use Rattle.cadf_seal.proofs.Sound.{shows_leaves, tells_truth}
+use Rattle.cadf_seal.proofs.laws.accepted_proof_is_true.Goals as goal
+
+pub returns-clause-leaves : goal.returns-clause-leaves
+returns-clause-leaves c = shows_leaves
+
+pub returns-clause-digests : goal.returns-clause-digests
+returns-clause-digests c = tells_truth

@@ -1,0 +1,5 @@
+use Rattle.cadf_seal.proofs.Honest.{tells_all}
+use Rattle.cadf_seal.proofs.laws.made_proof_is_accepted.Goals as goal
+
+pub returns : goal.returns
+returns c = tells_all
