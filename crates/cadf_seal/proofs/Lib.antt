@@ -1,4 +1,5 @@
 pub mod Determined
+pub mod Facts
 pub mod HiddenLemmas
 pub mod Honest
 pub mod ModelLemmas
@@ -10,4 +11,5 @@ pub mod Rebuilding
 pub mod SealLemmas
 pub mod ShownLemmas
 pub mod Sound
+pub mod Splitting
 pub mod Trees

@@ -9,7 +9,7 @@ use Rattle.cadf_join.specs.Contents.{Text}
 use Rattle.cadf_join.specs.Sets.{Listed}
 use Rattle.cadf_seal.specs.Tree.{leaf_hash, node_hash, tree, hashed, DoNotCollide}
 use Rattle.cadf_seal.specs.Shown.{until, from, hidden, Rebuilt, next_hash, node_beside, node_of, rebuilt, hash_of, left_of, rehashed}
-use Rattle.cadf_seal.specs.Verified.{IsAt}
+use Rattle.cadf_seal.specs.Verified.{IsAt, PlacesRise}
 use Rattle.cadf_seal.specs.declared.leaf.Leaf.{Leaf}
 use Rattle.cadf_seal.proofs.Trees.{tree_within, tree_beyond, doubled}
 use Rattle.cadf_seal.proofs.Determined.{node_text, of_halves, hashed_at, listed_left, listed_right, long, halves_of}
@@ -100,7 +100,7 @@ module _ (a : ℕ) (ds : List Text) (k : ℕ) where
 abbrev halves_hidden : ℕ → ℕ → List Text → List Leaf → List Text
 halves_hidden h a ds ss = hidden h a (take (2 ^ h) ds) (until (a + 2 ^ h) ss) ++ hidden h (a + 2 ^ h) (drop (2 ^ h) ds) (from (a + 2 ^ h) ss)
 
-abbrev halves_rebuilt : ℕ → ℕ → ℕ → List Leaf → List Text → Rebuilt
+abbrev pub halves_rebuilt : ℕ → ℕ → ℕ → List Leaf → List Text → Rebuilt
 halves_rebuilt h a n ss hs =
     node_of (rebuilt h a (2 ^ h) (until (a + 2 ^ h) ss) hs) (λ rest. rebuilt h (a + 2 ^ h) (n - 2 ^ h) (from (a + 2 ^ h) ss) rest)
 
@@ -108,7 +108,7 @@ hidden_at : (h a : ℕ) (ds : List Text) (s : Leaf) (ss : List Leaf) (b : Bool) 
     → hidden (suc h) a ds (s ∷ ss) ≡ (if b then hidden h a ds (s ∷ ss) else halves_hidden h a ds (s ∷ ss))
 hidden_at h a ds s ss b is = ap (λ c. if c then hidden h a ds (s ∷ ss) else halves_hidden h a ds (s ∷ ss)) is
 
-rebuilt_at : (h a n : ℕ) (s : Leaf) (ss : List Leaf) (hs : List Text) (b : Bool) → nat_le n (2 ^ h) ≡ b
+pub rebuilt_at : (h a n : ℕ) (s : Leaf) (ss : List Leaf) (hs : List Text) (b : Bool) → nat_le n (2 ^ h) ≡ b
     → rebuilt (suc h) a n (s ∷ ss) hs ≡ (if b then rebuilt h a n (s ∷ ss) hs else halves_rebuilt h a n (s ∷ ss) hs)
 rebuilt_at h a n s ss hs b is = ap (λ c. if c then rebuilt h a n (s ∷ ss) hs else halves_rebuilt h a n (s ∷ ss) hs) is
 
@@ -211,12 +211,7 @@ are_long zero a n (s ∷ ss) hs y hashes e = leaf_long s hs y hashes e
 are_long (suc h) a n [] hs y hashes e = next_long hs y hashes e
 are_long (suc h) a n (s ∷ ss) hs y hashes e = long_step h (are_long h) a n s ss hs y hashes e (nat_le n (2 ^ h)) refl
 
--- places rise
-abbrev pub PlacesRise : List Leaf → Type 0
-PlacesRise [] = Unit {0}
-PlacesRise (s ∷ ss) = AllByRecursion (λ t. s.place < t.place) ss × PlacesRise ss
-
-rise_kept : (p : Leaf → Bool) (ss : List Leaf) → PlacesRise ss → PlacesRise (filter p ss)
+pub rise_kept : (p : Leaf → Bool) (ss : List Leaf) → PlacesRise ss → PlacesRise (filter p ss)
 rise_kept p [] h = tt
 rise_kept p (s ∷ ss) h = by (p s) (rise_kept p ss h.1)
   where

@@ -12,15 +12,15 @@ use Rattle.cadf_join.specs.laws.Rising.{rising_is_sorted, listed-rising, rising-
 use Rattle.cadf_seal.specs.Tree.{root, hashed, DoNotCollide}
 use Rattle.cadf_seal.specs.Shown.{Rebuilt, rebuilt, rehashed}
 use Rattle.cadf_seal.specs.ProofFile.{AreRising}
-use Rattle.cadf_seal.specs.Verified.{alone, root_from, proof_root, below, above, behind, ahead, is_shown, state, IsAt, ShowsLeaves, TellsTruth}
+use Rattle.cadf_seal.specs.Verified.{alone, root_from, proof_root, below, above, behind, ahead, is_shown, state, IsAt, PlacesRise, ShowsLeaves, TellsTruth}
 use Rattle.cadf_seal.specs.declared.leaf.Leaf.{Leaf}
 use Rattle.cadf_seal.proofs.Trees.{root_tree, below_power}
-use Rattle.cadf_seal.proofs.Rebuilding.{all_map, all_kept, PlacesRise, shows}
+use Rattle.cadf_seal.proofs.Rebuilding.{all_map, all_kept, shows}
 use Rattle.cadf_seal.proofs.Honest.{IsLess, AreSorted, not_less_itself, less_trans, sorted_above, sorted_rest, at_all, ahead_least, shown_listed, not_true}
 
 -- ---- shown leaves are leaves
 
-places_rise : (ss : List Leaf) → AreRising ss → PlacesRise ss
+pub places_rise : (ss : List Leaf) → AreRising ss → PlacesRise ss
 places_rise [] h = tt
 places_rise (s ∷ []) h = (tt, tt)
 places_rise (s ∷ t ∷ ss) h =

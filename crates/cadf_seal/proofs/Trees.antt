@@ -100,7 +100,7 @@ module _ (h n : ℕ) (ds : List Text) (there : n ≤ length ds) where
 -- ---- the height less one, in 64 bits
 
 -- a tree that isn't a leaf has two halves of this size
-pub half : (h : ℕ) → h ≤ 63 → 1 * 2 ^ (h - 1) % 18446744073709551616 ≡ 2 ^ (h - 1)
+pub half : (h : ℕ) → h ≤ 64 → 1 * 2 ^ (h - 1) % 18446744073709551616 ≡ 2 ^ (h - 1)
 half h within =
     let small : 2 ^ (h - 1) < 2 ^ 64 = pow_below (h - 1) 64 (omega (arith, within)) in
     let once : 1 * 2 ^ (h - 1) ≡ 2 ^ (h - 1) = omega arith in

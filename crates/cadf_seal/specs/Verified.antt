@@ -11,21 +11,24 @@
 --     IsAt a ds s             the shown leaf is the one of ds at its place, where the first of ds has place a
 --     ShowsLeaves             the shown leaves of a proof with the root of ds are leaves of ds
 --     TellsTruth              what such a proof tells of a digest is so
+--     FactsAreSo              of facts that are told, each is in the sealed set or not, as was asked
 use Rattle.std.specs.Prelude.{◌≡◌, ◌≤◌, ◌<◌, ◌+◌, ◌-◌, ℕ, suc, max, min, nat_eq, List, [], ◌∷◌, ◌++◌, length, map, flat_map, get_or, codes}
 use Rattle.std.specs.Prelude.{Bool, true, false, not, if◌then◌else◌, Option, None, Some, option_map, Result, Ok, Err}
 use Rattle.std.specs.List.{filter, list_any, position_from, AllByRecursion}
 use Rattle.std.specs.Ordering.{is_eq}
 use Rattle.json.specs.Print.{quoted}
 use Rattle.sha2.specs.Sha256.{sha256}
-use Rattle.cadf_join.specs.Contents.{Text, Texts, Contents, text_cmp}
+use Rattle.cadf_join.specs.Contents.{Text, Texts, Contents, text_cmp, Has}
 use Rattle.cadf_join.specs.Sets as set
 use Rattle.cadf_join.specs.Sets.{rising}
 use Rattle.cadf_line.specs.Atoms.{is_text, ruling_letter}
 use Rattle.cadf_line.specs.Digest.{atom_digest}
 use Rattle.cadf_line.specs.Missing.{digests_of}
 use Rattle.cadf_set.specs.Inventory.{InventoryModel}
+use Rattle.cadf_set.specs.Replica.{ReplicaModel}
+use Rattle.cadf_sketch.specs.Answers.{inventory_of}
 use Rattle.cadf_seal.specs.Tree.{root, hashed, DoNotCollide}
-use Rattle.cadf_seal.specs.SealFile.{SealModel}
+use Rattle.cadf_seal.specs.SealFile.{SealModel, seal_of}
 use Rattle.cadf_seal.specs.ProofFile.{ProofModel, proof_of, IsProof}
 use Rattle.cadf_seal.specs.Shown.{Rebuilt, rebuilt, rehashed, is_above, is_below, needs}
 use Rattle.cadf_seal.specs.declared.leaf.Leaf.{Leaf}
@@ -42,6 +45,11 @@ alone h (x ∷ hs) = None
 abbrev pub root_from : Rebuilt → Option Text
 root_from None = None
 root_from (Some r) = alone r.0 r.1
+
+-- each place is below those of all later leaves
+abbrev pub PlacesRise : List Leaf → Type 0
+PlacesRise [] = Unit {0}
+PlacesRise (s ∷ ss) = AllByRecursion (λ t. s.place < t.place) ss × PlacesRise ss
 
 unfoldable pub proof_root : ProofModel → Option Text
 proof_root p = if nat_eq p.count 0 then alone (sha256 []) p.hidden else root_from (rebuilt p.count 0 p.count p.shown p.hidden)
@@ -180,3 +188,11 @@ ShowsLeaves = (p : ProofModel) (ds : List Text) → IsOf ds p → AllByRecursion
 abbrev pub TellsTruth : Type 0
 TellsTruth = (p : ProofModel) (n : InventoryModel) → IsOf (rising n.digests) p → (f : Text) (b : Bool) → state p.count p.shown f ≡ Some b
     → set.contains n.digests f ≡ b
+
+-- no other fact of the set has the digest of one of these
+abbrev pub FactsAreSo : Type 0
+FactsAreSo = (p : ProofModel) (held : ReplicaModel) (facts : Contents) (absent : Bool) (text : List ℕ) → IsProof p
+    → DoNotCollide (hashed (length (rising (inventory_of held).digests)) (rising (inventory_of held).digests)) (rehashed p.count 0 p.count p.shown p.hidden)
+    → ((x y : Texts) → Has facts x → Has held.atoms y → atom_digest x ≡ atom_digest y → x ≡ y)
+    → verified (seal_of (inventory_of held)) p facts absent ≡ Ok text
+    → (q : Texts) → Has facts q → set.contains held.atoms q ≡ not absent

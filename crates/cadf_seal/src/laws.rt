@@ -8,7 +8,7 @@ ghost use Rattle.cadf_seal.specs.ProofVerdict.{AcceptsProofs, proof_verdict};
 ghost use Rattle.cadf_seal.specs.SealFile.{IsSeal, SealFileIsInjective, seal_file, seal_of};
 ghost use Rattle.cadf_seal.specs.SealVerdict.{AcceptsSeals, seal_verdict};
 ghost use Rattle.cadf_seal.specs.Tree.{IsMerkleTree, RootDetermines, DoNotCollide, hashed};
-ghost use Rattle.cadf_seal.specs.Verified.{TellsAll, ShowsLeaves, TellsTruth};
+ghost use Rattle.cadf_seal.specs.Verified.{TellsAll, ShowsLeaves, TellsTruth, FactsAreSo};
 
 use crate::proof::Proof;
 use crate::seal::Seal;
@@ -72,9 +72,10 @@ pub fn made_proof_is_accepted()
     ensures { (f n : InventoryModel) → TellsAll f n }
 {}
 
-/// States that a proof with the root of a set's leaves shows leaves of the set, and that what it tells of a digest is so,
-/// if what is hashed for both doesn't collide.
+/// States that a proof with the root of a set's leaves shows leaves of the set, that what it tells of a digest is so, and
+/// that facts that are told are in the set or not, as was asked: if what is hashed doesn't collide.
 pub fn accepted_proof_is_true()
     ensures leaves { ShowsLeaves }
     ensures digests { TellsTruth }
+    ensures facts { FactsAreSo }
 {}

@@ -8,6 +8,7 @@ mod proof;
 mod proof_lines;
 mod proof_read;
 mod proof_write;
+mod rebuilt;
 mod seal;
 mod seal_lines;
 mod seal_read;

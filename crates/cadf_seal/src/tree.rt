@@ -63,7 +63,7 @@ fn next_leaf(leaves: &mut Iter<'_, [u8; 32]>) -> [u8; 32]
 }
 
 /// Hashes a leaf.
-fn hash_of_leaf(leaf: &[u8; 32]) -> [u8; 32]
+pub(crate) fn hash_of_leaf(leaf: &[u8; 32]) -> [u8; 32]
     ensures { result ≡ leaf_hash leaf.now }
 {
     let mut hasher = Sha256::new();
@@ -73,7 +73,7 @@ fn hash_of_leaf(leaf: &[u8; 32]) -> [u8; 32]
 }
 
 /// Hashes a node from the hashes of its halves.
-fn hash_of_node(left: &[u8; 32], right: &[u8; 32]) -> [u8; 32]
+pub(crate) fn hash_of_node(left: &[u8; 32], right: &[u8; 32]) -> [u8; 32]
     ensures { result ≡ node_hash left.now right.now }
 {
     let mut hasher = Sha256::new();

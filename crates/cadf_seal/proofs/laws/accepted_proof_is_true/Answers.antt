@@ -1,3 +1,4 @@
+use Rattle.cadf_seal.proofs.Facts.{facts_are_so}
 use Rattle.cadf_seal.proofs.Sound.{shows_leaves, tells_truth}
 use Rattle.cadf_seal.proofs.laws.accepted_proof_is_true.Goals as goal
 
@@ -6,3 +7,6 @@ returns-clause-leaves c = shows_leaves
 
 pub returns-clause-digests : goal.returns-clause-digests
 returns-clause-digests c = tells_truth
+
+pub returns-clause-facts : goal.returns-clause-facts
+returns-clause-facts c = facts_are_so

@@ -5,7 +5,7 @@ use Rattle.cadf_seal.proofs.tree.+subtree.Goals as goal
 
 pub subtree-right-requires : goal.subtree-right-requires
 subtree-right-requires t c =
-    let halved = half c.args.height c.requires.height in
+    let halved = half c.args.height (omega (arith, c.requires.height)) in
     let all = halves c.args.height c.if-height-eq0.false in
     let left = ap length c.subtree-left.ensures.rest ∙ length-drop _ c.args.leaves.now in (
       search rules,
@@ -21,7 +21,7 @@ subtree-right-requires t c =
 pub returns-clause-hash : goal.returns-clause-hash
 returns-clause-hash t c =
     let h = c.args.height - 1 in
-    let halved = half c.args.height c.requires.height in
+    let halved = half c.args.height (omega (arith, c.requires.height)) in
     let next : suc h ≡ c.args.height = omega (arith, c.if-height-eq0.false) in
     let right = c.subtree-right.ensures.hash
     ∙ (λ i. tree h (take (c.args.count - halved i) (c.subtree-left.ensures.rest i)))

@@ -1,0 +1,86 @@
+-- Of facts that are told, each is in the sealed set or not, as was asked.
+use Rattle.std.proofs.Common.{◌≡◌, ◌∙◌, ℕ, ◌+◌, Bool, true, false, cond, not, List, [], ◌∷◌, map, Option, Some, None, Result, Ok, Err, length, refl, ap, sym, subst, inl, inr, true≢false}
+use Rattle.std.specs.Prelude.{nat_eq, option_map}
+use Rattle.std.specs.List.{position_from, AllByRecursion}
+use Rattle.std.proofs.lemmas.Bool.{eqb-true}
+use Rattle.std.proofs.lemmas.Slice.Eq.{bytes_eq-Decides}
+use Rattle.cadf_join.specs.Contents.{Text, Texts, Contents, Has}
+use Rattle.cadf_join.specs.Sets as set
+use Rattle.cadf_join.specs.Sets.{Listed, rising}
+use Rattle.cadf_join.specs.laws.Contents.{texts_total, texts_same}
+use Rattle.cadf_join.specs.laws.Rising.{rising-listed, AllByRecursion-listed}
+use Rattle.cadf_line.specs.Digest.{atom_digest}
+use Rattle.cadf_line.specs.Missing.{digests_of}
+use Rattle.cadf_line.proofs.Missing.{known_digest, digest_of_some}
+use Rattle.cadf_set.specs.Replica.{ReplicaModel}
+use Rattle.cadf_set.specs.Inventory.{InventoryModel}
+use Rattle.cadf_sketch.specs.Answers.{inventory_of}
+use Rattle.cadf_seal.specs.SealFile.{seal_of}
+use Rattle.cadf_seal.specs.ProofFile.{ProofModel}
+use Rattle.cadf_seal.specs.Verified.{state, is_state, fault_unless, first_fault, is_root, text_unless, IsOf, FactsAreSo}
+use Rattle.cadf_seal.specs.declared.verify.VerifyFault.{VerifyFault}
+use Rattle.cadf_seal.proofs.Honest.{not_true}
+use Rattle.cadf_seal.proofs.Sound.{tells_truth}
+
+no_fault : (r : Option VerifyFault) (text t : List ℕ) → text_unless r text ≡ Ok t → r ≡ None
+no_fault None text t e = refl
+no_fault (Some fault) text t e = absurd (cc)
+
+both_none : (a b : Option VerifyFault) → first_fault a b ≡ None → (a ≡ None) × (b ≡ None)
+both_none None b e = (refl, e)
+both_none (Some fault) b e = absurd (cc)
+
+is_right : (b : Bool) (fault : VerifyFault) → fault_unless b fault ≡ None → b ≡ true
+is_right true fault e = refl
+is_right false fault e = absurd (cc)
+
+none_mapped : {A : Type 0} (f : A → VerifyFault) (o : Option A) → option_map f o ≡ None → o ≡ None
+none_mapped f None e = refl
+none_mapped f (Some x) e = absurd (cc)
+
+none_at : {A : Type 0} (t : A → Bool) (i : ℕ) (xs : List A) → position_from t i xs ≡ None → AllByRecursion (λ x. t x ≡ false) xs
+none_at t i [] e = tt
+none_at {A = A} t i (x ∷ xs) e = by (t x) refl e (none_at t (i + 1) xs)
+  where
+    by : (b : Bool) → t x ≡ b → cond b (Some i) (position_from t (i + 1) xs) ≡ None
+        → (position_from t (i + 1) xs ≡ None → AllByRecursion (λ y. t y ≡ false) xs) → AllByRecursion (λ y. t y ≡ false) (x ∷ xs)
+    by true is e rest = absurd (cc)
+    by false is e rest = (is, rest e)
+
+same_root : (o : Option Text) (r : Text) → is_root o r ≡ true → o ≡ Some r
+same_root None r e = absurd (true≢false (sym e))
+same_root (Some h) r e = ap Some ((bytes_eq-Decides h r).0 e)
+
+as_asked : (o : Option Bool) (absent : Bool) → is_state o None ≡ false → is_state o (Some absent) ≡ false → o ≡ Some (not absent)
+as_asked None absent e f = absurd (true≢false e)
+as_asked (Some true) true e f = absurd (true≢false f)
+as_asked (Some true) false e f = refl
+as_asked (Some false) true e f = refl
+as_asked (Some false) false e f = absurd (true≢false f)
+
+of_each : (P : Text → Type 0) (qs : List Texts) → AllByRecursion P (map atom_digest qs) → (q : Texts) → Listed q qs → P (atom_digest q)
+of_each P [] h q l = absurd l
+of_each P (x ∷ qs) h q (inl e) = subst (λ y. P (atom_digest y)) (sym e) h.0
+of_each P (x ∷ qs) h q (inr l) = of_each P qs h.1 q l
+
+in_set : (held : Contents) (q : Texts) (absent : Bool) → ((y : Texts) → Has held y → atom_digest q ≡ atom_digest y → q ≡ y)
+    → set.contains (digests_of atom_digest held) (atom_digest q) ≡ not absent → set.contains held q ≡ not absent
+in_set held q true apart is = not_true (set.contains held q) (λ h. true≢false (sym (known_digest atom_digest held q h) ∙ is))
+in_set held q false apart is =
+    let found = digest_of_some atom_digest held (atom_digest q) is in
+    subst (Has held) (sym (apart found.0 found.1 found.2)) found.1
+
+pub facts_are_so : FactsAreSo
+facts_are_so p held facts absent text is apart other told q asked =
+    let n : InventoryModel = inventory_of held in
+    let one = both_none _ _ (no_fault _ _ text told) in
+    let two = both_none _ _ one.1 in
+    let three = both_none _ _ two.1 in
+    let four = both_none _ _ three.1 in
+    let of : IsOf (rising n.digests) p =
+    record { proof = is; count = eqb-true _ _ (is_right _ _ one.0); root = same_root _ _ (is_right _ _ two.0); apart = apart } in
+    let l = rising-listed texts_total texts_same facts q asked in
+    let shown = of_each _ (rising facts) (none_at (λ f. is_state (state p.count p.shown f) None) 1 _ (none_mapped _ _ three.0)) q l in
+    let right = of_each _ (rising facts) (none_at (λ f. is_state (state p.count p.shown f) (Some absent)) 1 _ (none_mapped _ _ four.1)) q l in
+    in_set held.atoms q absent (λ y h e. other q y asked h e)
+    (tells_truth p n of (atom_digest q) (not absent) (as_asked (state p.count p.shown (atom_digest q)) absent shown right))

@@ -1,0 +1,28 @@
+use Rattle.std.proofs.Common.{◌∙◌, arith, sym, subst, ap, rules}
+use Rattle.cadf_seal.specs.Shown.{rebuilt}
+use Rattle.cadf_seal.specs.Verified.{alone, root_from, PlacesRise}
+use Rattle.cadf_seal.proofs.Sound.{places_rise}
+use Rattle.cadf_seal.proofs.Splitting.{root_without, root_with}
+use Rattle.cadf_seal.proofs.rebuilt.root_of_proof.Goals as goal
+
+pub returns-then-count-eq0 : goal.returns-then-count-eq0
+returns-then-count-eq0 c =
+    c.alone.ensures
+    ∙ (λ i. alone (c.digest.ensures i) (c.hidden-hashes.ensures i))
+    ∙ sym (root_without c.args.proof.now (omega (arith, c.count.ensures, c.if-count-eq0.true)))
+
+pub rebuilt-requires-clause-rising : goal.rebuilt-requires-clause-rising
+rebuilt-requires-clause-rising c = subst PlacesRise (sym c.shown.ensures) (places_rise c.args.proof.now.shown c.type_invariant.ensures.parts.rising)
+
+pub returns-in-Some : goal.returns-in-Some
+returns-in-Some c =
+    c.alone-in-Some.ensures
+    ∙ ap root_from c.in-Some.ensures
+    ∙ (λ i. root_from (rebuilt 64 0 (c.count-2.ensures i) (c.shown.ensures i) (c.hidden-hashes.ensures i)))
+    ∙ sym (root_with c.args.proof.now (omega (arith, c.count.ensures, c.if-count-eq0.false)) (omega (arith, c.type_invariant.ensures.parts.count)))
+
+pub returns-in-None : goal.returns-in-None
+returns-in-None c =
+    ap root_from c.in-None.ensures
+    ∙ (λ i. root_from (rebuilt 64 0 (c.count-2.ensures i) (c.shown.ensures i) (c.hidden-hashes.ensures i)))
+    ∙ sym (root_with c.args.proof.now (omega (arith, c.count.ensures, c.if-count-eq0.false)) (omega (arith, c.type_invariant.ensures.parts.count)))
