@@ -261,6 +261,15 @@ def opened_parts(folder, wanted):
     raise Fault("%s: it changed at each of %d looks: try again" % (folder.shown(), TRIES))
 
 
+def check_window(index, entry, file):
+    """Raises why a file of a folder is refused, or that it holds something else than its name says."""
+    with split(["--by", index.unit, "--log=" + index.name()], [file]) as parts, open(os.devnull, "wb") as nothing:
+        parts.head()
+        found = [(part, parts.copy(nothing)) for part in parts.names()]
+    if found != [entry]:
+        raise Fault("%s: it holds something else than its name says: %s" % (file.name, DAMAGED), REFUSED)
+
+
 @contextlib.contextmanager
 def without_facts(log, name):
     """A replica file of the log, by its canonical text, that has no facts, as an input of that name."""

@@ -35,6 +35,8 @@ OUT_OF_MEMORY = "out of memory"  # made once: no text is made while memory is ou
 OTHER_KINDS = {
     b"CADF-INVENTORY ": "an inventory, which holds no facts: `cadf missing-by SITE INVENTORY` answers it",
     b"CADF-SKETCH ": "a sketch, which holds no facts: `cadf missing-by-sketch SITE SKETCH` answers it",
+    b"CADF-SITE-SEAL ": "the seal of a folder, which holds no facts: `cadf-seal --compare SEAL SITE/` reads it",
+    b"CADF-SEAL ": "a seal, which holds no facts: take the site's file",
     b"CADF-SITE ": "the file `site` of a folder: name the folder, or the files that it names",
     b"CADF-SPLIT ": "a split file, which no command reads: `cadf-take --by UNIT SITE/ FILE..` makes files of its parts",
     b'{"conflicts":': "a conflict list, which cadf writes and does not read: take the site's file",

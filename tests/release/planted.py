@@ -7,8 +7,8 @@ from typing import NamedTuple
 PAGE, SITE = "share/cadf/report/", "share/cadf/cadf_site.py"
 CHANGED, INSTALLED, PACKAGES, UNITS = ("tests/package/test_%s.py -k " % name for name in ("builds", "installed", "packages", "units"))
 
-CRASH, TURNS, OPENSTACK, LISTENER, COMPARED = (
-    "tests/tools/test_%s.py -k " % name for name in ("crash_order", "turns", "from_openstack", "listener", "compared"))
+CRASH, TURNS, OPENSTACK, LISTENER, COMPARED, SEALS = (
+    "tests/tools/test_%s.py -k " % name for name in ("crash_order", "turns", "from_openstack", "listener", "compared", "seal"))
 REPORTS, MEANING = ("tests/tools/test_report%s.py -k " % name for name in ("", "_meaning"))
 HEADER, TOLD = "tests/library/test_header.py -k ", "tests/docs/test_told.py -k "
 TOOLKIT = "tests/tools/test_toolkit.py"
@@ -90,6 +90,13 @@ ROWS = [
     Row("agree: peels what isn't pure", "tools/cadf-agree", " and place in places:", ":", COMPARED + "test_peeled"),
     Row("which: the last status", "tools/cadf-which", "            note(fault)\n            worst = max(worst, fault.status)", "            note(fault)\n            worst = fault.status", COMPARED + "test_worst"),
     Row("conflicts: no metrics", "tools/cadf-conflicts", "if len(texts) > 1 or key in wanted:", "if len(texts) > 1 and key[0] != 'M' or key in wanted:", COMPARED + "test_every_kind"),
+    # ---- Seals
+    Row("seal: files unjudged", "share/cadf/cadf_seals.py", "                check_window(index, (part, digest), file)\n", "", SEALS + "test_a_fact_in_another"),
+    Row("seal: a file of each window", "share/cadf/cadf_seals.py", "for digest in digests}\n", "for digest in digests[:1]}\n", SEALS + "test_seal_of_a_folder"),
+    Row("seal: any digest line", "share/cadf/cadf_seals.py", 'if line != b"Z " + digest:', "if False:", SEALS + "test_each_bit"),
+    Row("seal: windows in any order", "share/cadf/cadf_seals.py", "if last is not None and order(part) <= order(last):", "if False:", SEALS + "test_refused"),
+    Row("seal: counts are compared", "tools/cadf-seal", "if then.parts.get(part) != now.parts.get(part)]", "if then.parts.get(part, NOTHING)[0] != now.parts.get(part, NOTHING)[0]]", SEALS + "test_compare"),
+    Row("seal: says what roots don't", "tools/cadf-seal", "whether facts were only added, roots don't say", "facts were only added", SEALS + "test_compare"),
     # ---- What a page of cadf-report holds and says
     Row("report: conflicts past 40", "tools/cadf-report", "        self.hashed.add(\"]\")\n        return numbers\n\n    def digests", "        self.hashed.add(\"]\")\n        return numbers[:40]\n\n    def digests", REPORTS + "test_many_conflicts"),
     Row("report: ten million events", "tools/cadf-report", "MOST_EVENTS = 1000000", "MOST_EVENTS = 10000000", REPORTS + "test_most_events"),

@@ -29,22 +29,26 @@ CALLS = {
     "conflicts": "conflicts FILE", "report": "report --log g FILE", "from-openstack": "from-openstack --log g FILE",
     "spool": "spool SITE SPOOL", "spool it as the site": "spool --log g FILE SPOOL", "listen": "listen --spool DIR --url-file FILE",
     "choices": "conflicts --rule FILE good.cadf", "authority": "listen --spool DIR --url amqp://h/ --ca FILE", "others": "conflicts good.cadf FILE",
-    "no log": "report FILE", "a new site": "take NEW FILE",
+    "no log": "report FILE", "a new site": "take NEW FILE", "seal": "seal FILE", "earlier seal": "seal --compare FILE good.cadf",
 }
-READERS = ("which", "agree", "take", "take it as the site", "conflicts", "report", "spool", "spool it as the site")
-PLAIN = ("which", "agree", "take", "conflicts", "report", "from-openstack", "choices", "listen", "authority")
+READERS = ("which", "agree", "take", "take it as the site", "conflicts", "report", "spool", "spool it as the site", "seal")
+PLAIN = ("which", "agree", "take", "conflicts", "report", "from-openstack", "choices", "listen", "authority", "seal", "earlier seal")
 # Of each fault: the file, what is said of it, and by which calls, with the status of each.
 DAMAGED = "the file is damaged: fetch it again, or restore it as the guide says under `A damaged site`"
 NO_LOG = "no log named: an event by itself names none: give a file that does, or --log ID if the tool takes it"
 OTHER = "other log%s: one site has one log; `cadf check FILE` says which log a file is of"
 FAULTS = [
     ("absent", "No such file or directory", dict.fromkeys(PLAIN, 3)),
-    ("folder", "Is a directory", dict.fromkeys(("take", "from-openstack", "choices", "listen", "authority"), 3)),
+    ("folder", "Is a directory", dict.fromkeys(("take", "from-openstack", "choices", "listen", "authority", "earlier seal"), 3)),
     ("folder", "no site in it: `cadf-take --by day SITE/ FILE..` makes one",
-     dict.fromkeys(("which", "agree", "conflicts", "others", "report", "take it as the site", "spool it as the site"), 1)),
+     dict.fromkeys(("which", "agree", "conflicts", "others", "report", "take it as the site", "spool it as the site", "seal"), 1)),
     ("secret", "Permission denied", dict(dict.fromkeys((*PLAIN, "take it as the site"), 3), spool=1)),
     ("inventory", "an inventory, which holds no facts: `cadf missing-by SITE INVENTORY` answers it", {call: 1 for call in READERS if call != "agree"}),
     ("sketch", "a sketch, which holds no facts: `cadf missing-by-sketch SITE SKETCH` answers it", {call: 1 for call in READERS if call != "agree"}),
+    ("site-seal", "the seal of a folder, which holds no facts: `cadf-seal --compare SEAL SITE/` reads it", dict.fromkeys(READERS, 1)),
+    ("seal", "a seal, which holds no facts: take the site's file", dict.fromkeys(READERS, 1)),
+    *((file, "version: no seal of a folder, as `cadf-seal SITE/` writes it", {"earlier seal": 1}) for file in ("seal", "inventory", "good.cadf", "index")),
+    ("site-seal", "truncated: it is damaged: have it sent again", {"earlier seal": 1}),
     ("index", "the file `site` of a folder: name the folder, or the files that it names", dict.fromkeys(READERS, 1)),
     ("split", "a split file, which no command reads: `cadf-take --by UNIT SITE/ FILE..` makes files of its parts", dict.fromkeys(READERS, 1)),
     ("conflicts", "a conflict list, which cadf writes and does not read: take the site's file", dict.fromkeys(READERS, 1)),
@@ -65,13 +69,13 @@ FAULTS = [
     ("lacking", "line 4: order: " + DAMAGED, dict.fromkeys(READERS, 1)),
     ("of-windows", "version: a later release wrote it, or line ends were changed on the way: fetch it again, or have `cadf show` of it sent",
      dict.fromkeys(READERS, 1)),
-    ("event.json", NO_LOG, dict.fromkeys(("agree", "conflicts", "no log", "a new site"), 1)),
+    ("event.json", NO_LOG, dict.fromkeys(("agree", "conflicts", "no log", "a new site", "seal"), 1)),
     ("event.json", NO_LOG, {"take it as the site": 1}),
     ("event.json", "an event by itself, and no site's file: name another SITE", {"spool it as the site": 1}),
     ("other.json", OTHER % ': "h"', dict.fromkeys(("which", "agree", "spool", "spool it as the site"), 1)),
     ("other.json", OTHER % "", dict.fromkeys(("take", "take it as the site", "report", "others"), 1)),
     ("large", "too large: no file above 2^30 bytes is read; give smaller ones to a site's folder: cadf-take --by day SITE/ FILE..",
-     dict.fromkeys(("which", "agree", "take", "take it as the site", "conflicts", "report", "spool it as the site"), 1)),
+     dict.fromkeys(("which", "agree", "take", "take it as the site", "conflicts", "report", "spool it as the site", "seal"), 1)),
     ("large", "larger than 1073741824 bytes: split it, or give a greater --size", {"spool": 1}),
     ("large", "line 1: set aside: longer than 67108864 bytes: see --longest", {"from-openstack": 1}),
     ("large", "line 1: not LETTER KEY PLACE DIGEST and a line feed", {"choices": 1}),
@@ -132,6 +136,8 @@ def make_files(cadf):
     made("inventory", cadf, "inventory", "good.cadf")
     made("sketch", cadf, "sketch", "good.cadf")
     made("conflicts", cadf, "show", "--conflicts", "good.cadf")
+    put("site-seal", 'CADF-SITE-SEAL 1\nL "g"\nB day\n')
+    put("seal", 'CADF-SEAL 1\nL "g"\n')
     put("index", 'CADF-SITE 1\nL "g"\nB day\n')
     put("split", 'CADF-SPLIT 1\nL "g"\nB day\n')
     put("script", "learn 0 {}\n")

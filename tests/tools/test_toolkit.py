@@ -54,7 +54,7 @@ def test_ended_by_a_signal(kit, capsys, number):
 
 
 @pytest.mark.parametrize("words", [["cadf-take", "new.cadf", "event.json"], ["cadf-which", "event.json"], ["cadf-agree", "event.json", "event.json"],
-                                   ["cadf-report", "event.json"], ["cadf-conflicts", "event.json"]])
+                                   ["cadf-report", "event.json"], ["cadf-conflicts", "event.json"], ["cadf-seal", "event.json"]])
 def test_no_command(words, tmp_path):
     """A command that can't be started is named, with what to do."""
     (tmp_path / "event.json").write_text("{}")
