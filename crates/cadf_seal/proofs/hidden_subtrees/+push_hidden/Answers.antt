@@ -6,7 +6,7 @@ use Rattle.cadf_seal.proofs.hidden_subtrees.+push_hidden.Goals as goal
 
 pub push_hidden-requires-3 : goal.push_hidden-requires-3
 push_hidden-requires-3 t c =
-    let halved = half c.args.height c.requires.height in
+    let halved = half c.args.height (omega (arith, c.requires.height)) in
     let all = halves c.args.height c.if-height-eq0.false in
     let left = ap length c.in_ok-push_hidden.ensures.rest ∙ length-drop _ c.args.leaves.now in (
       search rules,
@@ -27,6 +27,6 @@ returns-clause-hashes t c =
     on_ok_then c.push_hidden-3.result
     (both_hidden c.args.height _ c.args.count c.args.first c.args.leaves.now c.push_hidden-2.new.leaves c.args.shown.now
     c.shown_around.result.0.now c.shown_around.result.1.now c.args.hashes.now.items c.push_hidden-2.new.hashes.items c.push_hidden-3.new.hashes.items
-    (sym c.is_empty.ensures ∙ c.if-is_empty.false) c.if-height-eq0.false (half c.args.height c.requires.height) c.if-count-half.false c.requires.leaves
+    (sym c.is_empty.ensures ∙ c.if-is_empty.false) c.if-height-eq0.false (half c.args.height (omega (arith, c.requires.height))) c.if-count-half.false c.requires.leaves
     c.shown_around.ensures.until c.shown_around.ensures.from c.in_ok-push_hidden.ensures.rest c.in_ok-push_hidden.ensures.hashes)
     c.push_hidden-3.ensures.hashes
