@@ -218,7 +218,8 @@ def read_by_both(data):
     """What the tool's reader and the second implementation say of a file: its refusal, or its log, its unit and its lines."""
     try:
         found = cadf_seals.seal_in(io_of(data))
-        own = found.name(), found.unit, {part: (count, bytes.fromhex(root)) for part, (count, root) in found.parts.items()}
+        parts = {part: (count, bytes.fromhex(root)) for part, (count, root) in found.parts.items()}
+        own = found.name(), found.unit, parts
         assert found.bytes() == data
     except cadf_seals.Refused as fault:
         own = str(fault)
@@ -250,15 +251,16 @@ def test_greatest_count():
 
 
 def test_each_bit_and_each_prefix():
-    """A seal with a bit turned, cut anywhere, or with a line left out, twice or elsewhere, is read by both alike, and never as another."""
+    """A seal with a bit turned, cut anywhere, or with a line left out, twice or elsewhere, is refused by both alike."""
     seal = with_digest((HEAD + SHARED + DAY + NEXT).encode())
     lines = seal.splitlines(True)
     wrong = [seal[:place] for place in range(len(seal))]
-    wrong += [seal[:place // 8] + bytes([seal[place // 8] ^ 1 << place % 8]) + seal[place // 8 + 1:] for place in range(8 * len(seal))]
+    wrong += [seal[:place] + bytes([seal[place] ^ 1 << bit]) + seal[place + 1:] for place in range(len(seal)) for bit in range(8)]
     for place in range(len(lines)):
         rest = lines[:place] + lines[place + 1:]
-        wrong += [b"".join(rest), *(b"".join(rest[:other] + [lines[place]] + rest[other:]) for other in range(len(lines)) if other != place)]
-        wrong += [b"".join(lines[:place] + lines[place:place + 1] + lines[place:])]
+        others = [other for other in range(len(lines)) if other != place]
+        wrong += [b"".join(rest), *(b"".join(rest[:other] + [lines[place]] + rest[other:]) for other in others)]
+        wrong.append(b"".join(lines[:place] + lines[place:place + 1] + lines[place:]))
     for data in wrong:
         assert isinstance(read_by_both(data), str)
     assert read_by_both(seal)[:2] == ("g", "day")
@@ -267,8 +269,9 @@ def test_each_bit_and_each_prefix():
 def test_too_large(monkeypatch):
     """More bytes than are read are told before bytes that trail, and after a line that is refused."""
     whole, wrong = with_digest((HEAD + DAY).encode()), (HEAD + NEXT + DAY).encode()
-    for data, most, refusal in [(whole, len(whole), None), (whole + b"x", len(whole), "too large"), (whole + b"x", len(whole) + 1, "trailing bytes"),
-                                (whole, len(whole) - 1, "too large"), (wrong + b"x", len(wrong), "line 5: order"), (wrong, len(wrong) - 1, "too large")]:
+    longer, size, end = whole + b"x", len(whole), len(wrong)
+    for data, most, refusal in [(whole, size, None), (longer, size, "too large"), (longer, size + 1, "trailing bytes"),
+                                (whole, size - 1, "too large"), (wrong + b"x", end, "line 5: order"), (wrong, end - 1, "too large")]:
         monkeypatch.setattr(cadf_seals, "LARGEST", most)
         try:
             assert cadf_seals.seal_in(io_of(data)).bytes() == whole and refusal is None
@@ -296,7 +299,8 @@ def test_damaged_windows(seals):
     seals.site.takes(contents(0, 2))
     one, other = (seals.files(part)[0] for part in ("2024-02-29", "2024-03-01"))
     held = open(one, "rb").read(), open(other, "rb").read()
-    for data, said in [(held[0].replace(b"read", b"reap"), "digest: the file is damaged"), (held[1], "it holds something else than its name says: "), (b"", "not JSON")]:
+    for data, said in [(held[0].replace(b"read", b"reap"), "digest: the file is damaged"), (b"", "not JSON"),
+                       (held[1], "it holds something else than its name says: ")]:
         open(one, "wb").write(data)
         status, output, lines = seals.run("site")
         assert (status, output, len(lines)) == (1, b"", 1) and lines[0].startswith("cadf-seal: site/%s: %s" % (os.path.basename(one), said))
@@ -334,7 +338,8 @@ def test_full_disk(seals):
     seals.put("other", with_digest(HEAD.encode()))
     for words in (["site"], ["--window", "shared", seal], ["--compare", "other", seal], [seals.put("file", json.dumps(contents(0)))]):
         with open("/dev/full", "wb") as full:
-            done = subprocess.run([seals.tool, *words], env=seals.environment, cwd=seals.path, stdout=full, stderr=subprocess.PIPE, check=False)
+            done = subprocess.run([seals.tool, *words], env=seals.environment, cwd=seals.path, stdout=full,
+                                  stderr=subprocess.PIPE, check=False)
         assert (done.returncode, done.stderr) == (3, b"cadf-seal: standard output: write fault: No space left on device\n")
 
 
