@@ -17,6 +17,7 @@ import stat
 import subprocess
 import sys
 import tempfile
+import threading
 import time
 
 DONE, REFUSED, USAGE, FAILED, MEMORY, DIFFERS = range(6)  # the manual page says what each means
@@ -324,15 +325,19 @@ def started(words, **options):
 
     OSError: it can't be started.
     """
+    hold_signals()  # until the program is known that is to be ended
     try:
         child = subprocess.Popen(words, **options)
-    except OSError as fault:
-        if words[0] == CADF:
+    except BaseException as fault:
+        if isinstance(fault, OSError) and words[0] == CADF:
             fault.strerror += ": name the command by CADF, or put it on PATH"
+        release_signals()
         raise
-    with child, Progress(" ".join(map(os.path.basename, words[:2]))):
+    with child:
         try:
-            yield child
+            release_signals()
+            with Progress(" ".join(map(os.path.basename, words[:2]))):
+                yield child
         except BaseException:
             child.terminate()
             raise
@@ -447,12 +452,30 @@ def new_file(name, inputs):
 class Stopped(BaseException):
     """A signal asked the call to end. No part of the call takes that for a fault of a file, and goes on with the next."""
 
+    held = None  # the signals that have come since hold_signals
+
     def __init__(self, number):
         super().__init__("stopped by %s" % signal.Signals(number).name)
         self.status = 128 + number
 
 
+def hold_signals():
+    """Has a signal that asks the call to end wait until release_signals. It reaches the main thread alone."""
+    if threading.current_thread() is threading.main_thread():
+        Stopped.held = []
+
+
+def release_signals():
+    if threading.current_thread() is threading.main_thread():
+        held, Stopped.held = Stopped.held, None
+        if held:
+            stop(held[0], None)
+
+
 def stop(number, _):
+    if Stopped.held is not None:
+        Stopped.held.append(number)
+        return
     for each in STOPPING:
         signal.signal(each, signal.SIG_IGN)
     raise Stopped(number)

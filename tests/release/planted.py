@@ -63,6 +63,7 @@ ROWS = [
     Row("take: lock behind a link", "tools/cadf-take", "os.O_RDWR | os.O_NOFOLLOW | os.O_NONBLOCK", "os.O_RDWR | os.O_NONBLOCK", TURNS + "test_take_behind"),
     Row("tools: 0 at a signal", "share/cadf/cadf_toolkit.py", "self.status = 128 + number", "self.status = 0", TURNS + "test_asked"),
     Row("tools: a signal is a fault", "share/cadf/cadf_toolkit.py", "class Stopped(BaseException):", "class Stopped(Fault):", TOOLKIT),
+    Row("tools: a program that starts goes on", "share/cadf/cadf_toolkit.py", "        Stopped.held = []\n", "        pass\n", TOOLKIT + " -k test_ended_while"),
     Row("tools: 3 for no memory", "share/cadf/cadf_toolkit.py", "if fault.errno == errno.ENOMEM else", "if False else", TOOLKIT),
     Row("tools: 3 for MemoryError", "share/cadf/cadf_toolkit.py", "    except MemoryError:\n        status, said = MEMORY,", "    except MemoryError:\n        status, said = FAILED,", TOOLKIT),
     Row("spool: set aside, not synced", "tools/cadf-spool", "dst_dir_fd=self.spool.aside)\n            os.fsync(self.spool.aside)\n", "dst_dir_fd=self.spool.aside)\n", CRASH + "test_spool_in_part"),

@@ -53,6 +53,35 @@ def test_ended_by_a_signal(kit, capsys, number):
     assert capsys.readouterr().err == "cadf-tool: stopped by %s\n" % number.name
 
 
+STARTED = """import os, signal, subprocess, sys
+sys.path.insert(0, os.path.dirname(sys.argv[1]))
+import cadf_toolkit
+popen = subprocess.Popen
+def started(*words, **options):
+    before = sys.argv[2] == "before" and os.kill(os.getpid(), signal.SIGTERM)
+    child = popen(*words, **options)
+    after = sys.argv[2] == "after" and os.kill(os.getpid(), signal.SIGTERM)
+    return child
+subprocess.Popen = started
+def run():
+    with cadf_toolkit.started([sys.argv[3]]) as child:
+        child.wait()
+sys.exit(cadf_toolkit.ended(run))
+"""
+
+
+@pytest.mark.parametrize("when", ["before", "after"])
+def test_ended_while_a_program_is_started(tmp_path, when):
+    """A signal before the program is known: it is ended all the same, and what isn't there can't be started."""
+    sleeping = tmp_path / "sleeping"
+    sleeping.write_text("#!/bin/sh\nexec sleep 60\n")
+    sleeping.chmod(0o755)
+    for program in (sleeping, tmp_path / "absent"):
+        done = subprocess.run(["python3", "-c", STARTED, TOOLKIT, when, program], stdout=subprocess.PIPE, stderr=subprocess.PIPE, timeout=30)
+        said = b"stopped by SIGTERM\n" if when == "before" or program == sleeping else b"absent: No such file or directory\n"
+        assert done.returncode == (3 if said.startswith(b"absent") else 143) and done.stderr.endswith(said), done
+
+
 @pytest.mark.parametrize("words", [["cadf-take", "new.cadf", "event.json"], ["cadf-which", "event.json"], ["cadf-agree", "event.json", "event.json"],
                                    ["cadf-report", "event.json"], ["cadf-conflicts", "event.json"], ["cadf-seal", "event.json"]])
 def test_no_command(words, tmp_path):
