@@ -57,14 +57,16 @@ UNLIMITED = 1 << 30
 UNREAD = (1, b"Error: Kind(OutOfMemory)\n")  # how the program ends where it has no memory to keep the row
 # Calls that write, beside the engines.
 WRITES = {
-    "file write", "file write_inventory", "file write_seal", "file write_sketch", "file write_log", "file write_conflicts", "json write_all", "json write_by_std"}
+    "file write", "file write_inventory", "file write_seal", "file write_proof", "file write_sketch", "file write_log", "file write_conflicts",
+    "json write_all", "json write_by_std"}
 # Of these nothing is written where memory is refused.
 TEXTS = {"file write_log", "file write_conflicts", "engine run_show", "engine run_check", "engine run_rehearse"}
 # What else a refusal is answered by: by a fault's text, with a count, or by a driver that takes what isn't whole as nothing.
 OTHER = {
     "event fault": r"some\tout of memory\n", "json read_by_std": r"err\tMemory\t\d+\n", "file write_inventory": "no inventory\n",
     "file write_sketch": "no inventory\n", "file inventory_digest": "no inventory\n", "file seal": "no inventory\n",
-    "file root_of": "no inventory\n", "file write_seal": "no inventory\n", "file read_by": "no sketch\n",
+    "file root_of": "no inventory\n", "file write_seal": "no inventory\n", "file proof": "no inventory\n",
+    "file write_proof": "no inventory\n", "file read_by": "no sketch\n",
     "file missing_by_sketch": "no sketch\n", "file write": "no replica\n", "file write_log": "no replica\n", "file write_conflicts": "no replica\n",
     "engine": r"no such call\n|err\tNoLog\n"}
 SIZES = {"file read", "file read_inventory", "file read_seal", "file read_sketch"}  # files that are refused are read in pieces of several sizes: one is enough

@@ -1,7 +1,7 @@
-"""Rows of the driver of files: seals that are made, read and written.
+"""Rows of the driver of files: seals that are made, read and written, and proofs that are made and written.
 
-Words: those of a reading or a writer; a seal's own are a log and digests. The roots are worked out here, as section
-2.1.1 of RFC 9162 defines them.
+Words: those of a reading or a writer; a seal's own are a log and digests, a proof's own a number of facts, a log, these
+facts and digests. The roots are worked out here, as section 2.1.1 of RFC 9162 defines them.
 """
 from hashlib import sha256
 
@@ -12,9 +12,11 @@ CALLS = {
     "root_of": ["root_of"],
     "read_seal": ["read_seal"],
     "write_seal": ["write_seal"],
+    "proof": ["Proof::of", "Proof::log", "Proof::count", "Proof::shown", "Proof::hidden"],
+    "write_proof": ["write_proof"],
 }
 
-SEAL, REFUSAL = "Seal file", "What is refused"
+SEAL, PROOF, REFUSAL = "Seal file", "Proof file", "What is refused"
 LIMITS = "ARCHITECTURE: Limits, and files in pieces"
 SINKS = "ARCHITECTURE: Sources and sinks"
 PIECES = [1, 7, 4096]
@@ -54,6 +56,47 @@ def made(*digests, log="g"):
     return ["ok", log, len(set(digests)), root_of(digests)]
 
 
+def places_of(fact, leaves):
+    """The places of the leaves that a fact needs: its own, or those next to it."""
+    if fact in leaves:
+        return [leaves.index(fact)]
+    behind = len([leaf for leaf in leaves if leaf < fact])
+    return [place for place in (behind - 1, behind) if 0 <= place < len(leaves)]
+
+
+def hidden(leaves, low, high, places):
+    """The hashes of the greatest subtrees without one of the places, of the leaves from place low until before high."""
+    if not any(low <= place < high for place in places):
+        return [root(leaves[low:high])] if low < high else []
+    if high - low == 1:
+        return []
+    half = 1
+    while 2 * half < high - low:
+        half *= 2
+    return hidden(leaves, low, low + half, places) + hidden(leaves, low + half, high, places)
+
+
+def parts(facts, digests):
+    """What a proof has: the number of leaves, the shown ones with their places, and the hashes of hidden subtrees."""
+    leaves = [bytes.fromhex(digest) for digest in sorted(set(digests))]
+    places = sorted({place for fact in facts for place in places_of(bytes.fromhex(fact), leaves)})
+    hashes = [each.hex() for each in hidden(leaves, 0, len(leaves), places)]
+    return len(leaves), [(place, leaves[place].hex()) for place in places], hashes
+
+
+def proof(facts, digests, log='"g"'):
+    """The file of the proof for these facts."""
+    count, shown, hashes = parts(facts, digests)
+    lines = ["CADF-PROOF 1", "L %s" % log, "N %d" % count, *("P %d %s" % leaf for leaf in shown), *("H %s" % each for each in hashes)]
+    return closed("".join(line + "\n" for line in lines))
+
+
+def proved(facts, digests, log="g"):
+    """The answer of the proof for these facts."""
+    count, shown, hashes = parts(facts, digests)
+    return ["ok", log, count, len(shown), *(word for leaf in shown for word in leaf), *hashes]
+
+
 MANY = [sha256(b"%d" % number).hexdigest() for number in range(33)]
 SETS = [[], [digits(C1)], [digits(C1), digits(K1)], [digits(CF), digits(KF), digits(C1)], [digits(T3), digits(C2), digits(C1), digits(C2)]]
 ROWS = [("seal", ["g", *held], made(*held), SEAL) for held in SETS]
@@ -75,6 +118,38 @@ ROWS += [
     ("read_seal", [156, 7, 0, seal()], made(), LIMITS),
     ("read_seal", [155, 7, 0, seal()], ["err", "TooLarge"], LIMITS),
     ("read_seal", [LIMIT, 4096, 2, seal()], ["err", "ReadFault"], LIMITS),
+]
+
+# Facts that are leaves and facts that are none, among trees of many sizes: the first leaf, the last, one in the middle,
+# some, all; before all, behind all, behind the middle, two between the same leaves; and none at all.
+LOW, HIGH = 64 * "0", 64 * "f"
+BETWEEN = [sha256(b"no leaf %d" % number).hexdigest() for number in range(4)]
+
+
+def fact_sets(digests):
+    """Some sets of facts for the leaves."""
+    leaves = sorted(set(digests))
+    yield from ([], [LOW], [HIGH], [LOW, HIGH], BETWEEN[:1], BETWEEN)
+    if leaves:
+        middle = leaves[len(leaves) // 2]
+        first, second = ("%064x" % (int(middle, 16) + more) for more in (1, 2))
+        yield from ([leaves[0]], [leaves[-1]], [middle], [first], [first, second], [middle, first], leaves[::2], leaves)
+
+
+for size in (*range(6), 7, 8, 9, 17):
+    for facts in dict.fromkeys(map(tuple, fact_sets(MANY[:size]))):
+        ROWS.append(("proof", [len(facts), "g", *facts, *MANY[:size]], proved(facts, MANY[:size]), PROOF))
+for held in SETS:
+    for facts in ([], [digits(C1)], [digits(K1), LOW]):
+        ROWS += [
+            ("write_proof", [size, "never", 0, len(facts), "g", *facts, *held], ["ok", proof(facts, held)], PROOF) for size in PIECES]
+ROWS += [
+    ("proof", [0, "g", "x"], ["no inventory"], PROOF), ("proof", [1, "g", "x"], ["no inventory"], PROOF),
+    ("proof", [3, "g", LOW], proved([LOW], []), PROOF),
+    ("write_proof", [7, "never", 0, 0, "g", "x"], ["no inventory"], PROOF),
+    ("write_proof", [7, "never", 0, 1, 'a"b', LOW, *MANY[:5]], ["ok", proof([LOW], MANY[:5], log='"a\\"b"')], PROOF),
+    ("write_proof", [1, "refuses", 19, 0, "g"], ["err", "WriteFault", 'CADF-PROOF 1\nL "g"'], SINKS),
+    ("write_proof", [1, "takes-nothing", 20, 0, "g"], ["err", "WriteFault", 'CADF-PROOF 1\nL "g"\n'], SINKS),
 ]
 
 # What is refused, and how.

@@ -41,10 +41,22 @@ fn put(inventory: &mut Inventory, word: &str) -> bool {
 /// Makes the inventory of the log that the word at that place names, with the digests after it. `None` if one is
 /// refused.
 pub(crate) fn inventory_of(alloc: Global, call: &Call, place: usize) -> Option<Inventory> {
-    let log = Name::read(alloc, call.text(place)).ok()?;
+    inventory_between(alloc, call, place, place, call.count())
+}
+
+/// Makes the inventory of the log that the word at `log` names, with the digests after word `from`, up to word `to`.
+/// `None` if one is refused.
+pub(crate) fn inventory_between(
+    alloc: Global,
+    call: &Call,
+    log: usize,
+    from: usize,
+    to: usize,
+) -> Option<Inventory> {
+    let log = Name::read(alloc, call.text(log)).ok()?;
     let mut inventory = Inventory::new(alloc, log);
     let mut is_whole = true;
-    for at in place..call.count() {
+    for at in from..to {
         is_whole &= put(&mut inventory, call.text(at.saturating_add(1)));
     }
     if is_whole { Some(inventory) } else { None }

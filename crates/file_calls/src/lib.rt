@@ -1,4 +1,4 @@
-//! Calls of replica, inventory, seal and sketch files, and of the two texts.
+//! Calls of replica, inventory, seal, proof and sketch files, and of the two texts.
 #![tactic(auto)]
 
 mod faults;
@@ -35,6 +35,8 @@ pub fn answered(alloc: Global, call: &Call) -> Result<String, Memory> {
         "write_seal" => seals::write(alloc, call),
         "seal" => seals::seal(alloc, call),
         "root_of" => seals::root(alloc, call),
+        "proof" => seals::proof(alloc, call),
+        "write_proof" => seals::write_proof_of(alloc, call),
         "write_log" | "write_conflicts" => texts::write(alloc, call),
         "read_sketch" => sketches::read(alloc, call),
         "write_sketch" => sketches::write(alloc, call),

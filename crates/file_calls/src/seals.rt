@@ -1,11 +1,12 @@
-//! Seals, and seal files that are read and written.
+//! Seals and proofs, and files of both that are read and written.
 
-use crate::inventories::inventory_of;
+use crate::inventories::{inventory_between, inventory_of};
 use crate::reads::Reading;
 use crate::streams::{sink_of, written};
 use cadf_file::FileFault;
 use cadf_json::Memory;
-use cadf_seal::{Seal, read_seal, root_of, write_seal};
+use cadf_replica::Inventory;
+use cadf_seal::{Leaf, Proof, Seal, read_seal, root_of, write_proof, write_seal};
 use calls::{Call, answer, push, push_number, refused};
 use std::alloc::Global;
 
@@ -58,5 +59,61 @@ pub(crate) fn write(alloc: Global, call: &Call) -> Result<String, Memory> {
     let seal = Seal::of(alloc, &inventory)?;
     let mut sink = sink_of(alloc, call, 1);
     let done = write_seal(alloc, &seal, &mut sink);
+    written(alloc, done, &sink)
+}
+
+/// Makes the facts and the inventory of a call: a number of facts from word `place` on, a log, that many digests, and
+/// the inventory's digests. `None` if one is refused.
+fn sets_of(alloc: Global, call: &Call, place: usize) -> Option<(Inventory, Inventory)> {
+    let log = place.saturating_add(1);
+    let middle = log.saturating_add(call.number(place)).min(call.count());
+    let facts = inventory_between(alloc, call, log, log, middle)?;
+    let inventory = inventory_between(alloc, call, log, middle, call.count())?;
+    Some((facts, inventory))
+}
+
+/// Adds each leaf that is shown: its place and its digest.
+fn push_shown(alloc: Global, line: &mut String, shown: &[Leaf]) -> Result<(), Memory> {
+    for leaf in shown {
+        push_number(alloc, line, i128::from(leaf.place))?;
+        push(line, hex::encode(alloc, &leaf.digest)?.as_str())?;
+    }
+    Ok(())
+}
+
+/// Adds each hash.
+fn push_hashes(alloc: Global, line: &mut String, hashes: &[[u8; 32]]) -> Result<(), Memory> {
+    for hash in hashes {
+        push(line, hex::encode(alloc, hash)?.as_str())?;
+    }
+    Ok(())
+}
+
+/// Answers `ok` with the proof's log, its count, how many leaves are shown, these, and the hashes of the others.
+fn proof_shown(alloc: Global, proof: &Proof) -> Result<String, Memory> {
+    let mut line = answer(alloc, "ok", &[proof.log().as_str()])?;
+    push_number(alloc, &mut line, i128::from(proof.count()))?;
+    push_number(alloc, &mut line, proof.shown().len() as i128)?;
+    push_shown(alloc, &mut line, proof.shown())?;
+    push_hashes(alloc, &mut line, proof.hidden())?;
+    Ok(line)
+}
+
+/// Answers `proof`: a number of facts, a log, these facts, and digests.
+pub(crate) fn proof(alloc: Global, call: &Call) -> Result<String, Memory> {
+    match sets_of(alloc, call, 1) {
+        Some((facts, inventory)) => proof_shown(alloc, &Proof::of(alloc, &facts, &inventory)?),
+        None => answer(alloc, "no inventory", &[]),
+    }
+}
+
+/// Answers `write_proof`: a writer, a number of facts, a log, these facts, and digests.
+pub(crate) fn write_proof_of(alloc: Global, call: &Call) -> Result<String, Memory> {
+    let Some((facts, inventory)) = sets_of(alloc, call, 4) else {
+        return answer(alloc, "no inventory", &[]);
+    };
+    let proof = Proof::of(alloc, &facts, &inventory)?;
+    let mut sink = sink_of(alloc, call, 1);
+    let done = write_proof(alloc, &proof, &mut sink);
     written(alloc, done, &sink)
 }
