@@ -1,6 +1,6 @@
 -- Of facts that are told, each is in the sealed set or not, as was asked.
-use Rattle.std.proofs.Common.{◌≡◌, ◌∙◌, ℕ, ◌+◌, Bool, true, false, cond, not, List, [], ◌∷◌, map, Option, Some, None, Result, Ok, Err, length, refl, ap, sym, subst, inl, inr, true≢false}
-use Rattle.std.specs.Prelude.{nat_eq, option_map}
+use Rattle.std.proofs.Common.{◌≡◌, ◌∙◌, ℕ, ◌+◌, Bool, true, false, cond, not, List, [], ◌∷◌, map, Option, Some, None, Ok, refl, ap, sym, subst, inl, inr, true≢false}
+use Rattle.std.specs.Prelude.{option_map}
 use Rattle.std.specs.List.{position_from, AllByRecursion}
 use Rattle.std.proofs.lemmas.Bool.{eqb-true}
 use Rattle.std.proofs.lemmas.Slice.Eq.{bytes_eq-Decides}
@@ -8,15 +8,12 @@ use Rattle.cadf_join.specs.Contents.{Text, Texts, Contents, Has}
 use Rattle.cadf_join.specs.Sets as set
 use Rattle.cadf_join.specs.Sets.{Listed, rising}
 use Rattle.cadf_join.specs.laws.Contents.{texts_total, texts_same}
-use Rattle.cadf_join.specs.laws.Rising.{rising-listed, AllByRecursion-listed}
+use Rattle.cadf_join.specs.laws.Rising.{rising-listed}
 use Rattle.cadf_line.specs.Digest.{atom_digest}
 use Rattle.cadf_line.specs.Missing.{digests_of}
 use Rattle.cadf_line.proofs.Missing.{known_digest, digest_of_some}
-use Rattle.cadf_set.specs.Replica.{ReplicaModel}
 use Rattle.cadf_set.specs.Inventory.{InventoryModel}
 use Rattle.cadf_sketch.specs.Answers.{inventory_of}
-use Rattle.cadf_seal.specs.SealFile.{seal_of}
-use Rattle.cadf_seal.specs.ProofFile.{ProofModel}
 use Rattle.cadf_seal.specs.Verified.{state, is_state, fault_unless, first_fault, is_root, text_unless, IsOf, FactsAreSo}
 use Rattle.cadf_seal.specs.declared.verify.VerifyFault.{VerifyFault}
 use Rattle.cadf_seal.proofs.Honest.{not_true}
@@ -74,11 +71,11 @@ pub facts_are_so : FactsAreSo
 facts_are_so p held facts absent text is apart other told q asked =
     let n : InventoryModel = inventory_of held in
     let one = both_none _ _ (no_fault _ _ text told) in
-    let two = both_none _ _ one.1 in
-    let three = both_none _ _ two.1 in
+    let two = both_none _ _ one.0 in
+    let three = both_none _ _ one.1 in
     let four = both_none _ _ three.1 in
     let of : IsOf (rising n.digests) p =
-    record { proof = is; count = eqb-true _ _ (is_right _ _ one.0); root = same_root _ _ (is_right _ _ two.0); apart = apart } in
+    record { proof = is; count = eqb-true _ _ (is_right _ _ two.0); root = same_root _ _ (is_right _ _ two.1); apart = apart } in
     let l = rising-listed texts_total texts_same facts q asked in
     let shown = of_each _ (rising facts) (none_at (λ f. is_state (state p.count p.shown f) None) 1 _ (none_mapped _ _ three.0)) q l in
     let right = of_each _ (rising facts) (none_at (λ f. is_state (state p.count p.shown f) (Some absent)) 1 _ (none_mapped _ _ four.1)) q l in

@@ -1,8 +1,10 @@
+pub mod Deciding
 pub mod Determined
 pub mod Facts
 pub mod HiddenLemmas
 pub mod Honest
 pub mod ModelLemmas
+pub mod Needed
 pub mod Neighbouring
 pub mod ProofLineLemmas
 pub mod ProofParts

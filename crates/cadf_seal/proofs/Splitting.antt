@@ -1,6 +1,6 @@
 -- The shown leaves before a place and the others, as the parts of a list; and the hash of a tree, one step at a time.
-use Rattle.std.proofs.Common.{◌≡◌, ◌∙◌, ◌<◌, ◌≤◌, ◌+◌, ◌-◌, ◌^◌, ℕ, zero, suc, Bool, true, false, cond, List, [], ◌∷◌, Option, Some, None, ◌≢◌, length, take, drop, get_or, refl, ap, sym, arith, length-drop}
-use Rattle.std.specs.Prelude.{nat_eq, nat_le, nat_lt, slice_index_or, if◌then◌else◌}
+use Rattle.std.proofs.Common.{◌≡◌, ◌∙◌, ◌<◌, ◌≤◌, ◌+◌, ◌-◌, ◌^◌, ℕ, zero, suc, Bool, true, false, cond, List, [], ◌∷◌, Some, ◌≢◌, length, take, drop, get_or, refl, ap, sym, arith, length-drop}
+use Rattle.std.specs.Prelude.{nat_le, nat_lt, slice_index_or, if◌then◌else◌}
 use Rattle.std.specs.List.{filter, AllByRecursion}
 use Rattle.std.specs.List.Sorted.{IsPartitionPoint, IsPartitionedBy}
 use Rattle.std.proofs.lemmas.Bool.{le-leb, lt-leb, lt-ltb, ltb-true, ltb-false, eq-eqb, ne_eqb}
@@ -42,7 +42,7 @@ yet_before m s h = lt-leb _ _ (ltb-true _ _ h)
 -- ---- the two parts of a list
 
 module _ {A : Type 0} (p q : A → Bool) where
-  abbrev IsPoint : List A → ℕ → Type 0
+  abbrev pub IsPoint : List A → ℕ → Type 0
   IsPoint ss i = IsPartitionPoint (λ s. p s ≡ true) (λ s. p s ≡ false) ss i
 
   pub later_point : (s : A) (ss : List A) (i : ℕ) → IsPoint (s ∷ ss) (suc i) → IsPoint ss i

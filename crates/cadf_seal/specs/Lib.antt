@@ -13,3 +13,4 @@ pub mod SealVerdict
 pub mod Shown
 pub mod Tree
 pub mod Verified
+pub mod laws

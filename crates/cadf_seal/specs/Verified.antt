@@ -4,6 +4,7 @@
 --     behind ss               the number of leaves up to the last of these; ahead n ss: of n leaves, how many are before the first of these
 --     state n ss f            whether f is one of n leaves, by those that are shown. None: they don't tell
 --     unneeded i before ss fs the line of the first shown leaf that no fact needs, if the first has line i, and `before` is the one before it
+--     refusal_of_root s p, refusal_of_facts p facts b    the fault by the seal, and the fault by these facts
 --     refusal s p facts b     the fault for which a reader with the seal s refuses the proof of these facts; b: they are asked to be absent
 --     verified s p facts b    that fault, or the text that says of each fact that it is as asked
 --     told b qs               this text
@@ -120,15 +121,19 @@ abbrev pub not_as_asked : Bool → ℕ → VerifyFault
 not_as_asked true k = Present k
 not_as_asked false k = Absent k
 
+abbrev pub refusal_of_root : SealModel → ProofModel → Option VerifyFault
+refusal_of_root s p =
+    first_fault (fault_unless (nat_eq p.count s.count) OtherCount) (fault_unless (is_root (proof_root p) s.root) OtherRoot)
+
 -- the first shown leaf is line 4 of the proof's file
-abbrev pub refusal : SealModel → ProofModel → Contents → Bool → Option VerifyFault
-refusal s p facts absent =
-    let fs = map atom_digest (rising facts) in
-    first_fault (fault_unless (nat_eq p.count s.count) OtherCount)
-    (first_fault (fault_unless (is_root (proof_root p) s.root) OtherRoot)
-    (first_fault (option_map NotShown (first_with None p fs))
+abbrev pub refusal_of_facts : ProofModel → Contents → Bool → Option VerifyFault
+refusal_of_facts p facts absent =
+    first_fault (option_map NotShown (first_with None p (map atom_digest (rising facts))))
     (first_fault (option_map NotNeeded (unneeded 4 None p.shown (rising (digests_of atom_digest facts))))
-    (option_map (not_as_asked absent) (first_with (Some absent) p fs)))))
+    (option_map (not_as_asked absent) (first_with (Some absent) p (map atom_digest (rising facts)))))
+
+abbrev pub refusal : SealModel → ProofModel → Contents → Bool → Option VerifyFault
+refusal s p facts absent = first_fault (refusal_of_root s p) (refusal_of_facts p facts absent)
 
 abbrev pub word_for : Bool → List ℕ
 word_for true = codes "absent "
@@ -143,6 +148,10 @@ told_line word q = word ++ (get_or q 0 [] ++ 32 ∷ (quoted (key_of q) ++ 10 ∷
 
 abbrev pub told : Bool → List Texts → List ℕ
 told absent qs = flat_map (told_line (word_for absent)) qs
+
+-- telling of these facts, with the same flag, appends what is told of them
+abbrev pub Tells : Bool → List ℕ → List Texts → Bool → List ℕ → Type 0
+Tells absent before qs same after = (same ≡ absent) × (after ≡ before ++ told absent qs)
 
 abbrev pub text_unless : Option VerifyFault → List ℕ → Result (List ℕ) VerifyFault
 text_unless None text = Ok text

@@ -14,6 +14,7 @@ mod seal_lines;
 mod seal_read;
 mod seal_write;
 mod shown_leaves;
+mod telling;
 mod tree;
 mod verify;
 
@@ -30,4 +31,4 @@ pub use seal::Seal;
 pub use seal_read::read_seal;
 pub use seal_write::write_seal;
 pub use tree::root_of;
-pub use verify::VerifyFault;
+pub use verify::{VerifyFault, verified};

@@ -1,5 +1,42 @@
 //! What a proof says of facts to a reader with a seal.
 
+ghost use Rattle.std.specs.Prelude.{◌≡◌, ◌≤◌, ◌<◌, length, take, map, option_map, true, false, None, Ok, IfOk, IfErr};
+ghost use Rattle.std.specs.List.{AllByRecursion};
+ghost use Rattle.std.specs.List.Sorted.{IsPartitionPoint};
+ghost use Rattle.std.specs.Ordering.{is_lt};
+ghost use Rattle.cadf_join.specs.Contents.{text_cmp};
+ghost use Rattle.cadf_join.specs.Sets.{rising};
+ghost use Rattle.cadf_line.specs.Digest.{IsDigest, atom_digest};
+ghost use Rattle.cadf_line.specs.Missing.{digests_of};
+ghost use Rattle.cadf_seal.specs.ProofFile.{AreRising, IsLeafOf};
+ghost use Rattle.cadf_seal.specs.Shown.{needs, is_below};
+ghost use Rattle.cadf_seal.specs.Verified.{
+  PlacesRise,
+  behind,
+  ahead,
+  is_shown,
+  state,
+  is_state,
+  first_with,
+  first_digest,
+  unneeded,
+  is_root,
+  refusal_of_root,
+  refusal_of_facts,
+  not_as_asked,
+  verified,
+  FaultIs,
+};
+
+use crate::leaf::Leaf;
+use crate::proof::Proof;
+use crate::rebuilt::root_of_proof;
+use crate::seal::Seal;
+use crate::telling::told;
+use cadf_json::Memory;
+use cadf_set::{Inventory, Replica};
+use std::alloc::Global;
+
 /// Why a proof of facts is refused, or a fact isn't as asked.
 #[derive(Debug, PartialEq, Eq, Drop)]
 pub enum VerifyFault {
@@ -17,4 +54,236 @@ pub enum VerifyFault {
     Present(u64),
     /// An allocation failed.
     Memory,
+}
+
+// ---- a fact
+
+/// Returns whether the digest is one of `count` leaves, by those that are shown. `None` if they don't tell.
+fn state(count: u64, shown: &[Leaf], digest: &[u8; 32]) -> Option<bool>
+    requires rising { AreRising shown.now }
+    requires leaves { AllByRecursion (IsLeafOf count) shown.now }
+    ensures { result ≡ state count shown.now digest.now }
+{
+    let split = count_below(digest, shown);
+    if is_first(&shown[split..], digest) {
+        return Some(true);
+    }
+    if behind(count, &shown[..split]) == ahead(count, &shown[split..]) {
+        Some(false)
+    } else {
+        None
+    }
+}
+
+/// Counts the shown leaves below a digest. These are the first ones.
+fn count_below(digest: &[u8; 32], shown: &[Leaf]) -> usize
+    requires { AreRising shown.now }
+    ensures bound { result ≤ length shown.now }
+    ensures split { IsPartitionPoint (λ s. is_lt (text_cmp s.digest digest.now) ≡ true) (λ s. is_lt (text_cmp s.digest digest.now) ≡ false) shown.now result }
+{
+    shown.partition_point(|leaf| leaf.digest.cmp(digest).is_lt())
+}
+
+/// Returns whether the first of these leaves is the digest.
+fn is_first(shown: &[Leaf], digest: &[u8; 32]) -> bool
+    ensures { result ≡ is_shown (take 1 shown.now) digest.now }
+{
+    match shown {
+        [] => false,
+        [first, ..] => first.digest.cmp(digest).is_eq(),
+    }
+}
+
+/// Counts the leaves up to the last of these, of `count` leaves.
+fn behind(count: u64, shown: &[Leaf]) -> u64
+    requires rising { PlacesRise shown.now }
+    requires leaves { AllByRecursion (λ s. s.place < count) shown.now }
+    ensures { result ≡ behind shown.now }
+{
+    match shown {
+        [] => 0,
+        [.., last] => last.place + 1,
+    }
+}
+
+/// Counts the leaves before the first of these, of `count` leaves.
+fn ahead(count: u64, shown: &[Leaf]) -> u64
+    requires rising { PlacesRise shown.now }
+    requires leaves { AllByRecursion (λ s. s.place < count) shown.now }
+    ensures { result ≡ ahead count shown.now }
+{
+    match shown {
+        [] => count,
+        [first, ..] => first.place,
+    }
+}
+
+/// Returns whether two answers are the same.
+fn is_state(found: Option<bool>, wanted: Option<bool>) -> bool
+    ensures { result ≡ is_state found wanted }
+{
+    match (found, wanted) {
+        (None, None) => true,
+        (Some(a), Some(b)) => a == b,
+        _ => false,
+    }
+}
+
+/// Returns whether this is what the proof tells of the digest.
+fn tells(proof: &Proof, digest: &[u8; 32], wanted: Option<bool>) -> bool
+    ensures { result ≡ is_state (state proof.now.count proof.now.shown digest.now) wanted }
+{
+    proof.type_invariant();
+    is_state(state(proof.count(), proof.shown(), digest), wanted)
+}
+
+/// Finds the first of the digests of which the proof tells this, counted from 1.
+fn first_with(wanted: Option<bool>, proof: &Proof, digests: &[[u8; 32]]) -> Option<u64>
+    ensures { result ≡ first_with wanted proof.now digests.now }
+{
+    for index in 0..digests.len() {
+        if tells(proof, &digests[index], wanted) {
+            return Some(index as u64 + 1);
+        }
+    }
+    None
+}
+
+// ---- the leaves that facts need
+
+/// Returns whether some fact is above the digest before, if there is one, and below that of the first of the later leaves,
+/// if there is one.
+fn is_needed(before: &Option<[u8; 32]>, later: &[Leaf], facts: &Inventory) -> bool
+    ensures { result ≡ needs before.now (first_digest later.now) (rising facts.now.digests) }
+{
+    match facts.digest_after(before.as_ref()) {
+        Some(next) => is_below(&next, later),
+        None => false,
+    }
+}
+
+/// Returns whether the digest is below that of the first of these leaves, if there is one.
+fn is_below(digest: &[u8; 32], later: &[Leaf]) -> bool
+    ensures { result ≡ is_below (first_digest later.now) digest.now }
+{
+    match later {
+        [] => true,
+        [first, ..] => digest.cmp(&first.digest).is_lt(),
+    }
+}
+
+/// Finds the first shown leaf that no fact needs, by its line in the proof's file.
+fn first_unneeded(shown: &[Leaf], facts: &Inventory) -> Option<u64>
+    ensures { result ≡ unneeded 4 None shown.now (rising facts.now.digests) }
+{
+    let mut before = None;
+    for index in 0..shown.len() {
+        if !is_needed(&before, &shown[index + 1..], facts) {
+            return Some(index as u64 + 4);
+        }
+        before = Some(shown[index].digest);
+    }
+    None
+}
+
+// ---- what is said
+
+impl From<Memory> for VerifyFault {
+    ghost use Rattle.std.specs.Prelude.{◌≡◌};
+    ghost use Rattle.cadf_seal.specs.declared.verify.VerifyFault.TheVariants.{Memory as OutOfMemory};
+
+    ghost from_gives = { λ _ e. e ≡ OutOfMemory };
+
+    fn from(_refused: Memory) -> VerifyFault {
+        VerifyFault::Memory
+    }
+}
+
+/// Verifies, by a proof under the seal, that each of the facts is in the sealed set; with `absent`, that none is. Returns a
+/// line of text for each fact, in the order of atoms. `Err`: the first fault. The log isn't compared.
+pub fn verified(
+    alloc: Global,
+    seal: &Seal,
+    facts: &Replica,
+    proof: &Proof,
+    absent: bool,
+) -> Result<Vec<u8>, VerifyFault>
+    ensures ok { IfOk result (λ text. verified seal.now proof.now facts.now.atoms absent ≡ Ok text.items) }
+    ensures err { IfErr result (λ e. FaultIs e (verified seal.now proof.now facts.now.atoms absent)) }
+{
+    if let Some(fault) = refusal_of_root(seal, proof) {
+        return Err(fault);
+    }
+    if let Some(fault) = refusal_of_facts(alloc, facts, proof, absent)? {
+        return Err(fault);
+    }
+    let text = told(alloc, facts, absent)?;
+    Ok(text)
+}
+
+/// Returns why the proof is none under this seal, if it isn't one.
+fn refusal_of_root(seal: &Seal, proof: &Proof) -> Option<VerifyFault>
+    ensures { result ≡ refusal_of_root seal.now proof.now }
+{
+    if proof.count() != seal.count() {
+        return Some(VerifyFault::OtherCount);
+    }
+    if is_root(root_of_proof(proof), seal.root()) {
+        None
+    } else {
+        Some(VerifyFault::OtherRoot)
+    }
+}
+
+/// Returns whether the hash was found, and is the root.
+fn is_root(found: Option<[u8; 32]>, root: &[u8; 32]) -> bool
+    ensures { result ≡ is_root found root.now }
+{
+    match found {
+        Some(hash) => hash.as_slice() == root.as_slice(),
+        None => false,
+    }
+}
+
+/// Returns why the proof is none of these facts, or the first fact that isn't as asked.
+fn refusal_of_facts(
+    alloc: Global,
+    facts: &Replica,
+    proof: &Proof,
+    absent: bool,
+) -> Result<Option<VerifyFault>, Memory>
+    ensures { IfOk result (λ refusal. refusal ≡ refusal_of_facts proof.now facts.now.atoms absent) }
+{
+    let digests = facts.digests()?;
+    if let Some(number) = first_with(None, proof, digests.as_slice()) {
+        return Ok(Some(VerifyFault::NotShown(number)));
+    }
+    let other = first_with(Some(absent), proof, digests.as_slice());
+    let inventory = inventory_of(alloc, facts, digests)?;
+    if let Some(line) = first_unneeded(proof.shown(), &inventory) {
+        return Ok(Some(VerifyFault::NotNeeded(line)));
+    }
+    Ok(not_as_asked(absent, other))
+}
+
+/// Makes the inventory of the facts from their digests.
+fn inventory_of(alloc: Global, facts: &Replica, digests: Vec<[u8; 32]>) -> Result<Inventory, Memory>
+    requires atoms { digests.items ≡ map atom_digest (rising facts.now.atoms) }
+    requires each { AllByRecursion IsDigest digests.items }
+    ensures { IfOk result (λ own. own.digests ≡ digests_of atom_digest facts.now.atoms) }
+{
+    let log = facts.log().copy(alloc)?;
+    let own = Inventory::of(alloc, log, digests)?;
+    Ok(own)
+}
+
+/// Returns that the fact of this number, if there is one, isn't as asked.
+fn not_as_asked(absent: bool, number: Option<u64>) -> Option<VerifyFault>
+    ensures { result ≡ option_map (not_as_asked absent) number }
+{
+    match number {
+        Some(number) if absent => Some(VerifyFault::Present(number)),
+        Some(number) => Some(VerifyFault::Absent(number)),
+        None => None,
+    }
 }

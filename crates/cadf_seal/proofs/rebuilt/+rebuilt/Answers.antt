@@ -1,4 +1,4 @@
-use Rattle.std.proofs.Common.{rules, ◌∙◌, arith, sym, subst, length-drop}
+use Rattle.std.proofs.Common.{rules, ◌∙◌, arith, sym, subst}
 use Rattle.cadf_seal.specs.Verified.{PlacesRise}
 use Rattle.cadf_seal.proofs.Splitting.{until_rises, from_rises, last_part}
 use Rattle.cadf_seal.proofs.Trees.{half, halves}

@@ -1,4 +1,4 @@
-use Rattle.std.proofs.Common.{◌∙◌, arith, sym, subst, ap, rules}
+use Rattle.std.proofs.Common.{◌∙◌, arith, sym, subst, ap}
 use Rattle.cadf_seal.specs.Shown.{rebuilt}
 use Rattle.cadf_seal.specs.Verified.{alone, root_from, PlacesRise}
 use Rattle.cadf_seal.proofs.Sound.{places_rise}
