@@ -66,10 +66,10 @@ OTHER = {
     "event fault": r"some\tout of memory\n", "json read_by_std": r"err\tMemory\t\d+\n", "file write_inventory": "no inventory\n",
     "file write_sketch": "no inventory\n", "file inventory_digest": "no inventory\n", "file seal": "no inventory\n",
     "file root_of": "no inventory\n", "file write_seal": "no inventory\n", "file proof": "no inventory\n",
-    "file write_proof": "no inventory\n", "file read_by": "no sketch\n",
+    "file write_proof": "no inventory\n", "file verified": "no seal\n|no proof\n|no replica\n", "file read_by": "no sketch\n",
     "file missing_by_sketch": "no sketch\n", "file write": "no replica\n", "file write_log": "no replica\n", "file write_conflicts": "no replica\n",
     "engine": r"no such call\n|err\tNoLog\n"}
-SIZES = {"file read", "file read_inventory", "file read_seal", "file read_sketch"}  # files that are refused are read in pieces of several sizes: one is enough
+SIZES = {"file read", "file read_inventory", "file read_seal", "file read_proof", "file read_sketch"}  # files that are refused are read in pieces of several sizes: one is enough
 # Many calls a row, of which other rows have one each; and other words for what those answer.
 LEFT_OUT = {"file each_failing_read", "file each_prefix", "file each_bit", "engine each", "engine metered", "engine fault"}
 LEFT_OUT_DRIVERS = {"words"}  # what clap does, whose allocations tests/command/test_faults.py refuses over the command

@@ -1,13 +1,13 @@
 """Calls of replica files and inventory files: whole and damaged ones, in pieces, within limits, with failing readers
-and writers; of the two texts, whose rows are in log_rows.py, of seals, whose rows are in seal_rows.py, and of sketches,
-whose rows are in sketched_rows.py.
+and writers; of the two texts, whose rows are in log_rows.py, of seals and proofs, whose rows are in seal_rows.py and
+proof_rows.py, and of sketches, whose rows are in sketched_rows.py.
 
 Words: a reading is a limit, the bytes of a read and the number of the read that fails (0 is none); a writer is the
 bytes of a write, what it does (`never`, `refuses` or `takes-nothing`) and at which write.
 """
 import json
 
-from tests.tables import log_rows, seal_rows, sketched_rows
+from tests.tables import log_rows, proof_rows, seal_rows, sketched_rows
 from tests.tables.texts import (
     B1, B3, BF, C1, C2, CF, E3, K1, KF, S0, S1, S2, T3, digits, inventory, line, nested, quoted, replica, tree,
 )
@@ -29,6 +29,7 @@ CALLS = {
     "fault_text": [],
     **log_rows.CALLS,
     **seal_rows.CALLS,
+    **proof_rows.CALLS,
     **sketched_rows.CALLS,
 }
 
@@ -471,5 +472,5 @@ for log, held in (("g", []), ("g", [digits(C1)]), ('a"b', [digits(C1), digits(K1
 ROWS += [("fault_text", fault.split(), ["ok", text], REFUSAL) for fault, text in TEXTS]
 ROWS.append(("fault_text", ["Memory"], ["ok", "out of memory"], "Fault lines"))
 ROWS += log_rows.ROWS
-ROWS += seal_rows.ROWS
+ROWS += seal_rows.ROWS + proof_rows.ROWS
 ROWS += sketched_rows.ROWS

@@ -26,12 +26,12 @@ use Rattle.cadf_sketch.proofs.LineLemmas.{chosen, begins_with}
 use Rattle.cadf_sketch.proofs.SketchFileLemmas.{decimal_unbroken, there, shape_none}
 use Rattle.cadf_seal.specs.SealFile.{count_line}
 use Rattle.cadf_seal.specs.SealVerdict.{count_in}
-use Rattle.cadf_seal.specs.ProofFile.{ProofModel, proof_header, shown_line, hidden_line, proof_lines, proof_body, AreRising, IsLeafOf, HasProofParts, IsProof}
+use Rattle.cadf_seal.specs.ProofFile.{ProofModel, proof_header, shown_line, hidden_line, proof_lines, proof_body, AreRising, IsLeafOf, HasProofParts, IsProof, ProofFileIsInjective}
 use Rattle.cadf_seal.specs.ProofVerdict.{leaf_of, leaf_in_words, shown_in, hidden_in, is_next, cause_of_line, cause_after, proof_model_in, proof_kind, AcceptsProofs}
 use Rattle.cadf_seal.specs.ProofLines.{values, with_shown, with_hidden, IsPut}
 use Rattle.cadf_seal.specs.declared.leaf.Leaf.{Leaf}
 use Rattle.cadf_seal.proofs.SealLemmas.{count-again, count-only}
-use Rattle.cadf_seal.proofs.ModelLemmas.{Plain, lines_of, Follows, Ends, IsModelKind, accepts-models, name_is}
+use Rattle.cadf_seal.proofs.ModelLemmas.{Plain, lines_of, Follows, Ends, IsModelKind, accepts-models, models-tell, name_is}
 
 -- ---- one line
 
@@ -353,6 +353,9 @@ proof_is_kind = record {
 
 pub accepts-proofs : AcceptsProofs
 accepts-proofs = accepts-models proof_kind IsProof (λ p. p.log) plains proof_is_kind
+
+pub proof-file-tells : ProofFileIsInjective
+proof-file-tells = models-tell proof_kind IsProof (λ p. p.log) plains proof_is_kind
 
 -- the invariants of a proof's log and parts
 pub proof_is : (p : ProofModel) → IsNameText p.log → HasProofParts p → IsProof p

@@ -3,7 +3,7 @@ ghost use Rattle.std.specs.Prelude.{◌≡◌, ◌≤◌, ℕ, length, false, Ok
 ghost use Rattle.cadf_join.specs.Sets.{rising};
 ghost use Rattle.cadf_set.specs.Inventory.{InventoryModel};
 ghost use Rattle.cadf_seal.specs.Neighbours.{FactHasPlace, FactNeeds, FactsNeed};
-ghost use Rattle.cadf_seal.specs.ProofFile.{IsProof, proof_file};
+ghost use Rattle.cadf_seal.specs.ProofFile.{IsProof, ProofFileIsInjective, proof_file};
 ghost use Rattle.cadf_seal.specs.ProofVerdict.{AcceptsProofs, proof_verdict};
 ghost use Rattle.cadf_seal.specs.SealFile.{IsSeal, SealFileIsInjective, seal_file, seal_of};
 ghost use Rattle.cadf_seal.specs.SealVerdict.{AcceptsSeals, seal_verdict};
@@ -52,6 +52,11 @@ pub fn seal_is_read_back(seal: &Seal)
 {
     seal.type_invariant();
 }
+
+/// States that a proof's file is injective: proofs with equal files are equal.
+pub fn proof_file_is_injective()
+    ensures { ProofFileIsInjective }
+{}
 
 /// States that bytes are accepted if and only if they are the file of a proof, within the limit.
 pub fn accepted_bytes_are_proofs()

@@ -20,8 +20,9 @@ mod verify;
 
 pub use laws::{
     accepted_bytes_are_proofs, accepted_bytes_are_seals, accepted_proof_is_true,
-    made_proof_is_accepted, proof_is_read_back, proof_shows_facts_or_neighbours,
-    root_is_of_a_merkle_tree, seal_determines_inventory, seal_file_is_injective, seal_is_read_back,
+    made_proof_is_accepted, proof_file_is_injective, proof_is_read_back,
+    proof_shows_facts_or_neighbours, root_is_of_a_merkle_tree, seal_determines_inventory,
+    seal_file_is_injective, seal_is_read_back,
 };
 pub use leaf::Leaf;
 pub use proof::Proof;

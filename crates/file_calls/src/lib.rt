@@ -37,6 +37,8 @@ pub fn answered(alloc: Global, call: &Call) -> Result<String, Memory> {
         "root_of" => seals::root(alloc, call),
         "proof" => seals::proof(alloc, call),
         "write_proof" => seals::write_proof_of(alloc, call),
+        "read_proof" => seals::read_proof_of(alloc, call),
+        "verified" => seals::verified_of(alloc, call),
         "write_log" | "write_conflicts" => texts::write(alloc, call),
         "read_sketch" => sketches::read(alloc, call),
         "write_sketch" => sketches::write(alloc, call),

@@ -1,13 +1,16 @@
-//! Seals and proofs, and files of both that are read and written.
+//! Seals and proofs, files of both that are read and written, and facts that are verified by them.
 
 use crate::inventories::{inventory_between, inventory_of};
 use crate::reads::Reading;
+use crate::replicas::replica_of;
 use crate::streams::{sink_of, written};
 use cadf_file::FileFault;
 use cadf_json::Memory;
 use cadf_replica::Inventory;
-use cadf_seal::{Leaf, Proof, Seal, read_seal, root_of, write_proof, write_seal};
-use calls::{Call, answer, push, push_number, refused};
+use cadf_seal::{
+    Leaf, Proof, Seal, read_proof, read_seal, root_of, verified, write_proof, write_seal,
+};
+use calls::{Call, answer, push, push_bytes, push_number, refused};
 use std::alloc::Global;
 
 /// Answers `ok` with the seal's log, count and root.
@@ -116,4 +119,42 @@ pub(crate) fn write_proof_of(alloc: Global, call: &Call) -> Result<String, Memor
     let mut sink = sink_of(alloc, call, 1);
     let done = write_proof(alloc, &proof, &mut sink);
     written(alloc, done, &sink)
+}
+
+/// Reads the bytes as a proof file.
+fn proof_in(alloc: Global, reading: Reading, bytes: &[u8]) -> Result<Proof, FileFault> {
+    read_proof(alloc, &mut reading.source(bytes), reading.limit)
+}
+
+/// Answers `read_proof`: a reading and a file.
+pub(crate) fn read_proof_of(alloc: Global, call: &Call) -> Result<String, Memory> {
+    match proof_in(alloc, Reading::of(call), call.bytes(4)) {
+        Ok(proof) => proof_shown(alloc, &proof),
+        Err(fault) => refused(alloc, &fault),
+    }
+}
+
+/// Answers `verified`: a reading, the seal's file, the proof's, `present` or `absent`, a log and the lines of the facts.
+pub(crate) fn verified_of(alloc: Global, call: &Call) -> Result<String, Memory> {
+    let reading = Reading::of(call);
+    let Ok(seal) = read_in(alloc, reading, call.bytes(4)) else {
+        return answer(alloc, "no seal", &[]);
+    };
+    let Ok(proof) = proof_in(alloc, reading, call.bytes(5)) else {
+        return answer(alloc, "no proof", &[]);
+    };
+    let Some(facts) = replica_of(alloc, call, 7) else {
+        return answer(alloc, "no replica", &[]);
+    };
+    match verified(alloc, &seal, &facts, &proof, call.text(6) == "absent") {
+        Ok(text) => told(alloc, &text),
+        Err(fault) => refused(alloc, &fault),
+    }
+}
+
+/// Answers `ok` with the text.
+fn told(alloc: Global, text: &Vec<u8>) -> Result<String, Memory> {
+    let mut line = answer(alloc, "ok", &[])?;
+    push_bytes(&mut line, text.as_slice())?;
+    Ok(line)
 }
