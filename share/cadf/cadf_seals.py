@@ -1,28 +1,33 @@
-"""Seals of sites that are folders: of each window how many facts it has, and the root of them.
+"""Seals of sites that are folders: of each window how many facts it has, and the root of them; and proofs under such a seal.
 
-docs/FORMATS.md has the form, and what is refused. A tool imports this as it imports cadf_toolkit, and uses
+docs/FORMATS.md has the forms, and what is refused. A tool imports this as it imports cadf_toolkit, and uses
 
-  sealed_folder(name)   the seal of a folder, as it stood at one moment
-  read_seal(input)      the seal that a file has
+  sealed_folder(name)           the seal of a folder, as it stood at one moment
+  proved(facts, name)           the proof which facts a folder has
+  read(input, SiteSeal)         the seal that a file has
+  verified(seal, facts, proof)  what a proof says of facts, under the seal of a folder
 """
+import contextlib
 import hashlib
+import itertools
 import json
 import os
 import re
 import subprocess
+import tempfile
 
-from cadf_site import LARGEST, PART, SHARED, UNITS, check_window, opened_site
-from cadf_toolkit import CADF, REFUSED, Fault, Progress, cadf, name_shown
+from cadf_link import Store
+from cadf_site import LARGEST, PART, SHARED, UNITS, Folder, check_window, opened_parts, opened_site, split, without_facts
+from cadf_toolkit import CADF, REFUSED, Fault, Input, Progress, Refusal, cadf, name_shown, other_log, with_advice
 
-FIRST = b"CADF-SITE-SEAL 1"
 UNIT = re.compile(("B (%s)" % "|".join(UNITS)).encode())
+NAME_LINE = re.compile(("W (%s)" % PART).encode())
 ENTRY = re.compile((r"W (%s) ([1-9][0-9]{0,19}) ([0-9a-f]{64})" % PART).encode())
 SEAL = re.compile(rb"CADF-SEAL 1\nL [^\n]*\nN ([0-9]{1,20})\nR ([0-9a-f]{64})\nZ [0-9a-f]{64}\n")
-NOTHING = 0, hashlib.sha256(b"").hexdigest()  # count and root of no facts
+NOTHING = 0, hashlib.sha256(b"").hexdigest().encode()  # count and root of no facts
 MOST = 2 ** 64  # above all counts
 LONGEST_NAME = 1024  # bytes
 LONGEST_LINE = 2 ** 14  # bytes: no right line has so many
-NO_SEAL = "no seal of a folder, as `cadf-seal SITE/` writes it"
 DAMAGED = "it is damaged: have it sent again"
 
 
@@ -41,52 +46,103 @@ def order(part):
     return part != SHARED, part
 
 
-class SiteSeal:
-    """The canonical text of a log's name, a unit, and of each part that has facts their number and their root, in order."""
+class OfParts:
+    """A file of the canonical text of a log's name, of a unit, and of what there is of some parts, by their names in order."""
 
-    def __init__(self, log, unit, parts):
-        self.log, self.unit, self.parts = log, unit, parts
+    def __init__(self, log, unit):
+        self.log, self.unit, self.parts = log, unit, {}
 
     def name(self):
         """The log's name."""
         return json.loads(self.log)
 
-    def bytes(self):
-        """The file."""
-        lines = ["L " + self.log, "B " + self.unit, *("W %s %d %s" % (part, *found) for part, found in self.parts.items())]
-        return with_digest([FIRST, *(line.encode() for line in lines)])
-
     def has(self, part):
         """Whether parts by its unit may have this name."""
         return part == SHARED or re.fullmatch(PART, part) is not None and len(part) == UNITS[self.unit]
 
+    def bytes(self):
+        """The file."""
+        lines = [self.FIRST, b"L " + self.log.encode(), b"B " + self.unit.encode()]
+        return with_digest(itertools.chain(lines, *itertools.starmap(self.lines, self.parts.items())))
+
+
+class SiteSeal(OfParts):
+    """The seal of a folder: of each part how many facts it has, and their root."""
+    FIRST = b"CADF-SITE-SEAL 1"
+    OTHER = "no seal of a folder, as `cadf-seal SITE/` writes it"
+
+    def lines(self, part, found):
+        return [b"W %s %d %s" % (part.encode(), *found)]
+
+    def is_last(self, line):
+        """Whether the line is the digest line, right or wrong."""
+        return line.startswith(b"Z")
+
+    def take(self, line, number):
+        """Takes the line of that number."""
+        part, found = part_in(line, ENTRY, number, self)
+        if int(found[2]) >= MOST:
+            raise Refused("line %d: shape" % number)
+        self.parts[part] = int(found[2]), found[3]
+
     def seal(self, part):
         """What `cadf seal` writes of the part's files. Of a part that isn't listed there is no fact."""
-        lines = "CADF-SEAL 1\nL %s\nN %d\nR %s" % (self.log, *self.parts.get(part, NOTHING))
-        return with_digest(lines.encode().split(b"\n"))
+        count, root = self.parts.get(part, NOTHING)
+        return with_digest([b"CADF-SEAL 1", b"L " + self.log.encode(), b"N %d" % count, b"R " + root])
+
+
+class SiteProof(OfParts):
+    """A proof under the seal of a folder: of each part that facts are in a proof under the seal of this part."""
+    FIRST = b"CADF-SITE-PROOF 1"
+    OTHER = "no proof of a folder, as `cadf-seal --prove FACTS SITE/` writes it"
+
+    def __init__(self, log, unit):
+        super().__init__(log, unit)
+        self.own = None  # the proof that is read
+
+    def lines(self, part, proof):
+        return [b"W " + part.encode(), *proof[:-1].split(b"\n")]
+
+    def is_last(self, line):
+        """Whether the line is the digest line, right or wrong, and not that of a proof."""
+        return self.own is None and line.startswith(b"Z")
+
+    def take(self, line, number):
+        """Takes the line of that number."""
+        if self.own is None:
+            part, _ = part_in(line, NAME_LINE, number, self)
+            self.own = self.parts[part] = bytearray()
+        else:
+            self.own += line + b"\n"
+            self.own = None if line.startswith(b"Z") else self.own
 
 
 # ---- Made of a folder
+
+def canonical(index):
+    """The canonical text of the name of a folder's log."""
+    return json.dumps(index.name(), ensure_ascii=False)
+
 
 def sealed(inputs):
     """How many facts some files have together, and their root."""
     found = SEAL.fullmatch(cadf(["seal"], inputs, subprocess.PIPE))
     if not found:
         raise Fault("%s: what it writes is no seal" % name_shown(CADF))
-    return int(found[1]), found[2].decode()
+    return int(found[1]), found[2]
 
 
 def sealed_folder(name):
     """The seal of a folder, as it stood at one moment. Refuses a file that holds something else than its name says."""
-    parts = {}
     with opened_site(name) as (index, inputs), Progress() as progress:
+        seal = SiteSeal(canonical(index), index.unit)
         for part, digests in index.parts().items():
-            progress.count(len(parts), "windows sealed")
+            progress.count(len(seal.parts), "windows sealed")
             files = {digest: inputs[part, digest] for digest in digests}
             for digest, file in files.items():
                 check_window(index, (part, digest), file)
-            parts[part] = sealed(list(files.values()))
-    return SiteSeal(json.dumps(index.name(), ensure_ascii=False), index.unit, parts)
+            seal.parts[part] = sealed(list(files.values()))
+    return seal
 
 
 # ---- Read
@@ -138,41 +194,121 @@ def check_last(line, digest, file):
         raise Refused("too large" if size > LARGEST else "trailing bytes")
 
 
-def add(seal, line, number, last):
-    """Adds what the line of that number says of a part, which comes after the last one. Returns its name."""
-    found = ENTRY.fullmatch(line)
+def part_in(line, pattern, number, kept):
+    """What the line of that number has of a part, which comes after those that are kept."""
+    found = pattern.fullmatch(line)
     part = found[1].decode() if found else ""
-    if not seal.has(part) or int(found[2]) >= MOST:
+    if not kept.has(part):
         raise Refused("line %d: shape" % number)
-    if last is not None and order(part) <= order(last):
+    if kept.parts and order(part) <= order(next(reversed(kept.parts))):
         raise Refused("line %d: order" % number)
-    seal.parts[part] = int(found[2]), found[3].decode()
-    return part
+    return part, found
 
 
-def seal_in(file):
-    """The seal that an open file has."""
-    log = seal = last = None
+def lines_in(file, kind):
+    """What an open file of that kind has: its first line, its log, its unit, then lines as the kind takes them."""
+    log = kept = None
     for number, (line, digest) in enumerate(ended_lines(file), 1):
-        if number == 1 and line != FIRST:
+        if number == 1 and line != kind.FIRST:
             raise Refused("version")
         if number == 2:
             log = log_in(line)
         elif number == 3:
-            seal = SiteSeal(log, unit_in(line), {})
-        elif number > 3 and line.startswith(b"Z"):
+            kept = kind(log, unit_in(line))
+        elif number > 3 and kept.is_last(line):
             check_last(line, digest, file)
-            return seal
+            return kept
         elif number > 3:
-            last = add(seal, line, number, last)
+            kept.take(line, number)
     raise Refused("too large" if os.fstat(file.fileno()).st_size > LARGEST else "truncated")
 
 
-def read_seal(input):
-    """The seal that a file has. Fault: it is refused."""
+def read(input, kind):
+    """What a file of that kind has. Fault: it is refused."""
     try:
         with open(input.path(), "rb") as file:
-            return seal_in(file)
+            return lines_in(file, kind)
     except Refused as fault:
-        is_one = input.first(len(FIRST + b"\n")) == FIRST + b"\n"
-        raise Fault("%s: %s: %s" % (input.name, fault, DAMAGED if is_one else NO_SEAL), REFUSED) from None
+        is_one = input.first(len(kind.FIRST + b"\n")) == kind.FIRST + b"\n"
+        raise Fault("%s: %s: %s" % (input.name, fault, DAMAGED if is_one else kind.OTHER), REFUSED) from None
+
+
+# ---- Proofs
+
+def by_part(facts, log, unit):
+    """The facts of a file by the parts that they are in, by the name of each. A file of another log is refused."""
+    store, found = Store(), {}
+    with split(["--by", unit, "--log=" + log], [facts]) as parts:
+        parts.head()
+        for part in parts.names():
+            with open(store.begin(), "wb", closefd=False) as output:
+                parts.copy(output)
+            found[part] = store.item(part, "facts")
+    return found
+
+
+def proved(facts, name):
+    """The proof which facts of a file a folder has, and which it hasn't: each is looked for in the window of its instant."""
+    with Folder(name) as folder:
+        index = folder.site()
+        proof, asked = SiteProof(canonical(index), index.unit), by_part(facts, index.name(), index.unit)
+        with opened_parts(folder, lambda part: part in asked) as (_, inputs), without_facts(proof.log, name) as empty:
+            for part, item in asked.items():
+                files = [file for (own, _), file in inputs.items() if own == part]
+                with item.opened("%s of %s" % (part, facts.name)) as own:
+                    proof.parts[part] = cadf(["prove"], [own, *(files or [empty])], subprocess.PIPE)
+    return proof
+
+
+@contextlib.contextmanager
+def as_input(data, name):
+    """These bytes as an input of that name."""
+    with tempfile.TemporaryFile() as file:
+        file.write(data)
+        file.flush()
+        yield Input(name, file)
+
+
+def check_alike(seal, proof, name):
+    """Refuses a proof of that name that is of another log or of another unit than the seal."""
+    if proof.log != seal.log:
+        raise Fault("%s: %s" % (name, other_log(proof.name())), REFUSED)
+    if proof.unit != seal.unit:
+        raise Fault("%s: other unit: its windows are a %s each, and not a %s" % (name, proof.unit, seal.unit), REFUSED)
+
+
+def check_parts(asked, proof, name):
+    """Refuses a proof of that name that has not just the parts that the facts are in."""
+    for part in sorted({*asked, *proof.parts}, key=order):
+        if part not in proof.parts:
+            raise Fault("%s: %s: not shown" % (name, part), REFUSED)
+        if part not in asked:
+            raise Fault("%s: %s: not needed" % (name, part), REFUSED)
+
+
+def verify(words, inputs):
+    """What `cadf verify` with these words writes of a seal, facts and a proof. Fault: the file that it refuses."""
+    try:
+        return cadf(["verify", *words], inputs, subprocess.PIPE)
+    except Refusal as fault:
+        place = 2 if fault.said.startswith("fact ") else fault.place
+        if place is None or fault.place == 2:
+            raise
+        raise Fault("%s: %s" % (inputs[place - 1].name, with_advice(fault.said)), fault.status) from None
+
+
+def verified(words, seal, facts, proof):
+    """What is written of each fact, part by part, under the seal of a folder. Each is looked for in the part of its instant."""
+    own, found = read(seal, SiteSeal), read(proof, SiteProof)
+    asked = by_part(facts, own.name(), own.unit)
+    check_alike(own, found, proof.name)
+    check_parts(asked, found, proof.name)
+    return b"".join(part_verified(words, own.seal(part), item, found.parts[part], [each.name for each in (seal, facts, proof)])
+                    for part, item in asked.items())
+
+
+def part_verified(words, seal, item, proof, names):
+    """The same of one part, by the bytes of its seal and of its proof."""
+    seal_name, name, proof_name = ("%s of %s" % (item.part, each) for each in names)
+    with as_input(seal, seal_name) as sealed_part, item.opened(name) as facts, as_input(proof, proof_name) as shown:
+        return verify(words, [sealed_part, facts, shown])

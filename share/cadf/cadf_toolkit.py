@@ -36,6 +36,8 @@ OUT_OF_MEMORY = "out of memory"  # made once: no text is made while memory is ou
 OTHER_KINDS = {
     b"CADF-INVENTORY ": "an inventory, which holds no facts: `cadf missing-by SITE INVENTORY` answers it",
     b"CADF-SKETCH ": "a sketch, which holds no facts: `cadf missing-by-sketch SITE SKETCH` answers it",
+    b"CADF-SITE-PROOF ": "a proof, which holds no facts: `cadf-seal --verify SEAL FACTS PROOF` reads it",
+    b"CADF-PROOF ": "a proof, which holds no facts: `cadf verify SEAL FACTS PROOF` reads it",
     b"CADF-SITE-SEAL ": "the seal of a folder, which holds no facts: `cadf-seal --compare SEAL SITE/` reads it",
     b"CADF-SEAL ": "a seal, which holds no facts: take the site's file",
     b"CADF-SITE ": "the file `site` of a folder: name the folder, or the files that it names",
@@ -49,12 +51,15 @@ OF_LINES = "lines of JSON: `cadf-from-openstack --log ID FILE` makes a document 
 LONGEST_FIRST = 2 ** 16  # bytes in which a first line is looked for
 OF_NO_KIND = re.compile("version|not JSON|event 0: ")  # what cadf says of them
 DAMAGED = "the file is damaged: fetch it again, or restore it as the guide says under `A damaged site`"
+OTHER_TIME = "seal and proof are of other facts: have both made of the site as it was at one time"
 # What to do about a refusal, by how its text begins.
 ADVICE = {
     "too large": "no file above 2^30 bytes is read; give smaller ones to a site's folder: cadf-take --by day SITE/ FILE..",
     "no log named": "an event by itself names none: give a file that does, or --log ID if the tool takes it",
     "log name": "an identifier has 1 to 1,024 bytes of UTF-8, and no control character",
     "other log": "one site has one log; `cadf check FILE` says which log a file is of",
+    "other count": OTHER_TIME,
+    "other root": OTHER_TIME,
     "digest": DAMAGED,
     "truncated": DAMAGED,
     "trailing bytes": DAMAGED,

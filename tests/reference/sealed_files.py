@@ -12,6 +12,10 @@ class Lines:
         """What is wrong with the line before, now that this one is seen, or None."""
         return None
 
+    def is_last(self, line):
+        """Whether the line is the digest line, right or wrong."""
+        return line.startswith(b"Z")
+
     def take(self, line):
         """Takes the line; where it is none, the fault is its first cause."""
         raise NotImplementedError
@@ -37,7 +41,7 @@ def taken(lines, number, line):
     cause = lines.left(line)
     if cause:
         raise Fault("line %d: %s" % (number - 1, cause))
-    if line.startswith(b"Z"):
+    if lines.is_last(line):
         return False
     try:
         lines.take(line)

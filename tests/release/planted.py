@@ -9,6 +9,7 @@ CHANGED, INSTALLED, PACKAGES, UNITS = ("tests/package/test_%s.py -k " % name for
 
 CRASH, TURNS, OPENSTACK, LISTENER, COMPARED, SEALS = (
     "tests/tools/test_%s.py -k " % name for name in ("crash_order", "turns", "from_openstack", "listener", "compared", "seal"))
+PROOFS = "tests/tools/test_seal_proofs.py -k "
 REPORTS, MEANING = ("tests/tools/test_report%s.py -k " % name for name in ("", "_meaning"))
 HEADER, TOLD = "tests/library/test_header.py -k ", "tests/docs/test_told.py -k "
 TOOLKIT = "tests/tools/test_toolkit.py"
@@ -95,9 +96,13 @@ ROWS = [
     Row("seal: files unjudged", "share/cadf/cadf_seals.py", "                check_window(index, (part, digest), file)\n", "", SEALS + "test_a_fact_in_another"),
     Row("seal: a file of each window", "share/cadf/cadf_seals.py", "for digest in digests}\n", "for digest in digests[:1]}\n", SEALS + "test_seal_of_a_folder"),
     Row("seal: any digest line", "share/cadf/cadf_seals.py", 'if line != b"Z " + digest:', "if False:", SEALS + "test_each_bit"),
-    Row("seal: windows in any order", "share/cadf/cadf_seals.py", "if last is not None and order(part) <= order(last):", "if False:", SEALS + "test_refused"),
+    Row("seal: windows in any order", "share/cadf/cadf_seals.py", "if kept.parts and order(part) <= order(next(reversed(kept.parts))):", "if False:", SEALS + "test_refused"),
     Row("seal: counts are compared", "tools/cadf-seal", "if then.parts.get(part) != now.parts.get(part)]", "if then.parts.get(part, NOTHING)[0] != now.parts.get(part, NOTHING)[0]]", SEALS + "test_compare"),
     Row("seal: says what roots don't", "tools/cadf-seal", "whether facts were only added, roots don't say", "facts were only added", SEALS + "test_compare"),
+    Row("seal: parts unproved", "share/cadf/cadf_seals.py", "        if part not in proof.parts:\n", "        if False:\n", PROOFS + "test_a_proof_in_part"),
+    Row("seal: proofs of any window", "share/cadf/cadf_seals.py", "        if part not in asked:\n", "        if False:\n", PROOFS + "test_a_fact_is_looked_for"),
+    Row("seal: one window's seal for all", "share/cadf/cadf_seals.py", "own.seal(part), item", "own.seal(next(iter(asked))), item", PROOFS + "test_another_seal"),
+    Row("seal: present is enough", "share/cadf/cadf_seals.py", 'cadf(["verify", *words], inputs', 'cadf(["verify"], inputs', PROOFS + "test_present"),
     # ---- What a page of cadf-report holds and says
     Row("report: conflicts past 40", "tools/cadf-report", "        self.hashed.add(\"]\")\n        return numbers\n\n    def digests", "        self.hashed.add(\"]\")\n        return numbers[:40]\n\n    def digests", REPORTS + "test_many_conflicts"),
     Row("report: ten million events", "tools/cadf-report", "MOST_EVENTS = 1000000", "MOST_EVENTS = 10000000", REPORTS + "test_most_events"),

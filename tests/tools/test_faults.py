@@ -47,6 +47,8 @@ FAULTS = [
     ("sketch", "a sketch, which holds no facts: `cadf missing-by-sketch SITE SKETCH` answers it", {call: 1 for call in READERS if call != "agree"}),
     ("site-seal", "the seal of a folder, which holds no facts: `cadf-seal --compare SEAL SITE/` reads it", dict.fromkeys(READERS, 1)),
     ("seal", "a seal, which holds no facts: take the site's file", dict.fromkeys(READERS, 1)),
+    ("site-proof", "a proof, which holds no facts: `cadf-seal --verify SEAL FACTS PROOF` reads it", dict.fromkeys(READERS, 1)),
+    ("proof", "a proof, which holds no facts: `cadf verify SEAL FACTS PROOF` reads it", dict.fromkeys(READERS, 1)),
     *((file, "version: no seal of a folder, as `cadf-seal SITE/` writes it", {"earlier seal": 1}) for file in ("seal", "inventory", "good.cadf", "index")),
     ("site-seal", "truncated: it is damaged: have it sent again", {"earlier seal": 1}),
     ("index", "the file `site` of a folder: name the folder, or the files that it names", dict.fromkeys(READERS, 1)),
@@ -137,6 +139,8 @@ def make_files(cadf):
     made("sketch", cadf, "sketch", "good.cadf")
     made("conflicts", cadf, "show", "--conflicts", "good.cadf")
     put("site-seal", 'CADF-SITE-SEAL 1\nL "g"\nB day\n')
+    put("site-proof", 'CADF-SITE-PROOF 1\nL "g"\nB day\n')
+    put("proof", 'CADF-PROOF 1\nL "g"\n')
     put("seal", 'CADF-SEAL 1\nL "g"\n')
     put("index", 'CADF-SITE 1\nL "g"\nB day\n')
     put("split", 'CADF-SPLIT 1\nL "g"\nB day\n')

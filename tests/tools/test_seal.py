@@ -181,7 +181,9 @@ def test_compare_of_as_many_facts(seals):
     seals.put("old", with_digest((HEAD + SHARED + NEXT).encode()))
     seals.put("now", with_digest((HEAD + SHARED.replace("e3", "e4") + DAY + NEXT).encode()))
     lines = b"shared: facts then 1, now 1\n2024-02-29: facts then 0, now 1\n"
-    assert seals.run("--compare", "old", "now") == (5, lines, ["cadf-seal: windows that differ: 2 of 3; " + ONLY_ROOTS])
+    said = ["cadf-seal: windows that differ: 2 of 3; " + ONLY_ROOTS]
+    assert seals.run("--compare", "old", "now") == (5, lines, said)
+    assert seals.run("--compare", "now", "old") == (5, lines.replace(b"0, now 1", b"1, now 0"), said)
 
 
 def test_compare_of_others(seals):
@@ -217,8 +219,8 @@ REFUSED = [
 def read_by_both(data):
     """What the tool's reader and the second implementation say of a file: its refusal, or its log, its unit and its lines."""
     try:
-        found = cadf_seals.seal_in(io_of(data))
-        parts = {part: (count, bytes.fromhex(root)) for part, (count, root) in found.parts.items()}
+        found = cadf_seals.lines_in(io_of(data), cadf_seals.SiteSeal)
+        parts = {part: (count, bytes.fromhex(root.decode())) for part, (count, root) in found.parts.items()}
         own = found.name(), found.unit, parts
         assert found.bytes() == data
     except cadf_seals.Refused as fault:
@@ -274,7 +276,7 @@ def test_too_large(monkeypatch):
                                 (whole, size - 1, "too large"), (wrong + b"x", end, "line 5: order"), (wrong, end - 1, "too large")]:
         monkeypatch.setattr(cadf_seals, "LARGEST", most)
         try:
-            assert cadf_seals.seal_in(io_of(data)).bytes() == whole and refusal is None
+            assert cadf_seals.lines_in(io_of(data), cadf_seals.SiteSeal).bytes() == whole and refusal is None
         except cadf_seals.Refused as fault:
             assert str(fault) == refusal, (data, most)
 
@@ -366,11 +368,11 @@ def test_a_command_that_writes_no_seal(seals, said):
 
 @pytest.mark.parametrize("check, right, wrong", [
     (test_seal_of_a_folder, "for digest in digests}\n", "for digest in digests[:1]}\n"),
-    (test_seal_of_a_folder, "for part, found in self.parts.items())]", "for part, found in sorted(self.parts.items()))]"),
+    (test_seal_of_a_folder, "itertools.starmap(self.lines, self.parts.items())", "itertools.starmap(self.lines, sorted(self.parts.items()))"),
     (test_a_fact_in_another_window_is_refused, "                check_window(index, (part, digest), file)\n", ""),
-    (test_windows, "self.parts.get(part, NOTHING))\n        return", "self.parts.get(part, (1, NOTHING[1])))\n        return"),
+    (test_windows, "= self.parts.get(part, NOTHING)\n", "= self.parts.get(part, (1, NOTHING[1]))\n"),
     (test_windows, "B (%s)\" % \"|\".join(UNITS)", "B (%s)\" % \"|\".join([*UNITS][::2])"),
-    (test_compare, "sorted({*then.parts, *now.parts}, key=order)", "sorted(now.parts, key=order)"),
+    (test_compare_of_as_many_facts, "sorted({*then.parts, *now.parts}, key=order)", "sorted(now.parts, key=order)"),
     (test_compare_of_as_many_facts, "if then.parts.get(part) != now.parts.get(part)]", "if then.parts.get(part, NOTHING)[0] != now.parts.get(part, NOTHING)[0]]"),
     (test_compare_of_as_many_facts, "sorted({*then.parts, *now.parts}, key=order)", "sorted({*then.parts, *now.parts})"),
     (test_compare_of_as_many_facts, "return DIFFERS if differing else DONE", "return DONE"),
