@@ -9,6 +9,7 @@ pub mod FileKind
 pub mod InventoryInput
 pub mod Join
 pub mod JoinState
+pub mod Facts
 pub mod WrittenFile
 pub mod Missing
 pub mod MissingBy

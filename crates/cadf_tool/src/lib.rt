@@ -4,6 +4,7 @@
 mod check;
 mod counting_sink;
 pub mod exchange;
+mod facts;
 mod fault;
 mod input;
 mod inputs;
