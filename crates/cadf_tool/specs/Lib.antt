@@ -16,6 +16,7 @@ pub mod MissingBy
 pub mod Sketch
 pub mod SketchInput
 pub mod Seal
+pub mod Prove
 pub mod Rule
 pub mod Rehearse
 pub mod Sites
