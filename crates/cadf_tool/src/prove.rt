@@ -1,15 +1,80 @@
 //! The engine of `prove`: the proof of which facts of an input are in a union of others, as a proof file.
-ghost use Rattle.std.specs.Prelude.{◌+◌, ◌≤◌, ◌^◌, length};
-ghost use Rattle.cadf_seal.specs.ProofFile.{proof_file};
-ghost use Rattle.cadf_tool.specs.Prove.{proof_of_union};
-ghost use Rattle.cadf_tool.specs.Run.{one, all_from, both, transition_of, input_spec, IsRun};
+ghost use Rattle.std.specs.Prelude.{◌≡◌, ◌+◌, ◌≤◌, ◌^◌, length, List, None, IfOk};
+ghost use Rattle.cadf_seal.specs.ProofFile.{proof_of, proof_file};
+ghost use Rattle.cadf_sketch.specs.Answers.{inventory_of};
+ghost use Rattle.cadf_tool.specs.declared.input.Loaded.{Loaded};
+ghost use Rattle.cadf_tool.specs.JoinState.{IsJoinState};
+ghost use Rattle.cadf_tool.specs.Prove.{proof_for, proof_of_union};
+ghost use Rattle.cadf_tool.specs.Run.{one, all_from, both, transition_of, input_spec, IsExpected, IsWorked, IsWritten, IsRun};
 
-use crate::fault::ToolFault;
-use cadf_json::{Sink, Source};
+use crate::facts::facts_under;
+use crate::fault::{ToolFault, answered};
+use crate::input::Loaded;
+use crate::inputs::load_one;
+use crate::join::union_with;
+use crate::join_state::JoinState;
+use cadf_json::{Memory, Sink, Source};
+use cadf_seal::{Proof, write_proof};
+use cadf_set::Replica;
 use std::alloc::Global;
 
-/// Writes the proof file, under the seal of the union of all inputs, for the facts of `facts`: which of them are in the
-/// union, and which are not. Inputs are counted from 1: `facts` is the first. `Err`: why nothing was written, or only a
+/// Makes the proof, by the inventory of `held`, for that of `facts`. `Memory` if an allocation fails.
+fn proof_of(alloc: Global, facts: &Replica, held: &Replica) -> Result<Proof, Memory>
+    ensures { IfOk result (λ proof. proof ≡ proof_of (inventory_of facts.now) (inventory_of held.now)) }
+{
+    let asked = facts.inventory()?;
+    let inventory = held.inventory()?;
+    Proof::of(alloc, &asked, &inventory)
+}
+
+/// Makes the proof, by the inventory of `held`, for what the first input contributes to its log. `OtherLog` if that
+/// input names another log.
+fn proof_for(alloc: Global, held: &Replica, facts: Loaded) -> Result<Proof, ToolFault>
+    ensures { IsWorked (proof_for held.now facts) result }
+{
+    let Ok(log) = held.log().copy(alloc) else {
+        return Err(ToolFault::Memory);
+    };
+    match facts_under(alloc, 1, log, facts) {
+        Ok(facts) => match proof_of(alloc, &facts, held) {
+            Ok(proof) => Ok(proof),
+            Err(_) => Err(ToolFault::Memory),
+        },
+        Err(fault) => Err(fault),
+    }
+}
+
+/// Makes the same proof, by the inventory of the union. `NoLog`: no input of the union names a log. `OtherLog`: one
+/// names another log, or the first input does.
+fn proof_by(alloc: Global, union: JoinState, facts: Loaded) -> Result<Proof, ToolFault>
+    ensures { (ls : List Loaded) → IsJoinState 2 None ls union → IsWorked (proof_of_union (facts, ls)) result }
+{
+    match union.end() {
+        Ok(held) => proof_for(alloc, &held, facts),
+        Err(fault) => Err(fault),
+    }
+}
+
+/// Loads all inputs, and makes the proof for the first by the union of the others.
+fn prove<R: Source>(alloc: Global, facts: &mut R, inputs: &mut [R]) -> Result<Proof, ToolFault>
+    requires { length inputs.old + 2 ≤ 2 ^ 64 }
+    ensures { IsExpected (both (one input_spec (transition_of R.Source facts.old facts.new)) (all_from 2 R.Source inputs.old inputs.new))
+        proof_of_union result }
+{
+    let asked = load_one(alloc, 1, facts, None)?;
+    let union = union_with(alloc, JoinState::new(alloc, None), 2, inputs, None)?;
+    proof_by(alloc, union, asked)
+}
+
+/// Writes the file of the proof. `WriteFault` if a write fails, `Memory` if an allocation fails.
+fn write_proved<W: Sink>(alloc: Global, proof: &Proof, output: &mut W) -> Result<(), ToolFault>
+    ensures { IsWritten W.Sink output.old output.new (proof_file proof.now) result }
+{
+    answered(write_proof(alloc, proof, output))
+}
+
+/// Writes the proof file for what `facts` contributes, under the seal of the union of `inputs`: which of it is in the
+/// union, and which is not. Inputs are counted from 1: `facts` is the first. `Err`: why nothing was written, or only a
 /// prefix.
 pub fn run_prove<R: Source, W: Sink>(
     alloc: Global,
@@ -21,5 +86,6 @@ pub fn run_prove<R: Source, W: Sink>(
     ensures { IsRun (both (one input_spec (transition_of R.Source facts.old facts.new)) (all_from 2 R.Source inputs.old inputs.new))
         proof_of_union proof_file W.Sink output.old output.new result }
 {
-    Err(ToolFault::Memory)
+    let proof = prove(alloc, facts, inputs)?;
+    write_proved(alloc, &proof, output)
 }
