@@ -13,6 +13,7 @@ use Rattle.cadf_tool.specs.declared.fault.ToolFault.TheVariants.{
   Script,
   Rehearse,
   NoValue,
+  Unverified,
   ReadFault,
   WriteFault,
   Memory,
@@ -32,6 +33,7 @@ one_or_four (TooFewCells n cells) h = inl refl
 one_or_four (Script line) h = inl refl
 one_or_four (Rehearse f) h = inl refl
 one_or_four NoValue h = inl refl
+one_or_four (Unverified f) h = inl refl
 one_or_four (ReadFault n) h = absurd (true≢false (sym h))
 one_or_four WriteFault h = absurd (true≢false (sym h))
 one_or_four Memory h = inr refl

@@ -32,6 +32,7 @@ use Rattle.cadf_tool.specs.declared.fault.ToolFault.TheVariants.{
   Script,
   Rehearse,
   NoValue,
+  Unverified,
   ReadFault,
   WriteFault,
   Memory,
@@ -141,6 +142,7 @@ module _ {A M : Type 0} (sources : Sources A) (work : A â†’ Result M ToolFault â
   of_memory (Script line) h = refl
   of_memory (Rehearse f) h = refl
   of_memory NoValue h = refl
+  of_memory (Unverified f) h = refl
   of_memory (ReadFault n) h = absurd (never n h.1)
   of_memory WriteFault h = absurd h
   of_memory Memory h = refl

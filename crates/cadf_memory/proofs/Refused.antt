@@ -13,6 +13,7 @@ use Rattle.cadf_tool.specs.declared.fault.ToolFault.TheVariants.{
   Script,
   Rehearse,
   NoValue,
+  Unverified,
   ReadFault,
   WriteFault,
   Memory,
@@ -50,6 +51,7 @@ module _ {A M : Type 0} (sources : Sources A) (work : A â†’ Result M ToolFault â
   kept (Script line) h = h
   kept (Rehearse f) h = h
   kept NoValue h = h
+  kept (Unverified f) h = h
   kept (ReadFault n) h = h
   kept WriteFault h = absurd h
   kept Memory h = h

@@ -15,6 +15,7 @@ use Rattle.cadf_tool.specs.declared.fault.ToolFault.TheVariants.{
   Script,
   Rehearse,
   NoValue,
+  Unverified,
   ReadFault,
   WriteFault,
   Memory,
@@ -31,6 +32,7 @@ unwritten_of (TooFewCells n cells) = TooFewCells n cells
 unwritten_of (Script line) = Script line
 unwritten_of (Rehearse f) = Rehearse f
 unwritten_of NoValue = NoValue
+unwritten_of (Unverified f) = Unverified f
 unwritten_of (ReadFault n) = ReadFault n
 unwritten_of WriteFault = Memory
 unwritten_of Memory = Memory

@@ -2,8 +2,11 @@
 use Rattle.std.specs.Prelude.{ℕ, Bool, true, false, Result, Ok, Err}
 use Rattle.cadf_json.specs.declared.transfer.OutFault.{OutFault}
 use Rattle.cadf_json.specs.declared.transfer.OutFault.TheVariants.{WriteFault as OutWriteFault, Memory as OutMemory}
+use Rattle.cadf_seal.specs.declared.verify.VerifyFault.{VerifyFault}
+use Rattle.cadf_seal.specs.declared.verify.VerifyFault.TheVariants as verify
 use Rattle.cadf_tool.specs.declared.input.LoadFault.{LoadFault}
 use Rattle.cadf_tool.specs.declared.input.LoadFault.TheVariants.{File, TooLarge, ReadFault, Json, Document, Memory}
+use Rattle.cadf_tool.specs.declared.fault.VerifyRefusal.TheVariants as refusal
 use Rattle.cadf_tool.specs.declared.fault.ToolFault.{ToolFault}
 use Rattle.cadf_tool.specs.declared.fault.ToolFault.TheVariants.{
   Input,
@@ -13,6 +16,7 @@ use Rattle.cadf_tool.specs.declared.fault.ToolFault.TheVariants.{
   Script,
   Rehearse,
   NoValue,
+  Unverified,
   ReadFault as ReadFailed,
   WriteFault,
   Memory as OutOfMemory,
@@ -26,6 +30,16 @@ of_load n ReadFault = ReadFailed n
 of_load n (Json f) = Input n (Json f)
 of_load n (Document f) = Input n (Document f)
 of_load n Memory = OutOfMemory
+
+-- why facts are not verified; `Memory` is the engine's own
+abbrev pub of_verify : VerifyFault → ToolFault
+of_verify verify.OtherCount = Unverified refusal.OtherCount
+of_verify verify.OtherRoot = Unverified refusal.OtherRoot
+of_verify (verify.NotShown k) = Unverified (refusal.NotShown k)
+of_verify (verify.NotNeeded l) = Unverified (refusal.NotNeeded l)
+of_verify (verify.Absent k) = Unverified (refusal.Absent k)
+of_verify (verify.Present k) = Unverified (refusal.Present k)
+of_verify verify.Memory = OutOfMemory
 
 -- the result of writing a text
 abbrev pub of_out : {T : Type 0} → Result T OutFault → Result T ToolFault
@@ -42,6 +56,7 @@ status_of (TooFewCells n cells) = 1
 status_of (Script line) = 1
 status_of (Rehearse f) = 1
 status_of NoValue = 1
+status_of (Unverified f) = 1
 status_of (ReadFailed n) = 3
 status_of WriteFault = 3
 status_of OutOfMemory = 4

@@ -26,7 +26,7 @@ mod told;
 
 pub use crate::check::{run_check, run_check_union};
 pub use crate::counting_sink::{CountingSink, OverLimit};
-pub use crate::fault::{ToolFault, status};
+pub use crate::fault::{ToolFault, VerifyRefusal, status};
 pub use crate::input::{LoadFault, Loaded, load, load_within};
 pub use crate::inventory::{run_inventory, run_inventory_union};
 pub use crate::join::run_join;
