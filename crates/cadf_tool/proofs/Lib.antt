@@ -11,6 +11,7 @@ pub mod SiteLines
 pub mod KindReading
 pub mod InventoryReading
 pub mod SketchReading
+pub mod ModelReading
 pub mod LoadLemmas
 pub mod OneText
 pub mod Exclusion

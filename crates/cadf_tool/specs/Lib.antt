@@ -17,6 +17,8 @@ pub mod Sketch
 pub mod SketchInput
 pub mod Seal
 pub mod Prove
+pub mod SealInput
+pub mod Verify
 pub mod Rule
 pub mod Rehearse
 pub mod Sites

@@ -23,6 +23,7 @@ mod show;
 mod sketch;
 mod split;
 mod told;
+mod verify;
 
 pub use crate::check::{run_check, run_check_union};
 pub use crate::counting_sink::{CountingSink, OverLimit};
@@ -40,6 +41,7 @@ pub use crate::seal::{run_seal, run_seal_union};
 pub use crate::show::{run_show, run_show_union};
 pub use crate::sketch::{run_sketch, run_sketch_union};
 pub use crate::split::run_split;
+pub use crate::verify::run_verify;
 pub use cadf_event::{Document, DocumentFault, Name};
 pub use cadf_file::{FILE_LIMIT, FileFault};
 pub use cadf_json::{Failed, JsonFault, Memory, Sink, Source};
