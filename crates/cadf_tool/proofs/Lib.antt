@@ -27,6 +27,7 @@ pub mod ShownAgain
 pub mod DigestBytes
 pub mod InventoryParts
 pub mod SketchParts
+pub mod Verdicts
 pub mod Brought
 pub mod RuledFiles
 pub mod ExchangeWithin

@@ -1,4 +1,5 @@
 -- What a proof says, under a seal, of the facts of an input.
+--     sources_of seal facts proof        the outcome of reading the three inputs, in this order
 --     lines_of absent seal facts proof   a line for each fact, which is as asked, or why not
 --     verdict_of absent inputs           the same of the three inputs: a seal, the facts, and a proof
 use Rattle.std.specs.Prelude.{ℕ, Bool, List, Some, if◌then◌else◌, Result, Ok, Err}
@@ -13,6 +14,11 @@ use Rattle.cadf_tool.specs.declared.fault.ToolFault.TheVariants.{OtherLog}
 use Rattle.cadf_tool.specs.Facts.{facts_under}
 use Rattle.cadf_tool.specs.Faults.{of_verify}
 use Rattle.cadf_tool.specs.Join.{is_other, on_ok}
+use Rattle.cadf_tool.specs.Run.{Sources, SourceTransition, one, both, numbered, input_spec}
+use Rattle.cadf_tool.specs.SealInput.{seal_spec, proof_spec}
+
+abbrev pub sources_of : SourceTransition → SourceTransition → SourceTransition → Sources (SealModel × (Loaded × ProofModel))
+sources_of seal facts proof = both (one seal_spec seal) (both (numbered 2 input_spec facts) (numbered 3 proof_spec proof))
 
 abbrev pub of_verified : Result (List ℕ) VerifyFault → Result (List ℕ) ToolFault
 of_verified (Ok text) = Ok text

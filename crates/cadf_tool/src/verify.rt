@@ -1,12 +1,96 @@
 //! The engine of `verify`: what a proof says, under a seal, of the facts of an input.
-ghost use Rattle.std.specs.Prelude.{◌≡◌, Err};
-ghost use Rattle.cadf_tool.specs.Run.{both, numbered, one, transition_of, input_spec, IsRun};
-ghost use Rattle.cadf_tool.specs.SealInput.{seal_spec, proof_spec};
-ghost use Rattle.cadf_tool.specs.Verify.{verdict_of};
+ghost use Rattle.std.specs.Prelude.{◌≡◌, Some, Ok, Err, IfOk, IfErr};
+ghost use Rattle.cadf_tool.specs.Join.{is_other};
+ghost use Rattle.cadf_tool.specs.Run.{transition_of, IsExpected, IsWorked, IsWritten, IsRun};
+ghost use Rattle.cadf_tool.specs.Verify.{lines_of, verdict_of, sources_of};
 
-use crate::fault::ToolFault;
-use cadf_json::{Sink, Source};
+use crate::facts::facts_under;
+use crate::fault::{ToolFault, unverified};
+use crate::input::Loaded;
+use crate::inputs::{load_one, load_proof, load_seal};
+use cadf_json::{Sink, Source, write_all};
+use cadf_seal::{Proof, Seal, verified};
+use cadf_set::Replica;
 use std::alloc::Global;
+
+/// Returns whether the proof is of another log than the seal.
+fn is_other(seal: &Seal, proof: &Proof) -> bool
+    ensures { result ≡ is_other seal.now.log (Some proof.now.log) }
+{
+    proof.log().as_str() != seal.log().as_str()
+}
+
+/// Makes a line for each fact, which is as asked. `OtherLog`: the proof is of another log than the seal. `Unverified`:
+/// the proof is refused, or a fact isn't as asked. `Memory` if an allocation fails.
+fn lines(
+    alloc: Global,
+    absent: bool,
+    seal: &Seal,
+    facts: &Replica,
+    proof: &Proof,
+) -> Result<Vec<u8>, ToolFault>
+    ensures ok { IfOk result (λ text. lines_of absent seal.now facts.now proof.now ≡ Ok text.items) }
+    ensures err { IfErr result (λ fault. IsWorked (lines_of absent seal.now facts.now proof.now) (Err fault)) }
+{
+    if is_other(seal, proof) {
+        return Err(ToolFault::OtherLog(3));
+    }
+    match verified(alloc, seal, facts, proof, absent) {
+        Ok(text) => Ok(text),
+        Err(fault) => Err(unverified(fault)),
+    }
+}
+
+/// Takes the facts under the log of the seal, and makes their lines. `OtherLog`: the facts name another log, or the
+/// proof does. `Unverified`: the proof is refused, or a fact isn't as asked. `Memory` if an allocation fails.
+fn verdict(
+    alloc: Global,
+    absent: bool,
+    seal: &Seal,
+    facts: Loaded,
+    proof: &Proof,
+) -> Result<Vec<u8>, ToolFault>
+    ensures ok { IfOk result (λ text. IsWorked (verdict_of absent (seal.now, (facts, proof.now))) (Ok text.items)) }
+    ensures err { IfErr result (λ fault. IsWorked (verdict_of absent (seal.now, (facts, proof.now))) (Err fault)) }
+{
+    let Ok(log) = seal.log().copy(alloc) else {
+        return Err(ToolFault::Memory);
+    };
+    match facts_under(alloc, 2, log, facts) {
+        Ok(facts) => lines(alloc, absent, seal, &facts, proof),
+        Err(fault) => Err(fault),
+    }
+}
+
+/// Loads all inputs, and makes the lines of the facts.
+fn verify<R: Source>(
+    alloc: Global,
+    seal: &mut R,
+    facts: &mut R,
+    proof: &mut R,
+    absent: bool,
+) -> Result<Vec<u8>, ToolFault>
+    ensures ok { IfOk result (λ text. IsExpected (sources_of (transition_of R.Source seal.old seal.new) (transition_of R.Source facts.old facts.new)
+        (transition_of R.Source proof.old proof.new)) (verdict_of absent) (Ok text.items)) }
+    ensures err { IfErr result (λ fault. IsExpected (sources_of (transition_of R.Source seal.old seal.new) (transition_of R.Source facts.old facts.new)
+        (transition_of R.Source proof.old proof.new)) (verdict_of absent) (Err fault)) }
+{
+    let seal = load_seal(alloc, 1, seal)?;
+    let loaded = load_one(alloc, 2, facts, None)?;
+    let proof = load_proof(alloc, 3, proof)?;
+    verdict(alloc, absent, &seal, loaded, &proof)
+}
+
+/// Writes the lines. `WriteFault` if a write fails.
+fn write_lines<W: Sink>(lines: &[u8], output: &mut W) -> Result<(), ToolFault>
+    ensures written { IsWritten W.Sink output.old output.new lines.now result }
+    ensures only { IfErr result (λ fault. fault ≡ ToolFault.WriteFault) }
+{
+    match write_all(output, lines) {
+        Ok(()) => Ok(()),
+        Err(_) => Err(ToolFault::WriteFault),
+    }
+}
 
 /// Writes a line for each fact of `facts`, in the order of atoms, if the proof shows under the seal that each is in the
 /// sealed set; with `absent`, that none is. The seal is input 1, `facts` input 2 and the proof input 3; the first and
@@ -19,11 +103,13 @@ pub fn run_verify<R: Source, W: Sink>(
     absent: bool,
     output: &mut W,
 ) -> Result<(), ToolFault>
-    ensures verdict { IsRun (both (one seal_spec (transition_of R.Source seal.old seal.new))
-        (both (numbered 2 input_spec (transition_of R.Source facts.old facts.new)) (numbered 3 proof_spec (transition_of R.Source proof.old proof.new))))
-        (verdict_of absent) (λ text. text) W.Sink output.old output.new result }
+    ensures verdict { IsRun (sources_of (transition_of R.Source seal.old seal.new) (transition_of R.Source facts.old facts.new)
+        (transition_of R.Source proof.old proof.new)) (verdict_of absent) (λ text. text) W.Sink output.old output.new result }
     // All lines are in memory before they are written.
     ensures memory { result ≡ Err ToolFault.Memory → output.new ≡ output.old }
 {
-    Err(ToolFault::Memory)
+    match verify(alloc, seal, facts, proof, absent) {
+        Ok(text) => write_lines(text.as_slice(), output),
+        Err(fault) => Err(fault),
+    }
 }
