@@ -134,13 +134,15 @@ def sides(call, items):
 
 
 def log_written(call, logs):
-    """The log under which is written; every input that names a log must name that one."""
-    of_set = logs[1:] if call.command == b"prove" else logs
-    first = [next((log for log in side if log is not None), None) for side in sides(call, of_set)]
+    """The log under which is written; every input that names a log must name that one. FACTS of a proof come last, and name none."""
+    numbered = list(enumerate(logs, 1))
+    if call.command == b"prove":
+        logs, numbered = logs[1:], [*numbered[1:], numbered[0]]
+    first = [next((log for log in side if log is not None), None) for side in sides(call, logs)]
     named = call.log.decode() if call.log is not None else first[0]
     if named is None or call.log is None and None in first:
         raise Fault("no log named")
-    for number, log in enumerate(logs, 1):
+    for number, log in numbered:
         if log not in (None, named):
             raise Fault("input %d: other log" % number)
     return named

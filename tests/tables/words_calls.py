@@ -16,18 +16,20 @@ Keeps replicas of a CADF log and makes them converge
 Usage: cadf <COMMAND>
 
 Commands:
-  join               Writes the replica file of what all inputs tell
-  split              Writes what all inputs tell in parts by time, each as a replica file
-  missing            Writes the replica file of what TO lacks of FROM
-  missing-by         Writes the replica file of what FROM has beyond INVENTORY
-  inventory          Writes the digests of all that the files tell
-  sketch             Writes a short sketch of the digests of all that the files tell
-  missing-by-sketch  Writes the replica file of what FROM has beyond SKETCH
-  seal               Writes one hash of all that the files tell
-  rule               Writes the replica file with a ruling on a conflict
-  rehearse           Plays a schedule, and tells what it leaves at each site
-  show               Prints what the files tell, as a log
-  check              Reads files whole, and counts their atoms and their conflicts
+  join               Merges the inputs into one replica file
+  split              Merges the inputs, and writes a replica file for each month, day or hour
+  missing            Writes the facts of FROM that TO lacks, as a replica file
+  missing-by         Writes the facts of FROM that INVENTORY doesn't list, as a replica file
+  inventory          Lists the digests of all facts in the files
+  sketch             Writes a short sketch of the digests of all facts in the files
+  missing-by-sketch  Writes the facts of FROM that the site of SKETCH lacks, as a replica file
+  seal               Writes the number of facts in the files, and one hash of all of them
+  prove              Writes a proof of which FACTS are in the files, and which are not
+  verify             Checks FACTS against SEAL by PROOF, without the files
+  rule               Merges the inputs, and adds a ruling on a conflict
+  rehearse           Simulates a schedule, and counts the facts that each site ends with
+  show               Prints the log in the files as JSON
+  check              Reads the files whole, and counts their facts and their conflicts
   help               Print this message or the help of the given subcommand(s)
 
 Options:
@@ -35,7 +37,7 @@ Options:
   -V, --version  Print version
 """,
     "join": """\
-Writes the replica file of what all inputs tell
+Merges the inputs into one replica file
 
 Usage: cadf join [OPTIONS] <FILE>...
 
@@ -47,7 +49,7 @@ Options:
   -h, --help      Print help
 """,
     "split": """\
-Writes what all inputs tell in parts by time, each as a replica file
+Merges the inputs, and writes a replica file for each month, day or hour
 
 Usage: cadf split [OPTIONS] --by <UNIT> <FILE>...
 
@@ -60,7 +62,7 @@ Options:
   -h, --help       Print help
 """,
     "missing": """\
-Writes the replica file of what TO lacks of FROM
+Writes the facts of FROM that TO lacks, as a replica file
 
 Usage: cadf missing [OPTIONS] <FROM> <TO>
 
@@ -74,7 +76,7 @@ Options:
   -h, --help         Print help
 """,
     "missing-by": """\
-Writes the replica file of what FROM has beyond INVENTORY
+Writes the facts of FROM that INVENTORY doesn't list, as a replica file
 
 Usage: cadf missing-by [OPTIONS] <FROM> <INVENTORY>
 
@@ -87,7 +89,7 @@ Options:
   -h, --help         Print help
 """,
     "inventory": """\
-Writes the digests of all that the files tell
+Lists the digests of all facts in the files
 
 Usage: cadf inventory <FILE>...
 
@@ -98,7 +100,7 @@ Options:
   -h, --help  Print help
 """,
     "sketch": """\
-Writes a short sketch of the digests of all that the files tell
+Writes a short sketch of the digests of all facts in the files
 
 Usage: cadf sketch [OPTIONS] <FILE>...
 
@@ -111,7 +113,7 @@ Options:
   -h, --help       Print help
 """,
     "missing-by-sketch": """\
-Writes the replica file of what FROM has beyond SKETCH
+Writes the facts of FROM that the site of SKETCH lacks, as a replica file
 
 Usage: cadf missing-by-sketch [OPTIONS] <FROM> <SKETCH>
 
@@ -124,7 +126,7 @@ Options:
   -h, --help         Print help
 """,
     "seal": """\
-Writes one hash of all that the files tell
+Writes the number of facts in the files, and one hash of all of them
 
 Usage: cadf seal <FILE>...
 
@@ -134,8 +136,34 @@ Arguments:
 Options:
   -h, --help  Print help
 """,
+    "prove": """\
+Writes a proof of which FACTS are in the files, and which are not
+
+Usage: cadf prove <FACTS> <FILE>...
+
+Arguments:
+  <FACTS>    What is asked for: a log, an event or a replica file
+  <FILE>...  Replica files, logs or events
+
+Options:
+  -h, --help  Print help
+""",
+    "verify": """\
+Checks FACTS against SEAL by PROOF, without the files
+
+Usage: cadf verify [OPTIONS] <SEAL> <FACTS> <PROOF>
+
+Arguments:
+  <SEAL>   The seal of the files
+  <FACTS>  What is asked for: a log, an event or a replica file
+  <PROOF>  The proof that was made for these facts
+
+Options:
+      --absent  Check that none of the facts is in the sealed files
+  -h, --help    Print help
+""",
     "rule": """\
-Writes the replica file with a ruling on a conflict
+Merges the inputs, and adds a ruling on a conflict
 
 Usage: cadf rule <LETTER> <KEY> <PLACE> <FILE>...
 
@@ -149,7 +177,7 @@ Options:
   -h, --help  Print help
 """,
     "rehearse": """\
-Plays a schedule, and tells what it leaves at each site
+Simulates a schedule, and counts the facts that each site ends with
 
 Usage: cadf rehearse <LOG> <SITES> <SCRIPT>
 
@@ -162,7 +190,7 @@ Options:
   -h, --help  Print help
 """,
     "show": """\
-Prints what the files tell, as a log
+Prints the log in the files as JSON
 
 Usage: cadf show [OPTIONS] <FILE>...
 
@@ -174,7 +202,7 @@ Options:
   -h, --help       Print help
 """,
     "check": """\
-Reads files whole, and counts their atoms and their conflicts
+Reads the files whole, and counts their facts and their conflicts
 
 Usage: cadf check <FILE>...
 
@@ -220,6 +248,12 @@ TAKEN = [
     (["missing-by-sketch", "a", "--from", "c", "b"], ["MissingBySketch", "a", "c", "to", "b"]),
     (["seal", "a"], ["Seal", "a"]),
     (["seal", "b", "--", "a", "-b"], ["Seal", "b", "a", "-b"]),
+    (["prove", "a", "b"], ["Prove", "a", "b"]),
+    (["prove", "a", "c", "b", "a"], ["Prove", "a", "c", "b", "a"]),
+    (["prove", "", "--", "-"], ["Prove", "", "-"]),
+    (["verify", "a", "b", "c"], ["Verify", "false", "a", "b", "c"]),
+    (["verify", "c", "--absent", "b", "a"], ["Verify", "true", "c", "b", "a"]),
+    (["verify", "", "", "--", "--absent"], ["Verify", "false", "", "", "--absent"]),
     (["rule", "E", "e1", "2", "a"], ["Rule", "E", "e1", "2", "a"]),
     (["rule", "E", "e1", "2", "a", "3", "E"], ["Rule", "E", "e1", "2", "a", "3", "E"]),
     (["rule", "", "", "", ""], ["Rule", "", "", "", ""]),
@@ -235,7 +269,7 @@ TAKEN = [
 # Words that are refused: the fault, with a tip where there is one, and the usage behind it.
 REFUSED = [
     ([], "'cadf' requires a subcommand but one was not provided\n"
-         "  [subcommands: join, split, missing, missing-by, inventory, sketch, missing-by-sketch, seal, rule, rehearse, show, check, help]", "<COMMAND>"),
+         "  [subcommands: join, split, missing, missing-by, inventory, sketch, missing-by-sketch, seal, prove, verify, rule, rehearse, show, check, help]", "<COMMAND>"),
     ([""], "unrecognized subcommand ''", "<COMMAND>"),
     (["nothing"], "unrecognized subcommand 'nothing'\n\n  tip: a similar subcommand exists: 'join'", "<COMMAND>"),
     (["shwo", "a"], "unrecognized subcommand 'shwo'\n\n  tip: a similar subcommand exists: 'show'", "<COMMAND>"),
@@ -269,6 +303,15 @@ REFUSED = [
     (["missing-by-sketch", "a"], "the following required arguments were not provided:\n  <SKETCH>",
      "missing-by-sketch <FROM> <SKETCH>"),
     (["seal"], "the following required arguments were not provided:\n  <FILE>...", "seal <FILE>..."),
+    (["prove", "a"], "the following required arguments were not provided:\n  <FILE>...", "prove <FACTS> <FILE>..."),
+    (["prove", "--absent", "a", "b"], "unexpected argument '--absent' found\n\n  tip: to pass '--absent' as a value, use '-- --absent'",
+     "prove <FACTS> <FILE>..."),
+    (["verify", "a", "b"], "the following required arguments were not provided:\n  <PROOF>", "verify <SEAL> <FACTS> <PROOF>"),
+    (["verify", "--absent", "a"], "the following required arguments were not provided:\n  <FACTS>\n  <PROOF>",
+     "verify --absent <SEAL> <FACTS> <PROOF>"),
+    (["verify", "a", "b", "c", "d"], "unexpected argument 'd' found", "verify [OPTIONS] <SEAL> <FACTS> <PROOF>"),
+    (["verify", "--absent", "--absent", "a", "b", "c"], "the argument '--absent' cannot be used multiple times",
+     "verify [OPTIONS] <SEAL> <FACTS> <PROOF>"),
     (["rule", "E"], "the following required arguments were not provided:\n  <KEY>\n  <PLACE>\n  <FILE>...",
      "rule <LETTER> <KEY> <PLACE> <FILE>..."),
     (["rehearse", "g", "2"], "the following required arguments were not provided:\n  <SCRIPT>",

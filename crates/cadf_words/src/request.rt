@@ -39,6 +39,16 @@ pub enum Request<'a> {
     Seal {
         files: Vec<&'a str>,
     },
+    Prove {
+        facts: &'a str,
+        files: Vec<&'a str>,
+    },
+    Verify {
+        absent: bool,
+        seal: &'a str,
+        facts: &'a str,
+        proof: &'a str,
+    },
     Rule {
         letter: &'a str,
         key: &'a str,
@@ -82,8 +92,32 @@ fn first_and_more<'a>(
     Ok(files)
 }
 
-/// Makes the request of a command that writes a delta, or what a receiver sends to ask for one. `Unnamed` for any other
-/// name, `Memory` if an allocation fails.
+/// Makes the request of a command of seals and proofs. `Unnamed` for any other name, `Memory` if an allocation fails.
+fn sealing_of<'a>(
+    alloc: Global,
+    name: &str,
+    matches: &ArgMatches<'a>,
+) -> Result<Request<'a>, Reply> {
+    Ok(match name {
+        "seal" => Request::Seal {
+            files: files(alloc, matches)?,
+        },
+        "prove" => Request::Prove {
+            facts: word(matches, "FACTS"),
+            files: files(alloc, matches)?,
+        },
+        "verify" => Request::Verify {
+            absent: matches.get_flag("absent"),
+            seal: word(matches, "SEAL"),
+            facts: word(matches, "FACTS"),
+            proof: word(matches, "PROOF"),
+        },
+        _ => return Err(Reply::Unnamed),
+    })
+}
+
+/// Makes the request of a command that writes a delta, or what a receiver sends to ask for one; else that of a command
+/// of seals and proofs. `Unnamed` for any other name, `Memory` if an allocation fails.
 fn exchange_of<'a>(
     alloc: Global,
     name: &str,
@@ -110,7 +144,7 @@ fn exchange_of<'a>(
             from: first_and_more(alloc, matches, "FROM", "from")?,
             sketch: word(matches, "SKETCH"),
         },
-        _ => return Err(Reply::Unnamed),
+        _ => return sealing_of(alloc, name, matches),
     })
 }
 
@@ -128,9 +162,6 @@ fn request_of<'a>(
         "split" => Request::Split {
             by: word(matches, "by"),
             log: matches.get_str("log"),
-            files: files(alloc, matches)?,
-        },
-        "seal" => Request::Seal {
             files: files(alloc, matches)?,
         },
         "rule" => Request::Rule {

@@ -23,47 +23,55 @@ enum Kind {
 }
 
 /// Each command, and its help.
-const COMMANDS: [(&str, &str); 12] = [
-    ("join", "Writes the replica file of what all inputs tell"),
+const COMMANDS: [(&str, &str); 14] = [
+    ("join", "Merges the inputs into one replica file"),
     (
         "split",
-        "Writes what all inputs tell in parts by time, each as a replica file",
+        "Merges the inputs, and writes a replica file for each month, day or hour",
     ),
     (
         "missing",
-        "Writes the replica file of what TO lacks of FROM",
+        "Writes the facts of FROM that TO lacks, as a replica file",
     ),
     (
         "missing-by",
-        "Writes the replica file of what FROM has beyond INVENTORY",
+        "Writes the facts of FROM that INVENTORY doesn't list, as a replica file",
     ),
-    ("inventory", "Writes the digests of all that the files tell"),
+    ("inventory", "Lists the digests of all facts in the files"),
     (
         "sketch",
-        "Writes a short sketch of the digests of all that the files tell",
+        "Writes a short sketch of the digests of all facts in the files",
     ),
     (
         "missing-by-sketch",
-        "Writes the replica file of what FROM has beyond SKETCH",
+        "Writes the facts of FROM that the site of SKETCH lacks, as a replica file",
     ),
-    ("seal", "Writes one hash of all that the files tell"),
     (
-        "rule",
-        "Writes the replica file with a ruling on a conflict",
+        "seal",
+        "Writes the number of facts in the files, and one hash of all of them",
     ),
+    (
+        "prove",
+        "Writes a proof of which FACTS are in the files, and which are not",
+    ),
+    (
+        "verify",
+        "Checks FACTS against SEAL by PROOF, without the files",
+    ),
+    ("rule", "Merges the inputs, and adds a ruling on a conflict"),
     (
         "rehearse",
-        "Plays a schedule, and tells what it leaves at each site",
+        "Simulates a schedule, and counts the facts that each site ends with",
     ),
-    ("show", "Prints what the files tell, as a log"),
+    ("show", "Prints the log in the files as JSON"),
     (
         "check",
-        "Reads files whole, and counts their atoms and their conflicts",
+        "Reads the files whole, and counts their facts and their conflicts",
     ),
 ];
 
 /// Each word of a command, in their order: the command, the word's name, how it is given, and its help.
-const WORDS: [(&str, &str, Kind, &str); 30] = [
+const WORDS: [(&str, &str, Kind, &str); 36] = [
     (
         "join",
         "log",
@@ -154,6 +162,37 @@ const WORDS: [(&str, &str, Kind, &str); 30] = [
         "A further file of the sender's",
     ),
     ("seal", "FILE", Kind::Files, "Replica files, logs or events"),
+    (
+        "prove",
+        "FACTS",
+        Kind::File,
+        "What is asked for: a log, an event or a replica file",
+    ),
+    (
+        "prove",
+        "FILE",
+        Kind::Files,
+        "Replica files, logs or events",
+    ),
+    (
+        "verify",
+        "absent",
+        Kind::Flag,
+        "Check that none of the facts is in the sealed files",
+    ),
+    ("verify", "SEAL", Kind::File, "The seal of the files"),
+    (
+        "verify",
+        "FACTS",
+        Kind::File,
+        "What is asked for: a log, an event or a replica file",
+    ),
+    (
+        "verify",
+        "PROOF",
+        Kind::File,
+        "The proof that was made for these facts",
+    ),
     (
         "rule",
         "LETTER",

@@ -86,6 +86,16 @@ fn sketched(
     Ok(line)
 }
 
+/// Returns whether a flag is given, as a word.
+fn flag(is_given: bool) -> &'static str {
+    if is_given { "true" } else { "false" }
+}
+
+/// Returns a request for `verify`, as a line.
+fn verified(alloc: Global, absent: bool, files: &[&str]) -> Result<String, Memory> {
+    of_files(alloc, &["Verify", flag(absent)], files)
+}
+
 /// Returns a request, as a line.
 fn asked(alloc: Global, request: &Request<'_>) -> Result<String, Memory> {
     match request {
@@ -107,6 +117,13 @@ fn asked(alloc: Global, request: &Request<'_>) -> Result<String, Memory> {
             &[*sketch],
         ),
         Request::Seal { files } => of_files(alloc, &["Seal"], files.as_slice()),
+        Request::Prove { facts, files } => of_files(alloc, &["Prove", facts], files.as_slice()),
+        Request::Verify {
+            absent,
+            seal,
+            facts,
+            proof,
+        } => verified(alloc, *absent, &[*seal, *facts, *proof]),
         Request::Rule {
             letter,
             key,
@@ -120,7 +137,7 @@ fn asked(alloc: Global, request: &Request<'_>) -> Result<String, Memory> {
         ),
         Request::Show { conflicts, files } => of_files(
             alloc,
-            &["Show", if *conflicts { "true" } else { "false" }],
+            &["Show", flag(*conflicts)],
             files.as_slice(),
         ),
         Request::Check { files } => of_files(alloc, &["Check"], files.as_slice()),
