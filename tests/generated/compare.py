@@ -5,12 +5,12 @@
 The second implementation, tests/reference, is of what docs/FORMATS.md describes. It was written apart from crates/ and
 shares nothing with it, so that a misreading in the definitions there would show as a difference. Compared are the exit
 status, standard output and standard error of `join`, `split`, `missing`, `missing-by`, `inventory`, `sketch`,
-`missing-by-sketch`, `rule`, `rehearse`, `show` and `check`. Not compared: the texts for words that are no call, which
+`missing-by-sketch`, `seal`, `prove`, `verify`, `rule`, `rehearse`, `show` and `check`. Not compared: the texts for words that are no call, which
 are clap's own, beyond that the status is 2 and that they go to standard error alone; words that aren't UTF-8 count as
 no call. Nor is anything reached that takes a large input, a failed write or want of memory.
 
 BINARY is crates/cadf/out/cadf unless given. A case depends on its seed and number alone, and on whether the help of
-BINARY lists `rehearse`, and then `sketch` and `split`, whose calls are compared too if it does. The status is 1 where a case
+BINARY lists `rehearse`, and then `sketch`, `split` and `prove`, whose calls are compared too if it does. The status is 1 where a case
 differs; the first ten that do are kept, made smaller, in folders of their own with the call to run there.
 """
 import argparse
@@ -24,7 +24,7 @@ import sys
 import tempfile
 
 from tests import TOP
-from tests.generated.generate import KINDS, KINDS_WITH_REHEARSALS, KINDS_WITH_SKETCHES, KINDS_WITH_SPLITS, Case
+from tests.generated.generate import KINDS, KINDS_WITH_PROOFS, KINDS_WITH_REHEARSALS, KINDS_WITH_SKETCHES, KINDS_WITH_SPLITS, Case
 from tests.reference.command import DIRECTORY, Answer, answer
 from tests.reference.sealed_files import sealed
 
@@ -139,6 +139,7 @@ def main():
     kinds = KINDS_WITH_REHEARSALS if "rehearse" in commands else KINDS
     kinds = KINDS_WITH_SKETCHES if "sketch" in commands else kinds
     kinds = KINDS_WITH_SPLITS if "split" in commands else kinds
+    kinds = KINDS_WITH_PROOFS if "prove" in commands else kinds
     one = functools.partial(compared, binary, kinds, options.seed)
     with concurrent.futures.ThreadPoolExecutor(len(os.sched_getaffinity(0))) as pool:
         answers = list(pool.map(one, range(options.count)))

@@ -3,7 +3,7 @@ that cut, readers whose bytes can be borrowed, and their answers by the second i
 
 Each of `KINDS` makes a driver's name, a call with its words and the fields of its answer.
 """
-from tests.generated.generate import KINDS_WITH_SPLITS, Case
+from tests.generated.generate import KINDS_WITH_PROOFS, Case
 from tests.reference.command import DIRECTORY, OPTIONS, Call, Usage, answer
 
 LARGEST = 20000  # bytes of a file; a larger one takes too many reads
@@ -15,11 +15,12 @@ def engine(call):
     name = "run_" + call.command.decode().replace("-", "_")
     if call.command == b"missing" and len(call.files) > 2:
         return name + "_unions", [call.senders]
-    if call.command not in (b"join", b"split") and len(call.files) > (2 if call.again else 1):
+    if call.command not in (b"join", b"split", b"prove", b"verify") and len(call.files) > (2 if call.again else 1):
         name += "_union"
     own = {
         b"join": lambda: [call.log or b""], b"rehearse": lambda: [call.log, call.sites], b"rule": lambda: call.ruling,
         b"split": lambda: [call.unit, call.log or b""], b"show": lambda: ["conflicts" if call.flag else "log"],
+        b"verify": lambda: ["absent" if call.flag else "present"],
         b"sketch": lambda: [call.given.get(option, b"") for option in OPTIONS[b"sketch"]]}
     return name, own.get(call.command, lambda: [])()
 
@@ -53,7 +54,7 @@ def engines(chance):
     pieces = iter(lambda: chance.randint(0, LONGEST_PIECE), -1)
     made = None
     while made is None:
-        made = called(Case(KINDS_WITH_SPLITS, chance.randrange(2 ** 32), 0), pieces)
+        made = called(Case(KINDS_WITH_PROOFS, chance.randrange(2 ** 32), 0), pieces)
     return ("engine", *made)
 
 KINDS = [engines]

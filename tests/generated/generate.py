@@ -4,7 +4,7 @@ import os
 import random
 
 from tests import TOP
-from tests.generated import odd_documents, odd_events, odd_files, odd_inventories, odd_nodes, odd_sketches, schedules
+from tests.generated import odd_documents, odd_events, odd_files, odd_inventories, odd_nodes, odd_proofs, odd_sketches, schedules
 from tests.generated.odd_events import chain, event
 from tests.generated.odd_files import (
     atoms_of, damaged, documents_told, file_with, grounded_part, resealed, some_carrier, some_file, some_file_of,
@@ -14,9 +14,10 @@ from tests.generated.odd_values import (
     any_value, good_name, good_time, nested, number, number_near_a_border, odd_name, odd_text, time,
 )
 from tests.generated.spelling import spelled_oddly
-from tests.reference.command import DIRECTORY, WORDS_WANTED
+from tests.reference.command import DIRECTORY, WORDS_WANTED, read_input
 from tests.reference.inventory_files import digest_of, inventory_of, inventory_with
 from tests.reference.json_text import quoted, read_canonical, spelled
+from tests.reference.seal_files import seal_of
 from tests.reference.sealed_files import sealed
 from tests.reference.shown_texts import log_text
 from tests.reference.sketch_files import sketch_file, sketch_with
@@ -455,6 +456,71 @@ def sketch_words(chance):
     return [command, *options, *(chance.choice(likely) for _ in range(count))], files
 
 
+def facts_and_files(chance):
+    """What is asked for, as a file of its own, and one or two files of what is held: the files by their names."""
+    told = documents_told(chance, 1, 4)
+    atoms = of_nearly(chance, told)
+    facts = odd_proofs.facts_for(chance, atoms, told)
+    files = {"facts": some_file_of(chance, "g", facts), "a": some_file_of(chance, "g", atoms)}
+    if chance.random() < 0.3:
+        files["facts"] = as_input(chance, chance.choice(told))
+    if chance.random() < 0.4:
+        files["b"] = as_input(chance, chance.choice(told))
+    return files
+
+
+def proves(chance):
+    """Calls of `prove`, of which most are answered with a text."""
+    files = {"folder": DIRECTORY, **facts_and_files(chance)}
+    for name in ("facts", "a", "b"):
+        if name in files and chance.random() < 0.05:
+            files[name] = chance.choice([
+                lambda: damaged(chance, files[name]), lambda: some_file(chance, "h"), lambda: spelled_oddly(chance, event(chance)),
+                lambda: seal_of("g", [])])()
+    inputs = [name for name in ("a", "b") if name in files] + chance.choice([[]] * 20 + [["folder"], ["nothere"], ["a"]])
+    chance.shuffle(inputs)
+    return ["prove", "facts" if chance.random() < 0.96 else chance.choice(["folder", "nothere", "a"]), *inputs], files
+
+
+def verified(chance, files, seal, proof):
+    """A call of `verify` on the facts of the files."""
+    files = {"folder": DIRECTORY, "facts": files["facts"], "seal": seal, "proof": proof}
+    operands = chance.choice([["seal", "facts", "proof"]] * 30 + [
+        ["facts", "seal", "proof"], ["proof", "facts", "seal"], ["seal", "proof", "facts"], ["seal", "seal", "seal"],
+        ["seal", "folder", "proof"], ["folder", "facts", "nothere"], ["seal", "facts", "folder"]])
+    place = chance.randint(0, 3)
+    return ["verify", *operands[:place], *chance.choice([[], ["--absent"]]), *operands[place:]], files
+
+
+def verifies(chance):
+    """Calls of `verify`, with a seal and a proof of what is held: most facts are shown, to be there or not to be."""
+    files = facts_and_files(chance)
+    facts, atoms, others = read_input(files["facts"])[1], read_input(files["a"])[1], atoms_of(documents_told(chance))
+    atoms = chance.choice([lambda: atoms, lambda: atoms | facts, lambda: atoms - facts])()
+    seal, proof = odd_proofs.seal_and_proof(chance, facts, atoms, others)
+    if chance.random() < 0.04:
+        files["facts"] = chance.choice([lambda: damaged(chance, files["facts"]), lambda: some_file(chance, "h")])()
+    return verified(chance, files, seal, proof)
+
+
+def damaged_proofs(chance):
+    """Calls of `verify`, with something odd in the seal or in the proof."""
+    files = facts_and_files(chance)
+    facts, atoms = read_input(files["facts"])[1], read_input(files["a"])[1]
+    seal, proof = odd_proofs.seal_and_proof(chance, facts, atoms | facts if chance.random() < 0.5 else atoms, atoms)
+    if chance.random() < 0.3:
+        seal = odd_proofs.odd(chance, seal)
+    else:
+        proof = odd_proofs.odd(chance, proof)
+    return verified(chance, files, seal, proof)
+
+
+def misleading_proofs(chance):
+    """Calls of `verify`, with a seal and a proof of no set."""
+    files = facts_and_files(chance)
+    return verified(chance, files, *odd_proofs.of_no_set(chance, read_input(files["facts"])[1]))
+
+
 def shows(chance):
     words = chance.choice([["show", "a"], ["show", "--conflicts", "a"], ["show", "--conflicts", "a"], ["show", "a", "--conflicts"],
                            ["check", "a"]])
@@ -652,6 +718,7 @@ KINDS = {
 KINDS_WITH_REHEARSALS = {**KINDS, rehearsals: 12}
 KINDS_WITH_SKETCHES = {**KINDS_WITH_REHEARSALS, sketches: 14, damaged_sketches: 16, misleading_sketches: 12, sketch_words: 5}
 KINDS_WITH_SPLITS = {**KINDS_WITH_SKETCHES, splits: 14}
+KINDS_WITH_PROOFS = {**KINDS_WITH_SPLITS, proves: 12, verifies: 14, damaged_proofs: 18, misleading_proofs: 12}
 
 
 class Case:

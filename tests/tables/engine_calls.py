@@ -9,7 +9,7 @@ import re
 from tests.tables import rows as worked, sketch_rows as sketched, split_rows, worked_files as made
 from tests.tables.document_rows import BOTH, NORTH, conflicts, log
 from tests.tables.exchange_rows import OTHER_LOG
-from tests.tables.seal_rows import seal
+from tests.tables.seal_rows import proof, seal
 from tests.tables.texts import C1, C2, CF, K1, KF, V1, V2, digits, document, inventory, replica
 
 CALLS = {
@@ -24,6 +24,8 @@ CALLS = {
     "run_sketch": ["run_sketch", "Cells::by_default"],
     "run_missing_by_sketch": ["run_missing_by_sketch"],
     "run_seal": ["run_seal"],
+    "run_prove": ["run_prove"],
+    "run_verify": ["run_verify"],
     "run_rule": ["run_rule"],
     "run_rehearse": ["run_rehearse"],
     "run_show": ["run_show"],
@@ -73,10 +75,12 @@ def engine(command, readers, to=None):
         own = [own[1], "".join(own[3:])]
     if name == "show":
         own = ["conflicts" if own else "log"]
+    if name == "verify":
+        own = ["absent" if own else "present"]
     if name == "sketch":
         given = dict(re.findall(r"--(\w+)[= ](\w+)", command))
         own = [given.get(option, "") for option in ("cells", "salt")]
-    kind = "" if name in ("join", "split") or not several else "_unions" if name == "missing" else "_union"
+    kind = "" if name in ("join", "split", "prove", "verify") or not several else "_unions" if name == "missing" else "_union"
     return "run_" + name.replace("-", "_") + kind, [*(to or writer()), *own, *(word for one in readers for word in one)]
 
 
@@ -182,6 +186,10 @@ READ = [
     ("sketch --cells 3", [NONE], sketched.EMPTY),
     ("missing-by-sketch", [NONE, sketched.EMPTY], made.NOTHING_TREE),
     ("seal", [made.NOTHING_TREE], seal()),
+    ("prove", [EMPTY_LOG, NONE], proof([], [])),
+    ("prove", [made.NOTHING_TREE, EMPTY_LOG, NONE], proof([], [])),
+    ("verify", [seal(), EMPTY_LOG, proof([], [])], ""),
+    ("verify --absent", [seal(), made.NOTHING_TREE, proof([], [])], ""),
     ("rule P name 2", [NAMED], made.SOUTH_TREE),
     ("rehearse g 2", [TWO_SITES], "site 0 atoms 0 as 0\nsite 1 atoms 0 as 0\n"),
     ("show", [made.EVENT_TREE, NONE], log(V1)),
@@ -232,6 +240,9 @@ WRITTEN = [
     ("sketch --cells 3 --salt 1", [made.EVENT_TREE], sketched.WORKED, LINES),
     ("missing-by-sketch", [made.TWO, sketched.WORKED], made.SECOND_TREE, LINES),
     ("seal", [made.EVENT_TREE], seal(digits(C1)), SEALED),
+    ("prove", [V1, made.TWO], proof([digits(C1)], [digits(C1), digits(C2)]), LINES),
+    ("verify", [seal(digits(C1), digits(C2)), made.TWO, proof([digits(C1), digits(C2)], [digits(C1), digits(C2)])],
+     'present E "e1"\npresent E "e2"\n', WHOLE),
     ("rule P name 2", [NAMED], made.SOUTH_TREE, LINES),
     ("rehearse g 2", [""], "site 0 atoms 0 as 0\nsite 1 atoms 0 as 0\n", WHOLE),
 ]
@@ -259,6 +270,7 @@ for command, inputs, output, at_once in WRITTEN:
 # A command, its readers, and its fault by name, where the first write would fail: nothing is written before all else.
 FAILING, GOOD, EVENT, BAD = reader(EMPTY_LOG, ALL, 1), reader(EMPTY_LOG), reader(V1), reader("{")
 OTHER, OTHER_NOTED, OTHER_SKETCHED = reader(OTHER_LOG), reader(inventory(log="h")), reader(sketched.sketch(3, 1, log="h"))
+SEALED_NONE, OTHER_PROVED = reader(seal()), reader(proof([], [], log='"h"'))
 NOT_JSON_1, NOT_JSON_2 = ["Input", 1, "Json", "NotJson"], ["Input", 2, "Json", "NotJson"]
 IN_ORDER = [
     ("join", [], ["NoLog"]),
@@ -311,6 +323,23 @@ IN_ORDER = [
     ("seal", [BAD], NOT_JSON_1),
     ("seal", [EVENT], ["NoLog"]),
     ("seal", [GOOD], ["WriteFault"]),
+    ("prove", [FAILING, BAD], ["ReadFault", 1]),
+    ("prove", [BAD, FAILING], NOT_JSON_1),
+    ("prove", [OTHER, EVENT, FAILING], ["ReadFault", 3]),
+    ("prove", [OTHER, GOOD, BAD], ["Input", 3, "Json", "NotJson"]),
+    ("prove", [GOOD, EVENT, EVENT], ["NoLog"]),
+    ("prove", [OTHER, GOOD, OTHER], ["OtherLog", 3]),
+    ("prove", [OTHER, GOOD, EVENT], ["OtherLog", 1]),
+    ("prove", [EVENT, EVENT, GOOD], ["WriteFault"]),
+    ("prove", [EVENT], ["NoLog"]),
+    ("verify", [FAILING, BAD, BAD], ["ReadFault", 1]),
+    ("verify", [BAD, FAILING, BAD], ["Input", 1, "File", "Truncated"]),
+    ("verify", [reader(inventory()), FAILING, BAD], ["Input", 1, "File", "Version"]),
+    ("verify", [SEALED_NONE, BAD, FAILING], NOT_JSON_2),
+    ("verify", [SEALED_NONE, OTHER, FAILING], ["ReadFault", 3]),
+    ("verify", [SEALED_NONE, OTHER, SEALED_NONE], ["Input", 3, "File", "Version"]),
+    ("verify", [SEALED_NONE, OTHER, OTHER_PROVED], ["OtherLog", 2]),
+    ("verify", [SEALED_NONE, EVENT, OTHER_PROVED], ["OtherLog", 3]),
     ("show", [FAILING], ["ReadFault", 1]),
     ("show", [BAD], NOT_JSON_1),
     ("show", [EVENT], ["NoLog"]),

@@ -13,7 +13,7 @@ import sys
 
 from tests.generated.compare import alike, answered, commands_of
 from tests.reference.command import Answer, answer
-from tests.tables import document_rows, exchange_rows, sketch_rows, split_rows
+from tests.tables import document_rows, exchange_rows, sketch_rows, split_rows, verify_rows
 from tests.tables.document_rows import conflicts, log
 from tests.tables.texts import B1, BF, C1, CF, K1, KF, S1, S2, digits, inventory, line, lined, replica, tree
 from tests.tables.worked_files import (
@@ -278,6 +278,16 @@ def split_rows_called():
         yield called(name, "split " + options, files, refusal(said))
 
 
+def verify_rows_called():
+    """The rows of proofs."""
+    for name, files, output in verify_rows.PROVED:
+        yield called(name, "prove", files, Answer(0, output.encode(), b""))
+    for name, command, files, output in verify_rows.VERIFIED:
+        yield called(name, command, files, Answer(0, output.encode(), b""))
+    for name, command, files, said in verify_rows.PROOFS_REFUSED:
+        yield called(name, command, files, refusal(said))
+
+
 def file_rows():
     """Each row of this file: its name, words, files as text, and answer."""
     for name, command, source, by, output in WRITTEN:
@@ -295,12 +305,13 @@ def file_rows():
 
 
 def all_rows():
-    """The rows of this file, and those of documents, of several inputs, of sketches and of split files."""
+    """The rows of this file, and those of documents, of several inputs, of sketches, of split files and of proofs."""
     yield from file_rows()
     yield from document_rows_called()
     yield from exchange_rows_called()
     yield from sketch_rows_called()
     yield from split_rows_called()
+    yield from verify_rows_called()
 
 
 def with_bytes(rows):

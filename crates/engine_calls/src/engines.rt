@@ -7,9 +7,9 @@ use cadf_json::{MemorySink, MemorySource};
 use cadf_tool::{
     Cells, CountingSink, Salt, ToolFault, Unit, run_check, run_check_union, run_inventory,
     run_inventory_union, run_join, run_missing, run_missing_by, run_missing_by_sketch,
-    run_missing_by_sketch_union, run_missing_by_union, run_missing_unions, run_rehearse, run_rule,
-    run_rule_union, run_seal, run_seal_union, run_show, run_show_union, run_sketch,
-    run_sketch_union, run_split, status,
+    run_missing_by_sketch_union, run_missing_by_union, run_missing_unions, run_prove, run_rehearse,
+    run_rule, run_rule_union, run_seal, run_seal_union, run_show, run_show_union, run_sketch,
+    run_sketch_union, run_split, run_verify, status,
 };
 use calls::{push, push_number, refused};
 use std::alloc::{AllocError as Memory, Global};
@@ -76,6 +76,21 @@ fn sketch(alloc: Global, words: Words<'_>, sink: &mut Output) -> Ran {
 fn missing_by_sketch(alloc: Global, words: Words<'_>, sink: &mut Output) -> Ran {
     let (mut from, mut sketch) = (words.source(4), words.source(7));
     Some(run_missing_by_sketch(alloc, &mut from, &mut sketch, sink))
+}
+
+/// Runs `run_prove`. Its words are readers, that of the facts first.
+fn prove(alloc: Global, words: Words<'_>, sink: &mut Output) -> Ran {
+    let mut facts = words.source(4);
+    let mut inputs = sources(alloc, words, 7).ok()?;
+    inputs.len().checked_add(2)?;
+    Some(run_prove(alloc, &mut facts, inputs.as_mut_slice(), sink))
+}
+
+/// Runs `run_verify`. Its words are `present` or `absent`, and three readers.
+fn verify(alloc: Global, words: Words<'_>, sink: &mut Output) -> Ran {
+    let absent = words.text(4) == "absent";
+    let (mut seal, mut facts, mut proof) = (words.source(5), words.source(8), words.source(11));
+    Some(run_verify(alloc, &mut seal, &mut facts, &mut proof, absent, sink))
 }
 
 /// Runs `run_rule`. Its words are a letter, a key, a place and a reader.
@@ -194,6 +209,8 @@ fn run(alloc: Global, words: Words<'_>, sink: &mut Output) -> Ran {
         "run_sketch" => sketch(alloc, words, sink),
         "run_missing_by_sketch" => missing_by_sketch(alloc, words, sink),
         "run_seal" => Some(run_seal(alloc, &mut words.source(4), sink)),
+        "run_prove" => prove(alloc, words, sink),
+        "run_verify" => verify(alloc, words, sink),
         "run_rule" => rule(alloc, words, sink),
         "run_rehearse" => rehearse(alloc, words, sink),
         "run_show" => show(alloc, words, sink),
