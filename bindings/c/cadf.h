@@ -23,7 +23,8 @@
  *
  *  - Each address is that of as many bytes as its length or room says, for the whole call. The functions below take NULL
  *    for an output without room, for a log that isn't given, and for an input of no bytes. The elements of the arrays of
- *    cadf_join and cadf_split are taken as they are: fill them by cadf_bytes_of, or with addresses that aren't NULL.
+ *    cadf_join, cadf_split and cadf_prove are taken as they are: fill them by cadf_bytes_of, or with addresses that aren't
+ *    NULL.
  *  - The output and `*length` overlap neither one another nor an input, and no other thread writes to an input meanwhile.
  *    What the buffer and `*length` held before isn't read.
  *  - A length or a room is at most 2^63-1. An input above 2^30 bytes is refused; a longer output is no input.
@@ -100,6 +101,14 @@ int cadf_inventory(const struct cadf_bytes *input, uint8_t *output, size_t room,
 
 /* The seal file of the input: its log, the number of its facts, and one hash of all of them. */
 int cadf_seal(const struct cadf_bytes *input, uint8_t *output, size_t room, size_t *length);
+
+/* The proof file, under the seal of all inputs, of which facts they have and which they don't. `facts` is input 1. */
+int cadf_prove(const struct cadf_bytes *facts, const struct cadf_bytes *inputs, size_t count,
+               uint8_t *output, size_t room, size_t *length);
+
+/* A line for each fact, by a seal and a proof: that it is there; with `absent`, that it isn't. Refused unless all are so. */
+int cadf_verify(bool absent, const struct cadf_bytes *seal, const struct cadf_bytes *facts, const struct cadf_bytes *proof,
+                uint8_t *output, size_t room, size_t *length);
 
 /* The input's replica file with a ruling more: the value at that place, from 1, of the key of that letter is to be shown. */
 int cadf_rule(uint8_t letter, const struct cadf_bytes *key, uint64_t place, const struct cadf_bytes *input,
@@ -212,6 +221,23 @@ static inline int cadf_seal_or_null(const struct cadf_bytes *input, uint8_t *out
     return cadf_seal(&one, output ? output : &nowhere, output ? room : 0, length);
 }
 
+static inline int cadf_prove_or_null(const struct cadf_bytes *facts, const struct cadf_bytes *inputs, size_t count,
+                                     uint8_t *output, size_t room, size_t *length)
+{
+    uint8_t nowhere = 0;
+    const struct cadf_bytes none = cadf_bytes_of(NULL, 0), one = cadf_bytes_at(facts);
+    return cadf_prove(&one, inputs ? inputs : &none, inputs ? count : 0,
+                      output ? output : &nowhere, output ? room : 0, length);
+}
+
+static inline int cadf_verify_or_null(bool absent, const struct cadf_bytes *seal, const struct cadf_bytes *facts,
+                                      const struct cadf_bytes *proof, uint8_t *output, size_t room, size_t *length)
+{
+    uint8_t nowhere = 0;
+    const struct cadf_bytes first = cadf_bytes_at(seal), second = cadf_bytes_at(facts), third = cadf_bytes_at(proof);
+    return cadf_verify(absent, &first, &second, &third, output ? output : &nowhere, output ? room : 0, length);
+}
+
 static inline int cadf_rule_or_null(uint8_t letter, const struct cadf_bytes *key, uint64_t place,
                                     const struct cadf_bytes *input, uint8_t *output, size_t room, size_t *length)
 {
@@ -238,6 +264,8 @@ static inline int cadf_rehearse_or_null(const struct cadf_bytes *log, uint64_t s
 #define cadf_sketch(...) cadf_sketch_or_null(__VA_ARGS__)
 #define cadf_inventory(...) cadf_inventory_or_null(__VA_ARGS__)
 #define cadf_seal(...) cadf_seal_or_null(__VA_ARGS__)
+#define cadf_prove(...) cadf_prove_or_null(__VA_ARGS__)
+#define cadf_verify(...) cadf_verify_or_null(__VA_ARGS__)
 #define cadf_rule(...) cadf_rule_or_null(__VA_ARGS__)
 #define cadf_rehearse(...) cadf_rehearse_or_null(__VA_ARGS__)
 

@@ -3,7 +3,8 @@
  *
  *     call show FILE | conflicts FILE | check FILE | inventory FILE | missing FROM TO | missing-by FROM INVENTORY
  *     call join LOG FILE.. | split UNIT LOG FILE.. | rule LETTER KEY PLACE FILE | rehearse LOG SITES SCRIPT
- *     call sketch CELLS SALT FILE | missing-by-sketch FROM SKETCH | seal FILE
+ *     call sketch CELLS SALT FILE | missing-by-sketch FROM SKETCH | seal FILE | prove FACTS FILE..
+ *     call verify SEAL FACTS PROOF | absent SEAL FACTS PROOF
  *
  * An empty LOG is none, and so is 0 for CELLS or SALT. PLACE, SITES, CELLS and SALT are decimal numbers. The exit status is that of
  * the command; 3 where a file can't be read or the output not written, 2 where the words are none of these.
@@ -67,6 +68,14 @@ static int call(int count, char **words, uint8_t *output, size_t room, size_t *l
     if (count >= 3 && count < 4099 && !strcmp(name, "split")) {
         struct cadf_bytes by = word(words[1]), log = word(words[2]);
         return cadf_split(&by, files(count - 3, words + 3), count - 3, &log, output, room, length);
+    }
+    if (count >= 2 && count < 4098 && !strcmp(name, "prove")) {
+        const struct cadf_bytes *inputs = files(count - 1, words + 1);
+        return cadf_prove(inputs, inputs + 1, count - 2, output, room, length);
+    }
+    if (count == 4 && (!strcmp(name, "verify") || !strcmp(name, "absent"))) {
+        const struct cadf_bytes *inputs = files(3, words + 1);
+        return cadf_verify(name[0] == 'a', inputs, inputs + 1, inputs + 2, output, room, length);
     }
     if (!first.bytes && count > 1) {
         first = file(words[is_of_two ? 1 : count - 1]);

@@ -88,6 +88,12 @@ static const struct cadf_bytes g = TEXT("g"), h = TEXT("h"), key = TEXT("name"),
 #define B_SEAL "CADF-SEAL 1\nL \"g\"\nN 1\nR 0219e6711fc48070eae5013c45fe272208a39a140b050cbad62bc9ae41505858\n" \
     "Z 7f095e574edd8201ae6470f42794ba8193ddcd1a7e810ebba8dab62418fe7268\n"
 
+#define B_PROOF "CADF-PROOF 1\nL \"g\"\nN 1\nP 0 996bc98dddbb85f9086eaa19d3baa801145d5cee05855ba7b6536a33eeb07b11\n" \
+    "Z e97cc53100d046c9035b96125d38078221c6be1cd476ce9df89e4d9b3a833843\n"
+#define BOTH_PROOF "CADF-PROOF 1\nL \"g\"\nN 2\nP 1 d887dfc183257ab7b6690a08aa6a376f17bb1a76c5ceefb71bc319bd3f703cf1\n" \
+    "H 0219e6711fc48070eae5013c45fe272208a39a140b050cbad62bc9ae41505858\n" \
+    "Z 779bc469c14a44469db2b8be65d7b436fbc691eda2da2b968f75e7589e7f117e\n"
+
 #define SKETCH_OF(layout, cells, digest) "CADF-SKETCH 1\nL \"g\"\nS " layout " a50c88d1acddfe24de2cc6470468677d07207dc1b6d3e11fe4484f4c3585dda7\n" \
     "C 1 1 0 0 1 1 0 0 1 0 1 1 0 1 0 1 1 1 1 0 0 1 0 0 1 1 0 0 0 1 1 0 1 " \
     "1 1 0 1 1 1 0 1 1 0 1 1 1 0 1 1 1 0 0 0 0 1 0 1 1 1 1 1 1 0 0 1\n" \
@@ -99,6 +105,7 @@ static const struct cadf_bytes g = TEXT("g"), h = TEXT("h"), key = TEXT("name"),
 #define OWN_SKETCH SKETCH_OF("3 11893031150108409381", B_CELL B_CELL B_CELL, "697cb959e6ee2f0916b20a10e7d63d15f7b48e930d4ecf568500782a4520674d")
 
 static const struct cadf_bytes both = TEXT(BOTH_FILE), b_inventory = TEXT(B_INVENTORY);
+static const struct cadf_bytes b_seal = TEXT(B_SEAL), b_proof = TEXT(B_PROOF), both_proof = TEXT(BOTH_PROOF);
 static const struct cadf_bytes b_sketch = TEXT(B_SKETCH), few_sketch = TEXT(FEW_SKETCH);
 
 /* A log with a property that is nested so deep. */
@@ -144,6 +151,17 @@ CALL(lists, cadf_inventory(&b_log, OUT))
 CALL(lists_cut, cadf_inventory(&cut, OUT))
 CALL(seals, cadf_seal(&b_log, OUT))
 CALL(seals_cut, cadf_seal(&cut, OUT))
+CALL(proves_nothing, cadf_prove(&a_log, NULL, 0, OUT))
+CALL(proves_no_facts, cadf_prove(NULL, &b_log, 1, OUT))
+CALL(verifies, cadf_verify(false, &b_seal, &b_log, &b_proof, OUT))
+CALL(verifies_absent, cadf_verify(true, &b_seal, &a_log, &b_proof, OUT))
+CALL(verifies_but_absent, cadf_verify(false, &b_seal, &a_log, &b_proof, OUT))
+CALL(verifies_but_present, cadf_verify(true, &b_seal, &b_log, &b_proof, OUT))
+CALL(verifies_other_count, cadf_verify(false, &b_seal, &b_log, &both_proof, OUT))
+CALL(verifies_other, cadf_verify(false, &b_seal, &other_log, &b_proof, OUT))
+CALL(verifies_cut, cadf_verify(false, &cut, NULL, NULL, OUT))
+CALL(verifies_no_facts, cadf_verify(false, &b_seal, NULL, &b_proof, OUT))
+CALL(verifies_no_proof, cadf_verify(false, &b_seal, &b_log, NULL, OUT))
 CALL(rules, cadf_rule('P', &key, 1, &both, OUT))
 CALL(rules_no_value, cadf_rule('P', &key, 9, &both, OUT))
 CALL(rules_no_letter, cadf_rule('X', &control, 0, &cut, OUT))
@@ -194,6 +212,17 @@ CALL(splits_unit_no_text, parted(&latin, &cut, NULL, OUT))
 CALL(splits_no_log, parted(&day, &cut, &control, OUT))
 CALL(splits_nothing, cadf_split(&day, NULL, 0, NULL, OUT))
 
+static int proved(const struct cadf_bytes *facts, const struct cadf_bytes *first, uint8_t *output, size_t room, size_t *length)
+{
+    const struct cadf_bytes inputs[] = {*first, b_log};
+    return cadf_prove(facts, inputs, sizeof inputs / sizeof *inputs, output, room, length);
+}
+
+CALL(proves, proved(&a_log, &a_log, OUT))
+CALL(proves_absent, proved(&a_log, &b_log, OUT))
+CALL(proves_other, proved(&other_log, &a_log, OUT))
+CALL(proves_cut, proved(&a_log, &cut, OUT))
+
 struct expected {
     const char *name;
     call *call;
@@ -230,6 +259,21 @@ static const struct expected rows[] = {
     ROW(lists_cut, 1, "input 1: not JSON"),
     ROW(seals, 0, B_SEAL),
     ROW(seals_cut, 1, "input 1: not JSON"),
+    ROW(proves, 0, BOTH_PROOF),
+    ROW(proves_absent, 0, B_PROOF),
+    ROW(proves_other, 1, "input 1: other log"),
+    ROW(proves_cut, 1, "input 2: not JSON"),
+    ROW(proves_nothing, 1, "no log named"),
+    ROW(proves_no_facts, 1, "input 1: not JSON"),
+    ROW(verifies, 0, "present P \"name\"\n"),
+    ROW(verifies_absent, 0, "absent P \"name\"\n"),
+    ROW(verifies_but_absent, 1, "fact 1: absent"),
+    ROW(verifies_but_present, 1, "fact 1: present"),
+    ROW(verifies_other_count, 1, "input 3: other count"),
+    ROW(verifies_other, 1, "input 2: other log"),
+    ROW(verifies_cut, 1, "input 1: truncated"),
+    ROW(verifies_no_facts, 1, "input 2: not JSON"),
+    ROW(verifies_no_proof, 1, "input 3: truncated"),
     ROW(rules, 0, RULED_FILE),
     ROW(rules_no_value, 1, "no such value"),
     ROW(rules_no_letter, 2, "letter"),

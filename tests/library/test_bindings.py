@@ -185,7 +185,7 @@ class InProcess:
 
         found = Call(words)  # Usage: the words are no call
         self.command, self.log = found.command.decode().replace("-", "_"), found.log
-        self.names, self.conflicts = list(found.files), found.flag
+        self.names, self.flag = list(found.files), found.flag
         self.texts = [files.get(name, DIRECTORY) for name in self.names]
         self.ruling = found.ruling if self.command == "rule" else None
         self.unit = found.unit
@@ -193,7 +193,8 @@ class InProcess:
         self.sketched = [chosen(found.given.get(option)) for option in (b"--cells", b"--salt")]
         if DIRECTORY in self.texts or self.command not in _library.FUNCTIONS:
             raise Usage  # a file that can't be read: the library reads none
-        if self.command not in ("join", "split") and len(self.names) != (2 if self.command.startswith("missing") else 1):
+        many, two = ("join", "split", "prove", "verify"), self.command.startswith("missing")
+        if self.command not in many and len(self.names) != (2 if two else 1):
             raise Usage  # a union: the library joins by a call of its own
 
     def in_python(self):
@@ -210,7 +211,9 @@ class InProcess:
             "sketch": lambda: cadf.sketch(first, *(number or None for number in self.sketched)),
             "inventory": lambda: cadf.inventory(first),
             "seal": lambda: cadf.seal(first),
-            "show": lambda: cadf.show(first, self.conflicts),
+            "prove": lambda: cadf.prove(first, self.texts[1:]),
+            "verify": lambda: cadf.verify(*self.texts, self.flag),
+            "show": lambda: cadf.show(first, self.flag),
             "check": lambda: cadf._call("check", 16, cadf._given(first)),
             "rule": lambda: cadf.rule(self.ruling[0], self.ruling[1], number(self.ruling[2].encode()), first),
             "rehearse": lambda: cadf.rehearse(self.log.decode(), self.sites, first),
@@ -229,7 +232,9 @@ class InProcess:
                   "sketch": [b"%d" % number for number in self.sketched]}.get(self.command, [])
         if self.ruling:
             before = [self.ruling[0].encode(), self.ruling[1].encode(), b"%d" % number(self.ruling[2].encode())]
-        name = "conflicts" if self.conflicts else self.command.replace("_", "-")
+        name = self.command.replace("_", "-")
+        if self.flag:
+            name = {"show": "conflicts", "verify": "absent"}[name]
         return [name.encode(), *before, *self.names]
 
 

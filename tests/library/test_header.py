@@ -124,6 +124,9 @@ def test_order_in_python(monkeypatch):
     cadf.rule("E", "k", 7, "v")
     cadf.rehearse("g", 2, "s")
     cadf.sketch("v", 3, 1)
+    cadf.prove("f", ["a", "b"])
+    cadf.verify("s", "f", "p", True)
     assert given == [("missing", (b"a", b"b")), ("missing_by", (b"a", b"b")), ("missing_by_sketch", (b"a", b"b")),
                      ("join", ((b"a", b"b"), 2, b"g")), ("split", (b"day", (b"a", b"b"), 2, b"g")),
-                     ("rule", (ord("E"), b"k", 7, b"v")), ("rehearse", (b"g", 2, b"s")), ("sketch", (3, 1, b"v"))]
+                     ("rule", (ord("E"), b"k", 7, b"v")), ("rehearse", (b"g", 2, b"s")), ("sketch", (3, 1, b"v")),
+                     ("prove", (b"f", (b"a", b"b"), 2)), ("verify", (True, b"s", b"f", b"p"))]

@@ -23,7 +23,7 @@ from typing import Any, Dict, Iterable, List, NamedTuple, Optional, Tuple, Type,
 from . import _library
 
 __all__ = ["CadfError", "Check", "OutOfMemory", "Refused", "WrongArgument", "check", "inventory", "join", "missing", "missing_by",
-           "missing_by_sketch", "rehearse", "rule", "seal", "show", "sketch", "split", "version"]
+           "missing_by_sketch", "prove", "rehearse", "rule", "seal", "show", "sketch", "split", "verify", "version"]
 
 Input = Union[bytes, bytearray, memoryview, str]
 
@@ -42,7 +42,8 @@ class CadfError(Exception):
     """Why a call made nothing: the command's line on standard error, without `cadf: `.
 
     `status` is the exit status of the command, for which each class derived from this one stands. `input` is the number of
-    the refused input, from 1, and `place` is where in it, as `line 5` or `event 2`; each is None if the text names none.
+    the refused input, from 1, and `place` is where in it, as `line 5`, `event 2` or `fact 3`; each is None if the text names
+    none.
     """
 
     status: int
@@ -247,6 +248,25 @@ def seal(value: Input) -> bytes:
     Refused: the input is refused. OutOfMemory.
     """
     return _call("seal", _ROOM, _given(_of(value)))
+
+
+def prove(facts: Input, inputs: Iterable[Input]) -> bytes:
+    """Returns the proof file, under the seal of all inputs, of which facts they have and which they don't.
+
+    Refused: `facts` or an input is refused, or is of another log, or no input names a log. `facts` is input 1. OutOfMemory.
+    """
+    asked, texts = _of(facts), _texts(inputs)
+    return _call("prove", _ROOM + 4 * len(asked), _given(asked), *_listed(texts))
+
+
+def verify(seal: Input, facts: Input, proof: Input, absent: bool = False) -> bytes:
+    """Returns a line for each fact: by the proof it is among what was sealed; with `absent` it isn't.
+
+    Refused: one of them is refused or of another log, a fact isn't as asked, or the proof doesn't show it, with its number
+    in `place`. OutOfMemory.
+    """
+    texts = _of(seal), _of(facts), _of(proof)
+    return _call("verify", _room(texts[1]), bool(absent), *map(_given, texts))
 
 
 def show(value: Input, conflicts: bool = False) -> bytes:

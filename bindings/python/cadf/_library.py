@@ -28,6 +28,8 @@ FUNCTIONS: Dict[str, List[Any]] = {
     "sketch": [ctypes.c_uint64, ctypes.c_uint64, *_INPUT],
     "inventory": _INPUT,
     "seal": _INPUT,
+    "prove": [*_INPUT * 2, ctypes.c_size_t],
+    "verify": [ctypes.c_bool, *_INPUT * 3],
     "rule": [ctypes.c_uint8, *_INPUT, ctypes.c_uint64, *_INPUT],
     "rehearse": [*_INPUT, ctypes.c_uint64, *_INPUT],
 }

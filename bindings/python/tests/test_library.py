@@ -27,6 +27,7 @@ class Calls(unittest.TestCase):
         with self.assertRaises(cadf.CadfError) as caught:
             call(*arguments, **named)
         self.assertEqual((caught.exception.status, caught.exception.text), (status, text))
+        return caught.exception
 
     def test_version(self):
         self.assertEqual(len(cadf.version()), 3)
@@ -63,6 +64,20 @@ class Calls(unittest.TestCase):
         self.assertTrue(seal.startswith(b'CADF-SEAL 1\nL "g"\nN 2\nR '))
         self.assertNotEqual(seal, cadf.seal(A))
         self.refuses(1, "input 1: version", cadf.seal, seal)
+
+    def test_facts_are_shown(self):
+        both = [A, B]
+        seal, proof = cadf.seal(cadf.join(both)), cadf.prove(A, both)
+        self.assertTrue(proof.startswith(b'CADF-PROOF 1\nL "g"\nN 2\nP '))
+        self.assertEqual(proof, cadf.prove(A, [cadf.join(both)]))
+        self.assertEqual(cadf.verify(seal, A, proof), b'present P "name"\n')
+        self.assertEqual(self.refuses(1, "fact 1: present", cadf.verify, seal, A, proof, True).place, "fact 1")
+        absent = cadf.prove(A, [B])
+        self.assertEqual(cadf.verify(cadf.seal(B), A, absent, absent=True), b'absent P "name"\n')
+        self.refuses(1, "fact 1: absent", cadf.verify, cadf.seal(B), A, absent)
+        self.refuses(1, "input 3: other count", cadf.verify, seal, A, absent)
+        self.refuses(1, "input 1: other log", cadf.prove, '{"id":"h","events":[]}', both)
+        self.refuses(1, "no log named", cadf.prove, A, [])
 
     def test_a_sketch_gives_the_same_delta(self):
         delta, sketch = cadf.missing(A, B), cadf.sketch(B)
