@@ -8,7 +8,9 @@ from tests.machine import ended
 MADE = {"one.cadf": "join log.json", "two.cadf": "join other.json", "both.cadf": "join one.cadf two.cadf",
         "deep.cadf": "join deep.json", "two.inventory": "inventory two.cadf", "no.cadf": "join small.json",
         "no.inventory": "inventory small.json", "two.sketch": "sketch --cells 20001 two.cadf",
-        "no.sketch": "sketch --cells 3 small.json"}
+        "no.sketch": "sketch --cells 3 small.json", "one.seal": "seal one.cadf", "one.proof": "prove one.cadf one.cadf",
+        "no.seal": "seal small.json", "no.proof": "prove small.json small.json", "deep.seal": "seal deep.cadf",
+        "deep.proof": "prove deep.json deep.cadf"}
 PLAN = "learn 0 %s\nask 1\nanswer 0 1\ndeliver 2 1\n"
 EVENTS = 2500
 

@@ -10,7 +10,10 @@ MADE = {"log.cadf": "join log.json", "other.cadf": "join other.json", "both.cadf
         "chains.cadf": "join chain.json chains.json", "conflict.cadf": "join chain.json failed.json", "tagged.cadf": "join tagged.json",
         "facts.cadf": "join north.json south.json", "one.inventory": "inventory one.cadf",
         "ruled.cadf": "rule E e1 1 conflict.cadf", "log.sketch": "sketch --cells 12 log.json",
-        "few.sketch": "sketch --cells 3 --salt 1 log.json", "one.sketch": "sketch --cells 12 one.cadf"}
+        "few.sketch": "sketch --cells 3 --salt 1 log.json", "one.sketch": "sketch --cells 12 one.cadf",
+        "log.seal": "seal log.json", "both.seal": "seal both.cadf", "one.seal": "seal one.cadf", "many.seal": "seal many.cadf",
+        "both.proof": "prove both.cadf both.cadf", "event.proof": "prove event.json both.cadf", "chains.proof": "prove chains.cadf one.cadf",
+        "many.proof": "prove many.cadf many.cadf"}
 
 
 def event(number, **more):
@@ -70,7 +73,8 @@ def changed(whole):
 def inputs_of(name, whole):
     """Further inputs that a whole one gives, by name: a replica file of format 1, and damaged ones."""
     if not name.endswith(".cadf"):
-        return {name.replace("log", "cut"): whole[:-9]} if name.startswith("log.") else {}
+        front, kind = name.split(".")
+        return {"cut." + kind: whole[:-9]} if front == ("both" if kind == "proof" else "log") else {}
     old = in_format(1, whole)
     found = {name.replace(".cadf", ".1.cadf"): old}
     if name == "both.cadf":

@@ -16,6 +16,9 @@ import pytest
 from tests.command.commands import COMMANDS, PIECES, lines
 from tests.command.large_inputs import prepare
 from tests.machine import Answer, ended, untold
+from tests.reference.inventory_files import digest_of
+from tests.reference.seal_files import shown_root
+from tests.reference.sealed_files import sealed
 
 MOST = 64 * 1024  # KB of address space: enough for all
 FINE, COARSE = 4, 512  # KB between limits: just above the loader's, and from there on
@@ -23,6 +26,7 @@ ENOUGH = 4  # right answers in a row, under growing limits
 STACK = 256  # KB
 GREATEST = 2**30  # bytes of an input
 TINY = 1000000  # tiny objects
+LEAVES = 2**64 - 1
 SHARED, SHARING = 200000, 500  # bytes of a step, and how many chains share it: a text of 100 MB
 URI = "http://schemas.dmtf.org/cloud/audit/1.0/"
 MEMORY, WRITE_FAULT = b"cadf: out of memory\n", b"cadf: write fault\n"
@@ -173,6 +177,8 @@ def test_shared_steps(folder, under):
     ("show zeros", "small.json", 1, b"not JSON", None),
     ("missing-by small.json zeros", "no.inventory", 2, b"trailing bytes", MOST),
     ("missing-by-sketch small.json zeros", "no.sketch", 2, b"trailing bytes", MOST),
+    ("verify zeros small.json no.proof", "no.seal", 1, b"trailing bytes", MOST),
+    ("verify no.seal small.json zeros", "no.proof", 3, b"trailing bytes", MOST),
 ])
 @pytest.mark.parametrize("size", [GREATEST, GREATEST + 1])
 def test_greatest_size(folder, under, line, front, number, fault, room, size):
@@ -189,6 +195,19 @@ def test_announced_cells(folder, under):
     (folder / "announced.sketch").write_bytes(sketch.replace(b"S 3 ", b"S 12582912 "))
     got = under('ulimit -v %d; exec "$@"' % MOST, "missing-by-sketch small.json announced.sketch")
     assert got == Answer(1, b"", b"cadf: input 2: line 7: unended\n")
+
+
+def test_announced_leaves(folder, under):
+    """A seal and a proof of the greatest number of leaves take the memory and the time of short ones: 64 hashes show one leaf."""
+    fact = ("P", "p", "1")
+    leaf, hidden = bytes.fromhex(digest_of(fact).decode()), [bytes([number]) * 32 for number in range(64)]
+    root = shown_root(0, LEAVES, {0: leaf}, iter(hidden))
+    shown = [b"P 0 " + leaf.hex().encode(), *(b"H " + each.hex().encode() for each in hidden)]
+    for name, rest in (("far.seal", [b"R " + root.hex().encode()]), ("far.proof", shown)):
+        (folder / name).write_bytes(sealed([b"CADF-%s 1" % name[4:].upper().encode(), b'L "g"', b"N %d" % LEAVES, *rest]))
+    (folder / "fact.json").write_text('{"id":"g","events":[],"p":1}')
+    got = under('ulimit -v %d; ulimit -t 5; exec "$@"' % MOST, "verify far.seal fact.json far.proof")
+    assert got == Answer(0, b'present P "p"\n', b"")
 
 
 @pytest.mark.parametrize("line", lines("deep", COMMANDS))

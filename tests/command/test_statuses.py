@@ -34,8 +34,10 @@ FILES = {
     "bad.script": "ask 0\nask 00\nask 9\n",
     "far.script": "ask 1\n",
 }
-VECTORS = ["event.json", "north.cadf"] + [name + ".sketch" for name in
-                                          ("few", "nothing", "other-log", "even-salt", "further-cell", "missing-cell")]
+VECTORS = ["event.json", "north.cadf", "size-1.json", "asked.json", "not-there.json", "size-8.json"]
+VECTORS += [name + ".sketch" for name in ("few", "nothing", "other-log", "even-salt", "further-cell", "missing-cell")]
+VECTORS += [name + ".seal" for name in ("size-7", "size-8", "other-root", "other-log", "no-root")]
+VECTORS += [name + ".proof" for name in ("there", "not-there", "size-8", "falling", "missing-hash")]
 # A command line, its exit status, and what is wrong.
 ENDS = [
     ("show log.json", 0, ""),
@@ -50,6 +52,34 @@ ENDS = [
     ("missing-by log.json none.cadf", 0, ""),
     ("sketch log.json", 0, ""),
     ("seal log.json", 0, ""),
+    ("prove log.json log.json", 0, ""),
+    ("prove event.json new.cadf", 0, ""),
+    ("prove asked.json size-8.json", 0, ""),
+    ("verify size-8.seal size-1.json there.proof", 0, ""),
+    ("verify --absent size-8.seal not-there.json not-there.proof", 0, ""),
+    ("verify --absent size-8.seal size-1.json there.proof", 1, "fact 1: present"),
+    ("verify size-8.seal not-there.json not-there.proof", 1, "fact 1: absent"),
+    ("verify size-8.seal asked.json size-8.proof", 1, "fact 2: absent"),
+    ("verify size-8.seal asked.json there.proof", 1, "fact 2: not shown"),
+    ("verify size-8.seal size-1.json size-8.proof", 1, "input 3: line 5: not needed"),
+    ("verify size-7.seal size-1.json there.proof", 1, "input 3: other count"),
+    ("verify other-root.seal size-1.json there.proof", 1, "input 3: other root"),
+    ("verify size-8.seal size-1.json missing-hash.proof", 1, "input 3: other root"),
+    ("verify size-8.seal other.json there.proof", 1, "input 2: other log"),
+    ("verify other-log.seal event.json there.proof", 1, "input 3: other log"),
+    ("verify no-root.seal absent.json there.proof", 3, "input 2: read fault"),
+    ("verify no-root.seal cut.json there.proof", 1, "input 1: line 3: unended"),
+    ("verify size-8.seal cut.json falling.proof", 1, "input 2: not JSON"),
+    ("verify size-8.seal size-1.json falling.proof", 1, "input 3: line 5: order"),
+    ("verify size-1.json size-1.json there.proof", 1, "input 1: version"),
+    ("verify size-8.seal there.proof there.proof", 1, "input 2: version"),
+    ("verify size-8.seal size-1.json size-8.seal", 1, "input 3: version"),
+    ("prove size-8.seal size-8.json", 1, "input 1: version"),
+    ("prove log.json event.json", 1, "no log named"),
+    ("prove other.json log.json", 1, "input 1: other log"),
+    ("prove other.json log.json other.json", 1, "input 3: other log"),
+    ("prove cut.json version.cadf", 1, "input 1: not JSON"),
+    ("prove cut.json log.json absent.json", 3, "input 3: read fault"),
     ("sketch --cells 3 --salt 18446744073709551615 old.cadf", 0, ""),
     ("missing-by-sketch log.json nothing.sketch", 0, ""),
     ("missing-by-sketch north.cadf few.sketch", 1, "input 2: too few cells: ask for 57"),
