@@ -8,7 +8,6 @@ import resource
 import pytest
 
 from tests import TOP
-from tests.generated.compare import commands_of
 from tests.reference.events import Fault, document
 from tests.reference.replica_files import file_of
 from tests.reference.sealed_files import sealed
@@ -17,8 +16,8 @@ from tests.reference.site_proof_files import read_site_proof, site_proof_of, sit
 from tests.reference.site_seal_files import read_site_seal, site_seal_of
 from tests.reference.split_files import parts_of
 from tests.tools.copies import copied
-from tests.tools.test_seal import DAMAGED, EVENT, HEAD, MOST, NO_SEAL, ROOT, Seals, cadf_seals, io_of, with_digest
-from tests.tools.test_site_folders import DAYS, Site, atoms_of, contents
+from tests.tools.test_seal import DAMAGED, EVENT, HEAD, MOST, NO_SEAL, ROOT, Seals, cadf_seals, command, io_of, with_digest
+from tests.tools.test_site_folders import DAYS, atoms_of, contents
 
 HELD = [contents(0, 2, name="n"), contents(1, 3, 4)]
 ASKED = contents(0, 2, name="n")  # all of it is held
@@ -26,24 +25,6 @@ NOT_HELD = contents(6, 8, name="m", resources=[{"id": "r"}])
 LATER = {"id": "g", "events": [dict(EVENT, id="e0", eventTime="2024-03-05T00:00:00Z")]}  # of a window that isn't there
 PROOF_HEAD = HEAD.replace("SEAL", "PROOF")
 OTHER_PROOF = "no proof of a folder, as `cadf-seal --prove FACTS SITE/` writes it"
-# A command that makes proofs: those by the second implementation, all else by the command that is tried.
-BOTH = """#!/bin/sh
-case $1 in
-    prove | verify) exec '%s' "$@" ;;
-esac
-exec '%s' "$@"
-"""
-
-
-@pytest.fixture(autouse=True)
-def command(cadf, monkeypatch, tmp_path_factory):
-    """Has the tools run the command that is tried. While it makes no proofs, the second implementation makes them."""
-    if "prove" not in commands_of(cadf):
-        path = tmp_path_factory.mktemp("both") / "cadf"
-        path.write_text(BOTH % (os.path.join(TOP, "tests", "reference", "cadf"), cadf))
-        path.chmod(0o755)
-        cadf = str(path)
-    monkeypatch.setattr(Site, "command", cadf)
 
 
 class Proofs(Seals):
