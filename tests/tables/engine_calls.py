@@ -270,6 +270,7 @@ for command, inputs, output, at_once in WRITTEN:
 # A command, its readers, and its fault by name, where the first write would fail: nothing is written before all else.
 FAILING, GOOD, EVENT, BAD = reader(EMPTY_LOG, ALL, 1), reader(EMPTY_LOG), reader(V1), reader("{")
 OTHER, OTHER_NOTED, OTHER_SKETCHED = reader(OTHER_LOG), reader(inventory(log="h")), reader(sketched.sketch(3, 1, log="h"))
+ONE_SEALED, ONE_PROVED = reader(seal(digits(C1))), reader(proof([digits(C1)], [digits(C1)]))
 SEALED_NONE, OTHER_PROVED = reader(seal()), reader(proof([], [], log='"h"'))
 NOT_JSON_1, NOT_JSON_2 = ["Input", 1, "Json", "NotJson"], ["Input", 2, "Json", "NotJson"]
 IN_ORDER = [
@@ -340,6 +341,13 @@ IN_ORDER = [
     ("verify", [SEALED_NONE, OTHER, SEALED_NONE], ["Input", 3, "File", "Version"]),
     ("verify", [SEALED_NONE, OTHER, OTHER_PROVED], ["OtherLog", 2]),
     ("verify", [SEALED_NONE, EVENT, OTHER_PROVED], ["OtherLog", 3]),
+    ("verify", [SEALED_NONE, EVENT, ONE_PROVED], ["Unverified", "OtherCount"]),
+    ("verify", [ONE_SEALED, EVENT, reader(proof([digits(C2)], [digits(C2)]))], ["Unverified", "OtherRoot"]),
+    ("verify", [ONE_SEALED, EVENT, reader(proof([], [digits(C1)]))], ["Unverified", "NotShown", 1]),
+    ("verify", [ONE_SEALED, GOOD, ONE_PROVED], ["Unverified", "NotNeeded", 4]),
+    ("verify", [SEALED_NONE, EVENT, reader(proof([], []))], ["Unverified", "Absent", 1]),
+    ("verify --absent", [ONE_SEALED, EVENT, ONE_PROVED], ["Unverified", "Present", 1]),
+    ("verify", [ONE_SEALED, EVENT, ONE_PROVED], ["WriteFault"]),
     ("show", [FAILING], ["ReadFault", 1]),
     ("show", [BAD], NOT_JSON_1),
     ("show", [EVENT], ["NoLog"]),

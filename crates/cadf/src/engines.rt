@@ -7,8 +7,8 @@ use cadf_arguments::{read_key, read_log, read_unit};
 use cadf_json::{FromStd, Sink};
 use cadf_tool::{
     ToolFault, run_check_union, run_inventory_union, run_join, run_missing_by_sketch_union,
-    run_missing_by_union, run_missing_unions, run_rehearse, run_rule_union, run_seal_union,
-    run_show_union, run_sketch_union, run_split,
+    run_missing_by_union, run_missing_unions, run_prove, run_rehearse, run_rule_union,
+    run_seal_union, run_show_union, run_sketch_union, run_split, run_verify,
 };
 use cadf_words::Request;
 use std::alloc::Global;
@@ -134,6 +134,38 @@ fn seal<W: Sink>(rt: &HostRuntime, paths: &[&str], output: &mut W) -> Result<(),
     Ok(run_seal_union(rt.alloc(), inputs.as_mut_slice(), output)?)
 }
 
+/// Runs `prove` on a file of facts and on files.
+fn prove<W: Sink>(
+    rt: &HostRuntime,
+    facts: &str,
+    paths: &[&str],
+    output: &mut W,
+) -> Result<(), Stop> {
+    let mut facts = open(rt, facts, 1)?;
+    let mut inputs = open_all(rt, rt.alloc(), 1, paths)?;
+    Ok(run_prove(rt.alloc(), &mut facts, inputs.as_mut_slice(), output)?)
+}
+
+/// Runs `verify` on the files of a seal, of facts and of a proof.
+fn verify<W: Sink>(
+    rt: &HostRuntime,
+    absent: bool,
+    paths: [&str; 3],
+    output: &mut W,
+) -> Result<(), Stop> {
+    let mut seal = open(rt, paths[0], 1)?;
+    let mut facts = open(rt, paths[1], 2)?;
+    let mut proof = open(rt, paths[2], 3)?;
+    Ok(run_verify(
+        rt.alloc(),
+        &mut seal,
+        &mut facts,
+        &mut proof,
+        absent,
+        output,
+    )?)
+}
+
 /// Runs `rule` on files. `ruling` is the letter, the key and the place.
 fn rule<W: Sink>(
     rt: &HostRuntime,
@@ -208,6 +240,13 @@ pub(crate) fn run_engine<W: Sink>(
             missing_by_sketch(rt, from.as_slice(), sketch, output)
         }
         Request::Seal { files } => seal(rt, files.as_slice(), output),
+        Request::Prove { facts, files } => prove(rt, facts, files.as_slice(), output),
+        Request::Verify {
+            absent,
+            seal,
+            facts,
+            proof,
+        } => verify(rt, *absent, [seal, facts, proof], output),
         Request::Rule {
             letter,
             key,
