@@ -2,14 +2,17 @@
 ghost use Rattle.std.specs.Prelude.{◌≡◌, true, IfOk, IfErr};
 ghost use Rattle.cadf_tool.specs.Join.{join_of};
 ghost use Rattle.cadf_tool.specs.WrittenFile.{file};
+ghost use Rattle.cadf_tool.specs.Run.{input_spec};
+ghost use Rattle.cadf_tool.specs.Prove.{proof_of_union};
+ghost use Rattle.cadf_seal.specs.ProofFile.{proof_file};
 ghost use Rattle.cadf_split.specs.Split.{split_text};
 ghost use Rattle.cadf_memory.specs.Memory.{bytes_of};
 ghost use Rattle.cadf_memory.specs.Handed.{IsHandedOut};
-ghost use Rattle.cadf_memory.specs.Made.{IsMadeOfAll};
-ghost use Rattle.cadf_memory.specs.Refused.{is_of_memory, IsFirstOfAll};
+ghost use Rattle.cadf_memory.specs.Made.{IsMadeOfAll, IsMadeOfOneAndAll};
+ghost use Rattle.cadf_memory.specs.Refused.{is_of_memory, IsFirstOfAll, IsFirstOfOneAndAll};
 ghost use Rattle.cadf_c.specs.Inputs.{bytes_in};
 
-use cadf_memory::{Name, ToolFault, Unit, join, split};
+use cadf_memory::{Name, ToolFault, Unit, join, prove, split};
 use std::alloc::{AllocError as Memory, Global};
 
 /// Bytes of the caller's: an address and a length.
@@ -62,6 +65,24 @@ pub(crate) fn split_inputs(
 {
     match slices(alloc, inputs) {
         Ok(slices) => split(alloc, unit, log, slices.as_slice(), output),
+        Err(_) => Err(ToolFault::Memory),
+    }
+}
+
+/// Writes the proof file, under the seal of all of them, for the facts of `facts`, and returns its length.
+#[tactic(auto, using(cadf_memory::proofs::Lists::refused_one_unread))]
+pub(crate) fn prove_inputs(
+    alloc: Global,
+    facts: &[u8],
+    inputs: &[CadfBytes<'_>],
+    output: &mut [u8],
+) -> Result<usize, ToolFault>
+    ensures ok { IfOk result (IsHandedOut (IsMadeOfOneAndAll input_spec proof_of_union proof_file facts.now (bytes_in inputs.now)) output.old output.new) }
+    ensures err { IfErr result (λ fault. IsFirstOfOneAndAll input_spec proof_of_union facts.now (bytes_in inputs.now) fault) }
+    ensures only { IfErr result (λ fault. is_of_memory fault ≡ true) }
+{
+    match slices(alloc, inputs) {
+        Ok(slices) => prove(alloc, facts, slices.as_slice(), output),
         Err(_) => Err(ToolFault::Memory),
     }
 }

@@ -13,7 +13,11 @@ ghost use Rattle.cadf_sketch.specs.SketchFile.{sketch_file};
 ghost use Rattle.cadf_tool.specs.Sketch.{sketch_model_of, IsPartBySketch};
 ghost use Rattle.cadf_tool.specs.SketchInput.{sketch_spec};
 ghost use Rattle.cadf_seal.specs.SealFile.{seal_file};
+ghost use Rattle.cadf_seal.specs.ProofFile.{proof_file};
 ghost use Rattle.cadf_tool.specs.Seal.{seal_model_of};
+ghost use Rattle.cadf_tool.specs.SealInput.{seal_spec, proof_spec};
+ghost use Rattle.cadf_tool.specs.Prove.{proof_of_union};
+ghost use Rattle.cadf_tool.specs.Verify.{verdict_of};
 ghost use Rattle.cadf_tool.specs.Rule.{ruled_of};
 ghost use Rattle.cadf_tool.specs.Rehearse.{script_spec, final_sites};
 ghost use Rattle.cadf_tool.specs.Sites.{sites_text};
@@ -23,8 +27,8 @@ ghost use Rattle.cadf_split.specs.declared.unit.Unit.{Unit};
 ghost use Rattle.cadf_split.specs.Split.{split_text};
 ghost use Rattle.cadf_arguments.specs.Arguments.{unit_named};
 ghost use Rattle.cadf_memory.specs.Handed.{IsHandedOut};
-ghost use Rattle.cadf_memory.specs.Made.{IsMadeOf, IsMadeOfTwo, IsMadeOfTwoBy, IsMadeOfAll};
-ghost use Rattle.cadf_memory.specs.Refused.{IsFirstOf, IsFirstOfTwo, IsFirstOfTwoBy, IsFirstOfAll};
+ghost use Rattle.cadf_memory.specs.Made.{IsMadeOf, IsMadeOfTwo, IsMadeOfTwoBy, IsMadeOfThree, IsMadeOfAll, IsMadeOfOneAndAll};
+ghost use Rattle.cadf_memory.specs.Refused.{IsFirstOf, IsFirstOfTwo, IsFirstOfTwoBy, IsFirstOfThree, IsFirstOfAll, IsFirstOfOneAndAll};
 ghost use Rattle.cadf_c.specs.Statuses.{IsRefused, IsTold};
 ghost use Rattle.cadf_c.specs.Arguments.{log_given, number_given, log_refused, split_refused, ruling_refused, rehearsal_refused, sketch_refused};
 ghost use Rattle.cadf_c.specs.Inputs.{bytes_in};
@@ -35,10 +39,11 @@ mod output;
 
 use crate::arguments::{log_if_any, rehearsal_given, ruling_given, sketch_given, split_given};
 pub use crate::inputs::CadfBytes;
-use crate::inputs::{join_inputs, split_inputs};
+use crate::inputs::{join_inputs, prove_inputs, split_inputs};
 use crate::output::{answer, refuse};
 use cadf_memory::{
     check, inventory, missing, missing_by, missing_by_sketch, rehearse, rule, seal, show, sketch,
+    verify,
 };
 use std::alloc::Global;
 
@@ -129,6 +134,50 @@ pub extern "C" fn cadf_seal(
     ensures told { IsTold None result output.old output.new length.new }
 {
     let made = seal(alloc, input.bytes, output);
+    answer(made, output, length)
+}
+
+/// Hands out the proof file, under the seal of all inputs, for the facts of `facts`, which is counted first.
+#[tactic(auto, using(crate::proofs::Statuses::refused, crate::proofs::Statuses::answered, crate::proofs::Statuses::argument_refused))]
+#[unsafe(no_mangle)]
+pub extern "C" fn cadf_prove(
+    alloc: Global,
+    facts: &CadfBytes<'_>,
+    inputs: &[CadfBytes<'_>],
+    output: &mut [u8],
+    length: &mut usize,
+) -> i32
+    ensures written { result ≡ pos 0 → IsHandedOut
+        (IsMadeOfOneAndAll input_spec proof_of_union proof_file facts.now.bytes.now (bytes_in inputs.now))
+        output.old output.new length.new }
+    ensures refused { result ≡ pos 1 → IsRefused (IsFirstOfOneAndAll input_spec proof_of_union facts.now.bytes.now (bytes_in inputs.now)) }
+    ensures told { IsTold None result output.old output.new length.new }
+{
+    let made = prove_inputs(alloc, facts.bytes, inputs, output);
+    answer(made, output, length)
+}
+
+/// Hands out a line for each fact of `facts`, if the proof shows under the seal that each is in the sealed set; with
+/// `absent`, that none is.
+#[tactic(auto, using(crate::proofs::Statuses::refused, crate::proofs::Statuses::answered, crate::proofs::Statuses::argument_refused))]
+#[unsafe(no_mangle)]
+pub extern "C" fn cadf_verify(
+    alloc: Global,
+    absent: bool,
+    seal: &CadfBytes<'_>,
+    facts: &CadfBytes<'_>,
+    proof: &CadfBytes<'_>,
+    output: &mut [u8],
+    length: &mut usize,
+) -> i32
+    ensures written { result ≡ pos 0 → IsHandedOut
+        (IsMadeOfThree seal_spec input_spec proof_spec (verdict_of absent) (λ text. text) seal.now.bytes.now facts.now.bytes.now proof.now.bytes.now)
+        output.old output.new length.new }
+    ensures refused { result ≡ pos 1 → IsRefused
+        (IsFirstOfThree seal_spec input_spec proof_spec (verdict_of absent) seal.now.bytes.now facts.now.bytes.now proof.now.bytes.now) }
+    ensures told { IsTold None result output.old output.new length.new }
+{
+    let made = verify(alloc, absent, seal.bytes, facts.bytes, proof.bytes, output);
     answer(made, output, length)
 }
 

@@ -6,7 +6,8 @@ use Rattle.cadf_tool.specs.declared.fault.ToolFault.{ToolFault}
 use Rattle.cadf_tool.specs.declared.fault.ToolFault.TheVariants.{Memory}
 use Rattle.cadf_tool.specs.Inputs.{SourceState, source_state}
 use Rattle.cadf_memory.specs.Memory.{unread}
-use Rattle.cadf_memory.specs.Refused.{NoReadFailed, IsFirstOfAll}
+use Rattle.cadf_memory.specs.Refused.{NoReadFailed, IsFirstOfAll, IsFirstOfOneAndAll}
+use Rattle.cadf_tool.specs.Run.{InputSpec}
 
 same_lists : {T : Type 0} (x y : T) (xs ys : List T) → x ≡ y → xs ≡ ys → x ∷ xs ≡ y ∷ ys
 same_lists x y xs ys e f = cc
@@ -41,4 +42,16 @@ refused_unread work inputs = record {
   before = unread_unfailed inputs;
   after = unread_unfailed inputs;
   first = refl;
+}
+
+pub refused_one_unread : {T M : Type 0} (reader : InputSpec T) (work : T × List Loaded → Result M ToolFault) (bytes : List ℕ)
+    (inputs : List (List ℕ)) → IsFirstOfOneAndAll reader work bytes inputs Memory
+refused_one_unread reader work bytes inputs = record {
+  source = record { source = record { old = unread bytes; new = unread bytes }; left = refl; before = refl; after = refl };
+  old = map unread inputs;
+  new = map unread inputs;
+  left = unread_lefts inputs;
+  before = unread_unfailed inputs;
+  after = unread_unfailed inputs;
+  first = (refl, refl);
 }

@@ -13,7 +13,9 @@ use Rattle.cadf_tool.specs.Run.{
   InputSpec,
   one,
   two,
+  both,
   all,
+  all_from,
   input_spec,
   IsReadAs,
   AreLoaded,
@@ -27,7 +29,8 @@ use Rattle.cadf_tool.specs.Run.{
 use Rattle.cadf_memory.specs.declared.buffer.Buffer.{Buffer}
 use Rattle.cadf_memory.specs.Buffers.{buffer_name, buffer_before, buffer_text}
 use Rattle.cadf_memory.specs.Handed.{handed, IsHandedOut}
-use Rattle.cadf_memory.specs.Made.{IsMadeOf, IsMadeOfTwoBy, IsMadeOfAll, AreInputs}
+use Rattle.cadf_memory.specs.Made.{IsMadeOf, IsMadeOfTwoBy, IsMadeOfThree, IsMadeOfAll, IsMadeOfOneAndAll, AreInputs}
+use Rattle.cadf_memory.specs.Refused.{three}
 use Rattle.cadf_memory.proofs.Framed.{frame, name_kept, before_kept, text_added}
 
 -- what was read of bytes that are known is what they are
@@ -148,3 +151,45 @@ module _ {M W V : Type 0} (tell : M → Text) (sink : Sink W) (old new : W) (v :
     pub run_made_all : IsRun (all source ss rs) work tell sink old new (Ok v)
         → IsHandedOut (IsMadeOfAll work tell inputs) first last told
     run_made_all r = of_expected_all r.expected r.first.is r.answer
+
+  module _ {T U X : Type 0} (i : InputSpec T) (j : InputSpec U) (k : InputSpec X) (work : T × (U × X) → Result M ToolFault)
+      (t u x : SourceTransition) (a b c : List ℕ) (given : t.old.left ≡ Some a) (given' : u.old.left ≡ Some b)
+      (given'' : x.old.left ≡ Some c) where
+    of_expected_three : (expected : Result M ToolFault) → IsExpectedOf (three i t j u k x) work expected
+        → IsAnswer tell sink old new expected (Ok v) → IsHandedOut (IsMadeOfThree i j k work tell a b c) first last told
+    of_expected_three (Ok made) (value, are, e) w =
+        out (IsMadeOfThree i j k work tell a b c) (tell made) w
+        (record {
+          value = value;
+          inputs = (read_of i t a given value.0 are.0, (read_of j u b given' value.1.0 are.1.0, read_of k x c given'' value.1.1 are.1.1));
+          made = made;
+          worked = e;
+          told = refl;
+        })
+    of_expected_three (Err fault) d w = absurd (never fault w.0)
+
+    pub run_made_three : IsRun (three i t j u k x) work tell sink old new (Ok v)
+        → IsHandedOut (IsMadeOfThree i j k work tell a b c) first last told
+    run_made_three r = of_expected_three r.expected r.first.is r.answer
+
+  module _ {T S : Type 0} (reader : InputSpec T) (source : Source S) (work : T × List Loaded → Result M ToolFault) (t : SourceTransition)
+      (ss rs : List S) (bytes : List ℕ) (inputs : List (List ℕ)) (given : t.old.left ≡ Some bytes)
+      (given' : map left_of (map (source_state source) ss) ≡ map Some inputs) where
+    of_expected_one_and_all : (expected : Result M ToolFault) → IsExpectedOf (both (one reader t) (all_from 2 source ss rs)) work expected
+        → IsAnswer tell sink old new expected (Ok v)
+        → IsHandedOut (IsMadeOfOneAndAll reader work tell bytes inputs) first last told
+    of_expected_one_and_all (Ok made) (value, are, e) w =
+        out (IsMadeOfOneAndAll reader work tell bytes inputs) (tell made) w
+        (record {
+          value = value;
+          input = read_of reader t bytes given value.0 are.0;
+          are = are_inputs (map (source_state source) ss) (map (source_state source) rs) inputs value.1 given' are.1;
+          made = made;
+          worked = e;
+          told = refl;
+        })
+    of_expected_one_and_all (Err fault) d w = absurd (never fault w.0)
+
+    pub run_made_one_and_all : IsRun (both (one reader t) (all_from 2 source ss rs)) work tell sink old new (Ok v)
+        → IsHandedOut (IsMadeOfOneAndAll reader work tell bytes inputs) first last told
+    run_made_one_and_all r = of_expected_one_and_all r.expected r.first.is r.answer

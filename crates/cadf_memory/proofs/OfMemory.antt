@@ -19,6 +19,9 @@ use Rattle.cadf_linefile.specs.Verdict as frame
 use Rattle.cadf_linefile.proofs.ReadingLemmas as reading
 use Rattle.cadf_linefile.proofs.RefusedLemmas as refused
 use Rattle.cadf_inventory.specs.InventoryVerdict.{inventory_grammar, inventory_model_or_fault}
+use Rattle.cadf_seal.specs.ModelKind.{ModelKind, grammar_of, model_or_fault}
+use Rattle.cadf_seal.specs.SealVerdict.{seal_kind}
+use Rattle.cadf_seal.specs.ProofVerdict.{proof_kind}
 use Rattle.cadf_sketch.specs.Sketches.{SketchModel}
 use Rattle.cadf_sketch.specs.SketchVerdict.{sketch_grammar, sketch_model_or_fault}
 use Rattle.cadf_tool.specs.declared.input.Loaded.{Loaded}
@@ -43,9 +46,21 @@ use Rattle.cadf_tool.specs.Inputs.{SourceState, IsRefusedWithin}
 use Rattle.cadf_tool.specs.FileKind.{FileKind, IsKindRefusal}
 use Rattle.cadf_tool.specs.InventoryInput.{inventory_kind, inventory_spec}
 use Rattle.cadf_tool.specs.SketchInput.{sketch_kind, sketch_spec}
+use Rattle.cadf_tool.specs.SealInput.{kind_of, seal_spec, proof_spec}
 use Rattle.cadf_tool.specs.Rehearse.{script_spec}
-use Rattle.cadf_tool.specs.Run.{InputSpec, Sources, one, two, input_spec, IsRefusedFirst, IsRefusedAt, IsValue, IsFirstFaultBy}
-use Rattle.cadf_memory.specs.Refused.{is_of_memory, seen_as, NoReadFailed, IsFirstOf, IsFirstOfTwoBy, IsFirstOfAll}
+use Rattle.cadf_tool.specs.Run.{InputSpec, Sources, one, two, both, input_spec, IsRefusedFirst, IsRefusedAt, IsValue, IsFirstFaultBy}
+use Rattle.cadf_memory.specs.Refused.{
+  is_of_memory,
+  three,
+  seen_as,
+  seen_from,
+  NoReadFailed,
+  IsFirstOf,
+  IsFirstOfTwoBy,
+  IsFirstOfThree,
+  IsFirstOfAll,
+  IsFirstOfOneAndAll,
+}
 
 no_count : (old new : ℕ) → old ≡ 0 → new ≡ 0 → new ≡ counted true old → ⊥
 no_count old new o n e =
@@ -87,6 +102,14 @@ sketch_alone limit failed bytes e =
     held (Ok ls) e = absurd (cc)
     held (Err f) e = ap reading.err (same {M = SketchModel} f FileReadFault e)
 
+model_alone : {M : Type 0} (k : ModelKind M) → ReadsAlone (kind_of k)
+model_alone {M} k limit failed bytes e =
+    refused.failed_alone (grammar_of k) limit failed bytes (held (frame.verdict (grammar_of k) limit failed bytes) e)
+  where
+    held : (v : Result (List (List ℕ)) FileFault) → model_or_fault k v ≡ Err FileReadFault → v ≡ reading.err FileReadFault
+    held (Ok ls) e = absurd (cc)
+    held (Err f) e = ap reading.err (same {M = M} f FileReadFault e)
+
 -- ---- a source of which no read fails isn't refused for one
 
 abbrev pub IsSafe : {T : Type 0} → InputSpec T → Type 0
@@ -115,6 +138,12 @@ inventory_safe = kind_never inventory_kind inventory_alone
 pub sketch_safe : IsSafe sketch_spec
 sketch_safe = kind_never sketch_kind sketch_alone
 
+pub seal_safe : IsSafe seal_spec
+seal_safe = kind_never (kind_of seal_kind) (model_alone seal_kind)
+
+pub proof_safe : IsSafe proof_spec
+proof_safe = kind_never (kind_of proof_kind) (model_alone proof_kind)
+
 first_never : (old new : List SourceState) → NoReadFailed old → NoReadFailed new → IsRefusedFirst old new ReadFailed → ⊥
 first_never [] ns a b h = absurd h
 first_never (o ∷ os) [] a b h = absurd h
@@ -125,8 +154,9 @@ unfailed_behind zero ss h = h
 unfailed_behind (suc k) [] h = tt
 unfailed_behind (suc k) (s ∷ ss) h = unfailed_behind k ss h.1
 
-all_never : (old new : List SourceState) → NoReadFailed old → NoReadFailed new → (n : ℕ) → IsRefusedAt 1 old new n ReadFailed → ⊥
-all_never old new a b n h =
+all_never : (first : ℕ) (old new : List SourceState) → NoReadFailed old → NoReadFailed new → (n : ℕ)
+    → IsRefusedAt first old new n ReadFailed → ⊥
+all_never first old new a b n h =
     first_never (drop (length h.before) old) (drop (length h.before) new) (unfailed_behind (length h.before) old a)
     (unfailed_behind (length h.before) new b) h.refused
 
@@ -165,4 +195,27 @@ first_of_memory_two reader other safe safe' work from to fault f =
 pub first_of_memory_all : {M : Type 0} (work : List Loaded → Result M ToolFault) (inputs : List (List ℕ)) (fault : ToolFault)
     → IsFirstOfAll work inputs fault → is_of_memory fault ≡ true
 first_of_memory_all work inputs fault f =
-    of_memory (seen_as f.old f.new) (IsValue work) (all_never f.old f.new f.before f.after) fault f.first
+    of_memory (seen_as f.old f.new) (IsValue work) (all_never 1 f.old f.new f.before f.after) fault f.first
+
+pub first_of_memory_three : {T U V M : Type 0} (i : InputSpec T) (j : InputSpec U) (k : InputSpec V) → IsSafe i → IsSafe j → IsSafe k
+    → (work : T × (U × V) → Result M ToolFault) (a b c : List ℕ) (fault : ToolFault)
+    → IsFirstOfThree i j k work a b c fault → is_of_memory fault ≡ true
+first_of_memory_three i j k safe safe' safe'' work a b c fault f =
+    of_memory (three i f.source.source j f.second_source.source k f.third_source.source) (IsValue work)
+    (λ n h. elim h [
+      | inl x ↦ safe f.source.source.old f.source.source.new f.source.before f.source.after x.0.1
+      | inr x ↦ elim x.1 [
+        | inl y ↦ safe' f.second_source.source.old f.second_source.source.new f.second_source.before f.second_source.after y.0.1
+        | inr y ↦ safe'' f.third_source.source.old f.third_source.source.new f.third_source.before f.third_source.after y.1.1
+      ]
+    ]) fault f.comes
+
+pub first_of_memory_one_and_all : {T M : Type 0} (reader : InputSpec T) → IsSafe reader → (work : T × List Loaded → Result M ToolFault)
+    (bytes : List ℕ) (inputs : List (List ℕ)) (fault : ToolFault)
+    → IsFirstOfOneAndAll reader work bytes inputs fault → is_of_memory fault ≡ true
+first_of_memory_one_and_all reader safe work bytes inputs fault f =
+    of_memory (both (one reader f.source.source) (seen_from 2 f.old f.new)) (IsValue work)
+    (λ n h. elim h [
+      | inl x ↦ safe f.source.source.old f.source.source.new f.source.before f.source.after x.0.1
+      | inr x ↦ all_never 2 f.old f.new f.before f.after n x.1
+    ]) fault f.first

@@ -26,7 +26,9 @@ use Rattle.cadf_tool.specs.Run.{
   Sources,
   one,
   two,
+  both,
   all,
+  all_from,
   IsValue,
   IsFirstFaultBy,
   IsFirstFault,
@@ -36,7 +38,19 @@ use Rattle.cadf_tool.specs.Run.{
   IsRun,
 }
 use Rattle.cadf_tool.proofs.LoadedLists.{none_failed}
-use Rattle.cadf_memory.specs.Refused.{unwritten_of, seen_as, NoReadFailed, IsFirstOf, IsFirstOfTwoBy, IsFirstOfAll}
+use Rattle.cadf_memory.specs.Refused.{
+  unwritten_of,
+  three,
+  seen_as,
+  seen_from,
+  NoReadFailed,
+  UnfailedSource,
+  IsFirstOf,
+  IsFirstOfTwoBy,
+  IsFirstOfThree,
+  IsFirstOfAll,
+  IsFirstOfOneAndAll,
+}
 
 module _ {A M : Type 0} (sources : Sources A) (work : A → Result M ToolFault → Type 0) where
   abbrev IsFirst : ToolFault → Type 0
@@ -82,6 +96,14 @@ module _ {S M : Type 0} (source : Source S) (ss rs : List S) (work : List Loaded
   seen_at fault Working h = h
   seen_at fault Writing h = h
   seen_at fault OutOfMemoryStage h = h
+
+module _ {A S M : Type 0} (first : Sources A) (source : Source S) (ss rs : List S) (work : A × List Loaded → Result M ToolFault) where
+  seen_after : (fault : ToolFault) (s : FaultStage) → IsFirstFault (both first (all_from 2 source ss rs)) work fault s
+      → IsFirstFault (both first (seen_from 2 (map (source_state source) ss) (map (source_state source) rs))) work fault s
+  seen_after fault (Reading n f) h = h
+  seen_after fault Working h = h
+  seen_after fault Writing h = h
+  seen_after fault OutOfMemoryStage h = h
 
 module _ {M W V : Type 0} (tell : M → Text) (sink : Sink W) (old new : W) (fault result : ToolFault)
     (answered : result ≡ unwritten_of fault) where
@@ -133,4 +155,38 @@ module _ {M W V : Type 0} (tell : M → Text) (sink : Sink W) (old new : W) (fau
         first = seen_at source ss rs work (unwritten_of fault) (fault_stage (unwritten_of fault))
             (first_of (all source ss rs) (IsValue work) V tell sink old new fault
             (λ ls are. none_failed (map (source_state source) ss) (map (source_state source) rs) ls are) r);
+      })
+
+  pub run_refused_three : {T U X : Type 0} (i : InputSpec T) (j : InputSpec U) (k : InputSpec X) (work : T × (U × X) → Result M ToolFault)
+      (t u x : SourceTransition) (a b c : List ℕ) → t.old.left ≡ Some a → u.old.left ≡ Some b → x.old.left ≡ Some c
+      → t.old.failures ≡ 0 → t.new.failures ≡ 0 → u.old.failures ≡ 0 → u.new.failures ≡ 0 → x.old.failures ≡ 0 → x.new.failures ≡ 0
+      → IsRun {T = V} (three i t j u k x) work tell sink old new (Err fault) → IsFirstOfThree i j k work a b c result
+  run_refused_three i j k work t u x a b c given given' given'' before after before' after' before'' after'' r =
+      subst (λ (f : ToolFault). IsFirstOfThree i j k work a b c f) (sym answered)
+      (record {
+        source = record { source = t; left = given; before = before; after = after };
+        second_source = record { source = u; left = given'; before = before'; after = after' };
+        third_source = record { source = x; left = given''; before = before''; after = after'' };
+        comes = first_of (three i t j u k x) (IsValue work) V tell sink old new fault (λ a are. (are.0.1, (are.1.0.1, are.1.1.1))) r;
+      })
+
+  pub run_refused_one_and_all : {T S : Type 0} (reader : InputSpec T) (source : Source S) (work : T × List Loaded → Result M ToolFault)
+      (t : SourceTransition) (ss rs : List S) (bytes : List ℕ) (inputs : List (List ℕ)) → t.old.left ≡ Some bytes
+      → t.old.failures ≡ 0 → t.new.failures ≡ 0
+      → map (λ (s : SourceState). s.left) (map (source_state source) ss) ≡ map Some inputs
+      → NoReadFailed (map (source_state source) ss) → NoReadFailed (map (source_state source) rs)
+      → IsRun {T = V} (both (one reader t) (all_from 2 source ss rs)) work tell sink old new (Err fault)
+      → IsFirstOfOneAndAll reader work bytes inputs result
+  run_refused_one_and_all reader source work t ss rs bytes inputs given before after given' before' after' r =
+      subst (λ (f : ToolFault). IsFirstOfOneAndAll reader work bytes inputs f) (sym answered)
+      (record {
+        source = record { source = t; left = given; before = before; after = after };
+        old = map (source_state source) ss;
+        new = map (source_state source) rs;
+        left = given';
+        before = before';
+        after = after';
+        first = seen_after (one reader t) source ss rs work (unwritten_of fault) (fault_stage (unwritten_of fault))
+            (first_of (both (one reader t) (all_from 2 source ss rs)) (IsValue work) V tell sink old new fault
+            (λ a are. (are.0.1, none_failed (map (source_state source) ss) (map (source_state source) rs) a.1 are.1)) r);
       })

@@ -12,7 +12,11 @@ ghost use Rattle.cadf_sketch.specs.SketchFile.{sketch_file};
 ghost use Rattle.cadf_tool.specs.Sketch.{AreAsked, sketch_model_of, IsPartBySketch};
 ghost use Rattle.cadf_tool.specs.SketchInput.{sketch_spec};
 ghost use Rattle.cadf_seal.specs.SealFile.{seal_file};
+ghost use Rattle.cadf_seal.specs.ProofFile.{proof_file};
 ghost use Rattle.cadf_tool.specs.Seal.{seal_model_of};
+ghost use Rattle.cadf_tool.specs.SealInput.{seal_spec, proof_spec};
+ghost use Rattle.cadf_tool.specs.Prove.{proof_of_union};
+ghost use Rattle.cadf_tool.specs.Verify.{verdict_of};
 ghost use Rattle.cadf_tool.specs.Rule.{ruled_of};
 ghost use Rattle.cadf_tool.specs.Rehearse.{script_spec, final_sites};
 ghost use Rattle.cadf_tool.specs.Sites.{sites_text};
@@ -21,8 +25,8 @@ ghost use Rattle.cadf_tool.specs.WrittenFile.{file};
 ghost use Rattle.cadf_split.specs.Split.{split_text};
 ghost use Rattle.cadf_memory.specs.Memory.{bytes_of, slice_left};
 ghost use Rattle.cadf_memory.specs.Handed.{IsHandedOut};
-ghost use Rattle.cadf_memory.specs.Made.{IsMadeOf, IsMadeOfTwo, IsMadeOfTwoBy, IsMadeOfAll};
-ghost use Rattle.cadf_memory.specs.Refused.{is_of_memory, IsFirstOf, IsFirstOfTwo, IsFirstOfTwoBy, IsFirstOfAll};
+ghost use Rattle.cadf_memory.specs.Made.{IsMadeOf, IsMadeOfTwo, IsMadeOfTwoBy, IsMadeOfThree, IsMadeOfAll, IsMadeOfOneAndAll};
+ghost use Rattle.cadf_memory.specs.Refused.{is_of_memory, IsFirstOf, IsFirstOfTwo, IsFirstOfTwoBy, IsFirstOfThree, IsFirstOfAll, IsFirstOfOneAndAll};
 
 use crate::buffer::Buffer;
 use crate::output::unwritten;
@@ -31,7 +35,8 @@ use cadf_event::Name;
 use cadf_sketch::{Cells, Salt};
 use cadf_tool::{
     ToolFault, Unit, run_check, run_inventory, run_join, run_missing, run_missing_by,
-    run_missing_by_sketch, run_rehearse, run_rule, run_seal, run_show, run_sketch, run_split,
+    run_missing_by_sketch, run_prove, run_rehearse, run_rule, run_seal, run_show, run_sketch,
+    run_split, run_verify,
 };
 use std::alloc::{AllocError as Memory, Global};
 
@@ -91,6 +96,38 @@ pub fn seal(alloc: Global, input: &[u8], output: &mut [u8]) -> Result<usize, Too
     let mut source = SliceSource::new(input);
     let mut buffer = Buffer::new(output);
     match run_seal(alloc, &mut source, &mut buffer) {
+        Ok(()) => Ok(buffer.length()),
+        Err(fault) => Err(unwritten(fault)),
+    }
+}
+
+/// Writes a line for each fact of `facts`, if the proof shows under the seal that each is in the sealed set; with
+/// `absent`, that none is. Inputs count from 1: the seal is the first, the proof the last.
+pub fn verify(
+    alloc: Global,
+    absent: bool,
+    seal: &[u8],
+    facts: &[u8],
+    proof: &[u8],
+    output: &mut [u8],
+) -> Result<usize, ToolFault>
+    ensures ok { IfOk result (IsHandedOut (IsMadeOfThree seal_spec input_spec proof_spec (verdict_of absent) (λ text. text) seal.now facts.now proof.now)
+        output.old output.new) }
+    ensures err { IfErr result (λ fault. IsFirstOfThree seal_spec input_spec proof_spec (verdict_of absent) seal.now facts.now proof.now fault) }
+    ensures only { IfErr result (λ fault. is_of_memory fault ≡ true) }
+{
+    let mut first = SliceSource::new(seal);
+    let mut second = SliceSource::new(facts);
+    let mut third = SliceSource::new(proof);
+    let mut buffer = Buffer::new(output);
+    match run_verify(
+        alloc,
+        &mut first,
+        &mut second,
+        &mut third,
+        absent,
+        &mut buffer,
+    ) {
         Ok(()) => Ok(buffer.length()),
         Err(fault) => Err(unwritten(fault)),
     }
@@ -265,6 +302,28 @@ pub fn split(
     };
     let mut buffer = Buffer::new(output);
     match run_split(alloc, unit, log, sources.as_mut_slice(), &mut buffer) {
+        Ok(()) => Ok(buffer.length()),
+        Err(fault) => Err(unwritten(fault)),
+    }
+}
+
+/// Writes the proof file, under the seal of all inputs, for the facts of `facts`, which is counted first.
+pub fn prove(
+    alloc: Global,
+    facts: &[u8],
+    inputs: &[&[u8]],
+    output: &mut [u8],
+) -> Result<usize, ToolFault>
+    ensures ok { IfOk result (IsHandedOut (IsMadeOfOneAndAll input_spec proof_of_union proof_file facts.now (bytes_of inputs.now)) output.old output.new) }
+    ensures err { IfErr result (λ fault. IsFirstOfOneAndAll input_spec proof_of_union facts.now (bytes_of inputs.now) fault) }
+    ensures only { IfErr result (λ fault. is_of_memory fault ≡ true) }
+{
+    let Ok(mut sources) = sources(alloc, inputs) else {
+        return Err(ToolFault::Memory);
+    };
+    let mut first = SliceSource::new(facts);
+    let mut buffer = Buffer::new(output);
+    match run_prove(alloc, &mut first, sources.as_mut_slice(), &mut buffer) {
         Ok(()) => Ok(buffer.length()),
         Err(fault) => Err(unwritten(fault)),
     }

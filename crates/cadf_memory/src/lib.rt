@@ -9,8 +9,8 @@ mod output;
 mod slice_source;
 
 pub use crate::engines::{
-    check, inventory, join, missing, missing_by, missing_by_sketch, rehearse, rule, seal, show,
-    sketch, split,
+    check, inventory, join, missing, missing_by, missing_by_sketch, prove, rehearse, rule, seal,
+    show, sketch, split, verify,
 };
 pub use cadf_event::Name;
 pub use cadf_sketch::{Cells, Salt};

@@ -1,0 +1,24 @@
+use Rattle.std.proofs.Common.{Some, ap, refl, rules}
+use Rattle.cadf_tool.specs.Run.{input_spec}
+use Rattle.cadf_tool.specs.SealInput.{seal_spec, proof_spec}
+use Rattle.cadf_tool.specs.Verify.{verdict_of}
+use Rattle.cadf_memory.proofs.Made.{run_made_three}
+use Rattle.cadf_memory.proofs.OfMemory.{first_of_memory_three, input_safe, seal_safe, proof_safe}
+use Rattle.cadf_memory.proofs.Refused.{run_refused_three}
+use Rattle.cadf_memory.proofs.engines.verify.Goals as goal
+
+pub returns-in-Ok-clause-ok : goal.returns-in-Ok-clause-ok
+returns-in-Ok-clause-ok c =
+    run_made_three (λ text. text) _ _ _ _ c.new-buffer.result c.run_verify.new.output refl refl _ _ _ c.new-buffer.ensures.before
+    c.new-buffer.ensures.text c.length.ensures (λ same. search rules) seal_spec input_spec proof_spec (verdict_of _) _ _ _ _ _ _
+    (ap Some c.new-first.ensures) (ap Some c.new-second.ensures) (ap Some c.new-third.ensures) c.in-Ok.ensures.verdict
+
+pub returns-in-Err-clause-err : goal.returns-in-Err-clause-err
+returns-in-Err-clause-err c =
+    run_refused_three (λ text. text) _ _ _ c.in-Err.fault c.unwritten.result c.unwritten.ensures seal_spec input_spec proof_spec (verdict_of _)
+    _ _ _ _ _ _ (ap Some c.new-first.ensures) (ap Some c.new-second.ensures) (ap Some c.new-third.ensures) refl refl refl refl refl refl
+    c.in-Err.ensures.verdict
+
+pub returns-in-Err-clause-only : goal.returns-in-Err-clause-only
+returns-in-Err-clause-only c =
+    first_of_memory_three seal_spec input_spec proof_spec seal_safe input_safe proof_safe _ _ _ _ _ (returns-in-Err-clause-err c)
