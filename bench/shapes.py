@@ -60,6 +60,7 @@ COMMANDS = {
     "sketch": Command(("sketch",), ("first",), notes=True),
     "missing-by-sketch": Command(("missing-by-sketch",), ("first", "sketch"), (0, 1), notes=True),  # or too few cells
     "seal": Command(("seal",), ("first",), notes=True),
+    "prove": Command(("prove",), ("second", "first"), notes=True),
     "rule": Command(("rule", "E", "e1", "1"), ("first",), (0, 1)),  # or no such value
 }
 REFUSED = (1,)

@@ -36,6 +36,8 @@ COMPLETED = [
     ("sp", ["split"]), ("split --b", ["split", "--by"]), ("split --by m", ["split", "--by", "month"]),
     ("split --by day a", ["split", "--by", "day", "a.cadf"]), ("split --by hour --log a", ["split", "--by", "hour", "--log", "a"]),
     ("missing-by-s", ["missing-by-sketch"]), ("missing-by-sketch a.cadf b", ["missing-by-sketch", "a.cadf", "b.json"]),
+    ("pr", ["prove"]), ("prove a.cadf b", ["prove", "a.cadf", "b.json"]), ("prove a.cadf b.json a", ["prove", "a.cadf", "b.json", "a.cadf"]),
+    ("ve", ["verify"]), ("verify --a", ["verify", "--absent"]), ("verify a.cadf b.json a", ["verify", "a.cadf", "b.json", "a.cadf"]),
     ("rule E a", ["rule", "E", "a"]), ("rule E e1 a", ["rule", "E", "e1", "a"]),
     ("rule E e1 1 a", ["rule", "E", "e1", "1", "a.cadf"]), ("rehearse a", ["rehearse", "a"]),
     ("rehearse g a", ["rehearse", "g", "a"]), ("rehearse g 2 a", ["rehearse", "g", "2", "a.cadf"]),
