@@ -28,7 +28,7 @@ def told():
 
 def statuses(fault):
     """The statuses that FORMATS has for a refusal: by its whole text, or else by how it begins."""
-    patterns = [(re.compile(re.sub(r"\bN\b", r"\\d+", text)), status, text.endswith(" ")) for text, status in told()]
+    patterns = [(re.compile(re.sub(r"\b[KLN]\b", r"\\d+", text)), status, text.endswith(" ")) for text, status in told()]
     whole = {status for pattern, status, is_begun in patterns if not is_begun and pattern.fullmatch(fault)}
     return whole or {status for pattern, status, is_begun in patterns if is_begun and pattern.match(fault)}
 
