@@ -6,7 +6,7 @@ a driver's name, a call with its words and the fields of its answer.
 from tests.generated import replica_words as words
 from tests.generated.file_answers import CAUSES, atoms_in, line_of
 from tests.generated.replica_words import spelled_set
-from tests.reference.atoms import DIGITS, LETTERS, RULING, is_atom, is_front, is_on_a_carrier, is_part, with_carriers
+from tests.reference.atoms import DIGITS, LETTERS, RULING, is_atom, is_front, is_on_a_carrier, with_carriers
 from tests.reference.events import Fault, document, is_name
 from tests.reference.inventory_files import digest_of, missing_by
 from tests.reference.json_text import NotJson, NotWhole, read, read_canonical
@@ -70,14 +70,6 @@ def compared(line, other):
 def path_kind(*texts):
     """Whether the texts are an atom, begin one, or do neither."""
     return ["ok", "Whole" if is_atom(texts) else "Prefix" if is_front(texts) else "Not"]
-
-
-def can_extend_atom(letter, *texts):
-    """Whether the texts may stand behind an atom of three with that letter."""
-    try:
-        return ["ok", letter == "E" and len(texts) > 1 and is_part(texts[0], texts[1:])]
-    except (NotJson, NotWhole):
-        return ["ok", False]
 
 
 def log_name(text):
@@ -264,8 +256,7 @@ CALLS = [
         "atom.new": read_atom, "atom.line": lambda line: ["ok", line],
         "atom.digest": lambda line: ["ok", digest_of(atom_of(line.encode()))]}),
     (words.two_lines, {"atom.compare": compared}),
-    (words.some_path, {"path.kind": path_kind, "path.kind_with": path_kind}),
-    (words.rest_words, {"path.can_extend_atom": can_extend_atom}),
+    (words.some_path, {"path.kind": path_kind}),
     (words.name_words, {"path.log_name": log_name}),
     (words.document_words, {
         "document.take": take_document, "document.take_sightings": taking("E"), "document.take_entities": taking("RGM"),

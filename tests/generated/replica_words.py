@@ -98,13 +98,6 @@ def two_lines(chance):
     return [line_of(chance.choice(atoms)), line_of(chance.choice(atoms))]
 
 
-def rest_words(chance):
-    """A letter, and texts that may stand behind an atom of three, or nearly so."""
-    behind = [atom[3:] for atom in sorted(some_atoms(chance)) if is_on_a_carrier(atom)]
-    texts = chance.choice(behind or [()]) if chance.random() < 0.5 else some_path(chance)[3:]
-    return [chance.choice("EEEEEEEPRGMU"), *texts]
-
-
 def name_words(chance):
     if chance.random() < 0.3:
         return [chance.choice(ODD_LOG_LINES)[2:].decode(errors="replace")]

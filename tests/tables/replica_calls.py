@@ -11,8 +11,6 @@ CALLS = {
     "atom.kind": ["KeyKind::of", "KeyKind::letter"],
     "atom.kind_of_text": ["KeyKind::read"],
     "path.kind": ["path_kind"],
-    "path.kind_with": ["path_kind_with"],
-    "path.can_extend_atom": ["can_extend_atom"],
     "path.log_name": ["log_name"],
     "replica.copy": ["Replica::new", "Replica::log", "Replica::copy"],
     "replica.atom_count": ["Replica::atom_count"],
@@ -160,14 +158,6 @@ for kind, texts in [
         ("Whole", ["E", "e1", B1, "C"] + [S1] * 256), ("Not", ["E", "e1", B1, "C"] + [S1] * 257),
         ("Whole", ["P", "name", "1"]), ("Not", ["P", "name", "1", "x"]), ("Not", ["P", "name", "1", "T"]), ("Not", ["R", "r1", "{}"])]:
     row("What is refused", "path.kind", texts, "ok", kind)
-    row("What is refused", "path.kind_with", texts, "ok", kind)
-
-# What may stand behind an atom of three.
-for letter, more, may in [
-        ("E", ["T", "x"], True), ("E", ["C", S1], True), ("E", ["C", S1, S2], True), ("E", ["A", "{}"], True), ("E", [], False), ("E", ["C"], False),
-        ("E", ["T", ""], False), ("E", ["T", "x", "y"], False), ("E", ["A", "1"], False), ("E", ["A", "{ }"], False), ("E", ["C", "{}"], False),
-        ("E", ["X", "x"], False), ("P", ["T", "x"], False), ("R", ["C", S1], False), ("U", ["T", "x"], False)]:
-    row("Atoms", "path.can_extend_atom", [letter, *more], "ok", may)
 
 for text, name in [('"g"', "g"), ('"openstack:audit"', "openstack:audit"), ('"a\\\\b"', "a\\b"), ("g", None), ('""', None), ("7", None),
                    (' "g"', None), ('"\\u0067"', None), ('"\x7f"', None)]:

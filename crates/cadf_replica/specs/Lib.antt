@@ -14,7 +14,7 @@ pub use Rattle.cadf_atom.specs.KeyKinds
 pub use Rattle.cadf_line.specs.Letters
 pub use Rattle.cadf_atom.specs.Line
 pub use Rattle.cadf_line.specs.Missing
-pub use Rattle.cadf_prefix.specs.NextKinds
+pub use Rattle.cadf_atom.specs.NextKinds
 pub use Rattle.cadf_set.specs.Order
 pub use Rattle.cadf_atom.specs.PathKind
 pub use Rattle.cadf_set.specs.Refusals
@@ -25,5 +25,4 @@ pub use Rattle.cadf_atom.specs.Rulings
 pub use Rattle.cadf_line.specs.RulingTexts
 pub use Rattle.cadf_rehearsal.specs.Schedule
 pub use Rattle.cadf_atom.specs.Shown
-pub use Rattle.cadf_atom.specs.Tails
 pub use Rattle.cadf_atom.specs.ValueTests

@@ -11,11 +11,6 @@ pub(crate) fn truth(alloc: Global, truth: bool) -> Result<String, Memory> {
     answer(alloc, if truth { "true" } else { "false" }, &[])
 }
 
-/// Answers `ok`, and `true` or `false`.
-pub(crate) fn found_true(alloc: Global, truth: bool) -> Result<String, Memory> {
-    answer(alloc, "ok", &[if truth { "true" } else { "false" }])
-}
-
 /// Answers a number.
 pub(crate) fn number(alloc: Global, number: u64) -> Result<String, Memory> {
     format!(in alloc; "{number}")
