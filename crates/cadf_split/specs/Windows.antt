@@ -5,14 +5,12 @@
 --     shared                          the key of the atoms that are no event's: five zeros. No window has it, since months count from 1
 --     key unit q                      the key of the part of an atom: the window of its body's instant, or `shared`
 --     name unit k                     the name of a part
-use Rattle.std.specs.Prelude.{◌≡◌, map, ℕ, ◌+◌, ◌/◌, ◌%◌, not, cond, List, [], ◌∷◌, ◌++◌, codes, ℤ, pos, neg_ℤ, ◌-ℤ◌, ◌≤ℤ◌, int_lt, unsigned_abs}
+use Rattle.std.specs.Prelude.{ℕ, ◌+◌, ◌/◌, ◌%◌, not, cond, List, [], ◌∷◌, ◌++◌, codes, ℤ, pos, neg_ℤ, ◌-ℤ◌, ◌≤ℤ◌, int_lt, unsigned_abs}
 use Rattle.std.specs.Int.{int_div_euclid, int_rem_euclid}
 use Rattle.jiff_core.specs.Calendar.{days_from_civil}
 use Rattle.cadf_time.specs.Time.{two_digits, last_passing, nanos_of_day}
 use Rattle.cadf_join.specs.Contents.{Text, Texts, Contents}
-use Rattle.cadf_line.specs.Atoms.{is_text, begins_with, event_letter, IsAtom}
-use Rattle.cadf_atom.specs.Atom.{atom_rules}
-use Rattle.std.specs.List.{AllByRecursion}
+use Rattle.cadf_line.specs.Atoms.{is_text, begins_with, event_letter}
 use Rattle.cadf_log.specs.Texts.{body_instant}
 use Rattle.cadf_split.specs.declared.unit.Unit.{Unit}
 use Rattle.cadf_split.specs.declared.unit.Unit.TheVariants.{Month, Day, Hour}
@@ -89,9 +87,3 @@ abbrev pub unit_word : Unit → Text
 unit_word Month = codes "month"
 unit_word Day = codes "day"
 unit_word Hour = codes "hour"
-
--- ---- the keys of a walk
-
--- the keys of the lists were appended, if they are atoms
-abbrev pub Collects : Unit → List Text → List Texts → Unit → List Text → Type 0
-Collects unit ks qs later ls = (later ≡ unit) × (AllByRecursion (IsAtom atom_rules) qs → ls ≡ ks ++ map (key unit) qs)
