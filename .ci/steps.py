@@ -1,6 +1,7 @@
 """Runs the steps of the gate: what needs no build, then `rt ci`, then what runs what it has built, side by side.
 
     .ci/run [--no-skips]
+    .ci/run --list       what each step runs and shows, in the words of its program; nothing is run
 
 Prints a line a step with its times as the step ends, all that a failed step has written, and at the end a table of all
 steps with the kit's name, why something was skipped, and `N passed, M failed, K skipped`. A step of pytest counts as its
@@ -9,7 +10,9 @@ that of all processors. A failed stage ends the run: what comes after it stands 
 Each step writes to a folder of its own, and leaves nothing in the tree but crates/*/out.
 """
 import argparse
+import ast
 import concurrent.futures
+import glob
 import os
 import re
 import signal
@@ -64,6 +67,49 @@ STAGES = [
         "producers": "examples/real-producers.py",
     }),
 ]
+
+
+def program(command):
+    """The place in the tree of what a command runs: its program, or the file of the module of tests that it runs."""
+    words = command.split()
+    if words[:2] != ["python3", "-m"]:
+        return words[0]
+    module = words[2].replace(".", "/")
+    return module + (".py" if os.path.exists(os.path.join(TOP, module + ".py")) else "/__main__.py")
+
+
+def programs():
+    """The programs of the steps, and the files of pytest, by their places. Of each, the commands of the steps that run it."""
+    commands = [command for _, _, steps in STAGES for command in steps.values() if command.split()[0] not in ("pytest", "rt")]
+    tests = glob.glob(os.path.join(TOP, "tests", "**", "test_*.py"), recursive=True)
+    found = {os.path.relpath(path, TOP): [] for path in sorted(tests)}
+    for command in commands:
+        found.setdefault(program(command), []).append(command)
+    return found
+
+
+def about(place):
+    """What a program says of itself first: the first paragraph of its docstring, or of a shell script's comments."""
+    with open(os.path.join(TOP, place), encoding="utf-8") as file:
+        text = file.read()
+    if text.startswith("#!/bin/sh"):
+        said = re.match(r"#!.*\n((?:# \S.*\n)+)", text).group(1).replace("# ", "")
+    else:
+        said = (ast.get_docstring(ast.parse(text)) or "").split("\n\n")[0]
+    return " ".join(said.split())
+
+
+def show_list():
+    """Prints each step with what it runs, and each file of pytest, in the words of the programs."""
+    found = programs()
+    for title, _, steps in STAGES:
+        print("== %s" % title)
+        for name, command in steps.items():
+            place = program(command)
+            print("%-16s %s%s" % (name, command, ": " + about(place) if place in found else ""))
+    print("== the tests of pytest: those that use a built program after `rt ci`, the others before any build")
+    for place in (place for place, commands in found.items() if not commands):
+        print("%s: %s" % (place, about(place)))
 
 
 def is_limited():
@@ -204,7 +250,10 @@ class Gate:
 def main():
     parser = argparse.ArgumentParser(description=__doc__, formatter_class=argparse.RawDescriptionHelpFormatter)
     parser.add_argument("--no-skips", action="store_true", help="what was skipped has failed")
+    parser.add_argument("--list", action="store_true", help="say what each step runs and shows, and run nothing")
     options = parser.parse_args()
+    if options.list:
+        return show_list()
     gate, begun = Gate(), time.monotonic()
     for number in (signal.SIGINT, signal.SIGTERM):
         signal.signal(number, gate.stop)
@@ -212,8 +261,8 @@ def main():
         print("== %s" % title, flush=True)
         if not gate.run_all(steps, lanes):
             break
-    sys.exit(gate.table(begun, not options.no_skips))
+    return gate.table(begun, not options.no_skips)
 
 
 if __name__ == "__main__":
-    main()
+    sys.exit(main())

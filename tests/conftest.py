@@ -32,7 +32,7 @@ def pytest_addoption(parser):
 def pytest_collection_modifyitems(config, items):
     """Marks each test by whether it runs the built command, so that `-m unbuilt` is what can run before a build.
 
-    Leaves out those of a release, which are no skips: docs/GATE.md has them among what runs on demand.
+    Leaves out those of a release, which are no skips: CONTRIBUTING has them among what runs on demand.
     """
     later = [] if config.getoption("--release") else [item for item in items if item.get_closest_marker("release")]
     config.hook.pytest_deselected(items=later)

@@ -1,5 +1,4 @@
-"""docs/GATE.md beside the steps of the gate, and CONTRIBUTING beside the places of the tree."""
-import glob
+"""What the gate says of its steps, and CONTRIBUTING beside what runs on demand and the places of the tree."""
 import os
 import re
 import runpy
@@ -10,52 +9,82 @@ import pytest
 from tests import TOP
 
 CODE = re.compile(r"`([^`]+)`")
-
-
-def page(name):
-    with open(os.path.join(TOP, name), encoding="utf-8") as file:
-        return file.read()
+STEPS = runpy.run_path(os.path.join(TOP, ".ci", "steps.py"))
+NAMES = [name for _, _, steps in STEPS["STAGES"] for name in steps]
 
 
 def section(name, heading):
-    return page(name).split("\n## %s\n" % heading)[1].split("\n## ")[0]
+    with open(os.path.join(TOP, name), encoding="utf-8") as file:
+        return re.split("\n### |\n## ", file.read().split("# %s\n" % heading)[1])[0]
 
 
-def place(command):
-    """What a command runs: its program, or the file of the module of tests that it runs."""
-    words = command.split()
-    if words[:2] != ["python3", "-m"]:
-        return words[0]
-    module = words[2].replace(".", "/")
-    return module + ".py" if os.path.exists(os.path.join(TOP, module + ".py")) else module
+def git_files():
+    listed = subprocess.run(["git", "ls-files", "-co", "--exclude-standard"], cwd=TOP, check=True, stdout=subprocess.PIPE, universal_newlines=True)
+    return listed.stdout.splitlines()
 
 
-def steps():
-    """The commands of the steps, but for `rt ci`, which has a paragraph of its own, and those of pytest, whose files have rows."""
-    stages = runpy.run_path(os.path.join(TOP, ".ci", "steps.py"))["STAGES"]
-    commands = [command for _, _, stage in stages for command in stage.values()]
-    tests = [os.path.relpath(path, TOP) for path in glob.glob(os.path.join(TOP, "tests", "**", "test_*.py"), recursive=True)]
-    return {place(command) for command in commands if not command.startswith(("pytest", "rt "))} | set(tests)
+@pytest.fixture(scope="module")
+def listed():
+    """What the gate says of its steps."""
+    return subprocess.run([".ci/run", "--list"], cwd=TOP, check=True, stdout=subprocess.PIPE, universal_newlines=True).stdout
 
 
-def rows():
-    """The commands that begin the rows of the tables of what is run. In a row, those of one folder follow each other."""
-    for row in re.findall(r"(?m)^\| (`.*?) \|", section("docs/GATE.md", "What is run")):
+def test_each_step_is_listed(listed):
+    """In the order in which the stages have them; those of pytest by its files, and the proofs by no program."""
+    assert [line.split("  ")[0] for line in listed.split("== the tests")[0].splitlines() if not line.startswith("== ")] == NAMES
+
+
+def test_each_step_is_in_the_table():
+    """CONTRIBUTING has the stages and their steps, as the gate has them: none is dropped by the one alone."""
+    rows = re.findall(r"(?m)^\| ([a-z ]+) \| (`.*`) \|$", section("CONTRIBUTING.md", "The gate"))
+    assert [(stage, CODE.findall(names)) for stage, names in rows] == [(stage, list(steps)) for stage, _, steps in STEPS["STAGES"]]
+
+
+@pytest.mark.parametrize("place", STEPS["programs"]())
+def test_each_program_says_what_it_shows(place, listed):
+    """At least five words of its own, which the list has."""
+    said = STEPS["about"](place)
+    assert len(said.split()) >= 5 and said in listed
+
+
+@pytest.mark.needs("git")
+def test_each_test_is_listed(listed):
+    """Each file of pytest and each program of the steps is in the list, by its place or as a module."""
+    names = [name for name in git_files() if re.fullmatch(r"tests/.*/test_\w+\.py", name)]
+    assert names and [name for name in names if "\n%s: " % name not in listed] == []
+
+
+def on_demand():
+    """The programs of the table of what runs on demand, but for pytest. In a row, those of one folder follow each other."""
+    for row in re.findall(r"(?m)^\| (`.*?) \|", section("CONTRIBUTING.md", "What runs on demand")):
         folder = ""
         for command in CODE.findall(row):
-            name = place(command)
-            folder = os.path.dirname(name) or folder
-            yield name if os.path.dirname(name) or not folder else os.path.join(folder, name)
+            place = STEPS["program"](command)
+            folder = os.path.dirname(place) or folder
+            if place != "pytest" and not place.startswith("-"):
+                yield os.path.join(folder, os.path.basename(place))
 
 
-def test_each_step_has_its_row():
-    assert sorted(steps()) == sorted(set(rows()))
+def test_each_program_on_demand_is_there():
+    places = list(on_demand())
+    assert len(places) >= 10 and [place for place in places if not (os.path.exists(os.path.join(TOP, place)) or "*" in place)] == []
+
+
+@pytest.mark.needs("git")
+def test_each_release_program_is_on_demand():
+    """Each program of tests/release that can be run is in the table; so are those that tests with `--release` need."""
+    release = [name for name in git_files() if re.match(r"tests/release/\w+\.(py|sh)$", name)]
+    programs = []
+    for name in release:
+        with open(os.path.join(TOP, name), encoding="utf-8") as file:
+            if name.endswith(".sh") or "__main__" in file.read():
+                programs.append(name)
+    assert sorted(set(programs) - set(on_demand())) == []
 
 
 @pytest.mark.needs("git")
 def test_each_place_is_explained():
     """Each folder and each file at the top, but for what Git reads, is in the table of places."""
-    listed = subprocess.run(["git", "ls-files"], cwd=TOP, check=True, stdout=subprocess.PIPE, universal_newlines=True).stdout
-    places = {name.split("/")[0] + ("/" if "/" in name else "") for name in listed.splitlines()}
+    places = {name.split("/")[0] + ("/" if "/" in name else "") for name in git_files()}
     explained = set(CODE.findall(section("CONTRIBUTING.md", "Where things are")))
     assert sorted(places - explained - {".gitignore", "CONTRIBUTING.md"}) == []

@@ -135,7 +135,8 @@ ROWS = [
     Row("FORMATS: another status", "docs/FORMATS.md", "`input N: a number is not whole` | 1 |", "`input N: a number is not whole` | 2 |", TOLD + "test_status"),
     Row("manual: another default", "share/man/man1/cadf.1", "by default 100.", "by default 1000.", TOLD + "defaults"),
     Row("gate: a step is gone", ".ci/steps.py", '        "two-sites": "examples/two-sites.sh",\n', "", "tests/docs/test_gate.py"),
-    Row("gate: another name in a row", "docs/GATE.md", "| `tests/tools/test_take.py` | each status", "| `tests/tools/test_tak.py` | each status", "tests/docs/test_gate.py"),
+    Row("gate: a program that says nothing of itself", "examples/many-sites.py", '"""Many exchanges between sites, by the built command: all must end with the bytes of one join.', '"""Many.', "tests/docs/test_gate.py"),
+    Row("gate: another program on demand", "CONTRIBUTING.md", "| `python3 -m tests.release.cases` |", "| `python3 -m tests.release.case` |", "tests/docs/test_gate.py"),
 ]
 
 # Faults that are not planted, and why.
