@@ -11,6 +11,7 @@ from tests.reference import events, json_text, sketch_files
 
 TOOLS = sorted(name for name in os.listdir(os.path.join(TOP, "tools")) if name.startswith("cadf-"))
 UNITS = {"MiB": 2 ** 20, "KiB": 2 ** 10}
+USERS = "README.md docs/SECURITY.md docs/GUIDE.md docs/ERRORS.md docs/LIBRARY.md"  # a limit is in the page of its kind
 
 
 def page(*names):
@@ -41,20 +42,23 @@ def test_status(status, fault):
 
 def test_statuses_of_readme():
     found = {name: status for _, status, name in test_statuses.ENDS}
-    line = "Exit status: 0 written, %d input refused, %d command line refused, %d read or write failed, 4 out of memory." % (
-        found["input 1: not JSON"], found["cells"], found["input 1: read fault"])
-    assert line in page("README.md").replace("\n", " ") and statuses("out of memory") == {4}
+    line = re.search(r"Exit status: 0 [^,]+, (\d) [^,]*refused[^,]*, (\d) [^,]*command line[^,]*, (\d) [^,]*read or write[^,]*, (\d) out of memory",
+                     page("README.md").replace("\n", " "))
+    assert [int(digit) for digit in line.groups()] == [found["input 1: not JSON"], found["cells"], found["input 1: read fault"], 4]
+    assert statuses("out of memory") == {4}
 
 
 @pytest.mark.parametrize("name, text", [
     ("docs/FORMATS.md", "Lists and objects nest at most %d" % json_text.DEEPEST), ("docs/FORMATS.md", "**Nesting** above %d is refused" % json_text.DEEPEST),
     ("docs/FORMATS.md", "lists of at most %d steps" % events.LONGEST_CHAIN), ("docs/FORMATS.md", "multiple of 3 from 3 to {:,}".format(sketch_files.MOST_CELLS)),
-    ("README.md", "1 to {:,} bytes without control characters".format(events.LONGEST_NAME)), ("README.md", "at most %d steps" % events.LONGEST_CHAIN),
-    ("README.md", "nest at most %d deep" % events.DEEPEST_PART),
+    ("docs/FORMATS.md", "text of 1 to {:,} UTF-8 bytes".format(events.LONGEST_NAME)), ("docs/FORMATS.md", "nest at most %d deep. A chain has 1 to %d steps" % (
+        events.DEEPEST_PART, events.LONGEST_CHAIN)),
+    (USERS, "1 to {:,} bytes without control characters".format(events.LONGEST_NAME)), (USERS, "at most %d steps" % events.LONGEST_CHAIN),
+    (USERS, "nest at most %d deep" % events.DEEPEST_PART),
 ])
 def test_limit(name, text):
-    """The pages have the limits at which the second implementation refuses, which the rows try on both sides."""
-    assert text in page(name).replace("\n", " ")
+    """The pages have the limits at which the second implementation refuses, which the rows try on both sides: of several, one."""
+    assert any(text in page(each).replace("\n", " ") for each in name.split() if os.path.exists(os.path.join(TOP, each)))
 
 
 def number(text):

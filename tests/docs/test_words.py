@@ -51,9 +51,17 @@ def test_manual():
 
 
 @pytest.mark.parametrize("name", NAMES)
-@pytest.mark.parametrize("where", ["README.md", "docs/FORMATS.md"])
-def test_tables(name, where):
-    assert "\n| `%s` | " % synopsis(name) in page(where)
+def test_formats(name):
+    assert "\n| `%s` | " % synopsis(name) in page("docs", "FORMATS.md")
+
+
+def test_readme():
+    """README has each command, with words that the command has or without any, and no other."""
+    shown = re.findall(r"`cadf ([a-z-]+)((?: [^`]*)?)`", page("README.md"))
+    assert set(NAMES) <= {name for name, _ in shown} <= {*NAMES, "help"}
+    for name, words in shown:
+        known = re.findall(r"--[a-z-]+|[A-Z]+", synopsis(name)) if name in NAMES else []
+        assert [word for word in re.findall(r"--[a-z-]+|[A-Z]{2,}", words) if word not in known] == [], name
 
 
 def test_everywhere():

@@ -130,7 +130,7 @@ ROWS = [
     Row("python: slices as their whole", "bindings/python/cadf/__init__.py", "return memoryview(value).tobytes()", "return bytes(value.obj if isinstance(value, memoryview) else value)", HEADER + "test_bytes"),
     Row("python: half a pair replaced", "bindings/python/cadf/__init__.py", 'str.encode(value, "utf-8", "surrogatepass")', 'str.encode(value, "utf-8", "replace")', HEADER + "test_bytes"),
     # ---- The pages
-    Row("README: statuses swapped", "README.md", "read or write failed, 4 out of memory", "out of memory, 4 read or write failed", TOLD + "readme"),
+    Row("README: another status", "README.md", "4 out of memory", "5 out of memory", TOLD + "readme"),
     Row("FORMATS: 128 levels", "docs/FORMATS.md", "nest at most 127", "nest at most 128", TOLD + "limit"),
     Row("FORMATS: another status", "docs/FORMATS.md", "`input N: a number is not whole` | 1 |", "`input N: a number is not whole` | 2 |", TOLD + "test_status"),
     Row("manual: another default", "share/man/man1/cadf.1", "by default 100.", "by default 1000.", TOLD + "defaults"),
