@@ -17,7 +17,7 @@ such a file imports of the crates must be in a table too, and what clauses cite 
 A type that implements a trait is named as `Walk for PathSet`. Such an `impl` must stand in the sources, and each trait
 that a page with promises names by its path must have one in the page.
 
-Then compares the list of public calls of docs/ARCHITECTURE.md with the sources and with the tables of calls, as
+Then compares the list of public calls, tests/docs/public_calls.txt, with the sources and with the tables of calls, as
 tests/docs/public_calls.py says.
 """
 import collections

@@ -1,4 +1,4 @@
-"""The public calls that docs/ARCHITECTURE.md lists, those that stand in the crates, and those that tables of calls make.
+"""The public calls that public_calls.txt beside this lists, those of the crates, and those that tables of calls make.
 
 Each public call must be listed, each listed one must stand behind a row, and each that takes memory behind a row whose
 answer is no refusal.
@@ -12,8 +12,8 @@ import re
 from tests import TOP
 from tests.docs import reachable
 
-# A line of the list of public calls: the crate and whether its calls take memory, or what no row makes.
-LISTED = re.compile(r"(?m)^- (?:`(\w+)`, (with|without) memory|Only .*?): ((?:.*\n)(?: .*\n)*)")
+# A paragraph of the list: the crate and whether its calls take memory, or what no row makes.
+LISTED = re.compile(r"(?m)^(?:(\w+), (with|without) memory|Only .*):\n((?:  .*\n)+)")
 OWNER = re.compile(r"(?:impl(?:<.*?>)? (?:\w+(?:<.*?>)? for )?|pub trait )(\w+)")
 SIGNATURE = re.compile(r"(?s).*?(?=\n\s+(?:requires|ensures)|\{|;\n)")
 
@@ -21,10 +21,9 @@ SIGNATURE = re.compile(r"(?s).*?(?=\n\s+(?:requires|ensures)|\{|;\n)")
 def listed(text):
     """The listed calls: whether each takes memory, None for what no row makes; and the crates of the list."""
     calls, crates = {}, set()
-    section = text.split("## Public calls\n")[1].split("\n## ")[0]
-    for crate, memory, names in LISTED.findall(section):
+    for crate, memory, names in LISTED.findall(text):
         crates |= {crate} - {""}
-        calls.update((name, memory == "with" if crate else None) for name in re.findall(r"`([\w:]+)`", names))
+        calls.update((name, memory == "with" if crate else None) for name in re.findall(r"[\w:]+", names))
     return calls, crates
 
 
@@ -79,7 +78,7 @@ def made():
 
 def uncalled():
     """What is wrong with the list of public calls."""
-    with open(os.path.join(TOP, "docs", "ARCHITECTURE.md"), encoding="utf-8") as file:
+    with open(os.path.join(TOP, "tests", "docs", "public_calls.txt"), encoding="utf-8") as file:
         calls, crates = listed(file.read())
     stand = {(crate, name) for crate in crates for name in public(crate)}
     for crate, name in sorted(stand):
