@@ -1,6 +1,6 @@
 """Looks up the public calls, their clauses and the files of definitions that a page of the documentation names.
 
-    python3 -m tests.docs.promises [PAGE..]      of PROMISES, ARCHITECTURE and AUDIT, unless pages are given
+    python3 -m tests.docs.promises [PAGE..]      of PROMISES, CONTRACTS, ARCHITECTURE and AUDIT, unless pages are given
     python3 -m tests.docs.promises --write       writes the lengths and the sums of AUDIT anew
 
 A call is named in backticks by its path, `crate::module::call`, or with its clauses, `call (clause, clause)`, or with
@@ -17,6 +17,8 @@ such a file imports of the crates must be in a table too, and what clauses cite 
 A type that implements a trait is named as `Walk for PathSet`. Such an `impl` must stand in the sources, and each trait
 that a page with promises names by its path must have one in the page.
 
+A table of promises, as in docs/CONTRACTS.md, ends its rows with mutants: those of must-fail/ of the crates, each in a row.
+
 Then compares the list of public calls, tests/docs/public_calls.txt, with the sources and with the tables of calls, as
 tests/docs/public_calls.py says.
 """
@@ -31,7 +33,7 @@ from tests.docs.public_calls import uncalled
 from tests.docs.reachable import is_reachable, unreached_laws
 from tests.proofs import corpus
 
-PAGES = [os.path.join(TOP, "docs", name + ".md") for name in ("PROMISES", "ARCHITECTURE", "AUDIT")]
+PAGES = [os.path.join(TOP, "docs", name + ".md") for name in ("PROMISES", "CONTRACTS", "ARCHITECTURE", "AUDIT")]
 ITEM = re.compile(r"\b(?:fn|struct|enum|trait|mod) (\w+)")
 CLAUSE = re.compile(r"\bensures (\w+) \{")
 NAMED = re.compile(r"`((?:[\w:]+, )*[\w:]+) \(([\w,; ]+)\)`")
@@ -49,6 +51,7 @@ IMPLEMENTED = re.compile(r"`(\w+) for (\w+)`")
 SOURCES = re.compile(r"`(crates/[\w*]+/src/\w+\.rt)`")
 CITED = re.compile(r"ghost use Rattle\.(cadf_\w+)\.specs\.(\w+)\.\{([^}]*)\}")
 SUM = re.compile(r"([\d,]+) lines in (\d+) files")
+PROMISED = re.compile(r"(?m)^\| Promise \|.*\| Mutant \|\n.*\n((?:\|.*\n)*)")
 
 
 def clauses():
@@ -120,6 +123,15 @@ def unnamed(text, found):
         pattern = os.path.join(TOP, "crates", "" if folder else "*", path)
         if not glob.glob(pattern):
             yield "no file %s" % path
+
+
+def unnamed_mutants(text):
+    """What is wrong with the mutants that the rows of a page of promises name last: each of must-fail/ is in one."""
+    rows = [row for table in PROMISED.findall(text) for row in table.splitlines()]
+    named = {name for row in rows for name in re.findall(r"`(\w+)`", row.rsplit("|", 2)[1])}
+    there = {os.path.basename(path)[:-len(".edit")] for path in glob.glob(os.path.join(TOP, "crates", "*", "must-fail", "*.edit"))}
+    yield from ("no mutant %s" % name for name in sorted(named - there))
+    yield from ("no row names the mutant %s" % name for name in sorted(there - named) if rows)
 
 
 def definition_file(crate, path):
@@ -213,7 +225,7 @@ def main():
     for page in sys.argv[1:] or PAGES:
         with open(page, encoding="utf-8") as file:
             text = file.read()
-        for line in [*unnamed(text, found), *unimplemented(text), *unreached(text, found), *unaudited(text)]:
+        for line in [*unnamed(text, found), *unimplemented(text), *unreached(text, found), *unnamed_mutants(text), *unaudited(text)]:
             print("check-promises: %s: %s" % (page, line))
             missing += 1
         print("check-promises: %s names %d calls with clauses, %d paths, %d files" % (
