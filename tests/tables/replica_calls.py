@@ -64,7 +64,7 @@ CALLS = {
     "fault.script": [],
 }
 
-REPLICA = "PROMISES: A replica"
+REPLICA = "CONTRACTS: A replica"
 
 ROWS = []
 

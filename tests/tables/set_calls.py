@@ -51,7 +51,7 @@ CALLS = {
     "example.two_sites": [],
 }
 
-SETS = "PROMISES: Sets that join"
+SETS = "CONTRACTS: Sets that join"
 
 ROWS = []
 
