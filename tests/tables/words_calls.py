@@ -6,7 +6,7 @@ printed them, so that a change of one is seen.
 
 CALLS = {"parse": ["parse"]}
 
-PAGE = "DECISIONS: The command"
+PAGE = "The command line"
 
 # What is told of the program and of each command, by the command's name.
 HELP = {
