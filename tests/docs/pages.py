@@ -12,7 +12,7 @@ The pages are README, CONTRIBUTING, docs/*.md, the manual page and the README of
   a block ```sh is a script of the repository, or a line of tests/docs/elsewhere names the script that runs it.
 
 README has at most 200 lines of at most 120 characters. docs/ARCHITECTURE.md has the picture of the crates that
-crates.txt makes. Each link of every Markdown file into the repository leads to a file, and to a heading of it. Before
+crates.txt makes, and its layers have each crate of the product once, with none that it depends on above it. Each link of every Markdown file into the repository leads to a file, and to a heading of it. Before
 all this the script refuses wrong pages of its own, one for each fault.
 """
 import os
@@ -229,22 +229,46 @@ def wrong_picture(name, text):
         yield "%s: the picture of the crates has to be\n%s" % (name, picture())
 
 
-FAULTS = (long_sentences, phrases, dead_links, idle_commands, wrong_picture, long_readme)
+def layers(text):
+    """The crates of the boxes of a page, the highest first."""
+    boxes = re.split(r"(?m)^\+-[-+]*\+$", text)[1:-1]
+    return [re.findall(r"\bcadf\w*", box) for box in boxes]
+
+
+def wrong_layers(name, text):
+    """A line for each crate that the boxes of a page of the crates don't have once, or below what it depends on."""
+    if not name.endswith("ARCHITECTURE.md"):
+        return
+    places = [(crate, height) for height, box in enumerate(layers(text)) for crate in box]
+    lines = [re.match(r"(cadf\w*)[^:]*:(.*)", line) for line in read("crates.txt").splitlines()]
+    for crate, others in (line.groups() for line in lines if line):
+        own = [height for found, height in places if found == crate]
+        if len(own) != 1:
+            yield "%s: %d of its layers have %s" % (name, len(own), crate)
+        for other in sorted(other for other, height in places if own and height < own[0] and other in others.split()):
+            yield "%s: %s is above %s, which depends on it" % (name, other, crate)
+
+
+FAULTS = (long_sentences, phrases, dead_links, idle_commands, wrong_picture, wrong_layers, long_readme)
 LONG = " ".join(["word"] * MOST_WORDS)
+BOXES = "docs/ARCHITECTURE.md"
 # A page, and how many faults each of FAULTS finds in it.
 TRIALS = [
-    ("right.md", LONG + ".\n- %s\n- %s\n# %s\n| %s | x |\n\n    %s x\n" % ((LONG,) * 5), (0, 0, 0, 0, 0, 0)),
-    ("right.md", "See `%s x` in [%s](#a-b), 1.5 or a.b too\n\n# A b!\n" % (LONG, "`x y`"), (0, 0, 0, 0, 0, 0)),
-    ("long.md", LONG + " x.\n", (1, 0, 0, 0, 0, 0)),
-    ("long.md", "  - x\n    " + LONG + "\n", (1, 0, 0, 0, 0, 0)),
-    ("long.md", LONG + "\nx e.txt 1.5 `a. b`.\n", (1, 0, 0, 0, 0, 0)),
-    ("long.1", ".SH NAME\n%s\n.B x\ny.\n.TP\n.B z\n%s\n" % (LONG, LONG), (1, 0, 0, 0, 0, 0)),
-    ("phrase.md", "A want\nof memory.\n\n| want of memory | `want of memory` |\n", (0, 2, 0, 0, 0, 0)),
-    ("link.md", "[a](docs/NOWHERE.md) [b](docs/FORMATS.md#nowhere) [c](#nowhere) [d](CONTRIBUTING.md#the-gate)\n", (0, 0, 3, 0, 0, 0)),
-    ("command.md", "    $ cadf\n\n```sh\nno-such-command   # why\npython3 -m tests.no\npython3 -m tests\n```\n", (0, 0, 0, 3, 0, 0)),
-    ("ARCHITECTURE.md", "```text\n  0  cadf\n```\n", (0, 0, 0, 0, 1, 0)),
-    ("README.md", "x\n\n" * 101, (0, 0, 0, 0, 0, 1)),
-    ("README.md", "    " + "x" * 117 + "\n", (0, 0, 0, 0, 0, 1)),
+    ("right.md", LONG + ".\n- %s\n- %s\n# %s\n| %s | x |\n\n    %s x\n" % ((LONG,) * 5), (0, 0, 0, 0, 0, 0, 0)),
+    ("right.md", "See `%s x` in [%s](#a-b), 1.5 or a.b too\n\n# A b!\n" % (LONG, "`x y`"), (0, 0, 0, 0, 0, 0, 0)),
+    ("long.md", LONG + " x.\n", (1, 0, 0, 0, 0, 0, 0)),
+    ("long.md", "  - x\n    " + LONG + "\n", (1, 0, 0, 0, 0, 0, 0)),
+    ("long.md", LONG + "\nx e.txt 1.5 `a. b`.\n", (1, 0, 0, 0, 0, 0, 0)),
+    ("long.1", ".SH NAME\n%s\n.B x\ny.\n.TP\n.B z\n%s\n" % (LONG, LONG), (1, 0, 0, 0, 0, 0, 0)),
+    ("phrase.md", "A want\nof memory.\n\n| want of memory | `want of memory` |\n", (0, 2, 0, 0, 0, 0, 0)),
+    ("link.md", "[a](docs/NOWHERE.md) [b](docs/FORMATS.md#nowhere) [c](#nowhere) [d](CONTRIBUTING.md#the-gate)\n", (0, 0, 3, 0, 0, 0, 0)),
+    ("command.md", "    $ cadf\n\n```sh\nno-such-command   # why\npython3 -m tests.no\npython3 -m tests\n```\n", (0, 0, 0, 3, 0, 0, 0)),
+    (BOXES, read(BOXES).replace("  8  cadf_tool", "  7  cadf_tool"), (0, 0, 0, 0, 1, 0, 0)),
+    (BOXES, read(BOXES).replace("cadf: the command", "the command"), (0, 0, 0, 0, 0, 1, 0)),
+    (BOXES, read(BOXES).replace("| cadf_json,", "| cadf_tool, cadf_json,"), (0, 0, 0, 0, 0, 1, 0)),
+    (BOXES, read(BOXES).replace("windows     cadf_script", "windows").replace("cadf: the", "cadf, cadf_script"), (0, 0, 0, 0, 0, 1, 0)),
+    ("README.md", "x\n\n" * 101, (0, 0, 0, 0, 0, 0, 1)),
+    ("README.md", "    " + "x" * 117 + "\n", (0, 0, 0, 0, 0, 0, 1)),
 ]
 
 
