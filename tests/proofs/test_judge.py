@@ -1,4 +1,4 @@
-"""How .ci/mutants judges wrong bodies, by a prover of its own that says what the kit's prover says.
+"""How .ci/mutants judges mutants, by a prover of its own that says what the kit's prover says.
 
 The prover knows one function, and an answer by hand that fits its own body alone. The trials must find fault with a
 judge that tries no goal again, and with one that leaves a clause where it is.
