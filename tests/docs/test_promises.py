@@ -17,6 +17,7 @@ def page(name):
 
 
 def found(text):
+    text = promises.unbroken(text)
     checks = (promises.unnamed(text, FOUND), promises.unimplemented(text), promises.unreached(text, FOUND),
               promises.unnamed_mutants(text), promises.unaudited(text))
     return [line for check in checks for line in check]
@@ -27,6 +28,7 @@ def found(text):
     ("`cadf_log::write_logs`", "nothing at cadf_log::write_logs"),
     ("`write_logs (memory)`", "no call write_logs"),
     ("`write_log (memories)`", "no clause memories of write_log"),
+    ("```text\n`\n```\n`write_log\n(memories)`", "no clause memories of write_log"),
     ("`write_log, write_conflicts (ok, memories)`", "no clause memories of write_conflicts"),
     ("`cadf_tool/specs/Runs.antt`", "no file cadf_tool/specs/Runs.antt"),
     ("`Walk for TextSet`", "no Walk for TextSet"),
