@@ -134,6 +134,8 @@ ROWS = [
     Row("FORMATS: 128 levels", "docs/FORMATS.md", "nest at most 127", "nest at most 128", TOLD + "limit"),
     Row("FORMATS: another status", "docs/FORMATS.md", "`input N: a number is not whole` | 1 |", "`input N: a number is not whole` | 2 |", TOLD + "test_status"),
     Row("manual: another default", "share/man/man1/cadf.1", "by default 100.", "by default 1000.", TOLD + "defaults"),
+    Row("promises: a clause that isn't there", "tests/docs/promises.py", "if name in found and clause not in found[name]:", "if name not in found and clause not in found[name]:", "tests/docs/test_promises.py"),
+    Row("promises: mutants that no row names", "tests/docs/promises.py", "sorted(there - named) if rows)", "sorted(there - named) if not rows)", "tests/docs/test_promises.py"),
     Row("gate: a step is gone", ".ci/steps.py", '        "two-sites": "examples/two-sites.sh",\n', "", "tests/docs/test_gate.py"),
     Row("gate: a program that says nothing of itself", "examples/many-sites.py", '"""Many exchanges between sites, by the built command: all must end with the bytes of one join.', '"""Many.', "tests/docs/test_gate.py"),
     Row("gate: another program on demand", "CONTRIBUTING.md", "| `python3 -m tests.release.cases` |", "| `python3 -m tests.release.case` |", "tests/docs/test_gate.py"),
