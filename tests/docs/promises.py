@@ -18,6 +18,7 @@ A type that implements a trait is named as `Walk for PathSet`. Such an `impl` mu
 that a page with promises names by its path must have one in the page.
 
 A table of promises, as in docs/CONTRACTS.md, ends its rows with mutants: those of must-fail/ of the crates, each in a row.
+AUDIT has each file of definitions that its rows name.
 
 Then compares the list of public calls, tests/docs/public_calls.txt, with the sources and with the tables of calls, as
 tests/docs/public_calls.py says.
@@ -34,6 +35,7 @@ from tests.docs.reachable import is_reachable, unreached_laws
 from tests.proofs import corpus
 
 PAGES = [os.path.join(TOP, "docs", name + ".md") for name in ("PROMISES", "CONTRACTS", "ARCHITECTURE", "AUDIT")]
+_, CONTRACTS, _, AUDIT = PAGES
 ITEM = re.compile(r"\b(?:fn|struct|enum|trait|mod) (\w+)")
 CLAUSE = re.compile(r"\bensures (\w+) \{")
 NAMED = re.compile(r"`((?:[\w:]+, )*[\w:]+) \(([\w,; ]+)\)`")
@@ -57,6 +59,11 @@ PROMISED = re.compile(r"(?m)^\| Promise \|.*\| Mutant \|\n.*\n((?:\|.*\n)*)")
 def unbroken(text):
     """The text of a page without its blocks of code, and with each piece of code in a line of text on one line."""
     return re.sub(r"`[^`]+`", lambda piece: " ".join(piece.group().split()), re.sub(r"(?ms)^```.*?^```$", "", text))
+
+
+def read(page):
+    with open(page, encoding="utf-8") as file:
+        return unbroken(file.read())
 
 
 def clauses():
@@ -137,6 +144,12 @@ def unnamed_mutants(text):
     there = {os.path.basename(path)[:-len(".edit")] for path in glob.glob(os.path.join(TOP, "crates", "*", "must-fail", "*.edit"))}
     yield from ("no mutant %s" % name for name in sorted(named - there))
     yield from ("no row names the mutant %s" % name for name in sorted(there - named) if rows)
+
+
+def unread(contracts, audit):
+    """The files of definitions that the rows of CONTRACTS name, and AUDIT doesn't."""
+    rows = "".join(PROMISED.findall(contracts))
+    yield from ("%s is not in AUDIT" % path for path in sorted(set(FILE.findall(rows)) - set(FILE.findall(audit))))
 
 
 def definition_file(crate, path):
@@ -224,18 +237,17 @@ def write_lengths(page):
 
 def main():
     if sys.argv[1:] == ["--write"]:
-        return write_lengths(PAGES[-1])
+        return write_lengths(AUDIT)
     found, missing = clauses(), 0
     found.update((name, set()) for name in os.listdir(os.path.join(TOP, "crates")))
     for page in sys.argv[1:] or PAGES:
-        with open(page, encoding="utf-8") as file:
-            text = unbroken(file.read())
+        text = read(page)
         for line in [*unnamed(text, found), *unimplemented(text), *unreached(text, found), *unnamed_mutants(text), *unaudited(text)]:
             print("check-promises: %s: %s" % (page, line))
             missing += 1
         print("check-promises: %s names %d calls with clauses, %d paths, %d files" % (
             page, len(NAMED.findall(text)), len(PATH.findall(text)), len(FILE.findall(text))))
-    for line in [*uncalled(), *("nothing outside %s reaches its law %s" % pair for pair in unreached_laws())]:
+    for line in [*unread(read(CONTRACTS), read(AUDIT)), *uncalled(), *("nothing outside %s reaches its law %s" % pair for pair in unreached_laws())]:
         print("check-promises: %s" % line)
         missing += 1
     return "check-promises: %d are missing" % missing if missing else None

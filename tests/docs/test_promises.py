@@ -55,3 +55,9 @@ def test_row_is_gone(name, row, fault):
     lines = [line for line in text.splitlines(keepends=True) if (row in line if fault else "newest_ruling_wins" in line)]
     assert len(lines) == 1 and found(text) == []
     assert any(line.endswith(fault or "no row names the mutant newest_ruling_wins") for line in found(text.replace(lines[0], "")))
+
+
+def test_unread():
+    """A file of definitions that a row of CONTRACTS names is in AUDIT."""
+    assert list(promises.unread(page("CONTRACTS"), page("AUDIT"))) == []
+    assert list(promises.unread(page("CONTRACTS"), page("AUDIT").replace("cadf_log/specs/ByKey.antt", ""))) == ["cadf_log/specs/ByKey.antt is not in AUDIT"]
