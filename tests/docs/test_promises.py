@@ -53,8 +53,9 @@ def test_row_is_gone(name, row, fault):
     """A page without one of its rows is wrong; the row of a mutant is told by its name."""
     text = page(name)
     lines = [line for line in text.splitlines(keepends=True) if (row in line if fault else "newest_ruling_wins" in line)]
-    assert len(lines) == 1 and found(text) == []
-    assert any(line.endswith(fault or "no row names the mutant newest_ruling_wins") for line in found(text.replace(lines[0], "")))
+    assert len(lines) == 1
+    new = set(found(text.replace(lines[0], ""))) - set(found(text))
+    assert any(line.endswith(fault or "no row names the mutant newest_ruling_wins") for line in new)
 
 
 def test_unread():
