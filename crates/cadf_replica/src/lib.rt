@@ -3,7 +3,9 @@
 
 pub mod laws;
 
-pub use cadf_atom::{Atom, AtomFault, KeyKind, PathKind, Ruling, RulingFault, next_path_kind, path_kind};
+pub use cadf_atom::{
+    Atom, AtomFault, KeyKind, PathKind, Ruling, RulingFault, next_path_kind, path_kind,
+};
 pub use cadf_event::{Document, Entity, Name, Property, Sighting};
 pub use cadf_join::{Memory, Visitor};
 pub use cadf_line::Letter;

@@ -1,4 +1,4 @@
--- What a proof with the root of leaves tells of digests is so, if what is hashed doesn't collide.
+-- What a proof with the root of leaves says of digests is so, if what is hashed doesn't collide.
 use Rattle.std.proofs.Common.{◌≡◌, ◌∙◌, ◌<◌, ◌≤◌, ◌+◌, ◌-◌, ◌^◌, ℕ, zero, suc, Bool, true, false, List, [], ◌∷◌, Some, None, length, get_or, refl, ap, sym, subst, arith, inl, inr}
 use Rattle.std.specs.Prelude.{nat_eq, if◌then◌else◌}
 use Rattle.std.specs.List.{AllByRecursion}
@@ -113,7 +113,7 @@ module _ (ds : List Text) (f : Text) (sorted : AreSorted ds) where
           (subst (λ x. IsLess x (get_or ds s.place [])) (sym found.is) (subst (IsLess f) (sym (place_of s at)) less)) in
           omega (arith, later)
 
--- ---- what is told of a digest
+-- ---- what is said of a digest
 
 pub tells_truth : TellsTruth
 unfolding state

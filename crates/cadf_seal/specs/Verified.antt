@@ -8,10 +8,10 @@
 --     refusal s p facts b     the fault for which a reader with the seal s refuses the proof of these facts; b: they are asked to be absent
 --     verified s p facts b    that fault, or the text that says of each fact that it is as asked
 --     told b qs               this text
---     TellsAll f n            the proof made for the facts f has the root of n, tells of each of them whether it is in n, and shows no other leaf
+--     TellsAll f n            the proof made for the facts f has the root of n, says of each of them whether it is in n, and shows no other leaf
 --     IsAt a ds s             the shown leaf is the one of ds at its place, where the first of ds has place a
 --     ShowsLeaves             the shown leaves of a proof with the root of ds are leaves of ds
---     TellsTruth              what such a proof tells of a digest is so
+--     TellsTruth              what such a proof says of a digest is so
 --     FactsAreSo              of facts that are told, each is in the sealed set or not, as was asked
 use Rattle.std.specs.Prelude.{◌≡◌, ◌≤◌, ◌<◌, ◌+◌, ◌-◌, ℕ, suc, max, min, nat_eq, List, [], ◌∷◌, ◌++◌, length, map, flat_map, get_or, codes}
 use Rattle.std.specs.Prelude.{Bool, true, false, not, if◌then◌else◌, Option, None, Some, option_map, Result, Ok, Err}
@@ -149,7 +149,7 @@ told_line word q = word ++ (get_or q 0 [] ++ 32 ∷ (quoted (key_of q) ++ 10 ∷
 abbrev pub told : Bool → List Texts → List ℕ
 told absent qs = flat_map (told_line (word_for absent)) qs
 
--- telling of these facts, with the same flag, appends what is told of them
+-- telling of these facts, with the same flag, appends what is said of them
 abbrev pub Tells : Bool → List ℕ → List Texts → Bool → List ℕ → Type 0
 Tells absent before qs same after = (same ≡ absent) × (after ≡ before ++ told absent qs)
 

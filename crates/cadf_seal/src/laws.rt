@@ -71,13 +71,13 @@ pub fn proof_is_read_back(proof: &Proof)
     proof.type_invariant();
 }
 
-/// States that the proof that is made for facts has the root of the set's leaves, tells of each fact whether it is in the
+/// States that the proof that is made for facts has the root of the set's leaves, says of each fact whether it is in the
 /// set, and shows no leaf that none of them needs.
 pub fn made_proof_is_accepted()
     ensures { (f n : InventoryModel) → TellsAll f n }
 {}
 
-/// States that a proof with the root of a set's leaves shows leaves of the set, that what it tells of a digest is so, and
+/// States that a proof with the root of a set's leaves shows leaves of the set, that what it says of a digest is so, and
 /// that facts that are told are in the set or not, as was asked: if what is hashed doesn't collide.
 pub fn accepted_proof_is_true()
     ensures leaves { ShowsLeaves }

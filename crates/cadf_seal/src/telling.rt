@@ -1,4 +1,4 @@
-//! What is told of facts that are all as asked: a line of text for each.
+//! What is said of facts that are all as asked: a line of text for each.
 ghost use Rattle.std.specs.Prelude.{◌≡◌, ◌++◌, ⊤, IfOk, OnOk, get_or, []};
 ghost use Rattle.cadf_join.specs.Prefixes.{texts_at};
 ghost use Rattle.cadf_join.specs.Sets.{rising};
@@ -23,7 +23,7 @@ pub(crate) fn told(alloc: Global, facts: &Replica, absent: bool) -> Result<Vec<u
     Ok(telling.text)
 }
 
-/// A visitor that tells of each list that it is asked to be there, or not to be.
+/// A visitor that says of each list that it is asked to be there, or not to be.
 #[derive(Drop)]
 struct Telling {
     alloc: Global,

@@ -129,7 +129,7 @@ fn is_state(found: Option<bool>, wanted: Option<bool>) -> bool
     }
 }
 
-/// Returns whether this is what the proof tells of the digest.
+/// Returns whether this is what the proof says of the digest.
 fn tells(proof: &Proof, digest: &[u8; 32], wanted: Option<bool>) -> bool
     ensures { result ≡ is_state (state proof.now.count proof.now.shown digest.now) wanted }
 {
