@@ -126,11 +126,26 @@ def environment(prefix):
     return {**os.environ, "CADF_LIBRARY": shared, "PYTHONPATH": PYTHON, "PYTHONDONTWRITEBYTECODE": "1"}
 
 
-def guide_program():
-    """The program in Python that docs/GUIDE.md shows, and the line that it prints first."""
-    with open(os.path.join(TOP, "docs", "GUIDE.md"), encoding="utf-8") as page:
-        program = re.search(r"(?ms)^```python\n(.*?)^```$", page.read()).group(1)
-    return program, re.search(r"# (Check\(.*\))$", program, re.MULTILINE).group(1)
+def shown_program(language):
+    """The program in a language that docs/LIBRARY.md shows."""
+    with open(os.path.join(TOP, "docs", "LIBRARY.md"), encoding="utf-8") as page:
+        return re.search(r"(?ms)^```%s\n(.*?)^```$" % language, page.read()).group(1)
+
+
+def test_shown_c(prefix, cadf, tmp_path):
+    """The program in C writes what `cadf join` does of its two documents."""
+    (tmp_path / "try.c").write_text(shown_program("c"))
+    made = ran(compiled(prefix, str(tmp_path), "try", tmp_path / "try.c"))
+    rooms = ['{"id": "g", "events": [], "room": "%s"}' % room for room in ("north", "south")]
+    for number, room in enumerate(rooms):
+        (tmp_path / str(number)).write_text(room)
+    assert made == ran(cadf, "join", tmp_path / "0", tmp_path / "1") and made.startswith("CADF-REPLICA 2\n")
+
+
+def test_shown_rattle():
+    """The Rattle is that of the example, which the gate proves and runs."""
+    with open(os.path.join(TOP, "crates", "two_logs", "src", "main.rt"), encoding="utf-8") as file:
+        assert shown_program("rust") in file.read()
 
 
 def test_python(prefix):
@@ -141,7 +156,7 @@ def test_python(prefix):
 
 @pytest.mark.parametrize("kind", ["folder", "wheel"])
 def test_installed_by_pip(prefix, tmp_path, kind):
-    """The package as pip installs it, without a network, with the guide's program."""
+    """The package as pip installs it, without a network, with the program that the page shows."""
     venv, alone = tmp_path / "venv", {**environment(prefix), "PYTHONPATH": ""}
     if subprocess.run([sys.executable, "-m", "venv", venv], stdout=subprocess.DEVNULL, stderr=subprocess.DEVNULL, check=False).returncode:
         pytest.skip("venv isn't there (Debian: python3-venv)")
@@ -149,7 +164,8 @@ def test_installed_by_pip(prefix, tmp_path, kind):
     if kind == "wheel":
         alone.pop("CADF_LIBRARY")  # it has its own
     ran(venv / "bin" / "pip", "install", "-q", "--no-index", "--disable-pip-version-check", "--force-reinstall", package, env=alone)
-    program, line = guide_program()
+    program = shown_program("python")
+    line = re.search(r"# (Check\(.*\))$", program, re.MULTILINE).group(1)
     assert ran(venv / "bin" / "python", "-c", program, cwd=tmp_path, env=alone).splitlines()[:1] == [line]
 
 
