@@ -1,6 +1,7 @@
 """What the pages say in numbers: exit statuses, limits and defaults are those that the tests and the programs have."""
 import os
 import re
+import runpy
 import subprocess
 
 import pytest
@@ -83,3 +84,11 @@ def test_defaults(tool):
             option = re.match(r"--[a-z-]+", block).group()
             found = {number(each) for item in section.split(".TP\n") if option in item for each in re.findall(NUMBER, item)}
             assert number(default[1]) in found, option
+
+
+def test_chart():
+    """The chart of PERFORMANCE is the one that bench/chart.py makes of RESULTS; another number there makes another one."""
+    chart = runpy.run_path(os.path.join(TOP, "bench", "chart.py"))["chart"]
+    results = page("bench", "RESULTS.md")
+    assert "\n```text\n%s\n```\n" % "\n".join(chart(results)) in page("docs", "PERFORMANCE.md")
+    assert list(chart(results.replace("16,689; 28,561", "16,689; 128,561"))) != list(chart(results))
