@@ -1,5 +1,5 @@
 #!/usr/bin/env python3
-"""What becomes of notifications while nobody listens: tries each row of the table in docs/BUS.md. On demand: some five minutes.
+"""What becomes of notifications while nobody listens: tries each row of the table in docs/OPENSTACK.md. On demand: some five minutes.
 
     examples/bus-settings.py
 
