@@ -46,7 +46,7 @@ def hostile_event(identifier, name, **members):
 
 
 def hostile():
-    """A log document of hostile events, some contested."""
+    """A log document of hostile events, some with several bodies."""
     events = [hostile_event(name, name) for name in NAMES]
     events += [hostile_event(name, name, outcome="success", **{name + "x": name}) for name in NAMES[:20]]
     events += [hostile_event("many values", "n", severity=str(at)) for at in range(40)]
@@ -91,6 +91,6 @@ def told_otherwise(count):
     """Log documents of two sites that tell the outcome of events otherwise, by relays of their own, and agree on the others."""
     def site(relay, outcome):
         chain = [{"role": "observer", "reporterId": "s1"}, {"role": "relay", "reporterId": relay}]
-        contested = [dict(EVENT, id="c%02d" % at, outcome=outcome, reporterchain=chain) for at in range(count)]
-        return {"id": "g", "events": contested + [dict(EVENT, id="both")], "resources": [{"id": "r", "v": relay}]}
+        conflicted = [dict(EVENT, id="c%02d" % at, outcome=outcome, reporterchain=chain) for at in range(count)]
+        return {"id": "g", "events": conflicted + [dict(EVENT, id="both")], "resources": [{"id": "r", "v": relay}]}
     return site("north", "success"), site("south", "failure")

@@ -291,6 +291,38 @@ def test_faults(reports):
     assert (full.status, full.error) == (3, b"cadf-report: standard output: write fault: No space left on device\n")
 
 
+ENTRIES = [{"file": "a.jsonl", "line": 3, "faults": ["eventTime", "tag 2"], "event": {"id": "e", "x": [1.5, "</script>"]}},
+           {"file": "b\u202e", "line": 1, "faults": ["not JSON at character 0"], "text": "x" * 5000}, {"file": "c", "line": 9, "faults": ["longer"]}]
+
+
+def test_set_aside(reports):
+    """What was set aside is listed by file, line and faults, each with its beginning; without the option the page has none of it."""
+    put("aside", "".join(json.dumps(entry) + "\n" for entry in ENTRIES))
+    page = Data(reports.page("--set-aside", "aside", "both"))
+    wanted = [["a.jsonl", "3", ["eventTime", "tag 2"], '{"id":"e","x":[1.5,"</script>"]}'], ["b\u202e", "1", ["not JSON at character 0"], "x" * 2000], ["c", "9", ["longer"], ""]]
+    assert (page.data["aside"], page.named("<dt>set aside</dt><dd>([0-9,]*)<")) == (wanted, "3")
+    plain_page = Data(reports.page("both"))
+    assert plain_page.data["aside"] is None
+    assert {**page.data, "aside": None} == plain_page.data
+    for line in ("{", "[]", '{"file":"a","line":1}', '{"file":"a","line":1,"faults":"x"}'):
+        put("broken", json.dumps(ENTRIES[0]) + "\n" + line + "\n")
+        assert reports.answer("--set-aside", "broken", "both") == (1, b"", ["cadf-report: broken: line 2: nothing that was set aside"]), line
+    assert reports.answer("--set-aside", "absent", "both")[0] == 3
+
+
+def test_head(reports):
+    """The page names the version that made it, and how the facts are in the log text and in the conflict list."""
+    said = ended(reports.binary, ["--version"]).output.decode().strip()
+    page = Data(reports.page("settled"))
+    assert "Made by cadf-report with %s," % said in page.text
+    facts, shown, listed = map(int, re.search("Of ([0-9,]+) facts the log text has ([0-9,]+), and the conflict list ([0-9,]+)[.]", page.text).groups())
+    held = re.search(r"atoms (\d+)", reports.cadf("check", "settled").decode())[1]
+    in_log = json.loads(reports.cadf("show", "settled"))
+    assert (facts, shown + listed) == (int(held), int(held))
+    # Of each event a body and a chain, and of `r` a conflict: c03 is shown since it is ruled.
+    assert shown == sum(1 + ("reporterchain" in event) + len(event.get("tags", ())) for event in in_log["events"])
+
+
 def test_most_events():
     """As many as docs/REPORT.md says: a browser holds no longer texts."""
     assert loaded(TOOL).MOST_EVENTS == 10 ** 6

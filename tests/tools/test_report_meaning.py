@@ -13,7 +13,7 @@ pytestmark = [pytest.mark.browser, pytest.mark.xdist_group("browser"), pytest.ma
 # Events in the order of their instants, each with its time in UTC as the page has to show it.
 TIMES = [("2024-03-01T11:59:59.25+02:00", "2024-03-01 09:59:59.25"), ("2024-03-01T12:00:00.1Z", "2024-03-01 12:00:00.1"),
          ("2024-03-01T12:00:00.9Z", "2024-03-01 12:00:00.9"), ("2024-03-01T11:29:59.75-02:30", "2024-03-01 13:59:59.75")]
-CONTESTED = "2024-03-01T14:00:00.5+02:00", "2024-03-01 12:00:00.5"  # between the second and the third
+CONFLICTED = "2024-03-01T14:00:00.5+02:00", "2024-03-01 12:00:00.5"  # between the second and the third
 PARTIES = [("a", "z", "s1"), ("b", "y", "s2"), ("c", "x", "s1"), ("d", "w", "s2")]  # initiators rise, targets fall
 HIDDEN = "user\u202egpj\u200b.exe"
 ROWS = "return [...document.querySelectorAll('tr.event')].map(row => [...row.cells].map(cell => cell.innerText.trim()))"
@@ -37,20 +37,20 @@ def shown_times(tried):
     return [row[0].lstrip("\u25b8").strip() for row in tried.js(ROWS)]
 
 
-def switch_contested(tried):
-    tried.js("[...document.querySelectorAll('#outcomes label')].find(each => each.textContent.includes('contested')).click()")
+def switch_open(tried):
+    tried.js("[...document.querySelectorAll('#outcomes label')].find(each => each.textContent.includes('open conflicts')).click()")
 
 
 def test_times(opened):
-    """Each time is that of UTC with its own fraction, and contested events stand among the others by their instants."""
+    """Each time is that of UTC with its own fraction, and events of open conflicts stand among the others by their instants."""
     log = document()
-    log["events"] += [dict(EVENT, id="c", eventTime=CONTESTED[0], name=name) for name in "ab"]
+    log["events"] += [dict(EVENT, id="c", eventTime=CONFLICTED[0], name=name) for name in "ab"]
     tried = opened("times", log)
     wanted = [shown for _, shown in TIMES]
     assert shown_times(tried) == wanted
     assert tried.texts("#span") == ["%s \u2013 %s UTC" % (wanted[0], wanted[-1])]
-    switch_contested(tried)
-    assert shown_times(tried) == wanted[:2] + [CONTESTED[1]] * 2 + wanted[2:]
+    switch_open(tried)
+    assert shown_times(tried) == wanted[:2] + [CONFLICTED[1]] * 2 + wanted[2:]
 
 
 def test_range(opened):
@@ -192,3 +192,30 @@ def test_printed(place, driver):
     driver.execute_cdp_cmd("Page.printToPDF", {})
     assert tried.js("return window.said") == "1\u2013250 of 250"
     assert tried.texts("#panel-events .where") == ["1\u2013100 of 250"]
+
+
+@pytest.mark.parametrize("count, levels", [(1, ["1"]), (7, ["2", "4", "6"]), (90, ["20", "40", "60", "80"])])
+def test_levels(opened, count, levels):
+    """The timeline has one to five round numbers of events beside it, up to its highest column."""
+    tried = opened("levels", {"id": "g", "events": [dict(EVENT, id="e%d" % at) for at in range(count)]})
+    assert "at most %d in" % count in tried.texts("#highest")[0]
+    assert tried.texts(".scale text") == levels
+
+
+def test_sums(opened):
+    """The head says how facts and conflicts add up: two events, one of them with two bodies, and a metric with three values."""
+    log = {"id": "g", "events": [dict(EVENT, id="e"), *(dict(EVENT, id="f", name=name) for name in "ab")], "metrics": [{"metricId": "m", "v": v} for v in (1, 2, 3)]}
+    said = opened("sums", log).texts(".sums")[0]
+    assert said == "Of 6 facts the log text has 1, and the conflict list 5. Of 2 conflicts 2 are open: their 5 values, 2 of them of events, are in the list alone."
+
+
+def test_set_aside(place, driver):
+    """What was set aside is listed with its faults, and found by the search."""
+    place.file("aside", "".join(json.dumps({"file": name, "line": 1, "faults": ["id"], "text": "x"}) + "\n" for name in ("a", HIDDEN)).encode())
+    tried = Tried(driver, place.page("aside", "--set-aside", "aside", place.file("aside.json", document()))).ready()
+    assert tried.texts("#tab-aside") == ["Set aside 2"]
+    tried.show("aside")
+    rows = "return [...document.querySelectorAll('#panel-aside tbody tr')].map(row => [...row.cells].slice(0, 3).map(cell => cell.textContent))"
+    assert tried.js(rows) == [["a", "1", "id"], ["userU+202EgpjU+200B.exe", "1", "id"]]
+    tried.type("#search", "exe")
+    assert len(tried.js(rows)) == 1

@@ -79,7 +79,7 @@ def test_hostile(place, driver, hostile_page):
     assert tried.js("return document.documentElement.scrollWidth <= innerWidth"), "the page is wider than the window"
     assert tried.js("try { document.body.innerHTML = 'x'; return 'open' } catch (fault) { return fault.name }") == "TypeError"
     tried.show("events")
-    tried.js("[...document.querySelectorAll('#outcomes label')].find(each => each.textContent.includes('contested')).click()")
+    tried.js("[...document.querySelectorAll('#outcomes label')].find(each => each.textContent.includes('open conflicts')).click()")
     shown = len(json.loads(place.run("cadf", "show", "hostile.cadf"))["events"])
     listed = json.loads(place.run("cadf", "show", "--conflicts", "hostile.cadf"))["conflicts"]
     wanted = shown + sum(len(each["values"]) for each in listed if each["kind"] == "E")
@@ -431,9 +431,9 @@ def tree(driver):
 def test_small(place, driver):
     """Logs with nothing of a kind: each view opens, and says that there is nothing."""
     logs = {"empty": {"id": "g", "events": []}, "one": {"id": "g", "events": [dict(EVENT, id="e")]},
-            "contested": {"id": "g", "events": [dict(EVENT, id="e", name=name) for name in "ab"]},
+            "open": {"id": "g", "events": [dict(EVENT, id="e", name=name) for name in "ab"]},
             "entities": {"id": "g", "events": [], "metrics": [{"metricId": "m", "v": v} for v in (1, [], "1")], "p": {"q": []}}}
-    said = {"empty": ["The log shows no event.", "Nothing contradicts"], "one": ["Nothing contradicts"], "contested": ["Each event is contested"],
+    said = {"empty": ["The log shows no event.", "Nothing contradicts"], "one": ["Nothing contradicts"], "open": ["Each event has an open conflict"],
             "entities": ["The log shows no event.", "3 values differ"]}
     for name, log in logs.items():
         tried = Tried(driver, place.page(name, place.file(name + ".json", log))).ready()

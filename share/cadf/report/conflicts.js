@@ -248,7 +248,7 @@ function conflictMore(at, values, {equal, flat}) {
   return more;
 }
 
-/** Says what a contested event is about, as its first value has it. */
+/** Says what a conflicted event is about, as its first value has it. */
 function about(value) {
   const made = make("p", {class: "minor about"}), short = role => { const [identifier, name] = party(value, role); return cut(name || identifier, 40); };
   put(made, plain(member(value, "eventTime")).replace("T", " "));
@@ -372,8 +372,8 @@ function conflictList(panel) {
 /** Makes the panel of conflicts and rulings. */
 function conflictsPanel(panel) {
   panel.append(make("p", {class: "minor"}, conflicts.length
-    ? "A ruling is a person's word for the value that is to be shown, and is never taken back. Choose values, save the choices, and make rulings of them."
-    : "Nothing contradicts: the log shows all that was told."));
+    ? "A ruling records a person's decision which value of a key the log shows, and is never taken back. Choose values, save the choices, and make rulings of them."
+    : "Nothing contradicts: the log shows all facts."));
   const show = conflicts.length ? conflictList(panel) : () => {};
   if (rulings.length) panel.append(rulingTable());
   return show;

@@ -174,10 +174,10 @@ function partyCell(event, role) {
   return put(made, cut(identifier, 300), both ? "small" : "bdi");
 }
 
-/** Makes the cell of an action; a contested event says there that it is one. */
+/** Makes the cell of an action; a value of an open conflict says there that it is one. */
 function actionCell(event) {
   const action = columns.action.of(event), made = make("td", {title: cut(named(action), 400)});
-  if (contested[event]) made.append(make("span", {class: "badge open"}, "contested"), " ");
+  if (isOpen[event]) made.append(make("span", {class: "badge open"}, "open"), " ");
   return put(made, cut(action, 200));
 }
 
@@ -227,8 +227,8 @@ function filterOf([name, label]) {
 /** Says why no event is listed. */
 function whyNone() {
   if (inLog.length) return "No event passes the filters.";
-  if (!contestedValues.length) return "The log shows no event.";
-  return "Each event is contested, so the log shows none: see the conflicts, or switch contested ones on.";
+  if (!openValues.length) return "The log shows no event.";
+  return "Each event has an open conflict, so the log shows none: see the conflicts, or switch the values of open conflicts on.";
 }
 
 /** Makes the head of a table. */
@@ -239,7 +239,7 @@ function eventsPanel(panel) {
   const body = make("tbody"), top = make("div", {class: "pages"});
   const heads = make("thead", {}, make("tr", {}, ...HEADS.map(head)), make("tr", {class: "filters"}, ...HEADS.map(filterOf)));
   const table = make("table", {class: fine ? "events fine" : "events"}, heads, body);
-  const list = paged(SIZE, top, body, row, () => chosen.contested ? events.length : inLog.length);
+  const list = paged(SIZE, top, body, row, () => chosen.open ? events.length : inLog.length);
   const show = () => {
     list(listed);
     if (!listed.length) body.append(make("tr", {}, make("td", {colspan: HEADS.length, class: "none"}, whyNone())));

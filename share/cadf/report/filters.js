@@ -7,10 +7,10 @@ const MARKS = ["\u2715", "\u2026", "?", "\u2713"];
 const conflicts = parts(member(data.listed, "conflicts"));
 const rulings = parts(member(data.listed, "rulings"));
 const unsettled = conflicts.filter(conflict => member(conflict, "ruled") === undefined);
-const contestedValues = unsettled.filter(conflict => plain(member(conflict, "kind")) === "E").flatMap(conflict => parts(member(conflict, "values")));
+const openValues = unsettled.filter(conflict => plain(member(conflict, "kind")) === "E").flatMap(conflict => parts(member(conflict, "values")));
 const inLog = parts(member(data.log, "events"));
-const events = inLog.concat(contestedValues);   // put in order of time below
-const contested = new Uint8Array(events.length);
+const events = inLog.concat(openValues);   // put in order of time below
+const isOpen = new Uint8Array(events.length);   // whether it is a value of an open conflict
 
 /** Numbers the distinct texts of a column in the order in which they come. */
 class Column {
@@ -67,14 +67,14 @@ function party(event, role) {
   return [plain(member(embedded, "id")), name !== undefined && isText(name) ? real(name) : ""];
 }
 
-/** Puts contested values among the events of the log, by time; equal times keep the log's order. */
-function mergeContested() {
+/** Puts the values of open conflicts among the events of the log, by time; equal times keep the log's order. */
+function mergeOpen() {
   const when = events.map(event => instant(plain(member(event, "eventTime"))));
   const order = when.map((_, at) => at).sort((a, b) => when[a] - when[b] || a - b), before = events.slice();
-  order.forEach((from, to) => { events[to] = before[from]; contested[to] = from >= inLog.length ? 1 : 0; });
+  order.forEach((from, to) => { events[to] = before[from]; isOpen[to] = from >= inLog.length ? 1 : 0; });
 }
 
-if (contestedValues.length) mergeContested();
+if (openValues.length) mergeOpen();
 let fine = false;   // whether some time has more than microseconds
 events.forEach((event, at) => {
   const outcome = plain(member(event, "outcome")), time = plain(member(event, "eventTime"));
@@ -89,7 +89,7 @@ events.forEach((event, at) => {
 /* ---- What is chosen, and which events that leaves. ---- */
 
 const all = {search: "", action: "", initiator: "", target: "", observer: "", from: -Infinity, until: Infinity};
-const chosen = {...all, outcomes: new Set([0, 1, 2, 3]), contested: false, sort: "time", falling: false};
+const chosen = {...all, outcomes: new Set([0, 1, 2, 3]), open: false, sort: "time", falling: false};
 let passing = [];   // events that pass all but the range of time
 let listed = [];    // those within the range, sorted
 const watchers = [];
@@ -129,7 +129,7 @@ function filtered() {
   const tests = Object.keys(columns).map(name => [columns[name].at, passes(columns[name], chosen[name] || "")]).filter(([, test]) => test);
   const search = chosen.search ? new Search(chosen.search) : null, found = [];
   for (let event = 0; event < events.length; event++) {
-    if (!chosen.outcomes.has(outcomes[event]) || contested[event] && !chosen.contested) continue;
+    if (!chosen.outcomes.has(outcomes[event]) || isOpen[event] && !chosen.open) continue;
     if (tests.some(([at, test]) => !test[at[event]])) continue;
     if (search && !search.finds(events[event])) continue;
     found.push(event);

@@ -19,6 +19,30 @@ function restOf() {
   return [["Properties", entries(data.log).filter(([name]) => !own.has(name))], ...lists].filter(([, found]) => found.length);
 }
 
+/* ---- What was set aside. ---- */
+
+/** Makes the row of an entry: its file, its line, its faults, and the beginning of what it has. */
+function asideRow([file, line, faults, beginning]) {
+  const why = make("td"), what = make("td");
+  for (const fault of faults) put(why, cut(fault, 300), "div");
+  if (beginning) what.append(make("details", {}, make("summary", {}, "its beginning"), put(make("pre", {tabindex: 0}), beginning)));
+  return make("tr", {}, put(make("td", {class: "party"}), cut(file, 300)), put(make("td", {class: "number"}), line), why, what);
+}
+
+/** Makes the panel of what was set aside; it obeys the search. */
+function asidePanel(panel) {
+  const body = make("tbody"), top = make("div", {class: "pages"});
+  const list = paged(50, top, body, asideRow, () => data.aside.length);
+  const show = () => {
+    const wanted = chosen.search.toLowerCase();
+    if (!panel.hidden) list(data.aside.filter(entry => entry.flat().some(each => each.toLowerCase().includes(wanted))));
+  };
+  watchers.push(show);
+  panel.append(make("p", {class: "minor"}, "These lines and events are in no log: mend them, and take them again."), top,
+    make("div", {class: "scroll"}, make("table", {class: "pairs"}, heading(["File", "Line", "Faults", "What it has"], ["Line"]), body)));
+  return show;
+}
+
 /* ---- The views, and the start. ---- */
 
 const panels = new Map();
@@ -77,6 +101,15 @@ async function prove() {
   id("proved").textContent = answers.every(Boolean) ? "\u2713 The data in this page make both digests." : "\u2715 The data in this page do not make these digests.";
 }
 
+/** Explains the count of conflicts by those of values. */
+function explained() {
+  const settled = conflicts.length - unsettled.length, part = openValues.length;
+  const values = unsettled.reduce((before, conflict) => before + parts(member(conflict, "values")).length, 0);
+  const some = part && part < values ? `, ${counted(part)} of them of events,` : "";
+  return conflicts.length ? `Of ${counted(conflicts.length)} conflicts ${counted(unsettled.length)} are open: their ${counted(values)} values${some} are in the list alone.`
+    + (settled ? ` ${counted(settled)} are settled: the log shows the ruled value, and the list has the others.` : "") : "";
+}
+
 /** Fills the head of the page. */
 function fillHead() {
   const name = plain(member(data.log, "id"));
@@ -88,6 +121,9 @@ function fillHead() {
   id("other").hidden = !data.lacks.length;
   id("range").hidden = !id("range").textContent;
   id("open").textContent = counted(unsettled.length);
+  id("sums").textContent = explained();
+  id("aside").hidden = !data.aside;
+  if (!data.aside) id("asides").textContent = "What was set aside before it came into a site is not on it.";
 }
 
 /** Ties the controls of the page to what they do. */
@@ -122,6 +158,7 @@ addPanel("conflicts", "Conflicts", conflicts.length, conflictsPanel);
 if (data.lacks.length) addPanel("sites", "Two sites", data.lacks.reduce((before, side) => before + parts(side).length, 0), sitesPanel);
 const rest = restOf();
 const fillRest = panel => panel.append(...rest.map(([title, found]) => namedValues(title, found)));
+if (data.aside) addPanel("aside", "Set aside", data.aside.length, asidePanel);
 if (rest.length) addPanel("rest", "Rest of the log", rest.reduce((sum, [, found]) => sum + found.length, 0), fillRest);
 wire();
 update();

@@ -94,7 +94,7 @@ function matrix(found, side, other) {
 
 /** Says of what the failures and events are counted. */
 function counting() {
-  const every = chosen.contested ? events.length : inLog.length;
+  const every = chosen.open ? events.length : inLog.length;
   return listed.length === every ? `All ${counted(every)} events are counted.`
     : `Only the ${counted(listed.length)} events of ${counted(every)} that pass the filters are counted.`;
 }

@@ -1,4 +1,4 @@
-/* The timeline: events by time and outcome, contested ones below, and the range that is selected. */
+/* The timeline: events by time and outcome, values of open conflicts below, and the range that is selected. */
 
 const SECOND = 1e3, MINUTE = 6e4, HOUR = 36e5, DAY = 864e5, YEAR = 315576e5;
 const multiples = (unit, ...counts) => counts.map(count => count * unit);
@@ -64,17 +64,17 @@ function bar(bin, at, width, most) {
   return column;
 }
 
-/** Draws below the bars when events happened that are contested, and so not in the log. */
-function contestedStrip(width) {
+/** Draws below the bars when events of open conflicts happened, which are not in the log. */
+function openStrip(width) {
   const counts = new Map(), group = draw("g");
-  for (let event = contested.indexOf(1); event >= 0; event = contested.indexOf(1, event + 1)) {
+  for (let event = isOpen.indexOf(1); event >= 0; event = isOpen.indexOf(1, event + 1)) {
     const at = Math.floor((times[event] - timeline.from) / timeline.step);
     if (at >= 0 && at < timeline.bins.length) counts.set(at, (counts.get(at) || 0) + 1);
   }
   const most = Math.max(1, ...counts.values());
   for (const [at, count] of counts) {
     const box = {x: at * width + 0.4, y: BASE + 1.5, width: Math.max(1, width - 0.8), height: 3.5, opacity: 0.3 + 0.7 * count / most};
-    group.append(draw("rect", {class: "contested", ...box}, draw("title", {}, `${counted(count)} contested values`)));
+    group.append(draw("rect", {class: "conflicted", ...box}, draw("title", {}, `${counted(count)} values of open conflicts`)));
   }
   return group;
 }
@@ -93,6 +93,22 @@ function axis({from, until}, base) {
   return group;
 }
 
+/** Returns the round numbers of events at which a level is drawn, two to five of them if there are so many events. */
+function levels(most) {
+  const power = 10 ** Math.floor(Math.log10(most)), step = [power / 5, power / 2, power, 2 * power].find(each => each >= 1 && most / each <= 5) || 1;
+  return Array.from({length: Math.floor(most / step)}, (_, at) => (at + 1) * step);
+}
+
+/** Draws how many events a height is: beside the drawing if there is room, or within it. */
+function scale(most) {
+  const group = draw("g", {class: "axis scale"}), isBeside = id("histogram").getBoundingClientRect().left >= 26;
+  for (const level of levels(most)) {
+    const y = BASE - level / most * (BASE - TOP), place = isBeside ? {x: -4, y: y + 3, "text-anchor": "end"} : {x: 2, y: y - 2};
+    group.append(draw("line", {class: "level", x1: 0, x2: wide, y1: y, y2: y}), draw("text", place, level.toLocaleString("en", {notation: "compact"})));
+  }
+  return group;
+}
+
 /** Draws the timeline again. */
 function drawTimeline() {
   wide = id("histogram").clientWidth || wide;
@@ -101,8 +117,8 @@ function drawTimeline() {
   const picture = draw("svg", {viewBox: `0 0 ${wide} ${HIGH}`, "aria-hidden": "true"});
   const front = Math.max(timeline.from, chosen.from), back = Math.min(timeline.until, chosen.until);
   if (chosen.from > -Infinity || chosen.until < Infinity) {
-    const scale = time => (time - timeline.from) / timeline.step * width;
-    picture.append(draw("rect", {class: "range", x: scale(front), y: 0, width: Math.max(0, scale(back) - scale(front)), height: BASE}));
+    const place = time => (time - timeline.from) / timeline.step * width;
+    picture.append(draw("rect", {class: "range", x: place(front), y: 0, width: Math.max(0, place(back) - place(front)), height: BASE}));
   }
   picture.append(draw("line", {class: "ground", x1: 0, x2: wide, y1: BASE, y2: BASE}));
   timeline.bins.forEach((bin, at) => {
@@ -110,7 +126,7 @@ function drawTimeline() {
     if (column && (time + timeline.step <= chosen.from || time >= chosen.until)) column.setAttribute("class", "faint");
     if (column) picture.append(column);
   });
-  picture.append(contestedStrip(width), axis(timeline, BASE));
+  picture.append(openStrip(width), scale(most), axis(timeline, BASE));
   id("histogram").replaceChildren(picture);
   id("highest").textContent = `${words(sum(timeline.bins))}; at most ${counted(most)} in ${length(timeline.step)}`;
   sayRange();
@@ -222,19 +238,19 @@ function toggle(checked, mark, name, count, action) {
   return make("label", {class: "switch"}, box, mark, " " + name + " ", make("b", {}, counted(count)));
 }
 
-/** Makes the switches of outcomes, and one for contested values, that are off at first since the log doesn't show them. */
+/** Makes the switches of outcomes, and one for values of open conflicts, that are off at first since the log doesn't show them. */
 function switches() {
   const counts = [0, 0, 0, 0];
-  outcomes.forEach((outcome, event) => { if (!contested[event]) counts[outcome]++; });
+  outcomes.forEach((outcome, event) => { if (!isOpen[event]) counts[outcome]++; });
   const turn = outcome => on => chosen.outcomes[on ? "add" : "delete"](outcome);
   const made = OUTCOMES.map((name, outcome) => toggle(chosen.outcomes.has(outcome), chip(outcome), name, counts[outcome], turn(outcome)));
-  const strip = make("span", {class: "chip contested"}), turnContested = on => { chosen.contested = on; };
+  const strip = make("span", {class: "chip conflicted"}), turnOpen = on => { chosen.open = on; };
   made.push(button("Only failures", () => {
     chosen.outcomes = new Set([0]);
     switches();
     update();
     id("outcomes").querySelector("button").focus();
   }, {class: "small"}));
-  if (contestedValues.length) made.push(toggle(chosen.contested, strip, "contested", contestedValues.length, turnContested));
+  if (openValues.length) made.push(toggle(chosen.open, strip, "of open conflicts", openValues.length, turnOpen));
   id("outcomes").replaceChildren(id("outcomes").firstElementChild, ...made);
 }
