@@ -192,13 +192,19 @@ class Version(argparse.Action):
         parser.exit()
 
 
+class Help(argparse.RawDescriptionHelpFormatter):
+    """The layout of a help text: of at most 100 columns, also on a wider terminal."""
+
+    def __init__(self, prog):
+        super().__init__(prog, width=min(shutil.get_terminal_size().columns, 102) - 2)
+
+
 class Parser(argparse.ArgumentParser):
     """The parser of a tool's words. What it repeats of them can be printed."""
 
     def __init__(self, description, usage):
-        super().__init__(prog=tool(), description=description, usage=usage, allow_abbrev=False,
-                         formatter_class=argparse.RawDescriptionHelpFormatter)
-        self.add_argument("--version", action=Version, nargs=0, help="say the version and the commit, and end")
+        super().__init__(prog=tool(), description=description, usage=usage, allow_abbrev=False, formatter_class=Help)
+        self.add_argument("--version", action=Version, nargs=0, help="print the version and the commit, and exit")
 
     def error(self, message):
         super().error(printable(message))

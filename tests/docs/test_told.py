@@ -20,6 +20,12 @@ def page(*names):
         return file.read()
 
 
+def help_of(tool):
+    """The help of a tool, on a terminal that is wider than a page."""
+    words, environment = [os.path.join(TOP, "tools", tool), "--help"], dict(os.environ, COLUMNS="150")
+    return subprocess.run(words, check=True, env=environment, stdout=subprocess.PIPE, universal_newlines=True).stdout
+
+
 def told():
     """What FORMATS says of the command's refusals: each text, or how it begins, with its status."""
     table = page("docs", "FORMATS.md").split("\n| Line | Status |\n")[1].split("\n\n")[0]
@@ -77,13 +83,21 @@ def test_defaults(tool):
     """The manual page has the defaults that a tool tells."""
     manual = page("share", "man", "man1", "cadf.1").replace("\\-", "-")
     section = re.split(r"(?m)^\.S[SH] ", manual.split("\n.SS %s\n" % tool)[1])[0]
-    said = subprocess.run([os.path.join(TOP, "tools", tool), "--help"], check=True, stdout=subprocess.PIPE, universal_newlines=True).stdout
-    for block in re.split(r"\n  (?=-)", said)[1:]:
+    for block in re.split(r"\n  (?=-)", help_of(tool))[1:]:
         default = re.search("default(?:: |, and at most: )" + NUMBER, block)
         if default:
             option = re.match(r"--[a-z-]+", block).group()
             found = {number(each) for item in section.split(".TP\n") if option in item for each in re.findall(NUMBER, item)}
             assert number(default[1]) in found, option
+
+
+@pytest.mark.parametrize("tool", TOOLS)
+def test_help(tool):
+    """The help of a tool has at most 100 columns, and a text for each word that the tool takes."""
+    said = help_of(tool)
+    assert [line for line in said.splitlines() if len(line) > 100] == []
+    words = re.split(r"\n  (?=\S)", said.split("\npositional arguments:")[-1].split("\noptions:")[0] + said.split("\noptions:")[1])[1:]
+    assert [word for word in words if not re.search(r"\S {2,}[a-z]|\n {10,}[a-z]", word)] == [] and len(words) > 2
 
 
 def test_chart():
