@@ -86,6 +86,16 @@ def test_hostile(place, driver, hostile_page):
     assert tried.listed() == wanted, (tried.listed(), wanted)
 
 
+def test_hostile_aside(place, driver):
+    """What was set aside is shown as text too, wherever a sender's text is in it."""
+    text = "</script>" + ALERT
+    place.file("aside", (json.dumps({"file": text, "line": 1, "faults": [text], "text": text}) + "\n").encode())
+    tried = Tried(driver, place.page("aside", "--set-aside", "aside", place.file("small.json", {"id": "g", "events": []}))).ready()
+    tried.open_all()
+    assert tried.texts("#panel-aside tbody pre") == [text]
+    tried.is_quiet()
+
+
 def test_policy_alone(place, driver, hostile_page):
     """With the escape taken out the data's script ends the block and stands in the page: the policy alone refuses it."""
     with open(hostile_page, encoding="utf-8") as file:
