@@ -140,7 +140,7 @@ def letter_words(chance):
 
 
 def key_words(chance):
-    """A replica, a letter, and mostly the name of a key that is held, of a contested one where there are some.
+    """A replica, a letter, and mostly the name of a key that is held, of a conflicted one if there are some.
 
     Of its values none, one or more are ruled, or one that is not held."""
     atoms = some_atoms(chance)

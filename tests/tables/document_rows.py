@@ -47,7 +47,7 @@ def conflicts(*entries, rulings=""):
 
 
 def entry(kind, key, *values, ruled=""):
-    """The entry of a contested key; `ruled` is the digest of the value that is ruled."""
+    """The entry of a conflicted key; `ruled` is the digest of the value that is ruled."""
     member = '"ruled":"%s",' % ruled if ruled else ""
     return '{"key":"%s","kind":"%s",%s"values":[%s]}' % (key, kind, member, ",".join(values))
 
