@@ -8,6 +8,7 @@ The pages are README, CONTRIBUTING, docs/*.md, the manual page and the README of
   tables are left out. An inline piece of code is one word, and so is a list of them. A paragraph, a list item and a
   heading end a sentence. A dot ends one only if a blank follows it.
 - No phrase of tests/docs/phrases occurs, in text or in tables.
+  Those of one word occur in no tool either, nor in the parts of the report's page.
 - Each command that the page shows is run by somebody: the lines `$ command` by `tests/docs/test_shown.py`. A command of
   a block ```sh is a script of the repository, or a line of tests/docs/elsewhere names the script that runs it.
 
@@ -28,6 +29,7 @@ from tests.docs import shown
 MOST_WORDS = 60
 MOST_README = (200, 120)  # lines, and characters of a line
 PAGES = re.compile(r"(README|CONTRIBUTING|docs/\w+|examples/vectors/README)\.md|share/man/man1/cadf\.1")
+PROGRAMS = re.compile(r"(?:tools|share/cadf)/.*")
 LINK = re.compile(r"\]\(([^)#\s]*)(?:#([^)\s]*))?\)")
 ITEM = re.compile(r"\s*(?:[-*]|\d+\.) ")
 SENTENCE_END = re.compile(r"(?<!\.)[.!?][)\"'*]*\s+")
@@ -133,6 +135,14 @@ def phrases(name, text):
         for number, paragraph in found:
             if pattern.search(paragraph):
                 yield "%s:%d: `%s`: write %s" % (name, number, phrase, instead)
+
+
+def words_of_programs(name, text):
+    """A line for each line of a program that has a refused phrase of one word, in what it prints or in its code."""
+    for word, instead in (pair for pair in refused_phrases() if " " not in pair[0]):
+        for number, line in enumerate(text.splitlines(), 1):
+            if re.search(r"(?i)(?<![a-z])%s" % word, line):
+                yield "%s:%d: `%s`: write %s" % (name, number, word, instead)
 
 
 def anchors(text):
@@ -281,6 +291,8 @@ def blind_faults():
         found = tuple(len(list(fault(name, text))) for fault in FAULTS)
         if found != expected:
             yield "the trial %s %r: found %r, not %r" % (name, text[:40], found, expected)
+    if len(list(words_of_programs("tools/x", "a\nis_contested\nContested, uncontested\n"))) != 2:
+        yield "the words of a program are found otherwise"
 
 
 def main():
@@ -294,6 +306,8 @@ def main():
             found += [line for fault in FAULTS for line in fault(name, read(name))]
         elif name.endswith(".md"):
             found += dead_links(name, read(name))
+        elif PROGRAMS.fullmatch(name):
+            found += words_of_programs(name, read(name))
     print("".join("pages: %s\n" % line for line in found), end="")
     if found:
         sys.exit("pages: %d faults" % len(found))

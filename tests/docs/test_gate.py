@@ -88,3 +88,10 @@ def test_each_place_is_explained():
     places = {name.split("/")[0] + ("/" if "/" in name else "") for name in git_files()}
     explained = set(CODE.findall(section("CONTRIBUTING.md", "Where things are")))
     assert sorted(places - explained - {".gitignore", "CONTRIBUTING.md"}) == []
+
+
+@pytest.mark.needs("git")
+def test_each_page_has_readers():
+    """Each page of docs/ is in the table of pages by reader."""
+    pages = [os.path.basename(name)[:-len(".md")] for name in git_files() if re.fullmatch(r"docs/\w+\.md", name)]
+    assert [name for name in pages if not re.search(r"\b%s\b" % name, section("CONTRIBUTING.md", "The pages"))] == []
