@@ -16,7 +16,7 @@ from tests.package import completions
 
 INSTALL = os.path.join(TOP, "install", "install")
 TOOLS = sorted(name for name in os.listdir(os.path.join(TOP, "tools")) if os.path.isfile(os.path.join(TOP, "tools", name)))
-GUIDES = ("GUIDE", "OPENSTACK", "REPORT", "OPERATING", "SECURITY", "LIBRARY", "PERFORMANCE", "SYNC", "SEALS")
+GUIDES = ("TUTORIAL", "GUIDE", "ERRORS", "GLOSSARY", "OPENSTACK", "REPORT", "OPERATING", "SECURITY", "LIBRARY", "PERFORMANCE", "SYNC", "SEALS")
 VECTORS = os.path.join(TOP, "examples", "vectors")
 LONG_OPTION = re.compile(r"(?<![\w-])--[a-z][a-z-]*")
 # What is installed beside the tools, the pages of docs/ and the examples that have a folder.
