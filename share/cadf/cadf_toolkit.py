@@ -255,7 +255,7 @@ def are_lines(first):
     """Whether these bytes begin with a value of JSON in a line of its own, and go on."""
     line, _, rest = first.partition(b"\n")
     try:
-        json.loads(line)
+        json.loads(line.decode("utf-8-sig"))
     except (ValueError, RecursionError):
         return False
     return bool(rest.strip())

@@ -56,6 +56,7 @@ FAULTS = [
     ("conflicts", "a conflict list, which cadf writes and does not read: take the site's file", dict.fromkeys(READERS, 1)),
     ("script", "a script: `cadf rehearse` reads it", dict.fromkeys(READERS, 1)),
     ("lines", "lines of JSON: `cadf-from-openstack --log ID FILE` makes a document of them", dict.fromkeys(READERS, 1)),
+    ("wide", "not JSON", {"which": 1}),
     ("page", "a page of cadf-report: take the site's file", dict.fromkeys(READERS, 1)),
     ("inventory", "it begins as an inventory, which holds no facts: `cadf missing-by SITE INVENTORY` answers it", {"from-openstack": 1}),
     ("sketch", "it begins as a sketch, which holds no facts: `cadf missing-by-sketch SITE SKETCH` answers it", {"from-openstack": 1}),
@@ -146,6 +147,7 @@ def make_files(cadf):
     put("split", 'CADF-SPLIT 1\nL "g"\nB day\n')
     put("script", "learn 0 {}\n")
     put("lines", "%s\n%s\n" % (document(["e1"]), document(["e4"])))
+    put("wide", ("%s\n%s\n" % (document(["e1"]), document(["e4"]))).encode("utf-16"))
     made("page", os.path.join(TOOLS, "cadf-report"), "good.cadf")
     with open("good.cadf", "rb") as file:
         good = file.read()
@@ -275,6 +277,7 @@ def test_copy_that_goes_on_is_caught(caller, tmp_path):
 @pytest.mark.parametrize("file, right, wrong", [
     ("damaged", '"%s: %s" % (text, advice) for begin', "text for begin"),
     ("lines", "OF_LINES if are_lines(first) else None", "None"),
+    ("wide", 'line.decode("utf-8-sig")', "line"),
     ("script", "if first.startswith(begin)), None)", "if False), None)"),
     ("lacking", '    "line ": DAMAGED,\n', ""),
     ("page", 'b"<!doctype html>": ', 'b"<!DOCTYPE html>": '),
