@@ -60,7 +60,7 @@ impl<'a> SuffixRange<'a> {
     }
 
     /// Returns the bounds of the suffixes that begin with the text: the index of the first one, and that of the first
-    /// above them. Both are equal if none begins with it. Binary search.
+    /// above them. Both are equal if none begins with it. Binary search, then galloping search.
     fn bounds(&self, text: &str) -> (usize, usize)
         requires { IsStrictlySortedBy texts_cmp self.now }
         ensures order { result.0 ≤ result.1 }
@@ -70,63 +70,8 @@ impl<'a> SuffixRange<'a> {
         ensures upto { AllByRecursion (λ l. is_before (text.now ∷ []) true l ≡ true) (take result.1 self.now) }
         ensures above { AllByRecursion (λ l. is_before (text.now ∷ []) true l ≡ false) (drop result.1 self.now) }
     {
-        let mut low: usize = 0;
-        let mut high = self.count();
-        while low < high {
-            let middle = low + (high - low) / 2;
-            match self.text_cmp(middle, text) {
-                Ordering::Less => low = middle + 1,
-                Ordering::Equal => {
-                    let first = self.lower_bound(text, low, middle);
-                    return (first, self.upper_bound(text, middle + 1, high));
-                }
-                Ordering::Greater => high = middle,
-            }
-        }
-        (low, low)
-    }
-
-    /// Returns the index, from `low` to `high`, of the first suffix that begins with the text or is above those that
-    /// do. Checks `low` first, then uses binary search.
-    fn lower_bound(&self, text: &str, low: usize, high: usize) -> usize
-        requires rising { IsStrictlySortedBy texts_cmp self.now }
-        requires order { low ≤ high }
-        requires ends { high ≤ length self.now }
-        requires below { (k : ℕ) → k < low → is_before (text.now ∷ []) false (get_or self.now k []) ≡ true }
-        requires above { (k : ℕ) → high ≤ k → k < length self.now → is_before (text.now ∷ []) false (get_or self.now k []) ≡ false }
-        ensures upto { result ≤ high }
-        ensures below { AllByRecursion (λ l. is_before (text.now ∷ []) false l ≡ true) (take result self.now) }
-        ensures above { AllByRecursion (λ l. is_before (text.now ∷ []) false l ≡ false) (drop result self.now) }
-    {
-        if low == high {
-            return self.binary_search(text, false, low, high);
-        }
-        if self.is_before(low, text, false) {
-            return self.binary_search(text, false, low + 1, high);
-        }
-        self.binary_search(text, false, low, low)
-    }
-
-    /// Returns the index, from `low` to `high`, of the first suffix above those that begin with the text. Checks the
-    /// last one below `high` first, then uses binary search.
-    fn upper_bound(&self, text: &str, low: usize, high: usize) -> usize
-        requires rising { IsStrictlySortedBy texts_cmp self.now }
-        requires order { low ≤ high }
-        requires ends { high ≤ length self.now }
-        requires below { (k : ℕ) → k < low → is_before (text.now ∷ []) true (get_or self.now k []) ≡ true }
-        requires above { (k : ℕ) → high ≤ k → k < length self.now → is_before (text.now ∷ []) true (get_or self.now k []) ≡ false }
-        ensures from { low ≤ result }
-        ensures within { result ≤ length self.now }
-        ensures below { AllByRecursion (λ l. is_before (text.now ∷ []) true l ≡ true) (take result self.now) }
-        ensures above { AllByRecursion (λ l. is_before (text.now ∷ []) true l ≡ false) (drop result self.now) }
-    {
-        if low == high {
-            return self.binary_search(text, true, low, high);
-        }
-        if self.is_before(high - 1, text, true) {
-            return self.binary_search(text, true, high, high);
-        }
-        self.binary_search(text, true, low, high - 1)
+        let low = self.binary_search(text, false, 0, self.count());
+        (low, self.gallop(text, low))
     }
 
     /// Returns the index, from `from` on, of the first suffix above those that begin with the text. Galloping search:
@@ -153,7 +98,8 @@ impl<'a> SuffixRange<'a> {
         self.binary_search(text, true, low, self.count())
     }
 
-    /// Finds that index by binary search, from `low` to `high`.
+    /// Returns the index, from `low` to `high`, of the first suffix that begins with the text or is above those that
+    /// do; if `passed`, of the first above them. Binary search.
     fn binary_search(&self, text: &str, passed: bool, low: usize, high: usize) -> usize
         requires rising { IsStrictlySortedBy texts_cmp self.now }
         requires order { low ≤ high }
@@ -161,7 +107,6 @@ impl<'a> SuffixRange<'a> {
         requires below { (k : ℕ) → k < low → is_before (text.now ∷ []) passed (get_or self.now k []) ≡ true }
         requires above { (k : ℕ) → high ≤ k → k < length self.now → is_before (text.now ∷ []) passed (get_or self.now k []) ≡ false }
         ensures from { low ≤ result }
-        ensures upto { result ≤ high }
         ensures within { result ≤ length self.now }
         ensures below { AllByRecursion (λ l. is_before (text.now ∷ []) passed l ≡ true) (take result self.now) }
         ensures above { AllByRecursion (λ l. is_before (text.now ∷ []) passed l ≡ false) (drop result self.now) }
@@ -222,14 +167,13 @@ impl<'a> SuffixRange<'a> {
         SuffixRange::new(self.nodes, numbers, self.nodes.next_depth(self.depth))
     }
 
-    /// Returns the least first text above the given one. For `None`, the least of all. Checks the last suffix first,
-    /// then uses binary search.
+    /// Returns the least first text above the given one. For `None`, the least of all. Binary search.
     pub fn next_child(&self, text: Option<&str>) -> Option<&'a str>
         requires { IsStrictlySortedBy texts_cmp self.now }
         ensures { option_copied result ≡ next_after (heads (set.from_list self.now)) (option_copied text.entry) }
     {
         match text {
-            Some(text) => self.text(self.upper_bound(text, 0, self.count())),
+            Some(text) => self.text(self.binary_search(text, true, 0, self.count())),
             None => self.least_text(),
         }
     }

@@ -11,7 +11,6 @@ loop-low-preserved-then-is_before c =
     let f = c.loop-low.invariant.from in
     record {
       from = omega (arith, f);
-      upto = c.loop-low.invariant.upto;
       within = omega (arith, w, e, t);
       ends = e;
       below = all_before c.args.self.now c.requires.rising (c.args.text.now ∷ []) c.args.passed _ (omega (arith, w, e, t))
@@ -24,10 +23,8 @@ loop-low-preserved c =
     let w = c.loop-low.invariant.within in
     let e = c.loop-low.invariant.ends in
     let t = c.loop-low-test.true in
-    let u = c.loop-low.invariant.upto in
     record {
       from = c.loop-low.invariant.from;
-      upto = omega (arith, w, u, t);
       within = omega (arith, w, e, t);
       ends = omega (arith, w, e, t);
       below = c.loop-low.invariant.below;

@@ -5,7 +5,6 @@ use Rattle.cadf_pathset.proofs.suffix_range.SuffixRange.binary_search.Given as g
 abbrev pub invariant-loop-low : goal.invariant-loop-low
 invariant-loop-low l = record {
   from : l.fn.low ≤ l.low;
-  upto : l.high ≤ l.fn.high;
   within : l.low ≤ l.high;
   ends : l.high ≤ length l.self;
   below : (k : ℕ) → k < l.low → is_before (l.text ∷ []) l.passed (get_or l.self k []) ≡ true;

@@ -10,7 +10,7 @@ pub returns-in-Some : goal.returns-in-Some
 returns-in-Some c =
     let ls = c.args.self.now in
     let t = c.in-Some.text.now in
-    c.text.ensures ∙ sym (text_at_bound t ls c.upper_bound.result c.upper_bound.ensures.below c.upper_bound.ensures.above)
+    c.text.ensures ∙ sym (text_at_bound t ls c.binary_search.result c.binary_search.ensures.below c.binary_search.ensures.above)
     ∙ sym (next_is ls c.requires (Some t)) ∙ ap (λ g. next_after (heads (set.from_list ls)) (option_copied g)) (sym c.in-Some.is)
 
 pub returns-in-None : goal.returns-in-None
