@@ -71,10 +71,10 @@ pub(crate) fn split_inputs(
 
 /// Writes the proof file, under the seal of all of them, for the facts of `facts`, and returns its length.
 #[tactic(auto, using(cadf_memory::proofs::Lists::refused_one_unread))]
-pub(crate) fn prove_inputs(
+pub(crate) fn prove_inputs<'b>(
     alloc: Global,
-    facts: &[u8],
-    inputs: &[CadfBytes<'_>],
+    facts: &'b [u8],
+    inputs: &[CadfBytes<'b>],
     output: &mut [u8],
 ) -> Result<usize, ToolFault>
     ensures ok { IfOk result (IsHandedOut (IsMadeOfOneAndAll input_spec proof_of_union proof_file facts.now (bytes_in inputs.now)) output.old output.new) }

@@ -153,15 +153,15 @@ module _ {M W V : Type 0} (tell : M → Text) (sink : Sink W) (old new : W) (v :
     run_made_all r = of_expected_all r.expected r.first.is r.answer
 
   module _ {T U X : Type 0} (i : InputSpec T) (j : InputSpec U) (k : InputSpec X) (work : T × (U × X) → Result M ToolFault)
-      (t u x : SourceTransition) (a b c : List ℕ) (given : t.old.left ≡ Some a) (given' : u.old.left ≡ Some b)
-      (given'' : x.old.left ≡ Some c) where
+      (t u x : SourceTransition) (p q s : List ℕ) (given : t.old.left ≡ Some p) (given' : u.old.left ≡ Some q)
+      (given'' : x.old.left ≡ Some s) where
     of_expected_three : (expected : Result M ToolFault) → IsExpectedOf (three i t j u k x) work expected
-        → IsAnswer tell sink old new expected (Ok v) → IsHandedOut (IsMadeOfThree i j k work tell a b c) first last told
+        → IsAnswer tell sink old new expected (Ok v) → IsHandedOut (IsMadeOfThree i j k work tell p q s) first last told
     of_expected_three (Ok made) (value, are, e) w =
-        out (IsMadeOfThree i j k work tell a b c) (tell made) w
+        out (IsMadeOfThree i j k work tell p q s) (tell made) w
         (record {
           value = value;
-          inputs = (read_of i t a given value.0 are.0, (read_of j u b given' value.1.0 are.1.0, read_of k x c given'' value.1.1 are.1.1));
+          inputs = (read_of i t p given value.0 are.0, (read_of j u q given' value.1.0 are.1.0, read_of k x s given'' value.1.1 are.1.1));
           made = made;
           worked = e;
           told = refl;
@@ -169,7 +169,7 @@ module _ {M W V : Type 0} (tell : M → Text) (sink : Sink W) (old new : W) (v :
     of_expected_three (Err fault) d w = absurd (never fault w.0)
 
     pub run_made_three : IsRun (three i t j u k x) work tell sink old new (Ok v)
-        → IsHandedOut (IsMadeOfThree i j k work tell a b c) first last told
+        → IsHandedOut (IsMadeOfThree i j k work tell p q s) first last told
     run_made_three r = of_expected_three r.expected r.first.is r.answer
 
   module _ {T S : Type 0} (reader : InputSpec T) (source : Source S) (work : T × List Loaded → Result M ToolFault) (t : SourceTransition)

@@ -103,12 +103,12 @@ pub fn seal(alloc: Global, input: &[u8], output: &mut [u8]) -> Result<usize, Too
 
 /// Writes a line for each fact of `facts`, if the proof shows under the seal that each is in the sealed set; with
 /// `absent`, that none is. Inputs count from 1: the seal is the first, the proof the last.
-pub fn verify(
+pub fn verify<'b>(
     alloc: Global,
     absent: bool,
-    seal: &[u8],
-    facts: &[u8],
-    proof: &[u8],
+    seal: &'b [u8],
+    facts: &'b [u8],
+    proof: &'b [u8],
     output: &mut [u8],
 ) -> Result<usize, ToolFault>
     ensures ok { IfOk result (IsHandedOut (IsMadeOfThree seal_spec input_spec proof_spec (verdict_of absent) (λ text. text) seal.now facts.now proof.now)
@@ -308,10 +308,10 @@ pub fn split(
 }
 
 /// Writes the proof file, under the seal of all inputs, for the facts of `facts`, which is counted first.
-pub fn prove(
+pub fn prove<'b>(
     alloc: Global,
-    facts: &[u8],
-    inputs: &[&[u8]],
+    facts: &'b [u8],
+    inputs: &[&'b [u8]],
     output: &mut [u8],
 ) -> Result<usize, ToolFault>
     ensures ok { IfOk result (IsHandedOut (IsMadeOfOneAndAll input_spec proof_of_union proof_file facts.now (bytes_of inputs.now)) output.old output.new) }
