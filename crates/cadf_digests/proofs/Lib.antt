@@ -1,0 +1,4 @@
+mod Hashing
+mod LaneRounds
+mod Lanes
+mod PaddedBlocks
