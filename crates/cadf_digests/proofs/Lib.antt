@@ -2,3 +2,4 @@ mod Hashing
 mod LaneRounds
 mod Lanes
 mod PaddedBlocks
+mod Places
