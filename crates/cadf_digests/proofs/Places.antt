@@ -1,5 +1,5 @@
 -- Texts that are taken in another order.
-use Rattle.std.proofs.Common.{◌≡◌, ◌≢◌, ℕ, ◌+◌, ◌<◌, ◌≤◌, List, [], length, map, get_or, refl, sym, ap, ◌∙◌, inl, inr, subst, arith}
+use Rattle.std.proofs.Common.{◌≡◌, ℕ, ◌+◌, ◌<◌, ◌≤◌, List, [], length, map, get_or, sym, ap, ◌∙◌, inl, inr, subst, arith}
 use Rattle.std.proofs.lemmas.Bool.{cases_eq, cases_lt}
 use Rattle.std.proofs.lemmas.List.{ext_get_or, get_or-map, get_or-set_other, get_or-set_same, length-map, length-set}
 use Rattle.std.proofs.lemmas.List.Elements.{All-from_get_or}
@@ -7,7 +7,7 @@ use Rattle.std.proofs.lemmas.List.FromFn.{get_or-map-range_with_len, length-map-
 use Rattle.std.proofs.lemmas.List.Sorted.{All-permutation, IsPermutation-sym, length_permutation}
 use Rattle.std.proofs.Math.ListN.{set}
 use Rattle.std.specs.Borrow.{Bor}
-use Rattle.std.specs.List.{All, range_with_len}
+use Rattle.std.specs.List.{All}
 use Rattle.std.specs.List.Sorted.{IsPermutation}
 use Rattle.sha2.specs.Sha256.{sha256}
 use Rattle.cadf_digests.specs.Texts.{bytes_of, numbered, place_in, text_in}
