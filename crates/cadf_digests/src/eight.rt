@@ -8,7 +8,7 @@ use crate::padding::{block_at, block_count};
 use crate::rounds::compress;
 use std::simd::prelude::*;
 
-/// Returns the SHA-256 of each of eight texts, which may differ in length. Takes the time of eight times the longest.
+/// Returns the SHA-256 of each of eight texts of any lengths. Takes as long as for eight texts of the longest length.
 pub fn digests(texts: [&[u8]; 8]) -> [[u8; 32]; 8]
     ensures { result ≡ map sha256 (bytes_of texts.entry) }
 {
