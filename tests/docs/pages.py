@@ -276,7 +276,7 @@ TRIALS = [
     ("link.md", "[a](docs/NOWHERE.md) [b](docs/FORMATS.md#nowhere) [c](#nowhere) [d](CONTRIBUTING.md#the-gate)\n", (0, 0, 3, 0, 0, 0, 0)),
     ("command.md", "    $ cadf\n\n```sh\nno-such-command   # why\npython3 -m tests.no\npython3 -m tests\n```\n", (0, 0, 0, 3, 0, 0, 0)),
     (BOXES, RIGHT, (0, 0, 0, 0, 0, 0, 0)),
-    (BOXES, RIGHT.replace("  0  cadf_json", "  1  cadf_json"), (0, 0, 0, 0, 1, 0, 0)),
+    (BOXES, RIGHT.replace("  0  cadf_", "  1  cadf_"), (0, 0, 0, 0, 1, 0, 0)),
     (BOXES, RIGHT.replace("| cadf_words |", "| |"), (0, 0, 0, 0, 0, 1, 0)),
     (BOXES, RIGHT.replace("| cadf_words |", "| cadf_words, cadf_words |"), (0, 0, 0, 0, 0, 1, 0)),
     (BOXES, RIGHT.replace("| cadf_words |", "| |").replace("+--+", "+--+\n| cadf_words |\n+--+", 1), (0, 0, 0, 0, 0, 1, 0)),
