@@ -81,8 +81,6 @@ class SiteSeal(OfParts):
     def take(self, line, number):
         """Takes the line of that number."""
         part, found = part_in(line, ENTRY, number, self)
-        if int(found[2]) >= MOST:
-            raise Refused("line %d: shape" % number)
         self.parts[part] = int(found[2]), found[3]
 
     def seal(self, part):
@@ -198,7 +196,7 @@ def part_in(line, pattern, number, kept):
     """What the line of that number has of a part, which comes after those that are kept."""
     found = pattern.fullmatch(line)
     part = found[1].decode() if found else ""
-    if not kept.has(part):
+    if not kept.has(part) or any(int(count) >= MOST for count in found.groups()[1:2]):
         raise Refused("line %d: shape" % number)
     if kept.parts and order(part) <= order(next(reversed(kept.parts))):
         raise Refused("line %d: order" % number)

@@ -211,7 +211,7 @@ REFUSED = [
     (HEAD + DAY.replace("-29", ""), "line 4: shape"), (HEAD + DAY.replace("-29", "-29T12"), "line 4: shape"), (HEAD + DAY.replace("2024-02-29", "all"), "line 4: shape"),
     (HEAD.encode() + b"W \xff\n", "line 4: shape"), (HEAD + "W " + "x" * 2 ** 17 + "\n", "line 4: shape"), (HEAD + DAY + "\n", "line 5: shape"),
     (HEAD + NEXT + DAY, "line 5: order"), (HEAD + DAY + DAY, "line 5: order"), (HEAD + DAY + SHARED, "line 5: order"), (HEAD + SHARED + SHARED, "line 5: order"),
-    (HEAD + DAY + NEXT + DAY, "line 6: order"), (HEAD + "Z\n", "digest"), (HEAD + DAY + "Z %s\n" % ROOT, "digest"), (HEAD + "Z" * 2 ** 17 + "\n", "digest"),
+    (HEAD + NEXT + DAY.replace(" 1 ", " %d " % 2 ** 64), "line 5: shape"), (HEAD + DAY + NEXT + DAY, "line 6: order"), (HEAD + "Z\n", "digest"), (HEAD + DAY + "Z %s\n" % ROOT, "digest"), (HEAD + "Z" * 2 ** 17 + "\n", "digest"),
     (with_digest((HEAD + DAY).encode()) + b"\n", "trailing bytes"), (with_digest((HEAD + DAY).encode())[:-1], "truncated"),
 ]
 
