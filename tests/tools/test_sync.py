@@ -230,7 +230,7 @@ def test_refused_sites(sites, here, there, words, part):
             sites.put(name, facts(1, log=log), log)
     before = {each.name: each.read_bytes() for each in sites.path.iterdir()}
     answer = sites.sync(*words, "here.cadf", "there.cadf")
-    assert answer.status == 1 and part in said(answer), answer
+    assert answer.status == 1 and part in said(answer) and "stopped by" not in said(answer), answer
     assert {each.name: each.read_bytes() for each in sites.path.iterdir()} == before
 
 
@@ -777,6 +777,8 @@ WRONG = [
      "        self.send_message(word, content, items)\n        with self.beside(lambda: None) as (thread, faults):\n",
      test_a_fault_is_heard_while_much_is_written),
     ("part == SHARED or since is None or part >= since", "True", test_since_leaves_older_windows),
+    (" and not (is_over.is_set() and line == b\"cadf-sync: stopped by SIGTERM\\n\")", "",
+     lambda sites: test_refused_sites(sites, None, None, (), "neither site is there")),
     ("self.pushed += pieces(", "self.pulled += pieces(", lambda sites: test_two_files(sites, (), (1, 2, 3, 4), (1, 2, 3, 4))),
 ]
 
