@@ -1,4 +1,4 @@
-"""Calls of atoms, replicas, inventories, rulings, digests, scripts and schedules, with what they answer."""
+"""Calls of atoms, replicas, inventories, rulings, scripts and schedules, with what they answer."""
 from tests.tables.texts import B1, BF, C1, C2, CF, K1, KF, S1, S2, S3, V1, V2, VF, digits, document, event, line, nested
 
 CALLS = {
@@ -55,8 +55,6 @@ CALLS = {
     "inventory.remove": ["Inventory::remove"],
     "inventory.least_digest": ["Inventory::digest_after"],
     "inventory.digest_after": ["Inventory::digest_after"],
-    "digests.eight": ["digests"],
-    "digests.each": ["digest_each"],
     "schedule.read_script": ["read_script"],
     "schedule.rehearse": ["rehearse"],
     "fault.atom": [],
@@ -336,14 +334,6 @@ row(REPLICA, "inventory.least_digest", [held()], "none")
 row(REPLICA, "inventory.least_digest", [held(HIGH, MIDDLE)], "some", MIDDLE)
 for digest, found in [(LOW, MIDDLE), (MIDDLE, HIGH), (HIGH, None)]:
     row(REPLICA, "inventory.digest_after", [held(HIGH, MIDDLE), digest], *option(found))
-
-# ---- SHA-256 of several texts, at the lengths at which padding takes a block more, and of unlike lengths.
-PADDED = ["abcdefgh"[at] * length for at, length in enumerate([0, 1, 55, 56, 63, 64, 119, 120])]
-for texts in [PADDED, PADDED[::-1], ["a"] * 8, ["x" * 1000, *"bcdefgh"], ["é" * length for length in range(28, 36)]]:
-    row("Inventory file", "digests.eight", texts, "ok", *map(digits, texts))
-for count in (0, 1, 7, 8, 9, 17):
-    texts = [(chr(97 + at) * (at * 37 % 150)) for at in range(count)]
-    row("Inventory file", "digests.each", texts, "ok", *map(digits, texts))
 
 # ---- Rulings.
 DIGEST = "d581ec5f7f08d29f2a0967a79466927a2704d1a52bab805a6390a1f1190cd00c"

@@ -1,4 +1,4 @@
-//! Calls of atoms, replicas, inventories, rulings, digests, scripts and schedules.
+//! Calls of atoms, replicas, inventories, rulings, scripts and schedules.
 //!
 //! A replica is written as lines: its log's name, and after it the line of each atom. An inventory is written likewise:
 //! its log's name, and after it the digits of each digest.
@@ -6,7 +6,6 @@
 
 mod atoms;
 mod bodies;
-mod digests;
 mod documents;
 mod faults;
 mod held;
@@ -39,7 +38,6 @@ pub fn answered(alloc: Global, call: &Call) -> Result<String, Memory> {
         "document" => documents::answered(alloc, name, call),
         "ruling" => rulings::answered(alloc, name, call),
         "inventory" => inventories::answered(alloc, name, call),
-        "digests" => digests::answered(alloc, name, call),
         "schedule" => schedules::answered(alloc, name, call),
         "fault" => faults::answered(alloc, name, call),
         _ => answer(alloc, "no such call", &[]),

@@ -1,5 +1,0 @@
-mod Hashing
-mod LaneRounds
-mod Lanes
-mod PaddedBlocks
-mod Places
