@@ -35,7 +35,7 @@ use Rattle.std.proofs.lemmas.Slice.Eq.{bytes_eq-Decides}
 use Rattle.cadf_join.specs.Contents.{Text}
 use Rattle.cadf_line.specs.Atoms.{is_text, event_letter, geolocation_letter, metric_letter, property_letter, resource_letter}
 use Rattle.cadf_line.specs.RulingTexts.{is_value_letter}
-use Rattle.cadf.specs.Given.{begins_plainly, IsNumber}
+use Rattle.cadf.specs.Given.{begins_plainly, IsArgumentNumber}
 
 own : IsNumeralModel (AllDigits 10) (digits_value 10)
 own = numerals_by_value _ tells_digits
@@ -46,7 +46,7 @@ plain_from : (w : List ℕ) → 48 < get_or w 0 0 → begins_plainly w ≡ true
 plain_from [] h = absurd (omega (arith, h))
 plain_from (x ∷ xs) h = grind (arith, h)
 
-pub not_plain : (w : List ℕ) → begins_plainly w ≡ false → (n : ℕ) → ¬ IsNumber w n
+pub not_plain : (w : List ℕ) → begins_plainly w ≡ false → (n : ℕ) → ¬ IsArgumentNumber w n
 not_plain w none n (some, small, is) =
     true≢false (sym (plain_from (decimal n) (first_decimal n some small)) ∙ ap begins_plainly (sym is) ∙ none)
 
@@ -62,13 +62,13 @@ positive : (n : ℕ) (w : List ℕ) → decimal n ≡ w → begins_plainly w ≡
 positive zero w is plain = absurd (true≢false (sym plain ∙ ap begins_plainly (sym is ∙ decimal_digit 0 (omega arith))))
 positive (suc n) w is plain = omega arith
 
-pub is_number : {E : Type 0} (w : List ℕ) (r : Result ℕ E) (n : ℕ) → r ≡ Ok n → begins_plainly w ≡ true → ParsesUnsigned 64 10 w r → IsNumber w n
+pub is_number : {E : Type 0} (w : List ℕ) (r : Result ℕ E) (n : ℕ) → r ≡ Ok n → begins_plainly w ≡ true → ParsesUnsigned 64 10 w r → IsArgumentNumber w n
 is_number {E} w r n e plain parsed =
     let ok = parse_plain own {E = E} 64 w (Ok n) (subst (ParsesUnsigned {E = E} 64 10 w) e parsed) (unsigned w plain) in
     let is : decimal n ≡ w = ap decimal ok.1 ∙ decimal-digits_value own w ok.0.0 ok.0.1 (λ z. absurd (nonzero w plain z)) ok.0.2 in
     (positive n w is plain, subst (λ v. v < 2 ^ 64) (sym ok.1) ok.0.2, sym is)
 
-pub not_number : {E : Type 0} (w : List ℕ) (r : Result ℕ E) (e : E) → r ≡ Err e → ParsesUnsigned 64 10 w r → (n : ℕ) → ¬ IsNumber w n
+pub not_number : {E : Type 0} (w : List ℕ) (r : Result ℕ E) (e : E) → r ≡ Err e → ParsesUnsigned 64 10 w r → (n : ℕ) → ¬ IsArgumentNumber w n
 not_number {E} w r e failed parsed n (some, small, is) = never r n e (parse-decimal 64 n w r small small is parsed) failed
   where
     never : (r : Result ℕ E) (n : ℕ) (e : E) → r ≡ Ok n → r ≡ Err e → ⊥

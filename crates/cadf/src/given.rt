@@ -1,7 +1,7 @@
 //! Parses the words other than files: names, numbers and letters.
 ghost use Rattle.std.specs.Prelude.{◌≡◌, ℕ, is_ok, IfOk, IfErr, MatchOption, encode_utf8};
 ghost use Rattle.cadf_line.specs.RulingTexts.{is_value_letter};
-ghost use Rattle.cadf.specs.Given.{begins_plainly, IsNumber};
+ghost use Rattle.cadf.specs.Given.{begins_plainly, IsArgumentNumber};
 
 use cadf_arguments::{
     ArgumentFault, check_cells, check_letter, check_place, check_salt, check_sites, read_log,
@@ -30,7 +30,7 @@ fn is_plain(word: &[u8]) -> bool
 
 /// Reads a positive decimal number below 2^64, without a sign or leading zeros. `None` if the word is none.
 fn number_given(word: &str) -> Option<u64>
-    ensures { MatchOption result ((n : ℕ) → ¬ IsNumber word.now n) (IsNumber word.now) }
+    ensures { MatchOption result ((n : ℕ) → ¬ IsArgumentNumber word.now n) (IsArgumentNumber word.now) }
 {
     if !is_plain(word.as_bytes()) {
         return None;

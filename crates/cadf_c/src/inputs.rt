@@ -1,12 +1,12 @@
 //! Bytes of the caller's.
 ghost use Rattle.std.specs.Prelude.{◌≡◌, true, IfOk, IfErr};
 ghost use Rattle.cadf_tool.specs.Join.{join_of};
-ghost use Rattle.cadf_tool.specs.WrittenFile.{file};
+ghost use Rattle.cadf_tool.specs.WrittenFile.{written_file};
 ghost use Rattle.cadf_tool.specs.Run.{input_spec};
 ghost use Rattle.cadf_tool.specs.Prove.{proof_of_union};
 ghost use Rattle.cadf_seal.specs.ProofFile.{proof_file};
 ghost use Rattle.cadf_split.specs.Split.{split_text};
-ghost use Rattle.cadf_memory.specs.Memory.{bytes_of};
+ghost use Rattle.cadf_memory.specs.Memory.{bytes_of_slices};
 ghost use Rattle.cadf_memory.specs.Handed.{IsHandedOut};
 ghost use Rattle.cadf_memory.specs.Made.{IsMadeOfAll, IsMadeOfOneAndAll};
 ghost use Rattle.cadf_memory.specs.Refused.{is_of_memory, IsFirstOfAll, IsFirstOfOneAndAll};
@@ -23,7 +23,7 @@ pub struct CadfBytes<'b> {
 
 /// Returns the bytes of each of them.
 fn slices<'b>(alloc: Global, inputs: &[CadfBytes<'b>]) -> Result<Vec<&'b [u8]>, Memory>
-    ensures { IfOk result (λ slices. bytes_of slices.items ≡ bytes_in inputs.now) }
+    ensures { IfOk result (λ slices. bytes_of_slices slices.items ≡ bytes_in inputs.now) }
 {
     let mut slices = Vec::new(alloc);
     for input in inputs {
@@ -40,7 +40,7 @@ pub(crate) fn join_inputs(
     inputs: &[CadfBytes<'_>],
     output: &mut [u8],
 ) -> Result<usize, ToolFault>
-    ensures ok { IfOk result (IsHandedOut (IsMadeOfAll (join_of log) file (bytes_in inputs.now)) output.old output.new) }
+    ensures ok { IfOk result (IsHandedOut (IsMadeOfAll (join_of log) written_file (bytes_in inputs.now)) output.old output.new) }
     ensures err { IfErr result (λ fault. IsFirstOfAll (join_of log) (bytes_in inputs.now) fault) }
     ensures only { IfErr result (λ fault. is_of_memory fault ≡ true) }
 {

@@ -7,7 +7,7 @@ ghost use Rattle.cadf_tool.specs.Run.{input_spec};
 ghost use Rattle.cadf_tool.specs.InventoryInput.{inventory_spec};
 ghost use Rattle.cadf_tool.specs.Told.{replica_model_of};
 ghost use Rattle.cadf_tool.specs.Shown.{shown_text, checked_text};
-ghost use Rattle.cadf_tool.specs.Missing.{part_of};
+ghost use Rattle.cadf_tool.specs.Missing.{delta_between};
 ghost use Rattle.cadf_tool.specs.MissingBy.{inventory_model_of, part_by};
 ghost use Rattle.cadf_sketch.specs.SketchFile.{sketch_file};
 ghost use Rattle.cadf_tool.specs.Sketch.{sketch_model_of, IsPartBySketch};
@@ -22,7 +22,7 @@ ghost use Rattle.cadf_tool.specs.Rule.{ruled_of};
 ghost use Rattle.cadf_tool.specs.Rehearse.{script_spec, final_sites};
 ghost use Rattle.cadf_tool.specs.Sites.{sites_text};
 ghost use Rattle.cadf_tool.specs.Join.{join_of};
-ghost use Rattle.cadf_tool.specs.WrittenFile.{file};
+ghost use Rattle.cadf_tool.specs.WrittenFile.{written_file};
 ghost use Rattle.cadf_split.specs.declared.unit.Unit.{Unit};
 ghost use Rattle.cadf_split.specs.Split.{split_text};
 ghost use Rattle.cadf_arguments.specs.Arguments.{unit_named};
@@ -192,9 +192,9 @@ pub extern "C" fn cadf_missing(
     length: &mut usize,
 ) -> i32
     ensures written { result ≡ pos 0 → IsHandedOut
-        (IsMadeOfTwo input_spec input_spec part_of file from.now.bytes.now to.now.bytes.now)
+        (IsMadeOfTwo input_spec input_spec delta_between written_file from.now.bytes.now to.now.bytes.now)
         output.old output.new length.new }
-    ensures refused { result ≡ pos 1 → IsRefused (IsFirstOfTwo input_spec input_spec part_of from.now.bytes.now to.now.bytes.now) }
+    ensures refused { result ≡ pos 1 → IsRefused (IsFirstOfTwo input_spec input_spec delta_between from.now.bytes.now to.now.bytes.now) }
     ensures told { IsTold None result output.old output.new length.new }
 {
     let made = missing(alloc, from.bytes, to.bytes, output);
@@ -212,7 +212,7 @@ pub extern "C" fn cadf_missing_by(
     length: &mut usize,
 ) -> i32
     ensures written { result ≡ pos 0 → IsHandedOut
-        (IsMadeOfTwo input_spec inventory_spec part_by file from.now.bytes.now held.now.bytes.now)
+        (IsMadeOfTwo input_spec inventory_spec part_by written_file from.now.bytes.now held.now.bytes.now)
         output.old output.new length.new }
     ensures refused { result ≡ pos 1 → IsRefused (IsFirstOfTwo input_spec inventory_spec part_by from.now.bytes.now held.now.bytes.now) }
     ensures told { IsTold None result output.old output.new length.new }
@@ -235,7 +235,7 @@ pub extern "C" fn cadf_rule(
     length: &mut usize,
 ) -> i32
     ensures written { result ≡ pos 0 → IsHandedOut
-        (IsMadeOf input_spec (ruled_of (encode_utf8 letter) key.now.bytes.now place) file input.now.bytes.now)
+        (IsMadeOf input_spec (ruled_of (encode_utf8 letter) key.now.bytes.now place) written_file input.now.bytes.now)
         output.old output.new length.new }
     ensures refused { result ≡ pos 1 → IsRefused (IsFirstOf input_spec (ruled_of (encode_utf8 letter) key.now.bytes.now place) input.now.bytes.now) }
     ensures told { IsTold (ruling_refused letter key.now.bytes.now place) result output.old output.new length.new }
@@ -312,7 +312,7 @@ pub extern "C" fn cadf_missing_by_sketch(
     length: &mut usize,
 ) -> i32
     ensures written { result ≡ pos 0 → IsHandedOut
-        (IsMadeOfTwoBy input_spec sketch_spec IsPartBySketch file from.now.bytes.now held.now.bytes.now)
+        (IsMadeOfTwoBy input_spec sketch_spec IsPartBySketch written_file from.now.bytes.now held.now.bytes.now)
         output.old output.new length.new }
     ensures refused { result ≡ pos 1 → IsRefused (IsFirstOfTwoBy input_spec sketch_spec IsPartBySketch from.now.bytes.now held.now.bytes.now) }
     ensures told { IsTold None result output.old output.new length.new }
@@ -333,7 +333,7 @@ pub extern "C" fn cadf_join(
     length: &mut usize,
 ) -> i32
     ensures written { result ≡ pos 0 → IsHandedOut
-        (IsMadeOfAll (join_of (log_given log.now.bytes.now)) file (bytes_in inputs.now))
+        (IsMadeOfAll (join_of (log_given log.now.bytes.now)) written_file (bytes_in inputs.now))
         output.old output.new length.new }
     ensures refused { result ≡ pos 1 → IsRefused (IsFirstOfAll (join_of (log_given log.now.bytes.now)) (bytes_in inputs.now)) }
     ensures told { IsTold (log_refused log.now.bytes.now) result output.old output.new length.new }

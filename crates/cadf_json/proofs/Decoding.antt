@@ -10,7 +10,7 @@ use Rattle.cadf_json.proofs.Settled.{number_in_is}
 use Rattle.cadf_json.proofs.Texts.{has_float-IsWhole}
 use Rattle.cadf_json.specs.declared.node.Node.{Node}
 use Rattle.cadf_json.specs.Flat.{text_at, NumberStands, Stands, ItemsStand, MembersStand, items_count, members_count}
-use Rattle.cadf_json.specs.Flat.{first_items, later_items, first_members, later_members, values, first_value, decode, have_fraction}
+use Rattle.cadf_json.specs.Flat.{first_items, later_items, first_members, later_members, node_values, first_value, decode, have_fraction}
 
 first_followed : (ds es : Items) → first_items (items_count ds) (followed ds es) ≡ ds
 first_followed no_items es = refl
@@ -33,38 +33,38 @@ later_flattened no_members es = refl
 later_flattened (member k d ms) es = later_flattened ms es
 
 module _ (t : List ℕ) where
-  number_values : (n : Num) (xs ys : List Node) → NumberStands t n xs → is_float n ≡ false → values t (xs ++ ys) ≡ item (number n) (values t ys)
+  number_values : (n : Num) (xs ys : List Node) → NumberStands t n xs → is_float n ≡ false → node_values t (xs ++ ys) ≡ item (number n) (node_values t ys)
   number_values n xs ys (inl (p, (is, at, whole))) f =
-      ap (λ zs. values t (zs ++ ys)) is ∙ ap (λ m. item (number m) (values t ys)) (number_in_is (text_at t p) (n, whole, at.is))
+      ap (λ zs. node_values t (zs ++ ys)) is ∙ ap (λ m. item (number m) (node_values t ys)) (number_in_is (text_at t p) (n, whole, at.is))
   number_values n xs ys (inr (is, odd)) f = absurd cc
 
   mutual
-    pub values_of : (d : Data) (xs ys : List Node) → Stands t d xs → has_float d ≡ false → values t (xs ++ ys) ≡ item d (values t ys)
-    values_of null xs ys h f = ap (λ zs. values t (zs ++ ys)) h
-    values_of (boolean b) xs ys h f = ap (λ zs. values t (zs ++ ys)) h
+    pub values_of : (d : Data) (xs ys : List Node) → Stands t d xs → has_float d ≡ false → node_values t (xs ++ ys) ≡ item d (node_values t ys)
+    values_of null xs ys h f = ap (λ zs. node_values t (zs ++ ys)) h
+    values_of (boolean b) xs ys h f = ap (λ zs. node_values t (zs ++ ys)) h
     values_of (number n) xs ys h f = number_values n xs ys h f
-    values_of (string s) xs ys (p, (is, at)) f = ap (λ zs. values t (zs ++ ys)) is ∙ ap (λ u. item (string u) (values t ys)) at.is
+    values_of (string s) xs ys (p, (is, at)) f = ap (λ zs. node_values t (zs ++ ys)) is ∙ ap (λ u. item (string u) (node_values t ys)) at.is
     values_of (array ds) xs ys (e, (zs, (is, extent, h))) f =
-        ap (λ ws. values t (ws ++ ys)) is
+        ap (λ ws. node_values t (ws ++ ys)) is
         ∙ ap₂ (λ n vs. item (array (first_items n vs)) (later_items n vs)) extent.1 (items_values ds zs ys h f)
-        ∙ ap₂ (λ es vs. item (array es) vs) (first_followed ds (values t ys)) (later_followed ds (values t ys))
+        ∙ ap₂ (λ es vs. item (array es) vs) (first_followed ds (node_values t ys)) (later_followed ds (node_values t ys))
     values_of (object ms) xs ys (e, (zs, (is, extent, h))) f =
-        ap (λ ws. values t (ws ++ ys)) is
+        ap (λ ws. node_values t (ws ++ ys)) is
         ∙ ap₂ (λ n vs. item (object (first_members n vs)) (later_members n vs)) extent.1 (members_values ms zs ys h f)
-        ∙ ap₂ (λ ns vs. item (object ns) vs) (first_flattened ms (values t ys)) (later_flattened ms (values t ys))
+        ∙ ap₂ (λ ns vs. item (object ns) vs) (first_flattened ms (node_values t ys)) (later_flattened ms (node_values t ys))
 
-    pub items_values : (ds : Items) (xs ys : List Node) → ItemsStand t ds xs → items_have_float ds ≡ false → values t (xs ++ ys) ≡ followed ds (values t ys)
-    items_values no_items xs ys h f = ap (λ zs. values t (zs ++ ys)) h
+    pub items_values : (ds : Items) (xs ys : List Node) → ItemsStand t ds xs → items_have_float ds ≡ false → node_values t (xs ++ ys) ≡ followed ds (node_values t ys)
+    items_values no_items xs ys h f = ap (λ zs. node_values t (zs ++ ys)) h
     items_values (item d ds) xs ys (vs, (ws, (is, h, k))) f =
         let both = or_parts (has_float d) (items_have_float ds) f in
-        ap (λ zs. values t (zs ++ ys)) is ∙ ap (values t) (append_assoc vs ws ys) ∙ values_of d vs (ws ++ ys) h both.0 ∙ ap (item d) (items_values ds ws ys k both.1)
+        ap (λ zs. node_values t (zs ++ ys)) is ∙ ap (node_values t) (append_assoc vs ws ys) ∙ values_of d vs (ws ++ ys) h both.0 ∙ ap (item d) (items_values ds ws ys k both.1)
 
-    pub members_values : (ms : Members) (xs ys : List Node) → MembersStand t ms xs → members_have_float ms ≡ false → values t (xs ++ ys) ≡ flattened ms (values t ys)
-    members_values no_members xs ys h f = ap (λ zs. values t (zs ++ ys)) h
+    pub members_values : (ms : Members) (xs ys : List Node) → MembersStand t ms xs → members_have_float ms ≡ false → node_values t (xs ++ ys) ≡ flattened ms (node_values t ys)
+    members_values no_members xs ys h f = ap (λ zs. node_values t (zs ++ ys)) h
     members_values (member k d ms) xs ys (p, (vs, (ws, (is, at, h, j)))) f =
         let both = or_parts (has_float d) (members_have_float ms) f in
-        ap (λ zs. values t (zs ++ ys)) is
-        ∙ ap₂ (λ u zs. item (string u) (values t zs)) at.is (append_assoc vs ws ys)
+        ap (λ zs. node_values t (zs ++ ys)) is
+        ∙ ap₂ (λ u zs. item (string u) (node_values t zs)) at.is (append_assoc vs ws ys)
         ∙ ap (item (string k)) (values_of d vs (ws ++ ys) h both.0 ∙ ap (item d) (members_values ms ws ys j both.1))
 
   pub decoded : (d : Data) (xs : List Node) → Stands t d xs → has_float d ≡ false → decode t xs ≡ d

@@ -29,7 +29,7 @@ use Rattle.serde_json.specs.Find.{get_member, get}
 use Rattle.serde_json.specs.Written.{number_text, outline, members_outline}
 use Rattle.cadf_json.specs.Parts.{is_object}
 use Rattle.cadf_json.specs.Value.{IsValue, text}
-use Rattle.cadf_json.specs.Canonical.{begins_object, text_of_token, text_in, is_text, FindsText}
+use Rattle.cadf_json.specs.Canonical.{begins_object, text_of_token, text_of_member, member_is_text, FindsText}
 use Rattle.cadf_json.proofs.Canonicals.{canonical_tokens}
 use Rattle.cadf_json.proofs.Looks.{member_here, member_passed}
 use Rattle.cadf_json.proofs.Texts.{depth-outline}
@@ -60,7 +60,7 @@ some_key no_members rest e = absurd cc
 some_key (member l d ns) rest e = absurd cc
 
 string_first : (d : Data) (rest : List Token) (t : Token) (r : List Token) → json_tokens (outline d) ++ rest ≡ t ∷ r
-    → text_of_token (Some t) ≡ text_in (Some d)
+    → text_of_token (Some t) ≡ text_of_member (Some d)
 string_first null rest t r e = let same : Token.null ≡ t = cc in ap (λ x. text_of_token (Some x)) (sym same)
 string_first (boolean b) rest t r e = let same : Token.boolean b ≡ t = cc in ap (λ x. text_of_token (Some x)) (sym same)
 string_first (number n) rest t r e = let same : Token.number (number_text n) ≡ t = cc in ap (λ x. text_of_token (Some x)) (sym same)
@@ -131,7 +131,7 @@ pub none_ahead : (name : List ℕ) (start now s : List Token) → IsAhead name s
 none_ahead name start now s ahead key ms rest deep e =
     let left = ahead ms rest deep e in
     let none = ended left.0 rest s (ap read_key (sym left.2) ∙ key) in
-    sym (ap text_in (left.3 ∙ ap (get_member name) none))
+    sym (ap text_of_member (left.3 ∙ ap (get_member name) none))
 
 pub text_ahead : (name k : List ℕ) (start now s : List Token) (o : Option Token) (r : List Token) → IsAhead name start now
     → read_key now ≡ Some (Some k, s) → bytes_eq name k ≡ true → IsNextToken s o r → FindsText name start (text_of_token o)
@@ -143,7 +143,7 @@ text_ahead name k start now s (Some t) r ahead key same next ms rest deep e =
     let left = ahead ms rest deep e in
     let first = head_of left.0 rest k s (ap read_key (sym left.2) ∙ key) in
     string_first first.0 _ t r (sym first.3 ∙ next)
-    ∙ sym (ap text_in (left.3 ∙ ap (get_member name) first.2 ∙ member_here name k first.0 first.1 same))
+    ∙ sym (ap text_of_member (left.3 ∙ ap (get_member name) first.2 ∙ member_here name k first.0 first.1 same))
 
 -- ---- the first token
 
@@ -159,7 +159,7 @@ pub opens : (s : List ℕ) (o : Option Token) (r : List Token) → IsNextToken (
 opens s None r next d v e = absurd (some_tokens d [] (append-nil _ ∙ sym (canonical_tokens s d v e) ∙ next))
 opens s (Some t) r next d v e = opening_first d t r (sym (canonical_tokens s d v e) ∙ next)
 
-no_text : (expected name : List ℕ) (d : Data) → is_object d ≡ false → false ≡ is_text expected (get name d)
+no_text : (expected name : List ℕ) (d : Data) → is_object d ≡ false → false ≡ member_is_text expected (get name d)
 no_text expected name null h = refl
 no_text expected name (boolean b) h = refl
 no_text expected name (number n) h = refl
@@ -168,11 +168,11 @@ no_text expected name (array ds) h = refl
 no_text expected name (object ms) h = absurd cc
 
 pub not_opened : (expected name s : List ℕ) (o : Option Token) (r : List Token) → IsNextToken (tokens s) o r → begins_object o ≡ false
-    → (d : Data) → IsValue d → s ≡ text d → false ≡ is_text expected (get name d)
+    → (d : Data) → IsValue d → s ≡ text d → false ≡ member_is_text expected (get name d)
 not_opened expected name s o r next other d v e = no_text expected name d (sym (opens s o r next d v e) ∙ other)
 
 found_in : (name : List ℕ) (o : Option Token) (r : List Token) (found : Option (List ℕ)) (d : Data) → depth d ≤ 127 → begins_object o ≡ true
-    → IsNextToken (json_tokens (outline d)) o r → FindsText name r found → found ≡ text_in (get name d)
+    → IsNextToken (json_tokens (outline d)) o r → FindsText name r found → found ≡ text_of_member (get name d)
 found_in name None r found d deep opened next h = absurd cc
 found_in name (Some t) r found (object ms) deep opened next h =
     let is : members_tokens (members_outline ms) ≡ r = cc in
@@ -184,12 +184,12 @@ found_in name (Some t) r found (string u) deep opened next h = absurd (not_openi
 found_in name (Some t) r found (array ds) deep opened next h = absurd (not_opening (opening_first (array ds) t r next) opened)
 
 pub found_text : (name s : List ℕ) (o : Option Token) (r : List Token) (found : Option (List ℕ)) → IsNextToken (tokens s) o r → begins_object o ≡ true
-    → FindsText name r found → (d : Data) → IsValue d → s ≡ text d → found ≡ text_in (get name d)
+    → FindsText name r found → (d : Data) → IsValue d → s ≡ text d → found ≡ text_of_member (get name d)
 found_text name s o r found next opened h d v e =
     found_in name o r found d v.1 opened (subst (λ ts. IsNextToken ts o r) (canonical_tokens s d v e) next) h
 
 -- the text is the one that was expected
-pub is_expected : (expected : List ℕ) (o : Option Data) (t : List ℕ) → Some t ≡ text_in o → bytes_eq t expected ≡ is_text expected o
+pub is_expected : (expected : List ℕ) (o : Option Data) (t : List ℕ) → Some t ≡ text_of_member o → bytes_eq t expected ≡ member_is_text expected o
 is_expected expected None t e = absurd cc
 is_expected expected (Some null) t e = absurd cc
 is_expected expected (Some (boolean b)) t e = absurd cc
@@ -198,7 +198,7 @@ is_expected expected (Some (string u)) t e = let same : t ≡ u = cc in ap (λ x
 is_expected expected (Some (array ds)) t e = absurd cc
 is_expected expected (Some (object ms)) t e = absurd cc
 
-pub not_expected : (expected : List ℕ) (o : Option Data) → None ≡ text_in o → false ≡ is_text expected o
+pub not_expected : (expected : List ℕ) (o : Option Data) → None ≡ text_of_member o → false ≡ member_is_text expected o
 not_expected expected None e = refl
 not_expected expected (Some null) e = refl
 not_expected expected (Some (boolean b)) e = refl
@@ -210,6 +210,6 @@ not_expected expected (Some (object ms)) e = refl
 -- ---- the text that the value is
 
 pub text_first : (s : List ℕ) (o : Option Token) (r : List Token) → IsNextToken (tokens s) o r → (d : Data) → IsValue d → s ≡ text d
-    → text_of_token o ≡ text_in (Some d)
+    → text_of_token o ≡ text_of_member (Some d)
 text_first s None r next d v e = absurd (some_tokens d [] (append-nil _ ∙ sym (canonical_tokens s d v e) ∙ next))
 text_first s (Some t) r next d v e = string_first d [] t r (append-nil _ ∙ sym (canonical_tokens s d v e) ∙ next)

@@ -13,7 +13,7 @@ use Rattle.serde_json.specs.Find.{get_member}
 use Rattle.serde_json.specs.Read.{of_json, of_members, converted}
 use Rattle.serde_json.specs.Written.{has_float, items_have_float, members_have_float}
 use Rattle.serde_json.proofs.Views.{get_member-put}
-use Rattle.cadf_json.specs.Apart.{a_fraction, emptied, emptied_at, emptied_in, AreTaken, IsTaken}
+use Rattle.cadf_json.specs.Apart.{a_fraction, emptied, emptied_at, emptied_in, AreTaken, TookItems}
 use Rattle.cadf_json.specs.Canonical.{is_name_above}
 use Rattle.cadf_json.specs.Flat.{IsTextAt, Stands, TextStands, MembersStand, members_count, put_all}
 use Rattle.cadf_json.specs.Rewritten.{is_one_of, without}
@@ -188,7 +188,7 @@ pub record Apart {T : Type 0} (took : T → List Data → Type 0) (t : T) (name 
   pub left : converted (λ ms. of_members ms no_members) (members p (length start) start)
       ≡ converted (λ ms. of_members ms (put_all got no_members)) (members p bound now)
   pub shorter : length now ≤ length start
-  pub taken : IsTaken took t (get_member name (put_all got no_members))
+  pub taken : TookItems took t (get_member name (put_all got no_members))
   pub in_order : rising ≡ true → AreRising (emptied_in name got) last
   pub xs : List Node
   pub more : List ℕ
@@ -220,7 +220,7 @@ module _ {T : Type 0} (took : T → List Data → Type 0) (name : List ℕ) (p :
       (k : List ℕ) (d : Data) → (h : Apart took t name p start now old nodes v u count last rising) → read_key now ≡ Some (Some k, between)
       → Grown (λ u xs. TextStands u k xs) nodes mid u w → converted of_json (p between) ≡ Some (d, r)
       → Grown (λ u xs. Stands u (emptied_at name k d) xs) mid new w x → length r < length now
-      → IsTaken took s (get_member name (put k d (put_all h.got no_members)))
+      → TookItems took s (get_member name (put k d (put_all h.got no_members)))
       → Apart took s name p start r old new v x (count + 1) (Some k) (rising && is_name_above last k)
   apart_more t s now between r nodes mid new u w x count last rising k d h key named read g less taken =
       let enough = h.enough in
@@ -242,7 +242,7 @@ module _ {T : Type 0} (took : T → List Data → Type 0) (name : List ℕ) (p :
         left = h.left ∙ member_read p (put_all h.got no_members) h.bound k now between r d (omega (arith, enough, less)) key read
             ∙ ap (λ found. converted (λ ms. of_members ms found) (members p (h.bound - 1) r)) (sym (put_last h.got k d no_members));
         shorter = omega (arith, shorter, less);
-        taken = subst (λ ms. IsTaken took s (get_member name ms)) (sym (put_last h.got k d no_members)) taken;
+        taken = subst (λ ms. TookItems took s (get_member name ms)) (sym (put_last h.got k d no_members)) taken;
         in_order = λ still. let both = both_true rising (is_name_above last k) still in
             subst (λ ms. AreRising ms (Some k)) (sym is_joined) (rises_further before_got last k e (h.in_order both.0) both.1);
         xs = h.xs ++ Text place ∷ g.xs;
@@ -267,7 +267,7 @@ module _ {T : Type 0} (took : T → List Data → Type 0) (name : List ℕ) (p :
       let same : emptied_at name k d ≡ d = rw other refl in
       apart_more t t now between r nodes mid new u w x count last rising k d h key named read
       (subst (λ e. Grown (λ u xs. Stands u e xs) mid new w x) (sym same) g) less
-      (subst (IsTaken took t) (sym (get-put name k d (put_all h.got no_members) (other_order k name other))) h.taken)
+      (subst (TookItems took t) (sym (get-put name k d (put_all h.got no_members) (other_order k name other))) h.taken)
 
   -- the list, whose items were taken
   pub apart_list : (t s : T) (now between r : List Token) (nodes mid new : List Node) (u w x : List ℕ) (count : ℕ) (last : Option (List ℕ)) (rising : Bool)
@@ -281,7 +281,7 @@ module _ {T : Type 0} (took : T → List Data → Type 0) (name : List ℕ) (p :
       let there : get_member name (put k (array ds) found) ≡ Some (array ds) =
       ap (λ n. get_member name (put n (array ds) found)) ((bytes_eq-Decides k name).0 equal) ∙ get_member-put name (array ds) found in
       apart_more t s now between r nodes mid new u w x count last rising k (array ds) h key named read
-      (subst (λ e. Grown (λ u xs. Stands u e xs) mid new w x) (sym same) g) less (subst (IsTaken took s) (sym there) taken)
+      (subst (λ e. Grown (λ u xs. Stands u e xs) mid new w x) (sym same) g) less (subst (TookItems took s) (sym there) taken)
 
   pub apart_open : (t : T) (now : List Token) (nodes : List Node) (u : List ℕ) (count : ℕ) (last : Option (List ℕ)) (rising : Bool) (place : ℕ)
       → (h : Apart took t name p start now old nodes v u count last rising) → place ≡ length old → IsOpen u old nodes place (emptied_in name h.got)
@@ -296,7 +296,7 @@ module _ {T : Type 0} (took : T → List Data → Type 0) (name : List ℕ) (p :
       → (h : Apart took t name p start now old nodes v u count last rising) → read_key now ≡ Some (None, r)
       → IsClosed u old new (ordered rising (emptied_in name h.got))
       → (ms : Members) × ((converted (λ ms. of_members ms no_members) (members p (length start) start) ≡ Some (ms, r))
-      × IsTaken took t (get_member name ms) × Grown (λ w xs. Stands w (object (emptied_in name ms)) xs) old new v u)
+      × TookItems took t (get_member name ms) × Grown (λ w xs. Stands w (object (emptied_in name ms)) xs) old new v u)
   apart_over t now r nodes new u count last rising h key closed = (
     put_all h.got no_members,
     (

@@ -6,7 +6,7 @@ use Rattle.serde_json.specs.Data.{Data, null, boolean, number, string, array, ob
 use Rattle.serde_json.specs.Find.{as_array}
 use Rattle.cadf_json.specs.Parts.{is_object, items_in, members_in}
 use Rattle.cadf_json.specs.Value.{ItemsAreWhole, IsValue, AreMembers, Rises, RisesFrom}
-use Rattle.cadf_json.specs.Flat.{size_of, values, decode, Stands, ItemsStand, MembersStand}
+use Rattle.cadf_json.specs.Flat.{size_of, node_values, decode, Stands, ItemsStand, MembersStand}
 use Rattle.cadf_json.specs.Reading.{IsFirstMember}
 use Rattle.cadf_json.specs.Walks.{paired, members_at, AreItemsLeft, AreMembersLeft}
 use Rattle.cadf_json.specs.declared.node.Node.{Node}
@@ -25,15 +25,15 @@ later_rises k no_members h = tt
 later_rises k (member l d ms) h = h.1
 
 module _ (t : List ℕ) where
-  items_are : (ds : Items) (xs : List Node) → ItemsStand t ds xs → ItemsAreWhole ds → values t xs ≡ ds
-  items_are ds xs h w = ap (values t) (sym (append-nil xs)) ∙ items_values t ds xs [] h (has_float-IsWhole (array ds) w) ∙ followed-none ds
+  items_are : (ds : Items) (xs : List Node) → ItemsStand t ds xs → ItemsAreWhole ds → node_values t xs ≡ ds
+  items_are ds xs h w = ap (node_values t) (sym (append-nil xs)) ∙ items_values t ds xs [] h (has_float-IsWhole (array ds) w) ∙ followed-none ds
 
   members_are : (ms : Members) (xs : List Node) → MembersStand t ms xs → AreMembers ms → members_at t xs ≡ ms
   members_are ms xs h w =
       ap (members_at t) (sym (append-nil xs)) ∙ ap paired (members_values t ms xs [] h (has_float-IsWhole (object ms) (w.0, w.1))) ∙ paired_flattened ms
 
   pub items_left_of : (ds : Items) (xs : List Node) → ItemsStand t ds xs → ItemsAreWhole ds → items_depth ds ≤ 126
-      → AreItemsLeft t xs × (values t xs ≡ ds)
+      → AreItemsLeft t xs × (node_values t xs ≡ ds)
   items_left_of ds xs h w deep =
       let is = items_are ds xs h w in (
         record {
@@ -60,11 +60,11 @@ module _ (t : List ℕ) where
     pub within : n ≤ length rest
     pub value : Stands t (decode t (take n rest)) (take n rest) × IsValue (decode t (take n rest))
     pub left : AreItemsLeft t (drop n rest)
-    pub is : values t rest ≡ item (decode t (take n rest)) (values t (drop n rest))
+    pub is : node_values t rest ≡ item (decode t (take n rest)) (node_values t (drop n rest))
 
   pub next_item : (rest : List Node) (n : ℕ) → 0 < length rest → AreItemsLeft t rest → n ≡ size_of (slice_index_or rest 0 Null) → NextItem rest n
   next_item rest n some h size =
-      let f = first_item t rest (values t rest) some h.stand h.whole in
+      let f = first_item t rest (node_values t rest) some h.stand h.whole in
       let is_n : n ≡ f.size = size ∙ f.size_is in
       let deep : items_depth (item f.d f.later) ≤ 126 = subst (λ es. items_depth es ≤ 126) f.is h.shallow in
       let v = seen f.d (take n rest) (subst (λ m. Stands t f.d (take m rest)) (sym is_n) f.stands) (f.whole, omega (arith, deep)) in
@@ -117,7 +117,7 @@ module _ (t : List ℕ) where
       ap (take (length xs - 1)) (ap (drop 1) is) ∙ take_all (length xs - 1) ys (omega (arith, size))
 
   pub list_parts : (d : Data) (xs : List Node) → Stands t d xs → IsValue d → is_some (as_array d) ≡ true
-      → AreItemsLeft t (tail_of xs) × (values t (tail_of xs) ≡ items_in d)
+      → AreItemsLeft t (tail_of xs) × (node_values t (tail_of xs) ≡ items_in d)
   list_parts null xs h v e = absurd cc
   list_parts (boolean b) xs h v e = absurd cc
   list_parts (number n) xs h v e = absurd cc

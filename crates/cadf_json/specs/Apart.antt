@@ -41,14 +41,14 @@ abbrev pub AreTaken : {T : Type 0} → (T → List Data → Type 0) → T → It
 AreTaken took t ds = (items_have_float ds ≡ false) × took t (to_list ds)
 
 -- the items of the list, if it is one
-abbrev pub IsTaken : {T : Type 0} → (T → List Data → Type 0) → T → Option Data → Type 0
-IsTaken took t None = ⊤
-IsTaken took t (Some null) = ⊥
-IsTaken took t (Some (boolean b)) = ⊥
-IsTaken took t (Some (number n)) = ⊥
-IsTaken took t (Some (string s)) = ⊥
-IsTaken took t (Some (array ds)) = AreTaken took t ds
-IsTaken took t (Some (object ms)) = ⊥
+abbrev pub TookItems : {T : Type 0} → (T → List Data → Type 0) → T → Option Data → Type 0
+TookItems took t None = ⊤
+TookItems took t (Some null) = ⊥
+TookItems took t (Some (boolean b)) = ⊥
+TookItems took t (Some (number n)) = ⊥
+TookItems took t (Some (string s)) = ⊥
+TookItems took t (Some (array ds)) = AreTaken took t ds
+TookItems took t (Some (object ms)) = ⊥
 
 -- the items that the tokens begin with, up to the closing bracket, were taken
 abbrev pub PassesItems : {T : Type 0} → (T → List Data → Type 0) → T → ℕ → List Token → List Token → Type 0
@@ -62,13 +62,13 @@ PassesList took t depth ts rest old new =
     × (new ≡ old ++ Array (record { size = 1; count = 0 }) ∷ []))
 
 -- the members that the tokens begin with, up to the closing brace, were appended without the items that were taken
-abbrev pub PassesMembers : {T : Type 0} → (T → List Data → Type 0) → T → List ℕ → ℕ → List Token → List Token → List Node → List Node → List ℕ
+abbrev pub AppendsMembers : {T : Type 0} → (T → List Data → Type 0) → T → List ℕ → ℕ → List Token → List Token → List Node → List Node → List ℕ
     → List ℕ → Type 0
-PassesMembers took t name depth ts rest old new u v =
+AppendsMembers took t name depth ts rest old new u v =
     (ms : Members) × ((converted (λ ms. of_members ms no_members) (members (value depth) (length ts) ts) ≡ Some (ms, rest))
-    × IsTaken took t (get_member name ms) × Grown (λ w xs. Stands w (object (emptied_in name ms)) xs) old new u v)
+    × TookItems took t (get_member name ms) × Grown (λ w xs. Stands w (object (emptied_in name ms)) xs) old new u v)
 
 -- THE VALUE that the bytes spell is an object, e is it without the items of the list, and these were taken
 abbrev pub IsApart : {T : Type 0} → (T → List Data → Type 0) → T → List ℕ → List ℕ → Data → Type 0
 IsApart took t bytes name e =
-    (ms : Members) × (SpellsValue bytes (object ms) × (e ≡ object (emptied_in name ms)) × IsTaken took t (get_member name ms))
+    (ms : Members) × (SpellsValue bytes (object ms) × (e ≡ object (emptied_in name ms)) × TookItems took t (get_member name ms))

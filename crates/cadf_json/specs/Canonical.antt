@@ -87,27 +87,27 @@ text_of_token (Some Token.null) = None
 text_of_token (Some Token.bad) = None
 
 -- the text that the member is
-abbrev pub text_in : Option Data → Option (List ℕ)
-text_in None = None
-text_in (Some null) = None
-text_in (Some (boolean b)) = None
-text_in (Some (number n)) = None
-text_in (Some (string t)) = Some t
-text_in (Some (array ds)) = None
-text_in (Some (object ms)) = None
+abbrev pub text_of_member : Option Data → Option (List ℕ)
+text_of_member None = None
+text_of_member (Some null) = None
+text_of_member (Some (boolean b)) = None
+text_of_member (Some (number n)) = None
+text_of_member (Some (string t)) = Some t
+text_of_member (Some (array ds)) = None
+text_of_member (Some (object ms)) = None
 
 -- the member is this text
-abbrev pub is_text : List ℕ → Option Data → Bool
-is_text s None = false
-is_text s (Some null) = false
-is_text s (Some (boolean b)) = false
-is_text s (Some (number n)) = false
-is_text s (Some (string t)) = bytes_eq t s
-is_text s (Some (array ds)) = false
-is_text s (Some (object ms)) = false
+abbrev pub member_is_text : List ℕ → Option Data → Bool
+member_is_text s None = false
+member_is_text s (Some null) = false
+member_is_text s (Some (boolean b)) = false
+member_is_text s (Some (number n)) = false
+member_is_text s (Some (string t)) = bytes_eq t s
+member_is_text s (Some (array ds)) = false
+member_is_text s (Some (object ms)) = false
 
 -- for members that nest at most 126 deep: the text at that name
 abbrev pub FindsText : List ℕ → List Token → Option (List ℕ) → Type 0
 FindsText name ts found =
     (ms : Members) (rest : List Token) → members_depth ms ≤ 126 → ts ≡ members_tokens (members_outline ms) ++ rest
-    → found ≡ text_in (get_member name ms)
+    → found ≡ text_of_member (get_member name ms)

@@ -112,16 +112,16 @@ with_node t (Text p) ds = item (string (text_at t p)) ds
 with_node t (Array e) ds = item (array (first_items e.count ds)) (later_items e.count ds)
 with_node t (Object e) ds = item (object (first_members e.count ds)) (later_members e.count ds)
 
-abbrev pub values : List ℕ → List Node → Items
-values t [] = no_items
-values t (x ∷ xs) = with_node t x (values t xs)
+abbrev pub node_values : List ℕ → List Node → Items
+node_values t [] = no_items
+node_values t (x ∷ xs) = with_node t x (node_values t xs)
 
 abbrev pub first_value : Items → Data
 first_value no_items = null
 first_value (item d ds) = d
 
 abbrev pub decode : List ℕ → List Node → Data
-decode t xs = first_value (values t xs)
+decode t xs = first_value (node_values t xs)
 
 -- ---- members as they come
 

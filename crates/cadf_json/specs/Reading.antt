@@ -22,8 +22,8 @@ pub record Grown (S : List ℕ → List Node → Type 0) (old new : List Node) (
   pub texts : u ≡ t ++ more
   pub stands : S u xs
 
-abbrev pub IsRead : ℕ → List Token → List Token → List Node → List Node → List ℕ → List ℕ → Type 0
-IsRead depth ts rest old new t u = (d : Data) × ((converted of_json (value depth ts) ≡ Some (d, rest)) × Grown (λ u xs. Stands u d xs) old new t u)
+abbrev pub ReadsValue : ℕ → List Token → List Token → List Node → List Node → List ℕ → List ℕ → Type 0
+ReadsValue depth ts rest old new t u = (d : Data) × ((converted of_json (value depth ts) ≡ Some (d, rest)) × Grown (λ u xs. Stands u d xs) old new t u)
 
 abbrev pub IsNoValue : ℕ → List Token → Type 0
 IsNoValue depth ts = converted of_json (value depth ts) ≡ None

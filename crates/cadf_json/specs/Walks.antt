@@ -4,7 +4,7 @@
 --     AreMembersLeft t xs    the nodes are those of members of a value
 use Rattle.std.specs.Prelude.{ℕ, ◌≤◌, List}
 use Rattle.serde_json.specs.Data.{Items, no_items, item, Members, no_members, member, items_depth}
-use Rattle.cadf_json.specs.Flat.{ItemsStand, MembersStand, name_of, values}
+use Rattle.cadf_json.specs.Flat.{ItemsStand, MembersStand, name_of, node_values}
 use Rattle.cadf_json.specs.Value.{ItemsAreWhole, AreMembers}
 use Rattle.cadf_json.specs.declared.node.Node.{Node}
 
@@ -15,12 +15,12 @@ paired (item k no_items) = no_members
 paired (item k (item d ds)) = member (name_of k) d (paired ds)
 
 abbrev pub members_at : List ℕ → List Node → Members
-members_at t xs = paired (values t xs)
+members_at t xs = paired (node_values t xs)
 
 pub record AreItemsLeft (t : List ℕ) (xs : List Node) : Type 0 where
-  pub stand : ItemsStand t (values t xs) xs
-  pub whole : ItemsAreWhole (values t xs)
-  pub shallow : items_depth (values t xs) ≤ 126
+  pub stand : ItemsStand t (node_values t xs) xs
+  pub whole : ItemsAreWhole (node_values t xs)
+  pub shallow : items_depth (node_values t xs) ≤ 126
 
 pub record AreMembersLeft (t : List ℕ) (xs : List Node) : Type 0 where
   pub stand : MembersStand t (members_at t xs) xs

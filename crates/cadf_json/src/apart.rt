@@ -1,7 +1,7 @@
 //! The reading of an object with the items of one list apart: a visitor takes them, and no value keeps them.
 ghost use Rattle.std.specs.Prelude.{◌≡◌, ◌<◌, ◌≤◌, ◌++◌, ◌∷◌, [], List, length, true, IfOk, OnOk};
 ghost use Rattle.serde_json.specs.Data.{Data};
-ghost use Rattle.cadf_json.specs.Apart.{PassesItems, PassesList, PassesMembers, IsApart};
+ghost use Rattle.cadf_json.specs.Apart.{PassesItems, PassesList, AppendsMembers, IsApart};
 ghost use Rattle.cadf_json.specs.Flat.{decode, IsFlatValue};
 ghost use Rattle.cadf_json.specs.TokenUtf8.{HaveUtf8};
 ghost use Rattle.cadf_json.specs.Value.{IsValue};
@@ -96,7 +96,7 @@ fn pass_members<'a, T: ItemVisitor>(
     requires depth { depth ≤ 127 }
     requires utf8 { HaveUtf8 reader.old }
     ensures { OnOk result
-        (PassesMembers T.took taker.new name.now depth reader.old reader.new nodes.old.items nodes.new.items texts.old.items texts.new.items) }
+        (AppendsMembers T.took taker.new name.now depth reader.old reader.new nodes.old.items nodes.new.items texts.old.items texts.new.items) }
 {
     let at = nodes.len();
     nodes.push(Node::Null)?;

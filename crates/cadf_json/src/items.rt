@@ -3,7 +3,7 @@ ghost use Rattle.std.specs.Prelude.{◌≡◌, MatchOption};
 ghost use Rattle.std.specs.Iterator.{at_most};
 ghost use Rattle.serde_json.specs.Data.{no_items};
 ghost use Rattle.cadf_json.specs.Value.{IsValue};
-ghost use Rattle.cadf_json.specs.Flat.{values};
+ghost use Rattle.cadf_json.specs.Flat.{node_values};
 ghost use Rattle.cadf_json.specs.Walks.{AreItemsLeft};
 
 use crate::node::Node;
@@ -20,14 +20,14 @@ pub struct Items<'v> {
 impl<'v> Model for Items<'v> {
     ghost use Rattle.serde_json.specs.Data.{Items as ItemsOf};
     ghost use Rattle.cadf_json.specs.Coding.{items_code};
-    ghost use Rattle.cadf_json.specs.Flat.{values};
+    ghost use Rattle.cadf_json.specs.Flat.{node_values};
     ghost use Rattle.cadf_json.specs.Walks.{AreItemsLeft};
 
     ghost Value = { ItemsOf };
 
     ghost coded = { items_code };
 
-    ghost view = { λ i. values i.texts.now i.nodes.now };
+    ghost view = { λ i. node_values i.texts.now i.nodes.now };
 
     ghost invariant = { λ i. AreItemsLeft i.texts.now i.nodes.now };
 }
@@ -46,7 +46,7 @@ impl<'v> Items<'v> {
     /// Borrows the nodes of items and their texts.
     pub(crate) fn of(nodes: &'v [Node], texts: &'v [u8]) -> Items<'v>
         requires { AreItemsLeft texts.now nodes.now }
-        ensures { result ≡ values texts.now nodes.now }
+        ensures { result ≡ node_values texts.now nodes.now }
     {
         Items { nodes, texts }
     }

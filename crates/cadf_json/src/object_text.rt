@@ -6,7 +6,7 @@ ghost use Rattle.serde_json.specs.Data.{Data};
 ghost use Rattle.serde_json.specs.Find.{get};
 ghost use Rattle.cadf_json.specs.Parts.{is_object};
 ghost use Rattle.cadf_json.specs.Value.{IsValue, text as text_of};
-ghost use Rattle.cadf_json.specs.Canonical.{begins_object, text_of_token, is_text, FindsText};
+ghost use Rattle.cadf_json.specs.Canonical.{begins_object, text_of_token, member_is_text, FindsText};
 
 use crate::Memory;
 use crate::read::MAX_DEPTH;
@@ -25,7 +25,7 @@ pub fn spells_object(alloc: Global, text: &str) -> Result<bool, Memory>
 /// Returns whether the object of a canonical text has this text at that name. `false` for any other value. `Memory` if
 /// an allocation fails.
 pub fn has_text_at(alloc: Global, text: &str, name: &str, expected: &str) -> Result<bool, Memory>
-    ensures { IfOk result (λ b. (d : Data) → IsValue d → text.now ≡ text_of d → b ≡ is_text expected.now (get name.now d)) }
+    ensures { IfOk result (λ b. (d : Data) → IsValue d → text.now ≡ text_of d → b ≡ member_is_text expected.now (get name.now d)) }
 {
     let mut scratch = Scratch::new(alloc);
     let mut reader = Reader::new(text, &mut scratch)?;

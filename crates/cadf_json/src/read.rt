@@ -1,6 +1,6 @@
 //! The one descent from tokens to nodes.
 ghost use Rattle.std.specs.Prelude.{◌≡◌, ◌<◌, length, OnOk};
-ghost use Rattle.cadf_json.specs.Reading.{IsRead, IsNoValue, AreItemsRead, AreNoItems, AreMembersRead, AreNoMembers};
+ghost use Rattle.cadf_json.specs.Reading.{ReadsValue, IsNoValue, AreItemsRead, AreNoItems, AreMembersRead, AreNoMembers};
 
 use crate::node::Node;
 use crate::order::end_members;
@@ -23,7 +23,7 @@ pub(crate) fn read_value(
     texts: &mut Vec<u8>,
     spare: &mut Vec<Node>,
 ) -> Result<(), ReadFault>
-    ensures ok { OnOk result (IsRead depth reader.old reader.new nodes.old.items nodes.new.items texts.old.items texts.new.items) }
+    ensures ok { OnOk result (ReadsValue depth reader.old reader.new nodes.old.items nodes.new.items texts.old.items texts.new.items) }
     ensures not_json { result ≡ Err ReadFault.NotJson → IsNoValue depth reader.old }
     ensures shorter { OnOk result (length reader.new < length reader.old) }
 {

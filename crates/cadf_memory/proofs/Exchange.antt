@@ -4,7 +4,7 @@ use Rattle.cadf_join.specs.Contents.{Text}
 use Rattle.cadf_set.specs.Inventory.{InventoryModel}
 use Rattle.cadf_set.specs.Replica.{ReplicaModel}
 use Rattle.cadf_sketch.specs.SketchFile.{sketch_file}
-use Rattle.cadf_tool.specs.WrittenFile.{file}
+use Rattle.cadf_tool.specs.WrittenFile.{written_file}
 use Rattle.cadf_tool.specs.declared.input.Loaded.{Loaded}
 use Rattle.cadf_tool.specs.declared.fault.ToolFault.{ToolFault}
 use Rattle.cadf_tool.specs.Told.{log_named, atoms_loaded, replica_model_of}
@@ -14,7 +14,7 @@ use Rattle.cadf_tool.specs.InventoryInput.{inventory_spec}
 use Rattle.cadf_tool.specs.SketchInput.{sketch_spec}
 use Rattle.cadf_tool.specs.Sketch.{AreAsked, sketch_model_of, IsPartBySketch}
 use Rattle.cadf_tool.specs.Join.{join_of}
-use Rattle.cadf_tool.specs.Missing.{part_of}
+use Rattle.cadf_tool.specs.Missing.{delta_between}
 use Rattle.cadf_tool.specs.MissingBy.{part_by}
 use Rattle.cadf_tool.specs.Rule.{ruling_on, ruling_for, ruled_of}
 use Rattle.cadf_tool.specs.TwoTexts.{IsTextOfFile}
@@ -41,7 +41,7 @@ are_loaded (b ∷ bs) (l ∷ ls) h = (((b, (sym (append-nil b), refl, h.0)), ref
 -- ---- the engines
 
 pub join_makes : (log : Option Text) (operands : Operands) (inputs : List (List ℕ)) (text : Text) → AreSources operands (map unread inputs)
-    → IsMadeOfAll (join_of log) file inputs text → IsDerived (Joined log operands) text
+    → IsMadeOfAll (join_of log) written_file inputs text → IsDerived (Joined log operands) text
 join_makes log operands inputs text given m = (
   m.loaded,
   are_read operands (map unread inputs) (map ended inputs) m.loaded given (are_loaded inputs m.loaded m.are),
@@ -49,7 +49,7 @@ join_makes log operands inputs text given m = (
 )
 
 pub missing_makes : (from to : Derivation) (a b : List ℕ) (text : Text) → IsDerived from a → IsDerived to b
-    → IsMadeOfTwo input_spec input_spec part_of file a b text → IsPartOf (λ x. IsDerived from x) (λ x. IsDerived to x) text
+    → IsMadeOfTwo input_spec input_spec delta_between written_file a b text → IsPartOf (λ x. IsDerived from x) (λ x. IsDerived to x) text
 missing_makes from to a b text d e m = (m.first, m.second, (a, d, m.input), (b, e, m.following), (m.made, m.worked, m.told))
 
 pub output_makes : {M : Type 0} (work : Loaded → Result M ToolFault) (tell : M → Text) (of : Derivation) (b : List ℕ) (text : Text)
@@ -57,7 +57,7 @@ pub output_makes : {M : Type 0} (work : Loaded → Result M ToolFault) (tell : M
 output_makes work tell of b text e m = (m.value, m.made, (b, e, m.input), m.worked, m.told)
 
 pub missing_by_makes : (from to : Derivation) (a b : List ℕ) (text : Text) → IsDerived from a → IsInventoryOf (λ x. IsDerived to x) b
-    → IsMadeOfTwo input_spec inventory_spec part_by file a b text → IsPartByOf (λ x. IsDerived from x) (λ x. IsDerived to x) text
+    → IsMadeOfTwo input_spec inventory_spec part_by written_file a b text → IsPartByOf (λ x. IsDerived from x) (λ x. IsDerived to x) text
 missing_by_makes from to a b text d e m = (m.first, m.second, (a, d, m.input), (b, e, m.following), (m.made, m.worked, m.told))
 
 pub sketch_makes : (cells salt : Option ℕ) (to : Derivation) (b : List ℕ) (text : Text) → AreAsked cells salt → IsDerived to b
@@ -67,14 +67,14 @@ sketch_makes cells salt to b text asked e m =
     (of_noted.0, (m.value, cells, salt, asked, (b, e, m.input), of_noted.1, m.told ∙ ap sketch_file of_noted.2))
 
 pub missing_by_sketch_makes : (from to : Derivation) (sketched : InventoryModel) (a b : List ℕ) (text : Text) → IsDerived from a
-    → IsSketchOf (λ x. IsDerived to x) sketched b → IsMadeOfTwoBy input_spec sketch_spec IsPartBySketch file a b text
+    → IsSketchOf (λ x. IsDerived to x) sketched b → IsMadeOfTwoBy input_spec sketch_spec IsPartBySketch written_file a b text
     → (read : InventoryModel) × IsPartBySketchOf (λ x. IsDerived from x) (λ x. IsDerived to x) sketched read text
 missing_by_sketch_makes from to sketched a b text d e m =
     let of_read = answer_read m.first m.second m.made m.worked in
     (of_read.0, (m.first, m.second, m.made, (a, d, m.input), (b, e, m.following), of_read.1, m.told))
 
 pub rule_makes : (letter key : Text) (place : ℕ) (m : Derivation) (b : List ℕ) (text : Text) → IsDerived m b
-    → IsMadeOf input_spec (ruled_of letter key place) file b text → (value : Text) × IsDerived (Ruled place (ruling_on letter key value) m) text
+    → IsMadeOf input_spec (ruled_of letter key place) written_file b text → (value : Text) × IsDerived (Ruled place (ruling_on letter key value) m) text
 rule_makes letter key place of b text d m =
     let ruled = ruled_is letter key place (log_named m.value) (atoms_loaded m.value) m.made m.worked in
     (ruled.value, (m.value, (b, d, m.input), ap (ruling_for letter key) ruled.at_place, (m.made, m.worked, m.told)))

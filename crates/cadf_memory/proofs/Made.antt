@@ -30,7 +30,7 @@ use Rattle.cadf_memory.specs.declared.buffer.Buffer.{Buffer}
 use Rattle.cadf_memory.specs.Buffers.{buffer_name, buffer_before, buffer_text}
 use Rattle.cadf_memory.specs.Handed.{handed, IsHandedOut}
 use Rattle.cadf_memory.specs.Made.{IsMadeOf, IsMadeOfTwoBy, IsMadeOfThree, IsMadeOfAll, IsMadeOfOneAndAll, AreInputs}
-use Rattle.cadf_memory.specs.Refused.{three}
+use Rattle.cadf_memory.specs.Refused.{three_sources}
 use Rattle.cadf_memory.proofs.Framed.{frame, name_kept, before_kept, text_added}
 
 -- what was read of bytes that are known is what they are
@@ -155,7 +155,7 @@ module _ {M W V : Type 0} (tell : M → Text) (sink : Sink W) (old new : W) (v :
   module _ {T U X : Type 0} (i : InputSpec T) (j : InputSpec U) (k : InputSpec X) (work : T × (U × X) → Result M ToolFault)
       (t u x : SourceTransition) (p q s : List ℕ) (given : t.old.left ≡ Some p) (given' : u.old.left ≡ Some q)
       (given'' : x.old.left ≡ Some s) where
-    of_expected_three : (expected : Result M ToolFault) → IsExpectedOf (three i t j u k x) work expected
+    of_expected_three : (expected : Result M ToolFault) → IsExpectedOf (three_sources i t j u k x) work expected
         → IsAnswer tell sink old new expected (Ok v) → IsHandedOut (IsMadeOfThree i j k work tell p q s) first last told
     of_expected_three (Ok made) (value, are, e) w =
         out (IsMadeOfThree i j k work tell p q s) (tell made) w
@@ -168,7 +168,7 @@ module _ {M W V : Type 0} (tell : M → Text) (sink : Sink W) (old new : W) (v :
         })
     of_expected_three (Err fault) d w = absurd (never fault w.0)
 
-    pub run_made_three : IsRun (three i t j u k x) work tell sink old new (Ok v)
+    pub run_made_three : IsRun (three_sources i t j u k x) work tell sink old new (Ok v)
         → IsHandedOut (IsMadeOfThree i j k work tell p q s) first last told
     run_made_three r = of_expected_three r.expected r.first.is r.answer
 

@@ -48,10 +48,10 @@ use Rattle.cadf_tool.specs.InventoryInput.{inventory_kind, inventory_spec}
 use Rattle.cadf_tool.specs.SketchInput.{sketch_kind, sketch_spec}
 use Rattle.cadf_tool.specs.SealInput.{kind_of, seal_spec, proof_spec}
 use Rattle.cadf_tool.specs.Rehearse.{script_spec}
-use Rattle.cadf_tool.specs.Run.{InputSpec, Sources, one, two, both, input_spec, IsRefusedFirst, IsRefusedAt, IsValue, IsFirstFaultBy}
+use Rattle.cadf_tool.specs.Run.{InputSpec, Sources, one, two, both, input_spec, IsRefusedFirst, IsRefusedAt, IsValueOf, IsFirstFaultBy}
 use Rattle.cadf_memory.specs.Refused.{
   is_of_memory,
-  three,
+  three_sources,
   seen_as,
   seen_from,
   NoReadFailed,
@@ -180,7 +180,7 @@ module _ {A M : Type 0} (sources : Sources A) (work : A → Result M ToolFault �
 pub first_of_memory : {T M : Type 0} (reader : InputSpec T) → IsSafe reader → (work : T → Result M ToolFault) (bytes : List ℕ)
     (fault : ToolFault) → IsFirstOf reader work bytes fault → is_of_memory fault ≡ true
 first_of_memory reader safe work bytes fault f =
-    of_memory (one reader f.source) (IsValue work) (λ n h. safe f.source.old f.source.new f.before f.after h.1) fault f.first
+    of_memory (one reader f.source) (IsValueOf work) (λ n h. safe f.source.old f.source.new f.before f.after h.1) fault f.first
 
 pub first_of_memory_two : {T U M : Type 0} (reader : InputSpec T) (other : InputSpec U) → IsSafe reader → IsSafe other
     → (work : T × U → Result M ToolFault → Type 0) (from to : List ℕ) (fault : ToolFault)
@@ -195,13 +195,13 @@ first_of_memory_two reader other safe safe' work from to fault f =
 pub first_of_memory_all : {M : Type 0} (work : List Loaded → Result M ToolFault) (inputs : List (List ℕ)) (fault : ToolFault)
     → IsFirstOfAll work inputs fault → is_of_memory fault ≡ true
 first_of_memory_all work inputs fault f =
-    of_memory (seen_as f.old f.new) (IsValue work) (all_never 1 f.old f.new f.before f.after) fault f.first
+    of_memory (seen_as f.old f.new) (IsValueOf work) (all_never 1 f.old f.new f.before f.after) fault f.first
 
 pub first_of_memory_three : {T U V M : Type 0} (i : InputSpec T) (j : InputSpec U) (k : InputSpec V) → IsSafe i → IsSafe j → IsSafe k
     → (work : T × (U × V) → Result M ToolFault) (a b c : List ℕ) (fault : ToolFault)
     → IsFirstOfThree i j k work a b c fault → is_of_memory fault ≡ true
 first_of_memory_three i j k safe safe' safe'' work a b c fault f =
-    of_memory (three i f.source.source j f.second_source.source k f.third_source.source) (IsValue work)
+    of_memory (three_sources i f.source.source j f.second_source.source k f.third_source.source) (IsValueOf work)
     (λ n h. elim h [
       | inl x ↦ safe f.source.source.old f.source.source.new f.source.before f.source.after x.0.1
       | inr x ↦ elim x.1 [
@@ -214,7 +214,7 @@ pub first_of_memory_one_and_all : {T M : Type 0} (reader : InputSpec T) → IsSa
     (bytes : List ℕ) (inputs : List (List ℕ)) (fault : ToolFault)
     → IsFirstOfOneAndAll reader work bytes inputs fault → is_of_memory fault ≡ true
 first_of_memory_one_and_all reader safe work bytes inputs fault f =
-    of_memory (both (one reader f.source.source) (seen_from 2 f.old f.new)) (IsValue work)
+    of_memory (both (one reader f.source.source) (seen_from 2 f.old f.new)) (IsValueOf work)
     (λ n h. elim h [
       | inl x ↦ safe f.source.source.old f.source.source.new f.source.before f.source.after x.0.1
       | inr x ↦ all_never 2 f.old f.new f.before f.after n x.1

@@ -29,7 +29,7 @@ use Rattle.cadf_tool.specs.Run.{
   both,
   all,
   all_from,
-  IsValue,
+  IsValueOf,
   IsFirstFaultBy,
   IsFirstFault,
   IsExpectedOfBy,
@@ -40,7 +40,7 @@ use Rattle.cadf_tool.specs.Run.{
 use Rattle.cadf_tool.proofs.LoadedLists.{none_failed}
 use Rattle.cadf_memory.specs.Refused.{
   unwritten_of,
-  three,
+  three_sources,
   seen_as,
   seen_from,
   NoReadFailed,
@@ -118,7 +118,7 @@ module _ {M W V : Type 0} (tell : M → Text) (sink : Sink W) (old new : W) (fau
         left = given;
         before = before;
         after = after;
-        first = first_of (one reader t) (IsValue work) V tell sink old new fault (λ a are. are.1) r;
+        first = first_of (one reader t) (IsValueOf work) V tell sink old new fault (λ a are. are.1) r;
       })
 
   pub run_refused_two : {T U : Type 0} (reader : InputSpec T) (other : InputSpec U) (work : T × U → Result M ToolFault → Type 0)
@@ -153,21 +153,21 @@ module _ {M W V : Type 0} (tell : M → Text) (sink : Sink W) (old new : W) (fau
         before = before;
         after = after;
         first = seen_at source ss rs work (unwritten_of fault) (fault_stage (unwritten_of fault))
-            (first_of (all source ss rs) (IsValue work) V tell sink old new fault
+            (first_of (all source ss rs) (IsValueOf work) V tell sink old new fault
             (λ ls are. none_failed (map (source_state source) ss) (map (source_state source) rs) ls are) r);
       })
 
   pub run_refused_three : {T U X : Type 0} (i : InputSpec T) (j : InputSpec U) (k : InputSpec X) (work : T × (U × X) → Result M ToolFault)
       (t u x : SourceTransition) (a b c : List ℕ) → t.old.left ≡ Some a → u.old.left ≡ Some b → x.old.left ≡ Some c
       → t.old.failures ≡ 0 → t.new.failures ≡ 0 → u.old.failures ≡ 0 → u.new.failures ≡ 0 → x.old.failures ≡ 0 → x.new.failures ≡ 0
-      → IsRun {T = V} (three i t j u k x) work tell sink old new (Err fault) → IsFirstOfThree i j k work a b c result
+      → IsRun {T = V} (three_sources i t j u k x) work tell sink old new (Err fault) → IsFirstOfThree i j k work a b c result
   run_refused_three i j k work t u x a b c given given' given'' before after before' after' before'' after'' r =
       subst (λ (f : ToolFault). IsFirstOfThree i j k work a b c f) (sym answered)
       (record {
         source = record { source = t; left = given; before = before; after = after };
         second_source = record { source = u; left = given'; before = before'; after = after' };
         third_source = record { source = x; left = given''; before = before''; after = after'' };
-        comes = first_of (three i t j u k x) (IsValue work) V tell sink old new fault (λ a are. (are.0.1, (are.1.0.1, are.1.1.1))) r;
+        comes = first_of (three_sources i t j u k x) (IsValueOf work) V tell sink old new fault (λ a are. (are.0.1, (are.1.0.1, are.1.1.1))) r;
       })
 
   pub run_refused_one_and_all : {T S : Type 0} (reader : InputSpec T) (source : Source S) (work : T × List Loaded → Result M ToolFault)
@@ -187,6 +187,6 @@ module _ {M W V : Type 0} (tell : M → Text) (sink : Sink W) (old new : W) (fau
         before = before';
         after = after';
         first = seen_after (one reader t) source ss rs work (unwritten_of fault) (fault_stage (unwritten_of fault))
-            (first_of (both (one reader t) (all_from 2 source ss rs)) (IsValue work) V tell sink old new fault
+            (first_of (both (one reader t) (all_from 2 source ss rs)) (IsValueOf work) V tell sink old new fault
             (λ a are. (are.0.1, none_failed (map (source_state source) ss) (map (source_state source) rs) a.1 are.1)) r);
       })

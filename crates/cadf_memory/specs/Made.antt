@@ -9,7 +9,7 @@ use Rattle.cadf_join.specs.Contents.{Text}
 use Rattle.cadf_tool.specs.declared.input.Loaded.{Loaded}
 use Rattle.cadf_tool.specs.declared.fault.ToolFault.{ToolFault}
 use Rattle.cadf_tool.specs.Input.{IsInput}
-use Rattle.cadf_tool.specs.Run.{InputSpec, IsValue}
+use Rattle.cadf_tool.specs.Run.{InputSpec, IsValueOf}
 
 pub record IsMadeOf {T M : Type 0} (reader : InputSpec T) (work : T → Result M ToolFault) (tell : M → Text)
     (bytes : List ℕ) (text : Text) : Type 0 where
@@ -31,7 +31,7 @@ pub record IsMadeOfTwoBy {T U M : Type 0} (reader : InputSpec T) (other : InputS
 
 abbrev pub IsMadeOfTwo : {T U M : Type 0} → InputSpec T → InputSpec U → (T × U → Result M ToolFault) → (M → Text)
     → List ℕ → List ℕ → Text → Type 0
-IsMadeOfTwo reader other work tell from to text = IsMadeOfTwoBy reader other (IsValue work) tell from to text
+IsMadeOfTwo reader other work tell from to text = IsMadeOfTwoBy reader other (IsValueOf work) tell from to text
 
 pub record IsMadeOfThree {T U V M : Type 0} (first : InputSpec T) (second : InputSpec U) (third : InputSpec V)
     (work : T × (U × V) → Result M ToolFault) (tell : M → Text) (a b c : List ℕ) (text : Text) : Type 0 where

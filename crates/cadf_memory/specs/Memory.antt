@@ -8,8 +8,8 @@ abbrev pub slice_left : SliceSource → List ℕ
 slice_left s = s.left.now
 
 -- the bytes of each of the slices
-abbrev pub bytes_of : List (Bor (List ℕ)) → List (List ℕ)
-bytes_of slices = map (λ (s : Bor (List ℕ)). s.now) slices
+abbrev pub bytes_of_slices : List (Bor (List ℕ)) → List (List ℕ)
+bytes_of_slices slices = map (λ (s : Bor (List ℕ)). s.now) slices
 
 -- a source that has these bytes left, and was not read
 abbrev pub unread : List ℕ → SourceState

@@ -24,7 +24,7 @@ use Rattle.cadf_tool.specs.declared.fault.ToolFault.TheVariants.{
 }
 use Rattle.cadf_tool.specs.Faults.{fault_stage}
 use Rattle.cadf_tool.specs.Inputs.{SourceState, NoneFailed}
-use Rattle.cadf_tool.specs.Run.{SourceTransition, InputSpec, Sources, numbered, one, two, both, AreLoaded, IsRefusedAt, IsValue, IsFirstFaultBy, IsFirstFault}
+use Rattle.cadf_tool.specs.Run.{SourceTransition, InputSpec, Sources, with_number, one, two, both, AreLoaded, IsRefusedAt, IsValueOf, IsFirstFaultBy, IsFirstFault}
 
 abbrev pub unwritten_of : ToolFault → ToolFault
 unwritten_of (Input n f) = Input n f
@@ -66,7 +66,7 @@ pub record IsFirstOfTwoBy {T U M : Type 0} (reader : InputSpec T) (other : Input
 
 abbrev pub IsFirstOfTwo : {T U M : Type 0} → InputSpec T → InputSpec U → (T × U → Result M ToolFault) → List ℕ → List ℕ
     → ToolFault → Type 0
-IsFirstOfTwo reader other work from to fault = IsFirstOfTwoBy reader other (IsValue work) from to fault
+IsFirstOfTwo reader other work from to fault = IsFirstOfTwoBy reader other (IsValueOf work) from to fault
 
 -- a source that has these bytes, and of which no read failed
 pub record UnfailedSource (bytes : List ℕ) : Type 0 where
@@ -75,16 +75,16 @@ pub record UnfailedSource (bytes : List ℕ) : Type 0 where
   pub before : source.old.failures ≡ 0
   pub after : source.new.failures ≡ 0
 
-abbrev pub three : {T U V : Type 0} → InputSpec T → SourceTransition → InputSpec U → SourceTransition → InputSpec V → SourceTransition
+abbrev pub three_sources : {T U V : Type 0} → InputSpec T → SourceTransition → InputSpec U → SourceTransition → InputSpec V → SourceTransition
     → Sources (T × (U × V))
-three first t second u third v = both (one first t) (both (numbered 2 second u) (numbered 3 third v))
+three_sources first t second u third v = both (one first t) (both (with_number 2 second u) (with_number 3 third v))
 
 pub record IsFirstOfThree {T U V M : Type 0} (first : InputSpec T) (second : InputSpec U) (third : InputSpec V)
     (work : T × (U × V) → Result M ToolFault) (a b c : List ℕ) (fault : ToolFault) : Type 0 where
   pub source : UnfailedSource a
   pub second_source : UnfailedSource b
   pub third_source : UnfailedSource c
-  pub comes : IsFirstFault (three first source.source second second_source.source third third_source.source) work fault (fault_stage fault)
+  pub comes : IsFirstFault (three_sources first source.source second second_source.source third third_source.source) work fault (fault_stage fault)
 
 -- what came of sources that are seen as these before and after, however often they were read. The first has that number
 abbrev pub seen_from : ℕ → List SourceState → List SourceState → Sources (List Loaded)

@@ -6,7 +6,7 @@ ghost use Rattle.cadf_tool.specs.Run.{input_spec};
 ghost use Rattle.cadf_tool.specs.InventoryInput.{inventory_spec};
 ghost use Rattle.cadf_tool.specs.Told.{replica_model_of};
 ghost use Rattle.cadf_tool.specs.Shown.{shown_text, checked_text};
-ghost use Rattle.cadf_tool.specs.Missing.{part_of};
+ghost use Rattle.cadf_tool.specs.Missing.{delta_between};
 ghost use Rattle.cadf_tool.specs.MissingBy.{inventory_model_of, part_by};
 ghost use Rattle.cadf_sketch.specs.SketchFile.{sketch_file};
 ghost use Rattle.cadf_tool.specs.Sketch.{AreAsked, sketch_model_of, IsPartBySketch};
@@ -21,9 +21,9 @@ ghost use Rattle.cadf_tool.specs.Rule.{ruled_of};
 ghost use Rattle.cadf_tool.specs.Rehearse.{script_spec, final_sites};
 ghost use Rattle.cadf_tool.specs.Sites.{sites_text};
 ghost use Rattle.cadf_tool.specs.Join.{join_of};
-ghost use Rattle.cadf_tool.specs.WrittenFile.{file};
+ghost use Rattle.cadf_tool.specs.WrittenFile.{written_file};
 ghost use Rattle.cadf_split.specs.Split.{split_text};
-ghost use Rattle.cadf_memory.specs.Memory.{bytes_of, slice_left};
+ghost use Rattle.cadf_memory.specs.Memory.{bytes_of_slices, slice_left};
 ghost use Rattle.cadf_memory.specs.Handed.{IsHandedOut};
 ghost use Rattle.cadf_memory.specs.Made.{IsMadeOf, IsMadeOfTwo, IsMadeOfTwoBy, IsMadeOfThree, IsMadeOfAll, IsMadeOfOneAndAll};
 ghost use Rattle.cadf_memory.specs.Refused.{is_of_memory, IsFirstOf, IsFirstOfTwo, IsFirstOfTwoBy, IsFirstOfThree, IsFirstOfAll, IsFirstOfOneAndAll};
@@ -142,7 +142,7 @@ pub fn rule(
     input: &[u8],
     output: &mut [u8],
 ) -> Result<usize, ToolFault>
-    ensures ok { IfOk result (IsHandedOut (IsMadeOf input_spec (ruled_of (encode_utf8 letter) key.now place) file input.now) output.old output.new) }
+    ensures ok { IfOk result (IsHandedOut (IsMadeOf input_spec (ruled_of (encode_utf8 letter) key.now place) written_file input.now) output.old output.new) }
     ensures err { IfErr result (λ fault. IsFirstOf input_spec (ruled_of (encode_utf8 letter) key.now place) input.now fault) }
     ensures only { IfErr result (λ fault. is_of_memory fault ≡ true) }
 {
@@ -176,8 +176,8 @@ pub fn rehearse(
 
 /// Writes the replica file of what `to` lacks of `from`. Inputs count from 1: `from` is the first.
 pub fn missing(alloc: Global, from: &[u8], to: &[u8], output: &mut [u8]) -> Result<usize, ToolFault>
-    ensures ok { IfOk result (IsHandedOut (IsMadeOfTwo input_spec input_spec part_of file from.now to.now) output.old output.new) }
-    ensures err { IfErr result (λ fault. IsFirstOfTwo input_spec input_spec part_of from.now to.now fault) }
+    ensures ok { IfOk result (IsHandedOut (IsMadeOfTwo input_spec input_spec delta_between written_file from.now to.now) output.old output.new) }
+    ensures err { IfErr result (λ fault. IsFirstOfTwo input_spec input_spec delta_between from.now to.now fault) }
     ensures only { IfErr result (λ fault. is_of_memory fault ≡ true) }
 {
     let mut first = SliceSource::new(from);
@@ -196,7 +196,7 @@ pub fn missing_by(
     inventory: &[u8],
     output: &mut [u8],
 ) -> Result<usize, ToolFault>
-    ensures ok { IfOk result (IsHandedOut (IsMadeOfTwo input_spec inventory_spec part_by file from.now inventory.now) output.old output.new) }
+    ensures ok { IfOk result (IsHandedOut (IsMadeOfTwo input_spec inventory_spec part_by written_file from.now inventory.now) output.old output.new) }
     ensures err { IfErr result (λ fault. IsFirstOfTwo input_spec inventory_spec part_by from.now inventory.now fault) }
     ensures only { IfErr result (λ fault. is_of_memory fault ≡ true) }
 {
@@ -238,7 +238,7 @@ pub fn missing_by_sketch(
     sketch: &[u8],
     output: &mut [u8],
 ) -> Result<usize, ToolFault>
-    ensures ok { IfOk result (IsHandedOut (IsMadeOfTwoBy input_spec sketch_spec IsPartBySketch file from.now sketch.now) output.old output.new) }
+    ensures ok { IfOk result (IsHandedOut (IsMadeOfTwoBy input_spec sketch_spec IsPartBySketch written_file from.now sketch.now) output.old output.new) }
     ensures err { IfErr result (λ fault. IsFirstOfTwoBy input_spec sketch_spec IsPartBySketch from.now sketch.now fault) }
     ensures only { IfErr result (λ fault. is_of_memory fault ≡ true) }
 {
@@ -253,7 +253,7 @@ pub fn missing_by_sketch(
 
 /// Returns a source for each of the inputs.
 fn sources<'b>(alloc: Global, inputs: &[&'b [u8]]) -> Result<Vec<SliceSource<'b>>, Memory>
-    ensures { IfOk result (λ sources. map slice_left sources.items ≡ bytes_of inputs.now) }
+    ensures { IfOk result (λ sources. map slice_left sources.items ≡ bytes_of_slices inputs.now) }
 {
     let mut sources = Vec::new(alloc);
     for input in inputs {
@@ -270,8 +270,8 @@ pub fn join(
     inputs: &[&[u8]],
     output: &mut [u8],
 ) -> Result<usize, ToolFault>
-    ensures ok { IfOk result (IsHandedOut (IsMadeOfAll (join_of log) file (bytes_of inputs.now)) output.old output.new) }
-    ensures err { IfErr result (λ fault. IsFirstOfAll (join_of log) (bytes_of inputs.now) fault) }
+    ensures ok { IfOk result (IsHandedOut (IsMadeOfAll (join_of log) written_file (bytes_of_slices inputs.now)) output.old output.new) }
+    ensures err { IfErr result (λ fault. IsFirstOfAll (join_of log) (bytes_of_slices inputs.now) fault) }
     ensures only { IfErr result (λ fault. is_of_memory fault ≡ true) }
 {
     let Ok(mut sources) = sources(alloc, inputs) else {
@@ -293,8 +293,8 @@ pub fn split(
     inputs: &[&[u8]],
     output: &mut [u8],
 ) -> Result<usize, ToolFault>
-    ensures ok { IfOk result (IsHandedOut (IsMadeOfAll (join_of log) (split_text unit) (bytes_of inputs.now)) output.old output.new) }
-    ensures err { IfErr result (λ fault. IsFirstOfAll (join_of log) (bytes_of inputs.now) fault) }
+    ensures ok { IfOk result (IsHandedOut (IsMadeOfAll (join_of log) (split_text unit) (bytes_of_slices inputs.now)) output.old output.new) }
+    ensures err { IfErr result (λ fault. IsFirstOfAll (join_of log) (bytes_of_slices inputs.now) fault) }
     ensures only { IfErr result (λ fault. is_of_memory fault ≡ true) }
 {
     let Ok(mut sources) = sources(alloc, inputs) else {
@@ -314,8 +314,8 @@ pub fn prove<'b>(
     inputs: &[&'b [u8]],
     output: &mut [u8],
 ) -> Result<usize, ToolFault>
-    ensures ok { IfOk result (IsHandedOut (IsMadeOfOneAndAll input_spec proof_of_union proof_file facts.now (bytes_of inputs.now)) output.old output.new) }
-    ensures err { IfErr result (λ fault. IsFirstOfOneAndAll input_spec proof_of_union facts.now (bytes_of inputs.now) fault) }
+    ensures ok { IfOk result (IsHandedOut (IsMadeOfOneAndAll input_spec proof_of_union proof_file facts.now (bytes_of_slices inputs.now)) output.old output.new) }
+    ensures err { IfErr result (λ fault. IsFirstOfOneAndAll input_spec proof_of_union facts.now (bytes_of_slices inputs.now) fault) }
     ensures only { IfErr result (λ fault. is_of_memory fault ≡ true) }
 {
     let Ok(mut sources) = sources(alloc, inputs) else {

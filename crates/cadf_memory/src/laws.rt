@@ -6,14 +6,14 @@ ghost use Rattle.cadf_set.specs.Inventory.{InventoryModel};
 ghost use Rattle.cadf_inventory.specs.InventoryFile.{inventory_file};
 ghost use Rattle.cadf_sketch.specs.SketchFile.{sketch_file};
 ghost use Rattle.cadf_seal.specs.SealFile.{seal_file};
-ghost use Rattle.cadf_tool.specs.WrittenFile.{file};
+ghost use Rattle.cadf_tool.specs.WrittenFile.{written_file};
 ghost use Rattle.cadf_tool.specs.Told.{replica_model_of};
 ghost use Rattle.cadf_tool.specs.Shown.{shown_text, checked_text};
 ghost use Rattle.cadf_tool.specs.Run.{input_spec};
 ghost use Rattle.cadf_tool.specs.InventoryInput.{inventory_spec};
 ghost use Rattle.cadf_tool.specs.SketchInput.{sketch_spec};
 ghost use Rattle.cadf_tool.specs.Join.{join_of};
-ghost use Rattle.cadf_tool.specs.Missing.{part_of};
+ghost use Rattle.cadf_tool.specs.Missing.{delta_between};
 ghost use Rattle.cadf_tool.specs.MissingBy.{inventory_model_of, part_by};
 ghost use Rattle.cadf_tool.specs.Sketch.{AreAsked, sketch_model_of, IsPartBySketch};
 ghost use Rattle.cadf_tool.specs.Seal.{seal_model_of};
@@ -27,25 +27,25 @@ ghost use Rattle.cadf_memory.specs.Made.{IsMadeOf, IsMadeOfTwo, IsMadeOfTwoBy, I
 /// States what the engines make of derived files: what `cadf_tool::exchange::runs_make_files` states of runs.
 pub fn engines_make_files()
     ensures join { (log : Option Text) (operands : Operands) (inputs : List (List ℕ)) (text : Text)
-        → AreSources operands (map unread inputs) → IsMadeOfAll (join_of log) file inputs text
+        → AreSources operands (map unread inputs) → IsMadeOfAll (join_of log) written_file inputs text
         → IsDerived (Joined log operands) text }
     ensures missing { (from to : Derivation) (a b : List ℕ) (text : Text) → IsDerived from a → IsDerived to b
-        → IsMadeOfTwo input_spec input_spec part_of file a b text → IsPartOf (IsDerived from) (IsDerived to) text }
+        → IsMadeOfTwo input_spec input_spec delta_between written_file a b text → IsPartOf (IsDerived from) (IsDerived to) text }
     ensures inventory { (to : Derivation) (b : List ℕ) (text : Text) → IsDerived to b
         → IsMadeOf input_spec inventory_model_of inventory_file b text → IsInventoryOf (IsDerived to) text }
     ensures missing_by { (from to : Derivation) (a b : List ℕ) (text : Text) → IsDerived from a → IsInventoryOf (IsDerived to) b
-        → IsMadeOfTwo input_spec inventory_spec part_by file a b text → IsPartByOf (IsDerived from) (IsDerived to) text }
+        → IsMadeOfTwo input_spec inventory_spec part_by written_file a b text → IsPartByOf (IsDerived from) (IsDerived to) text }
     ensures sketch { (cells salt : Option ℕ) (to : Derivation) (b : List ℕ) (text : Text) → AreAsked cells salt → IsDerived to b
         → IsMadeOf input_spec (sketch_model_of cells salt) sketch_file b text
         → (noted : InventoryModel) × IsSketchOf (IsDerived to) noted text }
     ensures missing_by_sketch { (from to : Derivation) (sketched : InventoryModel) (a b : List ℕ) (text : Text)
         → IsDerived from a → IsSketchOf (IsDerived to) sketched b
-        → IsMadeOfTwoBy input_spec sketch_spec IsPartBySketch file a b text
+        → IsMadeOfTwoBy input_spec sketch_spec IsPartBySketch written_file a b text
         → (read : InventoryModel) × IsPartBySketchOf (IsDerived from) (IsDerived to) sketched read text }
     ensures seal { (m : Derivation) (b : List ℕ) (text : Text) → IsDerived m b
         → IsMadeOf input_spec seal_model_of seal_file b text → IsSealOf (IsDerived m) text }
     ensures rule { (letter key : Text) (place : ℕ) (m : Derivation) (b : List ℕ) (text : Text) → IsDerived m b
-        → IsMadeOf input_spec (ruled_of letter key place) file b text
+        → IsMadeOf input_spec (ruled_of letter key place) written_file b text
         → (value : Text) × IsDerived (Ruled place (ruling_on letter key value) m) text }
     ensures show { (conflicts : Bool) (m : Derivation) (b : List ℕ) (text : Text) → IsDerived m b
         → IsMadeOf input_spec replica_model_of (shown_text conflicts) b text → IsShown conflicts m text }

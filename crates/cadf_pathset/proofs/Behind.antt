@@ -42,7 +42,7 @@ use Rattle.cadf_join.specs.Sets as set
 use Rattle.cadf_join.specs.laws.Rising.{from_list-rising, rising-from_list, rising_is_sorted}
 use Rattle.cadf_join.proofs.Risings.{rising-section}
 use Rattle.cadf_pathset.specs.Lists.{first_text, is_before, strip}
-use Rattle.cadf_pathset.specs.Sections.{behind, suffixes_after}
+use Rattle.cadf_pathset.specs.Sections.{suffixes_behind, suffixes_after}
 use Rattle.cadf_pathset.proofs.Firsts.{DoesNotFall, find_rising}
 use Rattle.cadf_pathset.proofs.Halving.{first_dropped}
 
@@ -196,11 +196,11 @@ rests_rise t ls s =
     subst (IsStrictlySortedBy texts_cmp) (rising-section (set.from_list ls) t ∙ ap (tails_of t) (rising-from_list texts_total texts_same ls s))
     (rising_is_sorted texts_total texts_same (suffixes_of (set.from_list ls) t))
 
-pub behind_rises : (p : Texts) (ls : List Texts) → IsStrictlySortedBy texts_cmp ls → IsStrictlySortedBy texts_cmp (behind p ls)
+pub behind_rises : (p : Texts) (ls : List Texts) → IsStrictlySortedBy texts_cmp ls → IsStrictlySortedBy texts_cmp (suffixes_behind p ls)
 behind_rises [] ls s = s
 behind_rises (t ∷ p) ls s = behind_rises p (tails_of t ls) (rests_rise t ls s)
 
-pub sections_of : (p : Texts) (ls : List Texts) → IsStrictlySortedBy texts_cmp ls → suffixes_after (set.from_list ls) p ≡ set.from_list (behind p ls)
+pub sections_of : (p : Texts) (ls : List Texts) → IsStrictlySortedBy texts_cmp ls → suffixes_after (set.from_list ls) p ≡ set.from_list (suffixes_behind p ls)
 sections_of [] ls s = refl
 sections_of (t ∷ p) ls s = ap (λ z. suffixes_after z p) (section_of t ls s) ∙ sections_of p (tails_of t ls) (rests_rise t ls s)
 
@@ -221,7 +221,7 @@ filter_all : (ls : List Texts) → filter_map (strip []) ls ≡ ls
 filter_all [] = refl
 filter_all (l ∷ ls) = ap (λ z. l ∷ z) (filter_all ls)
 
-pub behind_strip : (p : Texts) (ls : List Texts) → behind p ls ≡ filter_map (strip p) ls
+pub behind_strip : (p : Texts) (ls : List Texts) → suffixes_behind p ls ≡ filter_map (strip p) ls
 behind_strip [] ls = sym (filter_all ls)
 behind_strip (t ∷ p) ls = behind_strip p (tails_of t ls) ∙ strip_rests t p ls
 
@@ -230,13 +230,13 @@ rising_strip p s =
     let ls = set.rising s in
     let sorted = rising_is_sorted texts_total texts_same s in
     ap (λ z. set.rising (suffixes_after z p)) (sym (from_list-rising texts_total texts_same s)) ∙ ap set.rising (sections_of p ls sorted)
-    ∙ rising-from_list texts_total texts_same (behind p ls) (behind_rises p ls sorted) ∙ behind_strip p ls
+    ∙ rising-from_list texts_total texts_same (suffixes_behind p ls) (behind_rises p ls sorted) ∙ behind_strip p ls
 
-pub part_is : (p : Texts) (ls : List Texts) → IsStrictlySortedBy texts_cmp ls → (part : List Texts) (s : Contents) → part ≡ behind p ls → set.from_list ls ≡ s
+pub part_is : (p : Texts) (ls : List Texts) → IsStrictlySortedBy texts_cmp ls → (part : List Texts) (s : Contents) → part ≡ suffixes_behind p ls → set.from_list ls ≡ s
     → set.from_list part ≡ suffixes_after s p
 part_is p ls sorted part s is view = ap set.from_list is ∙ sym (sections_of p ls sorted) ∙ ap (λ z. suffixes_after z p) view
 
 pub behind_first : (prefix : List (Bor Text)) (i : ℕ) (part below : List Texts) (otherwise : Bor Text) → i < length prefix
-    → below ≡ tails_of (get_or prefix i otherwise).now part → behind (texts_at (drop (i + 1) prefix)) below ≡ behind (texts_at (drop i prefix)) part
+    → below ≡ tails_of (get_or prefix i otherwise).now part → suffixes_behind (texts_at (drop (i + 1) prefix)) below ≡ suffixes_behind (texts_at (drop i prefix)) part
 behind_first prefix i part below otherwise h is =
-    ap (behind (texts_at (drop (i + 1) prefix))) is ∙ sym (at_drop_more (λ ts. behind (texts_at ts) part) prefix i otherwise h)
+    ap (suffixes_behind (texts_at (drop (i + 1) prefix))) is ∙ sym (at_drop_more (λ ts. suffixes_behind (texts_at ts) part) prefix i otherwise h)

@@ -12,7 +12,7 @@ use Rattle.cadf_join.specs.Contents.{Texts, texts_cmp}
 use Rattle.cadf_join.specs.laws.Contents.{texts_total, texts_same}
 use Rattle.cadf_join.proofs.Members as members
 use Rattle.cadf_join.specs.laws.Sets as sets
-use Rattle.cadf_pathset.specs.Carriers.{carriers_in, with_carriers}
+use Rattle.cadf_pathset.specs.Carriers.{carriers_in, with_carriers_by}
 use Rattle.cadf_pathset.specs.Lists.{last_of, is_above_last}
 use Rattle.cadf_pathset.specs.Merge.{sorted_merge}
 use Rattle.cadf_pathset.proofs.Above.{above_last, last_listed}
@@ -121,7 +121,7 @@ module _ (carrier : Texts → Texts) where
     map_in q (x ∷ xs) ys f (inr m) = map_in q xs ys (λ z k. f z (inr k)) m
 
     pub with_theirs : (ls : List Texts) → IsStrictlySortedBy texts_cmp ls
-        → set.from_list {R = texts_cmp} (sorted_merge texts_cmp true ls (carriers_in carrier [] ls)) ≡ with_carriers carrier (set.from_list ls)
+        → set.from_list {R = texts_cmp} (sorted_merge texts_cmp true ls (carriers_in carrier [] ls)) ≡ with_carriers_by carrier (set.from_list ls)
     with_theirs ls s =
         let items = set.items (set.from_list {R = texts_cmp} ls) in
         merged_is_union texts_total texts_same ls (carriers_in carrier [] ls)

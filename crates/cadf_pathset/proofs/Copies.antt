@@ -11,13 +11,13 @@ use Rattle.cadf_join.specs.Contents.{Texts, texts_cmp}
 use Rattle.cadf_pathset.specs.Lists.{chosen_of, last_of}
 use Rattle.cadf_pathset.specs.Merge.{sorted_without}
 use Rattle.cadf_pathset.specs.Nodes.{Agree, IsLine, last_node, list_at, lists_at, place, shared}
-use Rattle.cadf_pathset.specs.Walks.{Place, Steps, ahead}
+use Rattle.cadf_pathset.specs.Walks.{Place, Steps, lists_ahead}
 use Rattle.cadf_pathset.proofs.Agreement.{agree_less, agree_through, agree_turned}
 use Rattle.cadf_pathset.proofs.CarrierLists.{last-more}
 use Rattle.cadf_pathset.proofs.Merging.{agree_shared}
 use Rattle.cadf_pathset.proofs.Threads.{line_cut, place_of}
 
-pub stepped_ahead : (more : Bool) (a b : Place) (n m : ℕ) → Steps more a b n m → ahead more b ≡ a.1
+pub stepped_ahead : (more : Bool) (a b : Place) (n m : ℕ) → Steps more a b n m → lists_ahead more b ≡ a.1
 stepped_ahead true a b n m h = sym h.0
 stepped_ahead false a b n m h = sym h.0
 
@@ -122,23 +122,23 @@ order_at p q a b r s e f o is = (λ i. texts_cmp (sym e i) (sym f i)) ∙ sym o 
 
 -- the steps of a difference
 module _ (acc total : List Texts) (more others : Bool) (a b : Place) (is : more ≡ true) (are : others ≡ true)
-    (h : acc ++ sorted_without texts_cmp (ahead more a) (ahead others b) ≡ total) where
+    (h : acc ++ sorted_without texts_cmp (lists_ahead more a) (lists_ahead others b) ≡ total) where
   turn : (r : Ordering) → texts_cmp a.0 b.0 ≡ r → acc ++ match_ordering r (a.0 ∷ sorted_without texts_cmp a.1 (b.0 ∷ b.1)) (sorted_without texts_cmp a.1 b.1)
       (sorted_without texts_cmp (a.0 ∷ a.1) b.1) ≡ total
   turn r e =
       sym (ap (λ z. acc ++ match_ordering z (a.0 ∷ sorted_without texts_cmp a.1 (b.0 ∷ b.1)) (sorted_without texts_cmp a.1 b.1)
       (sorted_without texts_cmp (a.0 ∷ a.1) b.1)) e)
-      ∙ (λ i. acc ++ sorted_without texts_cmp (ahead (sym is i) a) (ahead (sym are i) b)) ∙ h
+      ∙ (λ i. acc ++ sorted_without texts_cmp (lists_ahead (sym is i) a) (lists_ahead (sym are i) b)) ∙ h
 
-  pub left_less : (on : Bool) (c : Place) (now : List Texts) → texts_cmp a.0 b.0 ≡ Less → now ≡ acc ++ a.0 ∷ [] → ahead on c ≡ a.1
-      → now ++ sorted_without texts_cmp (ahead on c) (ahead others b) ≡ total
+  pub left_less : (on : Bool) (c : Place) (now : List Texts) → texts_cmp a.0 b.0 ≡ Less → now ≡ acc ++ a.0 ∷ [] → lists_ahead on c ≡ a.1
+      → now ++ sorted_without texts_cmp (lists_ahead on c) (lists_ahead others b) ≡ total
   left_less on c now o put next =
-      (λ i. put i ++ sorted_without texts_cmp (next i) (ahead (are i) b)) ∙ append_assoc acc (a.0 ∷ []) (sorted_without texts_cmp a.1 (b.0 ∷ b.1)) ∙ turn Less o
+      (λ i. put i ++ sorted_without texts_cmp (next i) (lists_ahead (are i) b)) ∙ append_assoc acc (a.0 ∷ []) (sorted_without texts_cmp a.1 (b.0 ∷ b.1)) ∙ turn Less o
 
-  pub left_equal : (on other : Bool) (c d : Place) (now : List Texts) → texts_cmp a.0 b.0 ≡ Equal → now ≡ acc → ahead on c ≡ a.1 → ahead other d ≡ b.1
-      → now ++ sorted_without texts_cmp (ahead on c) (ahead other d) ≡ total
+  pub left_equal : (on other : Bool) (c d : Place) (now : List Texts) → texts_cmp a.0 b.0 ≡ Equal → now ≡ acc → lists_ahead on c ≡ a.1 → lists_ahead other d ≡ b.1
+      → now ++ sorted_without texts_cmp (lists_ahead on c) (lists_ahead other d) ≡ total
   left_equal on other c d now o same next after = (λ i. same i ++ sorted_without texts_cmp (next i) (after i)) ∙ turn Equal o
 
-  pub left_greater : (other : Bool) (d : Place) → texts_cmp a.0 b.0 ≡ Greater → ahead other d ≡ b.1
-      → acc ++ sorted_without texts_cmp (ahead more a) (ahead other d) ≡ total
-  left_greater other d o after = (λ i. acc ++ sorted_without texts_cmp (ahead (is i) a) (after i)) ∙ turn Greater o
+  pub left_greater : (other : Bool) (d : Place) → texts_cmp a.0 b.0 ≡ Greater → lists_ahead other d ≡ b.1
+      → acc ++ sorted_without texts_cmp (lists_ahead more a) (lists_ahead other d) ≡ total
+  left_greater other d o after = (λ i. acc ++ sorted_without texts_cmp (lists_ahead (is i) a) (after i)) ∙ turn Greater o

@@ -4,7 +4,7 @@ use Rattle.std.proofs.lemmas.List.{length-append, take-append-drop, take-append-
 use Rattle.std.proofs.lemmas.Str.{IsUtf8-take, IsCharBoundary-from_take}
 use Rattle.std.specs.List.{AllByRecursion}
 use Rattle.std.specs.Str.{IsUtf8, IsCharBoundary}
-use Rattle.cadf_pathset.specs.Walks.{Place, Moves, ahead}
+use Rattle.cadf_pathset.specs.Walks.{Place, Moves, lists_ahead}
 
 pub all_more : {A : Type 0} (P : A → Type 0) (xs : List A) (x : A) → AllByRecursion P xs → P x → AllByRecursion P (xs ++ x ∷ [])
 all_more P [] x h p = (p, tt)
@@ -32,6 +32,6 @@ module _ {A : Type 0} (xs ys : List A) (kept : take (length xs) ys ≡ xs) where
   grown_by = sym (take-append-drop (length xs) ys) ∙ ap (λ z. z ++ drop (length xs) ys) kept
 
 -- the list at a cursor and those after it were ahead before
-pub ahead-moved : (more : Bool) (old new : Place) → Moves more old new → ahead more new ≡ old.1
+pub ahead-moved : (more : Bool) (old new : Place) → Moves more old new → lists_ahead more new ≡ old.1
 ahead-moved true old new h = sym h
 ahead-moved false old new h = sym h

@@ -6,7 +6,7 @@ use Rattle.cadf_join.specs.Sets.{Listed}
 use Rattle.cadf_join.specs.Contents.{Texts, Contents, Has, suffixes_of}
 use Rattle.cadf_join.specs.laws.Contents.{texts_total, texts_same, contains-section}
 use Rattle.cadf_join.proofs.Members as members
-use Rattle.cadf_pathset.specs.Carriers.{with_carriers}
+use Rattle.cadf_pathset.specs.Carriers.{with_carriers_by}
 use Rattle.cadf_pathset.specs.Sections.{suffixes_after}
 
 pub in_suffixes : (s : Contents) (p r : Texts) → Has (suffixes_after s p) r ↔ Has s (p ++ r)
@@ -27,11 +27,11 @@ map_listed f [] y l = absurd l
 map_listed f (x ∷ xs) y (inl e) = (x, inl refl, e)
 map_listed f (x ∷ xs) y (inr l) = let t = map_listed f xs y l in (t.0, inr t.1, t.2)
 
-pub has_carrier : (carrier : Texts → Texts) (s : Contents) (q : Texts) → Has s q → Has (with_carriers carrier s) (carrier q)
+pub has_carrier : (carrier : Texts → Texts) (s : Contents) (q : Texts) → Has s q → Has (with_carriers_by carrier s) (carrier q)
 has_carrier carrier s q h = members.in_union_right texts_total texts_same s _ (carrier q)
     (members.has_from_list texts_total texts_same _ _ (listed_map carrier (set.items s) q (members.listed_in texts_total texts_same s q h)))
 
-of_carriers : (carrier : Texts → Texts) (s : Contents) (q : Texts) → Has (with_carriers carrier s) q
+of_carriers : (carrier : Texts → Texts) (s : Contents) (q : Texts) → Has (with_carriers_by carrier s) q
     → Has s q ⊎ ((x : Texts) × Has s x × (q ≡ carrier x))
 of_carriers carrier s q h = elim (members.of_union texts_total texts_same s _ q h) [
   | inl k ↦ inl k
@@ -41,9 +41,9 @@ of_carriers carrier s q h = elim (members.of_union texts_total texts_same s _ q 
 ]
 
 pub in_carriers : (carrier : Texts → Texts) (s : Contents) (q : Texts)
-    → Has (with_carriers carrier s) q ↔ (Has s q ⊎ ((x : Texts) × Has s x × (q ≡ carrier x)))
+    → Has (with_carriers_by carrier s) q ↔ (Has s q ⊎ ((x : Texts) × Has s x × (q ≡ carrier x)))
 in_carriers carrier s q = (of_carriers carrier s q, back)
   where
-    back : Has s q ⊎ ((x : Texts) × Has s x × (q ≡ carrier x)) → Has (with_carriers carrier s) q
+    back : Has s q ⊎ ((x : Texts) × Has s x × (q ≡ carrier x)) → Has (with_carriers_by carrier s) q
     back (inl h) = members.in_union_left texts_total texts_same s _ q h
-    back (inr (x, h, is)) = subst (Has (with_carriers carrier s)) (sym is) (has_carrier carrier s x h)
+    back (inr (x, h, is)) = subst (Has (with_carriers_by carrier s)) (sym is) (has_carrier carrier s x h)

@@ -37,7 +37,7 @@ use Rattle.cadf_join.specs.Contents.{Texts, text_cmp, texts_cmp}
 use Rattle.cadf_join.specs.laws.Contents.{text_same, texts_same, texts_total}
 use Rattle.cadf_pathset.specs.Merge.{sorted_merge}
 use Rattle.cadf_pathset.specs.Nodes.{Agree, AreThere, IsLine, list_at, lists_at, place, shared}
-use Rattle.cadf_pathset.specs.Walks.{Entered, IsLinePrefix, Place, ahead}
+use Rattle.cadf_pathset.specs.Walks.{Entered, IsLinePrefix, Place, lists_ahead}
 use Rattle.cadf_pathset.proofs.Agreement.{agree_less, agree_through, agree_turned}
 use Rattle.cadf_pathset.proofs.Threads.{agree_none, at_kept, line_cut, line_kept, lists_kept, no_line, nodes_fit, place_kept, root_line, self_line}
 
@@ -60,7 +60,7 @@ module _ (acc : List Texts) (x y : Texts) (xs ys total : List Texts) (h : acc ++
 pub step_alone : (acc : List Texts) (y : Texts) (ys total : List Texts) → acc ++ both [] (y ∷ ys) ≡ total → (acc ++ y ∷ []) ++ both [] ys ≡ total
 step_alone acc y ys total h = append_assoc acc (y ∷ []) ys ∙ h
 
-pub entered_ahead : (more : Bool) (a b : Place) (ns ms : List ℕ) (n m : ℕ) → Entered more a b ns ms n m → ahead more b ≡ a.1
+pub entered_ahead : (more : Bool) (a b : Place) (ns ms : List ℕ) (n m : ℕ) → Entered more a b ns ms n m → lists_ahead more b ≡ a.1
 entered_ahead true a b ns ms n m h = sym h.0
 entered_ahead false a b ns ms n m h = sym h.0
 
@@ -145,37 +145,37 @@ there_both ls (n ∷ ns) ms h k = (h.0, there_both ls ns ms h.1 k)
 
 -- the steps of a merge
 module _ (first : List Texts) (numbers : List ℕ) (at : ℕ) (acc total : List Texts) (more : Bool) (a : Place) (is : more ≡ true)
-    (h : acc ++ both (lists_at first (drop at numbers)) (ahead more a) ≡ total) where
+    (h : acc ++ both (lists_at first (drop at numbers)) (lists_ahead more a) ≡ total) where
   module _ (lt : at < length numbers) (n : ℕ) (read : n ≡ get_or numbers at 0) where
     here : acc ++ both (list_at first n ∷ lists_at first (drop (at + 1) numbers)) (a.0 ∷ a.1) ≡ total
     here =
         (λ i. acc ++ both (list_at first (read i) ∷ lists_at first (drop (at + 1) numbers)) (a.0 ∷ a.1))
-        ∙ (λ i. acc ++ both (lists_at first (sym (drop_more numbers at 0 lt) i)) (ahead (sym is i) a)) ∙ h
+        ∙ (λ i. acc ++ both (lists_at first (sym (drop_more numbers at 0 lt) i)) (lists_ahead (sym is i) a)) ∙ h
 
     pub turn_less : (now : List Texts) → now ≡ acc ++ list_at first n ∷ [] → texts_cmp (list_at first n) a.0 ≡ Less
-        → now ++ both (lists_at first (drop (at + 1) numbers)) (ahead more a) ≡ total
+        → now ++ both (lists_at first (drop (at + 1) numbers)) (lists_ahead more a) ≡ total
     turn_less now e o =
-        (λ i. e i ++ both (lists_at first (drop (at + 1) numbers)) (ahead (is i) a))
+        (λ i. e i ++ both (lists_at first (drop (at + 1) numbers)) (lists_ahead (is i) a))
         ∙ step_less acc (list_at first n) a.0 (lists_at first (drop (at + 1) numbers)) a.1 total here o
 
-    pub turn_equal : (now : List Texts) (on : Bool) (b : Place) → now ≡ acc ++ list_at first n ∷ [] → texts_cmp (list_at first n) a.0 ≡ Equal → ahead on b ≡ a.1
-        → now ++ both (lists_at first (drop (at + 1) numbers)) (ahead on b) ≡ total
+    pub turn_equal : (now : List Texts) (on : Bool) (b : Place) → now ≡ acc ++ list_at first n ∷ [] → texts_cmp (list_at first n) a.0 ≡ Equal → lists_ahead on b ≡ a.1
+        → now ++ both (lists_at first (drop (at + 1) numbers)) (lists_ahead on b) ≡ total
     turn_equal now on b e o f =
         (λ i. e i ++ both (lists_at first (drop (at + 1) numbers)) (f i))
         ∙ step_equal acc (list_at first n) a.0 (lists_at first (drop (at + 1) numbers)) a.1 total here o
 
-    pub turn_greater : (now : List Texts) (on : Bool) (b : Place) → now ≡ acc ++ a.0 ∷ [] → texts_cmp (list_at first n) a.0 ≡ Greater → ahead on b ≡ a.1
-        → now ++ both (lists_at first (drop at numbers)) (ahead on b) ≡ total
+    pub turn_greater : (now : List Texts) (on : Bool) (b : Place) → now ≡ acc ++ a.0 ∷ [] → texts_cmp (list_at first n) a.0 ≡ Greater → lists_ahead on b ≡ a.1
+        → now ++ both (lists_at first (drop at numbers)) (lists_ahead on b) ≡ total
     turn_greater now on b e o f =
         (λ i. e i ++ both (lists_at first (drop_more numbers at 0 lt i)) (f i))
         ∙ (λ i. (acc ++ a.0 ∷ []) ++ both (list_at first (sym read i) ∷ lists_at first (drop (at + 1) numbers)) a.1)
         ∙ step_greater acc (list_at first n) a.0 (lists_at first (drop (at + 1) numbers)) a.1 total here o
 
-  pub turn_alone : length numbers ≤ at → (now : List Texts) (on : Bool) (b : Place) → now ≡ acc ++ a.0 ∷ [] → ahead on b ≡ a.1
-      → now ++ both (lists_at first (drop at numbers)) (ahead on b) ≡ total
+  pub turn_alone : length numbers ≤ at → (now : List Texts) (on : Bool) (b : Place) → now ≡ acc ++ a.0 ∷ [] → lists_ahead on b ≡ a.1
+      → now ++ both (lists_at first (drop at numbers)) (lists_ahead on b) ≡ total
   turn_alone past now on b e f =
       (λ i. e i ++ both (lists_at first (drop_all at numbers past i)) (f i))
-      ∙ step_alone acc a.0 a.1 total ((λ i. acc ++ both (lists_at first (sym (drop_all at numbers past) i)) (ahead (sym is i) a)) ∙ h)
+      ∙ step_alone acc a.0 a.1 total ((λ i. acc ++ both (lists_at first (sym (drop_all at numbers past) i)) (lists_ahead (sym is i) a)) ∙ h)
 
 -- one of our lists appended
 pub ours_put : (ls first : List Texts) (kept : take (length first) ls ≡ first) (ns ms : List ℕ) (n : ℕ) → ms ≡ ns ++ n ∷ [] → n ≤ length first
@@ -185,11 +185,11 @@ ours_put ls first kept ns ms n more there =
 
 -- all of our lists that are left appended
 pub rest_put : (ls first : List Texts) (kept : take (length first) ls ≡ first) (ns ms rest : List ℕ) (more : Bool) (a : Place) (total : List Texts)
-    → ms ≡ ns ++ rest → AreThere first rest → more ≡ false → lists_at ls ns ++ both (lists_at first rest) (ahead more a) ≡ total → lists_at ls ms ≡ total
+    → ms ≡ ns ++ rest → AreThere first rest → more ≡ false → lists_at ls ns ++ both (lists_at first rest) (lists_ahead more a) ≡ total → lists_at ls ms ≡ total
 rest_put ls first kept ns ms rest more a total put there is h =
     ap (lists_at ls) put ∙ map-append (list_at ls) ns rest ∙ ap (λ z. lists_at ls ns ++ z) (lists_kept first ls kept rest there)
     ∙ ap (λ z. lists_at ls ns ++ z) (sym (alone texts_cmp (lists_at first rest)))
-    ∙ ap (λ z. lists_at ls ns ++ both (lists_at first rest) (ahead z a)) (sym is) ∙ h
+    ∙ ap (λ z. lists_at ls ns ++ both (lists_at first rest) (lists_ahead z a)) (sym is) ∙ h
 
 -- the invariants after one of our lists was compared
 pub front_compared : (ls : List Texts) (ns ms : List ℕ) (n : ℕ) (theirs here : Texts) → theirs ≡ here → IsLinePrefix ls ns ms n theirs
@@ -239,15 +239,15 @@ order_is ls first kept n path b r s there p e f = (λ i. texts_cmp (sym (at_kept
 
 -- some of our lists skipped
 pub turn_skip : (first : List Texts) (numbers : List ℕ) (at to : ℕ) (acc total : List Texts) (more : Bool) (a : Place) → more ≡ true
-    → acc ++ both (lists_at first (drop at numbers)) (ahead more a) ≡ total → at ≤ to → (now : List Texts)
+    → acc ++ both (lists_at first (drop at numbers)) (lists_ahead more a) ≡ total → at ≤ to → (now : List Texts)
     → now ≡ acc ++ take (to - at) (drop at (lists_at first numbers))
     → AllByRecursion (λ l. texts_cmp l a.0 ≡ Less) (take (to - at) (drop at (lists_at first numbers)))
-    → now ++ both (lists_at first (drop to numbers)) (ahead more a) ≡ total
+    → now ++ both (lists_at first (drop to numbers)) (lists_ahead more a) ≡ total
 turn_skip first numbers at to acc total more a is h l now put below =
-    (λ i. (put ∙ ap (λ z. acc ++ take n z) behind) i ++ both (sym rest i) (ahead (is i) a))
+    (λ i. (put ∙ ap (λ z. acc ++ take n z) behind) i ++ both (sym rest i) (lists_ahead (is i) a))
     ∙ append_assoc acc (take n x) (both (drop n x) (a.0 ∷ a.1))
     ∙ ap (λ z. acc ++ z) (sym (merge_skip texts_total texts_same x a.0 a.1 n (subst (λ z. AllByRecursion (λ l. texts_cmp l a.0 ≡ Less) (take n z)) behind below)))
-    ∙ ap (λ z. acc ++ both x (ahead z a)) (sym is) ∙ h
+    ∙ ap (λ z. acc ++ both x (lists_ahead z a)) (sym is) ∙ h
   where
     n : ℕ
     n = to - at

@@ -3,7 +3,7 @@
 --     Advances found a b     a cursor moved to the next list, which has `found` texts in common with the one before, or there is none
 --     Moves more a b         the same, without that number
 --     Steps more a b n m     the same; m is the minimum of n and the number of texts in common, or n if there is no next list
---     ahead more a           the list at which a cursor is, if it is at one, and those after it
+--     lists_ahead more a     the list at which a cursor is, if it is at one, and those after it
 --     Entered, IsLinePrefix  the invariants of a merge, below
 use Rattle.std.specs.Prelude.{◌≡◌, ℕ, Bool, true, false, List, [], ◌∷◌, length, take, min, Option, Some, None}
 use Rattle.cadf_join.specs.Contents.{Texts}
@@ -24,9 +24,9 @@ abbrev pub Steps : Bool → Place → Place → ℕ → ℕ → Type 0
 Steps true old new n m = (old.1 ≡ new.0 ∷ new.1) × (m ≡ min n (shared new.0 old.0))
 Steps false old new n m = (old.1 ≡ []) × (new ≡ old) × (m ≡ n)
 
-abbrev pub ahead : Bool → Place → List Texts
-ahead true a = a.0 ∷ a.1
-ahead false a = []
+abbrev pub lists_ahead : Bool → Place → List Texts
+lists_ahead true a = a.0 ∷ a.1
+lists_ahead false a = []
 
 -- the cursor moved to the next list, or there is none; the nodes and the number are cut to the texts in common
 abbrev pub Entered : Bool → Place → Place → List ℕ → List ℕ → ℕ → ℕ → Type 0

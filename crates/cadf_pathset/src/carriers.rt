@@ -5,7 +5,7 @@ ghost use Rattle.std.specs.declared.cmp.Ordering.TheVariants.{Less, Greater};
 ghost use Rattle.cadf_join.specs.Contents.{Texts, texts_cmp};
 ghost use Rattle.cadf_join.specs.Prefixes.{texts_at};
 ghost use Rattle.cadf_join.specs.Sets as set;
-ghost use Rattle.cadf_pathset.specs.Carriers.{carriers_in, with_carriers};
+ghost use Rattle.cadf_pathset.specs.Carriers.{carriers_in, with_carriers_by};
 
 use crate::Memory;
 use crate::copier::Copier;
@@ -43,7 +43,7 @@ fn carriers_of<C: Carrier>(alloc: Global, rows: &PathVec) -> Result<PathVec, Mem
 pub(crate) fn with_carriers<C: Carrier>(alloc: Global, lists: PathVec) -> Result<PathVec, Memory>
     requires { IsStrictlySortedBy texts_cmp lists }
     ensures rising { IfOk result (λ all. IsStrictlySortedBy texts_cmp all) }
-    ensures set { IfOk result (λ all. set.from_list {R = texts_cmp} all ≡ with_carriers C.carrier (set.from_list lists)) }
+    ensures set { IfOk result (λ all. set.from_list {R = texts_cmp} all ≡ with_carriers_by C.carrier (set.from_list lists)) }
 {
     let carriers = carriers_of::<C>(alloc, &lists)?;
     let mut all = lists;

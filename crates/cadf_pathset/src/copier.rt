@@ -2,7 +2,7 @@
 ghost use Rattle.std.specs.Prelude.{◌≡◌, ◌≤◌, ◌++◌, [], ◌∷◌, OnOk, IfOk, cond, length, take};
 ghost use Rattle.cadf_join.specs.Prefixes.{texts_at};
 ghost use Rattle.cadf_pathset.specs.Lists.{chosen_of, is_above_last};
-ghost use Rattle.cadf_pathset.specs.Walks.{Moves, Steps, ahead};
+ghost use Rattle.cadf_pathset.specs.Walks.{Moves, Steps, lists_ahead};
 
 use crate::Memory;
 use crate::cursor::Cursor;
@@ -112,7 +112,7 @@ impl<'a> Copier<'a> {
 
     /// Copies the list at the cursor, if `at_list`, and all lists after it.
     pub fn copy_rest(&mut self, at_list: bool) -> Result<(), Memory>
-        ensures { OnOk result (self.new.1 ≡ self.old.1 ++ ahead at_list self.old.0) }
+        ensures { OnOk result (self.new.1 ≡ self.old.1 ++ lists_ahead at_list self.old.0) }
     {
         let mut more = at_list;
         while more {

@@ -13,7 +13,7 @@ ghost use Rattle.cadf_pathset.specs.Lists.{at_places, last_of, last_starts_with,
 ghost use Rattle.cadf_pathset.specs.Nodes.{Agree, AreThere, lists_at};
 ghost use Rattle.cadf_join.specs.Sets as set;
 ghost use Rattle.cadf_pathset.specs.Merge.{sorted_merge};
-ghost use Rattle.cadf_pathset.specs.Sections.{behind};
+ghost use Rattle.cadf_pathset.specs.Sections.{suffixes_behind};
 
 use crate::as_text::AsText;
 use crate::compare::{begins_with, list_cmp, same_list};
@@ -229,7 +229,7 @@ impl PathVec {
     /// Borrows the suffixes after the prefix.
     pub fn suffixes(&self, prefix: &[&str]) -> SuffixRange<'_>
         requires { IsStrictlySortedBy texts_cmp self.now }
-        ensures behind { result ≡ behind (texts_at prefix.now) self.now }
+        ensures behind { result ≡ suffixes_behind (texts_at prefix.now) self.now }
         ensures rising { IsStrictlySortedBy texts_cmp result }
     {
         let mut range = self.whole();

@@ -37,7 +37,7 @@ use Rattle.std.proofs.lemmas.Fmt.{digits_decimal}
 use Rattle.std.proofs.lemmas.List.{take_all}
 use Rattle.std.proofs.lemmas.List.Sums.{split_at_first, passes_at_first}
 use Rattle.std.proofs.lemmas.Bool.Decides.{nat_tests}
-use Rattle.cadf_script.specs.Script.{IsNumber, AreTwo, IsSiteAndText}
+use Rattle.cadf_script.specs.Script.{IsScriptNumber, AreTwo, IsSiteAndText}
 use Rattle.cadf_script.specs.Words.{IsCut, has_blank}
 
 pub own : IsNumeralModel (AllDigits 10) (digits_value 10)
@@ -135,27 +135,27 @@ cut_at bytes i e within = record {
 
 -- ---- a number and the bytes after it
 
-pub site_here : (words word rest : List ℕ) (n : ℕ) → IsCut words word rest → IsNumber word n → IsSiteAndText words n rest
+pub site_here : (words word rest : List ℕ) (n : ℕ) → IsCut words word rest → IsScriptNumber word n → IsSiteAndText words n rest
 site_here words word rest n cut number = (number.0, cut.is ∙ ap (λ w. w ++ 32 ∷ rest) number.1)
 
 pub no_site_uncut : (words : List ℕ) → has_blank words ≡ false → (n : ℕ) (text : List ℕ) → ¬ IsSiteAndText words n text
 no_site_uncut words none n text h = true≢false (sym (blank_in (decimal n) text) ∙ ap has_blank (sym h.1) ∙ none)
 
-pub no_site_number : (words word rest : List ℕ) → IsCut words word rest → ((n : ℕ) → ¬ IsNumber word n) → (n : ℕ) (text : List ℕ) → ¬ IsSiteAndText words n text
+pub no_site_number : (words word rest : List ℕ) → IsCut words word rest → ((n : ℕ) → ¬ IsScriptNumber word n) → (n : ℕ) (text : List ℕ) → ¬ IsSiteAndText words n text
 no_site_number words word rest cut none n text h =
     none n (h.0, (cut_unique word rest (decimal n) text cut.first (decimal_unblank n h.0) (sym cut.is ∙ h.1)).0)
 
 -- ---- two numbers
 
-pub two_here : (words word rest : List ℕ) (m n : ℕ) → IsCut words word rest → IsNumber word m → IsNumber rest n → AreTwo words m n
+pub two_here : (words word rest : List ℕ) (m n : ℕ) → IsCut words word rest → IsScriptNumber word m → IsScriptNumber rest n → AreTwo words m n
 two_here words word rest m n cut first second = (first.0, second.0, cut.is ∙ (λ i. first.1 i ++ 32 ∷ second.1 i))
 
 pub no_two_uncut : (words : List ℕ) → has_blank words ≡ false → (m n : ℕ) → ¬ AreTwo words m n
 no_two_uncut words none m n h = no_site_uncut words none m (decimal n) (h.0, h.2)
 
-pub no_two_first : (words word rest : List ℕ) → IsCut words word rest → ((n : ℕ) → ¬ IsNumber word n) → (m n : ℕ) → ¬ AreTwo words m n
+pub no_two_first : (words word rest : List ℕ) → IsCut words word rest → ((n : ℕ) → ¬ IsScriptNumber word n) → (m n : ℕ) → ¬ AreTwo words m n
 no_two_first words word rest cut none m n h = no_site_number words word rest cut none m (decimal n) (h.0, h.2)
 
-pub no_two_second : (words word rest : List ℕ) → IsCut words word rest → ((n : ℕ) → ¬ IsNumber rest n) → (m n : ℕ) → ¬ AreTwo words m n
+pub no_two_second : (words word rest : List ℕ) → IsCut words word rest → ((n : ℕ) → ¬ IsScriptNumber rest n) → (m n : ℕ) → ¬ AreTwo words m n
 no_two_second words word rest cut none m n h =
     none n (h.1, (cut_unique word rest (decimal m) (decimal n) cut.first (decimal_unblank m h.0) (sym cut.is ∙ h.2)).1)

@@ -39,7 +39,7 @@ use Rattle.std.proofs.lemmas.Fmt.{
   IsAscii-decimal,
 }
 use Rattle.std.proofs.lemmas.Str.{IsUtf8-from_ascii}
-use Rattle.cadf_script.specs.Script.{IsNumber}
+use Rattle.cadf_script.specs.Script.{IsScriptNumber}
 use Rattle.cadf_script.specs.Words.{is_plain_number}
 use Rattle.cadf_script.proofs.Cuts.{own}
 
@@ -86,13 +86,13 @@ decimal_plain n small =
         apart : (x : ℕ) → 48 < x → x ≡ 48 → ⊥
         apart x h e = omega (arith, h, e)
 
-pub not_plain : (w : List ℕ) → is_plain_number w ≡ false → (n : ℕ) → ¬ IsNumber w n
+pub not_plain : (w : List ℕ) → is_plain_number w ≡ false → (n : ℕ) → ¬ IsScriptNumber w n
 not_plain w none n h = true≢false (sym (plain_from (decimal n) (decimal_plain n h.0)) ∙ ap is_plain_number (sym h.1) ∙ none)
 
-pub not_text : (w : List ℕ) → ¬ IsUtf8 w → (n : ℕ) → ¬ IsNumber w n
+pub not_text : (w : List ℕ) → ¬ IsUtf8 w → (n : ℕ) → ¬ IsScriptNumber w n
 not_text w none n h = none (subst IsUtf8 (sym h.1) (IsUtf8-from_ascii (decimal n) (IsAscii-decimal n (omega (arith, h.0)))))
 
-pub is_number : {E : Type 0} (w : List ℕ) (r : Result ℕ E) (n : ℕ) → r ≡ Ok n → is_plain_number w ≡ true → ParsesUnsigned 32 10 w r → IsNumber w n
+pub is_number : {E : Type 0} (w : List ℕ) (r : Result ℕ E) (n : ℕ) → r ≡ Ok n → is_plain_number w ≡ true → ParsesUnsigned 32 10 w r → IsScriptNumber w n
 is_number {E} w r n e plain parsed =
     let p = plain_facts w plain in
     let ok = parse_plain own {E = E} 32 w (Ok n) (subst (ParsesUnsigned {E = E} 32 10 w) e parsed) p.unsigned in
@@ -101,7 +101,7 @@ is_number {E} w r n e plain parsed =
       sym (decimal-digits_value own w ok.0.0 p.some p.zero (omega (arith, value))) ∙ ap decimal (sym ok.1),
     )
 
-pub not_number : {E : Type 0} (w : List ℕ) (r : Result ℕ E) (e : E) → r ≡ Err e → ParsesUnsigned 32 10 w r → (n : ℕ) → ¬ IsNumber w n
+pub not_number : {E : Type 0} (w : List ℕ) (r : Result ℕ E) (e : E) → r ≡ Err e → ParsesUnsigned 32 10 w r → (n : ℕ) → ¬ IsScriptNumber w n
 not_number {E} w r e failed parsed n h = never r n e (parse-decimal 32 n w r (omega (arith, h.0)) (omega (arith, h.0)) h.1 parsed) failed
   where
     never : (r : Result ℕ E) (n : ℕ) (e : E) → r ≡ Ok n → r ≡ Err e → ⊥

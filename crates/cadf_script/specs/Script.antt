@@ -31,8 +31,8 @@ command_of (Send site) = command.Send
 command_of (Deliver message site) = command.Deliver
 
 -- a number in decimal, of at most nine digits, without a leading zero
-abbrev pub IsNumber : List ℕ → ℕ → Type 0
-IsNumber word n = (n < 10 ^ 9) × (word ≡ decimal n)
+abbrev pub IsScriptNumber : List ℕ → ℕ → Type 0
+IsScriptNumber word n = (n < 10 ^ 9) × (word ≡ decimal n)
 
 -- two numbers, separated by one space
 abbrev pub AreTwo : List ℕ → ℕ → ℕ → Type 0
@@ -45,9 +45,9 @@ IsSiteAndText words n text = (n < 10 ^ 9) × (words ≡ decimal n ++ 32 ∷ text
 -- the bytes after the first word and its space
 abbrev pub AreWords : List ℕ → Turn → Type 0
 AreWords words (Learn site document) = (text : List ℕ) × IsSiteAndText words site text × IsDocumentOf text document
-AreWords words (Ask site) = IsNumber words site
+AreWords words (Ask site) = IsScriptNumber words site
 AreWords words (Answer site message) = AreTwo words site message
-AreWords words (Send site) = IsNumber words site
+AreWords words (Send site) = IsScriptNumber words site
 AreWords words (Deliver message site) = AreTwo words message site
 
 -- ---- lines

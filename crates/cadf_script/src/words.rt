@@ -1,7 +1,7 @@
 //! The words of a line: the part before the first space, and numbers.
 ghost use Rattle.std.specs.Prelude.{◌≡◌, ◌==◌, ◌≤◌, length, ℕ, List, MatchOption, false};
 ghost use Rattle.std.specs.List.{position_or_len};
-ghost use Rattle.cadf_script.specs.Script.{IsNumber, AreTwo, IsSiteAndText};
+ghost use Rattle.cadf_script.specs.Script.{IsScriptNumber, AreTwo, IsSiteAndText};
 ghost use Rattle.cadf_script.specs.Words.{IsCut, has_blank, is_plain_number as is_plain_word};
 
 /// Counts the bytes before the first `mark`, or all bytes if there is none.
@@ -54,7 +54,7 @@ fn is_plain(word: &[u8]) -> bool
 
 /// Reads the word as a decimal number of at most nine digits. `None` if it is none.
 pub(crate) fn number(word: &[u8]) -> Option<usize>
-    ensures { MatchOption result ((n : ℕ) → ¬ IsNumber word.now n) (IsNumber word.now) }
+    ensures { MatchOption result ((n : ℕ) → ¬ IsScriptNumber word.now n) (IsScriptNumber word.now) }
 {
     if !is_plain(word) {
         return None;

@@ -10,7 +10,7 @@ use Rattle.std.specs.declared.cmp.Ordering.TheVariants.{Less, Equal, Greater}
 use Rattle.cadf_join.specs.Contents.{Text, text_cmp}
 use Rattle.cadf_join.specs.laws.Contents.{text_total, text_same}
 use Rattle.cadf_seal.specs.ProofFile.{AreRising}
-use Rattle.cadf_seal.specs.Verified.{PlacesRise, below, above, behind, ahead, is_shown, state}
+use Rattle.cadf_seal.specs.Verified.{PlacesRise, leaves_below, leaves_above, past_last, lowest_place, is_shown, state}
 use Rattle.cadf_seal.specs.declared.leaf.Leaf.{Leaf}
 use Rattle.cadf_seal.proofs.Rebuilding.{all_map}
 use Rattle.cadf_seal.proofs.Honest.{IsLess, less_trans, not_greater, not_less_itself, is_greater}
@@ -50,7 +50,7 @@ module _ (f : Text) where
   abbrev IsSplit : List Leaf → ℕ → Type 0
   IsSplit ss i = IsPartitionPoint (λ s. is_lt (text_cmp s.digest f) ≡ true) (λ s. is_lt (text_cmp s.digest f) ≡ false) ss i
 
-  pub below_part : (ss : List Leaf) (i : ℕ) → i ≤ length ss → IsSplit ss i → take i ss ≡ below f ss
+  pub below_part : (ss : List Leaf) (i : ℕ) → i ≤ length ss → IsSplit ss i → take i ss ≡ leaves_below f ss
   below_part ss i low h = first_part (λ s. is_lt (text_cmp s.digest f)) (λ s. is_lt (text_cmp f s.digest)) ss i low h
 
   either : (a b : Bool) → (a || b) ≡ false → (a ≡ false) × (b ≡ false)
@@ -69,7 +69,7 @@ module _ (f : Text) where
         others ss both.1,
       )
 
-  pub above_part : (ss : List Leaf) (i : ℕ) → is_shown ss f ≡ false → i ≤ length ss → IsSplit ss i → drop i ss ≡ above f ss
+  pub above_part : (ss : List Leaf) (i : ℕ) → is_shown ss f ≡ false → i ≤ length ss → IsSplit ss i → drop i ss ≡ leaves_above f ss
   above_part ss i none low h =
       second_part (λ s. is_lt (text_cmp s.digest f)) (λ s. is_lt (text_cmp f s.digest)) ss i
       (λ s less. not_greater s.digest f less) (others ss none) low h
@@ -118,20 +118,20 @@ module _ (f : Text) where
       → Some true ≡ state n ss f
   unfolding state
   state_shown n ss i rises low h is =
-      sym (ap (λ c. if c then Some true else if nat_eq (behind (below f ss)) (ahead n (above f ss)) then Some false else None)
+      sym (ap (λ c. if c then Some true else if nat_eq (past_last (leaves_below f ss)) (lowest_place n (leaves_above f ss)) then Some false else None)
       (sym (first_shown ss i (digests_rise ss rises) low h) ∙ is))
 
   pub state_between : (n : ℕ) (ss : List Leaf) (i : ℕ) → AreRising ss → i ≤ length ss → IsSplit ss i → is_shown (take 1 (drop i ss)) f ≡ false
-      → (if nat_eq (behind (take i ss)) (ahead n (drop i ss)) then Some false else None) ≡ state n ss f
+      → (if nat_eq (past_last (take i ss)) (lowest_place n (drop i ss)) then Some false else None) ≡ state n ss f
   unfolding state
   state_between n ss i rises low h is =
       let none : is_shown ss f ≡ false = sym (first_shown ss i (digests_rise ss rises) low h) ∙ is in
-      (λ j. if nat_eq (behind (below_part ss i low h j)) (ahead n (above_part ss i none low h j)) then Some false else None)
-      ∙ sym (ap (λ c. if c then Some true else if nat_eq (behind (below f ss)) (ahead n (above f ss)) then Some false else None) none)
+      (λ j. if nat_eq (past_last (below_part ss i low h j)) (lowest_place n (above_part ss i none low h j)) then Some false else None)
+      ∙ sym (ap (λ c. if c then Some true else if nat_eq (past_last (leaves_below f ss)) (lowest_place n (leaves_above f ss)) then Some false else None) none)
 
 -- ---- the last of some leaves, and the first
 
-pub behind_last : (ss : List Leaf) (d : Leaf) → PlacesRise ss → 0 < length ss → behind ss ≡ suc (slice_index_or ss (length ss - 1) d).place
+pub behind_last : (ss : List Leaf) (d : Leaf) → PlacesRise ss → 0 < length ss → past_last ss ≡ suc (slice_index_or ss (length ss - 1) d).place
 behind_last [] d rises some = absurd (omega (arith, some))
 behind_last (s ∷ []) d rises some = omega arith
 behind_last (s ∷ t ∷ ss) d rises some =
@@ -141,7 +141,7 @@ behind_last (s ∷ t ∷ ss) d rises some =
     omega (arith, rest, last, rises.0.0)
 
 pub ahead_first : (n : ℕ) (ss : List Leaf) → PlacesRise ss → AllByRecursion (λ s. s.place < n) ss → (d : Leaf) → 0 < length ss
-    → ahead n ss ≡ (slice_index_or ss 0 d).place
+    → lowest_place n ss ≡ (slice_index_or ss 0 d).place
 ahead_first n [] rises low d some = absurd (omega (arith, some))
 ahead_first n (s ∷ []) rises low d some = omega (arith, low.0)
 ahead_first n (s ∷ t ∷ ss) rises low d some =

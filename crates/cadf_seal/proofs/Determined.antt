@@ -11,7 +11,7 @@ use Rattle.cadf_join.specs.Sets as set
 use Rattle.cadf_join.specs.Sets.{Listed, rising}
 use Rattle.cadf_set.specs.Inventory.{InventoryModel}
 use Rattle.cadf_inventory.proofs.RisingLists.{set_again}
-use Rattle.cadf_seal.specs.Tree.{tree, hashed, DoNotCollide, RootDetermines}
+use Rattle.cadf_seal.specs.Tree.{tree, hashed, TextsDoNotCollide, RootDetermines}
 use Rattle.cadf_seal.specs.SealFile.{seal_of}
 use Rattle.cadf_seal.proofs.Trees.{tree_within, tree_beyond, root_tree, below_power, doubled}
 
@@ -65,10 +65,10 @@ one_leaf (d ∷ g ∷ ds) (f ∷ es) e some most is = absurd (omega (arith, most
 -- leaves with room in a tree of this height are determined by its hash
 abbrev AreDetermined : ℕ → Type 0
 AreDetermined h = (ds es : List Text) → length ds ≡ length es → 0 < length ds → length ds ≤ 2 ^ h
-    → DoNotCollide (hashed h ds) (hashed h es) → tree h ds ≡ tree h es → ds ≡ es
+    → TextsDoNotCollide (hashed h ds) (hashed h es) → tree h ds ≡ tree h es → ds ≡ es
 
 step : (h : ℕ) → AreDetermined h → (ds es : List Text) → length ds ≡ length es → 0 < length ds → length ds ≤ 2 ^ suc h
-    → DoNotCollide (hashed (suc h) ds) (hashed (suc h) es) → tree (suc h) ds ≡ tree (suc h) es
+    → TextsDoNotCollide (hashed (suc h) ds) (hashed (suc h) es) → tree (suc h) ds ≡ tree (suc h) es
     → (b : Bool) → nat_le (length ds) (2 ^ h) ≡ b → ds ≡ es
 step h same ds es size some within apart is true small =
     let low = leb-true _ _ small in
@@ -112,11 +112,11 @@ root_determines (d ∷ ds) (e ∷ es) apart size is =
     let within = below_power n in
     let same : length (e ∷ es) ≡ n = sym size in
     same_leaves n (d ∷ ds) (e ∷ es) size (omega arith) within
-    (subst (λ k. DoNotCollide (hashed n (d ∷ ds)) (hashed k (e ∷ es))) same apart)
+    (subst (λ k. TextsDoNotCollide (hashed n (d ∷ ds)) (hashed k (e ∷ es))) same apart)
     (sym (root_tree n (d ∷ ds) (omega arith) within) ∙ is ∙ root_tree n (e ∷ es) (omega arith) (omega (arith, within, size)))
 
 pub seal_determines : (n m : InventoryModel)
-    → DoNotCollide (hashed (length (rising n.digests)) (rising n.digests)) (hashed (length (rising m.digests)) (rising m.digests))
+    → TextsDoNotCollide (hashed (length (rising n.digests)) (rising n.digests)) (hashed (length (rising m.digests)) (rising m.digests))
     → seal_of n ≡ seal_of m → n ≡ m
 seal_determines n m apart is =
     let leaves = root_determines (rising n.digests) (rising m.digests) apart (ap (λ s. s.count) is) (ap (λ s. s.root) is) in

@@ -14,7 +14,7 @@ use Rattle.cadf_line.specs.Missing.{digests_of}
 use Rattle.cadf_line.proofs.Missing.{known_digest, digest_of_some}
 use Rattle.cadf_set.specs.Inventory.{InventoryModel}
 use Rattle.cadf_sketch.specs.Answers.{inventory_of}
-use Rattle.cadf_seal.specs.Verified.{state, is_state, fault_unless, first_fault, is_root, text_unless, IsOf, FactsAreSo}
+use Rattle.cadf_seal.specs.Verified.{state, is_state, verify_fault_unless, first_fault, is_root, text_unless, IsOf, FactsAreSo}
 use Rattle.cadf_seal.specs.declared.verify.VerifyFault.{VerifyFault}
 use Rattle.cadf_seal.proofs.Honest.{not_true}
 use Rattle.cadf_seal.proofs.Sound.{tells_truth}
@@ -27,7 +27,7 @@ both_none : (a b : Option VerifyFault) → first_fault a b ≡ None → (a ≡ N
 both_none None b e = (refl, e)
 both_none (Some fault) b e = absurd (cc)
 
-is_right : (b : Bool) (fault : VerifyFault) → fault_unless b fault ≡ None → b ≡ true
+is_right : (b : Bool) (fault : VerifyFault) → verify_fault_unless b fault ≡ None → b ≡ true
 is_right true fault e = refl
 is_right false fault e = absurd (cc)
 

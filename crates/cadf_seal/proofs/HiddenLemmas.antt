@@ -6,7 +6,7 @@ use Rattle.std.specs.List.Sorted.{IsNonDecreasingBy}
 use Rattle.std.proofs.lemmas.Bool.{le-leb, lt-leb, ltb-true, ltb-false}
 use Rattle.std.proofs.lemmas.List.{take_all, length-take-le}
 use Rattle.cadf_join.specs.Contents.{Text}
-use Rattle.cadf_seal.specs.Shown.{until, from, hidden, all_hidden}
+use Rattle.cadf_seal.specs.Shown.{until, leaves_from, hidden, all_hidden}
 use Rattle.cadf_seal.specs.ProofFile.{AreRising}
 use Rattle.cadf_seal.specs.Tree.{tree}
 use Rattle.cadf_seal.proofs.Trees.{tree_any, below_power, within_more, first_part, second_part}
@@ -19,7 +19,7 @@ none_shown zero a ds = refl
 none_shown (suc h) a ds = refl
 
 abbrev pub halves_hidden : ℕ → ℕ → List Text → List Leaf → List Text
-halves_hidden h a ds ss = hidden h a (take (2 ^ h) ds) (until (a + 2 ^ h) ss) ++ hidden h (a + 2 ^ h) (drop (2 ^ h) ds) (from (a + 2 ^ h) ss)
+halves_hidden h a ds ss = hidden h a (take (2 ^ h) ds) (until (a + 2 ^ h) ss) ++ hidden h (a + 2 ^ h) (drop (2 ^ h) ds) (leaves_from (a + 2 ^ h) ss)
 
 pub hidden_within : (h a : ℕ) (ds : List Text) (s : Leaf) (ss : List Leaf) → length ds ≤ 2 ^ h → hidden (suc h) a ds (s ∷ ss) ≡ hidden h a ds (s ∷ ss)
 hidden_within h a ds s ss within = ap (λ b. if b then hidden h a ds (s ∷ ss) else halves_hidden h a ds (s ∷ ss)) (le-leb _ _ within)
@@ -53,11 +53,11 @@ module _ (h n a : ℕ) (ds : List Text) (s : Leaf) (ss : List Leaf) (there : n �
   next_within within = hidden_within h a (take n ds) s ss (omega (arith, length-take-le n ds there, within))
 
   pub next_beyond : 2 ^ h < n → hidden (suc h) a (take n ds) (s ∷ ss)
-      ≡ hidden h a (take (2 ^ h) ds) (until (a + 2 ^ h) (s ∷ ss)) ++ hidden h (a + 2 ^ h) (take (n - 2 ^ h) (drop (2 ^ h) ds)) (from (a + 2 ^ h) (s ∷ ss))
+      ≡ hidden h a (take (2 ^ h) ds) (until (a + 2 ^ h) (s ∷ ss)) ++ hidden h (a + 2 ^ h) (take (n - 2 ^ h) (drop (2 ^ h) ds)) (leaves_from (a + 2 ^ h) (s ∷ ss))
   next_beyond beyond =
       hidden_beyond h a (take n ds) s ss (omega (arith, length-take-le n ds there, beyond))
       ∙ (λ i. hidden h a (first_part h n ds there beyond i) (until (a + 2 ^ h) (s ∷ ss))
-      ++ hidden h (a + 2 ^ h) (second_part h n ds there beyond i) (from (a + 2 ^ h) (s ∷ ss)))
+      ++ hidden h (a + 2 ^ h) (second_part h n ds there beyond i) (leaves_from (a + 2 ^ h) (s ∷ ss)))
 
 -- ---- leaves around a place
 
@@ -94,7 +94,7 @@ not_below n m = by (nat_lt n m) refl
 
 pub around : (m i : ℕ) (ss : List Leaf) → ((k : ℕ) (d : Leaf) → 0 ≤ k → k < i → nat_lt (get_or ss k d).place m ≡ true)
     → ((k : ℕ) (d : Leaf) → i ≤ k → k < length ss → nat_lt (get_or ss k d).place m ≡ false) → i ≤ length ss
-    → (until m ss ≡ take i ss) × (from m ss ≡ drop i ss)
+    → (until m ss ≡ take i ss) × (leaves_from m ss ≡ drop i ss)
 around m i ss t f within =
     divided (λ s. nat_lt s.place m) (λ s. nat_le m s.place) (λ s. not_below s.place m) i ss (λ k d l. t k d (omega arith) l) f within
 
@@ -135,7 +135,7 @@ places_rise (s ∷ ss) h (suc i) (suc j) d m o = places_rise ss (rising_tail s s
 
 pub both_hidden : (height half n a : ℕ) (ds rest : List Text) (shown left right : List Leaf) (old mid new : List Text)
     → (length shown == 0) ≡ false → height ≢ 0 → half ≡ 2 ^ (height - 1) → half < n → n ≤ length ds
-    → left ≡ until (a + half) shown → right ≡ from (a + half) shown → rest ≡ drop half ds
+    → left ≡ until (a + half) shown → right ≡ leaves_from (a + half) shown → rest ≡ drop half ds
     → mid ≡ old ++ hidden (height - 1) a (take half ds) left
     → new ≡ mid ++ hidden (height - 1) (a + half) (take (n - half) rest) right
     → new ≡ old ++ hidden height a (take n ds) shown
@@ -146,7 +146,7 @@ both_hidden height half n a ds rest (s ∷ ss) left right old mid new some top h
     let shown = s ∷ ss in
     let far : 2 ^ h < n = omega (arith, halved, beyond) in
     let on_left = l ∙ ap (λ k. until (a + k) shown) halved in
-    let on_right = r ∙ ap (λ k. from (a + k) shown) halved in
+    let on_right = r ∙ ap (λ k. leaves_from (a + k) shown) halved in
     let after = dropped ∙ ap (λ k. drop k ds) halved in
     q
     ∙ (λ i. p i ++ hidden h (a + half) (take (n - half) rest) right)

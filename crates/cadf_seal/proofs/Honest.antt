@@ -16,8 +16,8 @@ use Rattle.cadf_join.specs.laws.Contents.{text_total, text_same}
 use Rattle.cadf_join.specs.laws.Rising.{rising_is_sorted, listed-rising, rising-listed}
 use Rattle.cadf_set.specs.Inventory.{InventoryModel}
 use Rattle.cadf_seal.specs.Tree.{root}
-use Rattle.cadf_seal.specs.Shown.{head, is_above, is_below, needs, shown, hidden, all_hidden, rebuilt}
-use Rattle.cadf_seal.specs.Verified.{alone, root_from, proof_root, below, above, behind, ahead, is_shown, state, first_digest, unneeded, IsAt, TellsAll}
+use Rattle.cadf_seal.specs.Shown.{first_text, is_above, is_below, needs, shown, hidden, all_hidden, rebuilt}
+use Rattle.cadf_seal.specs.Verified.{alone, root_from, proof_root, leaves_below, leaves_above, past_last, lowest_place, is_shown, state, first_digest, unneeded, IsAt, TellsAll}
 use Rattle.cadf_seal.specs.declared.leaf.Leaf.{Leaf}
 use Rattle.cadf_seal.proofs.Trees.{root_none, root_tree, below_power}
 use Rattle.cadf_seal.proofs.Rebuilding.{all_map, all_kept, rebuilds}
@@ -70,7 +70,7 @@ pub sorted_rest : (d : Text) (ds : List Text) → AreSorted (d ∷ ds) → AreSo
 unfolding IsStrictlySortedBy
 sorted_rest d ds h = h.1
 
-below_head : (d : Text) (ds : List Text) → AllByRecursion (λ x. IsLess d x) ds → is_below (head ds) d ≡ true
+below_head : (d : Text) (ds : List Text) → AllByRecursion (λ x. IsLess d x) ds → is_below (first_text ds) d ≡ true
 below_head d [] h = refl
 below_head d (e ∷ ds) h = h.0
 
@@ -83,14 +83,14 @@ or_true false = refl
 and_true : (a b : Bool) → a ≡ true → b ≡ true → (a && b) ≡ true
 and_true a b h k = ap (λ x. x && b) h ∙ k
 
-pub needs_listed : (before behind : Option Text) (fs : List Text) (f : Text) → Listed f fs → is_above before f ≡ true → is_below behind f ≡ true
-    → needs before behind fs ≡ true
+pub needs_listed : (before past_last : Option Text) (fs : List Text) (f : Text) → Listed f fs → is_above before f ≡ true → is_below past_last f ≡ true
+    → needs before past_last fs ≡ true
 unfolding needs
-needs_listed before behind [] f l h k = absurd l
-needs_listed before behind (g ∷ fs) f (inl e) h k =
-    ap (λ b. b || needs before behind fs) (and_true (is_above before g) (is_below behind g) (subst (λ x. is_above before x ≡ true) e h) (subst (λ x. is_below behind x ≡ true) e k))
-needs_listed before behind (g ∷ fs) f (inr l) h k =
-    ap (λ b. (is_above before g && is_below behind g) || b) (needs_listed before behind fs f l h k) ∙ or_true (is_above before g && is_below behind g)
+needs_listed before past_last [] f l h k = absurd l
+needs_listed before past_last (g ∷ fs) f (inl e) h k =
+    ap (λ b. b || needs before past_last fs) (and_true (is_above before g) (is_below past_last g) (subst (λ x. is_above before x ≡ true) e h) (subst (λ x. is_below past_last x ≡ true) e k))
+needs_listed before past_last (g ∷ fs) f (inr l) h k =
+    ap (λ b. (is_above before g && is_below past_last g) || b) (needs_listed before past_last fs f l h k) ∙ or_true (is_above before g && is_below past_last g)
 
 both_true : (a b c : Bool) → ((a && b) || c) ≡ true → ((a ≡ true) × (b ≡ true)) ⊎ (c ≡ true)
 both_true true true c e = inl (refl, refl)
@@ -98,15 +98,15 @@ both_true true false c e = inr e
 both_true false b c e = inr e
 
 -- what needs a leaf between two needs it between two that are further apart
-needs_wider : (before behind other more : Option Text) (fs : List Text) → ((f : Text) → is_above before f ≡ true → is_above other f ≡ true)
-    → ((f : Text) → is_below behind f ≡ true → is_below more f ≡ true) → needs before behind fs ≡ true → needs other more fs ≡ true
+needs_wider : (before past_last other more : Option Text) (fs : List Text) → ((f : Text) → is_above before f ≡ true → is_above other f ≡ true)
+    → ((f : Text) → is_below past_last f ≡ true → is_below more f ≡ true) → needs before past_last fs ≡ true → needs other more fs ≡ true
 unfolding needs
-needs_wider before behind other more [] low high e = e
-needs_wider before behind other more (f ∷ fs) low high e =
-    elim (both_true (is_above before f) (is_below behind f) (needs before behind fs) e) as (λ _. ((is_above other f && is_below more f) || needs other more fs)
+needs_wider before past_last other more [] low high e = e
+needs_wider before past_last other more (f ∷ fs) low high e =
+    elim (both_true (is_above before f) (is_below past_last f) (needs before past_last fs) e) as (λ _. ((is_above other f && is_below more f) || needs other more fs)
     ≡ true) [
       | inl p ↦ ap (λ b. b || needs other more fs) (and_true (is_above other f) (is_below more f) (low f p.0) (high f p.1))
-      | inr r ↦ ap (λ b. (is_above other f && is_below more f) || b) (needs_wider before behind other more fs low high r) ∙ or_true (is_above other f && is_below more f)
+      | inr r ↦ ap (λ b. (is_above other f && is_below more f) || b) (needs_wider before past_last other more fs low high r) ∙ or_true (is_above other f && is_below more f)
     ]
 
 -- ---- shown leaves are leaves
@@ -124,7 +124,7 @@ module _ (i : ℕ) (d : Text) (ds : List Text) where
 
 pub shown_at : (before : Option Text) (i : ℕ) (ds fs : List Text) → AllByRecursion (IsAt i ds) (shown before i ds fs)
 shown_at before i [] fs = tt
-shown_at before i (d ∷ ds) fs = by (needs before (head ds) fs) (all_map (shown (Some d) (suc i) ds fs) (later_at i d ds) (shown_at (Some d) (suc i) ds fs))
+shown_at before i (d ∷ ds) fs = by (needs before (first_text ds) fs) (all_map (shown (Some d) (suc i) ds fs) (later_at i d ds) (shown_at (Some d) (suc i) ds fs))
   where
     by : (b : Bool) → AllByRecursion (IsAt i (d ∷ ds)) (shown (Some d) (suc i) ds fs)
         → AllByRecursion (IsAt i (d ∷ ds)) (if b then record { place = i; digest = d } ∷ shown (Some d) (suc i) ds fs else shown (Some d) (suc i) ds fs)
@@ -185,16 +185,16 @@ leaf_shown : (before : Option Text) (i : ℕ) (ds fs : List Text) (f : Text) →
     → Listed f fs → Listed f ds → is_shown (shown before i ds fs) f ≡ true
 leaf_shown before i [] fs f sorted low asked l = absurd l
 leaf_shown before i (d ∷ ds) fs f sorted low asked l =
-    by (needs before (head ds) fs) refl l
+    by (needs before (first_text ds) fs) refl l
     (λ m. leaf_shown (Some d) (suc i) ds fs f (sorted_rest d ds sorted) (sorted_above d ds sorted) asked m)
   where
-    by : (b : Bool) → needs before (head ds) fs ≡ b → Listed f (d ∷ ds) → (Listed f ds → is_shown (shown (Some d) (suc i) ds fs) f ≡ true)
+    by : (b : Bool) → needs before (first_text ds) fs ≡ b → Listed f (d ∷ ds) → (Listed f ds → is_shown (shown (Some d) (suc i) ds fs) f ≡ true)
         → is_shown (if b then record { place = i; digest = d } ∷ shown (Some d) (suc i) ds fs else shown (Some d) (suc i) ds fs) f ≡ true
     by true is (inl e) rest =
         ap (λ o. is_eq o || is_shown (shown (Some d) (suc i) ds fs) f) (subst (λ x. text_cmp d x ≡ Equal) (sym e) (tied_itself text_total d))
     by true is (inr m) rest = ap (λ b. is_eq (text_cmp d f) || b) (rest m) ∙ or_true (is_eq (text_cmp d f))
     by false is (inl e) rest =
-        absurd (true≢false (sym (needs_listed before (head ds) fs d (subst (λ x. Listed x fs) e asked) low.0 (below_head d ds (sorted_above d ds sorted))) ∙ is))
+        absurd (true≢false (sym (needs_listed before (first_text ds) fs d (subst (λ x. Listed x fs) e asked) low.0 (below_head d ds (sorted_above d ds sorted))) ∙ is))
     by false is (inr m) rest = rest m
 
 -- ---- a fact that is no leaf is between two neighbours
@@ -208,7 +208,7 @@ none_kept : (p : Leaf → Bool) (ss : List Leaf) → AllByRecursion (λ s. p s �
 none_kept p [] h = refl
 none_kept p (s ∷ ss) h = ap (λ b. cond b (s ∷ filter p ss) (filter p ss)) h.0 ∙ none_kept p ss h.1
 
-pub ahead_least : (i n : ℕ) (ss : List Leaf) → i ≤ n → AllByRecursion (λ s. i ≤ s.place) ss → i ≤ ahead n ss
+pub ahead_least : (i n : ℕ) (ss : List Leaf) → i ≤ n → AllByRecursion (λ s. i ≤ s.place) ss → i ≤ lowest_place n ss
 ahead_least i n [] low h = low
 ahead_least i n (s ∷ ss) low h = omega (arith, h.0, ahead_least i n ss low h.1)
 
@@ -217,7 +217,7 @@ kept_places P p ss h = all_map (filter p ss) (λ s k. k.0) (all_kept P p ss h)
 
 -- if nothing needs d, which is below f, the leaf after it is below f too
 one_more : (before : Option Text) (d f : Text) (ds fs : List Text) → is_above before f ≡ true → Listed f fs → (Listed f ds → ⊥)
-    → needs before (head ds) fs ≡ false → 1 ≤ count_below f ds
+    → needs before (first_text ds) fs ≡ false → 1 ≤ count_below f ds
 one_more before d f [] fs low asked other none = absurd (true≢false (sym (needs_listed before None fs f asked low refl) ∙ none))
 one_more before d f (e ∷ ds) fs low asked other none = by (is_lt (text_cmp f e)) refl
   where
@@ -230,7 +230,7 @@ one_more before d f (e ∷ ds) fs low asked other none = by (is_lt (text_cmp f e
 
 -- how far the leaves below f go, and where those above it begin
 abbrev IsGap : ℕ → ℕ → List Leaf → Text → ℕ → Type 0
-IsGap i n ss f k = (max i (behind (below f ss)) ≡ k) × (ahead n (above f ss) ≡ k)
+IsGap i n ss f k = (max i (past_last (leaves_below f ss)) ≡ k) × (lowest_place n (leaves_above f ss) ≡ k)
 
 module _ (i : ℕ) (d f : Text) (ds fs : List Text) where
   abbrev rest : List Leaf
@@ -239,18 +239,18 @@ module _ (i : ℕ) (d f : Text) (ds fs : List Text) where
   abbrev Later : Type 0
   Later = IsGap (suc i) (suc i + length ds) rest f (suc i + count_below f ds)
 
-  ends : Later → ahead (i + length (d ∷ ds)) (above f rest) ≡ i + suc (count_below f ds)
+  ends : Later → lowest_place (i + length (d ∷ ds)) (leaves_above f rest) ≡ i + suc (count_below f ds)
   ends later =
       let size : i + length (d ∷ ds) ≡ suc i + length ds = omega arith in
-      ap (λ m. ahead m (above f rest)) size ∙ later.1 ∙ omega arith
+      ap (λ m. lowest_place m (leaves_above f rest)) size ∙ later.1 ∙ omega arith
 
   gap_shown : IsLess d f → Later → IsGap i (i + length (d ∷ ds)) (record { place = i; digest = d } ∷ rest) f (i + suc (count_below f ds))
   gap_shown less later =
       let one : Leaf = record { place = i; digest = d } in
-      let low : behind (below f (one ∷ rest)) ≡ max (suc i) (behind (below f rest)) =
-      ap (λ b. behind (cond b (one ∷ below f rest) (below f rest))) less in
-      let high : ahead (i + length (d ∷ ds)) (above f (one ∷ rest)) ≡ ahead (i + length (d ∷ ds)) (above f rest) =
-      ap (λ b. ahead (i + length (d ∷ ds)) (cond b (one ∷ above f rest) (above f rest))) (not_greater d f less) in
+      let low : past_last (leaves_below f (one ∷ rest)) ≡ max (suc i) (past_last (leaves_below f rest)) =
+      ap (λ b. past_last (cond b (one ∷ leaves_below f rest) (leaves_below f rest))) less in
+      let high : lowest_place (i + length (d ∷ ds)) (leaves_above f (one ∷ rest)) ≡ lowest_place (i + length (d ∷ ds)) (leaves_above f rest) =
+      ap (λ b. lowest_place (i + length (d ∷ ds)) (cond b (one ∷ leaves_above f rest) (leaves_above f rest))) (not_greater d f less) in
       (omega (arith, low, later.0), high ∙ ends later)
 
   gap_hidden : 1 ≤ count_below f ds → Later → IsGap i (i + length (d ∷ ds)) rest f (i + suc (count_below f ds))
@@ -260,16 +260,16 @@ module _ (i : ℕ) (d f : Text) (ds fs : List Text) where
   gap_here less sorted =
       let one : Leaf = record { place = i; digest = d } in
       let at = shown_at (Some d) (suc i) ds fs in
-      let none : below f rest ≡ [] =
+      let none : leaves_below f rest ≡ [] =
       none_kept (λ s. is_above (Some s.digest) f) rest
       (digests_all (λ x. is_lt (text_cmp x f) ≡ false) (suc i) ds rest at
       (all_map ds (λ x more. not_greater f x (less_trans f d x less more)) sorted)) in
-      let low : behind (below f (one ∷ rest)) ≡ 0 =
-      ap (λ b. behind (cond b (one ∷ below f rest) (below f rest))) (not_greater f d less) ∙ ap behind none in
-      let high : ahead (i + length (d ∷ ds)) (above f (one ∷ rest)) ≡ min i (ahead (i + length (d ∷ ds)) (above f rest)) =
-      ap (λ b. ahead (i + length (d ∷ ds)) (cond b (one ∷ above f rest) (above f rest))) less in
-      let later : i ≤ ahead (i + length (d ∷ ds)) (above f rest) =
-      ahead_least i (i + length (d ∷ ds)) (above f rest) (omega arith)
+      let low : past_last (leaves_below f (one ∷ rest)) ≡ 0 =
+      ap (λ b. past_last (cond b (one ∷ leaves_below f rest) (leaves_below f rest))) (not_greater f d less) ∙ ap past_last none in
+      let high : lowest_place (i + length (d ∷ ds)) (leaves_above f (one ∷ rest)) ≡ min i (lowest_place (i + length (d ∷ ds)) (leaves_above f rest)) =
+      ap (λ b. lowest_place (i + length (d ∷ ds)) (cond b (one ∷ leaves_above f rest) (leaves_above f rest))) less in
+      let later : i ≤ lowest_place (i + length (d ∷ ds)) (leaves_above f rest) =
+      ahead_least i (i + length (d ∷ ds)) (leaves_above f rest) (omega arith)
       (kept_places (λ s. i ≤ s.place) (λ s. is_below (Some s.digest) f) rest (all_map rest (λ s is. at_least s is.from) at)) in
       (omega (arith, low), omega (arith, high, later))
     where
@@ -280,10 +280,10 @@ gap : (before : Option Text) (i : ℕ) (ds fs : List Text) (f : Text) → AreSor
     → IsGap i (i + length ds) (shown before i ds fs) f (i + count_below f ds)
 gap before i [] fs f sorted low asked other = (omega arith, omega arith)
 gap before i (d ∷ ds) fs f sorted low asked other =
-    by (is_lt (text_cmp d f)) (needs before (head ds) fs) refl refl
+    by (is_lt (text_cmp d f)) (needs before (first_text ds) fs) refl refl
     (λ less. gap (Some d) (suc i) ds fs f (sorted_rest d ds sorted) less asked (λ l. other (inr l)))
   where
-    by : (b c : Bool) → is_lt (text_cmp d f) ≡ b → needs before (head ds) fs ≡ c
+    by : (b c : Bool) → is_lt (text_cmp d f) ≡ b → needs before (first_text ds) fs ≡ c
         → (is_lt (text_cmp d f) ≡ true → IsGap (suc i) (suc i + length ds) (shown (Some d) (suc i) ds fs) f (suc i + count_below f ds))
         → IsGap i (i + length (d ∷ ds)) (if c then record { place = i; digest = d } ∷ shown (Some d) (suc i) ds fs else shown (Some d) (suc i) ds fs) f
         (i + (if b then suc (count_below f ds) else 0))
@@ -292,8 +292,8 @@ gap before i (d ∷ ds) fs f sorted low asked other =
     by false true is need later = gap_here i d f ds fs (is_greater d f is (λ e. other (inl (sym e)))) (sorted_above d ds sorted)
     by false false is need later =
         let less = is_greater d f is (λ e. other (inl (sym e))) in
-        let behind = below_head f ds (all_map ds (λ x more. less_trans f d x less more) (sorted_above d ds sorted)) in
-        absurd (true≢false (sym (needs_listed before (head ds) fs f asked low behind) ∙ need))
+        let past_last = below_head f ds (all_map ds (λ x more. less_trans f d x less more) (sorted_above d ds sorted)) in
+        absurd (true≢false (sym (needs_listed before (first_text ds) fs f asked low past_last) ∙ need))
 
 -- ---- what the proof says of a fact
 
@@ -310,16 +310,16 @@ honest_state : (ds fs : List Text) (f : Text) → AreSorted ds → Listed f fs �
 unfolding state
 honest_state ds fs f sorted asked true there all =
     let ss = shown None 0 ds fs in
-    ap (λ c. if c then Some true else if nat_eq (behind (below f ss)) (ahead (length ds) (above f ss)) then Some false else None)
+    ap (λ c. if c then Some true else if nat_eq (past_last (leaves_below f ss)) (lowest_place (length ds) (leaves_above f ss)) then Some false else None)
     (leaf_shown None 0 ds fs f sorted (all_above_none ds) asked (there refl))
 honest_state ds fs f sorted asked false there all =
     let ss = shown None 0 ds fs in
     let other : Listed f ds → ⊥ = λ l. true≢false (sym (all l)) in
     let between = gap None 0 ds fs f sorted refl asked other in
     let whole : 0 + length ds ≡ length ds = omega arith in
-    let last : ahead (length ds) (above f ss) ≡ 0 + count_below f ds = ap (λ m. ahead m (above f ss)) (sym whole) ∙ between.1 in
-    let next : behind (below f ss) ≡ ahead (length ds) (above f ss) = omega (arith, between.0, last) in
-    ap (λ c. if c then Some true else if nat_eq (behind (below f ss)) (ahead (length ds) (above f ss)) then Some false else None)
+    let last : lowest_place (length ds) (leaves_above f ss) ≡ 0 + count_below f ds = ap (λ m. lowest_place m (leaves_above f ss)) (sym whole) ∙ between.1 in
+    let next : past_last (leaves_below f ss) ≡ lowest_place (length ds) (leaves_above f ss) = omega (arith, between.0, last) in
+    ap (λ c. if c then Some true else if nat_eq (past_last (leaves_below f ss)) (lowest_place (length ds) (leaves_above f ss)) then Some false else None)
     (not_true (is_shown ss f) (λ e. other (shown_listed 0 ds ss f (shown_at None 0 ds fs) e)))
     ∙ ap (λ c. if c then Some false else None) (eq-eqb _ _ next)
 
@@ -329,7 +329,7 @@ first_below : (f : Text) (ss : List Leaf) → AllByRecursion (λ s. IsLess f s.d
 first_below f [] h = refl
 first_below f (s ∷ ss) h = h.0
 
-below_shown : (d f : Text) (i : ℕ) (ds fs : List Text) → AreSorted ds → is_below (head ds) f ≡ true → is_below (first_digest (shown (Some d) i ds fs)) f ≡ true
+below_shown : (d f : Text) (i : ℕ) (ds fs : List Text) → AreSorted ds → is_below (first_text ds) f ≡ true → is_below (first_digest (shown (Some d) i ds fs)) f ≡ true
 below_shown d f i [] fs sorted h = refl
 below_shown d f i (e ∷ ds) fs sorted h =
     first_below f (shown (Some d) i (e ∷ ds) fs)
@@ -340,15 +340,15 @@ honest_needed : (k i : ℕ) (before other : Option Text) (ds fs : List Text) →
     → ((f : Text) → is_above before f ≡ true → is_above other f ≡ true) → unneeded k other (shown before i ds fs) fs ≡ None
 honest_needed k i before other [] fs sorted low wider = refl
 honest_needed k i before other (d ∷ ds) fs sorted low wider =
-    by (needs before (head ds) fs) refl
+    by (needs before (first_text ds) fs) refl
     (λ (m : ℕ) (o : Option Text) w. honest_needed m (suc i) (Some d) o ds fs (sorted_rest d ds sorted) (sorted_above d ds sorted) w)
   where
-    by : (b : Bool) → needs before (head ds) fs ≡ b
+    by : (b : Bool) → needs before (first_text ds) fs ≡ b
         → ((m : ℕ) (o : Option Text) → ((f : Text) → is_above (Some d) f ≡ true → is_above o f ≡ true) → unneeded m o (shown (Some d) (suc i) ds fs) fs ≡ None)
         → unneeded k other (if b then record { place = i; digest = d } ∷ shown (Some d) (suc i) ds fs else shown (Some d) (suc i) ds fs) fs ≡ None
     by true need rest =
         ap (λ b. if b then unneeded (k + 1) (Some d) (shown (Some d) (suc i) ds fs) fs else Some k)
-        (needs_wider before (head ds) other (first_digest (shown (Some d) (suc i) ds fs)) fs wider (λ f h. below_shown d f (suc i) ds fs (sorted_rest d ds sorted) h) need)
+        (needs_wider before (first_text ds) other (first_digest (shown (Some d) (suc i) ds fs)) fs wider (λ f h. below_shown d f (suc i) ds fs (sorted_rest d ds sorted) h) need)
         ∙ rest (k + 1) (Some d) (λ f h. h)
     by false need rest = rest k other (λ f h. wider f (above_trans before d f low.0 h))
 

@@ -25,10 +25,10 @@ use Rattle.cadf_sketch.proofs.NumberLemmas.{number-again, number-only, decimal_u
 use Rattle.cadf_sketch.proofs.LineLemmas.{chosen, begins_with}
 use Rattle.cadf_sketch.proofs.SketchFileLemmas.{decimal_unbroken, there, shape_none}
 use Rattle.cadf_seal.specs.SealFile.{count_line}
-use Rattle.cadf_seal.specs.SealVerdict.{count_in}
+use Rattle.cadf_seal.specs.SealVerdict.{sealed_count}
 use Rattle.cadf_seal.specs.ProofFile.{ProofModel, proof_header, shown_line, hidden_line, proof_lines, proof_body, AreRising, IsLeafOf, HasProofParts, IsProof, ProofFileIsInjective}
 use Rattle.cadf_seal.specs.ProofVerdict.{leaf_of, leaf_in_words, shown_in, hidden_in, is_next, cause_of_line, cause_after, proof_model_in, proof_kind, AcceptsProofs}
-use Rattle.cadf_seal.specs.ProofLines.{values, with_shown, with_hidden, IsPut}
+use Rattle.cadf_seal.specs.ProofLines.{proof_values, with_shown, with_hidden, IsPut}
 use Rattle.cadf_seal.specs.declared.leaf.Leaf.{Leaf}
 use Rattle.cadf_seal.proofs.SealLemmas.{count-again, count-only}
 use Rattle.cadf_seal.proofs.ModelLemmas.{Plain, lines_of, Follows, Ends, IsModelKind, accepts-models, models-tell, name_is}
@@ -159,8 +159,8 @@ hashes_after (s ∷ ss) hs ls each none = hashes_after ss hs ls each none
 
 -- ---- one line more
 
-module _ (n : ℕ) (ss : List Leaf) (hs : List Text) (parts : HasProofParts (values n ss hs)) where
-  pub cause_at : (l : List ℕ) → cause_after (proof_lines (values n ss hs)) l ≡ cause_of_line n ss hs (hidden_in l) (shown_in l)
+module _ (n : ℕ) (ss : List Leaf) (hs : List Text) (parts : HasProofParts (proof_values n ss hs)) where
+  pub cause_at : (l : List ℕ) → cause_after (proof_lines (proof_values n ss hs)) l ≡ cause_of_line n ss hs (hidden_in l) (shown_in l)
   cause_at l =
       let all = sym (append-nil (value_lines ss hs)) in
       let leaves = ap (filter_map shown_in) all ∙ leaves_again n ss hs [] parts.count parts.leaves refl in
@@ -172,9 +172,9 @@ next_of true true e = (refl, refl)
 next_of true false e = absurd (cc)
 next_of false b e = absurd (cc)
 
-stepped : (n : ℕ) (ss : List Leaf) (hs : List Text) (l : List ℕ) → HasProofParts (values n ss hs) → (h : Option Text) (s : Option Leaf) → hidden_in l ≡ h → shown_in l ≡ s
+stepped : (n : ℕ) (ss : List Leaf) (hs : List Text) (l : List ℕ) → HasProofParts (proof_values n ss hs) → (h : Option Text) (s : Option Leaf) → hidden_in l ≡ h → shown_in l ≡ s
     → cause_of_line n ss hs h s ≡ None
-    → (value_lines (with_shown ss h s) (with_hidden hs h) ≡ value_lines ss hs ++ l ∷ []) × HasProofParts (values n (with_shown ss h s) (with_hidden hs h))
+    → (value_lines (with_shown ss h s) (with_hidden hs h) ≡ value_lines ss hs ++ l ∷ []) × HasProofParts (proof_values n (with_shown ss h s) (with_hidden hs h))
 stepped n ss hs l p (Some h) s e f c =
     let o = hidden-only l h e in (
       ap (λ x. map shown_line ss ++ x) (map_more hidden_line hs h)
@@ -194,23 +194,23 @@ stepped n ss [] l p None (Some s) e f c =
     )
 stepped n ss (h ∷ hs) l p None (Some s) e f c = absurd (cc)
 
-pub values_told : (n : ℕ) (ss more : List Leaf) (hs others : List Text) (l : List ℕ) → HasProofParts (values n ss hs) → IsPut n ss hs more others l
-    → (cause_after (proof_lines (values n ss hs)) l ≡ None) × (proof_lines (values n more others) ≡ proof_lines (values n ss hs) ++ l ∷ [])
-    × HasProofParts (values n more others)
+pub values_told : (n : ℕ) (ss more : List Leaf) (hs others : List Text) (l : List ℕ) → HasProofParts (proof_values n ss hs) → IsPut n ss hs more others l
+    → (cause_after (proof_lines (proof_values n ss hs)) l ≡ None) × (proof_lines (proof_values n more others) ≡ proof_lines (proof_values n ss hs) ++ l ∷ [])
+    × HasProofParts (proof_values n more others)
 values_told n ss more hs others l parts put =
     let s = stepped n ss hs l parts (hidden_in l) (shown_in l) refl refl put.0 in (
       cause_at n ss hs parts l ∙ put.0,
       ap (λ ls. count_line n ∷ ls) ((λ i. value_lines (put.1 i) (put.2 i)) ∙ s.0),
-      subst HasProofParts (λ i. values n (sym put.1 i) (sym put.2 i)) s.1,
+      subst HasProofParts (λ i. proof_values n (sym put.1 i) (sym put.2 i)) s.1,
     )
 
-pub count_told : (l : List ℕ) (n : ℕ) (ss : List Leaf) (hs : List Text) → Some n ≡ count_in l → ss ≡ [] → hs ≡ []
-    → (cause_after [] l ≡ None) × (proof_lines (values n ss hs) ≡ l ∷ []) × HasProofParts (values n ss hs)
+pub count_told : (l : List ℕ) (n : ℕ) (ss : List Leaf) (hs : List Text) → Some n ≡ sealed_count l → ss ≡ [] → hs ≡ []
+    → (cause_after [] l ≡ None) × (proof_lines (proof_values n ss hs) ≡ l ∷ []) × HasProofParts (proof_values n ss hs)
 count_told l n ss hs e f g =
     let p = count-only l n (sym e) in (
       ap (λ o. shape_unless (is_some o)) (sym e),
       (λ i. sym p.0 i ∷ value_lines (f i) (g i)),
-      subst HasProofParts (λ i. values n (sym f i) (sym g i)) (record { count = p.1; leaves = tt; rising = tt; hidden = tt }),
+      subst HasProofParts (λ i. proof_values n (sym f i) (sym g i)) (record { count = p.1; leaves = tt; rising = tt; hidden = tt }),
     )
 
 -- ---- lines that may follow each other are those of a proof
@@ -219,16 +219,16 @@ record AreValues (n : ℕ) (lines : List (List ℕ)) : Type 0 where
   pub shown : List Leaf
   pub hidden : List Text
   pub are : lines ≡ value_lines shown hidden
-  pub parts : HasProofParts (values n shown hidden)
+  pub parts : HasProofParts (proof_values n shown hidden)
 
 abbrev After : List Plain → List Plain → Type 0
 After before xs = AreAfter (Follows proof_kind) (Ends proof_kind) before xs
 
-module _ (x : Plain) (n : ℕ) (is : count_in x.0 ≡ Some n) where
+module _ (x : Plain) (n : ℕ) (is : sealed_count x.0 ≡ Some n) where
   count_is : x.0 ≡ count_line n
   count_is = (count-only x.0 n is).0
 
-  grown : (xs before : List Plain) (ss : List Leaf) (hs : List Text) → lines_of before ≡ value_lines ss hs → HasProofParts (values n ss hs)
+  grown : (xs before : List Plain) (ss : List Leaf) (hs : List Text) → lines_of before ≡ value_lines ss hs → HasProofParts (proof_values n ss hs)
       → After (x ∷ before) xs → AreValues n (lines_of (before ++ xs))
   grown [] before ss hs are parts h = record { shown = ss; hidden = hs; are = ap lines_of (append-nil before) ∙ are; parts = parts }
   grown (y ∷ xs) before ss hs are parts h =
@@ -261,13 +261,13 @@ plain_lines (s ∷ ss) hs = ap (λ ls. shown_line s ∷ ls) (plain_lines ss hs)
 hashes_follow : (x : Plain) (hs : List Text) (before : List Plain) → AllByRecursion IsDigest hs → After (x ∷ before) (plain_hashes hs)
 hashes_follow x [] before each = refl
 hashes_follow x (h ∷ hs) before each = (
-  ap (λ o. cause_of_line (unwrap_or (count_in x.0) 0) (filter_map shown_in (lines_of before)) (filter_map hidden_in (lines_of before)) o
+  ap (λ o. cause_of_line (unwrap_or (sealed_count x.0) 0) (filter_map shown_in (lines_of before)) (filter_map hidden_in (lines_of before)) o
       (shown_in (hidden_line h))) (hidden-again h each.0),
   hashes_follow x hs (before ++ (hidden_line h, refl) ∷ []) each.1,
 )
 
-leaves_follow : (x : Plain) (n : ℕ) → count_in x.0 ≡ Some n → (hs : List Text) → AllByRecursion IsDigest hs
-    → (ss : List Leaf) (before : List Plain) (done : List Leaf) → lines_of before ≡ value_lines done [] → HasProofParts (values n done [])
+leaves_follow : (x : Plain) (n : ℕ) → sealed_count x.0 ≡ Some n → (hs : List Text) → AllByRecursion IsDigest hs
+    → (ss : List Leaf) (before : List Plain) (done : List Leaf) → lines_of before ≡ value_lines done [] → HasProofParts (proof_values n done [])
     → AllByRecursion (IsLeafOf n) ss → AreRising (done ++ ss) → After (x ∷ before) (plain_leaves ss (plain_hashes hs))
 leaves_follow x n is hs digests [] before done are parts each rising = hashes_follow x hs before digests
 leaves_follow x n is hs digests (s ∷ ss) before done are parts each rising =
@@ -317,7 +317,7 @@ proof_again p is =
     λ i. record { log = log i; count = count i; shown = leaves i; hidden = hashes i }
 
 -- these parts, of this log
-pub proof_parts : (log : Text) (n : ℕ) (ss : List Leaf) (hs : List Text) → HasProofParts (values n ss hs)
+pub proof_parts : (log : Text) (n : ℕ) (ss : List Leaf) (hs : List Text) → HasProofParts (proof_values n ss hs)
     → HasProofParts (record { log = log; count = n; shown = ss; hidden = hs })
 proof_parts log n ss hs p = record { count = p.count; leaves = p.leaves; rising = p.rising; hidden = p.hidden }
 
@@ -333,7 +333,7 @@ proof_found : (name : Text) (xs : List Plain) → is_name_text name ≡ true →
     → (p : ProofModel) × (proof_header ∷ log_line name ∷ lines_of xs ≡ proof_body p) × IsProof p
 proof_found name [] named h = absurd (true≢false (sym h))
 proof_found name (x ∷ xs) named h =
-    let c = there (count_in x.0) (shape_none _ h.0) in
+    let c = there (sealed_count x.0) (shape_none _ h.0) in
     let o = count-only x.0 c.0 c.1 in
     let r = grown x c.0 c.1 xs [] [] [] refl (record { count = o.1; leaves = tt; rising = tt; hidden = tt }) h.1 in (
       record { log = name; count = c.0; shown = r.shown; hidden = r.hidden },

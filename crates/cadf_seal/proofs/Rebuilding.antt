@@ -7,8 +7,8 @@ use Rattle.std.proofs.lemmas.List.{length-take-le, get_or-take, get_or-drop}
 use Rattle.sha2.proofs.Facts256.{length-sha256}
 use Rattle.cadf_join.specs.Contents.{Text}
 use Rattle.cadf_join.specs.Sets.{Listed}
-use Rattle.cadf_seal.specs.Tree.{leaf_hash, node_hash, tree, hashed, DoNotCollide}
-use Rattle.cadf_seal.specs.Shown.{until, from, hidden, Rebuilt, next_hash, node_beside, node_of, rebuilt, hash_of, left_of, rehashed}
+use Rattle.cadf_seal.specs.Tree.{leaf_hash, node_hash, tree, hashed, TextsDoNotCollide}
+use Rattle.cadf_seal.specs.Shown.{until, leaves_from, hidden, Rebuilt, next_hash, node_beside, node_of, rebuilt, hash_of, rest_of_rebuilt, rehashed}
 use Rattle.cadf_seal.specs.Verified.{IsAt, PlacesRise}
 use Rattle.cadf_seal.specs.declared.leaf.Leaf.{Leaf}
 use Rattle.cadf_seal.proofs.Trees.{tree_within, tree_beyond, doubled}
@@ -84,25 +84,25 @@ module _ (a : ℕ) (ds : List Text) (k : ℕ) where
   pub all_left : (ss : List Leaf) → k ≤ length ds → AllByRecursion (IsAt a ds) ss → AllByRecursion (IsAt a (take k ds)) (until (a + k) ss)
   all_left ss room h = all_map (until (a + k) ss) (λ s p. left_at s room p.0 p.1) (all_kept (IsAt a ds) _ ss h)
 
-  pub all_right : (ss : List Leaf) → AllByRecursion (IsAt a ds) ss → AllByRecursion (IsAt (a + k) (drop k ds)) (from (a + k) ss)
-  all_right ss h = all_map (from (a + k) ss) (λ s p. right_at s p.0 p.1) (all_kept (IsAt a ds) _ ss h)
+  pub all_right : (ss : List Leaf) → AllByRecursion (IsAt a ds) ss → AllByRecursion (IsAt (a + k) (drop k ds)) (leaves_from (a + k) ss)
+  all_right ss h = all_map (leaves_from (a + k) ss) (λ s p. right_at s p.0 p.1) (all_kept (IsAt a ds) _ ss h)
 
   not_until : (s : Leaf) → nat_lt s.place (a + k) ≡ false → nat_le (a + k) s.place ≡ true
   not_until s is = le-leb _ _ (ltb-false _ _ is)
 
   pub all_halves : (ss : List Leaf) → k ≤ length ds → AllByRecursion (IsAt a (take k ds)) (until (a + k) ss)
-      → AllByRecursion (IsAt (a + k) (drop k ds)) (from (a + k) ss) → AllByRecursion (IsAt a ds) ss
+      → AllByRecursion (IsAt (a + k) (drop k ds)) (leaves_from (a + k) ss) → AllByRecursion (IsAt a ds) ss
   all_halves ss room h k =
-      all_split (IsAt a ds) _ _ ss not_until (all_map (until _ ss) (λ s at. left_back s room at) h) (all_map (from _ ss) (λ s at. right_back s room at) k)
+      all_split (IsAt a ds) _ _ ss not_until (all_map (until _ ss) (λ s at. left_back s room at) h) (all_map (leaves_from _ ss) (λ s at. right_back s room at) k)
 
 -- ---- what is hidden, beside what is shown, gives the tree
 
 abbrev halves_hidden : ℕ → ℕ → List Text → List Leaf → List Text
-halves_hidden h a ds ss = hidden h a (take (2 ^ h) ds) (until (a + 2 ^ h) ss) ++ hidden h (a + 2 ^ h) (drop (2 ^ h) ds) (from (a + 2 ^ h) ss)
+halves_hidden h a ds ss = hidden h a (take (2 ^ h) ds) (until (a + 2 ^ h) ss) ++ hidden h (a + 2 ^ h) (drop (2 ^ h) ds) (leaves_from (a + 2 ^ h) ss)
 
 abbrev pub halves_rebuilt : ℕ → ℕ → ℕ → List Leaf → List Text → Rebuilt
 halves_rebuilt h a n ss hs =
-    node_of (rebuilt h a (2 ^ h) (until (a + 2 ^ h) ss) hs) (λ rest. rebuilt h (a + 2 ^ h) (n - 2 ^ h) (from (a + 2 ^ h) ss) rest)
+    node_of (rebuilt h a (2 ^ h) (until (a + 2 ^ h) ss) hs) (λ rest. rebuilt h (a + 2 ^ h) (n - 2 ^ h) (leaves_from (a + 2 ^ h) ss) rest)
 
 hidden_at : (h a : ℕ) (ds : List Text) (s : Leaf) (ss : List Leaf) (b : Bool) → nat_le (length ds) (2 ^ h) ≡ b
     → hidden (suc h) a ds (s ∷ ss) ≡ (if b then hidden h a ds (s ∷ ss) else halves_hidden h a ds (s ∷ ss))
@@ -133,17 +133,17 @@ rebuilds_step h rebuilds a n ds s ss more all room at false large =
     let left_half = take k ds in
     let right_half = drop k ds in
     let lefts = hidden h a left_half (until (a + k) shown) in
-    let rights = hidden h (a + k) right_half (from (a + k) shown) in
+    let rights = hidden h (a + k) right_half (leaves_from (a + k) shown) in
     let left_size = length-take-le k ds (omega (arith, far)) in
     let right_size = length-drop k ds in
-    let right = λ (rest : List Text). rebuilt h (a + k) (n - k) (from (a + k) shown) rest in
+    let right = λ (rest : List Text). rebuilt h (a + k) (n - k) (leaves_from (a + k) shown) rest in
     rebuilt_at h a n s ss _ false large
     ∙ ap (λ hs. halves_rebuilt h a n shown (hs ++ more)) (hidden_at h a ds s ss false (ap (λ m. nat_le m (2 ^ h)) (sym all) ∙ large))
     ∙ ap (halves_rebuilt h a n shown) (append_assoc lefts rights more)
     ∙ ap (λ r. node_of r right)
     (rebuilds a k left_half (until (a + k) shown) (rights ++ more) (sym left_size) (omega arith) (all_left a ds k shown (omega (arith, far)) at))
     ∙ ap (node_beside (tree h left_half))
-    (rebuilds (a + k) (n - k) right_half (from (a + k) shown) more (omega (arith, right_size, all)) (omega (arith, room, doubled h))
+    (rebuilds (a + k) (n - k) right_half (leaves_from (a + k) shown) more (omega (arith, right_size, all)) (omega (arith, room, doubled h))
     (all_right a ds k shown at))
     ∙ ap (λ t. Some (t, more)) (sym (tree_beyond h ds far))
 
@@ -202,7 +202,7 @@ long_step h are a n s ss hs y hashes e true small = are a n (s ∷ ss) hs y hash
 long_step h are a n s ss hs y hashes e false large =
     let node = node_parts _ _ y (sym (rebuilt_at h a n s ss hs false large) ∙ e) in
     let left = are a (2 ^ h) (until (a + 2 ^ h) (s ∷ ss)) hs node.one hashes node.left_is in
-    let right = are (a + 2 ^ h) (n - 2 ^ h) (from (a + 2 ^ h) (s ∷ ss)) node.one.1 node.other left.1 node.right_is in
+    let right = are (a + 2 ^ h) (n - 2 ^ h) (leaves_from (a + 2 ^ h) (s ∷ ss)) node.one.1 node.other left.1 node.right_is in
     subst IsLong node.is (length-sha256 (1 ∷ node.one.0 ++ node.other.0), right.1)
 
 are_long : (h : ℕ) → AreLong h
@@ -225,9 +225,9 @@ IsIn a n s = (a ≤ s.place) × (s.place < a + n)
 in_left : (a n k : ℕ) (ss : List Leaf) → AllByRecursion (IsIn a n) ss → AllByRecursion (IsIn a k) (until (a + k) ss)
 in_left a n k ss h = all_map (until (a + k) ss) (λ s p. (p.0.0, ltb-true _ _ p.1)) (all_kept (IsIn a n) _ ss h)
 
-in_right : (a n k : ℕ) (ss : List Leaf) → k ≤ n → AllByRecursion (IsIn a n) ss → AllByRecursion (IsIn (a + k) (n - k)) (from (a + k) ss)
+in_right : (a n k : ℕ) (ss : List Leaf) → k ≤ n → AllByRecursion (IsIn a n) ss → AllByRecursion (IsIn (a + k) (n - k)) (leaves_from (a + k) ss)
 in_right a n k ss room h =
-    all_map (from (a + k) ss) (λ s p. (leb-true _ _ p.1, upper s p.0.1)) (all_kept (IsIn a n) _ ss h)
+    all_map (leaves_from (a + k) ss) (λ s p. (leb-true _ _ p.1, upper s p.0.1)) (all_kept (IsIn a n) _ ss h)
   where
     upper : (s : Leaf) → s.place < a + n → s.place < a + k + (n - k)
     upper s low = omega (arith, low, room)
@@ -235,9 +235,9 @@ in_right a n k ss room h =
 abbrev nodes_rehashed : ℕ → ℕ → ℕ → List Leaf → List Text → List Text
 nodes_rehashed h a n ss hs =
     (1 ∷ hash_of (rebuilt h a (2 ^ h) (until (a + 2 ^ h) ss) hs)
-    ++ hash_of (rebuilt h (a + 2 ^ h) (n - 2 ^ h) (from (a + 2 ^ h) ss) (left_of (rebuilt h a (2 ^ h) (until (a + 2 ^ h) ss) hs))))
+    ++ hash_of (rebuilt h (a + 2 ^ h) (n - 2 ^ h) (leaves_from (a + 2 ^ h) ss) (rest_of_rebuilt (rebuilt h a (2 ^ h) (until (a + 2 ^ h) ss) hs))))
     ∷ rehashed h a (2 ^ h) (until (a + 2 ^ h) ss) hs
-    ++ rehashed h (a + 2 ^ h) (n - 2 ^ h) (from (a + 2 ^ h) ss) (left_of (rebuilt h a (2 ^ h) (until (a + 2 ^ h) ss) hs))
+    ++ rehashed h (a + 2 ^ h) (n - 2 ^ h) (leaves_from (a + 2 ^ h) ss) (rest_of_rebuilt (rebuilt h a (2 ^ h) (until (a + 2 ^ h) ss) hs))
 
 rehashed_at : (h a n : ℕ) (s : Leaf) (ss : List Leaf) (hs : List Text) (b : Bool) → nat_le n (2 ^ h) ≡ b
     → rehashed (suc h) a n (s ∷ ss) hs ≡ (if b then rehashed h a n (s ∷ ss) hs else nodes_rehashed h a n (s ∷ ss) hs)
@@ -245,10 +245,10 @@ rehashed_at h a n s ss hs b is = ap (λ c. if c then rehashed h a n (s ∷ ss) h
 
 abbrev Shows : ℕ → Type 0
 Shows h = (a n : ℕ) (ds : List Text) (ss : List Leaf) (hs rest : List Text) → n ≡ length ds → n ≤ 2 ^ h → AllByRecursion (IsIn a n) ss → PlacesRise ss
-    → AreHashes hs → DoNotCollide (hashed h ds) (rehashed h a n ss hs) → rebuilt h a n ss hs ≡ Some (tree h ds, rest) → AllByRecursion (IsAt a ds) ss
+    → AreHashes hs → TextsDoNotCollide (hashed h ds) (rehashed h a n ss hs) → rebuilt h a n ss hs ≡ Some (tree h ds, rest) → AllByRecursion (IsAt a ds) ss
 
 shows_step : (h : ℕ) → Shows h → (a n : ℕ) (ds : List Text) (s : Leaf) (ss : List Leaf) (hs rest : List Text) → n ≡ length ds → n ≤ 2 ^ suc h
-    → AllByRecursion (IsIn a n) (s ∷ ss) → PlacesRise (s ∷ ss) → AreHashes hs → DoNotCollide (hashed (suc h) ds) (rehashed (suc h) a n (s ∷ ss) hs)
+    → AllByRecursion (IsIn a n) (s ∷ ss) → PlacesRise (s ∷ ss) → AreHashes hs → TextsDoNotCollide (hashed (suc h) ds) (rehashed (suc h) a n (s ∷ ss) hs)
     → rebuilt (suc h) a n (s ∷ ss) hs ≡ Some (tree (suc h) ds, rest) → (b : Bool) → nat_le n (2 ^ h) ≡ b → AllByRecursion (IsAt a ds) (s ∷ ss)
 shows_step h shows a n ds s ss hs rest all room ins rises hashes apart e true small =
     let low = leb-true _ _ small in
@@ -263,12 +263,12 @@ shows_step h shows a n ds s ss hs rest all room ins rises hashes apart e false l
     let k = 2 ^ h in
     let shown : List Leaf = s ∷ ss in
     let left = rebuilt h a k (until (a + k) shown) hs in
-    let right = rebuilt h (a + k) (n - k) (from (a + k) shown) (left_of left) in
+    let right = rebuilt h (a + k) (n - k) (leaves_from (a + k) shown) (rest_of_rebuilt left) in
     let node = node_parts _ _ (tree (suc h) ds, rest) (sym (rebuilt_at h a n s ss hs false large) ∙ e) in
     let left_hash : hash_of left ≡ node.one.0 = ap hash_of node.left_is in
-    let left_rest : left_of left ≡ node.one.1 = ap left_of node.left_is in
+    let left_rest : rest_of_rebuilt left ≡ node.one.1 = ap rest_of_rebuilt node.left_is in
     let right_is : right ≡ Some node.other =
-    ap (λ r. rebuilt h (a + k) (n - k) (from (a + k) shown) r) left_rest ∙ node.right_is in
+    ap (λ r. rebuilt h (a + k) (n - k) (leaves_from (a + k) shown) r) left_rest ∙ node.right_is in
     let right_hash : hash_of right ≡ node.other.0 = ap hash_of right_is in
     let longs = are_long h a k (until (a + k) shown) hs node.one hashes node.left_is in
     let listed = λ (x : Text) (l : Listed x (of_halves h ds)). subst (Listed x) (sym (hashed_at h ds false other)) l in
@@ -284,7 +284,7 @@ shows_step h shows a n ds s ss hs rest all room ins rises hashes apart e false l
     (rise_kept (λ t. nat_lt t.place (a + k)) shown rises) hashes
     (λ x y l m. apart x y (listed x (inr (listed_left x _ _ l))) (listed_too y (inr (listed_left y _ _ m))))
     (node.left_is ∙ ap (λ t. Some (t, node.one.1)) (sym left_hash ∙ sym both.0)) in
-    let second = shows (a + k) (n - k) (drop k ds) (from (a + k) shown) (left_of left) rest (omega (arith, right_size, all))
+    let second = shows (a + k) (n - k) (drop k ds) (leaves_from (a + k) shown) (rest_of_rebuilt left) rest (omega (arith, right_size, all))
     (omega (arith, room, doubled h)) (in_right a n k shown (omega (arith, beyond)) ins)
     (rise_kept (λ t. nat_le (a + k) t.place) shown rises)
     (subst AreHashes (sym left_rest) longs.1)

@@ -20,15 +20,15 @@ use Rattle.cadf_sketch.proofs.NumberLemmas.{number-again, number-only}
 use Rattle.cadf_sketch.proofs.LineLemmas.{chosen, begins_with}
 use Rattle.cadf_sketch.proofs.SketchFileLemmas.{decimal_unbroken, there, shape_none}
 use Rattle.cadf_seal.specs.SealFile.{SealModel, seal_header, count_line, root_line, seal_body, HasParts, IsSeal, SealFileIsInjective}
-use Rattle.cadf_seal.specs.SealVerdict.{count_in, root_in, cause_after, seal_kind, seal_model_in, AcceptsSeals}
+use Rattle.cadf_seal.specs.SealVerdict.{sealed_count, root_in, cause_after, seal_kind, seal_model_in, AcceptsSeals}
 use Rattle.cadf_seal.proofs.ModelLemmas.{Plain, lines_of, Follows, Ends, IsModelKind, accepts-models, models-tell, name_is}
 
 -- ---- one line
 
-pub count-again : (n : ℕ) → n < 2 ^ 64 → count_in (count_line n) ≡ Some n
+pub count-again : (n : ℕ) → n < 2 ^ 64 → sealed_count (count_line n) ≡ Some n
 count-again n small = number-again n small
 
-pub count-only : (l : List ℕ) (n : ℕ) → count_in l ≡ Some n → (l ≡ count_line n) × (n < 2 ^ 64)
+pub count-only : (l : List ℕ) (n : ℕ) → sealed_count l ≡ Some n → (l ≡ count_line n) × (n < 2 ^ 64)
 count-only l n e =
     let c = chosen (starts_with nat_eq l (codes "N ")) (number_in (drop 2 l)) n e in
     let p = number-only (drop 2 l) n c.1 in
@@ -53,7 +53,7 @@ seal_found : (name : Text) (xs : List Plain) → is_name_text name ≡ true → 
 seal_found name [] named h = absurd (true≢false (sym h))
 seal_found name (x ∷ []) named h = absurd (true≢false (sym h.1))
 seal_found name (x ∷ y ∷ []) named h =
-    let a = there (count_in x.0) (shape_none _ h.0) in
+    let a = there (sealed_count x.0) (shape_none _ h.0) in
     let b = there (root_in y.0) (shape_none _ h.1.0) in
     let p = count-only x.0 a.0 a.1 in
     let q = root-only y.0 b.0 b.1 in (
@@ -115,7 +115,7 @@ seal_is s name parts = record { log = name_is s.log name; parts = parts }
 
 -- ---- one further line
 
-pub count_told : (l : List ℕ) (n : ℕ) → Some n ≡ count_in l → (cause_after [] l ≡ None) × (count_line n ∷ [] ≡ l ∷ []) × (n < 2 ^ 64)
+pub count_told : (l : List ℕ) (n : ℕ) → Some n ≡ sealed_count l → (cause_after [] l ≡ None) × (count_line n ∷ [] ≡ l ∷ []) × (n < 2 ^ 64)
 count_told l n e =
     let p = count-only l n (sym e) in
     (ap (λ o. shape_unless (is_some o)) (sym e), ap (λ x. x ∷ []) (sym p.0), p.1)

@@ -9,8 +9,8 @@ use Rattle.std.specs.declared.cmp.Ordering.{Ordering}
 use Rattle.std.specs.declared.cmp.Ordering.TheVariants.{Less, Equal, Greater}
 use Rattle.cadf_join.specs.Contents.{Text, text_cmp}
 use Rattle.cadf_join.specs.laws.Contents.{text_total}
-use Rattle.cadf_seal.specs.Facts.{facts_left, AreAscending, above}
-use Rattle.cadf_seal.specs.Shown.{head, is_below, needs, shown}
+use Rattle.cadf_seal.specs.Facts.{facts_left, AreAscending, facts_above}
+use Rattle.cadf_seal.specs.Shown.{first_text, is_below, needs, shown}
 use Rattle.cadf_seal.specs.declared.leaf.Leaf.{Leaf}
 use Rattle.cadf_seal.specs.declared.shown_leaves.Facts.{Facts}
 
@@ -52,46 +52,46 @@ first_decides (Some d) f fs h = by (is_lt (text_cmp f d)) refl
 
 -- ---- facts that are not above the leaf before are not needed any more
 
-above_more : (d f : Text) (fs : List Text) → is_lt (text_cmp d f) ≡ true → above d (f ∷ fs) ≡ f ∷ above d fs
-above_more d f fs e = ap (λ b. cond b (f ∷ above d fs) (above d fs)) e
+above_more : (d f : Text) (fs : List Text) → is_lt (text_cmp d f) ≡ true → facts_above d (f ∷ fs) ≡ f ∷ facts_above d fs
+above_more d f fs e = ap (λ b. cond b (f ∷ facts_above d fs) (facts_above d fs)) e
 
-pub above_less : (d f : Text) (fs : List Text) → is_lt (text_cmp d f) ≡ false → above d (f ∷ fs) ≡ above d fs
-above_less d f fs e = ap (λ b. cond b (f ∷ above d fs) (above d fs)) e
+pub above_less : (d f : Text) (fs : List Text) → is_lt (text_cmp d f) ≡ false → facts_above d (f ∷ fs) ≡ facts_above d fs
+above_less d f fs e = ap (λ b. cond b (f ∷ facts_above d fs) (facts_above d fs)) e
 
-all_above : (d f : Text) (fs : List Text) → text_cmp d f ≡ Less → AllByRecursion (λ g. text_cmp f g ≡ Less) fs → above d fs ≡ fs
+all_above : (d f : Text) (fs : List Text) → text_cmp d f ≡ Less → AllByRecursion (λ g. text_cmp f g ≡ Less) fs → facts_above d fs ≡ fs
 all_above d f [] e h = refl
 all_above d f (g ∷ fs) e h = above_more d g fs (ap is_lt (text_total.trans d f g e h.0)) ∙ ap (λ gs. g ∷ gs) (all_above d f fs e h.1)
 
-pub above_all : (d f : Text) (fs : List Text) → is_lt (text_cmp d f) ≡ true → AreAscending (f ∷ fs) → above d (f ∷ fs) ≡ f ∷ fs
+pub above_all : (d f : Text) (fs : List Text) → is_lt (text_cmp d f) ≡ true → AreAscending (f ∷ fs) → facts_above d (f ∷ fs) ≡ f ∷ fs
 unfolding IsStrictlySortedBy
 above_all d f fs e h = above_more d f fs e ∙ ap (λ gs. f ∷ gs) (all_above d f fs (less d f e) h.0)
 
-pub above_ascend : (d : Text) (fs : List Text) → AreAscending fs → AreAscending (above d fs)
+pub above_ascend : (d : Text) (fs : List Text) → AreAscending fs → AreAscending (facts_above d fs)
 unfolding IsStrictlySortedBy
 above_ascend d [] h = tt
 above_ascend d (f ∷ fs) h = by (is_lt (text_cmp d f)) refl (above_ascend d fs h.1)
   where
-    by : (b : Bool) → is_lt (text_cmp d f) ≡ b → AreAscending (above d fs) → AreAscending (above d (f ∷ fs))
+    by : (b : Bool) → is_lt (text_cmp d f) ≡ b → AreAscending (facts_above d fs) → AreAscending (facts_above d (f ∷ fs))
     by true q rest = subst AreAscending (sym (above_all d f fs q h)) h
     by false q rest = subst AreAscending (sym (above_less d f fs q)) rest
 
-needs_above : (d : Text) (behind : Option Text) (fs : List Text) → needs (Some d) behind fs ≡ needs None behind (above d fs)
+needs_above : (d : Text) (behind : Option Text) (fs : List Text) → needs (Some d) behind fs ≡ needs None behind (facts_above d fs)
 unfolding needs
 needs_above d behind [] = refl
 needs_above d behind (f ∷ fs) = by (is_lt (text_cmp d f)) refl (needs_above d behind fs)
   where
-    by : (b : Bool) → is_lt (text_cmp d f) ≡ b → needs (Some d) behind fs ≡ needs None behind (above d fs)
-        → ((is_lt (text_cmp d f) && is_below behind f) || needs (Some d) behind fs) ≡ needs None behind (above d (f ∷ fs))
+    by : (b : Bool) → is_lt (text_cmp d f) ≡ b → needs (Some d) behind fs ≡ needs None behind (facts_above d fs)
+        → ((is_lt (text_cmp d f) && is_below behind f) || needs (Some d) behind fs) ≡ needs None behind (facts_above d (f ∷ fs))
     by true q rest = (λ i. (q i && is_below behind f) || rest i) ∙ ap (needs None behind) (sym (above_more d f fs q))
     by false q rest = (λ i. (q i && is_below behind f) || rest i) ∙ ap (needs None behind) (sym (above_less d f fs q))
 
-needs_kept : (d e : Text) → text_cmp d e ≡ Less → (behind : Option Text) (fs : List Text) → needs (Some e) behind fs ≡ needs (Some e) behind (above d fs)
+needs_kept : (d e : Text) → text_cmp d e ≡ Less → (behind : Option Text) (fs : List Text) → needs (Some e) behind fs ≡ needs (Some e) behind (facts_above d fs)
 unfolding needs
 needs_kept d e before behind [] = refl
 needs_kept d e before behind (f ∷ fs) = by (is_lt (text_cmp d f)) refl (is_lt (text_cmp e f)) refl (needs_kept d e before behind fs)
   where
-    by : (b : Bool) → is_lt (text_cmp d f) ≡ b → (c : Bool) → is_lt (text_cmp e f) ≡ c → needs (Some e) behind fs ≡ needs (Some e) behind (above d fs)
-        → ((is_lt (text_cmp e f) && is_below behind f) || needs (Some e) behind fs) ≡ needs (Some e) behind (above d (f ∷ fs))
+    by : (b : Bool) → is_lt (text_cmp d f) ≡ b → (c : Bool) → is_lt (text_cmp e f) ≡ c → needs (Some e) behind fs ≡ needs (Some e) behind (facts_above d fs)
+        → ((is_lt (text_cmp e f) && is_below behind f) || needs (Some e) behind fs) ≡ needs (Some e) behind (facts_above d (f ∷ fs))
     by true q c r rest = ap (λ x. (is_lt (text_cmp e f) && is_below behind f) || x) rest ∙ ap (needs (Some e) behind) (sym (above_more d f fs q))
     by false q true r rest = absurd (true≢false (sym (below_both d e f before r) ∙ q))
     by false q false r rest = (λ i. (r i && is_below behind f) || rest i) ∙ ap (needs (Some e) behind) (sym (above_less d f fs q))
@@ -100,29 +100,29 @@ abbrev here : Bool → ℕ → Text → List Leaf
 here b i d = if b then record { place = i; digest = d } ∷ [] else []
 
 pub shown_here : (before : Option Text) (i : ℕ) (d : Text) (ds fs : List Text)
-    → shown before i (d ∷ ds) fs ≡ here (needs before (head ds) fs) i d ++ shown (Some d) (suc i) ds fs
-shown_here before i d ds fs = by (needs before (head ds) fs)
+    → shown before i (d ∷ ds) fs ≡ here (needs before (first_text ds) fs) i d ++ shown (Some d) (suc i) ds fs
+shown_here before i d ds fs = by (needs before (first_text ds) fs)
   where
     by : (b : Bool) → (if b then record { place = i; digest = d } ∷ shown (Some d) (suc i) ds fs else shown (Some d) (suc i) ds fs)
         ≡ here b i d ++ shown (Some d) (suc i) ds fs
     by true = refl
     by false = refl
 
-kept : (d e : Text) → text_cmp d e ≡ Less → (i : ℕ) (ds fs : List Text) → AreAscending (e ∷ ds) → shown (Some e) i ds fs ≡ shown (Some e) i ds (above d fs)
+kept : (d e : Text) → text_cmp d e ≡ Less → (i : ℕ) (ds fs : List Text) → AreAscending (e ∷ ds) → shown (Some e) i ds fs ≡ shown (Some e) i ds (facts_above d fs)
 unfolding IsStrictlySortedBy
 kept d e before i [] fs h = refl
 kept d e before i (g ∷ ds) fs h =
     shown_here (Some e) i g ds fs
-    ∙ (λ j. here (needs_kept d e before (head ds) fs j) i g ++ kept d g (text_total.trans d e g before h.0.0) (suc i) ds fs h.1 j)
-    ∙ sym (shown_here (Some e) i g ds (above d fs))
+    ∙ (λ j. here (needs_kept d e before (first_text ds) fs j) i g ++ kept d g (text_total.trans d e g before h.0.0) (suc i) ds fs h.1 j)
+    ∙ sym (shown_here (Some e) i g ds (facts_above d fs))
 
-dropped : (d : Text) (i : ℕ) (ds fs : List Text) → AreAscending (d ∷ ds) → shown (Some d) i ds fs ≡ shown None i ds (above d fs)
+dropped : (d : Text) (i : ℕ) (ds fs : List Text) → AreAscending (d ∷ ds) → shown (Some d) i ds fs ≡ shown None i ds (facts_above d fs)
 unfolding IsStrictlySortedBy
 dropped d i [] fs h = refl
 dropped d i (e ∷ ds) fs h =
     shown_here (Some d) i e ds fs
-    ∙ (λ j. here (needs_above d (head ds) fs j) i e ++ kept d e h.0.0 (suc i) ds fs h.1 j)
-    ∙ sym (shown_here None i e ds (above d fs))
+    ∙ (λ j. here (needs_above d (first_text ds) fs j) i e ++ kept d e h.0.0 (suc i) ds fs h.1 j)
+    ∙ sym (shown_here None i e ds (facts_above d fs))
 
 -- ---- the facts that are left
 
@@ -146,23 +146,23 @@ pub by_first : (behind : Option Text) (fs : List Text) (f : Text) (rest : List T
 by_first behind fs f rest e h = sym (first_decides behind f rest (subst AreAscending e h)) ∙ ap (needs None behind) (sym e)
 
 pub kept_all : (d : Text) (fs total : List Text) (f : Text) (rest : List Text) → fs ≡ f ∷ rest → AreAscending fs → is_lt (text_cmp d f) ≡ true
-    → above d fs ≡ total → fs ≡ total
-kept_all d fs total f rest e h far all = e ∙ sym (above_all d f rest far (subst AreAscending e h)) ∙ ap (above d) (sym e) ∙ all
+    → facts_above d fs ≡ total → fs ≡ total
+kept_all d fs total f rest e h far all = e ∙ sym (above_all d f rest far (subst AreAscending e h)) ∙ ap (facts_above d) (sym e) ∙ all
 
 pub dropped_one : (d : Text) (fs total more : List Text) (f : Text) (rest : List Text) → fs ≡ f ∷ rest → AreAscending fs → is_lt (text_cmp d f) ≡ false
-    → above d fs ≡ total → more ≡ rest → (above d more ≡ total) × AreAscending more
+    → facts_above d fs ≡ total → more ≡ rest → (facts_above d more ≡ total) × AreAscending more
 unfolding IsStrictlySortedBy
 dropped_one d fs total more f rest e h near all is =
     let falls = subst AreAscending e h in
-    (ap (above d) is ∙ sym (above_less d f rest near) ∙ ap (above d) (sym e) ∙ all, subst AreAscending (sym is) falls.1)
+    (ap (facts_above d) is ∙ sym (above_less d f rest near) ∙ ap (facts_above d) (sym e) ∙ all, subst AreAscending (sym is) falls.1)
 
 -- ---- one step of the walk
 
 -- a call of `next`
 module _ (xs ys : List Text) where
-  pub head_of : (r : Option (Bor Text)) → MatchOption r ((xs ≡ []) × (ys ≡ [])) (λ x. xs ≡ x.now ∷ ys) → option_copied r ≡ head xs
-  head_of None e = ap head (sym e.0)
-  head_of (Some x) e = ap head (sym e)
+  pub head_of : (r : Option (Bor Text)) → MatchOption r ((xs ≡ []) × (ys ≡ [])) (λ x. xs ≡ x.now ∷ ys) → option_copied r ≡ first_text xs
+  head_of None e = ap first_text (sym e.0)
+  head_of (Some x) e = ap first_text (sym e)
 
   pub rest_of : (r : Option (Bor Text)) → MatchOption r ((xs ≡ []) × (ys ≡ [])) (λ x. xs ≡ x.now ∷ ys) → ys ≡ drop 1 xs
   rest_of None e = e.1 ∙ ap (drop 1) (sym e.0)
@@ -175,12 +175,12 @@ tail_ascends its d ds e h =
     falls.1
 
 pub shown_more : (total so_far more : List Leaf) (i : ℕ) (d : Text) (its ds fs rest : List Text) (needed : Bool)
-    → its ≡ d ∷ ds → AreAscending its → needed ≡ needs None (head ds) fs → rest ≡ above d fs → more ≡ so_far ++ here needed i d
+    → its ≡ d ∷ ds → AreAscending its → needed ≡ needs None (first_text ds) fs → rest ≡ facts_above d fs → more ≡ so_far ++ here needed i d
     → so_far ++ shown None i its fs ≡ total → more ++ shown None (i + 1) ds rest ≡ total
 shown_more total so_far more i d its ds fs rest needed is rise found left put so =
     let next : i + 1 ≡ suc i = omega arith in
     (λ j. put j ++ shown None (next j) ds (left j))
-    ∙ append_assoc so_far (here needed i d) (shown None (suc i) ds (above d fs))
+    ∙ append_assoc so_far (here needed i d) (shown None (suc i) ds (facts_above d fs))
     ∙ (λ j. so_far ++ (here (found j) i d ++ sym (dropped d (suc i) ds fs (subst AreAscending is rise)) j))
     ∙ ap (λ x. so_far ++ x) (sym (shown_here None i d ds fs))
     ∙ ap (λ x. so_far ++ shown None i x fs) (sym is)

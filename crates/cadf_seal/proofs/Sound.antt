@@ -9,10 +9,10 @@ use Rattle.cadf_join.specs.Sets as set
 use Rattle.cadf_join.specs.Sets.{Listed, rising}
 use Rattle.cadf_join.specs.laws.Contents.{text_total, text_same}
 use Rattle.cadf_join.specs.laws.Rising.{rising_is_sorted, listed-rising, rising-listed}
-use Rattle.cadf_seal.specs.Tree.{root, hashed, DoNotCollide}
+use Rattle.cadf_seal.specs.Tree.{root, hashed, TextsDoNotCollide}
 use Rattle.cadf_seal.specs.Shown.{Rebuilt, rebuilt, rehashed}
 use Rattle.cadf_seal.specs.ProofFile.{AreRising}
-use Rattle.cadf_seal.specs.Verified.{alone, root_from, proof_root, below, above, behind, ahead, is_shown, state, IsAt, PlacesRise, ShowsLeaves, TellsTruth}
+use Rattle.cadf_seal.specs.Verified.{alone, root_from, proof_root, leaves_below, leaves_above, past_last, lowest_place, is_shown, state, IsAt, PlacesRise, ShowsLeaves, TellsTruth}
 use Rattle.cadf_seal.specs.declared.leaf.Leaf.{Leaf}
 use Rattle.cadf_seal.proofs.Trees.{root_tree, below_power}
 use Rattle.cadf_seal.proofs.Rebuilding.{all_map, all_kept, shows}
@@ -54,7 +54,7 @@ shows_leaves p (d ∷ ds) is =
     shows n 0 n leaves p.shown p.hidden [] is.count within
     (all_map p.shown (λ s at. (omega arith, in_all s at.place)) is.proof.parts.leaves)
     (places_rise p.shown is.proof.parts.rising) (all_map p.hidden (λ h digest. digest.size) is.proof.parts.hidden)
-    (subst (λ k. DoNotCollide (hashed k leaves) (rehashed n 0 n p.shown p.hidden)) (sym is.count) is.apart)
+    (subst (λ k. TextsDoNotCollide (hashed k leaves) (rehashed n 0 n p.shown p.hidden)) (sym is.count) is.apart)
     (root_only _ _ whole ∙ ap (λ t. Some (t, [])) same)
   where
     in_all : (s : Leaf) → s.place < p.count → s.place < 0 + p.count
@@ -84,7 +84,7 @@ index_of f (d ∷ ds) (inr l) =
     let rest = index_of f ds l in
     record { k = suc rest.k; low = omega (arith, rest.low); is = rest.is }
 
-behind_most : (m : ℕ) (ss : List Leaf) → AllByRecursion (λ s. s.place < m) ss → behind ss ≤ m
+behind_most : (m : ℕ) (ss : List Leaf) → AllByRecursion (λ s. s.place < m) ss → past_last ss ≤ m
 behind_most m [] h = omega arith
 behind_most m (s ∷ ss) h = omega (arith, h.0, behind_most m ss h.1)
 
@@ -94,12 +94,12 @@ module _ (ds : List Text) (f : Text) (sorted : AreSorted ds) where
       let all : s.place - 0 ≡ s.place = omega arith in
       sym (ap (λ i. get_or ds i []) all) ∙ at.is
 
-  no_leaf_between : (n : ℕ) (ss : List Leaf) → n ≡ length ds → AllByRecursion (IsAt 0 ds) ss → behind (below f ss) ≡ ahead n (above f ss) → Listed f ds → ⊥
+  no_leaf_between : (n : ℕ) (ss : List Leaf) → n ≡ length ds → AllByRecursion (IsAt 0 ds) ss → past_last (leaves_below f ss) ≡ lowest_place n (leaves_above f ss) → Listed f ds → ⊥
   no_leaf_between n ss all at next l =
       let found = index_of f ds l in
-      let low = behind_most found.k (below f ss) (all_map (below f ss) (λ s p. before found s p.0 p.1) (all_kept (IsAt 0 ds) _ ss at)) in
-      let high = ahead_least (suc found.k) n (above f ss) (omega (arith, found.low, all))
-      (all_map (above f ss) (λ s p. after found s p.0 p.1) (all_kept (IsAt 0 ds) _ ss at)) in
+      let low = behind_most found.k (leaves_below f ss) (all_map (leaves_below f ss) (λ s p. before found s p.0 p.1) (all_kept (IsAt 0 ds) _ ss at)) in
+      let high = ahead_least (suc found.k) n (leaves_above f ss) (omega (arith, found.low, all))
+      (all_map (leaves_above f ss) (λ s p. after found s p.0 p.1) (all_kept (IsAt 0 ds) _ ss at)) in
       omega (arith, low, high, next)
     where
       before : (found : IsIndex f ds) (s : Leaf) → IsAt 0 ds s → IsLess s.digest f → s.place < found.k
@@ -117,12 +117,12 @@ module _ (ds : List Text) (f : Text) (sorted : AreSorted ds) where
 
 pub tells_truth : TellsTruth
 unfolding state
-tells_truth p n is f b e = by (is_shown p.shown f) (nat_eq (behind (below f p.shown)) (ahead p.count (above f p.shown))) refl refl e
+tells_truth p n is f b e = by (is_shown p.shown f) (nat_eq (past_last (leaves_below f p.shown)) (lowest_place p.count (leaves_above f p.shown))) refl refl e
   where
     at : AllByRecursion (IsAt 0 (rising n.digests)) p.shown
     at = shows_leaves p (rising n.digests) is
 
-    by : (c d : Bool) → is_shown p.shown f ≡ c → nat_eq (behind (below f p.shown)) (ahead p.count (above f p.shown)) ≡ d
+    by : (c d : Bool) → is_shown p.shown f ≡ c → nat_eq (past_last (leaves_below f p.shown)) (lowest_place p.count (leaves_above f p.shown)) ≡ d
         → (if c then Some true else if d then Some false else None) ≡ Some b → set.contains n.digests f ≡ b
     by true d there next e =
         let told : true ≡ b = cc in

@@ -8,7 +8,7 @@ use Rattle.std.proofs.lemmas.List.{take_all}
 use Rattle.sha2.specs.Sha256.{sha256}
 use Rattle.cadf_join.specs.Contents.{Text}
 use Rattle.cadf_seal.specs.Tree.{leaf_hash}
-use Rattle.cadf_seal.specs.Shown.{until, from, next_hash, rebuilt}
+use Rattle.cadf_seal.specs.Shown.{until, leaves_from, next_hash, rebuilt}
 use Rattle.cadf_seal.specs.ProofFile.{ProofModel}
 use Rattle.cadf_seal.specs.Verified.{PlacesRise, alone, root_from, proof_root}
 use Rattle.cadf_seal.specs.declared.leaf.Leaf.{Leaf}
@@ -109,7 +109,7 @@ rebuilt_large h a n (s ∷ ss) hs low large = rebuilt_at h a n s ss hs false (lt
 pub until_rises : (m : ℕ) (ss : List Leaf) → PlacesRise ss → PlacesRise (until m ss)
 until_rises m ss h = rise_kept (λ s. nat_lt s.place m) ss h
 
-pub from_rises : (m : ℕ) (ss : List Leaf) → PlacesRise ss → PlacesRise (from m ss)
+pub from_rises : (m : ℕ) (ss : List Leaf) → PlacesRise ss → PlacesRise (leaves_from m ss)
 from_rises m ss h = rise_kept (λ s. nat_le m s.place) ss h
 
 -- the last part of a list

@@ -1,7 +1,7 @@
 -- The facts that are left of a walk over a tree's leaves.
 --     facts_left c      those that a cursor has left
 --     AreAscending fs   they rise
---     above d fs        those above d
+--     facts_above d fs  those above d
 use Rattle.std.specs.Prelude.{List, [], ◌∷◌, None, Some}
 use Rattle.std.specs.List.{filter}
 use Rattle.std.specs.List.Sorted.{IsStrictlySortedBy}
@@ -12,8 +12,8 @@ use Rattle.cadf_seal.specs.declared.shown_leaves.Facts.{Facts}
 abbrev pub AreAscending : List Text → Type 0
 AreAscending fs = IsStrictlySortedBy text_cmp fs
 
-abbrev pub above : Text → List Text → List Text
-above d fs = filter (is_above (Some d)) fs
+abbrev pub facts_above : Text → List Text → List Text
+facts_above d fs = filter (is_above (Some d)) fs
 
 abbrev pub facts_left : Facts → List Text
 facts_left c = elim c.next as (λ _. List Text) [ None ↦ [] | Some f ↦ f.now ∷ c.rest ]

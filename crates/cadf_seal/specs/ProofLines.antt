@@ -15,19 +15,19 @@ use Rattle.cadf_seal.specs.declared.proof_lines.Told.{Told}
 use Rattle.cadf_seal.specs.declared.proof_lines.Told.TheVariants.{Nothing, Values}
 
 -- these values, of whatever log
-abbrev pub values : ℕ → List Leaf → List Text → ProofModel
-values n ss hs = record { log = []; count = n; shown = ss; hidden = hs }
+abbrev pub proof_values : ℕ → List Leaf → List Text → ProofModel
+proof_values n ss hs = record { log = []; count = n; shown = ss; hidden = hs }
 
 abbrev pub told_lines : Told → List (List ℕ)
 told_lines Nothing = []
-told_lines (Values n ss hs) = proof_lines (values n ss.items hs.items)
+told_lines (Values n ss hs) = proof_lines (proof_values n ss.items hs.items)
 
 abbrev pub lines_so_far : Text → Told → List (List ℕ)
 lines_so_far log told = proof_header ∷ log_line log ∷ told_lines told
 
 abbrev pub AreTold : Told → Type 0
 AreTold Nothing = Unit {0}
-AreTold (Values n ss hs) = HasProofParts (values n ss.items hs.items)
+AreTold (Values n ss hs) = HasProofParts (proof_values n ss.items hs.items)
 
 -- the line is allowed after those so far, and `more` are the values with that of the line
 abbrev pub IsMore : Told → List ℕ → Told → Type 0

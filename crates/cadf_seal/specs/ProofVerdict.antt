@@ -17,7 +17,7 @@ use Rattle.cadf_linefile.specs.Verdict.{log_in_line}
 use Rattle.cadf_inventory.specs.InventoryVerdict.{digest_of}
 use Rattle.cadf_sketch.specs.SketchVerdict.{number_in, first_word, words_after, shape_unless}
 use Rattle.cadf_seal.specs.ModelKind.{ModelKind, grammar_of, decided_of, verdict_of, AcceptsModels}
-use Rattle.cadf_seal.specs.SealVerdict.{count_in}
+use Rattle.cadf_seal.specs.SealVerdict.{sealed_count}
 use Rattle.cadf_seal.specs.ProofFile.{ProofModel, IsProof, proof_header, proof_body}
 use Rattle.cadf_seal.specs.declared.leaf.Leaf.{Leaf}
 
@@ -57,9 +57,9 @@ cause_of_line n ss hs None None = Some Shape
 cause_of_line n ss hs None (Some s) = cause_of_leaf n ss hs s
 
 abbrev pub cause_after : List (List ℕ) → List ℕ → Option Cause
-cause_after [] line = shape_unless (is_some (count_in line))
+cause_after [] line = shape_unless (is_some (sealed_count line))
 cause_after (count ∷ more) line =
-    cause_of_line (unwrap_or (count_in count) 0) (filter_map shown_in more) (filter_map hidden_in more) (hidden_in line) (shown_in line)
+    cause_of_line (unwrap_or (sealed_count count) 0) (filter_map shown_in more) (filter_map hidden_in more) (hidden_in line) (shown_in line)
 
 -- the digest line may follow the count
 abbrev pub has_count : List (List ℕ) → Bool
@@ -71,7 +71,7 @@ has_count (count ∷ more) = true
 abbrev pub proof_model_in : List (List ℕ) → ProofModel
 proof_model_in (first ∷ log ∷ count ∷ more) = record {
   log = unwrap_or (log_in_line log) [];
-  count = unwrap_or (count_in count) 0;
+  count = unwrap_or (sealed_count count) 0;
   shown = filter_map shown_in more;
   hidden = filter_map hidden_in more;
 }

@@ -16,8 +16,8 @@ abbrev pub ReadsSeal : (limit : ℕ) (old new : Option (List ℕ)) (before after
 ReadsSeal = ReadsModel seal_kind
 
 -- lines that were accepted up to their digest line are whole
-abbrev pub IsAccepted : Result SealLines FileFault → Type 0
-IsAccepted = AreWhole seal_kind
+abbrev pub AreAcceptedSealLines : Result SealLines FileFault → Type 0
+AreAcceptedSealLines = AreWhole seal_kind
 
 -- the seal is that of the lines; a fault is returned unchanged
 abbrev pub IsSealOfRead : Result SealLines FileFault → Result Seal FileFault → Type 0

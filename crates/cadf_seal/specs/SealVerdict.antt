@@ -1,5 +1,5 @@
 -- The result of reading a seal file, as a function of its bytes, of the limit and of whether a read failed.
---     count_in, root_in         the value that the line encodes, if it is such a line
+--     sealed_count, root_in     the value that the line encodes, if it is such a line
 --     cause_after before line   what is wrong with the line, if `before` are the lines between it and the log line
 --     seal_decided              the fault that the bytes decide by themselves, before the source ends
 --     seal_verdict              the seal whose file the bytes are, or the first fault
@@ -16,8 +16,8 @@ use Rattle.cadf_sketch.specs.SketchVerdict.{number_in, shape_unless}
 use Rattle.cadf_seal.specs.ModelKind.{ModelKind, grammar_of, decided_of, verdict_of, AcceptsModels}
 use Rattle.cadf_seal.specs.SealFile.{SealModel, IsSeal, seal_header, seal_body}
 
-abbrev pub count_in : List ℕ → Option ℕ
-count_in line = if starts_with nat_eq line (codes "N ") then number_in (drop 2 line) else None
+abbrev pub sealed_count : List ℕ → Option ℕ
+sealed_count line = if starts_with nat_eq line (codes "N ") then number_in (drop 2 line) else None
 
 abbrev pub root_in : List ℕ → Option Text
 root_in line = if starts_with nat_eq line (codes "R ") then digest_of (drop 2 line) else None
@@ -25,7 +25,7 @@ root_in line = if starts_with nat_eq line (codes "R ") then digest_of (drop 2 li
 -- ---- the grammar
 
 abbrev pub cause_after : List (List ℕ) → List ℕ → Option Cause
-cause_after [] line = shape_unless (is_some (count_in line))
+cause_after [] line = shape_unless (is_some (sealed_count line))
 cause_after (count ∷ []) line = shape_unless (is_some (root_in line))
 cause_after (count ∷ root ∷ more) line = Some Shape
 
@@ -36,7 +36,7 @@ is_whole lines = nat_eq (length lines) 2
 
 abbrev pub seal_model_in : List (List ℕ) → SealModel
 seal_model_in (first ∷ log ∷ count ∷ root ∷ more) =
-    record { log = unwrap_or (log_in_line log) []; count = unwrap_or (count_in count) 0; root = unwrap_or (root_in root) [] }
+    record { log = unwrap_or (log_in_line log) []; count = unwrap_or (sealed_count count) 0; root = unwrap_or (root_in root) [] }
 seal_model_in lines = record { log = []; count = 0; root = [] }
 
 -- ---- the verdict

@@ -1,8 +1,8 @@
 -- What a proof shows of the leaves of a tree, and the hashes that stand for the others.
---     head ds                   the first leaf, if there is one
+--     first_text ds             the first leaf, if there is one
 --     needs before behind fs    some fact is above the leaf before, if there is one, and below the leaf behind, if there is one
 --     shown before i ds fs      the leaves of ds that facts need, with their places, of which the first is i
---     until m ss, from m ss     the shown leaves before place m, and the others
+--     until m ss, leaves_from m ss  the shown leaves before place m, and the others
 --     hidden h a ds ss          the hashes of the greatest subtrees without a shown leaf, left to right, of at most 2^h leaves from place a on
 --     rebuilt h a n ss hs       the hash of n leaves from place a on, by those that are shown and the hashes of hidden subtrees; and the hashes
 --                               that are left. None: there are too few
@@ -17,9 +17,9 @@ use Rattle.cadf_seal.specs.declared.leaf.Leaf.{Leaf}
 
 -- ---- which leaves are shown
 
-abbrev pub head : List Text → Option Text
-head [] = None
-head (d ∷ ds) = Some d
+abbrev pub first_text : List Text → Option Text
+first_text [] = None
+first_text (d ∷ ds) = Some d
 
 abbrev pub is_above : Option Text → Text → Bool
 is_above None f = true
@@ -37,7 +37,7 @@ needs before behind (f ∷ fs) = (is_above before f && is_below behind f) || nee
 abbrev pub shown : Option Text → ℕ → List Text → List Text → List Leaf
 shown before i [] fs = []
 shown before i (d ∷ ds) fs =
-    if needs before (head ds) fs then record { place = i; digest = d } ∷ shown (Some d) (suc i) ds fs
+    if needs before (first_text ds) fs then record { place = i; digest = d } ∷ shown (Some d) (suc i) ds fs
     else shown (Some d) (suc i) ds fs
 
 -- ---- the other leaves
@@ -45,8 +45,8 @@ shown before i (d ∷ ds) fs =
 abbrev pub until : ℕ → List Leaf → List Leaf
 until m ss = filter (λ s. nat_lt s.place m) ss
 
-abbrev pub from : ℕ → List Leaf → List Leaf
-from m ss = filter (λ s. nat_le m s.place) ss
+abbrev pub leaves_from : ℕ → List Leaf → List Leaf
+leaves_from m ss = filter (λ s. nat_le m s.place) ss
 
 abbrev pub hidden : ℕ → ℕ → List Text → List Leaf → List Text
 hidden zero a ds [] = tree zero ds ∷ []
@@ -54,7 +54,7 @@ hidden zero a ds (s ∷ ss) = []
 hidden (suc h) a ds [] = tree (suc h) ds ∷ []
 hidden (suc h) a ds (s ∷ ss) =
     if nat_le (length ds) (2 ^ h) then hidden h a ds (s ∷ ss)
-    else hidden h a (take (2 ^ h) ds) (until (a + 2 ^ h) (s ∷ ss)) ++ hidden h (a + 2 ^ h) (drop (2 ^ h) ds) (from (a + 2 ^ h) (s ∷ ss))
+    else hidden h a (take (2 ^ h) ds) (until (a + 2 ^ h) (s ∷ ss)) ++ hidden h (a + 2 ^ h) (drop (2 ^ h) ds) (leaves_from (a + 2 ^ h) (s ∷ ss))
 
 -- of all leaves: a tree without a leaf has no subtree
 abbrev pub all_hidden : List Text → List Leaf → List Text
@@ -86,15 +86,15 @@ rebuilt (suc h) a n [] hs = next_hash hs
 rebuilt (suc h) a n (s ∷ ss) hs =
     if nat_le n (2 ^ h) then rebuilt h a n (s ∷ ss) hs
     else node_of (rebuilt h a (2 ^ h) (until (a + 2 ^ h) (s ∷ ss)) hs)
-    (λ rest. rebuilt h (a + 2 ^ h) (n - 2 ^ h) (from (a + 2 ^ h) (s ∷ ss)) rest)
+    (λ rest. rebuilt h (a + 2 ^ h) (n - 2 ^ h) (leaves_from (a + 2 ^ h) (s ∷ ss)) rest)
 
 abbrev pub hash_of : Rebuilt → Text
 hash_of None = []
 hash_of (Some r) = r.0
 
-abbrev pub left_of : Rebuilt → List Text
-left_of None = []
-left_of (Some r) = r.1
+abbrev pub rest_of_rebuilt : Rebuilt → List Text
+rest_of_rebuilt None = []
+rest_of_rebuilt (Some r) = r.1
 
 abbrev pub rehashed : ℕ → ℕ → ℕ → List Leaf → List Text → List Text
 rehashed zero a n [] hs = []
@@ -103,6 +103,6 @@ rehashed (suc h) a n [] hs = []
 rehashed (suc h) a n (s ∷ ss) hs =
     if nat_le n (2 ^ h) then rehashed h a n (s ∷ ss) hs
     else let left = rebuilt h a (2 ^ h) (until (a + 2 ^ h) (s ∷ ss)) hs in
-    let right = rebuilt h (a + 2 ^ h) (n - 2 ^ h) (from (a + 2 ^ h) (s ∷ ss)) (left_of left) in
+    let right = rebuilt h (a + 2 ^ h) (n - 2 ^ h) (leaves_from (a + 2 ^ h) (s ∷ ss)) (rest_of_rebuilt left) in
     (1 ∷ hash_of left ++ hash_of right)
-    ∷ rehashed h a (2 ^ h) (until (a + 2 ^ h) (s ∷ ss)) hs ++ rehashed h (a + 2 ^ h) (n - 2 ^ h) (from (a + 2 ^ h) (s ∷ ss)) (left_of left)
+    ∷ rehashed h a (2 ^ h) (until (a + 2 ^ h) (s ∷ ss)) hs ++ rehashed h (a + 2 ^ h) (n - 2 ^ h) (leaves_from (a + 2 ^ h) (s ∷ ss)) (rest_of_rebuilt left)

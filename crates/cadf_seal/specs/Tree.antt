@@ -35,12 +35,12 @@ hashed (suc h) ds =
 -- ---- laws
 
 -- no text of the one list has the digest of another text of the other list
-abbrev pub DoNotCollide : List Text → List Text → Type 0
-DoNotCollide xs ys = (x y : Text) → Listed x xs → Listed y ys → sha256 x ≡ sha256 y → x ≡ y
+abbrev pub TextsDoNotCollide : List Text → List Text → Type 0
+TextsDoNotCollide xs ys = (x y : Text) → Listed x xs → Listed y ys → sha256 x ≡ sha256 y → x ≡ y
 
 -- as many leaves with the same root are the same leaves, if what is hashed for them doesn't collide
 abbrev pub RootDetermines : Type 0
-RootDetermines = (ds es : List Text) → DoNotCollide (hashed (length ds) ds) (hashed (length es) es) → length ds ≡ length es → root ds ≡ root es → ds ≡ es
+RootDetermines = (ds es : List Text) → TextsDoNotCollide (hashed (length ds) ds) (hashed (length es) es) → length ds ≡ length es → root ds ≡ root es → ds ≡ es
 
 -- 2^j is the greatest power of two below n
 pub record IsSplitAt (n j : ℕ) : Type 0 where

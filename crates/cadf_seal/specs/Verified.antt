@@ -1,7 +1,7 @@
 -- What a proof says of facts to a reader with a seal.
 --     proof_root p            the hash of all leaves, by those that are shown and the hidden hashes. None: these aren't as many as the subtrees
---     below f ss, above f ss  the shown leaves below the digest f, and those above it
---     behind ss               the number of leaves up to the last of these; ahead n ss: of n leaves, how many are before the first of these
+--     leaves_below f ss, leaves_above f ss  the shown leaves below the digest f, and those above it
+--     past_last ss            the number of leaves up to the last of these; lowest_place n ss: of n leaves, how many are before the first of these
 --     state n ss f            whether f is one of n leaves, by those that are shown. None: they don't tell
 --     unneeded i before ss fs the line of the first shown leaf that no fact needs, if the first has line i, and `before` is the one before it
 --     refusal_of_root s p, refusal_of_facts p facts b    the fault by the seal, and the fault by these facts
@@ -28,7 +28,7 @@ use Rattle.cadf_line.specs.Missing.{digests_of}
 use Rattle.cadf_set.specs.Inventory.{InventoryModel}
 use Rattle.cadf_set.specs.Replica.{ReplicaModel}
 use Rattle.cadf_sketch.specs.Answers.{inventory_of}
-use Rattle.cadf_seal.specs.Tree.{root, hashed, DoNotCollide}
+use Rattle.cadf_seal.specs.Tree.{root, hashed, TextsDoNotCollide}
 use Rattle.cadf_seal.specs.SealFile.{SealModel, seal_of}
 use Rattle.cadf_seal.specs.ProofFile.{ProofModel, proof_of, IsProof}
 use Rattle.cadf_seal.specs.Shown.{Rebuilt, rebuilt, rehashed, is_above, is_below, needs}
@@ -57,19 +57,19 @@ proof_root p = if nat_eq p.count 0 then alone (sha256 []) p.hidden else root_fro
 
 -- ---- a fact
 
-abbrev pub below : Text → List Leaf → List Leaf
-below f ss = filter (λ s. is_above (Some s.digest) f) ss
+abbrev pub leaves_below : Text → List Leaf → List Leaf
+leaves_below f ss = filter (λ s. is_above (Some s.digest) f) ss
 
-abbrev pub above : Text → List Leaf → List Leaf
-above f ss = filter (λ s. is_below (Some s.digest) f) ss
+abbrev pub leaves_above : Text → List Leaf → List Leaf
+leaves_above f ss = filter (λ s. is_below (Some s.digest) f) ss
 
-abbrev pub behind : List Leaf → ℕ
-behind [] = 0
-behind (s ∷ ss) = max (suc s.place) (behind ss)
+abbrev pub past_last : List Leaf → ℕ
+past_last [] = 0
+past_last (s ∷ ss) = max (suc s.place) (past_last ss)
 
-abbrev pub ahead : ℕ → List Leaf → ℕ
-ahead n [] = n
-ahead n (s ∷ ss) = min s.place (ahead n ss)
+abbrev pub lowest_place : ℕ → List Leaf → ℕ
+lowest_place n [] = n
+lowest_place n (s ∷ ss) = min s.place (lowest_place n ss)
 
 abbrev pub is_shown : List Leaf → Text → Bool
 is_shown ss f = list_any (λ s. is_eq (text_cmp s.digest f)) ss
@@ -78,7 +78,7 @@ is_shown ss f = list_any (λ s. is_eq (text_cmp s.digest f)) ss
 unfoldable pub state : ℕ → List Leaf → Text → Option Bool
 state n ss f =
     if is_shown ss f then Some true
-    else if nat_eq (behind (below f ss)) (ahead n (above f ss)) then Some false
+    else if nat_eq (past_last (leaves_below f ss)) (lowest_place n (leaves_above f ss)) then Some false
     else None
 
 abbrev pub is_state : Option Bool → Option Bool → Bool
@@ -105,9 +105,9 @@ unneeded i before (s ∷ ss) fs = if needs before (first_digest ss) fs then unne
 
 -- ---- what is said
 
-abbrev pub fault_unless : Bool → VerifyFault → Option VerifyFault
-fault_unless true fault = None
-fault_unless false fault = Some fault
+abbrev pub verify_fault_unless : Bool → VerifyFault → Option VerifyFault
+verify_fault_unless true fault = None
+verify_fault_unless false fault = Some fault
 
 abbrev pub first_fault : Option VerifyFault → Option VerifyFault → Option VerifyFault
 first_fault None later = later
@@ -123,7 +123,7 @@ not_as_asked false k = Absent k
 
 abbrev pub refusal_of_root : SealModel → ProofModel → Option VerifyFault
 refusal_of_root s p =
-    first_fault (fault_unless (nat_eq p.count s.count) OtherCount) (fault_unless (is_root (proof_root p) s.root) OtherRoot)
+    first_fault (verify_fault_unless (nat_eq p.count s.count) OtherCount) (verify_fault_unless (is_root (proof_root p) s.root) OtherRoot)
 
 -- the first shown leaf is line 4 of the proof's file
 abbrev pub refusal_of_facts : ProofModel → Contents → Bool → Option VerifyFault
@@ -140,11 +140,11 @@ word_for true = codes "absent "
 word_for false = codes "present "
 
 -- what an atom is of; of a ruling, what it rules on
-abbrev pub key_of : Texts → Text
-key_of q = if is_text (get_or q 0 []) ruling_letter then get_or q 2 [] else get_or q 1 []
+abbrev pub subject : Texts → Text
+subject q = if is_text (get_or q 0 []) ruling_letter then get_or q 2 [] else get_or q 1 []
 
 abbrev pub told_line : List ℕ → Texts → List ℕ
-told_line word q = word ++ (get_or q 0 [] ++ 32 ∷ (quoted (key_of q) ++ 10 ∷ []))
+told_line word q = word ++ (get_or q 0 [] ++ 32 ∷ (quoted (subject q) ++ 10 ∷ []))
 
 abbrev pub told : Bool → List Texts → List ℕ
 told absent qs = flat_map (told_line (word_for absent)) qs
@@ -161,14 +161,14 @@ abbrev pub verified : SealModel → ProofModel → Contents → Bool → Result 
 verified s p facts absent = text_unless (refusal s p facts absent) (told absent (rising facts))
 
 -- the fault is the one found, or is `Memory`
-abbrev pub FaultIs : VerifyFault → Result (List ℕ) VerifyFault → Type 0
-FaultIs Memory found = Unit {0}
-FaultIs OtherCount found = found ≡ Err OtherCount
-FaultIs OtherRoot found = found ≡ Err OtherRoot
-FaultIs (NotShown k) found = found ≡ Err (NotShown k)
-FaultIs (NotNeeded l) found = found ≡ Err (NotNeeded l)
-FaultIs (Absent k) found = found ≡ Err (Absent k)
-FaultIs (Present k) found = found ≡ Err (Present k)
+abbrev pub VerifyFaultIs : VerifyFault → Result (List ℕ) VerifyFault → Type 0
+VerifyFaultIs Memory found = Unit {0}
+VerifyFaultIs OtherCount found = found ≡ Err OtherCount
+VerifyFaultIs OtherRoot found = found ≡ Err OtherRoot
+VerifyFaultIs (NotShown k) found = found ≡ Err (NotShown k)
+VerifyFaultIs (NotNeeded l) found = found ≡ Err (NotNeeded l)
+VerifyFaultIs (Absent k) found = found ≡ Err (Absent k)
+VerifyFaultIs (Present k) found = found ≡ Err (Present k)
 
 -- ---- the proof that is made is accepted
 
@@ -189,7 +189,7 @@ pub record IsOf (ds : List Text) (p : ProofModel) : Type 0 where
   pub proof : IsProof p
   pub count : p.count ≡ length ds
   pub root : proof_root p ≡ Some (root ds)
-  pub apart : DoNotCollide (hashed (length ds) ds) (rehashed p.count 0 p.count p.shown p.hidden)
+  pub apart : TextsDoNotCollide (hashed (length ds) ds) (rehashed p.count 0 p.count p.shown p.hidden)
 
 abbrev pub ShowsLeaves : Type 0
 ShowsLeaves = (p : ProofModel) (ds : List Text) → IsOf ds p → AllByRecursion (IsAt 0 ds) p.shown
@@ -201,7 +201,7 @@ TellsTruth = (p : ProofModel) (n : InventoryModel) → IsOf (rising n.digests) p
 -- no other fact of the set has the digest of one of these
 abbrev pub FactsAreSo : Type 0
 FactsAreSo = (p : ProofModel) (held : ReplicaModel) (facts : Contents) (absent : Bool) (text : List ℕ) → IsProof p
-    → DoNotCollide (hashed (length (rising (inventory_of held).digests)) (rising (inventory_of held).digests)) (rehashed p.count 0 p.count p.shown p.hidden)
+    → TextsDoNotCollide (hashed (length (rising (inventory_of held).digests)) (rising (inventory_of held).digests)) (rehashed p.count 0 p.count p.shown p.hidden)
     → ((x y : Texts) → Has facts x → Has held.atoms y → atom_digest x ≡ atom_digest y → x ≡ y)
     → verified (seal_of (inventory_of held)) p facts absent ≡ Ok text
     → (q : Texts) → Has facts q → set.contains held.atoms q ≡ not absent

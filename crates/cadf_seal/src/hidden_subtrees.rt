@@ -2,7 +2,7 @@
 ghost use Rattle.std.specs.Prelude.{◌≡◌, ◌≤◌, ◌<◌, ◌+◌, ◌^◌, ◌++◌, IfOk, OnOk, length, take, drop};
 ghost use Rattle.cadf_join.specs.Sets.{rising};
 ghost use Rattle.cadf_seal.specs.ProofFile.{AreRising};
-ghost use Rattle.cadf_seal.specs.Shown.{until, from, hidden, all_hidden};
+ghost use Rattle.cadf_seal.specs.Shown.{until, leaves_from, hidden, all_hidden};
 ghost use Rattle.cadf_seal.specs.Tree.{tree};
 
 use crate::leaf::Leaf;
@@ -72,7 +72,7 @@ fn push_hidden(
 fn shown_around(shown: &[Leaf], place: u64) -> (&[Leaf], &[Leaf])
     requires { AreRising shown.now }
     ensures until { result.0.now ≡ until place shown.now }
-    ensures from { result.1.now ≡ from place shown.now }
+    ensures from { result.1.now ≡ leaves_from place shown.now }
     ensures rising { AreRising result.0.now × AreRising result.1.now }
 {
     shown.split_at(shown.partition_point(|leaf| leaf.place < place))

@@ -7,7 +7,7 @@ ghost use Rattle.cadf_seal.specs.ProofFile.{IsProof, ProofFileIsInjective, proof
 ghost use Rattle.cadf_seal.specs.ProofVerdict.{AcceptsProofs, proof_verdict};
 ghost use Rattle.cadf_seal.specs.SealFile.{IsSeal, SealFileIsInjective, seal_file, seal_of};
 ghost use Rattle.cadf_seal.specs.SealVerdict.{AcceptsSeals, seal_verdict};
-ghost use Rattle.cadf_seal.specs.Tree.{IsMerkleTree, RootDetermines, DoNotCollide, hashed};
+ghost use Rattle.cadf_seal.specs.Tree.{IsMerkleTree, RootDetermines, TextsDoNotCollide, hashed};
 ghost use Rattle.cadf_seal.specs.Verified.{TellsAll, ShowsLeaves, TellsTruth, FactsAreSo};
 
 use crate::proof::Proof;
@@ -23,7 +23,7 @@ pub fn root_is_of_a_merkle_tree()
 pub fn seal_determines_inventory()
     ensures leaves { RootDetermines }
     ensures inventory { (n m : InventoryModel)
-        → DoNotCollide (hashed (length (rising n.digests)) (rising n.digests)) (hashed (length (rising m.digests)) (rising m.digests))
+        → TextsDoNotCollide (hashed (length (rising n.digests)) (rising n.digests)) (hashed (length (rising m.digests)) (rising m.digests))
         → seal_of n ≡ seal_of m → n ≡ m }
 {}
 

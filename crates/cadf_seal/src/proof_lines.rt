@@ -6,7 +6,7 @@ ghost use Rattle.cadf_linefile.specs.Answers.{CauseIs};
 ghost use Rattle.cadf_seal.specs.ModelReads.{IsModelOfLines};
 ghost use Rattle.cadf_seal.specs.ProofFile.{proof_header, HasProofParts, IsProof};
 ghost use Rattle.cadf_seal.specs.ProofVerdict.{proof_grammar, proof_kind, has_count, cause_after, cause_of_line, cause_of_leaf, is_next, leaf_in_words, shown_in, hidden_in};
-ghost use Rattle.cadf_seal.specs.ProofLines.{told_lines, AreTold, IsMore, IsPut, values};
+ghost use Rattle.cadf_seal.specs.ProofLines.{told_lines, AreTold, IsMore, IsPut, proof_values};
 ghost use Rattle.cadf_seal.specs.declared.proof_lines.Told.TheVariants as told;
 
 use crate::leaf::Leaf;
@@ -122,7 +122,7 @@ fn after_count(
     hidden: Vec<[u8; 32]>,
     line: &[u8],
 ) -> Result<Told, LineFault>
-    requires { HasProofParts (values count shown.items hidden.items) }
+    requires { HasProofParts (proof_values count shown.items hidden.items) }
     ensures ok { IfOk result (IsMore (told.Values count shown hidden) line.now) }
     ensures err { IfErr result (λ e. CauseIs e (cause_after (told_lines (told.Values count shown hidden)) line.now)) }
 {

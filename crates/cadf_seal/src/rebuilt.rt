@@ -2,7 +2,7 @@
 
 ghost use Rattle.std.specs.Prelude.{◌≡◌, ◌≤◌, ◌<◌, ◌+◌, ◌^◌, option_map, length, take, drop, ℕ, List};
 ghost use Rattle.cadf_join.specs.Contents.{Text};
-ghost use Rattle.cadf_seal.specs.Shown.{next_hash, rebuilt, until, from};
+ghost use Rattle.cadf_seal.specs.Shown.{next_hash, rebuilt, until, leaves_from};
 ghost use Rattle.cadf_seal.specs.Verified.{alone, proof_root, PlacesRise};
 
 use crate::leaf::Leaf;
@@ -95,7 +95,7 @@ fn count_until(place: u64, shown: &[Leaf]) -> usize
     requires { PlacesRise shown.now }
     ensures bound { result ≤ length shown.now }
     ensures before { take result shown.now ≡ until place shown.now }
-    ensures after { drop result shown.now ≡ from place shown.now }
+    ensures after { drop result shown.now ≡ leaves_from place shown.now }
 {
     shown.partition_point(|leaf| leaf.place < place)
 }

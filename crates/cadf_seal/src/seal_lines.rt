@@ -4,7 +4,7 @@ ghost use Rattle.std.specs.Prelude.{◌≡◌, ◌<◌, ◌^◌, ◌∷◌, [], 
 ghost use Rattle.cadf_linefile.specs.Answers.{CauseIs};
 ghost use Rattle.cadf_seal.specs.ModelReads.{IsModelOfLines};
 ghost use Rattle.cadf_seal.specs.SealFile.{seal_header, count_line, IsSeal};
-ghost use Rattle.cadf_seal.specs.SealVerdict.{seal_kind, seal_grammar, is_whole, cause_after, count_in, root_in};
+ghost use Rattle.cadf_seal.specs.SealVerdict.{seal_kind, seal_grammar, is_whole, cause_after, sealed_count, root_in};
 ghost use Rattle.cadf_seal.specs.SealLines.{told_lines, AreTold, IsMore};
 ghost use Rattle.cadf_seal.specs.declared.seal_lines.Told.TheVariants as told;
 
@@ -53,7 +53,7 @@ impl Model for SealLines {
 
 /// Decodes the line of the count. `None` if it is no such line.
 pub(crate) fn count_in(line: &[u8]) -> Option<u64>
-    ensures { result ≡ count_in line.now }
+    ensures { result ≡ sealed_count line.now }
 {
     if line.starts_with(b"N ") {
         number_in(&line[2..])

@@ -2,7 +2,7 @@
 
 ghost use Rattle.std.specs.Prelude.{◌≡◌, ◌≤◌, ◌+◌, ◌<◌, ◌^◌, ℕ, List, min, false, Some};
 ghost use Rattle.cadf_linefile.specs.Verdict.{verdict};
-ghost use Rattle.cadf_seal.specs.SealReads.{ReadsSeal, AnswersSeal, IsAccepted, IsSealOfRead};
+ghost use Rattle.cadf_seal.specs.SealReads.{ReadsSeal, AnswersSeal, AreAcceptedSealLines, IsSealOfRead};
 ghost use Rattle.cadf_seal.specs.SealVerdict.{seal_verdict};
 
 use crate::seal::Seal;
@@ -27,7 +27,7 @@ pub fn read_seal<S: Source>(alloc: Global, source: &mut S, limit: u64) -> Result
 
 /// Returns the seal that the lines encode.
 fn seal_of(read: Result<SealLines, FileFault>) -> Result<Seal, FileFault>
-    requires { IsAccepted read }
+    requires { AreAcceptedSealLines read }
     ensures { IsSealOfRead read result }
 {
     match read {

@@ -2,7 +2,7 @@
 ghost use Rattle.std.specs.Prelude.{◌≡◌, ◌++◌, ◌∷◌, [], None, IfOk, OnOk, if◌then◌else◌};
 ghost use Rattle.std.specs.Option.{option_copied};
 ghost use Rattle.cadf_join.specs.Sets.{rising};
-ghost use Rattle.cadf_seal.specs.Facts.{facts_left, AreAscending, above};
+ghost use Rattle.cadf_seal.specs.Facts.{facts_left, AreAscending, facts_above};
 ghost use Rattle.cadf_seal.specs.ProofFile.{shown_for};
 ghost use Rattle.cadf_seal.specs.Shown.{needs};
 
@@ -44,7 +44,7 @@ impl<'a> Facts<'a> {
     /// Drops the facts that are not above the leaf.
     fn drop_through(&mut self, leaf: &[u8; 32])
         requires { AreAscending (facts_left self.old) }
-        ensures { facts_left self.new ≡ above leaf.now (facts_left self.old) }
+        ensures { facts_left self.new ≡ facts_above leaf.now (facts_left self.old) }
     {
         while let Some(fact) = self.next {
             if leaf.cmp(fact).is_lt() {

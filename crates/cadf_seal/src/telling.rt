@@ -2,7 +2,7 @@
 ghost use Rattle.std.specs.Prelude.{◌≡◌, ◌++◌, ⊤, IfOk, OnOk, get_or, []};
 ghost use Rattle.cadf_join.specs.Prefixes.{texts_at};
 ghost use Rattle.cadf_join.specs.Sets.{rising};
-ghost use Rattle.cadf_seal.specs.Verified.{key_of, told_line, word_for, told, Tells};
+ghost use Rattle.cadf_seal.specs.Verified.{subject, told_line, word_for, told, Tells};
 ghost use Rattle.cadf_seal.specs.laws.Telling.{tells_none, tells_more};
 
 use cadf_join::Visitor;
@@ -80,7 +80,7 @@ fn push_line(alloc: Global, word: &[u8], list: &[&str], text: &mut Vec<u8>) -> R
 
 /// Returns what an atom is of; of a ruling, what it rules on.
 fn key_of<'a>(list: &[&'a str]) -> &'a str
-    ensures { result.now ≡ key_of (texts_at list.now) }
+    ensures { result.now ≡ subject (texts_at list.now) }
 {
     if text_at(list, 0) == "U" {
         text_at(list, 2)

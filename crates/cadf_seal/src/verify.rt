@@ -12,8 +12,8 @@ ghost use Rattle.cadf_seal.specs.ProofFile.{AreRising, IsLeafOf};
 ghost use Rattle.cadf_seal.specs.Shown.{needs, is_below};
 ghost use Rattle.cadf_seal.specs.Verified.{
   PlacesRise,
-  behind,
-  ahead,
+  past_last,
+  lowest_place,
   is_shown,
   state,
   is_state,
@@ -25,7 +25,7 @@ ghost use Rattle.cadf_seal.specs.Verified.{
   refusal_of_facts,
   not_as_asked,
   verified,
-  FaultIs,
+  VerifyFaultIs,
 };
 
 use crate::leaf::Leaf;
@@ -98,7 +98,7 @@ fn is_first(shown: &[Leaf], digest: &[u8; 32]) -> bool
 fn behind(count: u64, shown: &[Leaf]) -> u64
     requires rising { PlacesRise shown.now }
     requires leaves { AllByRecursion (λ s. s.place < count) shown.now }
-    ensures { result ≡ behind shown.now }
+    ensures { result ≡ past_last shown.now }
 {
     match shown {
         [] => 0,
@@ -110,7 +110,7 @@ fn behind(count: u64, shown: &[Leaf]) -> u64
 fn ahead(count: u64, shown: &[Leaf]) -> u64
     requires rising { PlacesRise shown.now }
     requires leaves { AllByRecursion (λ s. s.place < count) shown.now }
-    ensures { result ≡ ahead count shown.now }
+    ensures { result ≡ lowest_place count shown.now }
 {
     match shown {
         [] => count,
@@ -209,7 +209,7 @@ pub fn verified(
     absent: bool,
 ) -> Result<Vec<u8>, VerifyFault>
     ensures ok { IfOk result (λ text. verified seal.now proof.now facts.now.atoms absent ≡ Ok text.items) }
-    ensures err { IfErr result (λ e. FaultIs e (verified seal.now proof.now facts.now.atoms absent)) }
+    ensures err { IfErr result (λ e. VerifyFaultIs e (verified seal.now proof.now facts.now.atoms absent)) }
 {
     if let Some(fault) = refusal_of_root(seal, proof) {
         return Err(fault);

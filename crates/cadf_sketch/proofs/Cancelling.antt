@@ -14,9 +14,9 @@ use Rattle.cadf_join.specs.laws.Contents.{text_same}
 use Rattle.cadf_join.specs.Contents.{Text, text_cmp}
 use Rattle.cadf_line.specs.Digest.{IsDigest}
 use Rattle.cadf_sketch.specs.Layouts.{LayoutModel}
-use Rattle.cadf_sketch.specs.Cells.{check, each_xor, mixed, cell_at, stands, turned, turned_all, nothing}
+use Rattle.cadf_sketch.specs.Cells.{check, each_xor, mixed, cell_at, stands, toggled, toggled_all, nothing}
 use Rattle.cadf_sketch.specs.declared.cell.Cell.{Cell}
-use Rattle.cadf_sketch.proofs.CellLemmas.{length-turned, at_turned}
+use Rattle.cadf_sketch.proofs.CellLemmas.{length-toggled, at_turned}
 
 -- ---- bytes
 
@@ -71,20 +71,20 @@ twice_either false cell d h = refl
 -- ---- all cells
 
 at_two : (cells : List Cell) (d e : List ℕ) (layout : LayoutModel) (q : ℕ) → 0 < layout.size → q < length cells
-    → cell_at (turned (turned cells d layout) e layout) q
+    → cell_at (toggled (toggled cells d layout) e layout) q
     ≡ cond (stands e q layout) (mixed (cond (stands d q layout) (mixed (cell_at cells q) d) (cell_at cells q)) e)
     (cond (stands d q layout) (mixed (cell_at cells q) d) (cell_at cells q))
 at_two cells d e layout q some within =
-    at_turned (turned cells d layout) e layout q some (subst (λ (n : ℕ). q < n) (sym (length-turned cells d layout)) within)
+    at_turned (toggled cells d layout) e layout q some (subst (λ (n : ℕ). q < n) (sym (length-toggled cells d layout)) within)
     ∙ ap (λ (c : Cell). cond (stands e q layout) (mixed c e) c) (at_turned cells d layout q some within)
 
-length_two : (cells : List Cell) (d e : List ℕ) (layout : LayoutModel) → length (turned (turned cells d layout) e layout) ≡ length cells
-length_two cells d e layout = length-turned (turned cells d layout) e layout ∙ length-turned cells d layout
+length_two : (cells : List Cell) (d e : List ℕ) (layout : LayoutModel) → length (toggled (toggled cells d layout) e layout) ≡ length cells
+length_two cells d e layout = length-toggled (toggled cells d layout) e layout ∙ length-toggled cells d layout
 
-turned_swap : (cells : List Cell) (d e : List ℕ) (layout : LayoutModel) → 0 < layout.size
-    → turned (turned cells d layout) e layout ≡ turned (turned cells e layout) d layout
-turned_swap cells d e layout some =
-    ext_get_or (record { digest = []; check = 0 }) (turned (turned cells d layout) e layout) (turned (turned cells e layout) d layout)
+toggled_swap : (cells : List Cell) (d e : List ℕ) (layout : LayoutModel) → 0 < layout.size
+    → toggled (toggled cells d layout) e layout ≡ toggled (toggled cells e layout) d layout
+toggled_swap cells d e layout some =
+    ext_get_or (record { digest = []; check = 0 }) (toggled (toggled cells d layout) e layout) (toggled (toggled cells e layout) d layout)
     (length_two cells d e layout ∙ sym (length_two cells e d layout))
     (λ q h.
     let within : q < length cells = subst (λ (n : ℕ). q < n) (length_two cells d e layout) h in
@@ -95,10 +95,10 @@ turned_swap cells d e layout some =
 abbrev pub AreWide : List Cell → Type 0
 AreWide cells = (q : ℕ) → q < length cells → length (cell_at cells q).digest ≡ 32
 
-pub turned_twice : (cells : List Cell) (d : List ℕ) (layout : LayoutModel) → 0 < layout.size → AreWide cells → length d ≡ 32
-    → turned (turned cells d layout) d layout ≡ cells
-turned_twice cells d layout some wide long =
-    ext_get_or (record { digest = []; check = 0 }) (turned (turned cells d layout) d layout) cells (length_two cells d d layout)
+pub toggled_twice : (cells : List Cell) (d : List ℕ) (layout : LayoutModel) → 0 < layout.size → AreWide cells → length d ≡ 32
+    → toggled (toggled cells d layout) d layout ≡ cells
+toggled_twice cells d layout some wide long =
+    ext_get_or (record { digest = []; check = 0 }) (toggled (toggled cells d layout) d layout) cells (length_two cells d d layout)
     (λ q h.
     let within : q < length cells = subst (λ (n : ℕ). q < n) (length_two cells d d layout) h in
     at_two cells d d layout q some within ∙ twice_either (stands d q layout) (cell_at cells q) d (wide q within ∙ sym long))
@@ -107,39 +107,39 @@ wide_either : (a : Bool) (cell : Cell) (d : List ℕ) → length cell.digest ≡
 wide_either true cell d h long = length-xor cell.digest d (h ∙ sym long) ∙ h
 wide_either false cell d h long = h
 
-wide-turned : (cells : List Cell) (d : List ℕ) (layout : LayoutModel) → 0 < layout.size → AreWide cells → length d ≡ 32 → AreWide (turned cells d layout)
-wide-turned cells d layout some wide long q h =
-    let within : q < length cells = subst (λ (n : ℕ). q < n) (length-turned cells d layout) h in
+wide-toggled : (cells : List Cell) (d : List ℕ) (layout : LayoutModel) → 0 < layout.size → AreWide cells → length d ≡ 32 → AreWide (toggled cells d layout)
+wide-toggled cells d layout some wide long q h =
+    let within : q < length cells = subst (λ (n : ℕ). q < n) (length-toggled cells d layout) h in
     ap (λ (c : Cell). length c.digest) (at_turned cells d layout q some within) ∙ wide_either (stands d q layout) (cell_at cells q) d (wide q within) long
 
-pub wide-turned_all : (cells : List Cell) (ds : List Text) (layout : LayoutModel) → 0 < layout.size → AreWide cells → AllByRecursion IsDigest ds
-    → AreWide (turned_all cells ds layout)
-wide-turned_all cells [] layout some wide each = wide
-wide-turned_all cells (d ∷ ds) layout some wide each =
-    wide-turned_all (turned cells d layout) ds layout some (wide-turned cells d layout some wide each.0.size) each.1
+pub wide-toggled_all : (cells : List Cell) (ds : List Text) (layout : LayoutModel) → 0 < layout.size → AreWide cells → AllByRecursion IsDigest ds
+    → AreWide (toggled_all cells ds layout)
+wide-toggled_all cells [] layout some wide each = wide
+wide-toggled_all cells (d ∷ ds) layout some wide each =
+    wide-toggled_all (toggled cells d layout) ds layout some (wide-toggled cells d layout some wide each.0.size) each.1
 
 pub wide-nothing : (count : ℕ) → AreWide (replicate count nothing)
 wide-nothing count q h =
     let within : q < count = subst (λ (n : ℕ). q < n) (length-replicate count nothing) h in
     ap (λ (c : Cell). length c.digest) (get_or-replicate count q nothing (record { digest = []; check = 0 }) within) ∙ length-replicate {A = ℕ} 32 0
 
-pub turned_all_push : (cells : List Cell) (d : Text) (ds : List Text) (layout : LayoutModel) → 0 < layout.size
-    → turned_all (turned cells d layout) ds layout ≡ turned (turned_all cells ds layout) d layout
-turned_all_push cells d [] layout some = refl
-turned_all_push cells d (e ∷ ds) layout some =
-    ap (λ (l : List Cell). turned_all l ds layout) (turned_swap cells d e layout some) ∙ turned_all_push (turned cells e layout) d ds layout some
+pub toggled_all_push : (cells : List Cell) (d : Text) (ds : List Text) (layout : LayoutModel) → 0 < layout.size
+    → toggled_all (toggled cells d layout) ds layout ≡ toggled (toggled_all cells ds layout) d layout
+toggled_all_push cells d [] layout some = refl
+toggled_all_push cells d (e ∷ ds) layout some =
+    ap (λ (l : List Cell). toggled_all l ds layout) (toggled_swap cells d e layout some) ∙ toggled_all_push (toggled cells e layout) d ds layout some
 
 -- a digest among others, at its place in their order
-pub turned_all_insert : (cells : List Cell) (xs : List Text) (d : Text) (layout : LayoutModel) → 0 < layout.size → (Listed d xs → ⊥)
-    → turned_all cells (insert_key text_cmp xs d) layout ≡ turned (turned_all cells xs layout) d layout
-turned_all_insert cells [] d layout some new = refl
-turned_all_insert cells (x ∷ xs) d layout some new =
-    by (turned_all_insert (turned cells x layout) xs d layout some (λ l. new (inr l))) (text_cmp d x) refl
+pub toggled_all_insert : (cells : List Cell) (xs : List Text) (d : Text) (layout : LayoutModel) → 0 < layout.size → (Listed d xs → ⊥)
+    → toggled_all cells (insert_key text_cmp xs d) layout ≡ toggled (toggled_all cells xs layout) d layout
+toggled_all_insert cells [] d layout some new = refl
+toggled_all_insert cells (x ∷ xs) d layout some new =
+    by (toggled_all_insert (toggled cells x layout) xs d layout some (λ l. new (inr l))) (text_cmp d x) refl
   where
-    by : turned_all (turned cells x layout) (insert_key text_cmp xs d) layout ≡ turned (turned_all (turned cells x layout) xs layout) d layout
+    by : toggled_all (toggled cells x layout) (insert_key text_cmp xs d) layout ≡ toggled (toggled_all (toggled cells x layout) xs layout) d layout
         → (r : Ordering) → text_cmp d x ≡ r
-        → turned_all cells (match_ordering r (d ∷ x ∷ xs) (x ∷ xs) (x ∷ insert_key text_cmp xs d)) layout ≡ turned (turned_all cells (x ∷ xs) layout) d layout
-    by rest Less is = turned_all_push cells d (x ∷ xs) layout some
+        → toggled_all cells (match_ordering r (d ∷ x ∷ xs) (x ∷ xs) (x ∷ insert_key text_cmp xs d)) layout ≡ toggled (toggled_all cells (x ∷ xs) layout) d layout
+    by rest Less is = toggled_all_push cells d (x ∷ xs) layout some
     by rest Equal is = absurd (new (inl (text_same d x is)))
     by rest Greater is = rest
 

@@ -8,22 +8,22 @@ use Rattle.std.proofs.lemmas.Nat.{shr_below, mod_below, mul-add-lt, div_below}
 use Rattle.std.proofs.lemmas.Bool.{eqb-true, eq-eqb}
 use mathlib.Core.Bool.{true≢false}
 use Rattle.cadf_sketch.specs.Layouts.{LayoutModel}
-use Rattle.cadf_sketch.specs.Cells.{turned, turned_all, mixed_at, mixed, mixed_all, cell_at, place_in, stands, nothing, word}
+use Rattle.cadf_sketch.specs.Cells.{toggled, toggled_all, mixed_at, mixed, mixed_all, cell_at, place_in, stands, nothing, word}
 use Rattle.cadf_sketch.specs.declared.cell.Cell.{Cell}
 
 length-mixed_at : (cells : List Cell) (place : ℕ) (d : List ℕ) → length (mixed_at cells place d) ≡ length cells
 length-mixed_at cells place d = length-set cells place (mixed (cell_at cells place) d)
 
-pub length-turned : (cells : List Cell) (d : List ℕ) (layout : LayoutModel) → length (turned cells d layout) ≡ length cells
-unfolding turned
-length-turned cells d layout =
+pub length-toggled : (cells : List Cell) (d : List ℕ) (layout : LayoutModel) → length (toggled cells d layout) ≡ length cells
+unfolding toggled
+length-toggled cells d layout =
     length-mixed_at (mixed_at (mixed_at cells (place_in 0 d layout) d) (place_in 1 d layout) d) (place_in 2 d layout) d
     ∙ length-mixed_at (mixed_at cells (place_in 0 d layout) d) (place_in 1 d layout) d
     ∙ length-mixed_at cells (place_in 0 d layout) d
 
-pub length-turned_all : (cells : List Cell) (ds : List (List ℕ)) (layout : LayoutModel) → length (turned_all cells ds layout) ≡ length cells
-length-turned_all cells [] layout = refl
-length-turned_all cells (d ∷ ds) layout = length-turned_all (turned cells d layout) ds layout ∙ length-turned cells d layout
+pub length-toggled_all : (cells : List Cell) (ds : List (List ℕ)) (layout : LayoutModel) → length (toggled_all cells ds layout) ≡ length cells
+length-toggled_all cells [] layout = refl
+length-toggled_all cells (d ∷ ds) layout = length-toggled_all (toggled cells d layout) ds layout ∙ length-toggled cells d layout
 
 -- ---- one place of the cells
 
@@ -71,8 +71,8 @@ apart low high x q l h below above =
     omega arith
 
 pub at_turned : (cells : List Cell) (d : List ℕ) (layout : LayoutModel) (q : ℕ) → 0 < layout.size → q < length cells
-    → cell_at (turned cells d layout) q ≡ cond (stands d q layout) (mixed (cell_at cells q) d) (cell_at cells q)
-unfolding turned
+    → cell_at (toggled cells d layout) q ≡ cond (stands d q layout) (mixed (cell_at cells q) d) (cell_at cells q)
+unfolding toggled
 at_turned cells d layout q some within =
     let p = place_in 0 d layout in
     let r = place_in 1 d layout in
@@ -101,15 +101,15 @@ mixed_rest false cell d ds = refl
 
 -- a cell is the XOR of the digests that have it as one of their cells
 pub at_turned_all : (cells : List Cell) (ds : List (List ℕ)) (layout : LayoutModel) (q : ℕ) → 0 < layout.size → q < length cells
-    → cell_at (turned_all cells ds layout) q ≡ mixed_all (cell_at cells q) (filter (λ d. stands d q layout) ds)
+    → cell_at (toggled_all cells ds layout) q ≡ mixed_all (cell_at cells q) (filter (λ d. stands d q layout) ds)
 at_turned_all cells [] layout q some within = refl
 at_turned_all cells (d ∷ ds) layout q some within =
-    at_turned_all (turned cells d layout) ds layout q some (subst (λ (n : ℕ). q < n) (sym (length-turned cells d layout)) within)
+    at_turned_all (toggled cells d layout) ds layout q some (subst (λ (n : ℕ). q < n) (sym (length-toggled cells d layout)) within)
     ∙ ap (λ (c : Cell). mixed_all c (filter (λ x. stands x q layout) ds)) (at_turned cells d layout q some within)
     ∙ mixed_rest (stands d q layout) (cell_at cells q) d (filter (λ x. stands x q layout) ds)
 
 pub at_sketched : (ds : List (List ℕ)) (layout : LayoutModel) (q : ℕ) → 0 < layout.size → q < 3 * layout.size
-    → cell_at (turned_all (replicate (3 * layout.size) nothing) ds layout) q ≡ mixed_all nothing (filter (λ d. stands d q layout) ds)
+    → cell_at (toggled_all (replicate (3 * layout.size) nothing) ds layout) q ≡ mixed_all nothing (filter (λ d. stands d q layout) ds)
 at_sketched ds layout q some within =
     at_turned_all (replicate (3 * layout.size) nothing) ds layout q some (subst (λ (n : ℕ). q < n) (sym (length-replicate (3 * layout.size) nothing)) within)
     ∙ ap (λ (c : Cell). mixed_all c (filter (λ x. stands x q layout) ds))

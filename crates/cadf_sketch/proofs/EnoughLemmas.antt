@@ -33,16 +33,16 @@ use Rattle.cadf_set.proofs.Inventories.{AreDigests-listed}
 use Rattle.cadf_inventory.proofs.InventoryVerdictLemmas.{each_digest}
 use Rattle.cadf_inventory.specs.InventoryFile.{inventory_digest}
 use Rattle.cadf_sketch.specs.Layouts.{LayoutModel}
-use Rattle.cadf_sketch.specs.Cells.{cell_at, is_lone, turned, turned_all, nothing}
+use Rattle.cadf_sketch.specs.Cells.{cell_at, is_lone, toggled, toggled_all, nothing}
 use Rattle.cadf_sketch.specs.Enough.{IsEnough}
 use Rattle.cadf_sketch.specs.Flips.{apart, flipped}
 use Rattle.cadf_sketch.specs.Peeling.{Peels, none, more}
 use Rattle.cadf_sketch.specs.Refusals.{differing, HasTooFewCells}
 use Rattle.cadf_sketch.specs.Sketches.{cells_of, sketch_of}
 use Rattle.cadf_sketch.specs.declared.cell.Cell.{Cell}
-use Rattle.cadf_sketch.proofs.CellLemmas.{length-turned_all}
+use Rattle.cadf_sketch.proofs.CellLemmas.{length-toggled_all}
 use Rattle.cadf_sketch.proofs.FlipLemmas.{either, one, in_one, in_apart, by_members, told, apart_none, apart-insert, first_is_new, rest_sorted}
-use Rattle.cadf_sketch.proofs.Cancelling.{AreWide, turned_twice, wide-turned_all, wide-nothing, turned_all_push, turned_all_insert, length-insert}
+use Rattle.cadf_sketch.proofs.Cancelling.{AreWide, toggled_twice, wide-toggled_all, wide-nothing, toggled_all_push, toggled_all_insert, length-insert}
 
 -- ---- sets
 
@@ -112,41 +112,41 @@ not_listed : (s : Digests) (d : Text) → set.contains s d ≡ false → Listed 
 not_listed s d new l = true≢false (sym (listed-rising text_total text_same s d l) ∙ new)
 
 cells_insert : (s : Digests) (d : Text) (layout : LayoutModel) → 0 < layout.size → set.contains s d ≡ false
-    → cells_of (set.insert s d) layout ≡ turned (cells_of s layout) d layout
+    → cells_of (set.insert s d) layout ≡ toggled (cells_of s layout) d layout
 unfolding cells_of
 cells_insert s d layout some new =
-    ap (λ (l : List Text). turned_all (replicate (3 * layout.size) nothing) l layout) (rising-insert s d)
-    ∙ turned_all_insert (replicate (3 * layout.size) nothing) (rising s) d layout some (not_listed s d new)
+    ap (λ (l : List Text). toggled_all (replicate (3 * layout.size) nothing) l layout) (rising-insert s d)
+    ∙ toggled_all_insert (replicate (3 * layout.size) nothing) (rising s) d layout some (not_listed s d new)
 
 wide-cells_of : (s : Digests) (layout : LayoutModel) → 0 < layout.size → AreDigests s → AreWide (cells_of s layout)
 unfolding cells_of
 wide-cells_of s layout some are =
-    wide-turned_all (replicate (3 * layout.size) nothing) (rising s) layout some (wide-nothing (3 * layout.size)) (each_digest s are)
+    wide-toggled_all (replicate (3 * layout.size) nothing) (rising s) layout some (wide-nothing (3 * layout.size)) (each_digest s are)
 
 length-cells_of : (s : Digests) (layout : LayoutModel) → length (cells_of s layout) ≡ 3 * layout.size
 unfolding cells_of
-length-cells_of s layout = length-turned_all (replicate (3 * layout.size) nothing) (rising s) layout ∙ length-replicate (3 * layout.size) nothing
+length-cells_of s layout = length-toggled_all (replicate (3 * layout.size) nothing) (rising s) layout ∙ length-replicate (3 * layout.size) nothing
 
 -- a digest is added if the set lacks it, and removed if the set has it
 cells_turned : (s : Digests) (d : Text) (layout : LayoutModel) → 0 < layout.size → AreDigests s → IsDigest d
-    → turned (cells_of s layout) d layout ≡ cells_of (apart s (one d)) layout
+    → toggled (cells_of s layout) d layout ≡ cells_of (apart s (one d)) layout
 cells_turned s d layout some are digest = bool_cases (set.contains s d)
     (λ there.
     let rest = apart s (one d) in
     let rest_are = AreDigests-apart s (one d) are (AreDigests-listed (d ∷ []) (digest, tt)) in
-    ap (λ (t : Digests). turned (cells_of t layout) d layout) (sym (insert-apart s d there))
-    ∙ ap (λ (l : List Cell). turned l d layout) (cells_insert rest d layout some (gone s d there))
-    ∙ turned_twice (cells_of rest layout) d layout some (wide-cells_of rest layout some rest_are) digest.size)
+    ap (λ (t : Digests). toggled (cells_of t layout) d layout) (sym (insert-apart s d there))
+    ∙ ap (λ (l : List Cell). toggled l d layout) (cells_insert rest d layout some (gone s d there))
+    ∙ toggled_twice (cells_of rest layout) d layout some (wide-cells_of rest layout some rest_are) digest.size)
     (λ new. sym (cells_insert s d layout some new) ∙ ap (λ (t : Digests). cells_of t layout) (sym (apart-insert s d new)))
 
 -- digests that both have cancel
 cells_apart : (s : Digests) (ds : List Text) (layout : LayoutModel) → 0 < layout.size → AreDigests s → AllByRecursion IsDigest ds
     → IsStrictlySortedBy text_cmp ds
-    → turned_all (cells_of s layout) ds layout ≡ cells_of (apart s (set.from_list ds)) layout
+    → toggled_all (cells_of s layout) ds layout ≡ cells_of (apart s (set.from_list ds)) layout
 cells_apart s [] layout some are each up = ap (λ (t : Digests). cells_of t layout) (apart_none s)
 cells_apart s (d ∷ ds) layout some are each up =
-    turned_all_push (cells_of s layout) d ds layout some
-    ∙ ap (λ (l : List Cell). turned l d layout) (cells_apart s ds layout some are each.1 (rest_sorted d ds up))
+    toggled_all_push (cells_of s layout) d ds layout some
+    ∙ ap (λ (l : List Cell). toggled l d layout) (cells_apart s ds layout some are each.1 (rest_sorted d ds up))
     ∙ cells_turned (apart s (set.from_list ds)) d layout some (AreDigests-apart s (set.from_list ds) are (AreDigests-listed ds each.1)) each.0
     ∙ ap (λ (t : Digests). cells_of t layout) (apart_more s d ds (first_is_new d ds up))
 
@@ -220,7 +220,7 @@ one_fewer s d there =
 
 left_later : (layout : LayoutModel) (place : ℕ) (all : Digests) (taken : List Text) (cells : List Cell) → 0 < layout.size → AreDigests all → IsEnough layout all
     → place < length cells → is_lone (cell_at cells place) place layout ≡ true → IsLeft layout all taken cells
-    → IsLeft layout all (taken ++ (cell_at cells place).digest ∷ []) (turned cells (cell_at cells place).digest layout)
+    → IsLeft layout all (taken ++ (cell_at cells place).digest ∷ []) (toggled cells (cell_at cells place).digest layout)
 left_later layout place all taken cells some are enough within lone before =
     let d = (cell_at cells place).digest in
     let s = left all taken in
@@ -232,7 +232,7 @@ left_later layout place all taken cells some are enough within lone before =
     let held : set.contains all d ≡ true = left-within all taken d there in
     let s_are : AreDigests s = λ q h. are q (left-within all taken q h) in
     record {
-      cells = ap (λ (l : List Cell). turned l d layout) before.cells ∙ cells_turned s d layout some s_are (are d held)
+      cells = ap (λ (l : List Cell). toggled l d layout) before.cells ∙ cells_turned s d layout some s_are (are d held)
           ∙ ap (λ (t : Digests). cells_of t layout) (left_more all taken d there);
       within = λ q h.
           or_cases {P = set.contains all q ≡ true} (eq_by_cmp text_cmp q d) (set.contains (set.from_list taken) q)

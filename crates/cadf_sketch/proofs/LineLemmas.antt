@@ -59,7 +59,7 @@ use Rattle.cadf_sketch.specs.SketchVerdict.{
   headed,
   head_in_words,
   head_in,
-  counted,
+  tally_in_numbers,
   counts_in_words,
   tally_in,
   cell_of_bytes,
@@ -214,9 +214,9 @@ head-only l h e =
 pub tally-again : (t : Tally) → IsTally t → tally_in (counts_line t) ≡ Some t
 unfolding counts_in_words
 tally-again t is =
-    ap (λ k. counted (numbers_in k (spelled t.digests t.ones))) (sym is.size) ∙ ap counted (numbers-again t.digests t.ones is.digests is.ones)
+    ap (λ k. tally_in_numbers (numbers_in k (spelled t.digests t.ones))) (sym is.size) ∙ ap tally_in_numbers (numbers-again t.digests t.ones is.digests is.ones)
 
-counted-only : (o : Option (List ℕ)) (t : Tally) → counted o ≡ Some t → o ≡ Some (t.digests ∷ t.ones)
+counted-only : (o : Option (List ℕ)) (t : Tally) → tally_in_numbers o ≡ Some t → o ≡ Some (t.digests ∷ t.ones)
 counted-only None t e = absurd (cc)
 counted-only (Some []) t e = absurd (cc)
 counted-only (Some (n ∷ ns)) t e = let p : record { digests = n; ones = ns } ≡ t = cc in ap (λ x. Some (x.digests ∷ x.ones)) p
@@ -377,11 +377,11 @@ module _ (t first rest second last : List ℕ) (a : first ≡ first_word t) (b :
 module _ {V : Type 0} (items : V → List ℕ) (t : List ℕ) (o : Option V) (all : option_map items o ≡ numbers_in 64 t) where
   pub tally_missing : o ≡ None → None ≡ counts_in_words t
   unfolding counts_in_words
-  tally_missing e = ap counted (sym (ap (option_map items) e) ∙ all)
+  tally_missing e = ap tally_in_numbers (sym (ap (option_map items) e) ∙ all)
 
   pub tally_read : (v : V) (tally : Tally) → o ≡ Some v → items v ≡ tally.digests ∷ tally.ones → Some tally ≡ counts_in_words t
   unfolding counts_in_words
-  tally_read v tally e f = ap counted (ap Some (sym f) ∙ sym (ap (option_map items) e) ∙ all)
+  tally_read v tally e f = ap tally_in_numbers (ap Some (sym f) ∙ sym (ap (option_map items) e) ∙ all)
 
   pub counts_size : (v : V) → o ≡ Some v → length (items v) ≡ 65
   counts_size v e =

@@ -1,7 +1,7 @@
 -- How a run of removals begins and continues.
 use Rattle.std.proofs.Common.{◌≡◌, ◌<◌, ℕ, List, [], ◌∷◌, ◌++◌, length, true, sym, subst}
 use Rattle.cadf_sketch.specs.Layouts.{LayoutModel}
-use Rattle.cadf_sketch.specs.Cells.{cell_at, is_lone, turned}
+use Rattle.cadf_sketch.specs.Cells.{cell_at, is_lone, toggled}
 use Rattle.cadf_sketch.specs.Peeling.{Peels, none, more}
 use Rattle.cadf_sketch.specs.declared.cell.Cell.{Cell}
 
@@ -10,11 +10,11 @@ peels_none layout start taken e = subst (λ ds. Peels layout start ds start) (sy
 
 pub peels_more : (layout : LayoutModel) (place : ℕ) (start cells cells' : List Cell) (taken taken' : List (List ℕ)) (cell : Cell)
     → cell ≡ cell_at cells place → place < length cells → is_lone cell place layout ≡ true
-    → taken' ≡ taken ++ cell.digest ∷ [] → cells' ≡ turned cells cell.digest layout
+    → taken' ≡ taken ++ cell.digest ∷ [] → cells' ≡ toggled cells cell.digest layout
     → Peels layout start taken cells → Peels layout start taken' cells'
 peels_more layout place start cells cells' taken taken' cell at within lone t c chain =
     subst (λ ds. Peels layout start ds cells') (sym t) (subst (Peels layout start (taken ++ cell.digest ∷ [])) (sym c)
-    (subst (λ (x : Cell). Peels layout start (taken ++ x.digest ∷ []) (turned cells x.digest layout)) (sym at)
+    (subst (λ (x : Cell). Peels layout start (taken ++ x.digest ∷ []) (toggled cells x.digest layout)) (sym at)
     (more place chain within (subst (λ (x : Cell). is_lone x place layout ≡ true) at lone))))
 
 -- the same of an equal layout and of equal cells

@@ -6,10 +6,10 @@ use Rattle.std.proofs.lemmas.List.Folds.{list_any-append}
 use Rattle.std.proofs.lemmas.Bool.{eqb-true, eq-eqb}
 use mathlib.Core.Bool.{true≢false}
 use Rattle.cadf_sketch.specs.Layouts.{LayoutModel}
-use Rattle.cadf_sketch.specs.Cells.{cell_at, is_lone, place_in, stands, turned, check, mixed}
-use Rattle.cadf_sketch.specs.Peeling.{Awaits, places_of}
+use Rattle.cadf_sketch.specs.Cells.{cell_at, is_lone, place_in, stands, toggled, check, mixed}
+use Rattle.cadf_sketch.specs.Peeling.{Awaits, three_places}
 use Rattle.cadf_sketch.specs.declared.cell.Cell.{Cell}
-use Rattle.cadf_sketch.proofs.CellLemmas.{at_turned, length-turned}
+use Rattle.cadf_sketch.proofs.CellLemmas.{at_turned, length-toggled}
 
 or_true : (b : Bool) → (b || true) ≡ true
 or_true true = refl
@@ -52,22 +52,22 @@ awaits_not_lone layout cells pending place not_lone awaits q within lone =
 
 pub awaits_taken : (layout : LayoutModel) (cells : List Cell) (pending : List ℕ) (place : ℕ) → 0 < layout.size
     → is_lone (cell_at cells place) place layout ≡ true → Awaits layout cells (pending ++ place ∷ [])
-    → Awaits layout (turned cells (cell_at cells place).digest layout) (pending ++ places_of (cell_at cells place).digest layout)
+    → Awaits layout (toggled cells (cell_at cells place).digest layout) (pending ++ three_places (cell_at cells place).digest layout)
 awaits_taken layout cells pending place some is awaits q h lone =
     let d = (cell_at cells place).digest in
-    let within : q < length cells = subst (λ (n : ℕ). q < n) (length-turned cells d layout) h in
-    list_any-append (nat_eq q) pending (places_of d layout)
+    let within : q < length cells = subst (λ (n : ℕ). q < n) (length-toggled cells d layout) h in
+    list_any-append (nat_eq q) pending (three_places d layout)
     ∙ ap (λ b. list_any (nat_eq q) pending || b) (or_three (nat_eq q (place_in 0 d layout)) (nat_eq q (place_in 1 d layout)) (nat_eq q (place_in 2 d layout)))
     ∙ by (stands d q layout) refl (at_turned cells d layout q some within)
   where
     by : (b : Bool) → stands (cell_at cells place).digest q layout ≡ b
-        → cell_at (turned cells (cell_at cells place).digest layout) q
+        → cell_at (toggled cells (cell_at cells place).digest layout) q
         ≡ cond (stands (cell_at cells place).digest q layout) (mixed (cell_at cells q) (cell_at cells place).digest) (cell_at cells q)
         → (list_any (nat_eq q) pending || stands (cell_at cells place).digest q layout) ≡ true
     by true e same = ap (λ b. list_any (nat_eq q) pending || b) e ∙ or_true (list_any (nat_eq q) pending)
     by false e same =
         let d = (cell_at cells place).digest in
-        let within : q < length cells = subst (λ (n : ℕ). q < n) (length-turned cells d layout) h in
+        let within : q < length cells = subst (λ (n : ℕ). q < n) (length-toggled cells d layout) h in
         let as_before = same ∙ ap (λ b. cond b (mixed (cell_at cells q) d) (cell_at cells q)) e in
         let there = before_last pending place q
         (λ at. true≢false (sym (and_right (nat_eq (check d) (cell_at cells place).check) (stands d place layout) is)

@@ -68,7 +68,7 @@ use Rattle.cadf_sketch.specs.SketchVerdict.{
   sketch_model_or_fault,
 }
 use Rattle.cadf_sketch.specs.SketchLines.{AreCellsOf, IsCellPut, IsSketchOfLines}
-use Rattle.cadf_sketch.specs.SketchReads.{AnswersSketch, ReadsSketch, IsAccepted, IsSketchOfRead}
+use Rattle.cadf_sketch.specs.SketchReads.{AnswersSketch, ReadsSketch, AreAcceptedCells, IsSketchOfRead}
 use Rattle.cadf_sketch.specs.declared.cell.Cell.{Cell}
 use Rattle.cadf_sketch.specs.declared.head.Head.{Head}
 use Rattle.cadf_sketch.specs.declared.tally.Tally.{Tally}
@@ -193,7 +193,7 @@ accepted_whole limit false bytes lines v =
     ap (λ ls. is_whole (drop 2 ls)) same ∙ whole_sketch a.sketch a.is_sketch.parts
 
 pub is_accepted : (r : Result (List (List ℕ)) FileFault) (limit : ℕ) (failed : Bool) (bytes : List ℕ)
-    → frame.Answers (λ ls. ls) r (verdict sketch_grammar limit failed bytes) → IsAccepted r
+    → frame.Answers (λ ls. ls) r (verdict sketch_grammar limit failed bytes) → AreAcceptedCells r
 is_accepted (Ok lines) limit failed bytes v = accepted_whole limit failed bytes lines v
 is_accepted (Err e) limit failed bytes v = tt
 

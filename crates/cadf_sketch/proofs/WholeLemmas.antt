@@ -15,7 +15,7 @@ use Rattle.sha2.specs.Sha256.{sha256, digest_bytes, final_hash, initial_hash_256
 use Rattle.sha2.proofs.Facts256.{length-sha256}
 use Rattle.cadf_inventory.specs.InventoryFile.{inventory_text, inventory_digest}
 use Rattle.cadf_sketch.specs.Layouts.{LayoutModel, IsLayout}
-use Rattle.cadf_sketch.specs.Cells.{word, check, place_in, each_xor, nothing, mixed, mixed_at, cell_at, turned, turned_all}
+use Rattle.cadf_sketch.specs.Cells.{word, check, place_in, each_xor, nothing, mixed, mixed_at, cell_at, toggled, toggled_all}
 use Rattle.cadf_sketch.specs.Peeling.{Peels, none, more}
 use Rattle.cadf_sketch.specs.Refusals.{differing}
 use Rattle.cadf_sketch.specs.Sketches.{SketchModel, cells_of, sketch_of}
@@ -23,7 +23,7 @@ use Rattle.cadf_sketch.specs.SketchFile.{AreWords64, IsTally, IsCell, HasParts}
 use Rattle.cadf_sketch.specs.Tallies.{with_bits, tallied, tallied_all, tally_of}
 use Rattle.cadf_sketch.specs.declared.cell.Cell.{Cell}
 use Rattle.cadf_sketch.specs.declared.tally.Tally.{Tally}
-use Rattle.cadf_sketch.proofs.CellLemmas.{length-turned_all}
+use Rattle.cadf_sketch.proofs.CellLemmas.{length-toggled_all}
 use Rattle.cadf_sketch.proofs.LineLemmas.{append_fits, high_fits}
 
 -- ---- the XOR of two digests
@@ -59,16 +59,16 @@ mixed_cells [] place d p q = tt
 mixed_cells (c ∷ cells) zero d p q = (mixed_cell c d p.0 q, p.1)
 mixed_cells (c ∷ cells) (suc place) d p q = (p.0, mixed_cells cells place d p.1 q)
 
-turned_cells : (cells : List Cell) (d : List ℕ) (l : LayoutModel) → AreCells cells → IsDigest d → AreCells (turned cells d l)
-unfolding turned
-turned_cells cells d l p q =
+toggled_cells : (cells : List Cell) (d : List ℕ) (l : LayoutModel) → AreCells cells → IsDigest d → AreCells (toggled cells d l)
+unfolding toggled
+toggled_cells cells d l p q =
     let first = mixed_cells cells (place_in 0 d l) d p q in
     let second = mixed_cells (mixed_at cells (place_in 0 d l) d) (place_in 1 d l) d first q in
     mixed_cells (mixed_at (mixed_at cells (place_in 0 d l) d) (place_in 1 d l) d) (place_in 2 d l) d second q
 
-all_turned : (cells : List Cell) (ds : List (List ℕ)) (l : LayoutModel) → AreCells cells → AllByRecursion IsDigest ds → AreCells (turned_all cells ds l)
+all_turned : (cells : List Cell) (ds : List (List ℕ)) (l : LayoutModel) → AreCells cells → AllByRecursion IsDigest ds → AreCells (toggled_all cells ds l)
 all_turned cells [] l p q = p
-all_turned cells (d ∷ ds) l p q = all_turned (turned cells d l) ds l (turned_cells cells d l p q.0) q.1
+all_turned cells (d ∷ ds) l p q = all_turned (toggled cells d l) ds l (toggled_cells cells d l p q.0) q.1
 
 cell_is : (cells : List Cell) (place : ℕ) → AreCells cells → place < length cells → IsCell (cell_at cells place)
 cell_is [] place p below = absurd (omega (arith, below))
@@ -83,7 +83,7 @@ taken_are l start taken rest p (more {taken = before} {cells = cells} place chai
     let both = taken_are l start before cells p chain in
     let d = (cell_at cells place).digest in
     let is = (cell_is cells place both.1 within).digest in
-    (digests_push IsDigest before d both.0 is, turned_cells cells d l both.1 is)
+    (digests_push IsDigest before d both.0 is, toggled_cells cells d l both.1 is)
 
 -- the same for the cells of a sketch into which an inventory was XORed
 pub peeled_are : (own : InventoryModel) (sketch : SketchModel) (taken : List Text) (rest : List Cell) → AreDigests own.digests → HasParts sketch
@@ -151,5 +151,5 @@ sketch_parts n l are layout salt = record {
   head = record { layout = layout; salt = salt; digest = sha_digest (inventory_text n) };
   tally = tally_fits (rising n.digests);
   cells = all_turned (replicate (3 * l.size) nothing) (rising n.digests) l (empty_cells (3 * l.size)) (each_digest n.digests are);
-  count = length-turned_all (replicate (3 * l.size) nothing) (rising n.digests) l ∙ length-replicate (3 * l.size) nothing;
+  count = length-toggled_all (replicate (3 * l.size) nothing) (rising n.digests) l ∙ length-replicate (3 * l.size) nothing;
 }

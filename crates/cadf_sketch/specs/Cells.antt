@@ -4,8 +4,8 @@
 --     place_in table d l    the digest's place in the table
 --     cell_at cells place  the cell at that place
 --     mixed cell d         the cell with the digest XORed in, which adds or removes it
---     turned cells d l  the cells with the digest XORed into its three cells
---     turned_all           the same with each of the digests in turn
+--     toggled cells d l  the cells with the digest XORed into its three cells
+--     toggled_all           the same with each of the digests in turn
 --     mixed_all cell ds    the cell with each of the digests XORed in
 --     stands d place l  one of the digest's three cells is at that place
 --     is_lone cell place l  the cell seems to have one digest alone: its check is that of its digest, which has a cell at that place
@@ -41,12 +41,12 @@ cell_at cells place = get_or cells place (record { digest = []; check = 0 })
 abbrev pub mixed_at : List Cell → ℕ → List ℕ → List Cell
 mixed_at cells place d = set cells place (mixed (cell_at cells place) d)
 
-unfoldable pub turned : List Cell → List ℕ → LayoutModel → List Cell
-turned cells d l = mixed_at (mixed_at (mixed_at cells (place_in 0 d l) d) (place_in 1 d l) d) (place_in 2 d l) d
+unfoldable pub toggled : List Cell → List ℕ → LayoutModel → List Cell
+toggled cells d l = mixed_at (mixed_at (mixed_at cells (place_in 0 d l) d) (place_in 1 d l) d) (place_in 2 d l) d
 
-abbrev pub turned_all : List Cell → List (List ℕ) → LayoutModel → List Cell
-turned_all cells [] l = cells
-turned_all cells (d ∷ ds) l = turned_all (turned cells d l) ds l
+abbrev pub toggled_all : List Cell → List (List ℕ) → LayoutModel → List Cell
+toggled_all cells [] l = cells
+toggled_all cells (d ∷ ds) l = toggled_all (toggled cells d l) ds l
 
 abbrev pub stands : List ℕ → ℕ → LayoutModel → Bool
 stands d place l = nat_eq place (place_in 0 d l) || nat_eq place (place_in 1 d l) || nat_eq place (place_in 2 d l)

@@ -9,7 +9,7 @@ use Rattle.cadf_join.specs.Sets.{rising}
 use Rattle.cadf_join.specs.Contents.{Text}
 use Rattle.cadf_set.specs.Inventory.{InventoryModel}
 use Rattle.cadf_inventory.specs.InventoryFile.{inventory_digest}
-use Rattle.cadf_sketch.specs.Cells.{turned_all}
+use Rattle.cadf_sketch.specs.Cells.{toggled_all}
 use Rattle.cadf_sketch.specs.Flips.{flipped}
 use Rattle.cadf_sketch.specs.Peeling.{Peels, HasNoLone}
 use Rattle.cadf_sketch.specs.Sketches.{SketchModel}
@@ -19,7 +19,7 @@ use Rattle.cadf_sketch.specs.declared.reading.ReadFault.{ReadFault}
 use Rattle.cadf_sketch.specs.declared.reading.ReadFault.TheVariants.{OtherLog, TooFewCells, Memory}
 
 abbrev pub differing : InventoryModel → SketchModel → List Cell
-differing own sketch = turned_all sketch.cells (rising own.digests) sketch.layout
+differing own sketch = toggled_all sketch.cells (rising own.digests) sketch.layout
 
 pub record IsPeeled (own : InventoryModel) (sketch : SketchModel) (theirs : InventoryModel) : Type 0 where
   pub taken : List Text

@@ -29,9 +29,9 @@ pub record ReadsSketch (limit : ℕ) (old new : Option (List ℕ)) (before after
   pub end : failed ≡ false → sketch_decided limit bytes ≡ None → (answer ≡ Err Memory) ⊎ IsAtEnd new
 
 -- lines that were accepted up to their digest line include all cells
-abbrev pub IsAccepted : Result SketchLines FileFault → Type 0
-IsAccepted (Ok lines) = is_whole (drop 2 lines) ≡ true
-IsAccepted (Err fault) = Unit {0}
+abbrev pub AreAcceptedCells : Result SketchLines FileFault → Type 0
+AreAcceptedCells (Ok lines) = is_whole (drop 2 lines) ≡ true
+AreAcceptedCells (Err fault) = Unit {0}
 
 -- the sketch is that of the lines; a fault is returned unchanged
 abbrev pub IsSketchOfRead : Result SketchLines FileFault → Result Sketch FileFault → Type 0

@@ -70,13 +70,13 @@ head_in_words text = headed (laid_out (number_in (first_word text)) (number_in (
 abbrev pub head_in : List ℕ → Option Head
 head_in line = if starts_with nat_eq line (codes "S ") then head_in_words (drop 2 line) else None
 
-abbrev pub counted : Option (List ℕ) → Option Tally
-counted None = None
-counted (Some []) = None
-counted (Some (n ∷ ns)) = Some (record { digests = n; ones = ns })
+abbrev pub tally_in_numbers : Option (List ℕ) → Option Tally
+tally_in_numbers None = None
+tally_in_numbers (Some []) = None
+tally_in_numbers (Some (n ∷ ns)) = Some (record { digests = n; ones = ns })
 
 unfoldable pub counts_in_words : List ℕ → Option Tally
-counts_in_words text = counted (numbers_in 64 text)
+counts_in_words text = tally_in_numbers (numbers_in 64 text)
 
 abbrev pub tally_in : List ℕ → Option Tally
 tally_in line = if starts_with nat_eq line (codes "C ") then counts_in_words (drop 2 line) else None

@@ -11,7 +11,7 @@ use Rattle.cadf_set.specs.Inventory.{InventoryModel}
 use Rattle.cadf_line.specs.Missing.{Digests}
 use Rattle.cadf_inventory.specs.InventoryFile.{inventory_digest}
 use Rattle.cadf_sketch.specs.Layouts.{LayoutModel, coded_layout, layout_with}
-use Rattle.cadf_sketch.specs.Cells.{nothing, turned_all, word}
+use Rattle.cadf_sketch.specs.Cells.{nothing, toggled_all, word}
 use Rattle.cadf_sketch.specs.Tallies.{tally_of}
 use Rattle.cadf_sketch.specs.declared.cell.Cell.{Cell}
 use Rattle.cadf_sketch.specs.declared.tally.Tally.{Tally}
@@ -40,7 +40,7 @@ coded_sketch =
 
 -- three tables of empty cells, with each of the digests XORed in
 unfoldable pub cells_of : Digests → LayoutModel → List Cell
-cells_of s layout = turned_all (replicate (3 * layout.size) nothing) (rising s) layout
+cells_of s layout = toggled_all (replicate (3 * layout.size) nothing) (rising s) layout
 
 unfoldable pub sketch_of : InventoryModel → LayoutModel → SketchModel
 sketch_of n layout = record {

@@ -16,7 +16,7 @@ mod sketch_lines;
 mod sketch_read;
 mod sketch_write;
 mod tally;
-mod turn;
+mod toggle;
 
 pub use answer::missing_by_sketch;
 pub use cell::Cell;

@@ -1,12 +1,12 @@
 //! Removes lone digests from the cells of a sketch, one after another.
 ghost use Rattle.std.specs.Prelude.{◌≡◌, ◌<◌, ◌≤◌, ◌*◌, ◌+◌, ◌⊎◌, ◌++◌, ◌∷◌, [], List, length, vec_len, OnOk, IfOk};
-ghost use Rattle.cadf_sketch.specs.Peeling.{Peels, HasNoLone, Awaits, ArePlaces, places_of};
+ghost use Rattle.cadf_sketch.specs.Peeling.{Peels, HasNoLone, Awaits, ArePlaces, three_places};
 ghost use Rattle.cadf_sketch.specs.Layouts.{LayoutModel};
 ghost use Rattle.cadf_sketch.specs.declared.cell.Cell.{Cell};
 
 use crate::cell::{Cell, place_in};
 use crate::layout::Layout;
-use crate::turn::turn;
+use crate::toggle::toggle;
 use cadf_json::Memory;
 use std::alloc::Global;
 
@@ -25,7 +25,7 @@ fn all_places(alloc: Global, count: usize) -> Result<Vec<usize>, Memory>
 
 /// Adds the places of the digest's three cells.
 fn push_places(pending: &mut Vec<usize>, digest: &[u8; 32], layout: Layout) -> Result<(), Memory>
-    ensures items { OnOk result (pending.new.items ≡ pending.old.items ++ places_of digest.now layout) }
+    ensures items { OnOk result (pending.new.items ≡ pending.old.items ++ three_places digest.now layout) }
     ensures below { OnOk result (ArePlaces (3 * layout.size) pending.old.items → ArePlaces (3 * layout.size) pending.new.items) }
 {
     pending.push(place_in(0, digest, layout))?;
@@ -57,7 +57,7 @@ fn take_lone(
         return Ok(());
     }
     taken.push(cell.digest)?;
-    turn(cells, &cell.digest, layout);
+    toggle(cells, &cell.digest, layout);
     push_places(pending, &cell.digest, layout)?;
     Ok(())
 }

@@ -9,7 +9,7 @@ ghost use Rattle.cadf_sketch.specs.Refusals.{differing, IsPeeled, IsReadFault};
 use crate::cell::Cell;
 use crate::flip::{flip, of_taken};
 use crate::peel::peel;
-use crate::sketch::{Sketch, tally, turn_all};
+use crate::sketch::{Sketch, tally, toggle_all};
 use cadf_inventory::inventory_digest;
 use cadf_json::Memory;
 use cadf_set::Inventory;
@@ -47,7 +47,7 @@ fn differing(alloc: Global, own: &Inventory, sketch: &Sketch) -> Result<Vec<Cell
     ensures length { IfOk result (λ cells. vec_len cells ≡ 3 * sketch.now.layout.size) }
 {
     let mut cells = Vec::from_slice(alloc, sketch.cells())?;
-    turn_all(&mut cells, own, sketch.layout());
+    toggle_all(&mut cells, own, sketch.layout());
     Ok(cells)
 }
 

@@ -2,7 +2,7 @@
 ghost use Rattle.std.specs.Prelude.{◌≡◌, ◌*◌, ◌/◌, ◌+◌, IfOk, length, replicate, unwrap_or};
 ghost use Rattle.cadf_join.specs.Sets.{rising};
 ghost use Rattle.cadf_inventory.specs.InventoryFile.{inventory_digest};
-ghost use Rattle.cadf_sketch.specs.Cells.{nothing, turned_all, word};
+ghost use Rattle.cadf_sketch.specs.Cells.{nothing, toggled_all, word};
 ghost use Rattle.cadf_event.specs.Known.{IsNameText};
 ghost use Rattle.cadf_sketch.specs.SketchFile.{HasParts};
 ghost use Rattle.cadf_sketch.specs.Sketches.{sketch_of, asked};
@@ -13,7 +13,7 @@ use crate::cell::Cell;
 use crate::head::Head;
 use crate::layout::{Cells, Layout, Salt};
 use crate::tally::Tally;
-use crate::turn::turn;
+use crate::toggle::toggle;
 use cadf_event::Name;
 use cadf_inventory::inventory_digest;
 use cadf_json::Memory;
@@ -52,13 +52,13 @@ fn empty_cells(alloc: Global, count: usize) -> Result<Vec<Cell>, Memory>
 }
 
 /// Mixes each digest of the inventory into its cells by XOR.
-pub(crate) fn turn_all(cells: &mut [Cell], inventory: &Inventory, layout: Layout)
+pub(crate) fn toggle_all(cells: &mut [Cell], inventory: &Inventory, layout: Layout)
     requires { length cells.old ≡ 3 * layout.size }
-    ensures cells { cells.new ≡ turned_all cells.old (rising inventory.now.digests) layout }
+    ensures cells { cells.new ≡ toggled_all cells.old (rising inventory.now.digests) layout }
     ensures length { length cells.new ≡ length cells.old }
 {
     for digest in inventory.digests() {
-        turn(cells, digest, layout);
+        toggle(cells, digest, layout);
     }
 }
 
@@ -113,7 +113,7 @@ impl Sketch {
         inventory.type_invariant();
         layout.type_invariant();
         let mut cells = empty_cells(alloc, layout.cells())?;
-        turn_all(&mut cells, inventory, layout);
+        toggle_all(&mut cells, inventory, layout);
         Ok(Sketch {
             log: inventory.log().copy(alloc)?,
             layout,

@@ -2,7 +2,7 @@
 
 ghost use Rattle.std.specs.Prelude.{◌≡◌, ◌≤◌, ◌+◌, ◌<◌, ◌^◌, ℕ, List, min, false, Some};
 ghost use Rattle.cadf_linefile.specs.Verdict.{verdict};
-ghost use Rattle.cadf_sketch.specs.SketchReads.{ReadsSketch, AnswersSketch, IsAccepted, IsSketchOfRead};
+ghost use Rattle.cadf_sketch.specs.SketchReads.{ReadsSketch, AnswersSketch, AreAcceptedCells, IsSketchOfRead};
 ghost use Rattle.cadf_sketch.specs.SketchVerdict.{sketch_verdict};
 
 use crate::sketch::Sketch;
@@ -31,7 +31,7 @@ pub fn read_sketch<S: Source>(
 
 /// Returns the sketch that the lines encode.
 fn sketch_of(read: Result<SketchLines, FileFault>) -> Result<Sketch, FileFault>
-    requires { IsAccepted read }
+    requires { AreAcceptedCells read }
     ensures { IsSketchOfRead read result }
 {
     match read {

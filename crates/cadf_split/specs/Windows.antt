@@ -1,9 +1,9 @@
 -- The windows of time, and the part of an atom.
---     year_of, month_of, day_of day   the civil date of a day number, of the years 0 to 9999
+--     window_year, window_month, day_of day  the civil date of a day number, of the years 0 to 9999
 --     window unit instant             the window of UTC that contains an instant: its century, the year in that, the month, the day and the hour,
 --                                     as five numbers, with 0 for each that the unit hasn't
---     shared                          the key of the atoms that are no event's: five zeros. No window has it, since months count from 1
---     key unit q                      the key of the part of an atom: the window of its body's instant, or `shared`
+--     shared_key                      the key of the atoms that are no event's: five zeros. No window has it, since months count from 1
+--     key unit q                      the key of the part of an atom: the window of its body's instant, or `shared_key`
 --     name unit k                     the name of a part
 use Rattle.std.specs.Prelude.{ℕ, ◌+◌, ◌/◌, ◌%◌, not, cond, List, [], ◌∷◌, ◌++◌, codes, ℤ, pos, neg_ℤ, ◌-ℤ◌, ◌≤ℤ◌, int_lt, unsigned_abs}
 use Rattle.std.specs.Int.{int_div_euclid, int_rem_euclid}
@@ -17,14 +17,14 @@ use Rattle.cadf_split.specs.declared.unit.Unit.TheVariants.{Month, Day, Hour}
 use Rattle.cadf_split.specs.Parts.{part_by, keys_by}
 
 -- the last year that doesn't begin after the day, the last month of it that doesn't, and the day in that month
-abbrev pub year_of : ℤ → ℕ
-year_of day = last_passing (λ y. not (int_lt day (days_from_civil (pos y) 1 1))) 9999
+abbrev pub window_year : ℤ → ℕ
+window_year day = last_passing (λ y. not (int_lt day (days_from_civil (pos y) 1 1))) 9999
 
-abbrev pub month_of : ℤ → ℕ
-month_of day = last_passing (λ m. not (int_lt day (days_from_civil (pos (year_of day)) m 1))) 12
+abbrev pub window_month : ℤ → ℕ
+window_month day = last_passing (λ m. not (int_lt day (days_from_civil (pos (window_year day)) m 1))) 12
 
 abbrev pub day_of : ℤ → ℕ
-day_of day = unsigned_abs (day -ℤ days_from_civil (pos (year_of day)) (month_of day) 1) + 1
+day_of day = unsigned_abs (day -ℤ days_from_civil (pos (window_year day)) (window_month day) 1) + 1
 
 -- the numbers that the unit has, and 0 for the others
 abbrev pub numbers : Unit → (year month day hour : ℕ) → Text
@@ -46,25 +46,25 @@ hour_of instant = unsigned_abs (int_rem_euclid instant (pos nanos_of_day)) / 3_6
 unfoldable pub window : Unit → ℤ → Text
 window unit instant =
     let day = day_number instant in
-    numbers unit (year_of day) (month_of day) (day_of day) (hour_of instant)
+    numbers unit (window_year day) (window_month day) (day_of day) (hour_of instant)
 
-abbrev pub shared : Text
-shared = 0 ∷ 0 ∷ 0 ∷ 0 ∷ 0 ∷ []
+abbrev pub shared_key : Text
+shared_key = 0 ∷ 0 ∷ 0 ∷ 0 ∷ 0 ∷ []
 
 -- the body of an event's atom is its third text
 abbrev pub window_of : Unit → Texts → Text
 window_of unit (letter ∷ id ∷ body ∷ rest) = window unit (body_instant body)
-window_of unit _ = shared
+window_of unit _ = shared_key
 
 abbrev pub key : Unit → Texts → Text
-key unit q = cond (begins_with event_letter q) (window_of unit q) shared
+key unit q = cond (begins_with event_letter q) (window_of unit q) shared_key
 
 abbrev pub part : Unit → Text → Contents → Contents
 part unit k s = part_by (key unit) k s
 
--- the keys of the parts that have an atom: `shared` first, then the windows in order of time
-abbrev pub keys : Unit → Contents → List Text
-keys unit s = keys_by (key unit) s
+-- the keys of the parts that have an atom: `shared_key` first, then the windows in order of time
+abbrev pub part_keys : Unit → Contents → List Text
+part_keys unit s = keys_by (key unit) s
 
 -- ---- names
 
@@ -81,7 +81,7 @@ window_name Hour (century ∷ year ∷ month ∷ day ∷ hour ∷ []) = day_text
 window_name unit _ = []
 
 abbrev pub name : Unit → Text → Text
-name unit k = cond (is_text k shared) (codes "shared") (window_name unit k)
+name unit k = cond (is_text k shared_key) (codes "shared") (window_name unit k)
 
 abbrev pub unit_word : Unit → Text
 unit_word Month = codes "month"

@@ -10,14 +10,14 @@ ghost use Rattle.cadf_atom.specs.Contributions.{union_all};
 ghost use Rattle.cadf_set.specs.Ruled.{is_conflicted};
 ghost use Rattle.cadf_split.specs.declared.unit.Unit.{Unit};
 ghost use Rattle.cadf_split.specs.Parts.{IsInTwoParts};
-ghost use Rattle.cadf_split.specs.Windows.{key, part, keys};
+ghost use Rattle.cadf_split.specs.Windows.{key, part, part_keys};
 
 /// States that each atom of a set is in exactly one part, that the parts with an atom are the set together, and that
 /// each part of a replica's set is one.
 pub fn parts_are_the_set()
     ensures disjoint { (unit : Unit) (k l : Text) (s : Contents) (q : Texts) → Has (part unit k s) q → Has (part unit l s) q → k ≡ l }
-    ensures together { (unit : Unit) (s : Contents) → union_all (map (λ k. part unit k s) (keys unit s)) ≡ s }
-    ensures not_empty { (unit : Unit) (k : Text) (s : Contents) → Listed k (keys unit s) ↔ ((q : Texts) × Has (part unit k s) q) }
+    ensures together { (unit : Unit) (s : Contents) → union_all (map (λ k. part unit k s) (part_keys unit s)) ≡ s }
+    ensures not_empty { (unit : Unit) (k : Text) (s : Contents) → Listed k (part_keys unit s) ↔ ((q : Texts) × Has (part unit k s) q) }
     ensures grounded { (unit : Unit) (k : Text) (s : Contents) → IsGrounded s → IsGrounded (part unit k s) }
     ensures replica { (unit : Unit) (k : Text) (s : Contents) → IsReplicaSet s → IsReplicaSet (part unit k s) }
 {}
@@ -31,7 +31,7 @@ pub fn part_of_union()
 pub fn missing_of_parts()
     ensures part { (unit : Unit) (k : Text) (a b : Contents) → part unit k (missing a b) ≡ missing (part unit k a) (part unit k b) }
     ensures whole { (unit : Unit) (a b : Contents) → IsGrounded a
-        → union_all (map (λ k. missing (part unit k a) (part unit k b)) (keys unit a)) ≡ missing a b }
+        → union_all (map (λ k. missing (part unit k a) (part unit k b)) (part_keys unit a)) ≡ missing a b }
 {}
 
 /// States that the delta for an inventory is made of the parts' deltas for that inventory. If no two atoms share a
@@ -40,11 +40,11 @@ pub fn missing_by_of_parts()
     ensures part { (unit : Unit) (digest : Texts → Text) (k : Text) (a : Contents) (known : Digests)
         → part unit k (missing_by digest a known) ≡ missing_by digest (part unit k a) known }
     ensures whole { (unit : Unit) (digest : Texts → Text) (a : Contents) (known : Digests) → IsGrounded a
-        → union_all (map (λ k. missing_by digest (part unit k a) known) (keys unit a)) ≡ missing_by digest a known }
+        → union_all (map (λ k. missing_by digest (part unit k a) known) (part_keys unit a)) ≡ missing_by digest a known }
     ensures own_part { (unit : Unit) (digest : Texts → Text) (k : Text) (a b : Contents) → NoCollision digest (set.union a b)
         → missing_by digest (part unit k a) (digests_of digest (part unit k b)) ≡ part unit k (missing_by digest a (digests_of digest b)) }
     ensures own_whole { (unit : Unit) (digest : Texts → Text) (a b : Contents) → IsGrounded a → NoCollision digest (set.union a b)
-        → union_all (map (λ k. missing_by digest (part unit k a) (digests_of digest (part unit k b))) (keys unit a))
+        → union_all (map (λ k. missing_by digest (part unit k a) (digests_of digest (part unit k b))) (part_keys unit a))
         ≡ missing_by digest a (digests_of digest b) }
 {}
 

@@ -6,7 +6,7 @@ use Rattle.cadf_json.specs.declared.stream.Source.{Ghosts as Source}
 use Rattle.cadf_event.specs.Parts.{EachPair}
 use Rattle.cadf_atom.specs.AtomSets.{IsReplicaSet}
 use Rattle.cadf_set.specs.Replica.{ReplicaModel}
-use Rattle.cadf_tool.specs.WrittenFile.{file}
+use Rattle.cadf_tool.specs.WrittenFile.{written_file}
 use Rattle.cadf_tool.specs.declared.input.Loaded.{Loaded}
 use Rattle.cadf_tool.specs.declared.input.Loaded.TheVariants.{Replica}
 use Rattle.cadf_tool.specs.declared.fault.ToolFault.{ToolFault}
@@ -85,11 +85,11 @@ externals_read (b ∷ bs) (l ∷ ls) h = ((b, (refl, h.0), h.0), externals_read 
 -- the work on the inputs is the work on what their joined file is read as
 pub work_joined : {M : Type 0} (work : Loaded → Result M ToolFault) (files : List (List ℕ)) (ls ms : List Loaded) (h : ReplicaModel)
     → EachPair IsInput files ls → EachPair IsInput files ms → join_of None ls ≡ Ok h
-    → (loaded : Loaded) → IsInput (file h) loaded → of_union work ms ≡ work loaded
+    → (loaded : Loaded) → IsInput (written_file h) loaded → of_union work ms ≡ work loaded
 work_joined work files ls ms h read read' joined loaded input =
     let same : ms ≡ ls = each_same files ms ls read' read in
     let kept : IsReplicaSet h.atoms = join_kept None (externals files ls) ls h (externals_read files ls read) joined in
-    ap (of_union work) same ∙ made (join_of None ls) joined ∙ ap work (sym (loaded_file (file h) h loaded kept refl input))
+    ap (of_union work) same ∙ made (join_of None ls) joined ∙ ap work (sym (loaded_file (written_file h) h loaded kept refl input))
   where
     made : (r : Result ReplicaModel ToolFault) → r ≡ Ok h → on_ok r (λ k. work (Replica k)) ≡ work (Replica h)
     made r e = ap (λ x. on_ok x (λ k. work (Replica k))) e

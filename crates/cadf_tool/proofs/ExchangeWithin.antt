@@ -11,7 +11,7 @@ use Rattle.cadf_set.specs.Inventory.{InventoryModel}
 use Rattle.cadf_set.specs.Replica.{ReplicaModel}
 use Rattle.cadf_line.specs.RulingTexts.{RulingParts, ruling_atom}
 use Rattle.cadf_set.proofs.ContributionLaws.{kept_empty, kept_union}
-use Rattle.cadf_tool.specs.WrittenFile.{file}
+use Rattle.cadf_tool.specs.WrittenFile.{written_file}
 use Rattle.cadf_tool.specs.declared.input.Loaded.{Loaded}
 use Rattle.cadf_tool.specs.declared.input.Loaded.TheVariants.{Replica}
 use Rattle.cadf_tool.specs.Input.{IsInput}
@@ -94,7 +94,7 @@ join_kept log operands inputs h read joined = subst IsReplicaSet (sym (join_is l
 
 part_of_read : (from : Derivation) (one l : Loaded) (h : ReplicaModel) (bytes : List ℕ) → IsReadWithin from one → log_named one ≡ Some h.log
     → IsWithin h.atoms (atoms_loaded one) → IsReplicaSet h.atoms
-    → bytes ≡ file h → IsInput bytes l → IsReadWithin from l
+    → bytes ≡ written_file h → IsInput bytes l → IsReadWithin from l
 part_of_read from one l h bytes r name low kept is input =
     loaded_within from l h (loaded_file bytes h l kept is input) (record { log = sym r.log ∙ name; atoms = λ q k. r.atoms q (low q k) })
 

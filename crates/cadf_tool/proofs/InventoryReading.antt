@@ -11,7 +11,7 @@ use Rattle.cadf_tool.specs.InputFault.{of_file}
 use Rattle.cadf_tool.specs.Faults.{of_load}
 use Rattle.cadf_tool.specs.InventoryInput.{inventory_kind, inventory_spec}
 use Rattle.cadf_tool.specs.MissingBy.{IsInventoryInput}
-use Rattle.cadf_tool.specs.Run.{SourceTransition, numbered, IsReadAs, IsUnread}
+use Rattle.cadf_tool.specs.Run.{SourceTransition, with_number, IsReadAs, IsUnread}
 use Rattle.cadf_tool.proofs.KindReading.{IsDecidedFirst, kind_read, kind_unread}
 
 decided_first : IsDecidedFirst inventory_kind
@@ -35,7 +35,7 @@ module _ (t : SourceTransition) where
       let is = (accepts-inventories FILE_LIMIT p.0.0 n).0 p.0.1.2 in
       ((p.0.0, (p.0.1.0, p.0.1.1, record { is = is.0; within = is.1; inventory = is.2 })), p.1)
 
-  pub inventory_unread : (number : ℕ) (f : FileFault) → Reads (Err f) → IsUnread (numbered number inventory_spec t) (of_load number (of_file f))
+  pub inventory_unread : (number : ℕ) (f : FileFault) → Reads (Err f) → IsUnread (with_number number inventory_spec t) (of_load number (of_file f))
   inventory_unread number f r = kind_unread inventory_kind t (IsInventoryInput FILE_LIMIT) number f (record {
     failed = r.failed;
     bytes = r.bytes;

@@ -10,7 +10,7 @@ use Rattle.cadf_tool.specs.Input.{GivesAll}
 use Rattle.cadf_tool.specs.InputFault.{of_file}
 use Rattle.cadf_tool.specs.Faults.{of_load}
 use Rattle.cadf_tool.specs.FileKind.{FileKind, RefusesKind, kind_spec}
-use Rattle.cadf_tool.specs.Run.{SourceTransition, numbered, IsUnfailed, IsUnread}
+use Rattle.cadf_tool.specs.Run.{SourceTransition, with_number, IsUnfailed, IsUnread}
 
 -- the result is the verdict
 abbrev pub AnswersKind : {M : Type 0} → Result M FileFault → Result M FileFault → Type 0
@@ -90,7 +90,7 @@ module _ {M : Type 0} (kind : FileKind M) (t : SourceTransition) where
       trailing e = cc
 
   pub kind_unread : (is : List ℕ → M → Type 0) (number : ℕ) (f : FileFault) → ReadsKind kind t (Err f)
-      → IsUnread (numbered number (kind_spec kind is) t) (of_load number (of_file f))
+      → IsUnread (with_number number (kind_spec kind is) t) (of_load number (of_file f))
   kind_unread is number Version r = (refl, (refl, (Version, (λ e. cc), refl, refuses Version (λ e. cc) r r.verdict)))
   kind_unread is number LogLine r = (refl, (refl, (LogLine, (λ e. cc), refl, refuses LogLine (λ e. cc) r r.verdict)))
   kind_unread is number (Line n cause) r = (refl, (refl, (Line n cause, (λ e. cc), refl, refuses (Line n cause) (λ e. cc) r r.verdict)))

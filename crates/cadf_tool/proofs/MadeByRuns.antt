@@ -9,18 +9,18 @@ use Rattle.cadf_set.specs.Inventory.{InventoryModel}
 use Rattle.cadf_set.specs.Replica.{ReplicaModel}
 use Rattle.cadf_sketch.specs.SketchFile.{sketch_file}
 use Rattle.cadf_sketch.specs.Sketches.{SketchModel}
-use Rattle.cadf_tool.specs.WrittenFile.{file}
+use Rattle.cadf_tool.specs.WrittenFile.{written_file}
 use Rattle.cadf_linefile.specs.declared.file_feed.TheConstants.{FILE_LIMIT}
 use Rattle.cadf_tool.specs.declared.input.Loaded.{Loaded}
 use Rattle.cadf_tool.specs.declared.fault.ToolFault.{ToolFault}
 use Rattle.cadf_tool.specs.Told.{log_named, atoms_loaded, replica_model_of}
 use Rattle.cadf_tool.specs.Inputs.{SourceState, source_state}
-use Rattle.cadf_tool.specs.Run.{transition_of, Sources, one, two, all, input_spec, IsReadAs, IsValue, IsExpectedOfBy, IsAnswer, IsRun, IsRunBy}
+use Rattle.cadf_tool.specs.Run.{transition_of, Sources, one, two, all, input_spec, IsReadAs, IsValueOf, IsExpectedOfBy, IsAnswer, IsRun, IsRunBy}
 use Rattle.cadf_tool.specs.InventoryInput.{inventory_spec}
 use Rattle.cadf_tool.specs.SketchInput.{sketch_spec}
 use Rattle.cadf_tool.specs.Sketch.{AreAsked, sketch_model_of, IsPartBySketch, IsSketchInput}
 use Rattle.cadf_tool.specs.Join.{join_of}
-use Rattle.cadf_tool.specs.Missing.{part_of}
+use Rattle.cadf_tool.specs.Missing.{delta_between}
 use Rattle.cadf_tool.specs.MissingBy.{part_by, IsInventoryInput}
 use Rattle.cadf_tool.specs.Rule.{ruling_on, ruling_for, ruled_of}
 use Rattle.cadf_tool.specs.TwoTexts.{IsTextOfFile}
@@ -73,31 +73,31 @@ text_behind sink old new before bytes begun w =
 module _ {S W T : Type 0} (source : Source S) (sink : Sink W) (old new : W) (t : T) (before : List ℕ)
     (begun : sink.written old ≡ Some before) where
   pub join_makes : (log : Option Text) (operands : Operands) (inputs after : List S) → AreSources operands (map (source_state source) inputs)
-      → IsRun (all source inputs after) (join_of log) file sink old new (Ok t)
+      → IsRun (all source inputs after) (join_of log) written_file sink old new (Ok t)
       → (bytes : List ℕ) × (sink.written new ≡ Some (before ++ bytes)) × IsDerived (Joined log operands) bytes
-  join_makes log operands inputs after given run = by (run_ok (all source inputs after) (IsValue (join_of log)) file sink old new t run)
+  join_makes log operands inputs after given run = by (run_ok (all source inputs after) (IsValueOf (join_of log)) written_file sink old new t run)
     where
-      by : HasRun (all source inputs after) (IsValue (join_of log)) file sink old new t
+      by : HasRun (all source inputs after) (IsValueOf (join_of log)) written_file sink old new t
           → (bytes : List ℕ) × (sink.written new ≡ Some (before ++ bytes)) × IsDerived (Joined log operands) bytes
       by (loaded, h, read, joined, w) = (
-        file h,
-        text_behind sink old new before (file h) begun w,
+        written_file h,
+        text_behind sink old new before (written_file h) begun w,
         (loaded, are_read operands (map (source_state source) inputs) (map (source_state source) after) loaded given read, (h, joined, refl)),
       )
 
   pub missing_makes : (from to : Derivation) (input other after other_after : S) → GivesFile (λ b. IsDerived from b) (source_state source input)
       → GivesFile (λ b. IsDerived to b) (source_state source other)
-      → IsRun (two input_spec (transition_of source input after) input_spec (transition_of source other other_after)) part_of file sink old new (Ok t)
+      → IsRun (two input_spec (transition_of source input after) input_spec (transition_of source other other_after)) delta_between written_file sink old new (Ok t)
       → (bytes : List ℕ) × (sink.written new ≡ Some (before ++ bytes)) × IsPartOf (λ b. IsDerived from b) (λ b. IsDerived to b) bytes
   missing_makes from to input other after other_after s u run =
       by (run_ok (two input_spec (transition_of source input after) input_spec (transition_of source other other_after))
-      (IsValue part_of) file sink old new t run)
+      (IsValueOf delta_between) written_file sink old new t run)
     where
-      by : HasRun (two input_spec (transition_of source input after) input_spec (transition_of source other other_after)) (IsValue part_of) file sink old new t
+      by : HasRun (two input_spec (transition_of source input after) input_spec (transition_of source other other_after)) (IsValueOf delta_between) written_file sink old new t
           → (bytes : List ℕ) × (sink.written new ≡ Some (before ++ bytes)) × IsPartOf (λ b. IsDerived from b) (λ b. IsDerived to b) bytes
       by ((first, second), h, (r, k), made, w) = (
-        file h,
-        text_behind sink old new before (file h) begun w,
+        written_file h,
+        text_behind sink old new before (written_file h) begun w,
         (
           first,
           second,
@@ -113,9 +113,9 @@ module _ {S W T : Type 0} (source : Source S) (sink : Sink W) (old new : W) (t :
       → IsRun (one input_spec (transition_of source input after)) work tell sink old new (Ok t)
       → (bytes : List ℕ) × (sink.written new ≡ Some (before ++ bytes)) × IsOutputOf work tell (λ b. IsDerived m b) bytes
   output_makes work tell m input after s run =
-      by (run_ok (one input_spec (transition_of source input after)) (IsValue work) tell sink old new t run)
+      by (run_ok (one input_spec (transition_of source input after)) (IsValueOf work) tell sink old new t run)
     where
-      by : HasRun (one input_spec (transition_of source input after)) (IsValue work) tell sink old new t
+      by : HasRun (one input_spec (transition_of source input after)) (IsValueOf work) tell sink old new t
           → (bytes : List ℕ) × (sink.written new ≡ Some (before ++ bytes)) × IsOutputOf work tell (λ b. IsDerived m b) bytes
       by (loaded, made, r, worked, w) = (
         tell made,
@@ -124,20 +124,20 @@ module _ {S W T : Type 0} (source : Source S) (sink : Sink W) (old new : W) (t :
       )
 
   pub rule_makes : (letter key : Text) (place : ℕ) (m : Derivation) (input after : S) → GivesFile (λ b. IsDerived m b) (source_state source input)
-      → IsRun (one input_spec (transition_of source input after)) (ruled_of letter key place) file sink old new (Ok t)
+      → IsRun (one input_spec (transition_of source input after)) (ruled_of letter key place) written_file sink old new (Ok t)
       → (value : Text) × (bytes : List ℕ) × (sink.written new ≡ Some (before ++ bytes))
       × IsDerived (Ruled place (ruling_on letter key value) m) bytes
   rule_makes letter key place m input after s run =
-      by (run_ok (one input_spec (transition_of source input after)) (IsValue (ruled_of letter key place)) file sink old new t run)
+      by (run_ok (one input_spec (transition_of source input after)) (IsValueOf (ruled_of letter key place)) written_file sink old new t run)
     where
-      by : HasRun (one input_spec (transition_of source input after)) (IsValue (ruled_of letter key place)) file sink old new t
+      by : HasRun (one input_spec (transition_of source input after)) (IsValueOf (ruled_of letter key place)) written_file sink old new t
           → (value : Text) × (bytes : List ℕ) × (sink.written new ≡ Some (before ++ bytes))
           × IsDerived (Ruled place (ruling_on letter key value) m) bytes
       by (loaded, h, r, made, w) =
           let ruled = ruled_is letter key place (log_named loaded) (atoms_loaded loaded) h made in (
             ruled.value,
-            file h,
-            text_behind sink old new before (file h) begun w,
+            written_file h,
+            text_behind sink old new before (written_file h) begun w,
             (
               loaded,
               read_of (λ b. IsDerived m b) (source_state source input) (source_state source after) loaded s r,
@@ -154,18 +154,18 @@ module _ {S W T : Type 0} (source : Source S) (sink : Sink W) (old new : W) (t :
 
   pub missing_by_makes : (from to : Derivation) (input by after by_after : S) → GivesFile (λ b. IsDerived from b) (source_state source input)
       → GivesFile (IsInventoryOf (λ b. IsDerived to b)) (source_state source by)
-      → IsRun (two input_spec (transition_of source input after) inventory_spec (transition_of source by by_after)) part_by file sink old new (Ok t)
+      → IsRun (two input_spec (transition_of source input after) inventory_spec (transition_of source by by_after)) part_by written_file sink old new (Ok t)
       → (bytes : List ℕ) × (sink.written new ≡ Some (before ++ bytes)) × IsPartByOf (λ b. IsDerived from b) (λ b. IsDerived to b) bytes
   missing_by_makes from to input by after by_after s u run =
       made_by (run_ok (two input_spec (transition_of source input after) inventory_spec (transition_of source by by_after))
-      (IsValue part_by) file sink old new t run)
+      (IsValueOf part_by) written_file sink old new t run)
     where
       made_by : HasRun (two input_spec (transition_of source input after) inventory_spec (transition_of source by by_after))
-          (IsValue part_by) file sink old new t
+          (IsValueOf part_by) written_file sink old new t
           → (bytes : List ℕ) × (sink.written new ≡ Some (before ++ bytes)) × IsPartByOf (λ b. IsDerived from b) (λ b. IsDerived to b) bytes
       made_by ((loaded, noted), h, (r, k), made, w) = (
-        file h,
-        text_behind sink old new before (file h) begun w,
+        written_file h,
+        text_behind sink old new before (written_file h) begun w,
         (
           loaded,
           noted,
@@ -180,9 +180,9 @@ module _ {S W T : Type 0} (source : Source S) (sink : Sink W) (old new : W) (t :
       → IsRun (one input_spec (transition_of source input after)) (sketch_model_of cells salt) sketch_file sink old new (Ok t)
       → (noted : InventoryModel) × (bytes : List ℕ) × (sink.written new ≡ Some (before ++ bytes)) × IsSketchOf (λ b. IsDerived to b) noted bytes
   sketch_makes cells salt to input after given s run =
-      by (run_ok (one input_spec (transition_of source input after)) (IsValue (sketch_model_of cells salt)) sketch_file sink old new t run)
+      by (run_ok (one input_spec (transition_of source input after)) (IsValueOf (sketch_model_of cells salt)) sketch_file sink old new t run)
     where
-      by : HasRun (one input_spec (transition_of source input after)) (IsValue (sketch_model_of cells salt)) sketch_file sink old new t
+      by : HasRun (one input_spec (transition_of source input after)) (IsValueOf (sketch_model_of cells salt)) sketch_file sink old new t
           → (noted : InventoryModel) × (bytes : List ℕ) × (sink.written new ≡ Some (before ++ bytes)) × IsSketchOf (λ b. IsDerived to b) noted bytes
       by (loaded, sketch, r, made, w) =
           let of_noted = sketched_is cells salt loaded sketch made in (
@@ -208,20 +208,20 @@ module _ {S W T : Type 0} (source : Source S) (sink : Sink W) (old new : W) (t :
 
   pub missing_by_sketch_makes : (from to : Derivation) (sketched : InventoryModel) (input by after by_after : S)
       → GivesFile (λ b. IsDerived from b) (source_state source input) → GivesFile (IsSketchOf (λ b. IsDerived to b) sketched) (source_state source by)
-      → IsRunBy (two input_spec (transition_of source input after) sketch_spec (transition_of source by by_after)) IsPartBySketch file sink old new (Ok t)
+      → IsRunBy (two input_spec (transition_of source input after) sketch_spec (transition_of source by by_after)) IsPartBySketch written_file sink old new (Ok t)
       → (read : InventoryModel) × (bytes : List ℕ) × (sink.written new ≡ Some (before ++ bytes))
       × IsPartBySketchOf (λ b. IsDerived from b) (λ b. IsDerived to b) sketched read bytes
   missing_by_sketch_makes from to sketched input by after by_after s u run =
-      made_by (run_ok (two input_spec (transition_of source input after) sketch_spec (transition_of source by by_after)) IsPartBySketch file sink old new t run)
+      made_by (run_ok (two input_spec (transition_of source input after) sketch_spec (transition_of source by by_after)) IsPartBySketch written_file sink old new t run)
     where
-      made_by : HasRun (two input_spec (transition_of source input after) sketch_spec (transition_of source by by_after)) IsPartBySketch file sink old new t
+      made_by : HasRun (two input_spec (transition_of source input after) sketch_spec (transition_of source by by_after)) IsPartBySketch written_file sink old new t
           → (read : InventoryModel) × (bytes : List ℕ) × (sink.written new ≡ Some (before ++ bytes))
           × IsPartBySketchOf (λ b. IsDerived from b) (λ b. IsDerived to b) sketched read bytes
       made_by ((loaded, sketch), h, (r, k), made, w) =
           let of_read = answer_read loaded sketch h made in (
             of_read.0,
-            file h,
-            text_behind sink old new before (file h) begun w,
+            written_file h,
+            text_behind sink old new before (written_file h) begun w,
             (
               loaded,
               sketch,
@@ -240,9 +240,9 @@ module _ {S W T : Type 0} (source : Source S) (sink : Sink W) (old new : W) (t :
   pub text_makes : (m : Derivation) (input after : S) → GivesFile (λ b. IsDerived m b) (source_state source input)
       → IsRun (one input_spec (transition_of source input after)) replica_model_of tell sink old new (Ok t)
       → (text : Text) × (sink.written new ≡ Some (before ++ text)) × IsTextOfFile tell m text
-  text_makes m input after s run = by (run_ok (one input_spec (transition_of source input after)) (IsValue replica_model_of) tell sink old new t run)
+  text_makes m input after s run = by (run_ok (one input_spec (transition_of source input after)) (IsValueOf replica_model_of) tell sink old new t run)
     where
-      by : HasRun (one input_spec (transition_of source input after)) (IsValue replica_model_of) tell sink old new t
+      by : HasRun (one input_spec (transition_of source input after)) (IsValueOf replica_model_of) tell sink old new t
           → (text : Text) × (sink.written new ≡ Some (before ++ text)) × IsTextOfFile tell m text
       by (loaded, h, r, made, w) =
           let file_read = read_of (λ b. IsDerived m b) (source_state source input) (source_state source after) loaded s r in

@@ -8,7 +8,7 @@ use Rattle.cadf_seal.specs.ModelReads.{ReadsModel}
 use Rattle.cadf_tool.specs.InputFault.{of_file}
 use Rattle.cadf_tool.specs.Faults.{of_load}
 use Rattle.cadf_tool.specs.SealInput.{IsModelInput, kind_of, model_spec}
-use Rattle.cadf_tool.specs.Run.{SourceTransition, numbered, IsReadAs, IsUnread}
+use Rattle.cadf_tool.specs.Run.{SourceTransition, with_number, IsReadAs, IsUnread}
 use Rattle.cadf_tool.proofs.KindReading.{IsDecidedFirst, kind_read, kind_unread}
 
 module _ {M : Type 0} (k : ModelKind M) (Is : M → Type 0) (t : SourceTransition) where
@@ -32,7 +32,7 @@ module _ {M : Type 0} (k : ModelKind M) (Is : M → Type 0) (t : SourceTransitio
       let is = (accepts FILE_LIMIT p.0.0 m).0 p.0.1.2 in
       ((p.0.0, (p.0.1.0, p.0.1.1, record { is = is.0; within = is.1; holds = is.2 })), p.1)
 
-  pub model_unread : (number : ℕ) (f : FileFault) → Reads (Err f) → IsUnread (numbered number (model_spec k Is) t) (of_load number (of_file f))
+  pub model_unread : (number : ℕ) (f : FileFault) → Reads (Err f) → IsUnread (with_number number (model_spec k Is) t) (of_load number (of_file f))
   model_unread number f r = kind_unread (kind_of k) t (IsModelInput k Is FILE_LIMIT) number f (record {
     failed = r.failed;
     bytes = r.bytes;

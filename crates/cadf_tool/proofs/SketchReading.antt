@@ -11,7 +11,7 @@ use Rattle.cadf_tool.specs.InputFault.{of_file}
 use Rattle.cadf_tool.specs.Faults.{of_load}
 use Rattle.cadf_tool.specs.Sketch.{IsSketchInput}
 use Rattle.cadf_tool.specs.SketchInput.{sketch_kind, sketch_spec}
-use Rattle.cadf_tool.specs.Run.{SourceTransition, numbered, IsReadAs, IsUnread}
+use Rattle.cadf_tool.specs.Run.{SourceTransition, with_number, IsReadAs, IsUnread}
 use Rattle.cadf_tool.proofs.KindReading.{IsDecidedFirst, kind_read, kind_unread}
 
 decided_first : IsDecidedFirst sketch_kind
@@ -35,7 +35,7 @@ module _ (t : SourceTransition) where
       let is = (accepts-sketches FILE_LIMIT p.0.0 s).0 p.0.1.2 in
       ((p.0.0, (p.0.1.0, p.0.1.1, record { is = is.0; within = is.1; holds = is.2 })), p.1)
 
-  pub sketch_unread : (number : ℕ) (f : FileFault) → Reads (Err f) → IsUnread (numbered number sketch_spec t) (of_load number (of_file f))
+  pub sketch_unread : (number : ℕ) (f : FileFault) → Reads (Err f) → IsUnread (with_number number sketch_spec t) (of_load number (of_file f))
   sketch_unread number f r = kind_unread sketch_kind t (IsSketchInput FILE_LIMIT) number f (record {
     failed = r.failed;
     bytes = r.bytes;

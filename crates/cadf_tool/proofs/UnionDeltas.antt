@@ -42,7 +42,7 @@ use Rattle.cadf_tool.specs.declared.join_state.JoinState.TheVariants.{Unnamed, G
 use Rattle.cadf_tool.specs.Faults.{FaultStage, Reading, Working, Writing, OutOfMemoryStage, fault_stage}
 use Rattle.cadf_tool.specs.Join.{first_named, is_other, union_of, unless_other, join_in, join_from, join_of, on_ok}
 use Rattle.cadf_tool.specs.JoinState.{IsNamed, IsJoinState, log_joined}
-use Rattle.cadf_tool.specs.Missing.{under_one_log_at, missing_of, part_of, if_named, part_of_unions}
+use Rattle.cadf_tool.specs.Missing.{under_one_log_at, missing_of, delta_between, if_named, part_of_unions}
 use Rattle.cadf_tool.specs.MissingBy.{missing_by_at, part_by, part_by_union}
 use Rattle.cadf_tool.specs.Run.{IsWorkFaultBy, IsWorked, IsWorkedBy}
 use Rattle.cadf_tool.specs.Sketch.{IsAnswerOfResult, IsAnswerTo, IsPartBySketch, IsPartOfUnionBySketch}
@@ -143,7 +143,7 @@ number_two l = sym (two_is l)
 pub second_place : (l : Loaded) → 2 ≡ (length (l ∷ []) + 1) + length {A = Loaded} []
 second_place l = omega arith
 
-pub part_one : (f t : Loaded) → part_of_unions (f ∷ [], t ∷ []) ≡ part_of (f, t)
+pub part_one : (f t : Loaded) → part_of_unions (f ∷ [], t ∷ []) ≡ delta_between (f, t)
 part_one f t =
     ap (λ r. if_named (first_named (t ∷ [])) (on_ok r (λ h. delta_of (length (f ∷ []) + 1) (t ∷ []) h))) (join_one 1 f)
     ∙ ap (λ n. if_named (first_named (t ∷ [])) (on_ok (under_log (log_named f) (atoms_loaded f)) (λ h. delta_of n (t ∷ []) h))) (two_is f)

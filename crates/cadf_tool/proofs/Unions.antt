@@ -44,7 +44,7 @@ use Rattle.cadf_tool.specs.Run.{
   one,
   all,
   input_spec,
-  IsValue,
+  IsValueOf,
   IsFirstFaultBy,
   IsExpected,
   IsWorkFaultBy,
@@ -81,12 +81,12 @@ module _ {A H M W T : Type 0} (sources : Sources A) (read : A → Result H ToolF
     (whole : A → Result M ToolFault) (is : (a : A) → whole a ≡ on_ok (read a) work) (tell : M → Text) (sink : Sink W) (old new : W) where
   -- the work on what was read was told
   pub told_run : (unfailed : (a : A) → sources.are a → sources.unfailed) (h : H) (result : Result T ToolFault) → IsExpected sources read (Ok h)
-      → IsToldBy (IsValue work h) tell sink old new result → IsRun sources whole tell sink old new result
+      → IsToldBy (IsValueOf work h) tell sink old new result → IsRun sources whole tell sink old new result
   told_run unfailed h result expected told =
       let a = expected.is in
       record {
         expected = told.made;
-        first = worked sources (IsValue whole) a.0 told.made expected.bounded a.1 (unfailed a.0 a.1)
+        first = worked sources (IsValueOf whole) a.0 told.made expected.bounded a.1 (unfailed a.0 a.1)
             (subst (λ r. IsWorked r told.made) (sym (is a.0)) (on_value work (read a.0) h told.made a.2 told.worked));
         answer = told.answer;
       }
@@ -99,7 +99,7 @@ module _ {A H M W T : Type 0} (sources : Sources A) (read : A → Result H ToolF
     answer = (refl, same);
   }
     where
-      at : (s : FaultStage) → IsFirstFaultBy sources (IsValue read) fault s → IsFirstFaultBy sources (IsValue whole) fault s
+      at : (s : FaultStage) → IsFirstFaultBy sources (IsValueOf read) fault s → IsFirstFaultBy sources (IsValueOf whole) fault s
       at (Reading n f) h = h
       at Working (a, are, e) = (a, are, is a ∙ ap (λ r. on_ok r work) e)
       at Writing h = h
@@ -173,7 +173,7 @@ one_worked work via l = ap (λ r. on_ok r (λ h. work (Replica h))) (join_one 1 
 module _ {M W T : Type 0} (work : Loaded → Result M ToolFault) (tell : M → Text) (sink : Sink W) (old new : W) where
   module _ {S : Type 0} (source : Source S) (inputs after : List S) where
     pub union_told : (h : ReplicaModel) (result : Result T ToolFault) → IsExpected (all source inputs after) (join_of None) (Ok h)
-        → IsToldBy (IsValue work (Replica h)) tell sink old new result → IsRun (all source inputs after) (of_union work) tell sink old new result
+        → IsToldBy (IsValueOf work (Replica h)) tell sink old new result → IsRun (all source inputs after) (of_union work) tell sink old new result
     union_told h result expected told =
         told_run (all source inputs after) (join_of None) (λ k. work (Replica k)) (of_union work) (λ ls. refl) tell sink old new
         (λ ls are. none_failed _ _ ls are) h result expected told
@@ -185,7 +185,7 @@ module _ {M W T : Type 0} (work : Loaded → Result M ToolFault) (tell : M → T
 
   module _ (via : IsOfReplica work) (t : SourceTransition) where
     pub one_told : (h : ReplicaModel) (result : Result T ToolFault) → IsExpected (one input_spec t) replica_model_of (Ok h)
-        → IsToldBy (IsValue work (Replica h)) tell sink old new result → IsRun (one input_spec t) work tell sink old new result
+        → IsToldBy (IsValueOf work (Replica h)) tell sink old new result → IsRun (one input_spec t) work tell sink old new result
     one_told h result expected told =
         told_run (one input_spec t) replica_model_of (λ k. work (Replica k)) work via tell sink old new (λ l are. are.1) h result expected told
 

@@ -3,18 +3,18 @@ use Rattle.std.proofs.Common.{ℕ, Bool, List, Result, Ok, Err, IfErr, ap}
 use Rattle.cadf_linefile.specs.declared.file_feed.TheConstants.{FILE_LIMIT}
 use Rattle.cadf_seal.specs.ProofFile.{ProofModel}
 use Rattle.cadf_seal.specs.SealFile.{SealModel}
-use Rattle.cadf_seal.specs.Verified.{FaultIs}
+use Rattle.cadf_seal.specs.Verified.{VerifyFaultIs}
 use Rattle.cadf_seal.specs.declared.verify.VerifyFault.{VerifyFault}
 use Rattle.cadf_seal.specs.declared.verify.VerifyFault.TheVariants.{OtherCount, OtherRoot, NotShown, NotNeeded, Absent, Present, Memory}
 use Rattle.cadf_tool.specs.declared.input.Loaded.{Loaded}
 use Rattle.cadf_tool.specs.declared.fault.ToolFault.{ToolFault}
 use Rattle.cadf_tool.specs.Faults.{of_verify}
-use Rattle.cadf_tool.specs.Run.{SourceTransition, one, both, numbered, input_spec, IsReadAs, IsReadWithin, IsUnread, IsValue, IsExpected, IsWorked}
+use Rattle.cadf_tool.specs.Run.{SourceTransition, one, both, with_number, input_spec, IsReadAs, IsReadWithin, IsUnread, IsValueOf, IsExpected, IsWorked}
 use Rattle.cadf_tool.specs.SealInput.{seal_spec, proof_spec}
 use Rattle.cadf_tool.specs.Verify.{of_verified, sources_of, verdict_of}
 use Rattle.cadf_tool.proofs.Runs.{both_worked, second_not_read}
 
-pub fault_worked : (fault : VerifyFault) (found : Result (List ℕ) VerifyFault) → FaultIs fault found → IsWorked (of_verified found) (Err (of_verify fault))
+pub fault_worked : (fault : VerifyFault) (found : Result (List ℕ) VerifyFault) → VerifyFaultIs fault found → IsWorked (of_verified found) (Err (of_verify fault))
 fault_worked OtherCount found e = ap of_verified e
 fault_worked OtherRoot found e = ap of_verified e
 fault_worked (NotShown k) found e = ap of_verified e
@@ -31,15 +31,15 @@ if_err_more (Err e) p f = f e p
 module _ (absent : Bool) (first second third : SourceTransition) (within : IsReadWithin FILE_LIMIT first) (within' : IsReadWithin FILE_LIMIT second)
     (within'' : IsReadWithin FILE_LIMIT third) (seal : SealModel) (facts : Loaded) (sealed : IsReadAs seal_spec first seal)
     (loaded : IsReadAs input_spec second facts) where
-  pub proof_unread : (fault : ToolFault) → IsUnread (numbered 3 proof_spec third) fault
+  pub proof_unread : (fault : ToolFault) → IsUnread (with_number 3 proof_spec third) fault
       → IsExpected (sources_of first second third) (verdict_of absent) (Err fault)
   proof_unread fault e =
-      second_not_read (one seal_spec first) (both (numbered 2 input_spec second) (numbered 3 proof_spec third)) (IsValue (verdict_of absent))
+      second_not_read (one seal_spec first) (both (with_number 2 input_spec second) (with_number 3 proof_spec third)) (IsValueOf (verdict_of absent))
       within (within', within'') seal fault sealed sealed.1
-      (second_not_read (numbered 2 input_spec second) (numbered 3 proof_spec third) (IsValue Ok) within' within'' facts fault loaded loaded.1 e).is
+      (second_not_read (with_number 2 input_spec second) (with_number 3 proof_spec third) (IsValueOf Ok) within' within'' facts fault loaded loaded.1 e).is
 
   pub all_read : (proof : ProofModel) → IsReadAs proof_spec third proof → (expected : Result (List ℕ) ToolFault)
       → IsWorked (verdict_of absent (seal, (facts, proof))) expected → IsExpected (sources_of first second third) (verdict_of absent) expected
   all_read proof shown expected w =
-      both_worked (one seal_spec first) (both (numbered 2 input_spec second) (numbered 3 proof_spec third)) (IsValue (verdict_of absent))
+      both_worked (one seal_spec first) (both (with_number 2 input_spec second) (with_number 3 proof_spec third)) (IsValueOf (verdict_of absent))
       within (within', within'') seal (facts, proof) expected sealed sealed.1 (loaded, shown) (loaded.1, shown.1) w

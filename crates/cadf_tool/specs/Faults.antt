@@ -83,6 +83,6 @@ is_writing Writing = true
 is_writing OutOfMemoryStage = false
 
 -- the text was not written in full, since a write failed
-abbrev pub is_write_fault : {T : Type 0} → Result T ToolFault → Bool
-is_write_fault (Ok v) = false
-is_write_fault (Err fault) = is_writing (fault_stage fault)
+abbrev pub is_write_stage : {T : Type 0} → Result T ToolFault → Bool
+is_write_stage (Ok v) = false
+is_write_stage (Err fault) = is_writing (fault_stage fault)

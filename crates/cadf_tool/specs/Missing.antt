@@ -1,6 +1,6 @@
 -- The delta of one input against another, as one function of the inputs loaded.
 --     missing_of from to       the delta of FROM against TO, under their log, or why there is none
---     part_of both             the same of a pair, FROM first
+--     delta_between both       the same of a pair, FROM first
 --     part_of_unions both      the same of two lists of inputs, each of which is joined
 use Rattle.std.specs.Prelude.{ℕ, ◌+◌, List, length, if◌then◌else◌, Option, Some, None, Result, Ok, Err}
 use Rattle.cadf_join.specs.Contents.{Text, Contents}
@@ -27,8 +27,8 @@ under_one_log from to atoms = under_one_log_at 2 from to atoms
 abbrev pub missing_of : Loaded → Loaded → Result ReplicaModel ToolFault
 missing_of from to = under_one_log (log_named from) (log_named to) (missing (atoms_loaded from) (atoms_loaded to))
 
-abbrev pub part_of : Loaded × Loaded → Result ReplicaModel ToolFault
-part_of both = missing_of both.0 both.1
+abbrev pub delta_between : Loaded × Loaded → Result ReplicaModel ToolFault
+delta_between both = missing_of both.0 both.1
 
 -- the result, if a log is named
 abbrev pub if_named : {M : Type 0} → Option Text → Result M ToolFault → Result M ToolFault

@@ -1,6 +1,6 @@
 -- A script that is read in full, and the replicas at the end of its schedule.
 --     script_spec                   how a source is read as a script: its turns, or the first line that is no turn
---     left_of log sites turns       the replicas after these turns, or the first turn that fails
+--     replicas_after log sites turns  the replicas after these turns, or the first turn that fails
 --     final_sites log sites script  the same for a script, or its first line that is no turn
 use Rattle.std.specs.Prelude.{◌≡◌, ◌≤◌, ◌+◌, ℕ, List, length, reverse, true, false, Result, Ok, Err}
 use Rattle.cadf_json.specs.Streams.{counted, ConsumesAtMost, ConsumesExactly}
@@ -61,11 +61,11 @@ of_rehearsal (OtherLog turn) = Rehearse (OtherLog turn)
 of_rehearsal Memory = OutOfMemory
 
 -- THE REPLICAS AFTER THE TURNS, with that many sites of the log
-abbrev pub left_of : Text → ℕ → List Turn → Result (List ReplicaModel) ToolFault
-left_of log sites turns = left_in log sites (after atom_digest log sites (reverse turns))
+abbrev pub replicas_after : Text → ℕ → List Turn → Result (List ReplicaModel) ToolFault
+replicas_after log sites turns = left_in log sites (after atom_digest log sites (reverse turns))
 
 abbrev pub played_in : Text → ℕ → Result (List Turn) ToolFault → Result (List ReplicaModel) ToolFault
-played_in log sites (Ok turns) = left_of log sites turns
+played_in log sites (Ok turns) = replicas_after log sites turns
 played_in log sites (Err fault) = Err fault
 
 -- THE REPLICAS AFTER A SCRIPT

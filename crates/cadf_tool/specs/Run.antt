@@ -17,7 +17,7 @@ use Rattle.cadf_tool.specs.declared.input.LoadFault.{LoadFault}
 use Rattle.cadf_tool.specs.declared.fault.ToolFault.{ToolFault}
 use Rattle.cadf_tool.specs.declared.fault.ToolFault.TheVariants.{WriteFault, Memory}
 use Rattle.cadf_tool.specs.Input.{GivesAll, IsInputWithin}
-use Rattle.cadf_tool.specs.Faults.{of_load, is_write_fault, FaultStage, Reading, Working, Writing, OutOfMemoryStage, fault_stage}
+use Rattle.cadf_tool.specs.Faults.{of_load, is_write_stage, FaultStage, Reading, Working, Writing, OutOfMemoryStage, fault_stage}
 use Rattle.cadf_tool.specs.Inputs.{SourceState, source_state, NoneFailed, IsRefusedWithin, IsRefusedAs, AreReadWithin}
 
 -- ---- sources
@@ -68,8 +68,8 @@ pub record Sources (A : Type 0) : Type 1 where
   pub bounded : Type 0
 
 -- one source, which has that number
-abbrev pub numbered : {T : Type 0} → ℕ → InputSpec T → SourceTransition → Sources T
-numbered number reader t = record {
+abbrev pub with_number : {T : Type 0} → ℕ → InputSpec T → SourceTransition → Sources T
+with_number number reader t = record {
   are = IsReadAs reader t;
   refused = λ n f. (n ≡ number) × reader.refuses t.old t.new f;
   unread = t.new ≡ t.old;
@@ -78,7 +78,7 @@ numbered number reader t = record {
 }
 
 abbrev pub one : {T : Type 0} → InputSpec T → SourceTransition → Sources T
-one reader t = numbered 1 reader t
+one reader t = with_number 1 reader t
 
 -- those of the second are read if those of the first were accepted
 abbrev pub both : {A B : Type 0} → Sources A → Sources B → Sources (A × B)
@@ -91,7 +91,7 @@ both {A} first second = record {
 }
 
 abbrev pub two : {T U : Type 0} → InputSpec T → SourceTransition → InputSpec U → SourceTransition → Sources (T × U)
-two reader t other u = both (one reader t) (numbered 2 other u)
+two reader t other u = both (one reader t) (with_number 2 other u)
 
 -- ---- inputs in a list
 
@@ -132,8 +132,8 @@ all source old new = all_from 1 source old new
 -- ---- the expected result
 
 -- a function allows one result: its value
-abbrev pub IsValue : {A M : Type 0} → (A → Result M ToolFault) → A → Result M ToolFault → Type 0
-IsValue work a result = work a ≡ result
+abbrev pub IsValueOf : {A M : Type 0} → (A → Result M ToolFault) → A → Result M ToolFault → Type 0
+IsValueOf work a result = work a ≡ result
 
 -- the first fault: of a source, or of the work if all sources were read.
 -- `Memory` may occur at any time, but not after a failed read
@@ -144,7 +144,7 @@ IsFirstFaultBy sources work fault Writing = ⊥
 IsFirstFaultBy sources work fault OutOfMemoryStage = sources.unfailed
 
 abbrev pub IsFirstFault : {A M : Type 0} → Sources A → (A → Result M ToolFault) → ToolFault → FaultStage → Type 0
-IsFirstFault sources work fault stage = IsFirstFaultBy sources (IsValue work) fault stage
+IsFirstFault sources work fault stage = IsFirstFaultBy sources (IsValueOf work) fault stage
 
 -- the work doesn't begin: a source was refused, or an allocation failed while it was read
 abbrev pub IsUnread : {A : Type 0} → Sources A → ToolFault → Type 0
@@ -155,7 +155,7 @@ IsExpectedOfBy {A} sources work (Ok made) = (a : A) × sources.are a × work a (
 IsExpectedOfBy sources work (Err fault) = IsFirstFaultBy sources work fault (fault_stage fault)
 
 abbrev pub IsExpectedOf : {A M : Type 0} → Sources A → (A → Result M ToolFault) → Result M ToolFault → Type 0
-IsExpectedOf sources work expected = IsExpectedOfBy sources (IsValue work) expected
+IsExpectedOf sources work expected = IsExpectedOfBy sources (IsValueOf work) expected
 
 pub record IsExpectedBy {A M : Type 0} (sources : Sources A) (work : A → Result M ToolFault → Type 0)
     (expected : Result M ToolFault) : Type 0 where
@@ -163,7 +163,7 @@ pub record IsExpectedBy {A M : Type 0} (sources : Sources A) (work : A → Resul
   pub bounded : sources.bounded
 
 abbrev pub IsExpected : {A M : Type 0} → Sources A → (A → Result M ToolFault) → Result M ToolFault → Type 0
-IsExpected sources work expected = IsExpectedBy sources (IsValue work) expected
+IsExpected sources work expected = IsExpectedBy sources (IsValueOf work) expected
 
 -- ---- the work
 
@@ -188,7 +188,7 @@ pub record IsWritten {W T : Type 0} (sink : Sink W) (old new : W) (text : Text)
   pub whole : OnOk result (Appends (sink.written old) (sink.written new) text)
   pub front : OnErr result (AppendsPrefix (sink.written old) (sink.written new) text)
   pub only : IfErr result (λ fault. (fault ≡ WriteFault) ⊎ (fault ≡ Memory))
-  pub failures : sink.failures new ≡ counted (is_write_fault result) (sink.failures old)
+  pub failures : sink.failures new ≡ counted (is_write_stage result) (sink.failures old)
 
 -- the text of the result is written; after a fault nothing is written, and the fault is returned
 abbrev pub IsAnswer : {W M T : Type 0} → (M → Text) → Sink W → W → W → Result M ToolFault → Result T ToolFault → Type 0
@@ -209,4 +209,4 @@ pub record IsRunBy {A M W T : Type 0} (sources : Sources A) (work : A → Result
   pub answer : IsAnswer tell sink old new expected result
 
 abbrev pub IsRun : {A M W T : Type 0} → Sources A → (A → Result M ToolFault) → (M → Text) → Sink W → W → W → Result T ToolFault → Type 0
-IsRun sources work tell sink old new result = IsRunBy sources (IsValue work) tell sink old new result
+IsRun sources work tell sink old new result = IsRunBy sources (IsValueOf work) tell sink old new result

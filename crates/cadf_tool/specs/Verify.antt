@@ -1,6 +1,6 @@
 -- What a proof says, under a seal, of the facts of an input.
 --     sources_of seal facts proof        the outcome of reading the three inputs, in this order
---     lines_of absent seal facts proof   a line for each fact, which is as asked, or why not
+--     verdict_lines absent seal facts proof  a line for each fact, which is as asked, or why not
 --     verdict_of absent inputs           the same of the three inputs: a seal, the facts, and a proof
 use Rattle.std.specs.Prelude.{ℕ, Bool, List, Some, if◌then◌else◌, Result, Ok, Err}
 use Rattle.cadf_seal.specs.ProofFile.{ProofModel}
@@ -14,21 +14,21 @@ use Rattle.cadf_tool.specs.declared.fault.ToolFault.TheVariants.{OtherLog}
 use Rattle.cadf_tool.specs.Facts.{facts_under}
 use Rattle.cadf_tool.specs.Faults.{of_verify}
 use Rattle.cadf_tool.specs.Join.{is_other, on_ok}
-use Rattle.cadf_tool.specs.Run.{Sources, SourceTransition, one, both, numbered, input_spec}
+use Rattle.cadf_tool.specs.Run.{Sources, SourceTransition, one, both, with_number, input_spec}
 use Rattle.cadf_tool.specs.SealInput.{seal_spec, proof_spec}
 
 abbrev pub sources_of : SourceTransition → SourceTransition → SourceTransition → Sources (SealModel × (Loaded × ProofModel))
-sources_of seal facts proof = both (one seal_spec seal) (both (numbered 2 input_spec facts) (numbered 3 proof_spec proof))
+sources_of seal facts proof = both (one seal_spec seal) (both (with_number 2 input_spec facts) (with_number 3 proof_spec proof))
 
 abbrev pub of_verified : Result (List ℕ) VerifyFault → Result (List ℕ) ToolFault
 of_verified (Ok text) = Ok text
 of_verified (Err fault) = Err (of_verify fault)
 
 -- the proof is input 3
-abbrev pub lines_of : Bool → SealModel → ReplicaModel → ProofModel → Result (List ℕ) ToolFault
-lines_of absent seal facts proof =
+abbrev pub verdict_lines : Bool → SealModel → ReplicaModel → ProofModel → Result (List ℕ) ToolFault
+verdict_lines absent seal facts proof =
     if is_other seal.log (Some proof.log) then Err (OtherLog 3) else of_verified (verified seal proof facts.atoms absent)
 
 -- THE VERDICT: the facts, input 2, are taken under the log of the seal
 abbrev pub verdict_of : Bool → SealModel × (Loaded × ProofModel) → Result (List ℕ) ToolFault
-verdict_of absent inputs = on_ok (facts_under 2 inputs.0.log inputs.1.0) (λ f. lines_of absent inputs.0 f inputs.1.1)
+verdict_of absent inputs = on_ok (facts_under 2 inputs.0.log inputs.1.0) (λ f. verdict_lines absent inputs.0 f inputs.1.1)

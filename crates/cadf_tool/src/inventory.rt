@@ -2,7 +2,7 @@
 ghost use Rattle.cadf_inventory.specs.InventoryFile.{inventory_file};
 ghost use Rattle.cadf_tool.specs.MissingBy.{inventory_model_of};
 ghost use Rattle.cadf_tool.specs.Join.{of_union};
-ghost use Rattle.cadf_tool.specs.Run.{one, all, transition_of, input_spec, IsValue, IsWorked, IsWritten, IsToldBy, IsRun};
+ghost use Rattle.cadf_tool.specs.Run.{one, all, transition_of, input_spec, IsValueOf, IsWorked, IsWritten, IsToldBy, IsRun};
 ghost use Rattle.cadf_tool.specs.declared.input.Loaded.TheVariants as loaded;
 
 use crate::fault::{ToolFault, answered};
@@ -39,7 +39,7 @@ fn write_noted_of<W: Sink>(
     replica: &Replica,
     output: &mut W,
 ) -> Result<(), ToolFault>
-    ensures { IsToldBy (IsValue inventory_model_of (loaded.Replica replica.now)) inventory_file W.Sink output.old output.new result }
+    ensures { IsToldBy (IsValueOf inventory_model_of (loaded.Replica replica.now)) inventory_file W.Sink output.old output.new result }
 {
     let inventory = noted(replica)?;
     write_noted(alloc, &inventory, output)

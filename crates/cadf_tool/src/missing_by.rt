@@ -1,12 +1,12 @@
 //! The engine of `missing-by`: what a union of inputs has beyond an inventory, as a replica file.
 ghost use Rattle.std.specs.Prelude.{◌≡◌, ◌+◌, ◌<◌, ◌^◌, length, List, None};
-ghost use Rattle.cadf_tool.specs.WrittenFile.{file};
+ghost use Rattle.cadf_tool.specs.WrittenFile.{written_file};
 ghost use Rattle.cadf_tool.specs.declared.input.Loaded.{Loaded};
 ghost use Rattle.cadf_tool.specs.declared.input.Loaded.TheVariants as loaded;
 ghost use Rattle.cadf_tool.specs.InventoryInput.{inventory_spec};
 ghost use Rattle.cadf_tool.specs.JoinState.{IsJoinState};
 ghost use Rattle.cadf_tool.specs.MissingBy.{missing_by_at, part_by, part_by_union};
-ghost use Rattle.cadf_tool.specs.Run.{all, both, numbered, two, transition_of, input_spec, IsExpected, IsWorked, IsRun};
+ghost use Rattle.cadf_tool.specs.Run.{all, both, with_number, two, transition_of, input_spec, IsExpected, IsWorked, IsRun};
 
 use crate::fault::ToolFault;
 use crate::inputs::load_inventory;
@@ -63,7 +63,7 @@ fn missing_by_union<R: Source>(
 ) -> Result<Replica, ToolFault>
     requires { length from.old + 1 < 2 ^ 64 }
     ensures { IsExpected (both (all R.Source from.old from.new)
-        (numbered (length from.old + 1) inventory_spec (transition_of R.Source inventory.old inventory.new))) part_by_union result }
+        (with_number (length from.old + 1) inventory_spec (transition_of R.Source inventory.old inventory.new))) part_by_union result }
 {
     let number = from.len() + 1;
     let union = union_with(alloc, JoinState::new(alloc, None), 1, from, None)?;
@@ -81,7 +81,7 @@ pub fn run_missing_by<R: Source, W: Sink>(
     output: &mut W,
 ) -> Result<(), ToolFault>
     ensures { IsRun (two input_spec (transition_of R.Source from.old from.new) inventory_spec (transition_of R.Source inventory.old inventory.new))
-        part_by file W.Sink output.old output.new result }
+        part_by written_file W.Sink output.old output.new result }
 {
     let part = missing_by(alloc, from, inventory)?;
     write_file(alloc, &part, output)
@@ -97,8 +97,8 @@ pub fn run_missing_by_union<R: Source, W: Sink>(
 ) -> Result<(), ToolFault>
     requires { length from.old + 1 < 2 ^ 64 }
     ensures { IsRun (both (all R.Source from.old from.new)
-        (numbered (length from.old + 1) inventory_spec (transition_of R.Source inventory.old inventory.new)))
-        part_by_union file W.Sink output.old output.new result }
+        (with_number (length from.old + 1) inventory_spec (transition_of R.Source inventory.old inventory.new)))
+        part_by_union written_file W.Sink output.old output.new result }
 {
     let part = missing_by_union(alloc, from, inventory)?;
     write_file(alloc, &part, output)

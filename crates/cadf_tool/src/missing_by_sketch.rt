@@ -1,11 +1,11 @@
 //! The engine of `missing-by-sketch`: the delta of a union of inputs against a sketch, as a replica file.
 ghost use Rattle.std.specs.Prelude.{◌≡◌, ◌+◌, ◌<◌, ◌^◌, length, List, None};
-ghost use Rattle.cadf_tool.specs.WrittenFile.{file};
+ghost use Rattle.cadf_tool.specs.WrittenFile.{written_file};
 ghost use Rattle.cadf_tool.specs.declared.input.Loaded.{Loaded};
 ghost use Rattle.cadf_tool.specs.JoinState.{IsJoinState};
 ghost use Rattle.cadf_tool.specs.Sketch.{IsAnswerTo, IsPartBySketch, IsPartOfUnionBySketch};
 ghost use Rattle.cadf_tool.specs.SketchInput.{sketch_spec};
-ghost use Rattle.cadf_tool.specs.Run.{all, both, numbered, two, transition_of, input_spec, IsExpectedBy, IsWorkedBy, IsRunBy};
+ghost use Rattle.cadf_tool.specs.Run.{all, both, with_number, two, transition_of, input_spec, IsExpectedBy, IsWorkedBy, IsRunBy};
 
 use crate::fault::ToolFault;
 use crate::inputs::load_sketch;
@@ -69,7 +69,7 @@ fn load_part_of_union<R: Source>(
 ) -> Result<Replica, ToolFault>
     requires { length from.old + 1 < 2 ^ 64 }
     ensures { IsExpectedBy (both (all R.Source from.old from.new)
-        (numbered (length from.old + 1) sketch_spec (transition_of R.Source sketch.old sketch.new))) IsPartOfUnionBySketch result }
+        (with_number (length from.old + 1) sketch_spec (transition_of R.Source sketch.old sketch.new))) IsPartOfUnionBySketch result }
 {
     let number = from.len() + 1;
     let union = union_with(alloc, JoinState::new(alloc, None), 1, from, None)?;
@@ -87,7 +87,7 @@ pub fn run_missing_by_sketch<R: Source, W: Sink>(
     output: &mut W,
 ) -> Result<(), ToolFault>
     ensures { IsRunBy (two input_spec (transition_of R.Source from.old from.new) sketch_spec (transition_of R.Source sketch.old sketch.new))
-        IsPartBySketch file W.Sink output.old output.new result }
+        IsPartBySketch written_file W.Sink output.old output.new result }
 {
     let part = load_part(alloc, from, sketch)?;
     write_file(alloc, &part, output)
@@ -103,8 +103,8 @@ pub fn run_missing_by_sketch_union<R: Source, W: Sink>(
 ) -> Result<(), ToolFault>
     requires { length from.old + 1 < 2 ^ 64 }
     ensures { IsRunBy (both (all R.Source from.old from.new)
-        (numbered (length from.old + 1) sketch_spec (transition_of R.Source sketch.old sketch.new)))
-        IsPartOfUnionBySketch file W.Sink output.old output.new result }
+        (with_number (length from.old + 1) sketch_spec (transition_of R.Source sketch.old sketch.new)))
+        IsPartOfUnionBySketch written_file W.Sink output.old output.new result }
 {
     let part = load_part_of_union(alloc, from, sketch)?;
     write_file(alloc, &part, output)

@@ -1,6 +1,6 @@
 //! The engine of `rehearse`: simulates the schedule of a script, and writes the state of each site.
 ghost use Rattle.std.specs.Prelude.{◌≡◌, IfOk, IfErr, Ok, string_bytes};
-ghost use Rattle.cadf_tool.specs.Rehearse.{bytes_spec, script_spec, turns_of, of_rehearsal, left_of, final_sites as played_of};
+ghost use Rattle.cadf_tool.specs.Rehearse.{bytes_spec, script_spec, turns_of, of_rehearsal, replicas_after, final_sites as played_of};
 ghost use Rattle.cadf_tool.specs.Run.{one, transition_of, IsReadAs, IsReadWithin, IsUnread, IsExpected, IsWorked, IsWritten, IsRun};
 ghost use Rattle.cadf_tool.specs.Sites.{is_same, place_of as place_in, site_line, sites_text as text_of_sites};
 
@@ -53,8 +53,8 @@ fn refused(fault: RehearseFault) -> ToolFault
 
 /// Simulates the turns, and returns the replicas of the sites after the last. `Err`: the first turn that fails.
 fn left(alloc: Global, log: &Name, sites: usize, turns: &[Turn]) -> Result<Vec<Replica>, ToolFault>
-    ensures ok { IfOk result (λ v. IsWorked (left_of log.now sites turns.now) (Ok v.items)) }
-    ensures err { IfErr result (λ f. IsWorked (left_of log.now sites turns.now) (Err f)) }
+    ensures ok { IfOk result (λ v. IsWorked (replicas_after log.now sites turns.now) (Ok v.items)) }
+    ensures err { IfErr result (λ f. IsWorked (replicas_after log.now sites turns.now) (Err f)) }
 {
     match rehearse(alloc, log, sites, turns) {
         Ok(left) => Ok(left),

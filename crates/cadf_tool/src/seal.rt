@@ -4,7 +4,7 @@ ghost use Rattle.cadf_seal.specs.SealFile.{seal_of, seal_file};
 ghost use Rattle.cadf_sketch.specs.Answers.{inventory_of};
 ghost use Rattle.cadf_tool.specs.Seal.{seal_model_of};
 ghost use Rattle.cadf_tool.specs.Join.{of_union};
-ghost use Rattle.cadf_tool.specs.Run.{one, all, transition_of, input_spec, IsValue, IsWorked, IsWritten, IsToldBy, IsRun};
+ghost use Rattle.cadf_tool.specs.Run.{one, all, transition_of, input_spec, IsValueOf, IsWorked, IsWritten, IsToldBy, IsRun};
 ghost use Rattle.cadf_tool.specs.declared.input.Loaded.TheVariants as loaded;
 
 use crate::fault::{ToolFault, answered};
@@ -45,7 +45,7 @@ fn write_sealed_of<W: Sink>(
     replica: &Replica,
     output: &mut W,
 ) -> Result<(), ToolFault>
-    ensures { IsToldBy (IsValue seal_model_of (loaded.Replica replica.now)) seal_file W.Sink output.old output.new result }
+    ensures { IsToldBy (IsValueOf seal_model_of (loaded.Replica replica.now)) seal_file W.Sink output.old output.new result }
 {
     let seal = sealed(alloc, replica)?;
     write_sealed(alloc, &seal, output)

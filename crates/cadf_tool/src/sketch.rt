@@ -6,7 +6,7 @@ ghost use Rattle.cadf_sketch.specs.SketchFile.{sketch_file};
 ghost use Rattle.cadf_sketch.specs.Sketches.{asked};
 ghost use Rattle.cadf_tool.specs.Sketch.{AreAsked, sketch_model_of};
 ghost use Rattle.cadf_tool.specs.Join.{of_union};
-ghost use Rattle.cadf_tool.specs.Run.{one, all, transition_of, input_spec, IsValue, IsWorked, IsWritten, IsToldBy, IsRun};
+ghost use Rattle.cadf_tool.specs.Run.{one, all, transition_of, input_spec, IsValueOf, IsWorked, IsWritten, IsToldBy, IsRun};
 ghost use Rattle.cadf_tool.specs.declared.input.Loaded.TheVariants as loaded;
 
 use crate::fault::{ToolFault, answered};
@@ -70,7 +70,7 @@ fn write_sketched_of<W: Sink>(
     replica: &Replica,
     output: &mut W,
 ) -> Result<(), ToolFault>
-    ensures { IsToldBy (IsValue (sketch_model_of cells salt) (loaded.Replica replica.now)) sketch_file W.Sink output.old output.new result }
+    ensures { IsToldBy (IsValueOf (sketch_model_of cells salt) (loaded.Replica replica.now)) sketch_file W.Sink output.old output.new result }
 {
     let sketch = sketched(alloc, cells, salt, replica)?;
     write_sketched(alloc, &sketch, output)

@@ -2,7 +2,7 @@
 ghost use Rattle.std.specs.Prelude.{◌≡◌, Some, Ok, Err, IfOk, IfErr};
 ghost use Rattle.cadf_tool.specs.Join.{is_other};
 ghost use Rattle.cadf_tool.specs.Run.{transition_of, IsExpected, IsWorked, IsWritten, IsRun};
-ghost use Rattle.cadf_tool.specs.Verify.{lines_of, verdict_of, sources_of};
+ghost use Rattle.cadf_tool.specs.Verify.{verdict_lines, verdict_of, sources_of};
 
 use crate::facts::facts_under;
 use crate::fault::{ToolFault, unverified};
@@ -29,8 +29,8 @@ fn lines(
     facts: &Replica,
     proof: &Proof,
 ) -> Result<Vec<u8>, ToolFault>
-    ensures ok { IfOk result (λ text. lines_of absent seal.now facts.now proof.now ≡ Ok text.items) }
-    ensures err { IfErr result (λ fault. IsWorked (lines_of absent seal.now facts.now proof.now) (Err fault)) }
+    ensures ok { IfOk result (λ text. verdict_lines absent seal.now facts.now proof.now ≡ Ok text.items) }
+    ensures err { IfErr result (λ fault. IsWorked (verdict_lines absent seal.now facts.now proof.now) (Err fault)) }
 {
     if is_other(seal, proof) {
         return Err(ToolFault::OtherLog(3));

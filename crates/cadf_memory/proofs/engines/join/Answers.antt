@@ -1,6 +1,6 @@
 use Rattle.std.proofs.Common.{Some, ap, refl, rules, map, ◌∙◌}
 use Rattle.cadf_tool.specs.Join.{join_of}
-use Rattle.cadf_tool.specs.WrittenFile.{file}
+use Rattle.cadf_tool.specs.WrittenFile.{written_file}
 use Rattle.cadf_memory.specs.Memory.{slice_left}
 use Rattle.cadf_memory.proofs.Lists.{lefts, none_has_failed, refused_unread}
 use Rattle.cadf_memory.proofs.Made.{run_made_all}
@@ -13,7 +13,7 @@ returns-in_default-clause-err c = refused_unread (join_of _) _
 
 pub returns-in-Ok-run_join-clause-ok : goal.returns-in-Ok-run_join-clause-ok
 returns-in-Ok-run_join-clause-ok c =
-    run_made_all file _ _ _ _ c.new-buffer.result c.run_join.new.output refl refl _ _ _ c.new-buffer.ensures.before c.new-buffer.ensures.text
+    run_made_all written_file _ _ _ _ c.new-buffer.result c.run_join.new.output refl refl _ _ _ c.new-buffer.ensures.before c.new-buffer.ensures.text
     c.length.ensures (λ same. search rules) _ (join_of _)
     c.as_mut_slice.result.now c.run_join.new.inputs _
     (lefts _ slice_left (λ s. refl) c.as_mut_slice.result.now
@@ -21,7 +21,7 @@ returns-in-Ok-run_join-clause-ok c =
 
 pub returns-clause-err : goal.returns-clause-err
 returns-clause-err c =
-    run_refused_all file _ _ _ c.in-Err.fault c.unwritten.result c.unwritten.ensures _ (join_of _)
+    run_refused_all written_file _ _ _ c.in-Err.fault c.unwritten.result c.unwritten.ensures _ (join_of _)
     c.as_mut_slice.result.now c.run_join.new.inputs _
     (lefts _ slice_left (λ s. refl) c.as_mut_slice.result.now
     ∙ ap (map Some) (ap (map slice_left) c.as_mut_slice.ensures.value ∙ c.in-Ok.ensures))

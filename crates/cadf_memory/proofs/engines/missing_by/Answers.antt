@@ -1,8 +1,8 @@
 use Rattle.std.proofs.Common.{Some, ap, refl, rules}
 use Rattle.cadf_tool.specs.InventoryInput.{inventory_spec}
 use Rattle.cadf_tool.specs.MissingBy.{part_by}
-use Rattle.cadf_tool.specs.Run.{input_spec, IsValue}
-use Rattle.cadf_tool.specs.WrittenFile.{file}
+use Rattle.cadf_tool.specs.Run.{input_spec, IsValueOf}
+use Rattle.cadf_tool.specs.WrittenFile.{written_file}
 use Rattle.cadf_memory.proofs.Made.{run_made_two}
 use Rattle.cadf_memory.proofs.OfMemory.{first_of_memory_two, input_safe, inventory_safe}
 use Rattle.cadf_memory.proofs.Refused.{run_refused_two}
@@ -10,13 +10,13 @@ use Rattle.cadf_memory.proofs.engines.missing_by.Goals as goal
 
 pub returns-in-Ok-clause-ok : goal.returns-in-Ok-clause-ok
 returns-in-Ok-clause-ok c =
-    run_made_two file _ _ _ _ c.new-buffer.result c.run_missing_by.new.output refl refl _ _ _ c.new-buffer.ensures.before c.new-buffer.ensures.text
-    c.length.ensures (λ same. search rules) input_spec inventory_spec (IsValue part_by) _ _ _ _
+    run_made_two written_file _ _ _ _ c.new-buffer.result c.run_missing_by.new.output refl refl _ _ _ c.new-buffer.ensures.before c.new-buffer.ensures.text
+    c.length.ensures (λ same. search rules) input_spec inventory_spec (IsValueOf part_by) _ _ _ _
     (ap Some c.new-first.ensures) (ap Some c.new-second.ensures) c.in-Ok.ensures
 
 pub returns-in-Err-clause-err : goal.returns-in-Err-clause-err
 returns-in-Err-clause-err c =
-    run_refused_two file _ _ _ c.in-Err.fault c.unwritten.result c.unwritten.ensures input_spec inventory_spec (IsValue part_by) _ _ _ _
+    run_refused_two written_file _ _ _ c.in-Err.fault c.unwritten.result c.unwritten.ensures input_spec inventory_spec (IsValueOf part_by) _ _ _ _
     (ap Some c.new-first.ensures) (ap Some c.new-second.ensures) refl refl refl refl c.in-Err.ensures
 
 pub returns-in-Err-clause-only : goal.returns-in-Err-clause-only

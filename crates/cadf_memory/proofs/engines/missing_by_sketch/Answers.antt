@@ -2,7 +2,7 @@ use Rattle.std.proofs.Common.{Some, ap, refl, rules}
 use Rattle.cadf_tool.specs.Run.{input_spec}
 use Rattle.cadf_tool.specs.Sketch.{IsPartBySketch}
 use Rattle.cadf_tool.specs.SketchInput.{sketch_spec}
-use Rattle.cadf_tool.specs.WrittenFile.{file}
+use Rattle.cadf_tool.specs.WrittenFile.{written_file}
 use Rattle.cadf_memory.proofs.Made.{run_made_two}
 use Rattle.cadf_memory.proofs.OfMemory.{first_of_memory_two, input_safe, sketch_safe}
 use Rattle.cadf_memory.proofs.Refused.{run_refused_two}
@@ -10,13 +10,13 @@ use Rattle.cadf_memory.proofs.engines.missing_by_sketch.Goals as goal
 
 pub returns-in-Ok-clause-ok : goal.returns-in-Ok-clause-ok
 returns-in-Ok-clause-ok c =
-    run_made_two file _ _ _ _ c.new-buffer.result c.run_missing_by_sketch.new.output refl refl _ _ _ c.new-buffer.ensures.before c.new-buffer.ensures.text
+    run_made_two written_file _ _ _ _ c.new-buffer.result c.run_missing_by_sketch.new.output refl refl _ _ _ c.new-buffer.ensures.before c.new-buffer.ensures.text
     c.length.ensures (λ same. search rules) input_spec sketch_spec IsPartBySketch _ _ _ _
     (ap Some c.new-first.ensures) (ap Some c.new-second.ensures) c.in-Ok.ensures
 
 pub returns-in-Err-clause-err : goal.returns-in-Err-clause-err
 returns-in-Err-clause-err c =
-    run_refused_two file _ _ _ c.in-Err.fault c.unwritten.result c.unwritten.ensures input_spec sketch_spec IsPartBySketch _ _ _ _
+    run_refused_two written_file _ _ _ c.in-Err.fault c.unwritten.result c.unwritten.ensures input_spec sketch_spec IsPartBySketch _ _ _ _
     (ap Some c.new-first.ensures) (ap Some c.new-second.ensures) refl refl refl refl c.in-Err.ensures
 
 pub returns-in-Err-clause-only : goal.returns-in-Err-clause-only

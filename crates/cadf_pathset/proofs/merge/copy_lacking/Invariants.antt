@@ -1,15 +1,15 @@
 use Rattle.std.proofs.Common.{◌≡◌, ◌++◌, ◌+◌, length}
 use Rattle.cadf_join.specs.Contents.{texts_cmp}
 use Rattle.cadf_pathset.specs.Nodes.{Agree}
-use Rattle.cadf_pathset.specs.Walks.{ahead}
+use Rattle.cadf_pathset.specs.Walks.{lists_ahead}
 use Rattle.cadf_pathset.specs.Merge.{sorted_without}
 use Rattle.cadf_pathset.proofs.merge.copy_lacking.Given as goal
 
 abbrev pub invariant-loop-more : goal.invariant-loop-more
 invariant-loop-more l = record {
-  left : l.ours.1 ++ sorted_without texts_cmp (ahead l.more l.ours.0) (ahead l.others l.theirs) ≡ l.fn.ours.1 ++ sorted_without texts_cmp l.fn.ours.0.1 l.fn.theirs.1;
+  left : l.ours.1 ++ sorted_without texts_cmp (lists_ahead l.more l.ours.0) (lists_ahead l.others l.theirs) ≡ l.fn.ours.1 ++ sorted_without texts_cmp l.fn.ours.0.1 l.fn.theirs.1;
   agrees : Agree l.agreed l.ours.0.0 l.theirs.0;
 }
 
 abbrev pub decreases-loop-more : goal.decreases-loop-more
-decreases-loop-more l = length (ahead l.more l.ours.0) + length (ahead l.others l.theirs)
+decreases-loop-more l = length (lists_ahead l.more l.ours.0) + length (lists_ahead l.others l.theirs)

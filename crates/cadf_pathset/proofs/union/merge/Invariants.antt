@@ -2,7 +2,7 @@ use Rattle.std.proofs.Common.{◌≡◌, ◌≤◌, ◌++◌, ◌+◌, ◌-◌, 
 use Rattle.cadf_join.specs.Contents.{texts_cmp}
 use Rattle.cadf_pathset.specs.Merge.{sorted_merge}
 use Rattle.cadf_pathset.specs.Nodes.{AreThere, lists_at}
-use Rattle.cadf_pathset.specs.Walks.{IsLinePrefix, ahead}
+use Rattle.cadf_pathset.specs.Walks.{IsLinePrefix, lists_ahead}
 use Rattle.cadf_pathset.proofs.union.merge.Given as goal
 
 abbrev pub invariant-loop-more : goal.invariant-loop-more
@@ -12,9 +12,9 @@ invariant-loop-more l = record {
   short : l.run ≤ 8;
   there : AreThere l.nodes l.all.items;
   front : IsLinePrefix l.nodes l.line.items l.out.items l.agreed l.cursor.0;
-  lists : lists_at l.nodes l.all.items ++ sorted_merge texts_cmp true (lists_at l.fn.nodes (drop l.at l.numbers)) (ahead l.more l.cursor)
+  lists : lists_at l.nodes l.all.items ++ sorted_merge texts_cmp true (lists_at l.fn.nodes (drop l.at l.numbers)) (lists_ahead l.more l.cursor)
       ≡ lists_at l.fn.nodes l.fn.all.items ++ sorted_merge texts_cmp true (lists_at l.fn.nodes l.numbers) l.fn.cursor.1;
 }
 
 abbrev pub decreases-loop-more : goal.decreases-loop-more
-decreases-loop-more l = 2 * ((length l.numbers - l.at) + length (ahead l.more l.cursor)) + l.run / 8
+decreases-loop-more l = 2 * ((length l.numbers - l.at) + length (lists_ahead l.more l.cursor)) + l.run / 8

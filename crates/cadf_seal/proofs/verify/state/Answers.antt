@@ -2,7 +2,7 @@ use Rattle.std.proofs.Common.{◌≡◌, ◌≢◌, ◌∙◌, ◌<◌, Some, No
 use Rattle.std.specs.Prelude.{if◌then◌else◌}
 use Rattle.std.specs.List.{AllByRecursion}
 use Rattle.std.proofs.lemmas.Bool.{eq-eqb, ne_eqb}
-use Rattle.cadf_seal.specs.Verified.{PlacesRise, behind, ahead, is_shown}
+use Rattle.cadf_seal.specs.Verified.{PlacesRise, past_last, lowest_place, is_shown}
 use Rattle.cadf_seal.proofs.Rebuilding.{all_map}
 use Rattle.cadf_seal.proofs.Sound.{places_rise}
 use Rattle.cadf_seal.proofs.Splitting.{last_part}
@@ -40,7 +40,7 @@ returns-then-behind-ahead c =
     let rest = last_part i ss in
     let between = state_between c.args.digest.now n ss i c.requires.rising c.count_below-split.ensures.bound c.count_below-split.ensures.split
     (ap (λ l. is_shown (take 1 l) c.args.digest.now) (sym rest) ∙ sym c.is_first.ensures ∙ c.if-is_first.false) in
-    let same : behind (take i ss) ≡ ahead n (drop i ss) = sym c.behind.ensures ∙ c.if-behind-ahead.true ∙ c.ahead.ensures ∙ ap (ahead n) rest in
+    let same : past_last (take i ss) ≡ lowest_place n (drop i ss) = sym c.behind.ensures ∙ c.if-behind-ahead.true ∙ c.ahead.ensures ∙ ap (lowest_place n) rest in
     sym (ap (λ b. if b then Some false else None) (eq-eqb _ _ same)) ∙ between
 
 pub returns-else-behind-ahead : goal.returns-else-behind-ahead
@@ -52,6 +52,6 @@ returns-else-behind-ahead c =
     let between = state_between c.args.digest.now n ss i c.requires.rising c.count_below-split.ensures.bound c.count_below-split.ensures.split
     (ap (λ l. is_shown (take 1 l) c.args.digest.now) (sym rest) ∙ sym c.is_first.ensures ∙ c.if-is_first.false) in
     let low = c.behind.ensures in
-    let high = c.ahead.ensures ∙ ap (ahead n) rest in
-    let other : behind (take i ss) ≢ ahead n (drop i ss) = omega (arith, low, high, c.if-behind-ahead.false) in
+    let high = c.ahead.ensures ∙ ap (lowest_place n) rest in
+    let other : past_last (take i ss) ≢ lowest_place n (drop i ss) = omega (arith, low, high, c.if-behind-ahead.false) in
     sym (ap (λ b. if b then Some false else None) (ne_eqb _ _ other)) ∙ between

@@ -3,12 +3,12 @@ use Rattle.std.proofs.lemmas.List.{length-replicate}
 use Rattle.cadf_join.specs.Sets.{rising}
 use Rattle.cadf_sketch.specs.Cells.{nothing}
 use Rattle.cadf_sketch.specs.Sketches.{cells_of, sketch_of}
-use Rattle.cadf_sketch.proofs.CellLemmas.{at_sketched, length-turned_all}
+use Rattle.cadf_sketch.proofs.CellLemmas.{at_sketched, length-toggled_all}
 use Rattle.cadf_sketch.proofs.laws.cells_are_what_stands_there.Goals as goal
 
 pub returns-clause-count : goal.returns-clause-count
 unfolding sketch_of cells_of
-returns-clause-count c = λ n layout. length-turned_all (replicate (3 * layout.size) nothing) (rising n.digests) layout
+returns-clause-count c = λ n layout. length-toggled_all (replicate (3 * layout.size) nothing) (rising n.digests) layout
     ∙ length-replicate (3 * layout.size) nothing
 
 pub returns-clause-each : goal.returns-clause-each

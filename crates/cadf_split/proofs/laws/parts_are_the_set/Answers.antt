@@ -3,7 +3,7 @@ use Rattle.cadf_split.proofs.Keys.{key_of_carrier}
 use Rattle.cadf_split.proofs.Parts.{part_has, parts_apart, parts_together, key_listed, listed_key, part_key, part_grounded}
 use Rattle.std.proofs.Common.{subst}
 use Rattle.cadf_join.specs.Sets.{Listed}
-use Rattle.cadf_split.specs.Windows.{keys}
+use Rattle.cadf_split.specs.Windows.{part_keys}
 use Rattle.cadf_split.proofs.laws.parts_are_the_set.Goals as goal
 
 pub returns : goal.returns
@@ -12,7 +12,7 @@ returns c = record {
   together = λ unit. parts_together (key unit);
   not_empty = λ unit k s. (
     λ l. listed_key (key unit) s k l,
-    λ h. subst (λ x. Listed x (keys unit s)) (part_key (key unit) k s h.0 h.1) (key_listed (key unit) s h.0 (part_has (key unit) k s h.0 h.1)),
+    λ h. subst (λ x. Listed x (part_keys unit s)) (part_key (key unit) k s h.0 h.1) (key_listed (key unit) s h.0 (part_has (key unit) k s h.0 h.1)),
   );
   grounded = λ unit. part_grounded (key unit) (key_of_carrier unit);
   replica = λ unit k s h. record {

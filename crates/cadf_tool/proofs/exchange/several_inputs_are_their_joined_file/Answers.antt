@@ -1,6 +1,6 @@
 use Rattle.std.proofs.Common.{None, refl, sym, ◌∙◌}
-use Rattle.cadf_tool.specs.WrittenFile.{file}
-use Rattle.cadf_tool.specs.Run.{all, IsValue}
+use Rattle.cadf_tool.specs.WrittenFile.{written_file}
+use Rattle.cadf_tool.specs.Run.{all, IsValueOf}
 use Rattle.cadf_tool.specs.Join.{join_of, of_union}
 use Rattle.cadf_tool.proofs.Accepted.{inputs_read, work_joined}
 use Rattle.cadf_tool.proofs.MadeByRuns.{run_ok, text_behind}
@@ -8,11 +8,11 @@ use Rattle.cadf_tool.proofs.exchange.several_inputs_are_their_joined_file.Goals 
 
 pub returns : goal.returns
 returns g c work tell inputs joined_after others after old new first last files before begun left left' w w' run run' =
-    let j = run_ok (all g.R.Source inputs joined_after) (IsValue (join_of None)) file g.W.Sink old new _ run in
-    let m = run_ok (all g.R.Source others after) (IsValue (of_union work)) tell g.W.Sink first last _ run' in (
-      file j.1,
+    let j = run_ok (all g.R.Source inputs joined_after) (IsValueOf (join_of None)) written_file g.W.Sink old new _ run in
+    let m = run_ok (all g.R.Source others after) (IsValueOf (of_union work)) tell g.W.Sink first last _ run' in (
+      written_file j.1,
       tell m.1,
-      text_behind g.W.Sink old new before (file j.1) w j.4,
+      text_behind g.W.Sink old new before (written_file j.1) w j.4,
       text_behind g.W.Sink first last begun (tell m.1) w' m.4,
       λ loaded input. (
         m.1,

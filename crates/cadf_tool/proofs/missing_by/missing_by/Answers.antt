@@ -1,7 +1,7 @@
 use Rattle.std.proofs.Common.{None, [], ◌∷◌, subst}
 use Rattle.cadf_tool.specs.InventoryInput.{inventory_spec}
 use Rattle.cadf_tool.specs.MissingBy.{part_by}
-use Rattle.cadf_tool.specs.Run.{one, numbered, transition_of, input_spec, IsValue, IsWorked}
+use Rattle.cadf_tool.specs.Run.{one, with_number, transition_of, input_spec, IsValueOf, IsWorked}
 use Rattle.cadf_tool.proofs.Runs.{both_worked}
 use Rattle.cadf_tool.proofs.Unions.{first_place}
 use Rattle.cadf_tool.proofs.UnionDeltas.{part_by_one, number_two}
@@ -11,7 +11,7 @@ pub returns : goal.returns
 returns g c =
     let f = c.in_ok-first.ensures.ok in
     both_worked (one input_spec (transition_of g.R.Source c.args.from.now c.next.new.input))
-    (numbered 2 inventory_spec (transition_of g.R.Source c.args.inventory.now c.load_inventory.new.input)) (IsValue part_by)
+    (with_number 2 inventory_spec (transition_of g.R.Source c.args.inventory.now c.load_inventory.new.input)) (IsValueOf part_by)
     c.in_ok-first.ensures.reads c.in_ok-noted.ensures.reads f.0 c.in_ok-noted.noted c.part.result f.1 f.1.1 c.in_ok-noted.ensures.ok c.in_ok-noted.ensures.ok.1
     (subst (λ r. IsWorked r c.part.result) (part_by_one f.0 c.in_ok-noted.noted)
     (c.part.ensures (f.0 ∷ []) (number_two f.0) (f.2 1 None [] first_place (c.new.ensures 1))))

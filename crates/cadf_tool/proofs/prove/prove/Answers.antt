@@ -1,7 +1,7 @@
 use Rattle.std.proofs.Common.{None, refl}
 use Rattle.std.proofs.lemmas.Result.{err_from_is_err_and}
 use Rattle.cadf_tool.specs.Prove.{proof_of_union}
-use Rattle.cadf_tool.specs.Run.{one, all_from, transition_of, input_spec, IsValue}
+use Rattle.cadf_tool.specs.Run.{one, all_from, transition_of, input_spec, IsValueOf}
 use Rattle.cadf_tool.proofs.LoadedLists.{reads_first, none_failed}
 use Rattle.cadf_tool.proofs.Runs.{both_worked, first_not_read, second_not_read}
 use Rattle.cadf_tool.proofs.prove.prove.Goals as goal
@@ -10,7 +10,7 @@ pub returns-in_err-asked : goal.returns-in_err-asked
 returns-in_err-asked g c =
     let p = err_from_is_err_and c.from_residual.result c.from_residual.ensures.1 in
     rw (p.1, p.2) (first_not_read (one input_spec (transition_of g.R.Source c.args.facts.now c.load_one.new.input))
-    (all_from 2 g.R.Source c.args.inputs.now c.args.inputs.now) (IsValue proof_of_union)
+    (all_from 2 g.R.Source c.args.inputs.now c.args.inputs.now) (IsValueOf proof_of_union)
     c.in_err-asked.ensures.reads (reads_first g.R.Source.reads c.args.inputs.now) c.in_err-asked.field-0.0 refl refl c.in_err-asked.ensures.err)
 
 pub returns-in_err-union : goal.returns-in_err-union
@@ -18,7 +18,7 @@ returns-in_err-union g c =
     let p = err_from_is_err_and c.from_residual-in_err-union.result c.from_residual-in_err-union.ensures.1 in
     let f = c.in_ok-asked.ensures.ok in
     rw (p.1, p.2) (second_not_read (one input_spec (transition_of g.R.Source c.args.facts.now c.load_one.new.input))
-    (all_from 2 g.R.Source c.args.inputs.now c.union_with.new.inputs) (IsValue proof_of_union)
+    (all_from 2 g.R.Source c.args.inputs.now c.union_with.new.inputs) (IsValueOf proof_of_union)
     c.in_ok-asked.ensures.reads c.in_err-union.ensures.reads c.in_ok-asked.asked c.in_err-union.field-0.0 f f.1 c.in_err-union.ensures.err)
 
 pub returns : goal.returns
@@ -26,6 +26,6 @@ returns g c =
     let f = c.in_ok-asked.ensures.ok in
     let u = c.in_ok-union.ensures.ok in
     both_worked (one input_spec (transition_of g.R.Source c.args.facts.now c.load_one.new.input))
-    (all_from 2 g.R.Source c.args.inputs.now c.union_with.new.inputs) (IsValue proof_of_union)
+    (all_from 2 g.R.Source c.args.inputs.now c.union_with.new.inputs) (IsValueOf proof_of_union)
     c.in_ok-asked.ensures.reads c.in_ok-union.ensures.reads c.in_ok-asked.asked u.0 c.proof_by.result f f.1 u.1 (none_failed _ _ u.0 u.1)
     (c.proof_by.ensures u.0 (u.2 None (c.new.ensures 2)))

@@ -1,6 +1,6 @@
 use Rattle.std.proofs.Common.{◌<◌, length, sym, ap, ap₂, ◌∙◌, subst, arith, rules}
 use Rattle.serde_json.specs.Data.{item}
-use Rattle.cadf_json.specs.Flat.{values, decode, items_count, Stands}
+use Rattle.cadf_json.specs.Flat.{node_values, decode, items_count, Stands}
 use Rattle.cadf_json.specs.Value.{IsValue}
 use Rattle.cadf_json.specs.Walks.{AreItemsLeft}
 use Rattle.cadf_json.proofs.Walking.{next_item}
@@ -31,7 +31,7 @@ returns-clause-steps c =
     let some : 0 < length c.self.inside.nodes.now = grind arith in
     let n = next_item t c.self.inside.nodes.now c.size.result some c.self.invariant c.size.ensures.value in
     let first = c.of.ensures ∙ ap (decode t) c.split_at.ensures.front in (
-      sym c.self.view_is ∙ n.is ∙ sym (ap₂ item first (ap (values t) c.split_at.ensures.back)),
+      sym c.self.view_is ∙ n.is ∙ sym (ap₂ item first (ap (node_values t) c.split_at.ensures.back)),
       subst IsValue (sym first) n.value.1,
     )
 

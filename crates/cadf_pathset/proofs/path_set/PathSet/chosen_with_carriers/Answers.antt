@@ -4,7 +4,7 @@ use Rattle.cadf_join.specs.Sets as set
 use Rattle.cadf_join.specs.Contents.{texts_cmp}
 use Rattle.cadf_join.specs.laws.Contents.{texts_total, texts_same}
 use Rattle.cadf_join.specs.laws.Rising.{rising-from_list}
-use Rattle.cadf_pathset.specs.Carriers.{with_carriers}
+use Rattle.cadf_pathset.specs.Carriers.{with_carriers_by}
 use Rattle.cadf_pathset.specs.Lists.{chosen_of}
 use Rattle.cadf_pathset.proofs.Copies.{chosen_rises}
 use Rattle.cadf_pathset.proofs.path_set.PathSet.chosen_with_carriers.Goals as goal
@@ -16,6 +16,6 @@ with_carriers-requires g c =
 pub returns : goal.returns
 returns g c =
     c.in_ok-rows.ensures.set
-    ∙ ap (λ ls. with_carriers g.C.Carrier.carrier (set.from_list ls)) (c.in_ok-lists.ensures
+    ∙ ap (λ ls. with_carriers_by g.C.Carrier.carrier (set.from_list ls)) (c.in_ok-lists.ensures
     ∙ ap (chosen_of c.args.flags.now)
     (sym (rising-from_list texts_total texts_same c.self.inside.rows c.self.invariant) ∙ ap set.rising c.self.view_is))

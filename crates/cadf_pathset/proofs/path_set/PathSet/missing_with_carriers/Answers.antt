@@ -3,7 +3,7 @@ use Rattle.std.specs.List.Sorted.{IsStrictlySortedBy}
 use Rattle.cadf_join.specs.Sets as set
 use Rattle.cadf_join.specs.Contents.{texts_cmp}
 use Rattle.cadf_join.specs.laws.Contents.{texts_total, texts_same}
-use Rattle.cadf_pathset.specs.Carriers.{with_carriers}
+use Rattle.cadf_pathset.specs.Carriers.{with_carriers_by}
 use Rattle.cadf_pathset.proofs.Merges.{without_rises, without_is_difference}
 use Rattle.cadf_pathset.proofs.path_set.PathSet.missing_with_carriers.Goals as goal
 
@@ -15,6 +15,6 @@ with_carriers-requires g c =
 pub returns : goal.returns
 returns g c =
     c.in_ok-rows.ensures.set
-    ∙ ap (with_carriers g.C.Carrier.carrier) (ap set.from_list c.in_ok-lacking.ensures
+    ∙ ap (with_carriers_by g.C.Carrier.carrier) (ap set.from_list c.in_ok-lacking.ensures
     ∙ without_is_difference texts_total texts_same c.self.inside.rows c.other.inside.rows c.self.invariant c.other.invariant
     ∙ (λ i. set.difference (c.self.view_is i) (c.other.view_is i)))

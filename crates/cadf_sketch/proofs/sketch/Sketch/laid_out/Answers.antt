@@ -1,7 +1,7 @@
 use Rattle.std.proofs.Common.{◌∙◌, replicate, ap, sym, subst}
 use Rattle.std.proofs.lemmas.List.{with_items_is}
 use Rattle.cadf_join.specs.Sets.{rising}
-use Rattle.cadf_sketch.specs.Cells.{turned_all, nothing}
+use Rattle.cadf_sketch.specs.Cells.{toggled_all, nothing}
 use Rattle.cadf_sketch.specs.SketchFile.{HasParts}
 use Rattle.cadf_sketch.specs.Sketches.{cells_of, sketch_of}
 use Rattle.cadf_sketch.proofs.WholeLemmas.{sketch_parts}
@@ -12,9 +12,9 @@ unfolding sketch_of cells_of
 invariant_of-result c =
     let own = c.args.inventory.now in
     let layout = c.args.layout in
-    let cells = with_items_is c.in_ok-cells.cells c.turn_all.new.cells (c.turn_all.ensures.length ∙ c.deref_mut.ensures.len)
-    ∙ c.turn_all.ensures.cells
-    ∙ ap (λ l. turned_all l (rising own.digests) layout)
+    let cells = with_items_is c.in_ok-cells.cells c.toggle_all.new.cells (c.toggle_all.ensures.length ∙ c.deref_mut.ensures.len)
+    ∙ c.toggle_all.ensures.cells
+    ∙ ap (λ l. toggled_all l (rising own.digests) layout)
     (c.deref_mut.ensures.value ∙ c.in_ok-cells.ensures ∙ ap (λ n. replicate n nothing) c.cells.ensures) in
     let log = c.in_ok-copy.ensures ∙ c.log.ensures in
     subst HasParts
@@ -32,9 +32,9 @@ unfolding sketch_of cells_of
 returns c =
     let own = c.args.inventory.now in
     let layout = c.args.layout in
-    let cells = with_items_is c.in_ok-cells.cells c.turn_all.new.cells (c.turn_all.ensures.length ∙ c.deref_mut.ensures.len)
-    ∙ c.turn_all.ensures.cells
-    ∙ ap (λ l. turned_all l (rising own.digests) layout)
+    let cells = with_items_is c.in_ok-cells.cells c.toggle_all.new.cells (c.toggle_all.ensures.length ∙ c.deref_mut.ensures.len)
+    ∙ c.toggle_all.ensures.cells
+    ∙ ap (λ l. toggled_all l (rising own.digests) layout)
     (c.deref_mut.ensures.value ∙ c.in_ok-cells.ensures ∙ ap (λ n. replicate n nothing) c.cells.ensures) in
     let log = c.in_ok-copy.ensures ∙ c.log.ensures in
     λ i. record {

@@ -1,6 +1,6 @@
 //! Mixes digests into the cells of a sketch by XOR, which adds or removes them.
 ghost use Rattle.std.specs.Prelude.{◌≡◌, ◌<◌, ◌*◌, ◌^◌, length};
-ghost use Rattle.cadf_sketch.specs.Cells.{mixed_at, turned};
+ghost use Rattle.cadf_sketch.specs.Cells.{mixed_at, toggled};
 
 use crate::cell::{Cell, place_in};
 use crate::layout::Layout;
@@ -14,10 +14,10 @@ fn mix_at(cells: &mut [Cell], place: usize, digest: &[u8; 32])
 }
 
 /// Mixes the digest into its cell of each table by XOR.
-#[tactic(auto, unfolding(crate::specs::Cells::turned))]
-pub(crate) fn turn(cells: &mut [Cell], digest: &[u8; 32], layout: Layout)
+#[tactic(auto, unfolding(crate::specs::Cells::toggled))]
+pub(crate) fn toggle(cells: &mut [Cell], digest: &[u8; 32], layout: Layout)
     requires cells { length cells.old ≡ 3 * layout.size }
-    ensures { cells.new ≡ turned cells.old digest.now layout }
+    ensures { cells.new ≡ toggled cells.old digest.now layout }
 {
     mix_at(cells, place_in(0, digest, layout), digest);
     mix_at(cells, place_in(1, digest, layout), digest);

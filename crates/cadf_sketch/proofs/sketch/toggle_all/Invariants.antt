@@ -1,0 +1,8 @@
+use Rattle.std.proofs.Common.{◌≡◌, length}
+use Rattle.cadf_join.specs.Sets.{rising}
+use Rattle.cadf_sketch.specs.Cells.{toggled_all}
+use Rattle.cadf_sketch.proofs.sketch.toggle_all.Given as goal
+
+abbrev pub invariant-loop-digest : goal.invariant-loop-digest
+invariant-loop-digest l =
+    (length l.cells ≡ length l.fn.cells) × (toggled_all l.cells l.digest-iterator l.layout ≡ toggled_all l.fn.cells (rising l.inventory.digests) l.layout)
