@@ -2,7 +2,6 @@
 --     Shown takes old new rest all     visiting all lists but the rest leads from the old state to the new one
 use Rattle.std.proofs.Common.{◌≡◌, List, [], ◌++◌, sym, ap, subst, ◌∙◌, append_assoc}
 use Rattle.cadf_join.specs.Contents.{Texts}
-use Rattle.cadf_join.proofs.Walks.{append_nothing}
 
 pub record Shown {S : Type 0} (takes : S → List Texts → S → Type 0) (old new : S) (rest all : List Texts) : Type 0 where
   pub done : List Texts
@@ -17,9 +16,6 @@ module _ {S : Type 0} (takes : S → List Texts → S → Type 0)
     taken = none;
     split = e;
   }
-
-  pub shown_at_last : (u v : S) (rest all : List Texts) → rest ≡ [] → Shown takes u v rest all → takes u all v
-  shown_at_last u v rest all e s = subst (λ xs. takes u xs v) (sym (append_nothing s.done) ∙ ap (λ r. s.done ++ r) (sym e) ∙ s.split) s.taken
 
   pub shown_more : (u v w : S) (before here rest all : List Texts) → before ≡ here ++ rest → Shown takes u v before all → takes v here w
       → Shown takes u w rest all

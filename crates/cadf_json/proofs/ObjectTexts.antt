@@ -208,8 +208,3 @@ not_expected expected (Some (array ds)) e = refl
 not_expected expected (Some (object ms)) e = refl
 
 -- ---- the text that the value is
-
-pub text_first : (s : List ℕ) (o : Option Token) (r : List Token) → IsNextToken (tokens s) o r → (d : Data) → IsValue d → s ≡ text d
-    → text_of_token o ≡ text_of_member (Some d)
-text_first s None r next d v e = absurd (some_tokens d [] (append-nil _ ∙ sym (canonical_tokens s d v e) ∙ next))
-text_first s (Some t) r next d v e = string_first d [] t r (append-nil _ ∙ sym (canonical_tokens s d v e) ∙ next)

@@ -1,18 +1,15 @@
 -- A value that UTF-8 tokens begin with satisfies the invariant of values.
-use Rattle.std.proofs.Common.{◌≡◌, ℕ, ◌≤◌, List, ◌∷◌, false, Option, Some, None, option_map, Ordering, Less, Equal, Greater, sym, ap, ◌∙◌, subst, arith}
+use Rattle.std.proofs.Common.{◌≡◌, ℕ, ◌≤◌, List, false, Option, Some, None, option_map, Ordering, Less, Equal, Greater, subst, arith}
 use Rattle.std.specs.Prelude.{⊤}
 use Rattle.std.specs.Ordering.{match_ordering}
 use Rattle.json.specs.Token.{Token}
 use Rattle.json.specs.Json as json
-use Rattle.json.specs.Json.{Parse, value, read_key, parse_map, value_with}
+use Rattle.json.specs.Json.{value, read_key}
 use Rattle.json.specs.Tree as tree
-use Rattle.json.proofs.Grammar.{value_is}
 use Rattle.json.proofs.Nesting.{value-depth}
 use Rattle.serde_json.specs.Data.{Num, Data, null, boolean, number, string, array, object, Items, item, Members, no_members, member, put, depth, items_depth, members_depth}
 use Rattle.serde_json.specs.Read.{number_of, of_json, of_items, of_members, converted}
 use Rattle.serde_json.specs.Written.{has_float}
-use Rattle.cadf_json.specs.Canonical.{begins_object}
-use Rattle.cadf_json.specs.Parts.{is_object}
 use Rattle.cadf_json.specs.TokenUtf8.{HaveUtf8}
 use Rattle.cadf_json.specs.Value.{IsValue}
 use Rattle.cadf_json.proofs.Formed.{IsFormed, formed_json}

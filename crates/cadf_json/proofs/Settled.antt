@@ -1,16 +1,14 @@
 -- A normalized tree is the outline of a value.
-use Rattle.std.proofs.Common.{◌≡◌, ℕ, ◌^◌, ◌<◌, ℤ, pos, negsuc, int_lt, SFits, w64, true, List, Some, decimal, refl, sym, ap, ap₂, ◌∙◌, subst, arith}
-use Rattle.std.specs.Fmt.{signed_decimal}
+use Rattle.std.proofs.Common.{◌≡◌, ℕ, pos, negsuc, List, Some, decimal, refl, sym, ap, ap₂, ◌∙◌, subst}
 use Rattle.json.specs.Json as json
-use Rattle.json.specs.Tree.{json_tokens, HasNumbers}
+use Rattle.json.specs.Tree.{json_tokens}
 use Rattle.json.specs.Print.{print}
 use Rattle.serde_json.specs.Data.{Num, unsigned, negative, float}
 use Rattle.serde_json.specs.Read.{number_of}
 use Rattle.serde_json.specs.Written.{number_text, outline, items_outline, members_outline, compact_text}
 use Rattle.serde_json.proofs.Numbers.{number_of-decimal, number_of-negative}
 use Rattle.serde_json.proofs.Texts.{print-outline}
-use Rattle.cadf_json.specs.Value.{IsWholeNumber, IsWhole, ItemsAreWhole, MembersAreWhole, IsValue}
-use Rattle.cadf_json.proofs.Texts.{HasNumbers-outline}
+use Rattle.cadf_json.specs.Value.{IsWholeNumber, IsWhole, ItemsAreWhole, MembersAreWhole}
 use Rattle.cadf_json.specs.Tree.{
   IsWholeText,
   number_in,
@@ -33,9 +31,6 @@ number_is s h = ap number_of h.2 ∙ number_read h.0 h.1
 
 pub number_in_is : (s : List ℕ) (h : IsWholeText s) → number_in s ≡ h.0
 number_in_is s h = rw (number_is s h)
-
-pub number_of-whole : (s : List ℕ) → IsWholeText s → number_of s ≡ Some (number_in s)
-number_of-whole s h = rw (number_is s h)
 
 mutual
   pub outline-data_in : (j : json.Json) → IsNormalized j → outline (data_in j) ≡ j
@@ -70,10 +65,6 @@ mutual
   pub MembersAreWhole-named_in : (ms : json.Members) → MembersAreNormalized ms → MembersAreWhole (named_in ms)
   MembersAreWhole-named_in json.no_members h = tt
   MembersAreWhole-named_in (json.member k j ms) h = (h.0, IsWhole-data_in j h.1, MembersAreWhole-named_in ms h.2)
-
--- a normalized tree can be written, and what is written is the canonical text
-pub HasNumbers-settled : (j : json.Json) → IsNormalized j → HasNumbers j
-HasNumbers-settled j h = subst HasNumbers (outline-data_in j h) (HasNumbers-outline (data_in j) (IsWhole-data_in j h))
 
 pub print-settled : (j : json.Json) → IsNormalized j → print (json_tokens j) ≡ compact_text (data_in j)
 print-settled j h = ap (λ i. print (json_tokens i)) (sym (outline-data_in j h)) ∙ print-outline (data_in j)

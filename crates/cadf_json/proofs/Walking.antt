@@ -146,14 +146,6 @@ no_list (string s) e = refl
 no_list (array ds) e = absurd cc
 no_list (object ms) e = refl
 
-pub no_object : (d : Data) → is_object d ≡ false → members_in d ≡ no_members
-no_object null e = refl
-no_object (boolean b) e = refl
-no_object (number n) e = refl
-no_object (string s) e = refl
-no_object (array ds) e = refl
-no_object (object ms) e = absurd cc
-
 pub are_members_in : (d : Data) → IsValue d → AreMembers (members_in d)
 are_members_in null v = (tt, tt, omega arith)
 are_members_in (boolean b) v = (tt, tt, omega arith)

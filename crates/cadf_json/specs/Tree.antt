@@ -1,5 +1,5 @@
 -- JSON that is in order, and the value that it represents.
-use Rattle.std.specs.Prelude.{◌≡◌, ◌≤◌, ℕ, List, IsUtf8, unwrap_or, ⊤}
+use Rattle.std.specs.Prelude.{◌≡◌, ℕ, List, IsUtf8, unwrap_or, ⊤}
 use Rattle.json.specs.Json as json
 use Rattle.serde_json.specs.Data.{
   Num,
@@ -17,9 +17,6 @@ use Rattle.serde_json.specs.Data.{
   Members,
   no_members,
   member,
-  depth,
-  items_depth,
-  members_depth,
 }
 use Rattle.serde_json.specs.Read.{number_of}
 use Rattle.serde_json.specs.Written.{number_text}

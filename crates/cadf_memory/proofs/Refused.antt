@@ -44,7 +44,6 @@ use Rattle.cadf_memory.specs.Refused.{
   seen_as,
   seen_from,
   NoReadFailed,
-  UnfailedSource,
   IsFirstOf,
   IsFirstOfTwoBy,
   IsFirstOfThree,

@@ -39,9 +39,6 @@ module _ (q : Texts) (xs : List Texts) (n : ℕ) (s : IsStrictlySortedBy texts_c
   other : (n < length xs → eq_by_cmp texts_cmp (get_or xs n []) q ≡ true → ⊥) → false ≡ list_any (eq_by_cmp texts_cmp q) xs
   other none = sym (not_there q xs n (below_place q (take n xs) below) (above_place q xs n s above none))
 
-  pub past_all : length xs ≤ n → false ≡ list_any (eq_by_cmp texts_cmp q) xs
-  past_all h = other (λ l e. absurd (omega (arith, h, l)))
-
   pub is_there : n < length xs → (r : Ordering) → r ≡ texts_cmp (get_or xs n []) q → is_eq r ≡ list_any (eq_by_cmp texts_cmp q) xs
   is_there l Less e = other (λ k h. true≢false (sym h ∙ sym (ap is_eq e)))
   is_there l Equal e = sym (found_at q xs n l (sym (ap is_eq e)))
@@ -82,10 +79,6 @@ known_between q xs s low high middle front back (suc known) f g l m e =
     (rising_at xs (low - 1) middle s (omega (arith, some, l)) (omega (arith, m, fits)))
     (rising_at xs middle high s m fits) in
     record { ours = x.theirs; theirs = a.theirs; same = sym x.same ∙ a.same }
-
-pub near_found : (a q : Texts) (back : ℕ) → (0 < back → Agree back a q) → Agree back a q
-near_found a q zero f = record { ours = omega arith; theirs = omega arith; same = refl }
-near_found a q (suc back) f = f (omega arith)
 
 pub below_range : (q : Texts) (xs : List Texts) (at to : ℕ) → at ≤ to → to ≤ length xs
     → ((k : ℕ) → at ≤ k → k < to → is_before q false (get_or xs k []) ≡ true) → AllByRecursion (λ l. texts_cmp l q ≡ Less) (take (to - at) (drop at xs))

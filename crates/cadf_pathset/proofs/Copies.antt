@@ -84,14 +84,6 @@ front_place ls ns ms k m h e cut =
     ap (place ls) cut ∙ place_of ls (take k ns) (take k (place ls ns)) (line_cut ls ns (place ls ns) h k)
     ∙ take_least k m (place ls ns) (omega (arith, e, long))
 
--- one further flag
-pub chosen_on : (acc : List Texts) (bs : List Bool) (b : Bool) (l : Texts) (ls total : List Texts) → acc ++ chosen_of (b ∷ bs) (l ∷ ls) ≡ total
-    → (b ≡ true → (acc ++ l ∷ []) ++ chosen_of bs ls ≡ total) × (b ≡ false → acc ++ chosen_of bs ls ≡ total)
-chosen_on acc bs b l ls total h = (
-  λ e. append_assoc acc (l ∷ []) (chosen_of bs ls) ∙ ap (λ z. acc ++ cond z (l ∷ chosen_of bs ls) (chosen_of bs ls)) (sym e) ∙ h,
-  λ e. ap (λ z. acc ++ cond z (l ∷ chosen_of bs ls) (chosen_of bs ls)) (sym e) ∙ h,
-)
-
 pub chosen_none : (bs : List Bool) → chosen_of bs [] ≡ []
 chosen_none [] = refl
 chosen_none (b ∷ bs) = refl

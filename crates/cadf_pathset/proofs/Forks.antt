@@ -25,9 +25,6 @@ then_first Greater z n = refl
 pub no_fork : (ls : List Texts) (f : Fork) (p q : ℕ) → f.order ≡ Equal → IsForkAt ls f p q
 no_fork ls f p q e n x y = absurd (n e)
 
-pub unknown_fork : (ls : List Texts) (f : Fork) → f.order ≡ Equal → IsFork ls f
-unknown_fork ls f e n x y = absurd (n e)
-
 -- one step up on both sides
 module _ (ls : List Texts) (old new : Fork) (a b p q : ℕ) (t u : Text) (r : Ordering)
     (ours : list_at ls a ≡ list_at ls p ++ t ∷ []) (theirs : list_at ls b ≡ list_at ls q ++ u ∷ [])

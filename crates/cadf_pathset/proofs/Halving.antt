@@ -7,9 +7,7 @@ use mathlib.Core.Bool.{true≢false}
 use Rattle.std.specs.declared.cmp.Ordering.{Ordering}
 use Rattle.std.specs.declared.cmp.Ordering.TheVariants.{Less, Equal, Greater}
 use Rattle.std.specs.Ordering.{match_ordering, ordering_then, ordering_reverse, eq_by_cmp, is_eq, is_lt}
-use Rattle.std.specs.Bool.{Decides}
 use Rattle.std.specs.Cmp.{Equal-is, tied_itself}
-use Rattle.std.specs.Cmp.Lexicographic.{pointwise, pointwise_decides}
 use Rattle.std.specs.List.{AllByRecursion, list_any}
 use Rattle.std.specs.List.Sorted.{IsStrictlySortedBy}
 use Rattle.cadf_join.specs.laws.Sets as sets
@@ -19,7 +17,7 @@ use Rattle.cadf_join.specs.Sets as set
 use Rattle.cadf_join.specs.Sets.{contains-from_list, contains-insert}
 use Rattle.cadf_pathset.proofs.Grown.{all_more, all_turned}
 use Rattle.cadf_pathset.proofs.Inserts.{all_put}
-use Rattle.cadf_pathset.specs.Lists.{prefix_cmp, is_before, last_of, last_starts_with, is_above_last}
+use Rattle.cadf_pathset.specs.Lists.{prefix_cmp, is_before, last_of, last_starts_with}
 
 -- lists below a list that is before the bound are before the bound
 pub before_below : (p : Texts) (more : Bool) (a b : Texts) → texts_cmp a b ≡ Less → is_before p more b ≡ true → is_before p more a ≡ true
@@ -107,12 +105,6 @@ all_dropped P (x ∷ xs) (suc n) h = all_dropped P xs n (λ i b l. h (suc i) (om
 last_at : (l : Texts) (ls : List Texts) → get_or (l ∷ ls) (length ls) [] ≡ last_of l ls
 last_at l [] = refl
 last_at l (k ∷ ls) = last_at k ls
-
-pub ends_below_at : (ls : List Texts) (q : Texts) → (ls ≡ [] → ⊥) → is_lt (texts_cmp (get_or ls (length ls - 1) []) q) ≡ is_above_last ls q
-ends_below_at [] q some = absurd (some refl)
-ends_below_at (l ∷ ls) q some =
-    let n : length (l ∷ ls) - 1 ≡ length ls = omega arith in
-    ap (λ k. is_lt (texts_cmp (get_or (l ∷ ls) k []) q)) n ∙ ap (λ z. is_lt (texts_cmp z q)) (last_at l ls)
 
 pub ends_behind_at : (ls : List Texts) (p : Texts) → (ls ≡ [] → ⊥) → is_eq (prefix_cmp (get_or ls (length ls - 1) []) p) ≡ last_starts_with ls p
 ends_behind_at [] p some = absurd (some refl)
@@ -235,12 +227,6 @@ pub put_is_insert : (xs : List Texts) (n : ℕ) (q : Texts) → set.from_list {R
 put_is_insert xs n q = contents_same _ _ (λ x.
     contains-from_list texts_total (take n xs ++ q ∷ drop n xs) x ∙ any_put (eq_by_cmp texts_cmp x) xs n q
     ∙ ap (λ b. eq_by_cmp texts_cmp x q || b) (sym (contains-from_list texts_total xs x)) ∙ sym (contains-insert texts_total (set.from_list xs) q x))
-
-pub lists_decide : (xs ys : List Texts) → Decides (pointwise (eq_by_cmp texts_cmp) xs ys) (xs ≡ ys)
-lists_decide = pointwise_decides (λ x y. (
-  λ h. texts_same x y ((Equal-is (texts_cmp x y)).0 h),
-  λ e. subst (λ z. eq_by_cmp texts_cmp x z ≡ true) e (ap is_eq (tied_itself texts_total x)),
-))
 
 -- the first index above a list: its own index, or the next one if it is present
 pub not_after : (q : Texts) (xs : List Texts) → AllByRecursion (λ l. is_before q false l ≡ true) xs

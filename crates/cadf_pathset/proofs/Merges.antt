@@ -22,10 +22,6 @@ module _ {K : Type 0} (R : K → K → Ordering) where
   alone [] = refl
   alone (x ∷ xs) = refl
 
-  pub without_nothing : (xs : List K) → sorted_without R xs [] ≡ xs
-  without_nothing [] = refl
-  without_nothing (x ∷ xs) = refl
-
   module _ (P : K → Type 0) where
     all_step : (x : K) (xs : List K) (on : List K → List K) → P x → AllByRecursion P xs → ((ys : List K) → AllByRecursion P ys → AllByRecursion P (on ys))
         → (ys : List K) → AllByRecursion P ys → AllByRecursion P (merge_step R true x xs on ys)
@@ -244,23 +240,3 @@ module _ {K : Type 0} {R : K → K → Ordering} (o : IsTotalOrder R) (same : Is
       ap (λ r. match_ordering r (x ∷ sorted_merge R true xs (y ∷ ys)) (x ∷ sorted_merge R true xs ys) (y ∷ merge_step R true x xs (sorted_merge R true xs) ys))
       h.0
       ∙ ap (λ z. x ∷ z) (merge_skip xs y ys n h.1)
-
-  pub merge_new : (xs : List K) (y : K) (ys : List K) → AllByRecursion (λ l. R y l ≡ Less) xs → sorted_merge R true xs (y ∷ ys) ≡ y ∷ sorted_merge R true xs ys
-  merge_new [] y ys h = refl
-  merge_new (x ∷ xs) y ys h =
-      ap (λ r. match_ordering r (x ∷ sorted_merge R true xs (y ∷ ys)) (x ∷ sorted_merge R true xs ys) (y ∷ merge_step R true x xs (sorted_merge R true xs) ys))
-      (o.antisymm x y ∙ ap ordering_reverse h.0)
-
-  pub merge_held : (x y : K) (xs ys : List K) → R x y ≡ Equal → AllByRecursion (λ l. R y l ≡ Less) ys
-      → sorted_merge R true (x ∷ xs) (y ∷ ys) ≡ sorted_merge R true (x ∷ xs) ys
-  merge_held x y xs ys e h =
-      ap (λ r. match_ordering r (x ∷ sorted_merge R true xs (y ∷ ys)) (x ∷ sorted_merge R true xs ys) (y ∷ merge_step R true x xs (sorted_merge R true xs) ys))
-      e
-      ∙ later ys h
-    where
-      later : (ys : List K) → AllByRecursion (λ l. R y l ≡ Less) ys → x ∷ sorted_merge R true xs ys ≡ sorted_merge R true (x ∷ xs) ys
-      later [] h = ap (λ z. x ∷ z) (alone R xs)
-      later (z ∷ ys) h =
-          sym (ap (λ r. match_ordering r (x ∷ sorted_merge R true xs (z ∷ ys)) (x ∷ sorted_merge R true xs ys)
-          (z ∷ merge_step R true x xs (sorted_merge R true xs) ys))
-          (subst (λ w. R w z ≡ Less) (sym (same x y e)) h.0))

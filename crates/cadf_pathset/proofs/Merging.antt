@@ -48,9 +48,6 @@ module _ (acc : List Texts) (x y : Texts) (xs ys total : List Texts) (h : acc ++
   step : (r : Ordering) → texts_cmp x y ≡ r → acc ++ match_ordering r (x ∷ both xs (y ∷ ys)) (x ∷ both xs ys) (y ∷ both (x ∷ xs) ys) ≡ total
   step r e = sym (ap (λ z. acc ++ match_ordering z (x ∷ both xs (y ∷ ys)) (x ∷ both xs ys) (y ∷ both (x ∷ xs) ys)) e) ∙ h
 
-  pub step_less : texts_cmp x y ≡ Less → (acc ++ x ∷ []) ++ both xs (y ∷ ys) ≡ total
-  step_less e = append_assoc acc (x ∷ []) (both xs (y ∷ ys)) ∙ step Less e
-
   pub step_equal : texts_cmp x y ≡ Equal → (acc ++ x ∷ []) ++ both xs ys ≡ total
   step_equal e = append_assoc acc (x ∷ []) (both xs ys) ∙ step Equal e
 
@@ -152,12 +149,6 @@ module _ (first : List Texts) (numbers : List ℕ) (at : ℕ) (acc total : List 
         (λ i. acc ++ both (list_at first (read i) ∷ lists_at first (drop (at + 1) numbers)) (a.0 ∷ a.1))
         ∙ (λ i. acc ++ both (lists_at first (sym (drop_more numbers at 0 lt) i)) (lists_ahead (sym is i) a)) ∙ h
 
-    pub turn_less : (now : List Texts) → now ≡ acc ++ list_at first n ∷ [] → texts_cmp (list_at first n) a.0 ≡ Less
-        → now ++ both (lists_at first (drop (at + 1) numbers)) (lists_ahead more a) ≡ total
-    turn_less now e o =
-        (λ i. e i ++ both (lists_at first (drop (at + 1) numbers)) (lists_ahead (is i) a))
-        ∙ step_less acc (list_at first n) a.0 (lists_at first (drop (at + 1) numbers)) a.1 total here o
-
     pub turn_equal : (now : List Texts) (on : Bool) (b : Place) → now ≡ acc ++ list_at first n ∷ [] → texts_cmp (list_at first n) a.0 ≡ Equal → lists_ahead on b ≡ a.1
         → now ++ both (lists_at first (drop (at + 1) numbers)) (lists_ahead on b) ≡ total
     turn_equal now on b e o f =
@@ -190,11 +181,6 @@ rest_put ls first kept ns ms rest more a total put there is h =
     ap (lists_at ls) put ∙ map-append (list_at ls) ns rest ∙ ap (λ z. lists_at ls ns ++ z) (lists_kept first ls kept rest there)
     ∙ ap (λ z. lists_at ls ns ++ z) (sym (alone texts_cmp (lists_at first rest)))
     ∙ ap (λ z. lists_at ls ns ++ both (lists_at first rest) (lists_ahead z a)) (sym is) ∙ h
-
--- the invariants after one of our lists was compared
-pub front_compared : (ls : List Texts) (ns ms : List ℕ) (n : ℕ) (theirs here : Texts) → theirs ≡ here → IsLinePrefix ls ns ms n theirs
-    → IsLinePrefix ls ns ms n here
-front_compared ls ns ms n theirs same e f = subst (IsLinePrefix ls ns ms n) e f
 
 -- our nodes for as many first texts of theirs as are shared
 pub front_out : (ls : List Texts) (ns ms : List ℕ) (k : ℕ) (l b : Texts) → IsLine ls ns l → ms ≡ take k ns → Agree k l b → IsLine ls ms (take (length ms) b)

@@ -1,6 +1,6 @@
 -- The list that extends a prefix of another by one text.
-use Rattle.std.proofs.Common.{◌≡◌, ℕ, true, ◌+◌, ◌<◌, ◌≤◌, [], ◌∷◌, ◌++◌, refl, sym, ap, ◌∙◌, length, take, drop, get_or}
-use Rattle.std.proofs.lemmas.List.{append-nil, drop_more, take-append-drop, take_all}
+use Rattle.std.proofs.Common.{◌≡◌, ℕ, ◌+◌, ◌<◌, [], ◌∷◌, ◌++◌, refl, sym, ap, ◌∙◌, length, take, drop, get_or}
+use Rattle.std.proofs.lemmas.List.{drop_more, take-append-drop}
 use Rattle.std.specs.declared.cmp.Ordering.{Ordering}
 use Rattle.std.specs.declared.cmp.Ordering.TheVariants.{Less, Equal, Greater}
 use Rattle.std.specs.Ordering.{is_lt, ordering_then}
@@ -30,8 +30,3 @@ pub next_within : (a : Texts) (n : ℕ) (t : Text) → n < length a → is_lt (t
 next_within a n t l =
     sym (ap (λ z. is_lt (texts_cmp z (take n a ++ t ∷ []))) (sym (take-append-drop n a)) ∙ ap is_lt (behind_front (take n a) (drop n a) (t ∷ []))
     ∙ ap (λ z. is_lt (texts_cmp z (t ∷ []))) (drop_more a n [] l) ∙ one_text (get_or a n []) t (drop (n + 1) a))
-
-pub next_behind : (a : Texts) (n : ℕ) (t : Text) → length a ≤ n → true ≡ is_lt (texts_cmp a (take n a ++ t ∷ []))
-next_behind a n t l =
-    sym (ap (λ z. is_lt (texts_cmp a (z ++ t ∷ []))) (take_all n a l) ∙ ap (λ z. is_lt (texts_cmp z (a ++ t ∷ []))) (sym (append-nil a))
-    ∙ ap is_lt (behind_front a [] (t ∷ [])))

@@ -16,7 +16,6 @@ use Rattle.std.proofs.Common.{
   ◌∙◌,
   subst,
   suc,
-  zero,
   length,
   take,
   drop,
@@ -39,7 +38,7 @@ use Rattle.std.proofs.lemmas.List.{
 }
 use Rattle.cadf_join.specs.Contents.{Text, Texts}
 use Rattle.cadf_pathset.specs.Nodes.{list_at, last_node, last_text, place, lists_at, AreThere, IsLine, IsClimb, Agree}
-use Rattle.cadf_pathset.proofs.Arena.{at_grown, one_longer}
+use Rattle.cadf_pathset.proofs.Arena.{at_grown}
 use Rattle.cadf_pathset.proofs.Grown.{grown_by, map_same, map_more, all_more, all_turned}
 
 pub place_of : (ls : List Texts) (ns : List ℕ) (l : Texts) → IsLine ls ns l → place ls ns ≡ l
@@ -57,14 +56,6 @@ no_line ls = record { long = refl; held = λ i b. absurd (omega (arith, b)); sta
 pub last_there : (ls : List Texts) (ns : List ℕ) (l : Texts) → IsLine ls ns l → last_node ns ≤ length ls
 last_there ls [] l h = omega arith
 last_there ls (n ∷ ns) l h = h.held (length ns) (omega arith)
-
-pub nonroot : (ls : List Texts) (n : ℕ) (l : Texts) → list_at ls n ≡ l → 0 < length l → 0 < n
-nonroot ls zero l e h = let m = ap length e in absurd (omega (arith, m, h))
-nonroot ls (suc n) l e h = omega arith
-
-pub some_of_last : (ns : List ℕ) → 0 < last_node ns → 0 < length ns
-some_of_last [] h = absurd (omega (arith, h))
-some_of_last (n ∷ ns) h = omega arith
 
 module _ (ls : List Texts) (ns : List ℕ) (l : Texts) (h : IsLine ls ns l) where
   pub line_cut : (k : ℕ) → IsLine ls (take k ns) (take k l)
@@ -95,12 +86,6 @@ module _ (ls : List Texts) (ns : List ℕ) (l : Texts) (h : IsLine ls ns l) wher
             ∙ take-take (j + 1) (length l) m (omega (arith, c, k)))
             (ap (list_at ls) (get_or_push ns n 0 (length ns) refl) ∙ is ∙ sym (take_all (length ns + 1) m (omega (arith, k, long)))) i (omega (arith, b, one));
       }
-
-  pub node_behind : (i : ℕ) → i < length ns → 0 < get_or ns i 0
-  node_behind i b =
-      let m = h.long in
-      let n = length-take-le (i + 1) l (omega (arith, b, m)) in
-      nonroot ls (get_or ns i 0) (take (i + 1) l) (h.stands i b) (omega (arith, n))
 
   pub text_on_line : (i : ℕ) → i < length ns → last_text (list_at ls (get_or ns i 0)) ≡ get_or l i []
   text_on_line i b =
@@ -138,12 +123,6 @@ kept_more ls ms = take_at ls ms (length ls) refl
 pub kept_again : (ls us vs : List Texts) → take (length ls) us ≡ ls → take (length us) vs ≡ us → take (length ls) vs ≡ ls
 kept_again ls us vs h k = sym (take-take (length ls) (length us) vs (nodes_fit ls us h)) ∙ ap (take (length ls)) k ∙ h
 
-last_of_more : (ns : List ℕ) (n : ℕ) → last_node (ns ++ n ∷ []) ≡ n
-last_of_more ns n =
-    let one = length_push ns n in
-    let e : length (ns ++ n ∷ []) ≡ suc (length ns) = omega (arith, one) in
-    ap (λ k. get_or (0 ∷ ns ++ n ∷ []) k 0) e ∙ get_or_push ns n 0 (length ns) refl
-
 -- a node appended to a line
 pub line_grown : (ls us : List Texts) (ns ms : List ℕ) (p n : ℕ) (t : Text) → IsLine ls ns (place ls ns) → p ≡ last_node ns
     → us ≡ ls ++ (list_at ls p ++ t ∷ []) ∷ [] → n ≡ length ls + 1 → ms ≡ ns ++ n ∷ [] → IsLine us ms (place ls ns ++ t ∷ [])
@@ -163,65 +142,6 @@ line_grown ls us ns ms p n t h at put number more =
     is =
         let one : n ≡ suc (length ls) = omega (arith, number) in
         (λ i. list_at (put i) (one i)) ∙ get_or_push ls (list_at ls p ++ t ∷ []) [] (length ls) refl ∙ ap (λ k. list_at ls k ++ t ∷ []) at
-
-pub climb_none : (ls : List Texts) (n : ℕ) (l : Texts) → list_at ls n ≡ l → IsClimb ls [] l (length (list_at ls n))
-climb_none ls n l e = record {
-  long = let k = ap length e in omega (arith, k);
-  held = λ i b. absurd (omega (arith, b));
-  stands = λ i b. absurd (omega (arith, b));
-}
-
--- one node further up
-module _ (ls : List Texts) (up : List ℕ) (l : Texts) (n p : ℕ) (t : Text) (h : IsClimb ls up l (length (list_at ls n))) (there : n ≤ length ls)
-    (is : list_at ls n ≡ take (length (list_at ls n)) l) (parent : list_at ls n ≡ list_at ls p ++ t ∷ []) where
-  pub climb_more : IsClimb ls (up ++ n ∷ []) l (length (list_at ls p))
-  climb_more =
-      let k = h.long in
-      let one = length_push up n in
-      let m = one_longer (list_at ls n) (list_at ls p) t parent in
-      let at : length (list_at ls n) ≡ length l - length up = omega (arith, k) in
-      record {
-        long = omega (arith, k, one, m);
-        held = λ i b. below_more (λ j. get_or (up ++ n ∷ []) j 0 ≤ length ls) (length up)
-            (λ j c. let e = get_or_append_left up (n ∷ []) 0 j c in let f = h.held j c in omega (arith, e, f))
-            (let e = get_or_push up n 0 (length up) refl in omega (arith, e, there)) i (omega (arith, b, one));
-        stands = λ i b. below_more (λ j. list_at ls (get_or (up ++ n ∷ []) j 0) ≡ take (length l - j) l) (length up)
-            (λ j c. ap (list_at ls) (get_or_append_left up (n ∷ []) 0 j c) ∙ h.stands j c)
-            (ap (list_at ls) (get_or_push up n 0 (length up) refl) ∙ is ∙ ap (λ j. take j l) at) i (omega (arith, b, one));
-      }
-
-  pub parent_front : list_at ls p ≡ take (length (list_at ls p)) l
-  parent_front =
-      let m = one_longer (list_at ls n) (list_at ls p) t parent in
-      sym (take_at (list_at ls p) (t ∷ []) (length (list_at ls p)) refl) ∙ ap (take (length (list_at ls p))) (sym parent ∙ is)
-      ∙ take-take (length (list_at ls p)) (length (list_at ls n)) l (omega (arith, m))
-
--- a line truncated to the node that a climb reached
-module _ (ls : List Texts) (ns ms : List ℕ) (l : Texts) (h : IsLine ls ns (place ls ns)) (cut : ms ≡ take (length ms) ns) where
-  pub cut_line : IsLine ls ms (take (length ms) (place ls ns))
-  cut_line = subst (λ z. IsLine ls z (take (length ms) (place ls ns))) (sym cut) (line_cut ls ns (place ls ns) h (length ms))
-
-  pub cut_length : length ms ≤ length (place ls ns)
-  cut_length = let a = cut_line.long in let b = length-take (length ms) (place ls ns) in omega (arith, a, b)
-
-  pub cut_place : place ls ms ≡ take (length ms) (place ls ns)
-  cut_place = place_of ls ms (take (length ms) (place ls ns)) cut_line
-
-  module _ (n : ℕ) (met : last_node ms ≡ n) (front : list_at ls n ≡ take (length (list_at ls n)) l) where
-    pub met_length : length (list_at ls n) ≡ length ms
-    met_length =
-        let a = cut_line.long in
-        let b = ap length (sym (ap (list_at ls) met) ∙ cut_place) in
-        omega (arith, a, b)
-
-    pub met_agree : length (list_at ls n) ≤ length l → Agree (length ms) (place ls ns) l
-    met_agree fits =
-        let m = met_length in
-        record {
-          ours = cut_length;
-          theirs = omega (arith, m, fits);
-          same = sym cut_place ∙ ap (list_at ls) met ∙ front ∙ ap (λ k. take k l) met_length;
-        }
 
 pub agree_none : (a b : Texts) → Agree 0 a b
 agree_none a b = record { ours = omega arith; theirs = omega arith; same = refl }

@@ -176,11 +176,6 @@ module _ (digest : Texts → Text) where
       mean = λ i pos le. message_at x i (nat_eq (suc w.made) i) refl new pos le;
     }
 
-  at_either : (f : ℕ → Contents) (k j : ℕ) (s t : Contents) (b : Bool) → nat_eq k j ≡ b → f j ≡ t → (k ≡ j → set.union (f k) s ≡ set.union t s)
-      → cond b (set.union (f k) s) (f j) ≡ cond b (set.union t s) t
-  at_either f k j s t true same is u = u (eqb-true k j same)
-  at_either f k j s t false differs is u = is
-
   -- site k gets a set that equals s there, and the others keep theirs
   taken_at : (e : List Turn) (w : World) (kept : Kept e w) (k : ℕ) (p s : Contents) → set.union (plain e k) p ≡ set.union (plain e k) s → (j : ℕ)
       → with_at w.sites k (set.union (w.sites k) p) j ≡ cond (nat_eq k j) (set.union (plain e j) s) (plain e j)

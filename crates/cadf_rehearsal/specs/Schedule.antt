@@ -7,8 +7,7 @@
 use Rattle.std.specs.Prelude.{◌≡◌, ◌⊎◌, ℕ, suc, ◌+◌, Bool, true, cond, ◌&&◌, List, [], ◌∷◌, length, Option, Some, None, Result, Ok, Err, nat_eq, nat_lt, nat_le}
 use Rattle.cadf_join.specs.Sets as set
 use Rattle.cadf_join.specs.Contents.{Text, Texts, Contents, Has, IsWithin}
-use Rattle.cadf_event.specs.Document.{DocumentParts}
-use Rattle.cadf_line.specs.Atoms.{IsGrounded, is_text}
+use Rattle.cadf_line.specs.Atoms.{is_text}
 use Rattle.cadf_atom.specs.Contributions.{document_atoms}
 use Rattle.cadf_line.specs.Missing.{Digests, digests_of, missing_by}
 use Rattle.cadf_rehearsal.specs.declared.turn.Turn.{Turn}

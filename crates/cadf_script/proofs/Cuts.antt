@@ -47,9 +47,6 @@ neither : (a b : Bool) → (a || b) ≡ false → (a ≡ false) × (b ≡ false)
 neither true b e = absurd (true≢false e)
 neither false b e = (refl, e)
 
-blank_itself : (32 == 32) ≡ true
-blank_itself = refl
-
 module _ where
   no_blank_here : (y : ℕ) (c : List ℕ) → 32 ≡ y → has_blank (y ∷ c) ≡ false → ⊥
   no_blank_here y c e q = true≢false (sym (ap (λ x. (x == 32) || has_blank c) (sym e)) ∙ q)
@@ -93,9 +90,6 @@ module _ where
 
 -- ---- the first space
 
-abbrev is_blank : ℕ → Bool
-is_blank x = x == 32
-
 unblank_front : (xs : List ℕ) → has_blank (take (position_or_len (λ x. x == 32) xs) xs) ≡ false
 unblank_front [] = refl
 unblank_front (x ∷ xs) = by (x == 32) refl (unblank_front xs)
@@ -135,9 +129,6 @@ cut_at bytes i e within = record {
 
 -- ---- a number and the bytes after it
 
-pub site_here : (words word rest : List ℕ) (n : ℕ) → IsCut words word rest → IsScriptNumber word n → IsSiteAndText words n rest
-site_here words word rest n cut number = (number.0, cut.is ∙ ap (λ w. w ++ 32 ∷ rest) number.1)
-
 pub no_site_uncut : (words : List ℕ) → has_blank words ≡ false → (n : ℕ) (text : List ℕ) → ¬ IsSiteAndText words n text
 no_site_uncut words none n text h = true≢false (sym (blank_in (decimal n) text) ∙ ap has_blank (sym h.1) ∙ none)
 
@@ -146,12 +137,6 @@ no_site_number words word rest cut none n text h =
     none n (h.0, (cut_unique word rest (decimal n) text cut.first (decimal_unblank n h.0) (sym cut.is ∙ h.1)).0)
 
 -- ---- two numbers
-
-pub two_here : (words word rest : List ℕ) (m n : ℕ) → IsCut words word rest → IsScriptNumber word m → IsScriptNumber rest n → AreTwo words m n
-two_here words word rest m n cut first second = (first.0, second.0, cut.is ∙ (λ i. first.1 i ++ 32 ∷ second.1 i))
-
-pub no_two_uncut : (words : List ℕ) → has_blank words ≡ false → (m n : ℕ) → ¬ AreTwo words m n
-no_two_uncut words none m n h = no_site_uncut words none m (decimal n) (h.0, h.2)
 
 pub no_two_first : (words word rest : List ℕ) → IsCut words word rest → ((n : ℕ) → ¬ IsScriptNumber word n) → (m n : ℕ) → ¬ AreTwo words m n
 no_two_first words word rest cut none m n h = no_site_number words word rest cut none m (decimal n) (h.0, h.2)

@@ -79,12 +79,6 @@ pub record HasRead (bytes : List ℕ) (start : ℕ) (turns : List Turn) : Type 0
   pub goes_on : (more : List Turn) → IsScript (drop start bytes) more → IsScript bytes (turns ++ more)
   pub bad : (m : ℕ) → IsFirstBad (lines_of (drop start bytes)) m → IsFirstBad (lines_of bytes) (length turns + m)
 
-pub at_start : (bytes : List ℕ) → HasRead bytes 0 []
-at_start bytes = record { goes_on = λ more h. h; bad = λ m h. subst (IsFirstBad (lines_of bytes)) (none m) h }
-  where
-    none : (m : ℕ) → m ≡ 0 + m
-    none m = omega arith
-
 pub at_end : (bytes : List ℕ) (start : ℕ) (turns : List Turn) → length bytes ≤ start → HasRead bytes start turns → IsScript bytes turns
 at_end bytes start turns past read =
     subst (IsScript bytes) (append-nil turns)

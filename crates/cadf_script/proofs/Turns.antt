@@ -4,33 +4,22 @@ use Rattle.std.proofs.Common.{
   ◌≢◌,
   ℕ,
   List,
-  ◌∷◌,
-  ◌++◌,
   false,
   cond,
   length,
-  Option,
-  Some,
-  None,
-  Result,
-  Ok,
-  Err,
   refl,
   sym,
-  ap,
   ◌∙◌,
   subst,
-  true≢false,
   eqb,
 }
-use Rattle.std.specs.Prelude.{MatchOption, IfOk, decimal}
-use Rattle.std.specs.declared.alloc.AllocError.{AllocError}
+use Rattle.std.specs.Prelude.{decimal}
 use Rattle.cadf_rehearsal.specs.declared.turn.Turn.{Turn}
 use Rattle.cadf_rehearsal.specs.declared.turn.Turn.TheVariants.{Learn as Learns, Ask as Asks, Answer as Answers, Send as Sends, Deliver as Delivers}
 use Rattle.cadf_script.specs.declared.line.Command.TheVariants.{Learn, Ask, Answer, Send, Deliver}
 use Rattle.cadf_script.specs.Script.{Command, word_of, command_of, AreWords, IsSiteAndText, IsDocumentOf, IsTurn, IsNoTurn}
-use Rattle.cadf_script.specs.Words.{IsCut, has_blank, SpellsNoDocument, HasArguments}
-use Rattle.cadf_script.proofs.Cuts.{cut_unique, blank_in, decimal_unblank}
+use Rattle.cadf_script.specs.Words.{IsCut, has_blank, SpellsNoDocument}
+use Rattle.cadf_script.proofs.Cuts.{cut_unique, decimal_unblank}
 
 word_unblank : (c : Command) → has_blank (word_of c) ≡ false
 word_unblank Learn = refl
@@ -50,39 +39,12 @@ back Answer = refl
 back Send = refl
 back Deliver = refl
 
-one_command : (c d : Command) → word_of c ≡ word_of d → c ≡ d
-one_command c d e = sym (back c) ∙ ap (λ w. by_length (length w)) e ∙ back d
-
-pub no_turn_uncut : (line : List ℕ) → has_blank line ≡ false → IsNoTurn line
-no_turn_uncut line none t h = true≢false (sym (blank_in (word_of (command_of t)) h.0) ∙ ap has_blank (sym h.1) ∙ none)
-
 parts : (line word rest : List ℕ) (t : Turn) → IsCut line word rest → (h : IsTurn line t) → (word ≡ word_of (command_of t)) × (rest ≡ h.0)
 parts line word rest t cut h =
     cut_unique word rest (word_of (command_of t)) h.0 cut.first (word_unblank (command_of t)) (sym cut.is ∙ h.1)
 
 pub no_turn_word : (line word rest : List ℕ) → IsCut line word rest → ((c : Command) → word ≢ word_of c) → IsNoTurn line
 no_turn_word line word rest cut none t h = none (command_of t) (parts line word rest t cut h).0
-
-turn_some : (line word rest : List ℕ) (c : Command) (t : Turn) → IsCut line word rest → word ≡ word_of c
-    → (command_of t ≡ c) × AreWords rest t → IsTurn line t
-turn_some line word rest c t cut e h = (rest, cut.is ∙ ap (λ w. w ++ 32 ∷ rest) (e ∙ ap word_of (sym h.0)), h.1)
-
-turn_none : (line word rest : List ℕ) (c : Command) → IsCut line word rest → word ≡ word_of c
-    → ((t : Turn) → command_of t ≡ c → ¬ AreWords rest t) → IsNoTurn line
-turn_none line word rest c cut e h t k =
-    let p = parts line word rest t cut k in
-    h t (one_command (command_of t) c (sym p.0 ∙ e)) (subst (λ w. AreWords w t) (sym p.1) k.2)
-
-turn_found : (line word rest : List ℕ) (c : Command) (found : Option Turn) → IsCut line word rest → word ≡ word_of c
-    → HasArguments c rest found → MatchOption found (IsNoTurn line) (IsTurn line)
-turn_found line word rest c (Some t) cut e h = turn_some line word rest c t cut e h
-turn_found line word rest c None cut e h = turn_none line word rest c cut e h
-
--- the turn found in the words after the command is the turn found in the line
-pub turn_here : (line word rest : List ℕ) (c : Command) (r : Result (Option Turn) AllocError) → IsCut line word rest → word ≡ word_of c
-    → IfOk r (HasArguments c rest) → IfOk r (λ found. MatchOption found (IsNoTurn line) (IsTurn line))
-turn_here line word rest c (Ok found) cut e h = turn_found line word rest c found cut e h
-turn_here line word rest c (Err f) cut e h = tt
 
 -- ---- the document that a site learns
 

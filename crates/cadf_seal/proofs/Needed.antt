@@ -1,7 +1,7 @@
 -- Which shown leaves facts need, by the least fact above the leaf before; and the first of some facts with a state.
 use Rattle.std.proofs.Common.{◌≡◌, ◌∙◌, ◌<◌, ◌+◌, ℕ, Bool, true, false, cond, List, [], ◌∷◌, Option, Some, None, length, drop, get_or, refl, ap, sym, arith, true≢false}
 use Rattle.std.specs.Prelude.{◌&&◌, ◌||◌, if◌then◌else◌}
-use Rattle.std.specs.List.{find, AllByRecursion, position_from}
+use Rattle.std.specs.List.{find, AllByRecursion}
 use Rattle.std.proofs.lemmas.List.{drop_more}
 use Rattle.cadf_join.specs.Contents.{Text, text_cmp, is_after, next_after}
 use Rattle.cadf_join.specs.Sets.{rising}
@@ -81,15 +81,3 @@ module _ (ss : List Leaf) (k : ℕ) (d : Leaf) (before : Option Text) (fs : List
   pub unneeded_leaf : needs before (first_digest (drop (k + 1) ss)) fs ≡ false → unneeded (k + 4) before (drop k ss) fs ≡ Some (k + 4)
   unneeded_leaf h =
       at_leaf ∙ ap (λ b. if b then unneeded (k + 4 + 1) (Some (get_or ss k d).digest) (drop (k + 1) ss) fs else Some (k + 4)) h
-
--- ---- one fact further
-
-module _ (t : Text → Bool) (fs : List Text) (k : ℕ) (d : Text) (low : k < length fs) where
-  at_fact : position_from t (k + 1) (drop k fs) ≡ position_from t (k + 1) (get_or fs k d ∷ drop (k + 1) fs)
-  at_fact = ap (position_from t (k + 1)) (drop_more fs k d low)
-
-  pub next_fact : t (get_or fs k d) ≡ false → position_from t (k + 1) (drop k fs) ≡ position_from t (k + 1 + 1) (drop (k + 1) fs)
-  next_fact h = at_fact ∙ ap (λ b. cond b (Some (k + 1)) (position_from t (k + 1 + 1) (drop (k + 1) fs))) h
-
-  pub this_fact : t (get_or fs k d) ≡ true → position_from t (k + 1) (drop k fs) ≡ Some (k + 1)
-  this_fact h = at_fact ∙ ap (λ b. cond b (Some (k + 1)) (position_from t (k + 1 + 1) (drop (k + 1) fs))) h

@@ -1,5 +1,5 @@
 -- The shown leaves before a place and the others, as the parts of a list; and the hash of a tree, one step at a time.
-use Rattle.std.proofs.Common.{◌≡◌, ◌∙◌, ◌<◌, ◌≤◌, ◌+◌, ◌-◌, ◌^◌, ℕ, zero, suc, Bool, true, false, cond, List, [], ◌∷◌, Some, ◌≢◌, length, take, drop, get_or, refl, ap, sym, arith, length-drop}
+use Rattle.std.proofs.Common.{◌≡◌, ◌∙◌, ◌<◌, ◌≤◌, ◌+◌, ◌-◌, ◌^◌, ℕ, zero, suc, Bool, true, false, cond, List, [], ◌∷◌, ◌≢◌, length, take, drop, refl, ap, sym, arith, length-drop}
 use Rattle.std.specs.Prelude.{nat_le, nat_lt, slice_index_or, if◌then◌else◌}
 use Rattle.std.specs.List.{filter, AllByRecursion}
 use Rattle.std.specs.List.Sorted.{IsPartitionPoint, IsPartitionedBy}
@@ -7,12 +7,11 @@ use Rattle.std.proofs.lemmas.Bool.{le-leb, lt-leb, lt-ltb, ltb-true, ltb-false, 
 use Rattle.std.proofs.lemmas.List.{take_all}
 use Rattle.sha2.specs.Sha256.{sha256}
 use Rattle.cadf_join.specs.Contents.{Text}
-use Rattle.cadf_seal.specs.Tree.{leaf_hash}
 use Rattle.cadf_seal.specs.Shown.{until, leaves_from, next_hash, rebuilt}
 use Rattle.cadf_seal.specs.ProofFile.{ProofModel}
 use Rattle.cadf_seal.specs.Verified.{PlacesRise, alone, root_from, proof_root}
 use Rattle.cadf_seal.specs.declared.leaf.Leaf.{Leaf}
-use Rattle.cadf_seal.proofs.Rebuilding.{halves_rebuilt, rebuilt_at, rise_kept}
+use Rattle.cadf_seal.proofs.Rebuilding.{rebuilt_at, rise_kept}
 use Rattle.cadf_seal.proofs.Trees.{below_power, within_more}
 
 place_at_least : (m : ℕ) (ss : List Leaf) (k : ℕ) (d : Leaf) → k < length ss → AllByRecursion (λ t. m < t.place) ss → m ≤ (slice_index_or ss k d).place
@@ -93,18 +92,6 @@ pub rebuilt_none : (h a n : ℕ) (ss : List Leaf) (hs : List Text) → length ss
 rebuilt_none zero a n [] hs e = refl
 rebuilt_none (suc h) a n [] hs e = refl
 rebuilt_none h a n (s ∷ ss) hs e = absurd (omega (arith, e))
-
-pub rebuilt_leaf : (a n : ℕ) (ss : List Leaf) (hs : List Text) (d : Leaf) → 0 < length ss → rebuilt 0 a n ss hs ≡ Some (leaf_hash (get_or ss 0 d).digest, hs)
-rebuilt_leaf a n [] hs d low = absurd (omega (arith, low))
-rebuilt_leaf a n (s ∷ ss) hs d low = refl
-
-pub rebuilt_small : (h a n : ℕ) (ss : List Leaf) (hs : List Text) → 0 < length ss → n ≤ 2 ^ h → rebuilt (suc h) a n ss hs ≡ rebuilt h a n ss hs
-rebuilt_small h a n [] hs low small = absurd (omega (arith, low))
-rebuilt_small h a n (s ∷ ss) hs low small = rebuilt_at h a n s ss hs true (le-leb _ _ small)
-
-pub rebuilt_large : (h a n : ℕ) (ss : List Leaf) (hs : List Text) → 0 < length ss → 2 ^ h < n → rebuilt (suc h) a n ss hs ≡ halves_rebuilt h a n ss hs
-rebuilt_large h a n [] hs low large = absurd (omega (arith, low))
-rebuilt_large h a n (s ∷ ss) hs low large = rebuilt_at h a n s ss hs false (lt-leb _ _ large)
 
 pub until_rises : (m : ℕ) (ss : List Leaf) → PlacesRise ss → PlacesRise (until m ss)
 until_rises m ss h = rise_kept (λ s. nat_lt s.place m) ss h

@@ -13,7 +13,7 @@ use Rattle.cadf_linefile.specs.LineGrammar.{LineGrammar}
 use Rattle.cadf_linefile.specs.Verdict.{log_in_line}
 use Rattle.cadf_inventory.specs.InventoryVerdict.{digest_of}
 use Rattle.cadf_sketch.specs.SketchVerdict.{number_in, shape_unless}
-use Rattle.cadf_seal.specs.ModelKind.{ModelKind, grammar_of, decided_of, verdict_of, AcceptsModels}
+use Rattle.cadf_seal.specs.ModelKind.{ModelKind, grammar_of, verdict_of, AcceptsModels}
 use Rattle.cadf_seal.specs.SealFile.{SealModel, IsSeal, seal_header, seal_body}
 
 abbrev pub sealed_count : List ℕ → Option ℕ
@@ -47,9 +47,6 @@ seal_kind = record { header = seal_header; cause_after = cause_after; is_whole =
 
 abbrev pub seal_grammar : LineGrammar
 seal_grammar = grammar_of seal_kind
-
-abbrev pub seal_decided : ℕ → List ℕ → Option FileFault
-seal_decided = decided_of seal_kind
 
 abbrev pub seal_verdict : ℕ → Bool → List ℕ → Result SealModel FileFault
 seal_verdict = verdict_of seal_kind

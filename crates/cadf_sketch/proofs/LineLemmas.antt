@@ -35,10 +35,10 @@ use Rattle.std.proofs.Common.{
   arith,
   true≢false,
 }
-use Rattle.std.specs.Prelude.{◌&&◌, ◌^◌, decimal, nat_eq, nat_le, codes, slice_index, option_map, is_some}
+use Rattle.std.specs.Prelude.{◌&&◌, ◌^◌, decimal, nat_eq, codes, slice_index, option_map}
 use Rattle.std.specs.Int.{w64, to_be_bytes, from_be_bytes, byte_at, bytes_high_first}
 use Rattle.std.specs.List.{starts_with}
-use Rattle.std.proofs.lemmas.Bool.{eqb-true, leb-true}
+use Rattle.std.proofs.lemmas.Bool.{eqb-true}
 use Rattle.std.proofs.lemmas.Nat.{from_be_bytes-to_be_bytes_8, be_bytes_8, mod_below}
 use Rattle.std.proofs.lemmas.List.{take-append-drop, length-append, length-drop, length-take-le}
 use Rattle.std.proofs.Math.Seq.{take-append_seam, drop-append_seam}
@@ -78,7 +78,6 @@ use Rattle.cadf_sketch.proofs.NumberLemmas.{
   first_is,
   after_is,
   cut_cases,
-  AreNumbers,
 }
 
 -- ---- a line that begins with a letter and a space

@@ -42,7 +42,7 @@ use Rattle.std.proofs.Common.{
 }
 use Rattle.std.specs.Prelude.{◌==◌, ◌&&◌, ◌||◌, ◌^◌, not, decimal, nat_lt, flat_map, option_map, IsUtf8}
 use Rattle.std.specs.Int.{IsInRange}
-use Rattle.std.specs.List.{position_or_len, list_any, AllByRecursion}
+use Rattle.std.specs.List.{position_or_len, list_any}
 use Rattle.std.specs.Str.{bytes_eq}
 use Rattle.std.specs.Str.Parse.{AllDigits, digits_value, ParsesUnsigned}
 use Rattle.std.proofs.lemmas.Slice.Eq.{bytes_eq-Decides}
@@ -290,11 +290,6 @@ module _ (xs : List ℕ) (count len : ℕ) (rest word after : List ℕ) (more : 
       ∙ (λ i. put_all xs (put_before ((ap number_in (sym word_is) ∙ sym read) i) (numbers_in (count - suc (len)) (sym after_is i))))
       ∙ more_put xs n (numbers_in (count - suc (len)) after)
 
-  pub number_missing : None ≡ number_in word → put_all xs (numbers_in (count - len) rest) ≡ None
-  number_missing read =
-      ap (λ k. put_all xs (numbers_in k rest)) left
-      ∙ (λ i. put_all xs (put_before ((ap number_in (sym word_is) ∙ sym read) i) (numbers_in (count - suc (len)) (words_after rest))))
-
 pub blank_missing : (xs : List ℕ) (count len : ℕ) (rest : List ℕ) → len < count → words_after rest ≡ [] → put_all xs (numbers_in (count - len) rest) ≡ None
 blank_missing xs count len rest more none =
     let left : count - len ≡ suc (count - suc (len)) = omega (arith, more) in
@@ -303,9 +298,3 @@ blank_missing xs count len rest more none =
 module _ (xs : List ℕ) (count len : ℕ) (rest : List ℕ) (most : len ≤ count) (all : count ≤ len) where
   done : count - len ≡ 0
   done = omega (arith, all)
-
-  pub last_put : (n : ℕ) → Some n ≡ number_in rest → put_all xs (numbers_in (count - len) rest) ≡ Some (xs ++ n ∷ [])
-  last_put n read = ap (λ k. put_all xs (numbers_in k rest)) done ∙ ap (λ o. put_all xs (put_before o (Some []))) (sym read)
-
-  pub last_missing : None ≡ number_in rest → put_all xs (numbers_in (count - len) rest) ≡ None
-  last_missing read = ap (λ k. put_all xs (numbers_in k rest)) done ∙ ap (λ o. put_all xs (put_before o (Some []))) (sym read)

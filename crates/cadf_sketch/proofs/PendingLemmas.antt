@@ -1,9 +1,9 @@
 -- The places that are yet to be checked.
-use Rattle.std.proofs.Common.{◌≡◌, ◌∙◌, ◌<◌, ◌+◌, ◌++◌, ℕ, Bool, true, false, cond, List, [], ◌∷◌, length, refl, ap, sym, subst, below_more}
+use Rattle.std.proofs.Common.{◌≡◌, ◌∙◌, ◌<◌, ◌+◌, ◌++◌, ℕ, Bool, true, false, cond, List, [], ◌∷◌, length, refl, ap, sym, subst}
 use Rattle.std.specs.Prelude.{◌||◌, ◌&&◌, nat_eq}
 use Rattle.std.specs.List.{list_any}
 use Rattle.std.proofs.lemmas.List.Folds.{list_any-append}
-use Rattle.std.proofs.lemmas.Bool.{eqb-true, eq-eqb}
+use Rattle.std.proofs.lemmas.Bool.{eqb-true}
 use mathlib.Core.Bool.{true≢false}
 use Rattle.cadf_sketch.specs.Layouts.{LayoutModel}
 use Rattle.cadf_sketch.specs.Cells.{cell_at, is_lone, place_in, stands, toggled, check, mixed}
@@ -25,13 +25,6 @@ and_right : (a b : Bool) → (a && b) ≡ true → b ≡ true
 and_right true b h = h
 and_right false b h = absurd (true≢false (sym h))
 
-pub has-places_below : (place : ℕ) (places : List ℕ) → ((q : ℕ) → q < place → list_any (nat_eq q) places ≡ true)
-    → (q : ℕ) → q < place + 1 → list_any (nat_eq q) (places ++ place ∷ []) ≡ true
-has-places_below place places all = below_more _ _
-    (λ q h. list_any-append (nat_eq q) places (place ∷ []) ∙ ap (λ b. b || (nat_eq q place || false)) (all q h))
-    (list_any-append (nat_eq place) places (place ∷ [])
-    ∙ ap (λ b. list_any (nat_eq place) places || (b || false)) (eq-eqb place place refl) ∙ or_true (list_any (nat_eq place) places))
-
 -- an element other than the last is before it
 before_last : (places : List ℕ) (place q : ℕ) → (nat_eq q place ≡ true → ⊥) → list_any (nat_eq q) (places ++ place ∷ []) ≡ true
     → list_any (nat_eq q) places ≡ true
@@ -42,13 +35,6 @@ before_last places place q other h =
     by true b n e = refl
     by false true n e = absurd (n refl)
     by false false n e = e
-
-pub awaits_not_lone : (layout : LayoutModel) (cells : List Cell) (pending : List ℕ) (place : ℕ) → is_lone (cell_at cells place) place layout ≡ false
-    → Awaits layout cells (pending ++ place ∷ []) → Awaits layout cells pending
-awaits_not_lone layout cells pending place not_lone awaits q within lone =
-    before_last pending place q
-    (λ same. true≢false (sym (subst (λ (p : ℕ). is_lone (cell_at cells p) p layout ≡ true) (eqb-true q place same) lone) ∙ not_lone))
-    (awaits q within lone)
 
 pub awaits_taken : (layout : LayoutModel) (cells : List Cell) (pending : List ℕ) (place : ℕ) → 0 < layout.size
     → is_lone (cell_at cells place) place layout ≡ true → Awaits layout cells (pending ++ place ∷ [])
@@ -74,10 +60,3 @@ awaits_taken layout cells pending place some is awaits q h lone =
         ∙ ap (λ (p : ℕ). stands d p layout) (sym (eqb-true q place at)) ∙ e))
         (awaits q within (subst (λ (c : Cell). is_lone c q layout ≡ true) as_before lone)) in
         ap (λ b. b || stands d q layout) there
-
-pub none_awaited : (layout : LayoutModel) (cells : List Cell) (q : ℕ) → Awaits layout cells [] → q < length cells → is_lone (cell_at cells q) q layout ≡ false
-none_awaited layout cells q awaits within = by (is_lone (cell_at cells q) q layout) refl
-  where
-    by : (b : Bool) → is_lone (cell_at cells q) q layout ≡ b → b ≡ false
-    by true e = absurd (true≢false (sym (awaits q within e)))
-    by false e = refl

@@ -13,7 +13,6 @@ use Rattle.std.proofs.Common.{
   ◌++◌,
   length,
   map,
-  drop,
   Bool,
   true,
   false,
@@ -30,11 +29,10 @@ use Rattle.std.proofs.Common.{
   ◌∙◌,
   subst,
   arith,
-  append_assoc,
   true≢false,
 }
-use Rattle.std.specs.Prelude.{◌==◌, ◌&&◌, ◌^◌, not, nat_eq, nat_lt, is_some, unwrap_or, decimal, flat_map}
-use Rattle.std.specs.List.{filter_map, AllByRecursion}
+use Rattle.std.specs.Prelude.{◌==◌, ◌&&◌, ◌^◌, not, nat_lt, is_some, unwrap_or, decimal, flat_map}
+use Rattle.std.specs.List.{filter_map}
 use Rattle.std.specs.Int.{IsInRange, w64, to_be_bytes}
 use Rattle.std.specs.Str.{bytes_eq}
 use Rattle.std.specs.Str.Parse.{AllDigits}
@@ -45,10 +43,9 @@ use Rattle.std.proofs.lemmas.Fmt.{digits_decimal}
 use Rattle.std.proofs.lemmas.Bool.{eqb-true, eq-eqb, lt-ltb}
 use Rattle.cadf_event.specs.Names.{is_name}
 use Rattle.cadf_event.specs.Known.{IsNameText}
-use Rattle.cadf_event.specs.LogName.{is_name_text, is_unbroken}
+use Rattle.cadf_event.specs.LogName.{is_unbroken}
 use Rattle.cadf_event.proofs.LogNameLemmas.{unbroken_quoted, both_unbroken}
 use Rattle.cadf_linefile.specs.declared.fault.Cause.{Cause}
-use Rattle.cadf_linefile.specs.declared.fault.Cause.TheVariants.{Shape, Unended}
 use Rattle.cadf_linefile.specs.declared.fault.FileFault.{FileFault}
 use Rattle.cadf_linefile.specs.declared.fault.FileFault.TheVariants.{Digest}
 use Rattle.cadf_linefile.specs.Lines.{text_of_lines, cut}
@@ -59,8 +56,6 @@ use Rattle.cadf_linefile.specs.Verdict.{
   log_in_line,
   with_digest_line,
   begins_digest,
-  body_fault,
-  digest_fault,
   first_of,
   at_line,
   fault_unless,
@@ -69,12 +64,11 @@ use Rattle.cadf_linefile.specs.Verdict.{
 use Rattle.cadf_linefile.proofs.BodyLines.{IsKind, AreAfter, body_of, same_bytes, items_are_file, file_is_items}
 use Rattle.cadf_linefile.proofs.JudgeLemmas.{later_body, later_digest}
 use Rattle.cadf_linefile.proofs.LinesLemmas.{are_unbroken, cut-lines, and_true}
-use Rattle.cadf_linefile.proofs.VerdictLemmas.{good_log, first_none, unless_none}
+use Rattle.cadf_linefile.proofs.VerdictLemmas.{good_log, unless_none}
 use Rattle.cadf_inventory.proofs.DigestLines.{plain_digest, unbroken_digest_of}
 use Rattle.cadf_linefile.proofs.UnbrokenLines.{unbroken_digest}
 use Rattle.cadf_sketch.specs.Sketches.{SketchModel}
 use Rattle.cadf_sketch.specs.SketchFile.{
-  spelled,
   sketch_header,
   head_of,
   head_line,
@@ -86,7 +80,6 @@ use Rattle.cadf_sketch.specs.SketchFile.{
   AreWords64,
   IsHead,
   IsTally,
-  IsCell,
   HasParts,
   IsSketch,
   SketchFileIsInjective,
@@ -97,7 +90,6 @@ use Rattle.cadf_sketch.specs.SketchVerdict.{
   cell_in,
   shape_unless,
   cells_of_head,
-  cause_of_cell,
   cause_after,
   is_whole,
   cause_of_end,

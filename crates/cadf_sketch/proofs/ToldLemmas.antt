@@ -3,7 +3,6 @@ use Rattle.std.proofs.Common.{
   ◌≡◌,
   inl,
   inr,
-  ◌⊎◌,
   ℕ,
   suc,
   ◌+◌,
@@ -33,18 +32,15 @@ use Rattle.std.proofs.Common.{
   ◌∙◌,
   subst,
   arith,
-  true≢false,
 }
 use Rattle.std.specs.Prelude.{◌&&◌, is_some, nat_eq, nat_lt}
 use Rattle.std.specs.List.{AllByRecursion}
-use Rattle.std.proofs.lemmas.Bool.{eqb-true, eq-eqb, lt-ltb, le-ltb}
+use Rattle.std.proofs.lemmas.Bool.{eqb-true, eq-eqb, lt-ltb}
 use Rattle.std.proofs.lemmas.List.{length-append}
 use Rattle.cadf_join.specs.Contents.{Text}
-use Rattle.cadf_event.specs.LogName.{is_name_text}
-use Rattle.cadf_linefile.specs.declared.fault.Cause.{Cause}
 use Rattle.cadf_linefile.specs.declared.fault.Cause.TheVariants.{Shape, Unended}
 use Rattle.cadf_linefile.specs.declared.fault.FileFault.{FileFault}
-use Rattle.cadf_linefile.specs.declared.fault.FileFault.TheVariants.{Trailing, ReadFault, Truncated}
+use Rattle.cadf_linefile.specs.declared.fault.FileFault.TheVariants.{Trailing, ReadFault}
 use Rattle.cadf_linefile.specs.Answers as frame
 use Rattle.cadf_linefile.specs.Reads as frame_reads
 use Rattle.cadf_linefile.specs.Lines.{cut, text_of_lines}
@@ -52,11 +48,10 @@ use Rattle.cadf_linefile.specs.Verdict.{verdict, decided, fault_or, verdict_at_e
 use Rattle.cadf_linefile.proofs.ReadingLemmas.{unless_map}
 use Rattle.cadf_linefile.proofs.UnbrokenLines.{last_apart}
 use Rattle.cadf_sketch.specs.Sketches.{SketchModel}
-use Rattle.cadf_sketch.specs.SketchFile.{head_line, counts_line, cell_line, cell_lines, sketch_body, head_of, IsHead, IsTally, IsCell, HasParts, IsSketch}
+use Rattle.cadf_sketch.specs.SketchFile.{head_line, counts_line, cell_line, cell_lines, sketch_body, head_of, IsHead, IsCell, HasParts}
 use Rattle.cadf_sketch.specs.SketchVerdict.{
   head_in,
   tally_in,
-  cell_in,
   shape_unless,
   cells_of_head,
   cause_of_cell,
@@ -67,12 +62,12 @@ use Rattle.cadf_sketch.specs.SketchVerdict.{
   sketch_of_parts,
   sketch_model_or_fault,
 }
-use Rattle.cadf_sketch.specs.SketchLines.{AreCellsOf, IsCellPut, IsSketchOfLines}
+use Rattle.cadf_sketch.specs.SketchLines.{AreCellsOf, IsCellPut}
 use Rattle.cadf_sketch.specs.SketchReads.{AnswersSketch, ReadsSketch, AreAcceptedCells, IsSketchOfRead}
 use Rattle.cadf_sketch.specs.declared.cell.Cell.{Cell}
 use Rattle.cadf_sketch.specs.declared.head.Head.{Head}
 use Rattle.cadf_sketch.specs.declared.tally.Tally.{Tally}
-use Rattle.cadf_sketch.proofs.LineLemmas.{head-again, head-only, tally-again, tally-only, cell-again, cell-only}
+use Rattle.cadf_sketch.proofs.LineLemmas.{head-again, head-only, tally-only, cell-only}
 use Rattle.cadf_sketch.proofs.SketchFileLemmas.{sketch_again, accepted}
 
 -- ---- one further line
@@ -93,9 +88,6 @@ tally_told h l t is e =
       ap (λ x. head_line h ∷ x ∷ []) (sym p.0),
       record { head = is; tally = p.1; cells = tt; within = omega arith },
     )
-
-pub tally_untold : (h : Head) (l : List ℕ) → None ≡ tally_in l → cause_after (head_line h ∷ []) l ≡ Some Shape
-tally_untold h l e = ap (λ o. shape_unless (is_some o)) (sym e)
 
 lines_size : (cs : List Cell) → length (map cell_line cs) ≡ length cs
 lines_size [] = refl
@@ -135,16 +127,6 @@ cell_told h t old new l are put =
     one_more : {n m : ℕ} → m ≡ n + 1 → n < 3 * h.layout.size → m ≤ 3 * h.layout.size
     one_more e f = omega (arith, e, f)
 
-pub cell_past : (before all : ℕ) (l : List ℕ) → all ≤ before → cause_of_cell before all l ≡ Some Shape
-cell_past before all l past = ap (λ b. shape_unless (b && is_some (cell_in l))) (le-ltb before all past)
-
-pub cell_unread : (before all : ℕ) (l : List ℕ) → None ≡ cell_in l → cause_of_cell before all l ≡ Some Shape
-cell_unread before all l e = ap (λ o. shape_unless (nat_lt before all && is_some o)) (sym e) ∙ no (nat_lt before all)
-  where
-    no : (b : Bool) → shape_unless (b && false) ≡ Some Shape
-    no true = refl
-    no false = refl
-
 -- ---- all lines
 
 pub whole_told : (h : Head) (t : Tally) (cs : List Cell) → IsHead h → is_whole (lines_told h t cs) ≡ nat_eq (length cs) (3 * h.layout.size)
@@ -156,10 +138,6 @@ all_cells h t cs are whole = eqb-true (length cs) (3 * h.layout.size) (sym (whol
 pub parts_told : (log : Text) (h : Head) (t : Tally) (cs : List Cell) → AreCellsOf h t cs → is_whole (lines_told h t cs) ≡ true
     → HasParts (sketch_of_parts log h t cs)
 parts_told log h t cs are whole = record { head = are.head; tally = are.tally; cells = are.cells; count = all_cells h t cs are whole }
-
-pub whole_is : (h : Head) (t : Tally) (cs : List Cell) (b : Bool) → AreCellsOf h t cs → b ≡ nat_eq (length cs) (3 * h.layout.size)
-    → cause_of_end b ≡ cause_of_end (is_whole (lines_told h t cs))
-whole_is h t cs b are e = ap cause_of_end (e ∙ sym (whole_told h t cs are.head))
 
 pub end_none : (b w : Bool) → b ≡ true → w ≡ true → None ≡ cond b (cause_of_end w) None
 end_none b w p q = λ i. cond (sym p i) (cause_of_end (sym q i)) None

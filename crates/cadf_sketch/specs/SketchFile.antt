@@ -6,7 +6,7 @@
 --     sketch_body s        the lines before the digest line
 --     sketch_file s        the file
 --     IsSketch s           the invariant of a sketch
-use Rattle.std.specs.Prelude.{◌≡◌, ◌<◌, ◌*◌, ◌^◌, ℕ, List, [], ◌∷◌, ◌++◌, length, map, flat_map, codes, decimal, true}
+use Rattle.std.specs.Prelude.{◌≡◌, ◌<◌, ◌*◌, ◌^◌, ℕ, List, ◌∷◌, ◌++◌, length, map, flat_map, codes, decimal, true}
 use Rattle.std.specs.Int.{w64, to_be_bytes}
 use Rattle.std.specs.List.{AllByRecursion}
 use Rattle.hex.specs.Hex.{encode_lower}
@@ -14,7 +14,7 @@ use Rattle.cadf_event.specs.LogName.{is_name_text}
 use Rattle.cadf_line.specs.Digest.{IsDigest}
 use Rattle.cadf_linefile.specs.Lines.{text_of_lines}
 use Rattle.cadf_linefile.specs.Verdict.{log_line, with_digest_line}
-use Rattle.cadf_sketch.specs.Layouts.{LayoutModel, IsLayout}
+use Rattle.cadf_sketch.specs.Layouts.{IsLayout}
 use Rattle.cadf_sketch.specs.Sketches.{SketchModel}
 use Rattle.cadf_sketch.specs.declared.cell.Cell.{Cell}
 use Rattle.cadf_sketch.specs.declared.head.Head.{Head}

@@ -7,7 +7,7 @@
 --     sketch_decided            the fault that the bytes decide by themselves, before the source ends
 --     sketch_verdict            the sketch whose file the bytes are, or the first fault
 use Rattle.std.specs.Prelude.{◌≡◌, ◌↔◌, ◌≤◌, ◌+◌, ◌*◌, ◌^◌, ◌==◌, ℕ, zero, suc, nat_eq, nat_lt, List, [], ◌∷◌, length, take, drop, codes, decimal}
-use Rattle.std.specs.Prelude.{Bool, true, false, ◌&&◌, not, is_some, if◌then◌else◌, Option, Some, None, option_map, unwrap_or, Result, Ok, Err}
+use Rattle.std.specs.Prelude.{Bool, false, ◌&&◌, is_some, if◌then◌else◌, Option, Some, None, option_map, unwrap_or, Result, Ok, Err}
 use Rattle.std.specs.Int.{w64, from_be_bytes}
 use Rattle.std.specs.List.{filter_map, starts_with, position_or_len}
 use Rattle.std.specs.Str.{bytes_eq}

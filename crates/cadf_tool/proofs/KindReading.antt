@@ -4,13 +4,11 @@ use Rattle.std.specs.Io.KnownBytes.{Consumes, IsAtEnd}
 use Rattle.cadf_json.specs.Streams.{counted}
 use Rattle.cadf_linefile.specs.Answers.{UnlessMemory}
 use Rattle.cadf_linefile.specs.declared.fault.FileFault.{FileFault}
-use Rattle.cadf_linefile.specs.declared.fault.FileFault.TheVariants.{Version, LogLine, Line, Digest, Truncated, Trailing, TooLarge, ReadFault, Memory}
+use Rattle.cadf_linefile.specs.declared.fault.FileFault.TheVariants.{Trailing, ReadFault, Memory}
 use Rattle.cadf_linefile.specs.declared.file_feed.TheConstants.{FILE_LIMIT}
 use Rattle.cadf_tool.specs.Input.{GivesAll}
-use Rattle.cadf_tool.specs.InputFault.{of_file}
-use Rattle.cadf_tool.specs.Faults.{of_load}
-use Rattle.cadf_tool.specs.FileKind.{FileKind, RefusesKind, kind_spec}
-use Rattle.cadf_tool.specs.Run.{SourceTransition, with_number, IsUnfailed, IsUnread}
+use Rattle.cadf_tool.specs.FileKind.{FileKind, RefusesKind}
+use Rattle.cadf_tool.specs.Run.{SourceTransition, IsUnfailed}
 
 -- the result is the verdict
 abbrev pub AnswersKind : {M : Type 0} → Result M FileFault → Result M FileFault → Type 0
@@ -88,15 +86,3 @@ module _ {M : Type 0} (kind : FileKind M) (t : SourceTransition) where
 
       trailing : ◌≡◌ {A = Result M FileFault} (Err Memory) (Err Trailing) → ⊥
       trailing e = cc
-
-  pub kind_unread : (is : List ℕ → M → Type 0) (number : ℕ) (f : FileFault) → ReadsKind kind t (Err f)
-      → IsUnread (with_number number (kind_spec kind is) t) (of_load number (of_file f))
-  kind_unread is number Version r = (refl, (refl, (Version, (λ e. cc), refl, refuses Version (λ e. cc) r r.verdict)))
-  kind_unread is number LogLine r = (refl, (refl, (LogLine, (λ e. cc), refl, refuses LogLine (λ e. cc) r r.verdict)))
-  kind_unread is number (Line n cause) r = (refl, (refl, (Line n cause, (λ e. cc), refl, refuses (Line n cause) (λ e. cc) r r.verdict)))
-  kind_unread is number Digest r = (refl, (refl, (Digest, (λ e. cc), refl, refuses Digest (λ e. cc) r r.verdict)))
-  kind_unread is number Truncated r = (refl, (refl, (Truncated, (λ e. cc), refl, refuses Truncated (λ e. cc) r r.verdict)))
-  kind_unread is number Trailing r = (refl, (refl, (Trailing, (λ e. cc), refl, refuses Trailing (λ e. cc) r r.verdict)))
-  kind_unread is number TooLarge r = (refl, (refl, (TooLarge, (λ e. cc), refl, refuses TooLarge (λ e. cc) r r.verdict)))
-  kind_unread is number ReadFault r = (refl, (refl, (ReadFault, (λ e. cc), refl, refuses ReadFault (λ e. cc) r r.verdict)))
-  kind_unread is number Memory r = starved r r.failed refl

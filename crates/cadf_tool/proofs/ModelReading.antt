@@ -1,15 +1,13 @@
 -- A source that is read as the file of a model.
-use Rattle.std.proofs.Common.{ℕ, Result, Ok, Err, ap}
+use Rattle.std.proofs.Common.{Result, Ok, ap}
 use Rattle.cadf_linefile.specs.declared.fault.FileFault.{FileFault}
 use Rattle.cadf_linefile.specs.declared.file_feed.TheConstants.{FILE_LIMIT}
 use Rattle.cadf_linefile.proofs.ReadingLemmas.{refused_verdict}
 use Rattle.cadf_seal.specs.ModelKind.{ModelKind, grammar_of, model_or_fault, AcceptsModels}
 use Rattle.cadf_seal.specs.ModelReads.{ReadsModel}
-use Rattle.cadf_tool.specs.InputFault.{of_file}
-use Rattle.cadf_tool.specs.Faults.{of_load}
-use Rattle.cadf_tool.specs.SealInput.{IsModelInput, kind_of, model_spec}
-use Rattle.cadf_tool.specs.Run.{SourceTransition, with_number, IsReadAs, IsUnread}
-use Rattle.cadf_tool.proofs.KindReading.{IsDecidedFirst, kind_read, kind_unread}
+use Rattle.cadf_tool.specs.SealInput.{kind_of, model_spec}
+use Rattle.cadf_tool.specs.Run.{SourceTransition, IsReadAs}
+use Rattle.cadf_tool.proofs.KindReading.{IsDecidedFirst, kind_read}
 
 module _ {M : Type 0} (k : ModelKind M) (Is : M → Type 0) (t : SourceTransition) where
   abbrev Reads : Result M FileFault → Type 0
@@ -31,14 +29,3 @@ module _ {M : Type 0} (k : ModelKind M) (Is : M → Type 0) (t : SourceTransitio
       }) in
       let is = (accepts FILE_LIMIT p.0.0 m).0 p.0.1.2 in
       ((p.0.0, (p.0.1.0, p.0.1.1, record { is = is.0; within = is.1; holds = is.2 })), p.1)
-
-  pub model_unread : (number : ℕ) (f : FileFault) → Reads (Err f) → IsUnread (with_number number (model_spec k Is) t) (of_load number (of_file f))
-  model_unread number f r = kind_unread (kind_of k) t (IsModelInput k Is FILE_LIMIT) number f (record {
-    failed = r.failed;
-    bytes = r.bytes;
-    failures = r.failures;
-    consumed = r.consumed;
-    verdict = r.verdict;
-    failure = r.failure;
-    end = r.end;
-  })

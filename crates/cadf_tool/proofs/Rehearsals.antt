@@ -1,14 +1,12 @@
 -- A script that is read and simulated.
 use Rattle.std.proofs.Common.{◌≡◌, ℕ, List, Result, Ok, Err, refl, sym, ap, subst}
 use Rattle.cadf_join.specs.Contents.{Text}
-use Rattle.cadf_set.specs.Replica.{ReplicaModel}
 use Rattle.cadf_rehearsal.specs.declared.turn.Turn.{Turn as Step}
 use Rattle.cadf_tool.specs.declared.fault.ToolFault.{ToolFault}
 use Rattle.cadf_tool.specs.Faults.{FaultStage, Reading, Working, Writing, OutOfMemoryStage, fault_stage}
-use Rattle.cadf_tool.specs.Rehearse.{IsScriptJudged, bytes_spec, script_spec, turns_of, replicas_after, played_in, final_sites}
-use Rattle.cadf_tool.specs.Run.{SourceTransition, one, IsReadAs, IsReadWithin, IsValueOf, IsFirstFault, IsExpected, IsWorked}
+use Rattle.cadf_tool.specs.Rehearse.{IsScriptJudged, bytes_spec, script_spec, turns_of, played_in, final_sites}
+use Rattle.cadf_tool.specs.Run.{SourceTransition, one, IsReadAs, IsReadWithin, IsFirstFault, IsExpected}
 use Rattle.cadf_linefile.specs.declared.file_feed.TheConstants.{FILE_LIMIT}
-use Rattle.cadf_tool.proofs.Runs.{worked}
 
 -- what was read of a source is a script, if its bytes are
 pub judged : (t : SourceTransition) (v : List ℕ) (script : Result (List Step) ℕ) → IsReadAs bytes_spec t v → IsScriptJudged v script
@@ -38,10 +36,3 @@ module _ (t : SourceTransition) (log : Text) (sites : ℕ) where
   pub script_refused : (fault : ToolFault) → IsExpected (one script_spec t) turns_of (Err fault)
       → IsExpected (one script_spec t) (final_sites log sites) (Err fault)
   script_refused fault h = record { is = refused_at fault (fault_stage fault) h.is; bounded = h.bounded }
-
-  -- the turns of a script are simulated
-  pub script_played : (turns : List Step) (expected : Result (List ReplicaModel) ToolFault) → IsExpected (one script_spec t) turns_of (Ok turns)
-      → IsWorked (replicas_after log sites turns) expected → IsExpected (one script_spec t) (final_sites log sites) expected
-  script_played turns expected h w =
-      worked (one script_spec t) (IsValueOf (final_sites log sites)) h.is.0 expected h.bounded h.is.1 h.is.1.1
-      (subst (λ r. IsWorked r expected) (sym (ap (played_in log sites) h.is.2)) w)

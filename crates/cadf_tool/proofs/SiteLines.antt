@@ -1,40 +1,23 @@
 -- The lines that describe each site.
 use Rattle.std.proofs.Common.{
   ◌≡◌,
-  ℕ,
-  ◌+◌,
-  ◌<◌,
-  ◌≤◌,
-  List,
-  ◌∷◌,
-  ◌++◌,
   Bool,
   true,
   false,
-  length,
-  drop,
-  get_or,
   refl,
   sym,
-  ap,
-  ◌∙◌,
   subst,
   true≢false,
-  append_assoc,
-  append-nil,
-  drop-cons,
-  add-one,
 }
 use Rattle.std.specs.Prelude.{◌&&◌, ◌↔◌, IsTrue}
-use Rattle.cadf_join.specs.Contents.{Text, Contents}
+use Rattle.cadf_join.specs.Contents.{Contents}
 use Rattle.cadf_join.specs.Sets as set
 use Rattle.cadf_join.specs.laws.Sets.{subset-from_IsWithin, IsWithin-from_subset}
 use Rattle.cadf_join.specs.laws.Contents.{texts_total, contents_same}
 use Rattle.cadf_line.specs.Atoms.{is_text}
 use Rattle.cadf_set.specs.Replica.{ReplicaModel}
 use Rattle.std.specs.Cmp.Lexicographic.{bytes_decides}
-use Rattle.std.proofs.lemmas.List.{drop_all}
-use Rattle.cadf_tool.specs.Sites.{is_same, line_at, lines_from}
+use Rattle.cadf_tool.specs.Sites.{is_same}
 
 all_three : (a b c : Bool) → (a && (b && c)) ≡ true → (a ≡ true) × (b ≡ true) × (c ≡ true)
 all_three true true true e = (refl, refl, refl)
@@ -74,20 +57,3 @@ decided false h k w = by (is_same h k) refl
     by : (b : Bool) → is_same h k ≡ b → false ≡ b
     by true e = w.1 (same_is h k e)
     by false e = refl
-
--- one further line
-pub next_line : (sites : List ReplicaModel) (i : ℕ) (h : ReplicaModel) → i < length sites → h ≡ get_or sites i h
-    → lines_from sites i (drop i sites) ≡ line_at sites i h ++ lines_from sites (i + 1) (drop (i + 1) sites)
-next_line sites i h within e =
-    ap (lines_from sites i) (drop-cons sites i h within ∙ (λ j. sym e j ∷ drop (sym (add-one i) j) sites))
-
-pub next_lines : (text whole : Text) (sites : List ReplicaModel) (i : ℕ) (h : ReplicaModel) → i < length sites → h ≡ get_or sites i h
-    → text ++ lines_from sites i (drop i sites) ≡ whole
-    → (text ++ line_at sites i h) ++ lines_from sites (i + 1) (drop (i + 1) sites) ≡ whole
-next_lines text whole sites i h within e so_far =
-    append_assoc text (line_at sites i h) (lines_from sites (i + 1) (drop (i + 1) sites))
-    ∙ ap (λ rest. text ++ rest) (sym (next_line sites i h within e)) ∙ so_far
-
-pub all_lines : (text whole : Text) (sites : List ReplicaModel) (i : ℕ) → length sites ≤ i → text ++ lines_from sites i (drop i sites) ≡ whole → text ≡ whole
-all_lines text whole sites i past so_far =
-    sym (append-nil text) ∙ ap (λ rest. text ++ lines_from sites i rest) (sym (drop_all i sites past)) ∙ so_far

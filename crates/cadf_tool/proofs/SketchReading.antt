@@ -1,5 +1,5 @@
 -- A source that is read as a sketch.
-use Rattle.std.proofs.Common.{ℕ, Result, Ok, Err, ap}
+use Rattle.std.proofs.Common.{Result, Ok, ap}
 use Rattle.cadf_sketch.specs.Sketches.{SketchModel}
 use Rattle.cadf_linefile.specs.declared.fault.FileFault.{FileFault}
 use Rattle.cadf_linefile.proofs.ReadingLemmas.{refused_verdict}
@@ -7,12 +7,9 @@ use Rattle.cadf_sketch.specs.SketchReads.{ReadsSketch}
 use Rattle.cadf_sketch.specs.SketchVerdict.{sketch_grammar, sketch_model_or_fault}
 use Rattle.cadf_sketch.proofs.SketchFileLemmas.{accepts-sketches}
 use Rattle.cadf_linefile.specs.declared.file_feed.TheConstants.{FILE_LIMIT}
-use Rattle.cadf_tool.specs.InputFault.{of_file}
-use Rattle.cadf_tool.specs.Faults.{of_load}
-use Rattle.cadf_tool.specs.Sketch.{IsSketchInput}
 use Rattle.cadf_tool.specs.SketchInput.{sketch_kind, sketch_spec}
-use Rattle.cadf_tool.specs.Run.{SourceTransition, with_number, IsReadAs, IsUnread}
-use Rattle.cadf_tool.proofs.KindReading.{IsDecidedFirst, kind_read, kind_unread}
+use Rattle.cadf_tool.specs.Run.{SourceTransition, IsReadAs}
+use Rattle.cadf_tool.proofs.KindReading.{IsDecidedFirst, kind_read}
 
 decided_first : IsDecidedFirst sketch_kind
 decided_first limit failed bytes f d = ap sketch_model_or_fault (refused_verdict sketch_grammar limit failed bytes f d)
@@ -34,14 +31,3 @@ module _ (t : SourceTransition) where
       }) in
       let is = (accepts-sketches FILE_LIMIT p.0.0 s).0 p.0.1.2 in
       ((p.0.0, (p.0.1.0, p.0.1.1, record { is = is.0; within = is.1; holds = is.2 })), p.1)
-
-  pub sketch_unread : (number : ℕ) (f : FileFault) → Reads (Err f) → IsUnread (with_number number sketch_spec t) (of_load number (of_file f))
-  sketch_unread number f r = kind_unread sketch_kind t (IsSketchInput FILE_LIMIT) number f (record {
-    failed = r.failed;
-    bytes = r.bytes;
-    failures = r.failures;
-    consumed = r.consumed;
-    verdict = r.verdict;
-    failure = r.failure;
-    end = r.end;
-  })

@@ -59,9 +59,6 @@ module _ (froms tos : List Loaded) (from : JoinState) (joined : IsJoinState 1 No
   abbrev next : ℕ
   next = length froms + 1
 
-  pub to_unnamed : first_named tos ≡ None → part_of_unions (froms, tos) ≡ Err NoLog
-  to_unnamed e = ap (λ o. if_named o (on_ok (join_of None froms) (λ h. delta_of next tos h))) e
-
   named_to : IsNamed tos → part_of_unions (froms, tos) ≡ on_ok (join_of None froms) (λ h. delta_of next tos h)
   named_to (log, e) = ap (λ o. if_named o (on_ok (join_of None froms) (λ h. delta_of next tos h))) e
 

@@ -164,10 +164,6 @@ of_ruled letter key place l = by (log_named l) (atoms_loaded l)
     by None s = refl
     by (Some log) s = refl
 
--- the union of one input is the input, for each such work
-pub one_worked : {M : Type 0} (work : Loaded → Result M ToolFault) → IsOfReplica work → (l : Loaded) → of_union work (l ∷ []) ≡ work l
-one_worked work via l = ap (λ r. on_ok r (λ h. work (Replica h))) (join_one 1 l) ∙ sym (via l)
-
 -- ---- engines, by the replica that was read
 
 module _ {M W T : Type 0} (work : Loaded → Result M ToolFault) (tell : M → Text) (sink : Sink W) (old new : W) where

@@ -1,27 +1,14 @@
 -- What a proof says of facts, as the work of an engine on its three inputs.
-use Rattle.std.proofs.Common.{ℕ, Bool, List, Result, Ok, Err, IfErr, ap}
+use Rattle.std.proofs.Common.{ℕ, Bool, List, Result, Ok, Err, IfErr}
 use Rattle.cadf_linefile.specs.declared.file_feed.TheConstants.{FILE_LIMIT}
 use Rattle.cadf_seal.specs.ProofFile.{ProofModel}
 use Rattle.cadf_seal.specs.SealFile.{SealModel}
-use Rattle.cadf_seal.specs.Verified.{VerifyFaultIs}
-use Rattle.cadf_seal.specs.declared.verify.VerifyFault.{VerifyFault}
-use Rattle.cadf_seal.specs.declared.verify.VerifyFault.TheVariants.{OtherCount, OtherRoot, NotShown, NotNeeded, Absent, Present, Memory}
 use Rattle.cadf_tool.specs.declared.input.Loaded.{Loaded}
 use Rattle.cadf_tool.specs.declared.fault.ToolFault.{ToolFault}
-use Rattle.cadf_tool.specs.Faults.{of_verify}
 use Rattle.cadf_tool.specs.Run.{SourceTransition, one, both, with_number, input_spec, IsReadAs, IsReadWithin, IsUnread, IsValueOf, IsExpected, IsWorked}
 use Rattle.cadf_tool.specs.SealInput.{seal_spec, proof_spec}
-use Rattle.cadf_tool.specs.Verify.{of_verified, sources_of, verdict_of}
+use Rattle.cadf_tool.specs.Verify.{sources_of, verdict_of}
 use Rattle.cadf_tool.proofs.Runs.{both_worked, second_not_read}
-
-pub fault_worked : (fault : VerifyFault) (found : Result (List ℕ) VerifyFault) → VerifyFaultIs fault found → IsWorked (of_verified found) (Err (of_verify fault))
-fault_worked OtherCount found e = ap of_verified e
-fault_worked OtherRoot found e = ap of_verified e
-fault_worked (NotShown k) found e = ap of_verified e
-fault_worked (NotNeeded l) found e = ap of_verified e
-fault_worked (Absent k) found e = ap of_verified e
-fault_worked (Present k) found e = ap of_verified e
-fault_worked Memory found e = tt
 
 pub if_err_more : {T E : Type 0} {P Q : E → Type 0} (r : Result T E) → IfErr r P → ((e : E) → P e → Q e) → IfErr r Q
 if_err_more (Ok v) p f = tt

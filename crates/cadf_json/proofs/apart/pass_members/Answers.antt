@@ -4,8 +4,7 @@ use Rattle.json.proofs.Grammar.{read_key-shorter}
 use Rattle.serde_json.specs.Data.{array, no_items}
 use Rattle.cadf_json.specs.Flat.{Stands}
 use Rattle.cadf_json.specs.Reading.{Grown}
-use Rattle.cadf_json.specs.TokenUtf8.{HaveUtf8}
-use Rattle.cadf_json.specs.declared.node.Node.TheVariants.{Null, Array}
+use Rattle.cadf_json.specs.declared.node.Node.TheVariants.{Null}
 use Rattle.cadf_json.proofs.ReadValues.{rest_utf8, key_utf8}
 use Rattle.cadf_json.proofs.TakenApart.{Apart, apart_start, apart_other, apart_list, apart_open, apart_over}
 use Rattle.cadf_json.proofs.apart.pass_members.Goals as goal

@@ -5,11 +5,10 @@ use Rattle.json.specs.Json.{parse_map, members, value}
 use Rattle.json.proofs.Grammar.{value-begin_object}
 use Rattle.serde_json.specs.Data.{object}
 use Rattle.serde_json.specs.Read.{of_json, converted}
-use Rattle.serde_json.specs.Written.{members_have_float}
 use Rattle.cadf_json.specs.Apart.{emptied_in}
 use Rattle.cadf_json.specs.Flat.{decode, have_fraction, Stands}
 use Rattle.cadf_json.specs.TokenUtf8.{HaveUtf8}
-use Rattle.cadf_json.specs.Value.{IsValue, SpellsValue}
+use Rattle.cadf_json.specs.Value.{IsValue}
 use Rattle.cadf_json.proofs.Decoding.{decoded, fraction_is}
 use Rattle.cadf_json.proofs.Spelled.{spelled_is_value}
 use Rattle.cadf_json.proofs.TakenApart.{float_in, value_in}

@@ -1,4 +1,4 @@
-use Rattle.std.proofs.Common.{[], ◌∙◌, refl, ◌+◌, ◌≤◌, length, sym, ap, subst, arith, length-drop}
+use Rattle.std.proofs.Common.{[], ◌∙◌, refl, ◌+◌, sym, ap, subst, arith}
 use Rattle.serde_json.specs.Data.{member}
 use Rattle.cadf_json.specs.Flat.{MembersStand}
 use Rattle.cadf_json.specs.declared.order.Span.{Span}

@@ -1,4 +1,4 @@
-use Rattle.std.proofs.Common.{◌≡◌, ◌∙◌, ◌<◌, ◌^◌, ap, sym, true≢false, rules}
+use Rattle.std.proofs.Common.{◌∙◌, ◌<◌, ◌^◌, ap, sym, true≢false}
 use Rattle.cadf_sketch.specs.SketchVerdict.{number_in}
 use Rattle.cadf_sketch.proofs.NumberLemmas.{number-again, number_not_text, number_not_parsed, number_not_plain}
 use Rattle.cadf_sketch.proofs.numbers.number_in.Goals as goal

@@ -7,6 +7,6 @@ use Rattle.cadf_pathset.proofs.path_vec.PathVec.suffixes.Given as goal
 
 abbrev pub invariant-loop-text : goal.invariant-loop-text
 invariant-loop-text l = record {
-  suffixes_behind : suffixes_behind (texts_at (drop l.text-index l.prefix)) l.range ≡ suffixes_behind (texts_at l.prefix) l.self;
+  behind : suffixes_behind (texts_at (drop l.text-index l.prefix)) l.range ≡ suffixes_behind (texts_at l.prefix) l.self;
   rising : IsStrictlySortedBy texts_cmp l.range;
 }
