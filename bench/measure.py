@@ -1,4 +1,5 @@
 """What the benchmarks share: what a command takes, in time, memory and instructions; generated replica files."""
+import argparse
 import hashlib
 import json
 import os
@@ -20,9 +21,24 @@ from tests.reference.replica_files import FIRST_LINES, lines_of
 from tests.reference.sealed_files import sealed
 
 
+def asked(about, **defaults):
+    """The options of a script: these with their defaults, of which False is a flag, and BINARY, or `binaries` with one more."""
+    parser = argparse.ArgumentParser(description=about, formatter_class=argparse.RawDescriptionHelpFormatter)
+    binaries = defaults.pop("binaries", None)
+    for name, default in defaults.items():
+        kind = {"action": "store_true"} if default is False else {"type": type(default), "default": default}
+        parser.add_argument("--" + name, **kind)
+    parser.add_argument("binaries", nargs="*" if binaries else "?", default=[BINARY], metavar="BINARY")
+    options = parser.parse_args()
+    options.binaries = [os.path.abspath(path) for path in ([options.binaries] if isinstance(options.binaries, str) else options.binaries)]
+    options.binary = options.binaries[0]
+    return options
+
+
 class Run(NamedTuple):
     """What a run of a command took, or the best of several runs."""
     wall: float  # seconds
+    user: float  # seconds of processors, without the kernel's
     processors: float  # seconds
     memory: float  # greatest resident memory in MB
 
@@ -37,7 +53,7 @@ start = time.monotonic()
 child = os.posix_spawnp(sys.argv[2], sys.argv[2:], os.environ, file_actions=output)
 _, status, usage = os.wait4(child, 0)
 wall = time.monotonic() - start
-print(os.waitstatus_to_exitcode(status), wall, usage.ru_utime + usage.ru_stime, usage.ru_maxrss / 1024)
+print(os.waitstatus_to_exitcode(status), wall, usage.ru_utime, usage.ru_utime + usage.ru_stime, usage.ru_maxrss / 1024)
 """
 MOST_SECONDS = 1000  # of processors
 
@@ -57,23 +73,30 @@ def run_apart(command, output=os.devnull, statuses=(0,), environment=None):
 
 
 def best_of(runs):
-    """The least wall time, the least processor time and the greatest memory of the runs."""
-    return Run(min(run.wall for run in runs), min(run.processors for run in runs), max(run.memory for run in runs))
+    """The least times and the greatest memory of the runs."""
+    *times, memory = zip(*runs)
+    return Run(*map(min, times), max(memory))
 
 
 def measured_in_turn(commands, runs):
     """The best of so many runs of each command. The commands take turns, so that other load meets all of them."""
-    rounds = [[run_apart(command) for command in commands] for _ in range(runs)]
-    return [best_of(each) for each in zip(*rounds)]
+    return [best_of(each) for each in zip(*([run_apart(command) for command in commands] for _ in range(runs)))]
 
 
-def tell(title, ours, others, runs):
-    """Runs all commands in turn, and prints what each took; of ours also the ratios to each of the others."""
+def tell(title, ours, others, runs, aims=None):
+    """Runs all commands in turn, and prints a table in Markdown of their user times and memory.
+
+    Of each of the others it has also the ratios of ours to it: of user time, of all time of processors, and of memory. What
+    is worst for ours comes first. Aims are for the first and the last of these.
+    """
     took = dict(zip([*ours, *others], measured_in_turn([*ours.values(), *others.values()], runs)))
-    for name, run in took.items():
-        print("%s, %s: %.2f s, %.2f s of processors, %.0f MB" % (title, name, *run), flush=True)
-        for other in others if name in ours else ():
-            print("    to %s: time %.2f, processors %.2f, memory %.2f" % (other, *(a / b for a, b in zip(run, took[other]))))
+    heads = ["%s: user time; processor; memory" % name for name in ours]
+    print("\n| %s | User time | Memory | %s | Aim |\n|%s" % (title, " | ".join(heads), "---|" * (len(ours) + 4)))
+    for name in [*ours, *sorted(others, key=lambda name: took[name].user)]:
+        run, ratios = took[name], ["" for _ in ours]
+        if name in others:
+            ratios = ["; ".join("%.2f" % (a / b) for a, b in zip(took[one][1:], run[1:])) for one in ours]
+        print("| %s | %.2f s | %.0f MB | %s | %s |" % (name, run.user, run.memory, " | ".join(ratios), (aims or {}).get(name, "")), flush=True)
 
 
 def digest_of(command):
@@ -89,6 +112,17 @@ def check_same_bytes(commands):
     """Exits if two of the commands write different bytes."""
     if len({digest_of(command) for command in commands}) > 1:
         sys.exit("they write different bytes: %s" % "; ".join(map(" ".join, commands)))
+
+
+def rdiff(old, new, *block):
+    """The bytes of rdiff's signature of the one file, and of its delta to the other."""
+    made = [old + ".signature", old + ".delta"]
+    subprocess.run(["rdiff", *block, "signature", old, made[0]], check=True)
+    subprocess.run(["rdiff", *block, "delta", made[0], new, made[1]], check=True)
+    sizes = list(map(os.path.getsize, made))
+    for path in made:
+        os.remove(path)
+    return sizes
 
 
 # glibc clears and copies large blocks by a repeated instruction, of which valgrind counts each byte. By these settings
@@ -175,6 +209,16 @@ def replica_file(path, log, events, version=1):
     atoms = [atom for event in events for atom in atoms_of(event)]
     written_apart(lambda: write_replica(path, log, atoms, version))
     return len(atoms)
+
+
+def two_sites(folder, atoms):
+    """Writes two replica files of so many atoms that share half of them, in either format. Returns their paths by format."""
+    events = atoms // 3
+    files = {version: [os.path.join(folder, "%s.%d" % (name, version)) for name in ("first", "second")] for version in FIRST_LINES}
+    for version, paths in files.items():
+        for path, start in zip(paths, (0, events // 2)):
+            replica_file(path, "openstack:audit", range(start, start + events), version)
+    return files
 
 
 def write_replica(path, log, atoms, version=2):

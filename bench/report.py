@@ -8,19 +8,14 @@ unless given. Each number is the least of the runs. Beside writing stand `cadf`'
 of the log text; beside loading, Chromium's JSON.parse of the log text; beside filter and search, jq and grep on the log text.
 The browser's part needs Debian's chromium, chromium-driver and python3-selenium, and is left out where they aren't there.
 """
-import argparse
-import hashlib
-import json
 import os
 import shutil
-import subprocess
 import sys
 import tempfile
-import time
 
-from measure import BINARY, identifier_of, key_of, measured_in_turn, written_apart
+from inputs import write_log
+from measure import TOP, asked, identifier_of, key_of, measured_in_turn, run_apart, spelled, written_apart
 
-TOP = os.path.dirname(os.path.dirname(os.path.abspath(__file__)))
 REPORT = os.path.join(TOP, "tools", "cadf-report")
 SYSTEM = "/usr/bin/python3"  # where Debian's packages are
 JSON = "import json, sys; data = open(sys.argv[1], 'rb').read(); json.dumps(json.loads(data))"
@@ -50,18 +45,9 @@ def event(number):
                           {"role": "relay", "reporterId": "relay-%d" % (chance % 10), "reporterTime": stamp + "%06dZ" % (chance % 900000 + 99999)}]}
 
 
-def write_document(path, count):
-    with open(path, "w") as file:
-        file.write('{"id":"region-one:audit","events":[')
-        for number in range(count):
-            file.write(("," if number else "") + json.dumps(event(number)))
-        file.write("]}")
-
-
 def written(path, *words):
     """Writes what a command says to a file, and returns its path."""
-    with open(path, "wb") as file:
-        subprocess.run(words, stdout=file, check=True)
+    run_apart(words, path)
     return path
 
 
@@ -81,7 +67,7 @@ def canned_cadf(place, binary, document):
 def measure_writing(place, binary, count, runs):
     """Measures the writer, what it calls, and json; and jq and grep for what a filter and a search are."""
     document = os.path.join(place, "document")
-    written_apart(lambda: write_document(document, count))
+    written_apart(lambda: write_log(document, {"events": (spelled(event(number)) for number in range(count))}))
     canned, replica, log = canned_cadf(place, binary, document)
     page = written(os.path.join(place, "page.html"), "env", "CADF=" + binary, REPORT, document)
     size, page_size = os.path.getsize(log), os.path.getsize(page)
@@ -92,11 +78,11 @@ def measure_writing(place, binary, count, runs):
         "cadf show": [binary, "show", replica], "jq: failures of one user": ["jq", "-c", '.events[]|select(.outcome=="failure" and .initiator.name=="user7")|.id', log],
         "grep: a text": ["grep", "-c", "10.0.3.77", log]}
     results = dict(zip(commands, measured_in_turn(list(commands.values()), runs)))
-    for what, (seconds, processors, memory) in results.items():
-        print("  %-34s %7.2f s %7.2f s of processors %6.0f MB" % (what, seconds, processors, memory), flush=True)
+    for what, run in results.items():
+        print("  %-34s %7.2f s %7.2f s of processors %6.0f MB" % (what, run.wall, run.processors, run.memory), flush=True)
     own, beside = results["cadf-report beside cadf's calls"], results["json.loads and json.dumps"]
     print("  the writer to json: %.2f of the time, %.2f of the processors; %.2f bytes of memory a byte of log text" % (
-        own[0] / beside[0], own[1] / beside[1], own[2] * 1024 * 1024 / size))
+        own.wall / beside.wall, own.processors / beside.processors, own.memory * 1024 * 1024 / size))
     return log, page
 
 
@@ -144,11 +130,7 @@ def browsed(log, page):
 
 
 def main():
-    parser = argparse.ArgumentParser(description=__doc__, formatter_class=argparse.RawDescriptionHelpFormatter)
-    parser.add_argument("--events", default="10000,100000")
-    parser.add_argument("--runs", type=int, default=3)
-    parser.add_argument("binary", nargs="?", default=BINARY)
-    options = parser.parse_args()
+    options = asked(__doc__, events="10000,100000", runs=3)
     try:
         import selenium
     except ImportError:
@@ -157,7 +139,7 @@ def main():
         selenium = None
     for count in map(int, options.events.split(",")):
         with tempfile.TemporaryDirectory() as place:
-            log, page = measure_writing(place, os.path.abspath(options.binary), count, options.runs)
+            log, page = measure_writing(place, options.binary, count, options.runs)
             if selenium and shutil.which("chromium") and shutil.which("chromedriver"):
                 measure_browser(log, page, options.runs)
 

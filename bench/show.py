@@ -1,20 +1,20 @@
 #!/usr/bin/env python3
-"""Times `cadf show` beside `jq -cS .` and the peer in Rust on generated log documents.
+"""Times `cadf show` beside other programs on generated log documents.
 
-    bench/show.py [--sizes 10,100] [--runs 3] [--conflicts] [BINARY ..]
+    bench/show.py [--sizes 10,100] [--runs 5] [--conflicts] [BINARY ..]
 
-BINARY is crates/cadf/out/cadf unless given; of several each is timed. With --conflicts two events each have one
-identifier, and the conflict list is shown in place of the log; the peer has none. All programs run on the same file, in
-turn; the peer must write the same bytes. Prints for each size and program the least wall time, the least processor time
-and the greatest memory of the runs, and of ours the ratios to jq and to the peer. On a machine with other load the
-processor times count.
+BINARY is crates/cadf/out/cadf unless given; of several each is timed. With --conflicts two events each have one identifier, and
+the conflict list is shown in place of the log. All programs run on the same file, in turn. The peers in Rust and C++
+(bench/peer), which that with --conflicts has not, must write the same bytes; jq, node and orjson sort names and do no more, and
+must write the same bytes as each other. Prints a table for each size: the least user time and the greatest memory of the runs.
 """
-import argparse
 import os
 import tempfile
 
-from measure import BINARY, check_same_bytes, identifier_of, key_of, tell
-from peer import peer
+from measure import asked, check_same_bytes, identifier_of, key_of, tell
+from peer import rust, simdjson, sorters
+
+AIMS = {10: {"jq": "0.20, 0.30"}, 100: {"jq": "0.24, 0.30"}}
 
 
 def event(n, name):
@@ -49,30 +49,21 @@ def document(path, size, bodies):
     return n
 
 
-def timed(path, title, options, by_hand):
-    """Times the programs on a document, and prints their lines."""
-    shown = ["--conflicts"] if options.conflicts else []
-    ours = {binary: [binary, "show", *shown, path] for binary in options.binaries}
-    others = {"jq": ["jq", "-cS", ".", path]}
-    if by_hand:
-        others["peer"] = [by_hand, path]
-        check_same_bytes([*ours.values(), others["peer"]])
-    tell(title, ours, others, options.runs)
-
-
 def main():
-    parser = argparse.ArgumentParser(description=__doc__, formatter_class=argparse.RawDescriptionHelpFormatter)
-    parser.add_argument("--sizes", default="10,100", help="in MB, separated by commas")
-    parser.add_argument("--runs", type=int, default=3)
-    parser.add_argument("--conflicts", action="store_true")
-    parser.add_argument("binaries", nargs="*", default=[BINARY])
-    options = parser.parse_args()
-    by_hand = None if options.conflicts else peer("show")
+    options = asked(__doc__, sizes="10,100", runs=5, conflicts=False, binaries=True)
+    shown = ["--conflicts"] if options.conflicts else []
     for size in map(int, options.sizes.split(",")):
         with tempfile.TemporaryDirectory() as folder:
             path = os.path.join(folder, "log.json")
             events = document(path, size * 1000000, 2 if options.conflicts else 1)
-            timed(path, "%d MB, %d events" % (size, events), options, by_hand)
+            ours = {binary if len(options.binaries) > 1 else "`cadf show`": [binary, "show", *shown, path] for binary in options.binaries}
+            peers = {} if options.conflicts else {**rust("show"), **simdjson(folder)}
+            others = {name: [*words, path] for name, words in sorters()}
+            peers = {name: [*words, path] for name, words in peers.items()}
+            check_same_bytes(others.values())
+            check_same_bytes([*ours.values(), *peers.values()])
+            aims = {"Rust by hand": "0.28", **AIMS.get(size, {})}
+            tell("%d MB, %s events" % (size, format(events, ",")), ours, {**others, **peers}, options.runs, aims)
 
 
 if __name__ == "__main__":

@@ -14,7 +14,6 @@ odd      Sketches of another log, of an empty one, of the same set, one side emp
 What both sites have cancels out, so the sites of `reads` and `letters` share only some thousand facts. Each aim is printed
 with what came of it. What is measured rests on the seed alone, but for times.
 """
-import argparse
 import os
 import random
 import shutil
@@ -24,7 +23,7 @@ import tempfile
 import time
 from typing import NamedTuple
 
-from measure import BINARY, atoms_of, check_same_bytes, measured_in_turn, run_apart, write_replica, written_apart
+from measure import asked, atoms_of, check_same_bytes, rdiff, run_apart, tell, write_replica, written_apart
 
 from tests.generated.odd_sketches import path
 from tests.reference.command import answer
@@ -39,7 +38,6 @@ BLOCKS = {"rdiff": [], "rdiff -b 1024": ["-b", "1024"]}
 READ = (5, 10, 30, 100, 300, 1000, 3000, 10000)  # differences of which is asked how often they are read
 SHARED = 1000  # events of sites of which it doesn't matter how large they are
 BYTES_A_FACT = 100  # of memory, beside the cells
-MB = 1 << 20
 
 
 class Done(NamedTuple):
@@ -128,14 +126,6 @@ def size(*paths):
     return sum(map(os.path.getsize, paths))
 
 
-def rdiff(trial, sender, receiver, block):
-    """The bytes of a signature and of a delta."""
-    signature, delta = trial.path(), trial.path()
-    subprocess.run(["rdiff", *block, "signature", receiver, signature], check=True)
-    subprocess.run(["rdiff", *block, "delta", signature, sender, delta], check=True)
-    return size(signature), size(delta)
-
-
 def ways(trial, sender, receiver):
     """Each way's bytes to ask and to answer; of sketches also how many letters there were."""
     inventory = trial.written("inventory", receiver)
@@ -146,7 +136,7 @@ def ways(trial, sender, receiver):
     yield "sketch", size(*sketches), size(by_sketch), "%d letter%s" % (len(sketches), "s" * (len(sketches) > 1))
     if shutil.which("rdiff"):
         for name, block in BLOCKS.items():
-            yield (name, *rdiff(trial, sender, receiver, block), "")
+            yield (name, *rdiff(receiver, sender, *block), "")
 
 
 def measure_bytes(trial, facts):
@@ -198,24 +188,14 @@ def measure_letters(trial):
         aim("at most two letters for 95 of 100", 100 * sum(one <= 2 for one in letters) >= 95 * len(letters))
 
 
-def compared(trial, name, ours, theirs, most, facts, cells):
-    """Runs a command beside the one that it is compared with, and prints its ratios."""
-    took, beside = measured_in_turn([[trial.binary, *ours], [trial.binary, *theirs]], trial.runs)
-    room = beside.memory + cells * 40 / MB + BYTES_A_FACT * facts / MB
-    print("%s of %d facts: %.2f s, %.2f s of processors, %.0f MB; %s: %.2f s, %.2f s, %.0f MB" % (
-        name, facts, *took, theirs[0], *beside))
-    print("    to it: time %.2f, processors %.2f, memory %.2f" % tuple(a / b for a, b in zip(took, beside)))
-    aim("processors at most %.1f" % most, took.processors <= most * beside.processors)
-    aim("memory at most its own, the cells and %d bytes a fact (%.0f MB)" % (BYTES_A_FACT, room), took.memory <= room)
-
-
 def measure_times(trial, facts):
+    """Times the commands beside those that they are compared with, which hold no cells and no digest of each fact."""
     north, south = trial.sites(facts, min(100, facts // 2))
     inventory, sketch = trial.written("inventory", south), trial.letters(north, south)[0][-1]
-    with open(sketch, "rb") as lines:
-        cells = int(lines.read(4096).split(b"\n")[2].split()[1])
-    compared(trial, "sketch", ["sketch", south], ["inventory", south], 1.2, facts, CELLS)
-    compared(trial, "missing-by-sketch", ["missing-by-sketch", north, sketch], ["missing-by", north, inventory], 1.3, facts, cells)
+    for words, beside, aim in ((("sketch", south), ("inventory", south), "1.2"),
+                               (("missing-by-sketch", north, sketch), ("missing-by", north, inventory), "1.3")):
+        tell("{:,} facts".format(facts), {"`%s`" % words[0]: [trial.binary, *words]}, {"`%s`" % beside[0]: [trial.binary, *beside]}, trial.runs, {
+            "`%s`" % beside[0]: "%s; its own, 40 bytes a cell and %d a fact" % (aim, BYTES_A_FACT)})
 
 
 def crafted(chance, name, cells):
@@ -255,16 +235,9 @@ def measure_odd(trial):
 
 
 def main():
-    parser = argparse.ArgumentParser(description=__doc__, formatter_class=argparse.RawDescriptionHelpFormatter)
-    parser.add_argument("--atoms", default="100000,1000000", help="of each site")
-    parser.add_argument("--runs", type=int, default=3)
-    parser.add_argument("--salts", type=int, default=100)
-    parser.add_argument("--only", default="bytes,reads,letters,times,odd")
-    parser.add_argument("binary", nargs="?", default=BINARY)
-    options = parser.parse_args()
-    options.binary = os.path.abspath(options.binary)
-    sized, others = {"bytes": measure_bytes, "times": measure_times}, {
-        "reads": measure_reads, "letters": measure_letters, "odd": measure_odd}
+    options = asked(__doc__, atoms="100000,1000000", runs=3, salts=100, only="bytes,reads,letters,times,odd")
+    sized = {"bytes": measure_bytes, "times": measure_times}
+    others = {"reads": measure_reads, "letters": measure_letters, "odd": measure_odd}
     for part in options.only.split(","):
         for facts in map(int, options.atoms.split(",")) if part in sized else [None]:
             with tempfile.TemporaryDirectory() as folder:

@@ -17,15 +17,15 @@ join of its batch. That takes an hour or more.
 First it says what the recorded calls of examples/real take in a site, and so a day of them. BINARY is crates/cadf/out/cadf unless
 given.
 """
-import argparse
 import datetime
 import math
 import os
 import re
 import sys
 import tempfile
+from typing import NamedTuple
 
-from measure import BINARY, TOP, atoms_of, best_of, replica_file, run_apart, spelled, write_replica, written_apart
+from measure import TOP, asked, atoms_of, best_of, replica_file, run_apart, spelled, write_replica, written_apart
 
 TAKE = os.path.join(TOP, "tools", "cadf-take")
 FROM_OPENSTACK = os.path.join(TOP, "tools", "cadf-from-openstack")
@@ -48,11 +48,11 @@ print(re.search("wchar: ([0-9]+)", open("/proc/self/io").read())[1])
 """
 
 
-def facts_file(path, events):
-    """Writes the facts of these events, one a line."""
-    with open(path, "w", encoding="utf-8") as out:
-        for event in events:
-            out.writelines(spelled(atom) + "\n" for atom in atoms_of(event))
+def write_delta(path, events):
+    """Writes the facts of these events as a replica file, and one a line beside it."""
+    replica_file(path, LOG, events, version=2)
+    with open(path + ".facts", "w", encoding="utf-8") as out:
+        out.writelines(spelled(atom) + "\n" for event in events for atom in atoms_of(event))
 
 
 def held(folder):
@@ -61,36 +61,32 @@ def held(folder):
         return {(file.name, file.inode()): file.stat().st_size for file in files}
 
 
-class Site:
-    """A site as a folder, as a file or as a table, and what takes into it have written."""
-
-    def __init__(self, place, environment):
-        self.place, self.environment = place, environment
-
-    def run(self, words, output=os.devnull):
-        return run_apart(words, output, environment=self.environment)
+class Site(NamedTuple):
+    """A site as a folder, as a file or as a table: takes into it, with the bytes that they have written."""
+    place: str
 
 
 class AsFolder(Site):
     title = "folder"
 
-    def take(self, delta):
-        """Takes a replica file. Returns what that took, and the bytes that were written."""
+    def run(self, *words):
+        """Returns what cadf-take took, and the bytes of the files that weren't there before."""
         before = held(self.place) if os.path.exists(self.place) else {}
-        took = self.run([TAKE, "--by", "hour", "--windows", "1000000", self.place, delta])
+        took = run_apart([TAKE, *words])
         return took, sum(size for file, size in held(self.place).items() if file not in before)
 
+    def take(self, delta):
+        return self.run("--by", "hour", "--windows", "1000000", self.place, delta)
+
     def settle(self):
-        before = held(self.place)
-        took = self.run([TAKE, "--settle", self.place])
-        return took, sum(size for file, size in held(self.place).items() if file not in before)
+        return self.run("--settle", self.place)
 
 
 class AsFile(Site):
     title = "file"
 
     def take(self, delta):
-        took = self.run([TAKE, self.place, delta])
+        took = run_apart([TAKE, self.place, delta])
         return took, os.path.getsize(self.place) + 2 * os.path.getsize(delta)  # and what the call makes of the delta
 
 
@@ -98,16 +94,15 @@ class AsTable(Site):
     title = "sqlite"
 
     def take(self, delta):
-        said = self.place + ".said"
-        took = self.run([sys.executable, "-c", SQLITE, self.place, delta + ".facts"], said)
-        with open(said, encoding="ascii") as file:
+        took = run_apart([sys.executable, "-c", SQLITE, self.place, delta + ".facts"], self.place + ".said")
+        with open(self.place + ".said", encoding="ascii") as file:
             return took, int(file.read())
 
 
-def measure_sites(folder, size, runs, environment):
+def measure_sites(folder, size, runs):
     """Takes 1 and 300 events into sites of that size, and prints what that took."""
     count = size * MB // EVENT_BYTES
-    sites = [kind(os.path.join(folder, "%s-%d" % (kind.title, size)), environment) for kind in (AsFolder, AsFile, AsTable)]
+    sites = [kind(os.path.join(folder, "%s-%d" % (kind.title, size))) for kind in (AsFolder, AsFile, AsTable)]
     base = os.path.join(folder, "base")
     write_delta(base, range(count))
     for site in sites:
@@ -123,17 +118,12 @@ def measure_sites(folder, size, runs, environment):
         for title, found in taken.items():
             took, written = best_of([run for run, _ in found]), min(size for _, size in found)
             print("%d MB, %d events, %s: %.3f s, %.3f s of the processor, %.0f MB of memory, %d bytes written" % (
-                size, more, title, *took, written), flush=True)
+                size, more, title, took.wall, took.processors, took.memory, written), flush=True)
 
 
-def write_delta(path, events):
-    replica_file(path, LOG, events, version=2)
-    facts_file(path + ".facts", events)
-
-
-def measure_growth(folder, takes, environment):
+def measure_growth(folder, takes):
     """Makes a folder by so many takes, and settles it: the bytes that are written for each byte that is brought."""
-    site, delta = AsFolder(os.path.join(folder, "grown"), environment), os.path.join(folder, "delta")
+    site, delta = AsFolder(os.path.join(folder, "grown")), os.path.join(folder, "delta")
     brought = written = seconds = dearest = 0
     for number in range(takes):
         write_delta(delta, range(300 * number, 300 * (number + 1)))
@@ -154,10 +144,10 @@ def batch_of(path, hour):
     return begin.strftime("%Y-%m-%dT%H")
 
 
-def measure_year(folder, binary, environment):
+def measure_year(folder, binary):
     """Takes a year by the hour, settles it, and compares each window with one join of its batch."""
     site, delta, union = (os.path.join(folder, name) for name in ("year", "delta", "union"))
-    folder, most = AsFolder(site, environment), 0
+    folder, most = AsFolder(site), 0
     for hour in range(HOURS):
         batch_of(delta, hour)
         most = max(most, folder.take(delta)[0].memory)
@@ -173,10 +163,10 @@ def measure_year(folder, binary, environment):
         most, took.memory, wrong, HOURS))
 
 
-def tell_disk(folder, binary, environment):
+def tell_disk(folder, binary):
     """What the recorded calls take in a site, and so a day of them."""
     document, site = os.path.join(folder, "recorded.json"), os.path.join(folder, "recorded.cadf")
-    run_apart([FROM_OPENSTACK, "--log", LOG, "--set-aside", document + ".aside", RECORDED], document, (0, 1), environment)
+    run_apart([FROM_OPENSTACK, "--log", LOG, "--set-aside", document + ".aside", RECORDED], document, (0, 1))
     run_apart([binary, "join", document], site)
     with open(document, encoding="utf-8") as file:
         text = file.read()
@@ -191,22 +181,15 @@ def tell_disk(folder, binary, environment):
 
 
 def main():
-    parser = argparse.ArgumentParser(description=__doc__, formatter_class=argparse.RawDescriptionHelpFormatter)
-    parser.add_argument("--sizes", default="10,100")
-    parser.add_argument("--runs", type=int, default=3)
-    parser.add_argument("--takes", type=int, default=343)
-    parser.add_argument("--year", action="store_true")
-    parser.add_argument("binary", nargs="?", default=BINARY)
-    options = parser.parse_args()
-    binary = os.path.abspath(options.binary)
-    environment = dict(os.environ, CADF=binary)
+    options = asked(__doc__, sizes="10,100", runs=3, takes=343, year=False)
+    os.environ["CADF"] = options.binary
     with tempfile.TemporaryDirectory(dir=".") as folder:
-        tell_disk(folder, binary, environment)
-        measure_growth(folder, options.takes, environment)
+        tell_disk(folder, options.binary)
+        measure_growth(folder, options.takes)
         for size in map(int, options.sizes.split(",")):
-            measure_sites(folder, size, options.runs, environment)
+            measure_sites(folder, size, options.runs)
         if options.year:
-            measure_year(folder, binary, environment)
+            measure_year(folder, options.binary)
 
 
 if __name__ == "__main__":
