@@ -37,7 +37,7 @@ class Trial:
     """The command and the files of two sites by format, in a folder."""
 
     def __init__(self, options, folder):
-        self.binary, self.runs, self.folder = options.binary, options.runs, folder
+        self.binary, self.runs, self.atoms, self.folder = options.binary, options.runs, options.atoms, folder
         self.files = two_sites(folder, options.atoms)
 
     def path(self, name):
@@ -91,7 +91,7 @@ class Trial:
 
     def proved(self):
         """The facts of one event and one of them, each in a file, by what they are."""
-        event = atoms_of(len(open(self.files[2][0], "rb").read().split(b"\n")) // 9)
+        event = atoms_of(self.atoms // 9)
         for name, atoms in (("an event", event), ("a fact", event[:1])):
             write_replica(self.path(name), "openstack:audit", atoms)
             yield name, self.path(name)
@@ -104,7 +104,7 @@ class Trial:
     def verify(self):
         site = self.files[2][0]
         seal = self.written("seal", site)
-        print("\n| Proof of | Bytes | `verify`, user time | Memory |\n|---|---|---|---|")
+        print("\n| Proof of | Bytes | `verify`, processor | Memory |\n|---|---|---|---|")
         for name, facts in self.proved():
             proof = self.written("prove", facts, site)
             run = best_of([run_apart([self.binary, "verify", seal, facts, proof]) for _ in range(20 * self.runs)])

@@ -14,7 +14,7 @@ import tempfile
 from measure import asked, check_same_bytes, identifier_of, key_of, tell
 from peer import rust, simdjson, sorters
 
-AIMS = {10: {"jq": "0.20, 0.30"}, 100: {"jq": "0.24, 0.30"}}
+AIMS = {10: {"jq": "0.20; 0.30"}, 100: {"jq": "0.24; 0.30"}}
 
 
 def event(n, name):

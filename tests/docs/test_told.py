@@ -100,9 +100,12 @@ def test_help(tool):
     assert [word for word in words if not re.search(r"\S {2,}[a-z]|\n {10,}[a-z]", word)] == [] and len(words) > 2
 
 
-def test_chart():
-    """The chart of PERFORMANCE is the one that bench/chart.py makes of RESULTS; another number there makes another one."""
-    chart = runpy.run_path(os.path.join(TOP, "bench", "chart.py"))["chart"]
+def test_figures():
+    """What PERFORMANCE and GUIDE tell in numbers with units, and the chart, is what RESULTS has; another number there is seen."""
+    told = runpy.run_path(os.path.join(TOP, "bench", "figures.py"))
     results = page("bench", "RESULTS.md")
-    assert "\n```text\n%s\n```\n" % "\n".join(chart(results)) in page("docs", "PERFORMANCE.md")
-    assert list(chart(results.replace("16,689; 28,561", "16,689; 128,561"))) != list(chart(results))
+    for path, said, wanted, untold in told["pages"]():
+        assert (path, said, untold) == (path, wanted, [])
+    assert list(told["chart"](results.replace("16,689; 28,561", "16,689; 128,561"))) != list(told["chart"](results))
+    said = page("docs", "PERFORMANCE.md")
+    assert "A file: 47 s" in told["with_figures"](said, results.replace("| 46 s, 988", "| 47 s, 988"), told["FIGURES"][told["PERFORMANCE"]])[0]
