@@ -29,7 +29,7 @@ FIGURES = {
         ("| `show` of 100 MB, 113,705 events | {} s and {} MB of memory: {} times the time of C++", (
             SHOW, "`cadf show`", "User"), (SHOW, "`cadf show`", "Memory"), (SHOW, "C++", "`cadf show`")),
         ("| {} of the time of orjson, {} of node, {} of Rust by hand. Of `jq` it takes {} of the time, and {} of the memory (the aim was {})",
-         *((SHOW, name, "`cadf show`") for name in ("orjson", "node", "Rust", "jq")), (SHOW, "jq", "`cadf show`:1"), (SHOW, "jq", "Aim:1")),
+         *((SHOW, name, "`cadf show`") for name in ("orjson", "node", "Rust", "jq")), (SHOW, "jq", "`cadf show`:2"), (SHOW, "jq", "Aim:1")),
         ("`missing` of files of format 1 takes {} times the time of `comm` with two digests by OpenSSL, and {} with `sha256sum`; "
          "`join` {} with `sort` and OpenSSL, and {} with `sha256sum`.",
          *((where, tool, command + ", format 1") for where, command in COMMANDS for tool in (OPENSSL, SHA256SUM))),
@@ -98,26 +98,20 @@ def cell_sum(text, where, row, *columns):
     return found
 
 
-def spelled(number, like):
-    """The number with as many decimals as that text has, with commas if it is large."""
-    decimals = len(like.partition(".")[2])
-    return "{:,.{}f}".format(number, decimals)
-
-
 def with_figures(page, results, figures):
-    """The page with the numbers of RESULTS, and what is left of it without the places that tell them."""
+    """The page with the numbers of RESULTS, of as many decimals as it has; and what of it isn't a place that tells them."""
     rest = page
     for template, *cells in figures:
         parts = re.split(r"\{(?:/(\d+))?\}", template)
-        pattern = ("(%s)" % NUMBER).join(r"\s+".join(map(re.escape, part.split(" "))) for part in parts[::2])
-        place = re.search(pattern, page)
+        texts = [r"\s+".join(map(re.escape, part.split(" "))) for part in parts[::2]]
+        place = re.search(NUMBER.join("(%s)" % text for text in texts), page)
         if not place:
             sys.exit("no page says: %s" % template)
-        said, values = place[0], [cell_sum(results, *cell) / int(scale or 1) for cell, scale in zip(cells, parts[1::2])]
-        for at in range(len(cells), 0, -1):
-            start, end = (end - place.start() for end in place.span(at))
-            said = said[:start] + spelled(values[at - 1], place[at]) + said[end:]
-        page, rest = page.replace(place[0], said), rest.replace(place[0], "")
+        said = ""
+        for at, (cell, scale) in enumerate(zip(cells, parts[1::2])):
+            old = page[place.end(at + 1):place.start(at + 2)]
+            said += place[at + 1] + "{:,.{}f}".format(cell_sum(results, *cell) / int(scale or 1), len(old.partition(".")[2]))
+        page, rest = page.replace(place[0], said + place[len(cells) + 1]), rest.replace(place[0], "")
     return page, rest
 
 
@@ -159,13 +153,10 @@ def main():
         if "--write" in sys.argv[1:]:
             with open(path, "w", encoding="utf-8") as file:
                 file.write(wanted)
-        else:
-            for said, right in zip(page.splitlines(), wanted.splitlines()):
-                if said != right:
-                    print("%s: %s\n    RESULTS: %s" % (os.path.relpath(path, TOP), said, right))
-                    status = 1
-        if untold:
-            print("%s: no cell of RESULTS for %s" % (os.path.relpath(path, TOP), "; ".join(untold)))
+            page = wanted
+        wrong = ["%s\n    RESULTS: %s" % lines for lines in zip(page.splitlines(), wanted.splitlines()) if lines[0] != lines[1]]
+        for what in wrong + ["no cell of RESULTS for %s" % number for number in untold]:
+            print("%s: %s" % (os.path.relpath(path, TOP), what))
             status = 1
     return status
 

@@ -96,7 +96,8 @@ def tell(title, ours, others, runs, aims=None):
         run, ratios = took[name], ["" for _ in ours]
         if name in others:
             ratios = ["; ".join("%.2f" % (a / b) for a, b in zip(took[one][1:], run[1:])) for one in ours]
-        print("| %s | %.2f s | %.0f MB | %s | %s |" % (name, run.user, run.memory, " | ".join(ratios), (aims or {}).get(name, "")), flush=True)
+        cells = [name, "%.2f s" % run.user, "{:,.0f} MB".format(run.memory), *ratios, (aims or {}).get(name, "")]
+        print("|%s |" % " |".join(" " + cell if cell else "" for cell in cells), flush=True)
 
 
 def digest_of(command):

@@ -23,7 +23,6 @@ and 80 an atom more for the commands that note atoms or keys. What is above its 
 does both, with small sizes for the counts, and prints the twenty dearest shapes in Markdown: by instructions, by
 seconds and by memory. Lines of the measurements go to standard error. --gate tries the shapes of GATE.
 """
-import argparse
 import concurrent.futures
 import os
 import subprocess
@@ -32,7 +31,7 @@ import tempfile
 from typing import NamedTuple
 
 from inputs import FILE, FILE_1, SHAPES
-from measure import BINARY, are_counts_true, best_of, can_count, instructions, run_apart
+from measure import are_counts_true, asked, best_of, can_count, instructions, run_apart
 
 MEGABYTE = 10 ** 6
 NOISE = 1  # MB of memory by which runs differ
@@ -258,23 +257,10 @@ def print_tables(counted, timed, commands):
 
 
 def options_of():
-    parser = argparse.ArgumentParser(description=__doc__, formatter_class=argparse.RawDescriptionHelpFormatter)
-    parser.add_argument("--size", type=float, default=4, help="the least size in MB")
-    parser.add_argument("--runs", type=int, default=3)
-    parser.add_argument("--jobs", type=int, default=1, help="how many shapes are counted at once")
-    parser.add_argument("--shapes", default=",".join(SHAPES))
-    parser.add_argument("--forms", default="document,file,file of format 1")
-    parser.add_argument("--commands", default=",".join(COMMANDS))
-    modes = parser.add_mutually_exclusive_group()
-    modes.add_argument("--instructions", action="store_true")
-    modes.add_argument("--table", action="store_true")
-    modes.add_argument("--gate", action="store_true")
-    parser.add_argument("binary", nargs="?", default=BINARY)
-    options = parser.parse_args()
-    options.commands = options.commands.split(",")
-    forms = options.forms.split(",")
-    options.cases = {(name, form): options.commands for name in options.shapes.split(",")
-                     for form in SHAPES[name].forms if form in forms}
+    options = asked(__doc__, size=4.0, runs=3, jobs=1, shapes=",".join(SHAPES), forms="document,file,file of format 1",
+                    commands=",".join(COMMANDS), instructions=False, table=False, gate=False)
+    options.commands, forms = options.commands.split(","), options.forms.split(",")
+    options.cases = {(name, form): options.commands for name in options.shapes.split(",") for form in SHAPES[name].forms if form in forms}
     return options
 
 

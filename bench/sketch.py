@@ -9,7 +9,7 @@ bytes    Two sites of so many facts differ in 0, 10, 100, 1,000 and 10 % of them
 reads    How many of so many salts read 1.5 and 2 cells a difference, by number; and 198 cells for 100 differences.
 letters  How many of so many pairs of sites need one letter, two and more, with the default size and then the hint.
 times    `sketch` beside `inventory` and `missing-by-sketch` beside `missing-by`, for the sites that differ in 100 facts.
-odd      Sketches of another log, of an empty one, of the same set, one side empty, both empty, and cells made to mislead.
+odd      Sketches with cells that were made to mislead.
 
 What both sites have cancels out, so the sites of `reads` and `letters` share only some thousand facts. Each aim is printed
 with what came of it. What is measured rests on the seed alone, but for times.
@@ -20,13 +20,10 @@ import shutil
 import subprocess
 import sys
 import tempfile
-import time
-from typing import NamedTuple
 
 from measure import asked, atoms_of, check_same_bytes, rdiff, run_apart, tell, write_replica, written_apart
 
 from tests.generated.odd_sketches import path
-from tests.reference.command import answer
 from tests.reference.sketch_files import (
     CELLS, CHECK_BITS, Layout, Sketch, check_of, counts_of, file_digest, sketch_file, turn,
 )
@@ -38,12 +35,6 @@ BLOCKS = {"rdiff": [], "rdiff -b 1024": ["-b", "1024"]}
 READ = (5, 10, 30, 100, 300, 1000, 3000, 10000)  # differences of which is asked how often they are read
 SHARED = 1000  # events of sites of which it doesn't matter how large they are
 BYTES_A_FACT = 100  # of memory, beside the cells
-
-
-class Done(NamedTuple):
-    status: int
-    output: bytes
-    error: bytes
 
 
 class Trial:
@@ -63,9 +54,12 @@ class Trial:
             out.write(content)
         return path
 
-    def run(self, *words):
-        done = subprocess.run([self.binary, *words], stdin=subprocess.DEVNULL, capture_output=True)
-        return Done(done.returncode, done.stdout, done.stderr)
+    def answer(self, sender, sketch):
+        """The answer to a sketch, and how many cells its refusal asks for."""
+        done = subprocess.run([self.binary, "missing-by-sketch", sender, sketch], stdin=subprocess.DEVNULL, capture_output=True)
+        if done.returncode and not done.stderr.startswith(TOO_FEW):
+            sys.exit("missing-by-sketch: %r" % done.stderr)
+        return (None, int(done.stderr[len(TOO_FEW):])) if done.returncode else (done.stdout, 0)
 
     def written(self, *words):
         """A file of what the command writes, which it must."""
@@ -89,33 +83,27 @@ class Trial:
             made.append(self.site([atom for place, atom in enumerate(atoms) if place not in dropped]))
         return made
 
-    def read(self, sender, receiver, cells, salt):
-        """Whether the sender reads the receiver's sketch."""
-        sketch = self.written("sketch", "--cells", str(cells), "--salt", str(salt), receiver)
-        done = self.run("missing-by-sketch", sender, sketch)
-        os.remove(sketch)
-        if done.status not in (0, 1) or done.status == 1 and not done.error.startswith(TOO_FEW):
-            sys.exit("missing-by-sketch: %r" % done.error)
-        return done.status == 0
+    def sketch(self, receiver, cells):
+        return self.written("sketch", "--cells", str(cells), "--salt", str(self.chance.getrandbits(64) | 1), receiver)
 
-    def salt(self):
-        return self.chance.getrandbits(64) | 1
+    def read(self, sender, receiver, cells):
+        """Whether the sender reads the receiver's sketch of so many cells, of another salt each time."""
+        sketch = self.sketch(receiver, cells)
+        answer, _ = self.answer(sender, sketch)
+        os.remove(sketch)
+        return answer is not None
 
     def letters(self, sender, receiver):
         """The sketches with which the receiver asks until one is read: by the default first, then as a refusal says.
 
         Where it says no more than were too few, it asks with twice as many, as cadf-agree does."""
-        options, cells, asked = [], CELLS, []
+        cells, sent = CELLS, [self.written("sketch", receiver)]
         while True:
-            asked.append(self.written("sketch", *options, receiver))
-            done = self.run("missing-by-sketch", sender, asked[-1])
-            if done.status == 0:
-                return asked, self.keep(done.output)
-            if not done.error.startswith(TOO_FEW):
-                sys.exit("missing-by-sketch: %r" % done.error)
-            hint = int(done.error[len(TOO_FEW):])
+            answer, hint = self.answer(sender, sent[-1])
+            if answer is not None:
+                return sent, self.keep(answer)
             cells = hint if hint > cells else 2 * cells
-            options = ["--cells", str(cells), "--salt", str(self.salt())]
+            sent.append(self.sketch(receiver, cells))
 
 
 def aim(what, reached):
@@ -166,10 +154,10 @@ def measure_reads(trial):
         counts = []
         for ratio in (1.5, 2):
             cells = max(3, round(ratio * differences / 3) * 3)
-            counts.append(sum(trial.read(north, south, cells, trial.salt()) for _ in range(trial.salts)))
+            counts.append(sum(trial.read(north, south, cells) for _ in range(trial.salts)))
         print("| {:,} | {} of {} | {} of {} |".format(differences, counts[0], trial.salts, counts[1], trial.salts), flush=True)
     north, south = trial.sites(3 * SHARED, 100)
-    count = sum(trial.read(north, south, 198, trial.salt()) for _ in range(trial.salts))
+    count = sum(trial.read(north, south, 198) for _ in range(trial.salts))
     print("198 cells, 100 differences: read for %d of %d salts" % (count, trial.salts))
     aim("95 of 100", 100 * count >= 95 * trial.salts)
 
@@ -179,9 +167,9 @@ def measure_letters(trial):
         letters = []
         for _ in range(trial.salts):
             north, south = trial.sites(max(3 * SHARED, 2 * differences), differences)
-            asked, part = trial.letters(north, south)
-            letters.append(len(asked))
-            for file in (north, south, part, *asked):
+            sent, part = trial.letters(north, south)
+            letters.append(len(sent))
+            for file in (north, south, part, *sent):
                 os.remove(file)
         print("{:,} differences, by the default and then the hint: one letter {}, two {}, more {}, the most {}".format(
             differences, letters.count(1), letters.count(2), sum(one > 2 for one in letters), max(letters)), flush=True)
@@ -213,25 +201,13 @@ def crafted(chance, name, cells):
 
 
 def measure_odd(trial):
-    north, south = trial.sites(3 * SHARED, 60)
-    empty = trial.site([])
-    other = trial.keep(trial.run("join", "--log", "other", trial.keep(b'{"id":"other","events":[]}')).output)
-    sketch_of = {"the south": trial.written("sketch", south), "the same": trial.written("sketch", north),
-                 "nothing": trial.written("sketch", empty), "another log": trial.written("sketch", other)}
+    """Times sketches that were made to mislead; tests/generated/odd_sketches.py compares what is answered to such."""
     for cells in (600, 6000, 60000):
         for name in ("a path", "a digest again and again"):
-            sketch_of["%s, %d cells" % (name, cells)] = trial.keep(crafted(trial.chance, name, cells))
-    for name, sketch in sketch_of.items():
-        for sender, file in (("the north", north), ("nothing", empty)):
-            start = time.monotonic()
-            done = trial.run("missing-by-sketch", file, sketch)
-            took = time.monotonic() - start
-            words = [b"missing-by-sketch", b"from", b"by"]
-            wanted = answer(words, {b"from": open(file, "rb").read(), b"by": open(sketch, "rb").read()})
-            if done != (wanted.status, wanted.output, wanted.error):
-                sys.exit("%s by a sketch of %s: %r, and not %r" % (sender, name, done, wanted.error))
-            said = done.error.decode().strip() or "%d bytes" % len(done.output)
-            print("%s, by a sketch of %s: %s, %.2f s" % (sender, name, said, took), flush=True)
+            sketch = trial.keep(crafted(trial.chance, name, cells))
+            for sender in (trial.site([]), trial.sites(3 * SHARED, 60)[0]):
+                run = run_apart([trial.binary, "missing-by-sketch", sender, sketch], statuses=(0, 1))
+                print("%s, %d cells: %.2f s" % (name, cells, run.processors), flush=True)
 
 
 def main():
