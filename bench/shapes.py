@@ -24,6 +24,7 @@ does both, with small sizes for the counts, and prints the twenty dearest shapes
 seconds and by memory. Lines of the measurements go to standard error. --gate tries the shapes of GATE.
 """
 import concurrent.futures
+import contextlib
 import os
 import subprocess
 import sys
@@ -166,7 +167,7 @@ class Row(NamedTuple):
         """The form and command of the row that this one is compared with."""
         return FILE if self.form == FILE_1 else self.form, self.command
 
-    def tell(self, out):
+    def tell(self):
         """Prints the row. Returns how many aims are missed."""
         growths, memory, aim = self.growths(), self.memory_a_byte(), self.memory_aim()
         above = {"TIME ABOVE %.1f" % DOUBLING: max(growths) > DOUBLING,
@@ -175,7 +176,7 @@ class Row(NamedTuple):
         costs = " ".join("%8.3f" % point.cost for point in self.points)
         doublings = " ".join("%5.2f" % growth for growth in growths)
         print(ROW % (self.name, self.form, self.command, self.points[0].size, costs, doublings,
-                     "%.0f MB" % self.points[-1].memory, "%.2f" % memory), " ".join(missed), file=out, flush=True)
+                     "%.0f MB" % self.points[-1].memory, "%.2f" % memory), " ".join(missed), flush=True)
         return len(missed)
 
 
@@ -192,44 +193,37 @@ def rows_of(name, form, commands, sizes, is_counted, options):
     return [Row(name, form, command, points[command]) for command in commands]
 
 
-def measured(cases, sizes, is_counted, options, out):
+def measured(cases, sizes, is_counted, options):
     """Measures the commands on each shape and form, and prints the rows. Returns them, and how many aims are missed."""
     print(ROW % ("shape", "form", "command", "bytes", "millions of instructions" if is_counted else "seconds",
-                 "a doubling", "memory", "a byte"), file=out)
+                 "a doubling", "memory", "a byte"))
     rows, missed = [], 0
     with concurrent.futures.ProcessPoolExecutor(options.jobs if is_counted else 1) as pool:
         tasks = [pool.submit(rows_of, *case, commands, sizes, is_counted, options) for case, commands in cases.items()]
         for found in tasks:
-            missed += sum(row.tell(out) for row in found.result())
+            missed += sum(row.tell() for row in found.result())
             rows += found.result()
     return rows, missed
 
 
-def compared(rows, out):
-    """Compares a byte of each shape with an ordinary one, and deep chains. Returns how many aims are missed."""
-    missed, found = 0, {(row.name, *row.ordinary()): row for row in rows}
-    for row, ratio in ratios(rows):
-        aim = DEEP_BYTE if row.name == "chains-256" else BYTE
-        if ratio > aim:
-            what = "%s, %s: a byte to an ordinary one" % (row.name, row.form)
-            missed += tell_ratio(row.command, what, ratio, aim, out)
+def compared(rows):
+    """Compares a byte of each shape with an ordinary one, and deep chains; prints what is compared. Returns how many aims are missed."""
+    found = {(row.name, *row.ordinary()): row for row in rows}
+    told = [(row.command, "%s, %s: a byte to an ordinary one" % (row.name, row.form), ratio, aim) for row, ratio in ratios(rows)
+            for aim in [DEEP_BYTE if row.name == "chains-256" else BYTE] if ratio > aim]
     for command in dict.fromkeys(row.command for row in rows):
         deep, flat = (found.get((name, FILE, command)) for name in ("chains-256", "chains-64"))
         if deep and flat and command != "show":
-            missed += tell_ratio(command, "256 steps to 64", deep.rise("cost") / flat.rise("cost"), STEPS, out)
-    return missed
+            told.append((command, "256 steps to 64", deep.rise("cost") / flat.rise("cost"), STEPS))
+    for command, what, ratio, aim in told:
+        print("%-17s %s: %.2f of %.1f%s" % (command, what, ratio, aim, " ABOVE" if ratio > aim else ""))
+    return sum(ratio > aim for _, _, ratio, aim in told)
 
 
 def ratios(rows):
     """Each row with its cost a byte to that of ordinary events in the same form, if these were measured."""
     ordinary = {row.ordinary(): row.cost_a_byte() for row in rows if row.name == ORDINARY}
     return [(row, row.cost_a_byte() / ordinary[row.ordinary()]) for row in rows if row.ordinary() in ordinary]
-
-
-def tell_ratio(command, what, ratio, most, out):
-    """Prints a ratio with its aim. Returns whether it is above."""
-    print("%-17s %s: %.2f of %.1f%s" % (command, what, ratio, most, " ABOVE" if ratio > most else ""), file=out)
-    return ratio > most
 
 
 def print_table(title, numbers, commands, kept=()):
@@ -256,14 +250,6 @@ def print_tables(counted, timed, commands):
     print_table("Bytes of memory a byte:", [(row, row.memory_a_byte()) for row in timed], commands, ordinary)
 
 
-def options_of():
-    options = asked(__doc__, size=4.0, runs=3, jobs=1, shapes=",".join(SHAPES), forms="document,file,file of format 1",
-                    commands=",".join(COMMANDS), instructions=False, table=False, gate=False)
-    options.commands, forms = options.commands.split(","), options.forms.split(",")
-    options.cases = {(name, form): options.commands for name in options.shapes.split(",") for form in SHAPES[name].forms if form in forms}
-    return options
-
-
 def check_counts():
     """Exits if counts with repeated instructions wouldn't be refused, where the processor has them."""
     with open("/proc/cpuinfo", encoding="ascii") as file:
@@ -273,23 +259,26 @@ def check_counts():
 
 
 def main():
-    options = options_of()
-    is_counted = options.instructions or options.table or options.gate
-    if is_counted and not can_count():
+    options = asked(__doc__, size=4.0, runs=3, jobs=1, shapes=",".join(SHAPES), forms="document,file,file of format 1",
+                    commands=",".join(COMMANDS), instructions=False, table=False, gate=False)
+    commands, forms = options.commands.split(","), options.forms.split(",")
+    cases = {(name, form): commands for name in options.shapes.split(",") for form in SHAPES[name].forms if form in forms}
+    if (options.instructions or options.table or options.gate) and not can_count():
         return 0
-    if options.gate:
+    if options.table:
+        with contextlib.redirect_stdout(sys.stderr):
+            counted, missed = measured(cases, COUNTED_SIZES, True, options)
+            timed, further = measured(cases, TIMED_SIZES, False, options)
+            missed += further + compared(timed)
+        print_tables(counted, timed, commands)
+    elif options.gate:
         check_counts()
-        rows, missed = measured(GATE, GATE_SIZES, True, options, sys.stdout)
-        missed += compared(rows, sys.stdout)
-    elif options.table:
-        counted, missed = measured(options.cases, COUNTED_SIZES, True, options, sys.stderr)
-        timed, further = measured(options.cases, TIMED_SIZES, False, options, sys.stderr)
-        missed += further + compared(timed, sys.stderr)
-        print_tables(counted, timed, options.commands)
+        rows, missed = measured(GATE, GATE_SIZES, True, options)
+        missed += compared(rows)
     else:
         sizes = [int(options.size * MEGABYTE) * times for times in (1, 2, 4)]
-        rows, missed = measured(options.cases, sizes, options.instructions, options, sys.stdout)
-        missed += 0 if options.instructions else compared(rows, sys.stdout)
+        rows, missed = measured(cases, sizes, options.instructions, options)
+        missed += 0 if options.instructions else compared(rows)
     print("%d above their aims" % missed, file=sys.stderr if options.table else sys.stdout)
     return 1 if missed else 0
 
