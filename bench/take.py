@@ -23,7 +23,6 @@ import os
 import re
 import sys
 import tempfile
-from typing import NamedTuple
 
 from measure import TOP, asked, atoms_of, best_of, replica_file, run_apart, spelled, write_replica, written_apart
 
@@ -61,60 +60,41 @@ def held(folder):
         return {(file.name, file.inode()): file.stat().st_size for file in files}
 
 
-class Site(NamedTuple):
-    """A site as a folder, as a file or as a table: takes into it, with the bytes that they have written."""
-    place: str
+def take_folder(place, delta=None):
+    """Takes a replica file into a folder, or settles it. Returns what that took, and the bytes of the files that are new."""
+    before = held(place) if os.path.exists(place) else {}
+    took = run_apart([TAKE, "--settle", place] if delta is None else [TAKE, "--by", "hour", "--windows", "1000000", place, delta])
+    return took, sum(size for file, size in held(place).items() if file not in before)
 
 
-class AsFolder(Site):
-    title = "folder"
-
-    def run(self, *words):
-        """Returns what cadf-take took, and the bytes of the files that weren't there before."""
-        before = held(self.place) if os.path.exists(self.place) else {}
-        took = run_apart([TAKE, *words])
-        return took, sum(size for file, size in held(self.place).items() if file not in before)
-
-    def take(self, delta):
-        return self.run("--by", "hour", "--windows", "1000000", self.place, delta)
-
-    def settle(self):
-        return self.run("--settle", self.place)
+def take_file(place, delta):
+    took = run_apart([TAKE, place, delta])
+    return took, os.path.getsize(place) + 2 * os.path.getsize(delta)  # and what the call makes of the delta
 
 
-class AsFile(Site):
-    title = "file"
-
-    def take(self, delta):
-        took = run_apart([TAKE, self.place, delta])
-        return took, os.path.getsize(self.place) + 2 * os.path.getsize(delta)  # and what the call makes of the delta
+def take_table(place, delta):
+    took = run_apart([sys.executable, "-c", SQLITE, place, delta + ".facts"], place + ".said")
+    with open(place + ".said", encoding="ascii") as file:
+        return took, int(file.read())
 
 
-class AsTable(Site):
-    title = "sqlite"
-
-    def take(self, delta):
-        took = run_apart([sys.executable, "-c", SQLITE, self.place, delta + ".facts"], self.place + ".said")
-        with open(self.place + ".said", encoding="ascii") as file:
-            return took, int(file.read())
+TAKES = {"folder": take_folder, "file": take_file, "sqlite": take_table}
 
 
 def measure_sites(folder, size, runs):
     """Takes 1 and 300 events into sites of that size, and prints what that took."""
     count = size * MB // EVENT_BYTES
-    sites = [kind(os.path.join(folder, "%s-%d" % (kind.title, size))) for kind in (AsFolder, AsFile, AsTable)]
-    base = os.path.join(folder, "base")
-    write_delta(base, range(count))
-    for site in sites:
-        site.take(base)
+    delta, sites = os.path.join(folder, "delta"), {title: os.path.join(folder, "%s-%d" % (title, size)) for title in TAKES}
+    write_delta(delta, range(count))
+    for title, site in sites.items():
+        TAKES[title](site, delta)
     for more in (1, 300):
-        taken = {site.title: [] for site in sites}
+        taken = {title: [] for title in sites}
         for _ in range(runs):
-            delta = os.path.join(folder, "delta")
             write_delta(delta, range(count, count + more))
             count += more
-            for site in sites:
-                taken[site.title].append(site.take(delta))
+            for title, site in sites.items():
+                taken[title].append(TAKES[title](site, delta))
         for title, found in taken.items():
             took, written = best_of([run for run, _ in found]), min(size for _, size in found)
             print("%d MB, %d events, %s: %.3f s, %.3f s of the processor, %.0f MB of memory, %d bytes written" % (
@@ -123,16 +103,16 @@ def measure_sites(folder, size, runs):
 
 def measure_growth(folder, takes):
     """Makes a folder by so many takes, and settles it: the bytes that are written for each byte that is brought."""
-    site, delta = AsFolder(os.path.join(folder, "grown")), os.path.join(folder, "delta")
+    site, delta = os.path.join(folder, "grown"), os.path.join(folder, "delta")
     brought = written = seconds = dearest = 0
     for number in range(takes):
         write_delta(delta, range(300 * number, 300 * (number + 1)))
-        took, more = site.take(delta)
+        took, more = take_folder(site, delta)
         brought, written, seconds = brought + os.path.getsize(delta), written + more, seconds + took.processors
         dearest = max(dearest, took.processors)
     print("%d takes of 300 events: %.2f bytes written a byte (the aim: %.2f), %.3f s of the processor a take, %.2f s the dearest" % (
         takes, written / brought, 2 + math.log(takes, 7), seconds / takes, dearest))
-    took, more = site.settle()
+    took, more = take_folder(site)
     print("settled: %.2f bytes written a byte, %.2f s of the processor, %.0f MB of memory" % (more / brought, took.processors, took.memory))
 
 
@@ -147,11 +127,11 @@ def batch_of(path, hour):
 def measure_year(folder, binary):
     """Takes a year by the hour, settles it, and compares each window with one join of its batch."""
     site, delta, union = (os.path.join(folder, name) for name in ("year", "delta", "union"))
-    folder, most = AsFolder(site), 0
+    most = 0
     for hour in range(HOURS):
         batch_of(delta, hour)
-        most = max(most, folder.take(delta)[0].memory)
-    took, _ = folder.settle()
+        most = max(most, take_folder(site, delta)[0].memory)
+    took, _ = take_folder(site)
     names, wrong = set(os.listdir(site)), 0
     for hour in range(HOURS):
         window = batch_of(delta, hour)
