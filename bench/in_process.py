@@ -1,9 +1,9 @@
 #!/usr/bin/env python3
 """Times calls of the library beside the command.
 
-    bench/in_process.py [--size 10] [--calls 1000] [--runs 3] PREFIX
+    bench/in_process.py [--size 10] [--calls 1000] [--runs 3] BINARY
 
-PREFIX is where install/install put the command and the library; gcc is needed. Prints
+BINARY is PREFIX/bin/cadf, where install/install put the command and beside it the library; gcc is needed. Prints
 
 - what a `check` of a small log takes from Python and by the command, over so many calls of each;
 - processor time and memory of `show` of a log document of SIZE MB, by the command, which writes to a file or to /dev/null, and
@@ -12,14 +12,13 @@ PREFIX is where install/install put the command and the library; gcc is needed. 
   before, and with a fixed choice in both;
 - the memory that the same call takes from Python beyond its input, in lengths of the output.
 """
-import argparse
 import os
 import subprocess
 import sys
 import tempfile
 import time
 
-from measure import TOP, best_of, run_apart
+from measure import TOP, asked, best_of, measured_in_turn, run_apart
 from show import document
 
 LOG = '{"id":"g","events":[],"name":"a"}'
@@ -74,8 +73,8 @@ def small_calls(prefix, folder, calls):
 
 def beyond(commands, size, runs):
     """The memory that the second command takes beyond the first's, in so many bytes."""
-    there, here = (best_of([run_apart(command) for _ in range(runs)]).memory for command in commands)
-    return (here - there) * 2 ** 20 / size
+    there, here = measured_in_turn(commands, runs)
+    return (here.memory - there.memory) * 2 ** 20 / size
 
 
 def large_call(prefix, folder, size, runs):
@@ -102,13 +101,8 @@ def large_call(prefix, folder, size, runs):
 
 
 def main():
-    parser = argparse.ArgumentParser(description=__doc__, formatter_class=argparse.RawDescriptionHelpFormatter)
-    parser.add_argument("--size", type=int, default=10)
-    parser.add_argument("--calls", type=int, default=1000)
-    parser.add_argument("--runs", type=int, default=3)
-    parser.add_argument("prefix", metavar="PREFIX")
-    options = parser.parse_args()
-    prefix, package = os.path.abspath(options.prefix), os.path.join(TOP, "bindings", "python")
+    options = asked(__doc__, size=10, calls=1000, runs=3)
+    prefix, package = os.path.dirname(os.path.dirname(options.binary)), os.path.join(TOP, "bindings", "python")
     os.environ.update(CADF_LIBRARY=os.path.join(prefix, "lib", "libcadf.so.0"), PYTHONPATH=package)
     sys.path.insert(0, package)
     with tempfile.TemporaryDirectory(prefix="cadf-bench-") as folder:
