@@ -3,7 +3,6 @@ import os
 import shutil
 import subprocess
 import sys
-import tempfile
 
 PEER = os.path.join(os.path.dirname(os.path.abspath(__file__)), "peer")
 CRATES = "/usr/share/cargo/registry"  # where Debian's packages put them
@@ -58,9 +57,9 @@ def simdjson(folder):
 
 
 def sorters():
-    """The words of the programs that read JSON and write it with sorted names, by name; of those that are there."""
-    yield "jq", ["jq", "-cS", "."]
-    if has("node", *found("node")):
-        yield "node", ["node", "-e", NODE]
-    if has("orjson", ("python3-orjson", subprocess.run([sys.executable, "-c", "import orjson"], stderr=subprocess.DEVNULL).returncode == 0)):
-        yield "orjson", [sys.executable, "-c", ORJSON]
+    """Yields the programs that read JSON and write it with sorted names, by name: the words that run those that are there."""
+    orjson = subprocess.run([sys.executable, "-c", "import orjson"], stderr=subprocess.DEVNULL).returncode == 0
+    for name, needed, words in (("jq", found("jq"), ["jq", "-cS", "."]), ("node", found("node"), ["node", "-e", NODE]),
+                                ("orjson", [("python3-orjson", orjson)], [sys.executable, "-c", ORJSON])):
+        if has(name, *needed):
+            yield name, words
