@@ -39,7 +39,7 @@ def main():
         words = ["rehearse", "g", str(options.sites), path]
         ours, theirs = [options.binary, *words], [sys.executable, SECOND, *words]
         check_same_bytes([ours, theirs])
-        tell("%d turns, %d sites" % (options.turns, options.sites), {"`cadf rehearse`": ours}, {"Python": theirs}, options.runs)
+        tell("{:,} turns, {} sites".format(options.turns, options.sites), {"`cadf rehearse`": ours}, {"Python": theirs}, options.runs)
 
 
 if __name__ == "__main__":
