@@ -1,5 +1,5 @@
 #!/usr/bin/env python3
-"""Puts the numbers of bench/RESULTS.md into docs/PERFORMANCE.md and docs/GUIDE.md, and its chart.
+"""Puts the numbers of bench/RESULTS.md into docs/PERFORMANCE.md, docs/GUIDE.md and README.md, and its chart.
 
     bench/figures.py [--write]
 
@@ -13,9 +13,10 @@ import re
 import sys
 
 TOP = os.path.dirname(os.path.dirname(os.path.abspath(__file__)))
-RESULTS, PERFORMANCE, GUIDE = (os.path.join(TOP, *names) for names in (("bench", "RESULTS.md"), ("docs", "PERFORMANCE.md"), ("docs", "GUIDE.md")))
+RESULTS, PERFORMANCE, GUIDE, README = (os.path.join(TOP, *name.split("/")) for name in (
+    "bench/RESULTS.md", "docs/PERFORMANCE.md", "docs/GUIDE.md", "README.md"))
 NUMBER = r"\d[\d,]*(?:\.\d+)?"
-MEASURED = re.compile(r"(?<![\w^.,-])(?:%s (?:[kKMGT]?B|bytes|m?s)\b|\d\.\d+\b)" % NUMBER)
+MEASURED = re.compile(r"(?<![\w^.,-])(?:%s (?:[kKMGT]?B|bytes|m?s)\b|\d\.\d+\b(?!\.\d))" % NUMBER)
 SHOW, JOIN, MISSING, SYNC, TAKES = "\n| 100 MB, ", "| join |", "| missing |", "## Exchanges over a line", "## Takes into a site"
 PAGE, LARGE_PAGE, MEMORY, TIME = "## The page of", "A page of 1,000,000 events of", "Bytes of memory a byte:", "Processor time a byte"
 SKETCHES, SALTS, DISK = "\n1,000,000 facts:\n", "How many of 100 salts", "| Calls a second |"
@@ -61,11 +62,18 @@ FIGURES = {
         ("| 100 | {/1000} GB | {/1000} TB | `hour` | {} MB |", *((DISK, "100,", column) for column in (*A_CALL, "MB an hour"))),
         ("a take without a merge {} MB.", (TAKES, "1,000 MB, 1 event", "Folder:1")),
     ],
+    README: [
+        ("`show` of 100 MB takes {} s and {} MB. A take of one event into a folder of 1,000 MB takes {} s and {} MB, into one file of that size {} s.",
+         (SHOW, "`cadf show`", "User"), (SHOW, "`cadf show`", "Memory"), *((TAKES, "1,000 MB, 1 event", column) for column in ("Folder", "Folder:1", "File"))),
+        ("a sketch has {/1000} KB, an inventory {/1000000} MB, and the answer {/1000} KB.",
+         *((SKETCHES, "100, 65", column) for column in ("Sketch", "Inventory", "Inventory:1"))),
+    ],
 }
 # What the pages say with units that is no measurement.
 LIMITS = {
     PERFORMANCE: ["2.5 GHz", "a site of 1,000 MB", "65 bytes a fact", "81 bytes a cell"],
     GUIDE: ["65 bytes a fact", "81 bytes a cell", "at most 16 MB of them", "of 1 MB together"],
+    README: ["2.5 GHz", "Python 3.9", "65 bytes a fact", "160 bytes a difference", "1 to 1,024 bytes"],
 }
 CHART = (("inventory", "sketch", "rdiff", "rdiff -b 1024"), "\n1,000,000 facts:\n", 1 << 10)  # bytes of the first column
 SIZES = ((1000 ** 3, "GB"), (1000 ** 2, "MB"), (1000, "KB"))

@@ -101,7 +101,7 @@ def test_help(tool):
 
 
 def test_figures():
-    """What PERFORMANCE and GUIDE tell in numbers with units, and the chart, is what RESULTS has; another number there is seen."""
+    """What PERFORMANCE, GUIDE and README tell in numbers with units, and the chart, is what RESULTS has; another number there is seen."""
     told = runpy.run_path(os.path.join(TOP, "bench", "figures.py"))
     results = page("bench", "RESULTS.md")
     for path, said, wanted, untold in told["pages"]():
