@@ -14,9 +14,7 @@ import os
 import sys
 import tempfile
 
-from measure import (
-    TOP, asked, atoms_of, best_of, check_same_bytes, run_apart, tell, two_sites, write_replica,
-)
+from measure import asked, atoms_of, best_of, check_same_bytes, run_apart, tell, two_sites, write_replica
 from peer import SQLITE, found, has, rust
 
 HASHES = {"sha256sum": "sha256sum", "openssl": "openssl dgst -sha256"}
