@@ -47,7 +47,7 @@ def keys_in(data):
     while 0 < place < end:
         after = data.find(KEY, place) + 1 or end
         lines = data[place:after]
-        yield lines[len(KEY) - 1:lines.index(b"]\n")], lines
+        yield lines[len(KEY) - 1:lines.index(b"\n") - 1], lines
         place = after
 
 

@@ -7,7 +7,7 @@ import pytest
 
 from tests.machine import ended
 from tests.tools.copies import copied
-from tests.tools.test_site_folders import DAYS, EVENT, TOOLS, Site, atoms_of, contents
+from tests.tools.test_site_folders import DAYS, EVENT, TOOLS, Site, atoms_of, contents, index_of, with_digest
 
 # A command that tells which files it is given.
 TELLING = """#!/bin/sh
@@ -140,6 +140,19 @@ def test_report_of_a_folder_is_that_of_its_file(sites):
     sites.north.takes(told_on_two_days(2))
     file = sites.file("file.cadf", told_on_two_days(0), told_on_two_days(2))
     assert sites.run("report", "north/") == sites.run("report", file)
+
+
+@pytest.mark.parametrize("words", [["conflicts"], ["events"], ["report", "--from", "2024-03-01"]])
+@pytest.mark.parametrize("key", ['"x', ""])
+def test_right_digests_make_no_right_lines(sites, words, key):
+    """A folder that somebody sent has a key that doesn't end with its line. cadf says what is wrong with the file."""
+    data = with_digest(('CADF-REPLICA 2\nL "g"\n[1,0,"E"]\n[2,0,%s\n' % key).encode())
+    name, digest = "2024-03-01.%s.cadf", data[-65:-1].decode()
+    sites.north.folder.mkdir()
+    (sites.north.folder / (name % digest)).write_bytes(data)
+    (sites.north.folder / "site").write_bytes(index_of({"2024-03-01": [digest]}))
+    status, output, said = sites.run(*words, "north")
+    assert (status, output, len(said)) == (1, "", 1) and said[0].startswith("cadf-%s: north/%s: line " % (words[0], name % digest))
 
 
 def arrives(sites, name, value):
