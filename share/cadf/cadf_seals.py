@@ -18,7 +18,7 @@ import tempfile
 
 from cadf_link import Store
 from cadf_site import LARGEST, PART, SHARED, UNITS, Folder, check_window, opened_parts, opened_site, split, without_facts
-from cadf_toolkit import CADF, REFUSED, Fault, Input, Progress, Refusal, cadf, name_shown, other_log, with_advice
+from cadf_toolkit import CADF, REFUSED, Fault, Input, Progress, Refusal, cadf, log_name, name_shown, other_log, with_advice
 
 UNIT = re.compile(("B (%s)" % "|".join(UNITS)).encode())
 NAME_LINE = re.compile(("W (%s)" % PART).encode())
@@ -26,7 +26,6 @@ ENTRY = re.compile((r"W (%s) ([1-9][0-9]{0,19}) ([0-9a-f]{64})" % PART).encode()
 SEAL = re.compile(rb"CADF-SEAL 1\nL [^\n]*\nN ([0-9]{1,20})\nR ([0-9a-f]{64})\nZ [0-9a-f]{64}\n")
 NOTHING = 0, hashlib.sha256(b"").hexdigest().encode()  # count and root of no facts
 MOST = 2 ** 64  # above all counts
-LONGEST_NAME = 1024  # bytes
 LONGEST_LINE = 2 ** 14  # bytes: no right line has so many
 DAMAGED = "it is damaged: have it sent again"
 
@@ -165,13 +164,10 @@ def ended_lines(file):
 def log_in(line):
     """The canonical text of the log's name in the second line."""
     try:
-        text = line[2:].decode()
-        name = json.loads(text) if line.startswith(b'L "') else ""
+        text = line[2:].decode() if line.startswith(b"L ") else ""
+        log_name(text)
     except ValueError:
         raise Refused("log line") from None
-    if not 0 < len(name.encode("utf-8", "replace")) <= LONGEST_NAME or json.dumps(name, ensure_ascii=False) != text or any(
-            each < " " or each == "\x7f" for each in name):
-        raise Refused("log line")
     return text
 
 

@@ -23,12 +23,12 @@ import stat
 import subprocess
 import tempfile
 
-from cadf_toolkit import (CADF, FAILED, REFUSED, Fault, Input, Refusal, cadf, check_end, name_shown, open_descriptor, opened, opened_file, other_log, say,
-                          started_cadf, sync, wait_for_lock)
+from cadf_toolkit import (CADF, FAILED, REFUSED, Fault, Input, Refusal, cadf, check_end, log_name, name_shown, open_descriptor, opened, opened_file,
+                          other_log, say, started_cadf, sync, wait_for_lock)
 
 UNITS = {"month": len("2024-03"), "day": len("2024-03-01"), "hour": len("2024-03-01T12")}  # with the length of a window's name
 INDEX, LOCK, WORKING = "site", ".lock", ".new"
-HEAD = re.compile(rb'CADF-SITE 1\nL ("(?:[^"\\\n]|\\.)*")\nB (month|day|hour)\n')
+HEAD = re.compile(rb"CADF-SITE 1\nL (.*)\nB (month|day|hour)\n")
 SHARED = "shared"
 PART = r"(?:shared|[0-9]{4}-[0-9]{2}(?:-[0-9]{2}(?:T[0-9]{2})?)?)"
 DIGITS = r"[0-9a-f]{64}"
@@ -77,10 +77,10 @@ class Index:
         if not head or data[cut:] != b"Z %s\n" % hashlib.sha256(data[:cut]).hexdigest().encode():
             return None
         try:
-            index = cls(head[1].decode(), head[2].decode(), data[head.end():cut].splitlines(True))
-            index.name().encode()
+            log_name(head[1].decode())
         except ValueError:
             return None
+        index = cls(head[1].decode(), head[2].decode(), data[head.end():cut].splitlines(True))
         return index if index.is_well_formed() and b"".join(index.bytes()) == data else None
 
     def is_well_formed(self):

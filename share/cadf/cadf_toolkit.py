@@ -49,6 +49,7 @@ OTHER_KINDS = {
 OF_FACTS = {b"CADF-REPLICA ": "a replica file: `cadf-take SITE FILE` takes it as it is"}
 OF_LINES = "lines of JSON: `cadf-from-openstack --log ID FILE` makes a document of them"
 LONGEST_FIRST = 2 ** 16  # bytes in which a first line is looked for
+LONGEST_NAME = 1024  # bytes of a log's identifier
 OF_NO_KIND = re.compile("version|not JSON|event 0: ")  # what cadf says of them
 DAMAGED = "the file is damaged: fetch it again, or restore it as the guide says under `A damaged site`"
 OTHER_TIME = "seal and proof are of other facts: have both made of the site as it was at one time"
@@ -100,6 +101,19 @@ def name_shown(name):
 def printable(text):
     """The text with escapes in the place of what can't be printed."""
     return "".join(each if each.isprintable() else ascii(each)[1:-1] for each in text)
+
+
+def is_log_name(text):
+    """Whether the text may be a log's identifier."""
+    return 0 < len(text.encode("utf-8", "replace")) <= LONGEST_NAME and not re.search("[\0-\x1f\x7f\ud800-\udfff]", text)
+
+
+def log_name(text):
+    """The log's identifier of this canonical text. ValueError: it is none."""
+    name = json.loads(text) if text.startswith('"') else ""
+    if not is_log_name(name) or json.dumps(name, ensure_ascii=False) != text:
+        raise ValueError
+    return name
 
 
 def tool():

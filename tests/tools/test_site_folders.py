@@ -4,6 +4,7 @@ import hashlib
 import json
 import os
 import random
+import resource
 import shutil
 import subprocess
 import sys
@@ -375,6 +376,7 @@ def test_each_bit_of_the_index_counts(site):
 @pytest.mark.parametrize("data", [
     b'CADF-SITE 1\nL "g"\nB day\nF ../../x %064d\n', b'CADF-SITE 1\nL "g"\nB day\nF 2024-03 %064d\n',
     b'CADF-SITE 1\nL "g"\nB month\nF 2024-03-01 %064d\n', b'CADF-SITE 1\nL "\\ud800"\nB day\nF shared %064d\n',
+    *(b'CADF-SITE 1\nL %s\nB day\nF shared %%064d\n' % log for log in (b'""', b'"%s"' % (b"x" * 1025), b'"\\u0067"', b'"\x7f"', b'["g"]', b'"g" ')),
     b'CADF-SITE 1\nL "\xff"\nB day\nF shared %064d\n', b'CADF-SITE 1\nL "\\x"\nB day\nF shared %064d\n',
     b'CADF-SITE 1\nL "g"\nB day\nF 2024-03-01 %064d\nF shared %064d\n', b'CADF-SITE 1\nL "g"\nB day\nF shared %064d\n\n',
     b'CADF-SITE 1\nL "g"\nB day\nF shared %064d\nF shared %064d\n', b'CADF-SITE 2\nL "g"\nB day\nF shared %064d\n'])
@@ -386,6 +388,15 @@ def test_an_odd_index_is_refused(site, data):
     with pytest.raises(cadf_toolkit.Fault, match="not the file of a site") as refused:
         cadf_site.Folder(str(site.folder)).site()
     assert refused.value.status == 1
+
+
+def test_a_long_name_of_a_log_takes_no_memory(site):
+    """A name has at most 1,024 bytes; one of 16 MiB is refused in 1 GiB."""
+    site.folder.mkdir()
+    (site.folder / "site").write_bytes(with_digest(b'CADF-SITE 1\nL "%s"\nB day\n' % (b"x" * 2 ** 24)))
+    answer = ended(os.path.join(TOOLS, "cadf-which"), [str(site.folder)], env=site.environment,
+                   preexec_fn=lambda: resource.setrlimit(resource.RLIMIT_AS, (2 ** 30, 2 ** 30)))
+    assert answer.status == 1 and answer.error.startswith(b"%s/site: not the file of a site" % os.fsencode(site.folder))
 
 
 def test_a_damaged_window_is_no_fault_of_what_is_taken(site):
