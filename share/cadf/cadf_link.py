@@ -12,7 +12,7 @@ import threading
 import time
 from typing import NamedTuple
 
-from cadf_toolkit import FAILED, REFUSED, Fault, Input, printable
+from cadf_toolkit import FAILED, REFUSED, Fault, Input, is_log_name, printable
 
 VERSION = 1
 FIRST = re.compile(rb"CADF-SYNC ([1-9][0-9]{0,5}) (\{.*\})")
@@ -367,9 +367,9 @@ def number_of(members, name, least, most):
 
 
 def text_of(members, name):
-    """The text of a first line's member, or None for null and for none."""
+    """The text of a first line's member, or None for null and for none. A log's is an identifier."""
     value = members.get(name)
-    if value is not None and (not isinstance(value, str) or len(value) > LONGEST_FIRST):
+    if value is not None and (not isinstance(value, str) or len(value) > LONGEST_FIRST or name == "log" and not is_log_name(value)):
         raise Wrong("no text in the first line: %s" % name)
     return value
 

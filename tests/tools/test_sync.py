@@ -408,6 +408,16 @@ def test_a_caller_that_lies(sites, kind):
     assert sorted((each.name, each.read_bytes()) for each in sites.path.iterdir()) == before
 
 
+@pytest.mark.parametrize("log", ["\0", "\ud800", "", "x" * 1025])
+def test_a_log_that_is_none(sites, log):
+    """An end without a site would have its log from the other one."""
+    document = json.dumps({"id": "g", "events": []}).encode()
+    answer = sites.served(hello(log=log) + message(b"take", items((b"all", b"facts", document))))
+    assert (answer.status, answer.error, os.listdir(sites.path)) == (1, b"", []) and b"no text in the first line: log" in answer.output
+    answer = sites.lied_to(first(log=log) + LIST + message(b"answer", items((b"all", b"facts", document))))
+    assert (answer.status, answer.error) == (1, b"cadf-sync: no text in the first line: log\n")
+
+
 def test_a_site_that_is_read_alone(sites):
     sites.put("here.cadf", facts(1))
     answer = sites.served(hello() + message(b"take", items((b"all", b"facts", GOOD))), "--read-only")
