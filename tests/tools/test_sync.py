@@ -205,7 +205,7 @@ def test_conflicts_and_metrics(sites):
     (("a.cadf", "--", "-oProxyCommand=x:b.cadf"), "doesn't begin with `-`"), (("a.cadf", "[-x]:b.cadf"), "doesn't begin with `-`"),
     (("a.cadf", ":b.cadf"), "no HOST:SITE"), (("a.cadf", "h::b"), "no HOST:SITE"), (("a.cadf", "h:"), "no HOST:SITE"),
     (("--since=2024", "a.cadf", "b.cadf"), "WINDOW is"), (("--pull", "--push", "a.cadf", "b.cadf"), "not allowed with"),
-    (("--limit=2000000000", "a.cadf", "b.cadf"), "--limit"), (("--serve", "a.cadf", "b.cadf"), "--serve has one SITE"),
+    (("--limit=2000000000", "a.cadf", "b.cadf"), "--limit"), (("--rsh=ssh 'a", "a.cadf", "h:b.cadf"), "--rsh"), (("--serve", "a.cadf", "b.cadf"), "--serve has one SITE"),
 ])
 def test_usage(sites, words, part):
     answer = sites.sync(*words)
