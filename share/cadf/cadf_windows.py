@@ -106,7 +106,7 @@ class FileSite:
 
     def __init__(self, input):
         self.input, self.parts = input, {}
-        if head(input.file, 1) != [SECOND[:-1]] or last_digest(input.file) is None:
+        if head(input.file, 1) != [SECOND[:-1]] or None in (log_in(input), last_digest(input.file)):
             self.input = made(["join"], [input], input.name)
         self.log = log_in(self.input)
 

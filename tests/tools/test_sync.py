@@ -220,12 +220,14 @@ def test_a_colon_after_a_slash_is_of_this_machine(sites):
 
 
 @pytest.mark.parametrize("here, there, words, part", [
-    (None, None, (), "neither site is there"), ("g", "h", (), "other log"), ("g", "junk", (), "version"),
+    (None, None, (), "neither site is there"), ("g", "h", (), "other log"), ("g", "junk", (), "version"), (None, "odd", (), "there.cadf: log line"),
 ])
 def test_refused_sites(sites, here, there, words, part):
     for name, log in (("here.cadf", here), ("there.cadf", there)):
         if log == "junk":
             (sites.path / name).write_bytes(b"CADF-OTHER 1\n")
+        elif log == "odd":
+            (sites.path / name).write_bytes(file_of("g", facts(1)).replace(b'"g"', b"7"))
         elif log:
             sites.put(name, facts(1, log=log), log)
     before = {each.name: each.read_bytes() for each in sites.path.iterdir()}
