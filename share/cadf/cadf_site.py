@@ -23,8 +23,8 @@ import stat
 import subprocess
 import tempfile
 
-from cadf_toolkit import (CADF, FAILED, REFUSED, Fault, Input, Refusal, cadf, check_end, log_name, name_shown, open_descriptor, opened, opened_file,
-                          other_log, say, started_cadf, sync, wait_for_lock)
+from cadf_toolkit import (CADF, FAILED, LARGEST, REFUSED, Fault, Input, Refusal, cadf, check_end, log_name, name_shown, open_descriptor, opened,
+                          opened_file, other_log, say, started_cadf, sync, wait_for_lock)
 
 UNITS = {"month": len("2024-03"), "day": len("2024-03-01"), "hour": len("2024-03-01T12")}  # with the length of a window's name
 INDEX, LOCK, WORKING = "site", ".lock", ".new"
@@ -48,7 +48,6 @@ SEVERAL = 7  # files of a size that are joined into one
 SMALLEST = 2 ** 12  # bytes below which all files count as of one size
 MOST_JOINED = 2 ** 24  # bytes that a take joins; more is left to --settle
 MOST_SETTLED = 2 ** 28  # bytes that are joined before `site` is replaced, so that a settling that is killed goes on from there
-LARGEST = 2 ** 30  # bytes that cadf reads of a file
 NO_SITE = "no site in it: `cadf-take --by day SITE/ FILE..` makes one"
 DAMAGED = "the site is damaged: restore it as the guide says under `A damaged site`"
 

@@ -48,6 +48,7 @@ OTHER_KINDS = {
 }
 OF_FACTS = {b"CADF-REPLICA ": "a replica file: `cadf-take SITE FILE` takes it as it is"}
 OF_LINES = "lines of JSON: `cadf-from-openstack --log ID FILE` makes a document of them"
+LARGEST = 2 ** 30  # bytes that cadf reads of a file
 LONGEST_FIRST = 2 ** 16  # bytes in which a first line is looked for
 LONGEST_NAME = 1024  # bytes of a log's identifier
 OF_NO_KIND = re.compile("version|not JSON|event 0: ")  # what cadf says of them
@@ -276,9 +277,13 @@ def are_lines(first):
 
 
 def copy_of(pipe):
-    """What can be read once, as a private file. OSError: it can't be read, or the copy not be written."""
+    """What can be read once, as a private file; of what is too large only so much that this shows.
+
+    OSError: it can't be read, or the copy not be written.
+    """
     copy = tempfile.TemporaryFile()
-    shutil.copyfileobj(pipe, copy)
+    for block in iter(lambda: pipe.read(min(2 ** 16, LARGEST + 1 - copy.tell())), b""):
+        copy.write(block)
     copy.flush()
     return copy
 

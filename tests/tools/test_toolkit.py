@@ -1,5 +1,6 @@
 """How a tool ends, by share/cadf/cadf_toolkit.py, for what no test can make a machine do."""
 import errno
+import io
 import os
 import signal
 import subprocess
@@ -37,6 +38,14 @@ def raising(fault):
 def test_ended_by_the_machine(kit, capsys, fault, status, said):
     assert kit.ended(raising(fault)) == status
     assert capsys.readouterr().err == "cadf-tool: %s\n" % said
+
+
+@pytest.mark.parametrize("more", [-1, 0, 1, 10 ** 6])
+def test_a_pipe_without_an_end_fills_no_disk(kit, monkeypatch, more):
+    """What comes by a pipe is copied up to the byte that makes it too large."""
+    monkeypatch.setattr(kit, "LARGEST", 2 ** 17)
+    with kit.copy_of(io.BytesIO(bytes(2 ** 17 + more))) as copy:
+        assert os.fstat(copy.fileno()).st_size == 2 ** 17 + min(more, 1)
 
 
 @pytest.mark.parametrize("number", [signal.SIGHUP, signal.SIGINT, signal.SIGTERM])
