@@ -203,8 +203,10 @@ def kept_unions(folder):
 def keep_unions(folder, unions):
     """Keeps digests of unions. A folder that can't be written to keeps none."""
     data = "".join("U %s %s\n" % item for item in sorted(unions.items())).encode()
-    working = "%s.%s" % (UNIONS, secrets.token_hex(8))
+    working = UNIONS + ".new"
     with contextlib.suppress(OSError):
+        with contextlib.suppress(FileNotFoundError):
+            os.unlink(working, dir_fd=folder.descriptor)  # what a call left that was killed, or found a full disk
         with os.fdopen(folder.open(working, os.O_WRONLY | os.O_CREAT | os.O_EXCL), "wb") as file:
             file.write(data + b"Z %s\n" % hashlib.sha256(data).hexdigest().encode())
         os.rename(working, UNIONS, src_dir_fd=folder.descriptor, dst_dir_fd=folder.descriptor)

@@ -31,6 +31,7 @@ from tests.tools.copies import copied
 
 sys.path.insert(0, os.path.join(TOP, "share", "cadf"))
 import cadf_site
+import cadf_windows
 
 TOOLS = os.path.join(TOP, "tools")
 REFERENCE = os.path.join(TOP, "tests", "reference", "cadf")
@@ -543,6 +544,19 @@ def test_windows_of_several_files_are_compared_by_their_union(folders):
     assert (folders.path / "there" / ".unions").read_bytes() == unions
     (folders.path / "there" / ".unions").write_bytes(unions.replace(b"U ", b"U 0", 1))
     assert folders.equal("here/", "there/")["windows_differed"] == 0
+
+
+def test_digests_that_cannot_be_kept_pile_up_nothing(tmp_path, monkeypatch):
+    """Calls that end before the rename, as by a kill or on a full disk, leave one file, which goes with the next call."""
+    unions = {"0" * 64: "1" * 64}
+    with cadf_site.Folder(str(tmp_path)) as folder:
+        with monkeypatch.context() as machine:
+            machine.setattr(os, "rename", lambda *_, **__: os.open(str(tmp_path / "none"), os.O_RDONLY))
+            for _ in range(3):
+                cadf_windows.keep_unions(folder, unions)
+        assert len(os.listdir(tmp_path)) == 1
+        cadf_windows.keep_unions(folder, unions)
+        assert os.listdir(tmp_path) == [".unions"] and cadf_windows.kept_unions(folder) == unions
 
 
 NARROW = """#!/bin/sh
