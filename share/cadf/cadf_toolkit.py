@@ -250,6 +250,13 @@ class Input:
         except OSError as fault:
             raise Fault("%s: %s" % (self.name, fault.strerror)) from None
 
+    def log(self):
+        """The log that it names as a replica file does, or None."""
+        try:
+            return log_name(self.first(LONGEST_FIRST).split(b"\n")[1][len("L "):].decode())
+        except (IndexError, ValueError):
+            return None
+
     def whole(self):
         """All its bytes."""
         with open(self.path(), "rb") as file:

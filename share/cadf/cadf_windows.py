@@ -6,7 +6,6 @@ that go with the call, but a folder's `.unions`, which keeps the digests of wind
 import contextlib
 import hashlib
 import itertools
-import json
 import os
 import re
 import secrets
@@ -66,25 +65,11 @@ def union_digest(inputs):
     return LAST.fullmatch(last)[1].decode()
 
 
-def head(file, count):
-    """The first lines of an open file, which are short."""
-    return os.pread(file.fileno(), 2 ** 14, 0).split(b"\n")[:count]
-
-
 def made(words, inputs, name):
     """What cadf makes of the inputs, as an input of that name."""
     file = tempfile.TemporaryFile()
     cadf(words, inputs, file.fileno())
     return Input(name, file)
-
-
-def log_in(input):
-    """The log that a replica file names, or None if it names none."""
-    try:
-        log = json.loads(head(input.file, 2)[1][2:])
-    except (IndexError, ValueError, RecursionError):
-        return None
-    return log if isinstance(log, str) else None
 
 
 # ---- Sites
@@ -106,9 +91,9 @@ class FileSite:
 
     def __init__(self, input):
         self.input, self.parts = input, {}
-        if head(input.file, 1) != [SECOND[:-1]] or None in (log_in(input), last_digest(input.file)):
+        if input.first(len(SECOND)) != SECOND or None in (input.log(), last_digest(input.file)):
             self.input = made(["join"], [input], input.name)
-        self.log = log_in(self.input)
+        self.log = self.input.log()
 
     def digests(self, unit, since):
         """The digest of each part by that unit, from a window on."""

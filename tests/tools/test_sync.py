@@ -784,7 +784,7 @@ WRONG = [
     ("        if self.options.read_only:\n", "        if False:\n", lambda sites: test_a_site_that_is_read_alone(sites)),
     ("        if items is None or not all(is_part(each.part, self.end.unit) for each in items):\n", "        if items is None:\n",
      lambda sites: test_a_caller_that_lies(sites, "another unit's window")),
-    ("                if log is not None and log != self.log:\n", "                if False:\n",
+    ("                if log not in (None, self.log):\n", "                if False:\n",
      lambda sites: test_a_caller_that_lies(sites, "facts of another log")),
     ("            if length > self.limits.limit:\n", "            if False:\n", lambda sites: test_a_far_side_that_lies(sites, "a length of 2^31")),
     ("        for _ in range(MOST_WAITS + 1):\n", "        for _ in range(MOST_WAITS + 10):\n", lambda sites: test_a_far_side_that_lies(sites, "waits")),

@@ -219,6 +219,15 @@ def test_refused_without_a_log(folder):
     leaves(None)
 
 
+@pytest.mark.parametrize("log", [b"[" * 9000, b'"\\u0000"', b'"\\ud800"'], ids=["deep", "zero", "surrogate"])
+def test_a_site_that_names_no_log(folder, log):
+    """Its second line is refused by the command, and given to nobody as a word."""
+    site = folder.one.replace(b'"g"', log, 1)
+    folder.site(site=site)
+    ends(folder.take("s.cadf", "two.json"), 1, "cadf-take: s.cadf: log line: ..")
+    leaves(site)
+
+
 def test_refuses_what_it_would_overwrite(folder):
     folder.site(site=folder.one, before=folder.two, new=folder.both)
     ends(folder.take("s.cadf", "./s.cadf.new"), 2, "cadf-take: ./s.cadf.new: ..")
