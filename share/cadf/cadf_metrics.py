@@ -76,7 +76,7 @@ def open_conflicts(name, parts=None):
             return shown_conflicts(inputs)
     if parts is None:
         return listed_conflicts(name)
-    with cadf_site.opened_site(name, lambda part: part in parts or part == cadf_site.SHARED) as (_, inputs):
+    with cadf_site.opened_site(name, {cadf_site.SHARED, *parts}) as (_, inputs):
         return shown_conflicts(list(inputs.values())) if parts and inputs else 0
 
 

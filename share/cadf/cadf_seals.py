@@ -246,9 +246,9 @@ def proved(facts, name):
     with Folder(name) as folder:
         index = folder.site()
         proof, asked = SiteProof(canonical(index), index.unit), by_part(facts, index.name(), index.unit)
-        with opened_parts(folder, lambda part: part in asked) as (_, inputs), without_facts(proof.log, name) as empty:
+        with opened_parts(folder, asked) as (index, inputs), without_facts(proof.log, name) as empty:
             for part, item in asked.items():
-                files = [file for (own, _), file in inputs.items() if own == part]
+                files = [inputs[part, digest] for digest in index.digests(part)]
                 with item.opened("%s of %s" % (part, facts.name)) as own:
                     proof.parts[part] = cadf(["prove"], [own, *(files or [empty])], subprocess.PIPE)
     return proof

@@ -5,7 +5,7 @@ the moment of a take. A reader needs no lock. A tool imports this as it imports 
 
   is_folder(name)            whether the name is of a folder
   Folder(name).index()       what its file `site` says: an Index, or None if there is none
-  opened_site(name, wanted)  its files as inputs, of the parts that are wanted, as it stood at one moment
+  opened_site(name, parts)   its files as inputs, all or those of some parts, as it stood at one moment
   opened_parts(folder, ..)   the same of a Folder
   opened_whole(names)        the inputs that hold all of these sites, of which each is a file or a folder
   take(..), settle(..)       take inputs into a folder, and join the files of each window
@@ -117,8 +117,8 @@ class Index:
     def digests(self, part):
         """The digests of the files of a part."""
         begin = ("F %s " % part).encode()
-        rest = itertools.islice(self.lines, bisect.bisect_left(self.lines, begin), None)
-        return [line[len(begin):-1].decode() for line in itertools.takewhile(lambda line: line.startswith(begin), rest)]
+        first, end = (bisect.bisect_left(self.lines, each) for each in (begin, begin + b"g"))
+        return [line[len(begin):-1].decode() for line in self.lines[first:end]]
 
     def has(self, name):
         """Whether a file of that name is one of the site."""
@@ -227,22 +227,22 @@ def allow_files(count):
 
 
 @contextlib.contextmanager
-def opened_site(name, wanted=lambda part: True):
-    """Opens the files that a folder's `site` names at one moment, of the parts that are wanted.
+def opened_site(name, parts=None):
+    """Opens the files that a folder's `site` names at one moment, or those of some parts, which are different ones.
 
     Yields what it says, and the inputs by their entries. Takes that come meanwhile change nothing of it.
     """
-    with Folder(name) as folder, opened_parts(folder, wanted) as found:
+    with Folder(name) as folder, opened_parts(folder, parts) as found:
         yield found
 
 
 @contextlib.contextmanager
-def opened_parts(folder, wanted):
+def opened_parts(folder, parts):
     """Opens the same files of a folder that is open."""
     with contextlib.ExitStack() as files:
         for _ in range(TRIES):
             index, inputs, missing = folder.site(), {}, None
-            entries = [entry for entry in index.entries() if wanted(entry[0])]
+            entries = index.entries() if parts is None else [(part, digest) for part in parts for digest in index.digests(part)]
             allow_files(2 * len(entries) + 64)  # `cadf` opens each once more
             for entry in entries:
                 try:

@@ -152,7 +152,7 @@ class FolderSite:
     @contextlib.contextmanager
     def opened(self, part):
         """The files of a part as inputs, by part and digest."""
-        with cadf_site.opened_parts(self.folder, lambda each: each == part) as (_, inputs):
+        with cadf_site.opened_parts(self.folder, [part]) as (_, inputs):
             yield inputs
 
     @contextlib.contextmanager

@@ -327,7 +327,7 @@ ANY_WINDOW = """    (window, shown), = found.parts.items()
     (test_a_proof_in_part, "        if part not in proof.parts:\n", "        if False:\n"),
     (test_another_seal, "own.seal(part), item", "own.seal(next(iter(asked))), item"),
     (test_a_window_that_is_not_there, "*(files or [empty])]", "*(files or inputs.values())]"),
-    (test_present, "if own == part]", "if True]"),
+    (test_present, "files = [inputs[part, digest] for digest in index.digests(part)]", "files = [*inputs.values()]"),
     (test_present, 'cadf(["verify", *words], inputs', 'cadf(["verify"], inputs'),
     (test_others, "if proof.log != seal.log:", "if False:"),
     (test_others, "if proof.unit != seal.unit:", "if False:"),

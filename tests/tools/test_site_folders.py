@@ -552,6 +552,26 @@ def test_a_reader_looks_again(site, monkeypatch):
         assert set().union(*(read_file(each.whole())[1] for each in inputs.values())) == atoms_of(contents(0, 1, 3, 6))
 
 
+def test_a_window_is_opened_by_its_name(site):
+    """Whatever number of windows there is, so that one after the other costs no square: `site` is read, and no line of it judged."""
+    counts = set()
+    site.takes(contents(2))
+    for more in (1, 999):
+        files = dict(site.files(), **{"%04d-01-01" % year: ["%064d" % year] for year in range(1000, 1000 + more)})
+        (site.folder / "site").write_bytes(index_of(files))
+        with cadf_site.Folder(str(site.folder)) as folder:
+            folder.site()
+            calls = []
+            sys.setprofile(lambda *event: calls.append(event))
+            try:
+                with cadf_site.opened_parts(folder, ["2024-03-01"]) as (_, inputs):
+                    assert len(inputs) == 1
+            finally:
+                sys.setprofile(None)
+            counts.add(len(calls))
+    assert max(counts) < 2 * min(counts)
+
+
 def test_what_a_site_names_and_lacks_is_named(site):
     site.takes(contents(0, 1))
     path = next(site.folder.glob("2024-*.cadf"))
