@@ -538,10 +538,12 @@ def ended(run, *words):
 
     A signal that asks it to end is a fault like others: what the call has begun is ended, and new files are removed.
     """
-    if sys.stdout is None or sys.stderr is None:
-        return FAILED  # what is found, or why it can't be, can't be written
+    if sys.stderr is None:
+        return FAILED  # what is found couldn't be said
     ask_to_end(stop)
     try:
+        if sys.stdout is None:
+            raise OSError(errno.EBADF, os.strerror(errno.EBADF))
         prepare_streams()
         status = run(*words)
         sys.stdout.flush()
