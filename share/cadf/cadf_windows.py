@@ -213,7 +213,8 @@ def opened_windows(name):
         if not os.path.lexists(name.rstrip("/") or "/"):
             yield NoSite()
         elif cadf_site.is_folder(name):
-            yield NoSite() if not os.listdir(name) else FolderSite(files.enter_context(cadf_site.Folder(name)))
+            is_begun = all(each.startswith(".") for each in os.listdir(name))  # as a first take leaves it that ended early
+            yield NoSite() if is_begun else FolderSite(files.enter_context(cadf_site.Folder(name)))
         else:
             input = Input(name, files.enter_context(opened_file(name, os.O_NOFOLLOW)))
             yield FileSite(input)

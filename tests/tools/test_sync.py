@@ -546,6 +546,19 @@ def test_windows_of_several_files_are_compared_by_their_union(folders):
     assert folders.equal("here/", "there/")["windows_differed"] == 0
 
 
+def test_a_folder_whose_first_take_ended_early_is_made(folders):
+    """A call that was killed or refused before there was a site is made again and completes."""
+    folders.put("here/", facts(1, 2, 3))
+    (folders.path / "there").mkdir(mode=0o700)
+    for name in (".lock", ".new"):
+        (folders.path / "there" / name).touch(0o600)
+    folders.equal("here/", "there/")
+    assert folders.holds("there/") == facts(1, 2, 3)
+    (folders.path / "there" / "site").unlink()
+    answer = folders.sync("here/", "there/")
+    assert answer.status == 1 and "no site in it" in said(answer)
+
+
 def test_digests_that_cannot_be_kept_pile_up_nothing(tmp_path, monkeypatch):
     """Calls that end before the rename, as by a kill or on a full disk, leave one file, which goes with the next call."""
     unions = {"0" * 64: "1" * 64}
