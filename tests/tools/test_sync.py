@@ -559,6 +559,16 @@ def test_a_folder_whose_first_take_ended_early_is_made(folders):
     assert answer.status == 1 and "no site in it" in said(answer)
 
 
+@pytest.mark.parametrize("there", ["there/", "h:there/"])
+def test_new_windows_are_counted_where_they_begin(folders, there):
+    """What --windows allows holds for the far site too, on this machine and on another."""
+    folders.put("here/", facts(1, 2, 3))
+    (folders.path / "shell").write_text("#!/bin/sh\nPATH=%s:$PATH exec sh -c \"$3\"\n" % shlex.quote(folders.tools))
+    (folders.path / "shell").chmod(0o755)
+    answer = folders.sync("--push", "--windows=3", "--rsh=./shell", "here/", there)
+    assert answer.status == 1 and "the files make more than 3 new windows" in said(answer)
+
+
 def test_digests_that_cannot_be_kept_pile_up_nothing(tmp_path, monkeypatch):
     """Calls that end before the rename, as by a kill or on a full disk, leave one file, which goes with the next call."""
     unions = {"0" * 64: "1" * 64}
@@ -809,7 +819,7 @@ WRONG = [
     ("said if said.startswith(peer + \": \") else ", "", test_a_refusal_of_the_far_end_is_one_line),
     ("printable(text[2:LONGEST_TEXT])", "text[2:LONGEST_TEXT]",
      lambda sites: test_a_far_side_that_lies(sites, "a fault with escapes")),
-    ("\"cadf-sync --serve -- \" + shlex.quote(site)", "\"cadf-sync --serve -- \" + site", test_names_are_quoted_for_the_far_shell),
+    ("shlex.join([\"cadf-sync\", *serve, site])", "\" \".join([\"cadf-sync\", *serve, site])", test_names_are_quoted_for_the_far_shell),
     ("            while not done.wait(self.beat):\n", "            while not done.wait(1000):\n",
      lambda sites: test_signs_of_life(sites.path, "--pull", sites.tools)),
     ("        with self.beside(lambda: self.send_message(word, content, items)) as (thread, faults):\n",
