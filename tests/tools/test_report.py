@@ -309,6 +309,8 @@ def test_set_aside(reports):
         put("broken", json.dumps(ENTRIES[0]) + "\n" + line + "\n")
         assert reports.answer("--set-aside", "broken", "both") == (1, b"", ["cadf-report: broken: line 2: nothing that was set aside"]), line
     assert reports.answer("--set-aside", "absent", "both")[0] == 3
+    os.mkfifo("fifo")  # as a sender puts into a spool, which sets it aside
+    assert reports.answer("--set-aside", "fifo", "both")[0] == 3
 
 
 def test_head(reports):
