@@ -171,7 +171,7 @@ class Link:
 
     def __init__(self, reading, writing, peer, limits):
         self.reading, self.writing, self.peer, self.limits = reading, writing, peer, limits
-        self.ahead, self.received, self.sent, self.is_stopped = b"", 0, 0, False
+        self.ahead, self.received, self.sent, self.is_stopped, self.faults = b"", 0, 0, False, []
         self.limit, self.beat = LARGEST, BEAT  # for the other end: bytes of a message, seconds between two signs of life
         self.progress = lambda: None
 
@@ -296,18 +296,23 @@ class Link:
 
     @contextlib.contextmanager
     def busy(self):
-        """Writes a sign of life now and then while this end works."""
+        """Writes a sign of life now and then while this end works. What it meets is raised by check_peer."""
         done = threading.Event()
 
         def beat():
             while not done.wait(self.beat):
                 self.send(b"wait 0\n")
 
-        with self.beside(beat):
+        with self.beside(beat) as (_, self.faults):
             try:
                 yield
             finally:
                 done.set()
+
+    def check_peer(self):
+        """Raises that the other end is gone, as a sign of life has found."""
+        if self.faults:
+            raise self.faults[0]
 
     def asked(self, word, answer, content=b"", items=()):
         """Sends a request and reads its answer meanwhile, which has that word."""

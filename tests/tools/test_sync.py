@@ -428,6 +428,21 @@ def test_a_site_that_is_read_alone(sites):
     assert b'"writes":false' in answer.output
 
 
+def test_no_work_for_a_caller_that_is_gone(sites):
+    """Of many items of a request none is begun once a sign of life finds no reader."""
+    sites.put("here.cadf", facts(1))
+    (sites.path / "slow").write_text('#!/bin/sh\n[ $1 = missing-by ] && echo >>told && sleep 0.5\nexec %s "$@"\n' % REFERENCE)
+    (sites.path / "slow").chmod(0o755)
+    with subprocess.Popen([sys.executable, os.path.join(sites.tools, "cadf-sync"), "--serve", "here.cadf"], stdin=subprocess.PIPE, stdout=subprocess.PIPE,
+                          stderr=subprocess.PIPE, cwd=sites.path, env=dict(sites.environment(), CADF="./slow")) as child:
+        child.stdin.write(hello(timeout=1) + message(b"ask", items(*[(b"all", b"inventory", inventory_of("g", []))] * 8)))
+        child.stdin.close()
+        assert child.stdout.readline() == FIRST
+        child.stdout.close()
+        assert child.stderr.read() == b"cadf-sync: the peer: it ended: make the call again\n"
+    assert child.returncode == 3 and len((sites.path / "told").read_text()) < 8
+
+
 def test_a_silent_caller(sites):
     sites.put("here.cadf", facts(1))
     reading, writing = os.pipe()
