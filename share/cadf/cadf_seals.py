@@ -28,6 +28,7 @@ NOTHING = 0, hashlib.sha256(b"").hexdigest().encode()  # count and root of no fa
 MOST = 2 ** 64  # above all counts
 LONGEST_LINE = 2 ** 14  # bytes: no right line has so many
 DAMAGED = "it is damaged: have it sent again"
+OTHER = {1: "no seal, as `cadf seal` writes it", 3: "no proof, as `cadf prove` writes it"}  # by the places of what `cadf verify` reads
 
 
 class Refused(Exception):
@@ -288,7 +289,8 @@ def verify(words, inputs):
         place = 2 if fault.said.startswith("fact ") else fault.place
         if place is None or fault.place == 2:
             raise
-        raise Fault("%s: %s" % (inputs[place - 1].name, with_advice(fault.said)), fault.status) from None
+        said = "version: " + OTHER[place] if fault.said == "version" else with_advice(fault.said)
+        raise Fault("%s: %s" % (inputs[place - 1].name, said), fault.status) from None
 
 
 def verified(words, seal, facts, proof):

@@ -116,6 +116,7 @@ def test_a_site_that_is_a_file(proofs):
     assert proof == proof_of("g", atoms_of(ASKED), atoms_of(*HELD))
     assert proofs.says(ASKED, proof, seal="file.seal")[0] == 0
     assert proofs.says(ASKED, proof, "--absent", seal="file.seal") == (1, b"", ["cadf-seal: facts: fact 1: present"])
+    assert proofs.says(ASKED, proofs.proves(ASKED), seal="file.seal") == (1, b"", ["cadf-seal: proof: version: no proof, as `cadf prove` writes it"])
 
 
 def test_settled_and_not(proofs):
