@@ -140,14 +140,19 @@ def why(fault):
 
 
 @contextlib.contextmanager
-def naming(name):
-    """A context in which an OSError without the name of a file is given this one."""
+def naming(name, numbers=None):
+    """A context in which an OSError, or one of these numbers, without the name of a file is given this one."""
     try:
         yield
     except OSError as fault:
-        if not isinstance(fault.filename, str):
+        if not isinstance(fault.filename, str) and (numbers is None or fault.errno in numbers):
             fault.filename = name
         raise
+
+
+def naming_temporary():
+    """A context in which a write that finds no room is told of the folder of temporary files, unless its file has a name."""
+    return naming(tempfile.gettempdir(), (errno.ENOSPC, errno.EDQUOT, errno.EFBIG))
 
 
 class Progress:
@@ -289,9 +294,10 @@ def copy_of(pipe):
     OSError: it can't be read, or the copy not be written.
     """
     copy = tempfile.TemporaryFile()
-    for block in iter(lambda: pipe.read(min(2 ** 16, LARGEST + 1 - copy.tell())), b""):
-        copy.write(block)
-    copy.flush()
+    with naming_temporary():
+        for block in iter(lambda: pipe.read(min(2 ** 16, LARGEST + 1 - copy.tell())), b""):
+            copy.write(block)
+        copy.flush()
     return copy
 
 
@@ -325,7 +331,8 @@ def opened(names, pipes=False):
             try:
                 file = copy_of(open(0, "rb", closefd=False)) if name == "-" else (opened_or_copied if pipes else opened_file)(name)
             except OSError as fault:
-                raise Fault("%s: %s" % (name_shown("standard input" if name == "-" else name), fault.strerror)) from None
+                name = fault.filename or ("standard input" if name == "-" else name)
+                raise Fault("%s: %s" % (name_shown(name), fault.strerror)) from None
             inputs.append(Input("standard input" if name == "-" else name, files.enter_context(file)))
         yield inputs
 
@@ -404,13 +411,13 @@ def check_end(child, said, inputs):
 def cadf(words, inputs, output=subprocess.DEVNULL, keep=(), where=None, union=1):
     """Runs `cadf` with these words over open inputs, as `started_cadf`. Returns what it wrote, if `output` is a pipe.
 
-    `where` names the file that is written, by a descriptor, so that a failed write is told with the system's words. Refusal:
-    what `cadf` refuses. Fault: it ended otherwise, or could not write. OSError: it can't be started.
+    `where` names the file that is written, by a descriptor, so that a failed write is told with the system's words; else it is
+    a temporary one. Refusal: what `cadf` refuses. Fault: it ended otherwise, or could not write. OSError: it can't be started.
     """
     with started_cadf(words, inputs, output, keep, union) as child:
         written, said = child.communicate()
-        if where is not None and said.strip() == b"cadf: write fault":
-            raise Fault("%s: write fault%s" % (name_shown(where), write_fault(output)))
+        if output >= 0 and said.strip() == b"cadf: write fault":
+            raise Fault("%s: write fault%s" % (name_shown(where or tempfile.gettempdir()), write_fault(output)))
         check_end(child, said, inputs)
     return written
 

@@ -281,7 +281,7 @@ def test_copy_that_goes_on_is_caught(caller, tmp_path):
     ("script", "if first.startswith(begin)), None)", "if False), None)"),
     ("lacking", '    "line ": DAMAGED,\n', ""),
     ("page", 'b"<!doctype html>": ', 'b"<!DOCTYPE html>": '),
-    ("absent", '"standard input" if name == "-" else name), fault.strerror)', '"standard input" if name == "-" else name), "read fault")')])
+    ("absent", 'else name)\n                raise Fault("%s: %s" % (name_shown(name), fault.strerror)', 'else name)\n                raise Fault("%s: %s" % (name_shown(name), "read fault")')])
 def test_copy_that_says_less_is_caught(caller, tmp_path, file, right, wrong):
     copy = Caller(caller.cadf, copied(tmp_path / "copy", right, wrong))
     assert copy.tools, "there is not one: " + right

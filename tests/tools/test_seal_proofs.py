@@ -4,6 +4,7 @@ import os
 import random
 import re
 import resource
+import tempfile
 
 import pytest
 
@@ -306,6 +307,14 @@ def test_damaged_site(proofs):
     status, output, said = proofs.run("--prove", proofs.facts(ASKED), "site")
     assert (status, output) == (1, b"") and "digest: the file is damaged" in said[0]
     assert proofs.run("--prove", proofs.facts(LATER), "site")[0] == 0  # of which it isn't read
+
+
+def test_no_room_for_what_is_temporary(proofs):
+    """The full disk that is named is that of the folder of temporary files, and not what is written or read."""
+    proofs.put("proof", proofs.proves(ASKED))
+    for words in (["--prove", "facts", "site"], ["--verify", "seal", "facts", "proof"], ["--verify", "-", "facts", "proof"]):
+        answer = proofs.run(*words, input=bytes(2 ** 13), preexec_fn=lambda: resource.setrlimit(resource.RLIMIT_FSIZE, (100, 100)))
+        assert answer == (3, b"", ["cadf-seal: %s: File too large" % tempfile.gettempdir()])
 
 
 @pytest.mark.parametrize("words", [["--verify"], ["--verify", "seal"], ["--verify", "seal", "facts"], ["--verify", "seal", "facts", "proof", "more"], ["--absent", "site"],

@@ -9,12 +9,14 @@ import hashlib
 import json
 import os
 import random
+import resource
 import shlex
 import shutil
 import signal
 import socket
 import subprocess
 import sys
+import tempfile
 import threading
 import time
 
@@ -345,6 +347,15 @@ def test_a_far_side_without_an_end(sites, mode, data, words, part):
     sites.put("here.cadf", facts(1))
     answer = sites.lied_to(data, *words, mode=mode, timeout=20 if mode == "endless" else 1)
     assert answer.status in (1, 3) and part in said(answer), answer
+
+
+@pytest.mark.parametrize("here, part", [("here.cadf", ": "), ("here.json", ": write fault: ")])
+def test_no_room_for_what_is_temporary(sites, here, part):
+    """The full disk that is named is that of the folder of temporary files, and not the site's."""
+    sites.put("here.cadf", facts(1))
+    (sites.path / "here.json").write_text(json.dumps({"id": "g", "events": [], "name": "x"}))
+    answer = sites.runs("cadf-sync", here, "there.cadf", preexec_fn=lambda: resource.setrlimit(resource.RLIMIT_FSIZE, (60, 60)))
+    assert answer.status == 3 and "cadf-sync: %s%sFile too large\n" % (tempfile.gettempdir(), part) in said(answer)
 
 
 def test_a_fault_is_heard_while_much_is_written(sites):
