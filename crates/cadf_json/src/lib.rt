@@ -13,6 +13,7 @@ mod node;
 mod number;
 mod object_text;
 mod order;
+mod plain_run;
 mod push;
 mod read;
 mod rewrite;
@@ -35,6 +36,7 @@ pub use crate::laws::{
 pub use crate::members::{Member, Members};
 pub use crate::memory::{FailingWrite, MemorySink, MemorySource};
 pub use crate::object_text::{has_text_at, spells_object};
+pub use crate::plain_run::plain_length;
 pub use crate::spelling::push_quoted;
 pub use crate::stream::{Failed, FromStd, Sink, Source};
 pub use crate::transfer::{OutFault, ReadLimitFault, read_rest, read_to_limit, write_all};

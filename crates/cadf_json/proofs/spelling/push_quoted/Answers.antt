@@ -1,17 +1,29 @@
-use Rattle.std.proofs.Common.{◌≡◌, ◌++◌, [], ◌∷◌, ℕ, List, ap, ap₂, ◌∙◌, append-nil, rules}
+use Rattle.std.proofs.Common.{◌≡◌, ◌++◌, [], ◌∷◌, ℕ, List, ap, ap₂, ◌∙◌, append-nil, append_assoc, length, sym, rules, arith}
+use Rattle.std.specs.List.{prefix_len}
+use Rattle.json.specs.Run.{is_plain}
 use Rattle.json.specs.Token.{Token}
-use Rattle.json.specs.Print.{print, print_from, quoted}
+use Rattle.json.specs.Print.{print, print_from, quoted, escape}
+use Rattle.cadf_json.proofs.PlainRuns.{spelled_whole}
 use Rattle.cadf_json.proofs.spelling.push_quoted.Goals as goal
 
 one_string : (s : List ℕ) → print (Token.string s ∷ []) ≡ quoted s
 unfolding print_from
 one_string s = append-nil (quoted s)
 
-pub returns-then-not-is_plain : goal.returns-then-not-is_plain
-returns-then-not-is_plain c =
+pub returns-then-plain_length-text : goal.returns-then-plain_length-text
+returns-then-plain_length-text c =
     let s = c.args.text.now in
     let before : c.string.new.self.before ≡ [] = search rules in
     let tokens : c.string.new.self.tokens ≡ Token.string s ∷ [] = search rules in
     let bytes : c.into_inner.result.items ≡ quoted s =
     c.into_inner.ensures.items ∙ ap₂ (λ xs ts. xs ++ print ts) before tokens ∙ one_string s in
     c.in_ok-extend_from_slice.ensures.items ∙ ap (λ xs. c.args.out.now.items ++ xs) (c.as_slice.ensures.value ∙ bytes)
+
+pub returns : goal.returns
+returns c =
+    let text = c.args.text.now in
+    let bytes = c.as_bytes.ensures.value in
+    let plain = spelled_whole text (omega (arith, ap (prefix_len is_plain) bytes, ap length bytes, c.plain_length.ensures.value)) in
+    c.in_ok-push-2.ensures.items
+    ∙ ap (λ xs. xs ++ 34 ∷ []) (c.in_ok-extend_from_slice-2.ensures.items ∙ ap₂ (λ xs ys. xs ++ ys) c.in_ok-push.ensures.items (c.as_bytes-2.ensures.value ∙ sym plain))
+    ∙ append_assoc (c.args.out.now.items ++ 34 ∷ []) (escape text) (34 ∷ []) ∙ append_assoc c.args.out.now.items (34 ∷ []) (escape text ++ 34 ∷ [])

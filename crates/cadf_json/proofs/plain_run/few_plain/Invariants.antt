@@ -1,7 +1,7 @@
 use Rattle.std.proofs.Common.{◌≡◌, ◌+◌, ◌-◌, ◌≤◌, length, drop}
 use Rattle.std.specs.List.{prefix_len}
 use Rattle.json.specs.Run.{is_plain}
-use Rattle.cadf_file.proofs.plain_run.few_plain.Given as goal
+use Rattle.cadf_json.proofs.plain_run.few_plain.Given as goal
 
 abbrev pub invariant-loop-at : goal.invariant-loop-at
 invariant-loop-at l = (l.at + prefix_len is_plain (drop l.at l.text) ≡ prefix_len is_plain l.text) × (l.at ≤ length l.text)

@@ -1,9 +1,11 @@
--- A run of bytes that JSON spells as themselves, seen sixteen bytes at a time.
+-- A run of bytes that JSON spells as themselves, seen eight bytes at a time.
 --     mask_of_stops            the mask that three comparisons result in
 --     run_through, run_stops   what an empty mask implies for the run, and what another implies
+--     same_run, spelled_whole  a run is its own spelling, and so is a text that is one run
 use Rattle.std.proofs.Common.{
   ◌≡◌,
   ℕ,
+  suc,
   ◌+◌,
   ◌*◌,
   ◌%◌,
@@ -22,7 +24,9 @@ use Rattle.std.proofs.Common.{
   [],
   ◌∷◌,
   map,
+  ◌++◌,
   length,
+  take,
   drop,
   replicate,
   refl,
@@ -30,15 +34,18 @@ use Rattle.std.proofs.Common.{
   ap,
   ap₂,
   ◌∙◌,
+  subst,
   arith,
 }
 use Rattle.std.proofs.lemmas.Simd.{chunk-drop, length-chunk, leading_from_mask_l, trailing_mask_l, zip2_splat, mask_l-mod}
-use Rattle.std.proofs.lemmas.List.{length-drop, length-map}
+use Rattle.std.proofs.lemmas.List.{length-drop, length-map, take_all}
 use Rattle.std.proofs.lemmas.List.Folds.{prefix_len-append}
 use Rattle.std.proofs.lemmas.List.Sums.{prefix_len-le-length}
-use Rattle.std.proofs.lemmas.Bool.{eq-eqb, ne_eqb}
+use Rattle.std.proofs.lemmas.Bool.{eq-eqb, ne_eqb, eqb-false, ltb-false}
 use Rattle.std.specs.List.{prefix_len}
 use Rattle.json.specs.Run.{is_stop, is_plain}
+use Rattle.json.specs.Print.{escape, escape_byte}
+use Rattle.json.proofs.Printed.Strings.{escape_byte_plain}
 use lib.Bits.{bit_or}
 use lib.Lanes.{chunk, mask_l, zip2, top}
 use lib.Count.{count_trailing_zeros}
@@ -75,11 +82,11 @@ both_maps f g v p q = ap₂ (zip2 bit_or) p q ∙ zipped v
     zipped [] = refl
     zipped (x ∷ xs) = ap (λ r. bit_or (f x) (g x) ∷ r) (zipped xs)
 
-pub mask_of_stops : (v : List ℕ) → length v ≡ 16
-    → mask_l (map (top 7) (zip2 bit_or (zip2 bit_or (zip2 hit v (replicate 16 34)) (zip2 hit v (replicate 16 92))) (zip2 below v (replicate 16 32)))) % 2 ^ 64
+pub mask_of_stops : (v : List ℕ) → length v ≡ 8
+    → mask_l (map (top 7) (zip2 bit_or (zip2 bit_or (zip2 hit v (replicate 8 34)) (zip2 hit v (replicate 8 92))) (zip2 below v (replicate 8 32)))) % 2 ^ 64
     ≡ mask_l (map is_stop v)
 mask_of_stops v long =
-    let lanes = both_maps _ _ v (both_maps _ _ v (zip2_splat hit v 16 34 long) (zip2_splat hit v 16 92 long)) (zip2_splat below v 16 32 long) in
+    let lanes = both_maps _ _ v (both_maps _ _ v (zip2_splat hit v 8 34 long) (zip2_splat hit v 8 92 long)) (zip2_splat below v 8 32 long) in
     ap (λ l. mask_l l % 2 ^ 64) (ap (map (top 7)) lanes ∙ marks v) ∙ mask_l-mod (map is_stop v) 64 (omega (arith, length-map v is_stop, long))
 
 -- ---- the run
@@ -117,3 +124,34 @@ run_stops d i n room short some =
     ∙ ap (λ b. cond b (length c + prefix_len is_plain (drop (i + n) d)) (prefix_len is_plain c))
     (ne_eqb _ _ (λ (e : prefix_len is_plain c ≡ length c). omega (arith, all_pass c e)))
     ∙ sym (trailing_mask_l is_stop 64 c (omega (arith, length-chunk i n d room)) some)
+
+-- ---- its spelling
+
+all_false : (a b c : Bool) → not ((a || b) || c) ≡ true → (a ≡ false) × (b ≡ false) × (c ≡ false)
+all_false true b c e = absurd (cc)
+all_false false true c e = absurd (cc)
+all_false false false true e = absurd (cc)
+all_false false false false e = (refl, refl, refl)
+
+plain_byte : (x : ℕ) → is_plain x ≡ true → escape_byte x ≡ x ∷ []
+plain_byte x e =
+    let no = all_false (eqb x 34) (eqb x 92) (ltb x 32) e in
+    escape_byte_plain x (eqb-false x 34 no.0) (eqb-false x 92 no.1) (ltb-false x 32 no.2)
+
+same_at : (x : ℕ) (xs : List ℕ) (b : Bool) → is_plain x ≡ b → escape (take (prefix_len is_plain xs) xs) ≡ take (prefix_len is_plain xs) xs
+    → escape (take (cond b (1 + prefix_len is_plain xs) 0) (x ∷ xs)) ≡ take (cond b (1 + prefix_len is_plain xs) 0) (x ∷ xs)
+same_at x xs true e later =
+    let next : suc (prefix_len is_plain xs) ≡ 1 + prefix_len is_plain xs = omega arith in
+    subst (λ n. escape (take n (x ∷ xs)) ≡ take n (x ∷ xs)) next (λ i. plain_byte x e i ++ later i)
+same_at x xs false e later = refl
+
+run_same : (xs : List ℕ) → escape (take (prefix_len is_plain xs) xs) ≡ take (prefix_len is_plain xs) xs
+run_same [] = refl
+run_same (x ∷ xs) = same_at x xs (is_plain x) refl (run_same xs)
+
+pub same_run : (xs : List ℕ) (r : ℕ) → r ≡ prefix_len is_plain xs → escape (take r xs) ≡ take r xs
+same_run xs r e = subst (λ n. escape (take n xs) ≡ take n xs) (sym e) (run_same xs)
+
+-- a text that is one run is its own spelling
+pub spelled_whole : (xs : List ℕ) → length xs ≤ prefix_len is_plain xs → escape xs ≡ xs
+spelled_whole xs h = subst (λ ys. escape ys ≡ ys) (take_all (prefix_len is_plain xs) xs h) (run_same xs)

@@ -8,26 +8,26 @@ ghost use Rattle.json.specs.Run.{is_plain, is_stop};
 use std::simd::prelude::*;
 
 /// Marks each byte that is a quotation mark, a backslash or a control character.
-fn stops(bytes: u8x16) -> u64
+fn stops(bytes: u8x8) -> u64
     ensures { result ≡ mask_l (map is_stop bytes) }
 {
-    (bytes.simd_eq(u8x16::splat(b'"'))
-        | bytes.simd_eq(u8x16::splat(b'\\'))
-        | bytes.simd_lt(u8x16::splat(0x20))).to_bitmask()
+    (bytes.simd_eq(u8x8::splat(b'"'))
+        | bytes.simd_eq(u8x8::splat(b'\\'))
+        | bytes.simd_lt(u8x8::splat(0x20))).to_bitmask()
 }
 
 /// Counts the bytes before the first quotation mark, backslash or control character; all bytes if there is none.
-pub(crate) fn plain_length(text: &[u8]) -> usize
+pub fn plain_length(text: &[u8]) -> usize
     ensures value { result ≡ prefix_len is_plain text.now }
     ensures bound { result ≤ length text.now }
 {
     let mut at = 0;
-    while text.len() - at >= 16 {
-        let found = stops(u8x16::from_slice(&text[at..]));
+    while text.len() - at >= 8 {
+        let found = stops(u8x8::from_slice(&text[at..]));
         if found != 0 {
             return at + found.trailing_zeros() as usize;
         }
-        at += 16;
+        at += 8;
     }
     at + few_plain(&text[at..])
 }
