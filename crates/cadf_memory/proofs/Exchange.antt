@@ -43,14 +43,14 @@ are_loaded (b ∷ bs) (l ∷ ls) h = (((b, (sym (append-nil b), refl, h.0)), ref
 pub join_makes : (log : Option Text) (operands : Operands) (inputs : List (List ℕ)) (text : Text) → AreSources operands (map unread inputs)
     → IsMadeOfAll (join_of log) written_file inputs text → IsDerived (Joined log operands) text
 join_makes log operands inputs text given m = (
-  m.loaded,
-  are_read operands (map unread inputs) (map ended inputs) m.loaded given (are_loaded inputs m.loaded m.are),
+  m.value,
+  are_read operands (map unread inputs) (map ended inputs) m.value given (are_loaded inputs m.value m.input),
   (m.made, m.worked, m.told),
 )
 
 pub missing_makes : (from to : Derivation) (a b : List ℕ) (text : Text) → IsDerived from a → IsDerived to b
     → IsMadeOfTwo input_spec input_spec delta_between written_file a b text → IsPartOf (λ x. IsDerived from x) (λ x. IsDerived to x) text
-missing_makes from to a b text d e m = (m.first, m.second, (a, d, m.input), (b, e, m.following), (m.made, m.worked, m.told))
+missing_makes from to a b text d e m = (m.value.0, m.value.1, (a, d, m.input.0), (b, e, m.input.1), (m.made, m.worked, m.told))
 
 pub output_makes : {M : Type 0} (work : Loaded → Result M ToolFault) (tell : M → Text) (of : Derivation) (b : List ℕ) (text : Text)
     → IsDerived of b → IsMadeOf input_spec work tell b text → IsOutputOf work tell (λ x. IsDerived of x) text
@@ -58,7 +58,7 @@ output_makes work tell of b text e m = (m.value, m.made, (b, e, m.input), m.work
 
 pub missing_by_makes : (from to : Derivation) (a b : List ℕ) (text : Text) → IsDerived from a → IsInventoryOf (λ x. IsDerived to x) b
     → IsMadeOfTwo input_spec inventory_spec part_by written_file a b text → IsPartByOf (λ x. IsDerived from x) (λ x. IsDerived to x) text
-missing_by_makes from to a b text d e m = (m.first, m.second, (a, d, m.input), (b, e, m.following), (m.made, m.worked, m.told))
+missing_by_makes from to a b text d e m = (m.value.0, m.value.1, (a, d, m.input.0), (b, e, m.input.1), (m.made, m.worked, m.told))
 
 pub sketch_makes : (cells salt : Option ℕ) (to : Derivation) (b : List ℕ) (text : Text) → AreAsked cells salt → IsDerived to b
     → IsMadeOf input_spec (sketch_model_of cells salt) sketch_file b text → (noted : InventoryModel) × IsSketchOf (λ x. IsDerived to x) noted text
@@ -70,8 +70,8 @@ pub missing_by_sketch_makes : (from to : Derivation) (sketched : InventoryModel)
     → IsSketchOf (λ x. IsDerived to x) sketched b → IsMadeOfTwoBy input_spec sketch_spec IsPartBySketch written_file a b text
     → (read : InventoryModel) × IsPartBySketchOf (λ x. IsDerived from x) (λ x. IsDerived to x) sketched read text
 missing_by_sketch_makes from to sketched a b text d e m =
-    let of_read = answer_read m.first m.second m.made m.worked in
-    (of_read.0, (m.first, m.second, m.made, (a, d, m.input), (b, e, m.following), of_read.1, m.told))
+    let of_read = answer_read m.value.0 m.value.1 m.made m.worked in
+    (of_read.0, (m.value.0, m.value.1, m.made, (a, d, m.input.0), (b, e, m.input.1), of_read.1, m.told))
 
 pub rule_makes : (letter key : Text) (place : ℕ) (m : Derivation) (b : List ℕ) (text : Text) → IsDerived m b
     → IsMadeOf input_spec (ruled_of letter key place) written_file b text → (value : Text) × IsDerived (Ruled place (ruling_on letter key value) m) text

@@ -6,7 +6,7 @@ use Rattle.cadf_tool.specs.declared.fault.ToolFault.{ToolFault}
 use Rattle.cadf_tool.specs.declared.fault.ToolFault.TheVariants.{Memory}
 use Rattle.cadf_tool.specs.Inputs.{SourceState, source_state}
 use Rattle.cadf_memory.specs.Memory.{unread}
-use Rattle.cadf_memory.specs.Refused.{NoReadFailed, IsFirstOfAll, IsFirstOfOneAndAll}
+use Rattle.cadf_memory.specs.Refused.{NoReadFailed, AreUnfailedSources, IsFirstOfAll, IsFirstOfOneAndAll}
 use Rattle.cadf_tool.specs.Run.{InputSpec}
 
 same_lists : {T : Type 0} (x y : T) (xs ys : List T) → x ≡ y → xs ≡ ys → x ∷ xs ≡ y ∷ ys
@@ -34,24 +34,16 @@ unread_unfailed : (inputs : List (List ℕ)) → NoReadFailed (map unread inputs
 unread_unfailed [] = tt
 unread_unfailed (b ∷ bs) = (refl, unread_unfailed bs)
 
+all_unread : (inputs : List (List ℕ)) → AreUnfailedSources inputs (map unread inputs, map unread inputs)
+all_unread inputs = record { left = unread_lefts inputs; before = unread_unfailed inputs; after = unread_unfailed inputs }
+
 pub refused_unread : {M : Type 0} (work : List Loaded → Result M ToolFault) (inputs : List (List ℕ)) → IsFirstOfAll work inputs Memory
-refused_unread work inputs = record {
-  old = map unread inputs;
-  new = map unread inputs;
-  left = unread_lefts inputs;
-  before = unread_unfailed inputs;
-  after = unread_unfailed inputs;
-  first = refl;
-}
+refused_unread work inputs = record { source = (map unread inputs, map unread inputs); seen = all_unread inputs; first = refl }
 
 pub refused_one_unread : {T M : Type 0} (reader : InputSpec T) (work : T × List Loaded → Result M ToolFault) (bytes : List ℕ)
     (inputs : List (List ℕ)) → IsFirstOfOneAndAll reader work bytes inputs Memory
 refused_one_unread reader work bytes inputs = record {
-  source = record { source = record { old = unread bytes; new = unread bytes }; left = refl; before = refl; after = refl };
-  old = map unread inputs;
-  new = map unread inputs;
-  left = unread_lefts inputs;
-  before = unread_unfailed inputs;
-  after = unread_unfailed inputs;
+  source = (record { old = unread bytes; new = unread bytes }, (map unread inputs, map unread inputs));
+  seen = (record { left = refl; before = refl; after = refl }, all_unread inputs);
   first = (refl, refl);
 }

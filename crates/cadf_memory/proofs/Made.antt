@@ -11,6 +11,7 @@ use Rattle.cadf_tool.specs.Inputs.{SourceState, source_state}
 use Rattle.cadf_tool.specs.Run.{
   SourceTransition,
   InputSpec,
+  Sources,
   one,
   two,
   both,
@@ -20,16 +21,16 @@ use Rattle.cadf_tool.specs.Run.{
   IsReadAs,
   AreLoaded,
   IsExpectedOfBy,
-  IsExpectedOf,
   IsWritten,
   IsAnswer,
+  IsValueOf,
   IsRunBy,
   IsRun,
 }
 use Rattle.cadf_memory.specs.declared.buffer.Buffer.{Buffer}
 use Rattle.cadf_memory.specs.Buffers.{buffer_name, buffer_before, buffer_text}
 use Rattle.cadf_memory.specs.Handed.{handed, IsHandedOut}
-use Rattle.cadf_memory.specs.Made.{IsMadeOf, IsMadeOfTwoBy, IsMadeOfThree, IsMadeOfAll, IsMadeOfOneAndAll, AreInputs}
+use Rattle.cadf_memory.specs.Made.{IsMadeBy, IsMadeOf, IsMadeOfTwoBy, IsMadeOfThree, IsMadeOfAll, IsMadeOfOneAndAll, AreInputs}
 use Rattle.cadf_memory.specs.Refused.{three_sources}
 use Rattle.cadf_memory.proofs.Framed.{frame, name_kept, before_kept, text_added}
 
@@ -98,98 +99,53 @@ module _ {M W V : Type 0} (tell : M → Text) (sink : Sink W) (old new : W) (v :
         all = count ∙ ap length same;
       }
 
-  module _ {T : Type 0} (reader : InputSpec T) (work : T → Result M ToolFault) (t : SourceTransition) (bytes : List ℕ)
-      (given : t.old.left ≡ Some bytes) where
-    of_expected : (expected : Result M ToolFault) → IsExpectedOf (one reader t) work expected
-        → IsAnswer tell sink old new expected (Ok v) → IsHandedOut (IsMadeOf reader work tell bytes) first last told
+  module _ {A : Type 0} (sources : Sources A) (work : A → Result M ToolFault → Type 0) (encoded : A → Type 0)
+      (read : (a : A) → sources.are a → encoded a) where
+    of_expected : (expected : Result M ToolFault) → IsExpectedOfBy sources work expected
+        → IsAnswer tell sink old new expected (Ok v) → IsHandedOut (IsMadeBy encoded work tell) first last told
     of_expected (Ok made) (value, are, e) w =
-        out (IsMadeOf reader work tell bytes) (tell made) w
-        (record { value = value; input = read_of reader t bytes given value are; made = made; worked = e; told = refl })
+        out (IsMadeBy encoded work tell) (tell made) w (record { value = value; input = read value are; made = made; worked = e; told = refl })
     of_expected (Err fault) d w = absurd (never fault w.0)
 
-    pub run_made : IsRun (one reader t) work tell sink old new (Ok v)
-        → IsHandedOut (IsMadeOf reader work tell bytes) first last told
-    run_made r = of_expected r.expected r.first.is r.answer
+    by_run : IsRunBy sources work tell sink old new (Ok v) → IsHandedOut (IsMadeBy encoded work tell) first last told
+    by_run r = of_expected r.expected r.first.is r.answer
 
-  module _ {T U : Type 0} (reader : InputSpec T) (other : InputSpec U) (work : T × U → Result M ToolFault → Type 0)
-      (t u : SourceTransition) (from to : List ℕ) (given : t.old.left ≡ Some from) (given' : u.old.left ≡ Some to) where
-    of_expected_two : (expected : Result M ToolFault) → IsExpectedOfBy (two reader t other u) work expected
-        → IsAnswer tell sink old new expected (Ok v)
-        → IsHandedOut (IsMadeOfTwoBy reader other work tell from to) first last told
-    of_expected_two (Ok made) (a, are, e) w =
-        out (IsMadeOfTwoBy reader other work tell from to) (tell made) w
-        (record {
-          first = a.0;
-          input = read_of reader t from given a.0 are.0;
-          second = a.1;
-          following = read_of other u to given' a.1 are.1;
-          made = made;
-          worked = e;
-          told = refl;
-        })
-    of_expected_two (Err fault) d w = absurd (never fault w.0)
+  pub run_made : {T : Type 0} (reader : InputSpec T) (work : T → Result M ToolFault) (t : SourceTransition) (bytes : List ℕ)
+      → t.old.left ≡ Some bytes → IsRun (one reader t) work tell sink old new (Ok v)
+      → IsHandedOut (IsMadeOf reader work tell bytes) first last told
+  run_made reader work t bytes given = by_run (one reader t) (IsValueOf work) (λ a. reader.is bytes a) (read_of reader t bytes given)
 
-    pub run_made_two : IsRunBy (two reader t other u) work tell sink old new (Ok v)
-        → IsHandedOut (IsMadeOfTwoBy reader other work tell from to) first last told
-    run_made_two r = of_expected_two r.expected r.first.is r.answer
+  pub run_made_two : {T U : Type 0} (reader : InputSpec T) (other : InputSpec U) (work : T × U → Result M ToolFault → Type 0)
+      (t u : SourceTransition) (from to : List ℕ) → t.old.left ≡ Some from → u.old.left ≡ Some to
+      → IsRunBy (two reader t other u) work tell sink old new (Ok v)
+      → IsHandedOut (IsMadeOfTwoBy reader other work tell from to) first last told
+  run_made_two reader other work t u from to given given' =
+      by_run (two reader t other u) work (λ a. reader.is from a.0 × other.is to a.1)
+      (λ a are. (read_of reader t from given a.0 are.0, read_of other u to given' a.1 are.1))
 
-  module _ {S : Type 0} (source : Source S) (work : List Loaded → Result M ToolFault) (ss rs : List S)
-      (inputs : List (List ℕ)) (given : map left_of (map (source_state source) ss) ≡ map Some inputs) where
-    of_expected_all : (expected : Result M ToolFault) → IsExpectedOf (all source ss rs) work expected
-        → IsAnswer tell sink old new expected (Ok v) → IsHandedOut (IsMadeOfAll work tell inputs) first last told
-    of_expected_all (Ok made) (ls, are, e) w =
-        out (IsMadeOfAll work tell inputs) (tell made) w
-        (record {
-          loaded = ls;
-          are = are_inputs (map (source_state source) ss) (map (source_state source) rs) inputs ls given are;
-          made = made;
-          worked = e;
-          told = refl;
-        })
-    of_expected_all (Err fault) d w = absurd (never fault w.0)
+  pub run_made_all : {S : Type 0} (source : Source S) (work : List Loaded → Result M ToolFault) (ss rs : List S) (inputs : List (List ℕ))
+      → map left_of (map (source_state source) ss) ≡ map Some inputs → IsRun (all source ss rs) work tell sink old new (Ok v)
+      → IsHandedOut (IsMadeOfAll work tell inputs) first last told
+  run_made_all source work ss rs inputs given =
+      by_run (all source ss rs) (IsValueOf work) (λ a. AreInputs inputs a)
+      (λ ls are. are_inputs (map (source_state source) ss) (map (source_state source) rs) inputs ls given are)
 
-    pub run_made_all : IsRun (all source ss rs) work tell sink old new (Ok v)
-        → IsHandedOut (IsMadeOfAll work tell inputs) first last told
-    run_made_all r = of_expected_all r.expected r.first.is r.answer
+  pub run_made_three : {T U X : Type 0} (i : InputSpec T) (j : InputSpec U) (k : InputSpec X) (work : T × (U × X) → Result M ToolFault)
+      (t u x : SourceTransition) (p q s : List ℕ) → t.old.left ≡ Some p → u.old.left ≡ Some q → x.old.left ≡ Some s
+      → IsRun (three_sources i t j u k x) work tell sink old new (Ok v)
+      → IsHandedOut (IsMadeOfThree i j k work tell p q s) first last told
+  run_made_three i j k work t u x p q s given given' given'' =
+      by_run (three_sources i t j u k x) (IsValueOf work) (λ a. i.is p a.0 × (j.is q a.1.0 × k.is s a.1.1))
+      (λ a are. (read_of i t p given a.0 are.0, (read_of j u q given' a.1.0 are.1.0, read_of k x s given'' a.1.1 are.1.1)))
 
-  module _ {T U X : Type 0} (i : InputSpec T) (j : InputSpec U) (k : InputSpec X) (work : T × (U × X) → Result M ToolFault)
-      (t u x : SourceTransition) (p q s : List ℕ) (given : t.old.left ≡ Some p) (given' : u.old.left ≡ Some q)
-      (given'' : x.old.left ≡ Some s) where
-    of_expected_three : (expected : Result M ToolFault) → IsExpectedOf (three_sources i t j u k x) work expected
-        → IsAnswer tell sink old new expected (Ok v) → IsHandedOut (IsMadeOfThree i j k work tell p q s) first last told
-    of_expected_three (Ok made) (value, are, e) w =
-        out (IsMadeOfThree i j k work tell p q s) (tell made) w
-        (record {
-          value = value;
-          inputs = (read_of i t p given value.0 are.0, (read_of j u q given' value.1.0 are.1.0, read_of k x s given'' value.1.1 are.1.1));
-          made = made;
-          worked = e;
-          told = refl;
-        })
-    of_expected_three (Err fault) d w = absurd (never fault w.0)
-
-    pub run_made_three : IsRun (three_sources i t j u k x) work tell sink old new (Ok v)
-        → IsHandedOut (IsMadeOfThree i j k work tell p q s) first last told
-    run_made_three r = of_expected_three r.expected r.first.is r.answer
-
-  module _ {T S : Type 0} (reader : InputSpec T) (source : Source S) (work : T × List Loaded → Result M ToolFault) (t : SourceTransition)
-      (ss rs : List S) (bytes : List ℕ) (inputs : List (List ℕ)) (given : t.old.left ≡ Some bytes)
-      (given' : map left_of (map (source_state source) ss) ≡ map Some inputs) where
-    of_expected_one_and_all : (expected : Result M ToolFault) → IsExpectedOf (both (one reader t) (all_from 2 source ss rs)) work expected
-        → IsAnswer tell sink old new expected (Ok v)
-        → IsHandedOut (IsMadeOfOneAndAll reader work tell bytes inputs) first last told
-    of_expected_one_and_all (Ok made) (value, are, e) w =
-        out (IsMadeOfOneAndAll reader work tell bytes inputs) (tell made) w
-        (record {
-          value = value;
-          input = read_of reader t bytes given value.0 are.0;
-          are = are_inputs (map (source_state source) ss) (map (source_state source) rs) inputs value.1 given' are.1;
-          made = made;
-          worked = e;
-          told = refl;
-        })
-    of_expected_one_and_all (Err fault) d w = absurd (never fault w.0)
-
-    pub run_made_one_and_all : IsRun (both (one reader t) (all_from 2 source ss rs)) work tell sink old new (Ok v)
-        → IsHandedOut (IsMadeOfOneAndAll reader work tell bytes inputs) first last told
-    run_made_one_and_all r = of_expected_one_and_all r.expected r.first.is r.answer
+  pub run_made_one_and_all : {T S : Type 0} (reader : InputSpec T) (source : Source S) (work : T × List Loaded → Result M ToolFault)
+      (t : SourceTransition) (ss rs : List S) (bytes : List ℕ) (inputs : List (List ℕ)) → t.old.left ≡ Some bytes
+      → map left_of (map (source_state source) ss) ≡ map Some inputs
+      → IsRun (both (one reader t) (all_from 2 source ss rs)) work tell sink old new (Ok v)
+      → IsHandedOut (IsMadeOfOneAndAll reader work tell bytes inputs) first last told
+  run_made_one_and_all reader source work t ss rs bytes inputs given given' =
+      by_run (both (one reader t) (all_from 2 source ss rs)) (IsValueOf work) (λ a. reader.is bytes a.0 × AreInputs inputs a.1)
+      (λ a are. (
+        read_of reader t bytes given a.0 are.0,
+        are_inputs (map (source_state source) ss) (map (source_state source) rs) inputs a.1 given' are.1,
+      ))

@@ -1,7 +1,6 @@
 -- The first fault of bytes in memory is no failed read and no failed write.
 use Rattle.std.proofs.Common.{◌≡◌, ℕ, zero, suc, Bool, true, List, [], ◌∷◌, drop, length, Result, Ok, Err, inl, inr, refl, sym, ap, ◌∙◌, subst, arith}
 use Rattle.cadf_json.specs.Streams.{counted}
-use Rattle.cadf_set.specs.Inventory.{InventoryModel}
 use Rattle.cadf_linefile.specs.declared.fault.FileFault.{FileFault}
 use Rattle.cadf_linefile.specs.declared.fault.FileFault.TheVariants.{
   Version,
@@ -15,6 +14,7 @@ use Rattle.cadf_linefile.specs.declared.fault.FileFault.TheVariants.{
   Memory as FileMemory,
 }
 use Rattle.cadf_linefile.specs.declared.file_feed.TheConstants.{FILE_LIMIT}
+use Rattle.cadf_linefile.specs.LineGrammar.{LineGrammar}
 use Rattle.cadf_linefile.specs.Verdict as frame
 use Rattle.cadf_linefile.proofs.ReadingLemmas as reading
 use Rattle.cadf_linefile.proofs.RefusedLemmas as refused
@@ -22,7 +22,6 @@ use Rattle.cadf_inventory.specs.InventoryVerdict.{inventory_grammar, inventory_m
 use Rattle.cadf_seal.specs.ModelKind.{ModelKind, grammar_of, model_or_fault}
 use Rattle.cadf_seal.specs.SealVerdict.{seal_kind}
 use Rattle.cadf_seal.specs.ProofVerdict.{proof_kind}
-use Rattle.cadf_sketch.specs.Sketches.{SketchModel}
 use Rattle.cadf_sketch.specs.SketchVerdict.{sketch_grammar, sketch_model_or_fault}
 use Rattle.cadf_tool.specs.declared.input.Loaded.{Loaded}
 use Rattle.cadf_tool.specs.declared.input.LoadFault.TheVariants.{ReadFault as ReadFailed}
@@ -48,13 +47,15 @@ use Rattle.cadf_tool.specs.InventoryInput.{inventory_kind, inventory_spec}
 use Rattle.cadf_tool.specs.SketchInput.{sketch_kind, sketch_spec}
 use Rattle.cadf_tool.specs.SealInput.{kind_of, seal_spec, proof_spec}
 use Rattle.cadf_tool.specs.Rehearse.{script_spec}
-use Rattle.cadf_tool.specs.Run.{InputSpec, Sources, one, two, both, input_spec, IsRefusedFirst, IsRefusedAt, IsValueOf, IsFirstFaultBy}
+use Rattle.cadf_tool.specs.Run.{SourceTransition, InputSpec, Sources, one, two, both, input_spec, IsRefusedFirst, IsRefusedAt, IsValueOf, IsFirstFaultBy}
 use Rattle.cadf_memory.specs.Refused.{
   is_of_memory,
   three_sources,
-  seen_as,
   seen_from,
   NoReadFailed,
+  IsUnfailedSource,
+  AreUnfailedSources,
+  IsFirstBy,
   IsFirstOf,
   IsFirstOfTwoBy,
   IsFirstOfThree,
@@ -86,29 +87,24 @@ ReadsAlone kind = (limit : ℕ) (failed : Bool) (bytes : List ℕ) → kind.verd
 same : {M : Type 0} (f g : FileFault) → ◌≡◌ {A = Result M FileFault} (Err f) (Err g) → f ≡ g
 same f g e = cc
 
-inventory_alone : ReadsAlone inventory_kind
-inventory_alone limit failed bytes e =
-    refused.failed_alone inventory_grammar limit failed bytes (held (frame.verdict inventory_grammar limit failed bytes) e)
+alone : {M : Type 0} (grammar : LineGrammar) (in_lines : Result (List (List ℕ)) FileFault → Result M FileFault)
+    → ((ls : List (List ℕ)) → in_lines (Ok ls) ≡ Err FileReadFault → ⊥) → ((f : FileFault) → in_lines (Err f) ≡ Err f)
+    → (limit : ℕ) (failed : Bool) (bytes : List ℕ) → in_lines (frame.verdict grammar limit failed bytes) ≡ Err FileReadFault → failed ≡ true
+alone {M} grammar in_lines ok err limit failed bytes e =
+    refused.failed_alone grammar limit failed bytes (held (frame.verdict grammar limit failed bytes) e)
   where
-    held : (v : Result (List (List ℕ)) FileFault) → inventory_model_or_fault v ≡ Err FileReadFault → v ≡ reading.err FileReadFault
-    held (Ok ls) e = absurd (cc)
-    held (Err f) e = ap reading.err (same {M = InventoryModel} f FileReadFault e)
+    held : (v : Result (List (List ℕ)) FileFault) → in_lines v ≡ Err FileReadFault → v ≡ reading.err FileReadFault
+    held (Ok ls) e = absurd (ok ls e)
+    held (Err f) e = ap reading.err (same {M = M} f FileReadFault (sym (err f) ∙ e))
+
+inventory_alone : ReadsAlone inventory_kind
+inventory_alone = alone inventory_grammar inventory_model_or_fault (λ ls e. cc) (λ f. refl)
 
 sketch_alone : ReadsAlone sketch_kind
-sketch_alone limit failed bytes e =
-    refused.failed_alone sketch_grammar limit failed bytes (held (frame.verdict sketch_grammar limit failed bytes) e)
-  where
-    held : (v : Result (List (List ℕ)) FileFault) → sketch_model_or_fault v ≡ Err FileReadFault → v ≡ reading.err FileReadFault
-    held (Ok ls) e = absurd (cc)
-    held (Err f) e = ap reading.err (same {M = SketchModel} f FileReadFault e)
+sketch_alone = alone sketch_grammar sketch_model_or_fault (λ ls e. cc) (λ f. refl)
 
 model_alone : {M : Type 0} (k : ModelKind M) → ReadsAlone (kind_of k)
-model_alone {M} k limit failed bytes e =
-    refused.failed_alone (grammar_of k) limit failed bytes (held (frame.verdict (grammar_of k) limit failed bytes) e)
-  where
-    held : (v : Result (List (List ℕ)) FileFault) → model_or_fault k v ≡ Err FileReadFault → v ≡ reading.err FileReadFault
-    held (Ok ls) e = absurd (cc)
-    held (Err f) e = ap reading.err (same {M = M} f FileReadFault e)
+model_alone k = alone (grammar_of k) (model_or_fault k) (λ ls e. cc) (λ f. refl)
 
 -- ---- a source of which no read fails isn't refused for one
 
@@ -177,45 +173,50 @@ module _ {A M : Type 0} (sources : Sources A) (work : A → Result M ToolFault �
   of_memory WriteFault h = absurd h
   of_memory Memory h = refl
 
+safe_at : {T : Type 0} (reader : InputSpec T) → IsSafe reader → (bytes : List ℕ) (t : SourceTransition) → IsUnfailedSource bytes t
+    → reader.refuses t.old t.new ReadFailed → ⊥
+safe_at reader safe bytes t u = safe t.old t.new u.before u.after
+
+by_memory : {S A M : Type 0} (seen : S → Type 0) (sources : S → Sources A) (work : A → Result M ToolFault → Type 0)
+    → ((s : S) → seen s → (n : ℕ) → (sources s).refused n ReadFailed → ⊥)
+    → (fault : ToolFault) → IsFirstBy seen sources work fault → is_of_memory fault ≡ true
+by_memory seen sources work never fault f = of_memory (sources f.source) work (never f.source f.seen) fault f.first
+
 pub first_of_memory : {T M : Type 0} (reader : InputSpec T) → IsSafe reader → (work : T → Result M ToolFault) (bytes : List ℕ)
     (fault : ToolFault) → IsFirstOf reader work bytes fault → is_of_memory fault ≡ true
-first_of_memory reader safe work bytes fault f =
-    of_memory (one reader f.source) (IsValueOf work) (λ n h. safe f.source.old f.source.new f.before f.after h.1) fault f.first
+first_of_memory reader safe work bytes =
+    by_memory (IsUnfailedSource bytes) (one reader) (IsValueOf work) (λ t u n h. safe_at reader safe bytes t u h.1)
 
 pub first_of_memory_two : {T U M : Type 0} (reader : InputSpec T) (other : InputSpec U) → IsSafe reader → IsSafe other
     → (work : T × U → Result M ToolFault → Type 0) (from to : List ℕ) (fault : ToolFault)
     → IsFirstOfTwoBy reader other work from to fault → is_of_memory fault ≡ true
-first_of_memory_two reader other safe safe' work from to fault f =
-    of_memory (two reader f.source other f.following) work
-    (λ n h. elim h [
-      | inl x ↦ safe f.source.old f.source.new f.before f.after x.0.1
-      | inr x ↦ safe' f.following.old f.following.new f.following_before f.following_after x.1.1
-    ]) fault f.first
+first_of_memory_two reader other safe safe' work from to =
+    by_memory (λ s. IsUnfailedSource from s.0 × IsUnfailedSource to s.1) (λ s. two reader s.0 other s.1) work
+    (λ s u n h. elim h [ inl x ↦ safe_at reader safe from s.0 u.0 x.0.1 | inr x ↦ safe_at other safe' to s.1 u.1 x.1.1 ])
 
 pub first_of_memory_all : {M : Type 0} (work : List Loaded → Result M ToolFault) (inputs : List (List ℕ)) (fault : ToolFault)
     → IsFirstOfAll work inputs fault → is_of_memory fault ≡ true
-first_of_memory_all work inputs fault f =
-    of_memory (seen_as f.old f.new) (IsValueOf work) (all_never 1 f.old f.new f.before f.after) fault f.first
+first_of_memory_all work inputs =
+    by_memory (AreUnfailedSources inputs) (λ s. seen_from 1 s.0 s.1) (IsValueOf work) (λ s u n h. all_never 1 s.0 s.1 u.before u.after n h)
 
 pub first_of_memory_three : {T U V M : Type 0} (i : InputSpec T) (j : InputSpec U) (k : InputSpec V) → IsSafe i → IsSafe j → IsSafe k
     → (work : T × (U × V) → Result M ToolFault) (a b c : List ℕ) (fault : ToolFault)
     → IsFirstOfThree i j k work a b c fault → is_of_memory fault ≡ true
-first_of_memory_three i j k safe safe' safe'' work a b c fault f =
-    of_memory (three_sources i f.source.source j f.second_source.source k f.third_source.source) (IsValueOf work)
-    (λ n h. elim h [
-      | inl x ↦ safe f.source.source.old f.source.source.new f.source.before f.source.after x.0.1
-      | inr x ↦ elim x.1 [
-        | inl y ↦ safe' f.second_source.source.old f.second_source.source.new f.second_source.before f.second_source.after y.0.1
-        | inr y ↦ safe'' f.third_source.source.old f.third_source.source.new f.third_source.before f.third_source.after y.1.1
-      ]
-    ]) fault f.comes
+first_of_memory_three i j k safe safe' safe'' work a b c =
+    by_memory (λ s. IsUnfailedSource a s.0 × (IsUnfailedSource b s.1.0 × IsUnfailedSource c s.1.1))
+    (λ s. three_sources i s.0 j s.1.0 k s.1.1) (IsValueOf work)
+    (λ s u n h. elim h [
+      | inl x ↦ safe_at i safe a s.0 u.0 x.0.1
+      | inr x ↦ elim x.1 [ inl y ↦ safe_at j safe' b s.1.0 u.1.0 y.0.1 | inr y ↦ safe_at k safe'' c s.1.1 u.1.1 y.1.1 ]
+    ])
 
 pub first_of_memory_one_and_all : {T M : Type 0} (reader : InputSpec T) → IsSafe reader → (work : T × List Loaded → Result M ToolFault)
     (bytes : List ℕ) (inputs : List (List ℕ)) (fault : ToolFault)
     → IsFirstOfOneAndAll reader work bytes inputs fault → is_of_memory fault ≡ true
-first_of_memory_one_and_all reader safe work bytes inputs fault f =
-    of_memory (both (one reader f.source.source) (seen_from 2 f.old f.new)) (IsValueOf work)
-    (λ n h. elim h [
-      | inl x ↦ safe f.source.source.old f.source.source.new f.source.before f.source.after x.0.1
-      | inr x ↦ all_never 2 f.old f.new f.before f.after n x.1
-    ]) fault f.first
+first_of_memory_one_and_all reader safe work bytes inputs =
+    by_memory (λ s. IsUnfailedSource bytes s.0 × AreUnfailedSources inputs s.1) (λ s. both (one reader s.0) (seen_from 2 s.1.0 s.1.1))
+    (IsValueOf work)
+    (λ s u n h. elim h [
+      | inl x ↦ safe_at reader safe bytes s.0 u.0 x.0.1
+      | inr x ↦ all_never 2 s.1.0 s.1.1 u.1.before u.1.after n x.1
+    ])

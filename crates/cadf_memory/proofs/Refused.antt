@@ -41,9 +41,9 @@ use Rattle.cadf_tool.proofs.LoadedLists.{none_failed}
 use Rattle.cadf_memory.specs.Refused.{
   unwritten_of,
   three_sources,
-  seen_as,
   seen_from,
   NoReadFailed,
+  IsFirstBy,
   IsFirstOf,
   IsFirstOfTwoBy,
   IsFirstOfThree,
@@ -90,7 +90,7 @@ module _ {A M : Type 0} (sources : Sources A) (work : A → Result M ToolFault �
 -- however often the sources were read
 module _ {S M : Type 0} (source : Source S) (ss rs : List S) (work : List Loaded → Result M ToolFault) where
   seen_at : (fault : ToolFault) (s : FaultStage) → IsFirstFault (all source ss rs) work fault s
-      → IsFirstFault (seen_as (map (source_state source) ss) (map (source_state source) rs)) work fault s
+      → IsFirstFault (seen_from 1 (map (source_state source) ss) (map (source_state source) rs)) work fault s
   seen_at fault (Reading n f) h = h
   seen_at fault Working h = h
   seen_at fault Writing h = h
@@ -104,6 +104,11 @@ module _ {A S M : Type 0} (first : Sources A) (source : Source S) (ss rs : List 
   seen_after fault Writing h = h
   seen_after fault OutOfMemoryStage h = h
 
+by_first : {S A M : Type 0} (fault result : ToolFault) → result ≡ unwritten_of fault → (IsSeen : S → Type 0) (sources : S → Sources A)
+    (work : A → Result M ToolFault → Type 0) (s : S) → IsSeen s → IsFirst (sources s) work (unwritten_of fault) → IsFirstBy IsSeen sources work result
+by_first fault result answered IsSeen sources work s seen first =
+    subst (λ (f : ToolFault). IsFirstBy IsSeen sources work f) (sym answered) (record { source = s; seen = seen; first = first })
+
 module _ {M W V : Type 0} (tell : M → Text) (sink : Sink W) (old new : W) (fault result : ToolFault)
     (answered : result ≡ unwritten_of fault) where
   pub run_refused : {T : Type 0} (reader : InputSpec T) (work : T → Result M ToolFault) (t : SourceTransition) (bytes : List ℕ)
@@ -111,14 +116,8 @@ module _ {M W V : Type 0} (tell : M → Text) (sink : Sink W) (old new : W) (fau
       → IsRun {T = V} (one reader t) work tell sink old new (Err fault)
       → IsFirstOf reader work bytes result
   run_refused reader work t bytes given before after r =
-      subst (λ (f : ToolFault). IsFirstOf reader work bytes f) (sym answered)
-      (record {
-        source = t;
-        left = given;
-        before = before;
-        after = after;
-        first = first_of (one reader t) (IsValueOf work) V tell sink old new fault (λ a are. are.1) r;
-      })
+      by_first fault result answered _ (one reader) (IsValueOf work) t (record { left = given; before = before; after = after })
+      (first_of (one reader t) (IsValueOf work) V tell sink old new fault (λ a are. are.1) r)
 
   pub run_refused_two : {T U : Type 0} (reader : InputSpec T) (other : InputSpec U) (work : T × U → Result M ToolFault → Type 0)
       (t u : SourceTransition) (from to : List ℕ) → t.old.left ≡ Some from → u.old.left ≡ Some to
@@ -126,48 +125,31 @@ module _ {M W V : Type 0} (tell : M → Text) (sink : Sink W) (old new : W) (fau
       → IsRunBy {T = V} (two reader t other u) work tell sink old new (Err fault)
       → IsFirstOfTwoBy reader other work from to result
   run_refused_two reader other work t u from to given given' before after before' after' r =
-      subst (λ (f : ToolFault). IsFirstOfTwoBy reader other work from to f) (sym answered)
-      (record {
-        source = t;
-        left = given;
-        before = before;
-        after = after;
-        following = u;
-        following_left = given';
-        following_before = before';
-        following_after = after';
-        first = first_of (two reader t other u) work V tell sink old new fault (λ a are. (are.0.1, are.1.1)) r;
-      })
+      by_first fault result answered _ (λ s. two reader s.0 other s.1) work (t, u)
+      (record { left = given; before = before; after = after }, record { left = given'; before = before'; after = after' })
+      (first_of (two reader t other u) work V tell sink old new fault (λ a are. (are.0.1, are.1.1)) r)
 
   pub run_refused_all : {S : Type 0} (source : Source S) (work : List Loaded → Result M ToolFault) (ss rs : List S)
       (inputs : List (List ℕ)) → map (λ (s : SourceState). s.left) (map (source_state source) ss) ≡ map Some inputs
       → NoReadFailed (map (source_state source) ss) → NoReadFailed (map (source_state source) rs)
       → IsRun {T = V} (all source ss rs) work tell sink old new (Err fault) → IsFirstOfAll work inputs result
   run_refused_all source work ss rs inputs given before after r =
-      subst (λ (f : ToolFault). IsFirstOfAll work inputs f) (sym answered)
-      (record {
-        old = map (source_state source) ss;
-        new = map (source_state source) rs;
-        left = given;
-        before = before;
-        after = after;
-        first = seen_at source ss rs work (unwritten_of fault) (fault_stage (unwritten_of fault))
-            (first_of (all source ss rs) (IsValueOf work) V tell sink old new fault
-            (λ ls are. none_failed (map (source_state source) ss) (map (source_state source) rs) ls are) r);
-      })
+      by_first fault result answered _ (λ s. seen_from 1 s.0 s.1) (IsValueOf work) (map (source_state source) ss, map (source_state source) rs)
+      (record { left = given; before = before; after = after })
+      (seen_at source ss rs work (unwritten_of fault) (fault_stage (unwritten_of fault))
+      (first_of (all source ss rs) (IsValueOf work) V tell sink old new fault
+      (λ ls are. none_failed (map (source_state source) ss) (map (source_state source) rs) ls are) r))
 
   pub run_refused_three : {T U X : Type 0} (i : InputSpec T) (j : InputSpec U) (k : InputSpec X) (work : T × (U × X) → Result M ToolFault)
       (t u x : SourceTransition) (a b c : List ℕ) → t.old.left ≡ Some a → u.old.left ≡ Some b → x.old.left ≡ Some c
       → t.old.failures ≡ 0 → t.new.failures ≡ 0 → u.old.failures ≡ 0 → u.new.failures ≡ 0 → x.old.failures ≡ 0 → x.new.failures ≡ 0
       → IsRun {T = V} (three_sources i t j u k x) work tell sink old new (Err fault) → IsFirstOfThree i j k work a b c result
   run_refused_three i j k work t u x a b c given given' given'' before after before' after' before'' after'' r =
-      subst (λ (f : ToolFault). IsFirstOfThree i j k work a b c f) (sym answered)
-      (record {
-        source = record { source = t; left = given; before = before; after = after };
-        second_source = record { source = u; left = given'; before = before'; after = after' };
-        third_source = record { source = x; left = given''; before = before''; after = after'' };
-        comes = first_of (three_sources i t j u k x) (IsValueOf work) V tell sink old new fault (λ a are. (are.0.1, (are.1.0.1, are.1.1.1))) r;
-      })
+      by_first fault result answered _ (λ s. three_sources i s.0 j s.1.0 k s.1.1) (IsValueOf work) (t, (u, x)) (
+        record { left = given; before = before; after = after },
+        (record { left = given'; before = before'; after = after' }, record { left = given''; before = before''; after = after'' }),
+      )
+      (first_of (three_sources i t j u k x) (IsValueOf work) V tell sink old new fault (λ a are. (are.0.1, (are.1.0.1, are.1.1.1))) r)
 
   pub run_refused_one_and_all : {T S : Type 0} (reader : InputSpec T) (source : Source S) (work : T × List Loaded → Result M ToolFault)
       (t : SourceTransition) (ss rs : List S) (bytes : List ℕ) (inputs : List (List ℕ)) → t.old.left ≡ Some bytes
@@ -177,15 +159,9 @@ module _ {M W V : Type 0} (tell : M → Text) (sink : Sink W) (old new : W) (fau
       → IsRun {T = V} (both (one reader t) (all_from 2 source ss rs)) work tell sink old new (Err fault)
       → IsFirstOfOneAndAll reader work bytes inputs result
   run_refused_one_and_all reader source work t ss rs bytes inputs given before after given' before' after' r =
-      subst (λ (f : ToolFault). IsFirstOfOneAndAll reader work bytes inputs f) (sym answered)
-      (record {
-        source = record { source = t; left = given; before = before; after = after };
-        old = map (source_state source) ss;
-        new = map (source_state source) rs;
-        left = given';
-        before = before';
-        after = after';
-        first = seen_after (one reader t) source ss rs work (unwritten_of fault) (fault_stage (unwritten_of fault))
-            (first_of (both (one reader t) (all_from 2 source ss rs)) (IsValueOf work) V tell sink old new fault
-            (λ a are. (are.0.1, none_failed (map (source_state source) ss) (map (source_state source) rs) a.1 are.1)) r);
-      })
+      by_first fault result answered _ (λ s. both (one reader s.0) (seen_from 2 s.1.0 s.1.1)) (IsValueOf work)
+      (t, (map (source_state source) ss, map (source_state source) rs))
+      (record { left = given; before = before; after = after }, record { left = given'; before = before'; after = after' })
+      (seen_after (one reader t) source ss rs work (unwritten_of fault) (fault_stage (unwritten_of fault))
+      (first_of (both (one reader t) (all_from 2 source ss rs)) (IsValueOf work) V tell sink old new fault
+      (λ a are. (are.0.1, none_failed (map (source_state source) ss) (map (source_state source) rs) a.1 are.1)) r))

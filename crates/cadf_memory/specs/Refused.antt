@@ -1,7 +1,8 @@
 -- Why an engine over bytes in memory gives up: the first refusal, or there is no memory.
 --     unwritten_of fault                         a failed write to memory counts as no memory
 --     is_of_memory fault                         it is neither a failed read nor a failed write
---     IsFirstOf reader work bytes fault          the fault comes first, of a source that has these bytes and of which no read failed
+--     IsFirstBy IsSeen sources work fault        the fault comes first, of sources that are seen so
+--     IsFirstOf reader work bytes fault          the same of one source, which has these bytes and of which no read failed
 --     IsFirstOfTwo reader other work from to f   the same of two inputs; `By`: of a work that is a relation
 --     IsFirstOfThree first second third work a b c fault   the same of three inputs
 --     IsFirstOfAll work inputs fault             the same of a list of inputs
@@ -24,7 +25,7 @@ use Rattle.cadf_tool.specs.declared.fault.ToolFault.TheVariants.{
 }
 use Rattle.cadf_tool.specs.Faults.{fault_stage}
 use Rattle.cadf_tool.specs.Inputs.{SourceState, NoneFailed}
-use Rattle.cadf_tool.specs.Run.{SourceTransition, InputSpec, Sources, with_number, one, two, both, AreLoaded, IsRefusedAt, IsValueOf, IsFirstFaultBy, IsFirstFault}
+use Rattle.cadf_tool.specs.Run.{SourceTransition, InputSpec, Sources, with_number, one, two, both, AreLoaded, IsRefusedAt, IsValueOf, IsFirstFaultBy}
 
 abbrev pub unwritten_of : ToolFault → ToolFault
 unwritten_of (Input n f) = Input n f
@@ -44,47 +45,41 @@ is_of_memory (ReadFault n) = false
 is_of_memory WriteFault = false
 is_of_memory _ = true
 
-pub record IsFirstOf {T M : Type 0} (reader : InputSpec T) (work : T → Result M ToolFault) (bytes : List ℕ)
+pub record IsFirstBy {S A M : Type 0} (IsSeen : S → Type 0) (sources : S → Sources A) (work : A → Result M ToolFault → Type 0)
     (fault : ToolFault) : Type 0 where
-  pub source : SourceTransition
+  pub source : S
+  pub seen : IsSeen source
+  pub first : IsFirstFaultBy (sources source) work fault (fault_stage fault)
+
+-- a source that has these bytes, and of which no read failed
+pub record IsUnfailedSource (bytes : List ℕ) (source : SourceTransition) : Type 0 where
   pub left : source.old.left ≡ Some bytes
   pub before : source.old.failures ≡ 0
   pub after : source.new.failures ≡ 0
-  pub first : IsFirstFault (one reader source) work fault (fault_stage fault)
 
-pub record IsFirstOfTwoBy {T U M : Type 0} (reader : InputSpec T) (other : InputSpec U)
-    (work : T × U → Result M ToolFault → Type 0) (from to : List ℕ) (fault : ToolFault) : Type 0 where
-  pub source : SourceTransition
-  pub left : source.old.left ≡ Some from
-  pub before : source.old.failures ≡ 0
-  pub after : source.new.failures ≡ 0
-  pub following : SourceTransition
-  pub following_left : following.old.left ≡ Some to
-  pub following_before : following.old.failures ≡ 0
-  pub following_after : following.new.failures ≡ 0
-  pub first : IsFirstFaultBy (two reader source other following) work fault (fault_stage fault)
+abbrev pub IsFirstOf : {T M : Type 0} → InputSpec T → (T → Result M ToolFault) → List ℕ → ToolFault → Type 0
+IsFirstOf reader work bytes fault = IsFirstBy (IsUnfailedSource bytes) (one reader) (IsValueOf work) fault
+
+abbrev pub IsFirstOfTwoBy : {T U M : Type 0} → InputSpec T → InputSpec U → (T × U → Result M ToolFault → Type 0) → List ℕ → List ℕ
+    → ToolFault → Type 0
+IsFirstOfTwoBy reader other work from to fault =
+    IsFirstBy {S = SourceTransition × SourceTransition} (λ s. IsUnfailedSource from s.0 × IsUnfailedSource to s.1)
+    (λ s. two reader s.0 other s.1) work fault
 
 abbrev pub IsFirstOfTwo : {T U M : Type 0} → InputSpec T → InputSpec U → (T × U → Result M ToolFault) → List ℕ → List ℕ
     → ToolFault → Type 0
 IsFirstOfTwo reader other work from to fault = IsFirstOfTwoBy reader other (IsValueOf work) from to fault
 
--- a source that has these bytes, and of which no read failed
-pub record UnfailedSource (bytes : List ℕ) : Type 0 where
-  pub source : SourceTransition
-  pub left : source.old.left ≡ Some bytes
-  pub before : source.old.failures ≡ 0
-  pub after : source.new.failures ≡ 0
-
 abbrev pub three_sources : {T U V : Type 0} → InputSpec T → SourceTransition → InputSpec U → SourceTransition → InputSpec V → SourceTransition
     → Sources (T × (U × V))
 three_sources first t second u third v = both (one first t) (both (with_number 2 second u) (with_number 3 third v))
 
-pub record IsFirstOfThree {T U V M : Type 0} (first : InputSpec T) (second : InputSpec U) (third : InputSpec V)
-    (work : T × (U × V) → Result M ToolFault) (a b c : List ℕ) (fault : ToolFault) : Type 0 where
-  pub source : UnfailedSource a
-  pub second_source : UnfailedSource b
-  pub third_source : UnfailedSource c
-  pub comes : IsFirstFault (three_sources first source.source second second_source.source third third_source.source) work fault (fault_stage fault)
+abbrev pub IsFirstOfThree : {T U V M : Type 0} → InputSpec T → InputSpec U → InputSpec V → (T × (U × V) → Result M ToolFault)
+    → List ℕ → List ℕ → List ℕ → ToolFault → Type 0
+IsFirstOfThree first second third work a b c fault =
+    IsFirstBy {S = SourceTransition × (SourceTransition × SourceTransition)}
+    (λ s. IsUnfailedSource a s.0 × (IsUnfailedSource b s.1.0 × IsUnfailedSource c s.1.1))
+    (λ s. three_sources first s.0 second s.1.0 third s.1.1) (IsValueOf work) fault
 
 -- what came of sources that are seen as these before and after, however often they were read. The first has that number
 abbrev pub seen_from : ℕ → List SourceState → List SourceState → Sources (List Loaded)
@@ -96,29 +91,22 @@ seen_from first old new = record {
   bounded = Unit {0};
 }
 
-abbrev pub seen_as : List SourceState → List SourceState → Sources (List Loaded)
-seen_as old new = seen_from 1 old new
-
 -- no read of any of these failed
 abbrev pub NoReadFailed : List SourceState → Type 0
 NoReadFailed [] = Unit {0}
 NoReadFailed (s ∷ ss) = (s.failures ≡ 0) × NoReadFailed ss
 
-pub record IsFirstOfAll {M : Type 0} (work : List Loaded → Result M ToolFault) (inputs : List (List ℕ))
-    (fault : ToolFault) : Type 0 where
-  pub old : List SourceState
-  pub new : List SourceState
-  pub left : map (λ (s : SourceState). s.left) old ≡ map Some inputs
-  pub before : NoReadFailed old
-  pub after : NoReadFailed new
-  pub first : IsFirstFault (seen_as old new) work fault (fault_stage fault)
+-- sources in a list, before and after, that have these bytes, and of which no read failed
+pub record AreUnfailedSources (inputs : List (List ℕ)) (sources : List SourceState × List SourceState) : Type 0 where
+  pub left : map (λ (s : SourceState). s.left) sources.0 ≡ map Some inputs
+  pub before : NoReadFailed sources.0
+  pub after : NoReadFailed sources.1
 
-pub record IsFirstOfOneAndAll {T M : Type 0} (reader : InputSpec T) (work : T × List Loaded → Result M ToolFault) (bytes : List ℕ)
-    (inputs : List (List ℕ)) (fault : ToolFault) : Type 0 where
-  pub source : UnfailedSource bytes
-  pub old : List SourceState
-  pub new : List SourceState
-  pub left : map (λ (s : SourceState). s.left) old ≡ map Some inputs
-  pub before : NoReadFailed old
-  pub after : NoReadFailed new
-  pub first : IsFirstFault (both (one reader source.source) (seen_from 2 old new)) work fault (fault_stage fault)
+abbrev pub IsFirstOfAll : {M : Type 0} → (List Loaded → Result M ToolFault) → List (List ℕ) → ToolFault → Type 0
+IsFirstOfAll work inputs fault = IsFirstBy (AreUnfailedSources inputs) (λ s. seen_from 1 s.0 s.1) (IsValueOf work) fault
+
+abbrev pub IsFirstOfOneAndAll : {T M : Type 0} → InputSpec T → (T × List Loaded → Result M ToolFault) → List ℕ → List (List ℕ)
+    → ToolFault → Type 0
+IsFirstOfOneAndAll reader work bytes inputs fault =
+    IsFirstBy {S = SourceTransition × (List SourceState × List SourceState)} (λ s. IsUnfailedSource bytes s.0 × AreUnfailedSources inputs s.1)
+    (λ s. both (one reader s.0) (seen_from 2 s.1.0 s.1.1)) (IsValueOf work) fault
