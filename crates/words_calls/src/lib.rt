@@ -33,7 +33,20 @@ fn push_option(line: &mut String, word: Option<&str>) -> Result<(), Memory> {
 
 /// Returns a request, as a line: its name and words, and the files.
 fn of_files(alloc: Global, words: &[&str], files: &[&str]) -> Result<String, Memory> {
+    with_options(alloc, words, &[], files)
+}
+
+/// Returns the same of a request with words that may be left out, which stand before the files.
+fn with_options(
+    alloc: Global,
+    words: &[&str],
+    options: &[Option<&str>],
+    files: &[&str],
+) -> Result<String, Memory> {
     let mut line = calls::answer(alloc, "ok", words)?;
+    for option in options {
+        push_option(&mut line, *option)?;
+    }
     push_all(&mut line, files)?;
     Ok(line)
 }
@@ -54,93 +67,52 @@ fn delta(alloc: Global, name: &str, from: &[&str], to: &[&str]) -> Result<String
     Ok(line)
 }
 
-/// Returns a request for `join`, as a line.
-fn joined(alloc: Global, log: Option<&str>, files: &[&str]) -> Result<String, Memory> {
-    let mut line = calls::answer(alloc, "ok", &["Join"])?;
-    push_option(&mut line, log)?;
-    push_all(&mut line, files)?;
-    Ok(line)
-}
-
-/// Returns a request for `split`, as a line.
-fn split(alloc: Global, by: &str, log: Option<&str>, files: &[&str]) -> Result<String, Memory> {
-    let mut line = calls::answer(alloc, "ok", &["Split", by])?;
-    push_option(&mut line, log)?;
-    for file in files {
-        calls::push(&mut line, file)?;
-    }
-    Ok(line)
-}
-
-/// Returns a request for `sketch`, as a line.
-fn sketched(
-    alloc: Global,
-    cells: Option<&str>,
-    salt: Option<&str>,
-    files: &[&str],
-) -> Result<String, Memory> {
-    let mut line = calls::answer(alloc, "ok", &["Sketch"])?;
-    push_option(&mut line, cells)?;
-    push_option(&mut line, salt)?;
-    push_all(&mut line, files)?;
-    Ok(line)
-}
-
 /// Returns whether a flag is given, as a word.
 fn flag(is_given: bool) -> &'static str {
     if is_given { "true" } else { "false" }
 }
 
-/// Returns a request for `verify`, as a line.
-fn verified(alloc: Global, absent: bool, files: &[&str]) -> Result<String, Memory> {
-    of_files(alloc, &["Verify", flag(absent)], files)
-}
-
 /// Returns a request, as a line.
 fn asked(alloc: Global, request: &Request<'_>) -> Result<String, Memory> {
     match request {
-        Request::Join { log, files } => joined(alloc, *log, files.as_slice()),
-        Request::Split { by, log, files } => split(alloc, by, *log, files.as_slice()),
-        Request::Missing { from, to } => delta(alloc, "Missing", from.as_slice(), to.as_slice()),
-        Request::MissingBy { from, inventory } => delta(
+        Request::Join { log, files } => with_options(alloc, &["Join"], &[*log], files),
+        Request::Split { by, log, files } => with_options(alloc, &["Split", by], &[*log], files),
+        Request::Missing { from, to } => delta(alloc, "Missing", from, to),
+        Request::MissingBy { from, inventory } => delta(alloc, "MissingBy", from, &[*inventory]),
+        Request::Inventory { files } => of_files(alloc, &["Inventory"], files),
+        Request::Sketch { cells, salt, files } => with_options(
             alloc,
-            "MissingBy",
-            from.as_slice(),
-            &[*inventory],
+            &["Sketch"],
+            &[*cells, *salt],
+            files,
         ),
-        Request::Inventory { files } => of_files(alloc, &["Inventory"], files.as_slice()),
-        Request::Sketch { cells, salt, files } => sketched(alloc, *cells, *salt, files.as_slice()),
         Request::MissingBySketch { from, sketch } => delta(
             alloc,
             "MissingBySketch",
-            from.as_slice(),
+            from,
             &[*sketch],
         ),
-        Request::Seal { files } => of_files(alloc, &["Seal"], files.as_slice()),
-        Request::Prove { facts, files } => of_files(alloc, &["Prove", facts], files.as_slice()),
+        Request::Seal { files } => of_files(alloc, &["Seal"], files),
+        Request::Prove { facts, files } => of_files(alloc, &["Prove", facts], files),
         Request::Verify {
             absent,
             seal,
             facts,
             proof,
-        } => verified(alloc, *absent, &[*seal, *facts, *proof]),
+        } => of_files(alloc, &["Verify", flag(*absent)], &[*seal, *facts, *proof]),
         Request::Rule {
             letter,
             key,
             place,
             files,
-        } => of_files(alloc, &["Rule", letter, key, place], files.as_slice()),
+        } => of_files(alloc, &["Rule", letter, key, place], files),
         Request::Rehearse { log, sites, script } => calls::answer(
             alloc,
             "ok",
             &["Rehearse", log, sites, script],
         ),
-        Request::Show { conflicts, files } => of_files(
-            alloc,
-            &["Show", flag(*conflicts)],
-            files.as_slice(),
-        ),
-        Request::Check { files } => of_files(alloc, &["Check"], files.as_slice()),
+        Request::Show { conflicts, files } => of_files(alloc, &["Show", flag(*conflicts)], files),
+        Request::Check { files } => of_files(alloc, &["Check"], files),
     }
 }
 
