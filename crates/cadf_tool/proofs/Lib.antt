@@ -9,9 +9,7 @@ pub mod Runs
 pub mod Rehearsals
 pub mod SiteLines
 pub mod KindReading
-pub mod InventoryReading
-pub mod SketchReading
-pub mod ModelReading
+pub mod KindInputs
 pub mod LoadLemmas
 pub mod OneText
 pub mod Exclusion
