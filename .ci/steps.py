@@ -6,12 +6,14 @@
 Prints a line a step with its times as the step ends, all that a failed step has written, and at the end a table of all
 steps with the kit's name, why something was skipped, and `N passed, M failed, K skipped`. A step of pytest counts as its
 tests do, any other is one. With --no-skips what was skipped has failed. The first time is that of the clock, the second
-that of all processors. A failed stage ends the run: what comes after it stands on it.
+that of all processors. A failed stage ends the run: what comes after it stands on it. A call that is answered wrongly
+beside the proofs ends them too.
 Each step writes to a folder of its own, and leaves nothing in the tree but crates/*/out.
 """
 import argparse
 import ast
 import concurrent.futures
+import contextlib
 import glob
 import os
 import re
@@ -38,20 +40,21 @@ UNLIMITED = {
     "/sys/fs/cgroup/memory/memory.limit_in_bytes": str(2 ** 63 - 4096),
 }
 
-# Each stage: its steps, by name, and how many of them may run at once (0: as many as there are processors).
+# Each stage: its steps, by name, and whether the first that fails ends the others. The proofs leave processors idle, as a
+# crate waits for those below it: `test` takes what they leave, and is through long before them.
 STAGES = [
-    ("before any build", 0, {
-        "test": "python3 -m tests",
+    ("before any build", False, {
         "calls": "python3 -m tests.tables.make --check",
         "mutants": ".ci/mutants --placed",
         "pages": "python3 -m tests.docs.pages",
         "promises": "python3 -m tests.docs.promises",
         "unbuilt": "pytest -m unbuilt",
     }),
-    ("proofs", 1, {
+    ("proofs", True, {
         "rt ci": "rt ci",
+        "test": "nice -n 19 python3 -m tests",
     }),
-    ("built programs", 0, {
+    ("built programs", False, {
         "built": "pytest -m built",
         "compare": "python3 -m tests.generated.compare",
         "drivers": "python3 -m tests.generated.drivers",
@@ -71,7 +74,7 @@ STAGES = [
 
 def program(command):
     """The place in the tree of what a command runs: its program, or the file of the module of tests that it runs."""
-    words = command.split()
+    words = re.sub("^nice -n [0-9]+ ", "", command).split()
     if words[:2] != ["python3", "-m"]:
         return words[0]
     module = words[2].replace(".", "/")
@@ -218,17 +221,24 @@ class Gate:
                 sys.stdout.write(ended.said)
             last = ended.said.rstrip("\n").rsplit("\n", 1)[-1]
             print("%s%s" % (ended.line(), "" if ended.status else ": " + last), flush=True)
+        return ended
 
-    def run_all(self, steps, lanes):
-        """Runs the steps side by side. True if all passed."""
-        with concurrent.futures.ThreadPoolExecutor(lanes or os.cpu_count()) as pool:
-            list(pool.map(self.run, steps.items()))
+    def run_all(self, steps, is_ended):
+        """Runs the steps side by side, if so until one fails. True if all passed."""
+        with concurrent.futures.ThreadPoolExecutor(os.cpu_count()) as pool:
+            for step in concurrent.futures.as_completed([pool.submit(self.run, step) for step in steps.items()]):
+                if is_ended and step.result().status:
+                    self.end()
         return not any(step.status for step in self.ended)
 
-    def stop(self, *_):
+    def end(self):
         """Ends every process that a step has started."""
         for group in list(self.running):
-            os.killpg(group, signal.SIGTERM)
+            with contextlib.suppress(ProcessLookupError):
+                os.killpg(group, signal.SIGTERM)
+
+    def stop(self, *_):
+        self.end()
         os._exit(130)
 
     def table(self, begun, may_skip):
@@ -257,9 +267,9 @@ def main():
     gate, begun = Gate(), time.monotonic()
     for number in (signal.SIGINT, signal.SIGTERM):
         signal.signal(number, gate.stop)
-    for title, lanes, steps in STAGES:
+    for title, is_ended, steps in STAGES:
         print("== %s" % title, flush=True)
-        if not gate.run_all(steps, lanes):
+        if not gate.run_all(steps, is_ended):
             break
     return gate.table(begun, not options.no_skips)
 
