@@ -4,17 +4,21 @@ The digest line is made anew, so that what stands before it has to be judged; fo
 as it is. The built command and the second implementation of this folder must answer `check` alike.
 """
 import os
+import subprocess
+import tempfile
 
 import pytest
 
 from tests import TOP
-from tests.generated.compare import alike, answered
-from tests.machine import side_by_side
+from tests.generated.compare import SECONDS, alike, put
+from tests.machine import Answer, side_by_side
 from tests.reference.command import answer
 from tests.reference.sealed_files import sealed
 
 FILES = ["ruled.cadf", "ruled.1.cadf"]
-WORDS = [b"check", b"file"]
+AT_ONCE = 16  # bytes whose files one shell has answered, in as little time as one file may take
+# Has each file answered that is named. A shell starts a program in half the time that Python takes.
+EACH = 'for name; do "$0" check "$name" >"$name.output" 2>"$name.error"; echo $?; done'
 
 
 def turned(content, place):
@@ -26,16 +30,32 @@ def turned(content, place):
     return files + [changed] if place % 8 == 0 else files
 
 
-def differs(binary, content, place):
-    """The changed files of that bit which the two don't answer alike."""
-    return [file for file in turned(content, place)
-            if not alike(answer(WORDS, {b"file": file}), answered(binary, WORDS, {b"file": file}))]
+def read(path):
+    with open(path, "rb") as file:
+        return file.read()
+
+
+def answered(binary, files):
+    """What the binary answers to each file, which a name leads to."""
+    with tempfile.TemporaryDirectory(prefix="cadf-case-") as folder:
+        put(folder, files)
+        statuses = subprocess.run(["/bin/sh", "-c", EACH, binary, *files], cwd=folder, stdin=subprocess.DEVNULL, check=True,
+                                  stdout=subprocess.PIPE, timeout=SECONDS).stdout.split()
+        for name, status in zip(files, statuses):
+            yield Answer(int(status), *(read(os.path.join(os.fsencode(folder), name + end)) for end in (b".output", b".error")))
+
+
+def differing(binary, content, first):
+    """The changed files, of the bits of some bytes, which the two don't answer alike."""
+    changed = [file for place in range(8 * first, 8 * min(first + AT_ONCE, len(content))) for file in turned(content, place)]
+    files = {b"%d" % number: file for number, file in enumerate(changed)}
+    return [files[name] for name, got in zip(files, answered(binary, files))
+            if not alike(answer([b"check", name], {name: files[name]}), got)]
 
 
 @pytest.mark.timeout(1800)
 @pytest.mark.parametrize("name", FILES)
 def test_bits(cadf, name):
-    with open(os.path.join(TOP, "examples", "vectors", name), "rb") as file:
-        content = file.read()
-    found = side_by_side(lambda place: differs(cadf, content, place), range(8 * len(content)))
-    assert [(place, files) for place, files in enumerate(found) if files][:10] == []
+    content = read(os.path.join(TOP, "examples", "vectors", name))
+    found = side_by_side(lambda first: differing(cadf, content, first), range(0, len(content), AT_ONCE))
+    assert [file for files in found for file in files][:10] == []
