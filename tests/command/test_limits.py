@@ -31,6 +31,8 @@ SHARED, SHARING = 200000, 500  # bytes of a step, and how many chains share it: 
 URI = "http://schemas.dmtf.org/cloud/audit/1.0/"
 MEMORY, WRITE_FAULT = b"cadf: out of memory\n", b"cadf: write fault\n"
 
+pytestmark = pytest.mark.xdist_group("limits")
+
 
 @pytest.fixture(scope="module")
 def folder(cadf, tmp_path_factory):

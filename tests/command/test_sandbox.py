@@ -29,7 +29,7 @@ OF_STATIC = "readlink"  # what a static program calls beside the others when it 
 NOT_ALLOWED = 126  # the status of a filter that can't be set
 LOG = "north.json"
 
-pytestmark = [pytest.mark.needs("gcc"), pytest.mark.timeout(600)]
+pytestmark = [pytest.mark.xdist_group("sandbox"), pytest.mark.needs("gcc"), pytest.mark.timeout(600)]
 
 
 def shown(pattern):

@@ -16,7 +16,7 @@ from build.plan import Plan
 from install import contents, needs, sbom
 from tests import TOP
 
-pytestmark = [pytest.mark.needs("git", "dpkg-deb"), pytest.mark.timeout(600)]
+pytestmark = [pytest.mark.xdist_group("packages"), pytest.mark.needs("git", "dpkg-deb"), pytest.mark.timeout(600)]
 
 COMMIT_TIME = 1700000000
 RT = '#!/bin/sh\ncase $1 in version) echo stand-in ;; doc) echo "%s/START-HERE.md" ;; *) exit 1 ;; esac\n'
