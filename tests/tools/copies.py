@@ -1,6 +1,9 @@
 """Copies of the tools with what they import, which do something wrongly."""
+import compileall
 import os
 import shutil
+
+import pytest
 
 from tests import TOP
 
@@ -8,7 +11,8 @@ from tests import TOP
 def copied(folder, *texts):
     """Copies tools/ and share/cadf into the folder, with texts in the place of others: a right one, a wrong one, and so on.
 
-    Returns the folder of the copied tools, or None if a right one isn't there once.
+    A right one has to be there once. What the tools import is compiled, as a start takes half as long then. Returns the
+    folder of the copied tools.
     """
     rights, counts = texts[::2], [0] * (len(texts) // 2)
     for part in ("tools", os.path.join("share", "cadf")):
@@ -23,4 +27,13 @@ def copied(folder, *texts):
                     source = source.replace(right, wrong)
                 with open(path, "w", encoding="utf-8") as file:
                     file.write(source)
-    return os.path.join(folder, "tools") if set(counts) <= {1} else None
+    assert set(counts) <= {1}, "not there once: %s" % [right for right, count in zip(rights, counts) if count != 1]
+    compileall.compile_dir(os.path.join(folder, "share", "cadf"), quiet=1)
+    return os.path.join(folder, "tools")
+
+
+def is_caught(folder, texts, check, made, *words):
+    """Has a check fail of what is made with a copy of the tools that has one text in the place of another."""
+    tools = copied(os.path.join(folder, "copy"), *texts)
+    with pytest.raises(AssertionError):
+        check(made(tools), *words)

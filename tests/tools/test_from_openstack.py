@@ -181,7 +181,6 @@ def read(data, *options, **more):
 def wrong_copy(right, instead):
     """The place of a copy of the tool that has another text in one place."""
     tools = copied(tempfile.mkdtemp(dir=os.getcwd()), right, instead)
-    assert tools is not None, right
     return os.path.join(tools, "cadf-from-openstack")
 
 

@@ -54,7 +54,6 @@ def listeners(rabbit, tmp_path):
 def wrong(tmp_path_factory):
     """A copy of the listener that acknowledges before it writes."""
     tools = copied(str(tmp_path_factory.mktemp("wrong")), WRITES + ACKNOWLEDGES, ACKNOWLEDGES + WRITES)
-    assert tools is not None
     os.rename(os.path.join(tools, "cadf-listen"), os.path.join(tools, "wrong-listen"))
     return os.path.join(tools, "wrong-listen")
 

@@ -1,4 +1,5 @@
 """cadf-seal: seals of sites and of their windows, beside the second implementation's; which windows differ; what is refused."""
+import functools
 import hashlib
 import io
 import json
@@ -17,7 +18,7 @@ from tests.reference.replica_files import file_of
 from tests.reference.seal_files import seal_of
 from tests.reference.site_seal_files import read_site_seal, site_seal_of, window_seal_of
 from tests.reference.split_files import parts_of
-from tests.tools.copies import copied
+from tests.tools.copies import is_caught
 from tests.tools.test_site_folders import DAYS, EVENT, TOOLS, Site, atoms_of, contents, index_of, with_digest
 
 sys.path.insert(0, os.path.join(TOP, "share", "cadf"))
@@ -381,7 +382,4 @@ def test_a_command_that_writes_no_seal(seals, said):
     (test_a_line_without_an_end_takes_no_memory, "file.readline(min(LONGEST_LINE, left))", "file.readline(left)"),
 ])
 def test_a_wrong_version_is_caught(tmp_path, check, right, wrong):
-    tools = copied(tmp_path / "copy", right, wrong)
-    assert tools, "there is not one: " + right
-    with pytest.raises(AssertionError):
-        check(Seals(tmp_path, tools))
+    is_caught(tmp_path, (right, wrong), check, functools.partial(Seals, tmp_path))

@@ -1,4 +1,5 @@
 """cadf-seal: proofs of facts under the seals of sites, beside the second implementation's; what is refused; what liars try."""
+import functools
 import json
 import os
 import random
@@ -16,7 +17,7 @@ from tests.reference.seal_files import proof_of
 from tests.reference.site_proof_files import read_site_proof, site_proof_of, site_verified
 from tests.reference.site_seal_files import read_site_seal, site_seal_of
 from tests.reference.split_files import parts_of
-from tests.tools.copies import copied
+from tests.tools.copies import is_caught
 from tests.tools.test_seal import DAMAGED, EVENT, HEAD, MOST, NO_SEAL, ROOT, Seals, cadf_seals, command, io_of, with_digest
 from tests.tools.test_site_folders import DAYS, atoms_of, contents
 
@@ -345,7 +346,4 @@ ANY_WINDOW = """    (window, shown), = found.parts.items()
     (test_a_site_that_is_a_file, "if inputs[0].first(len(OF_A_FILE)) == OF_A_FILE:", "if False:"),
 ])
 def test_a_wrong_version_is_caught(tmp_path, check, right, wrong):
-    tools = copied(tmp_path / "copy", right, wrong)
-    assert tools, "there is not one: " + right
-    with pytest.raises(AssertionError):
-        check(Proofs(tmp_path, tools))
+    is_caught(tmp_path, (right, wrong), check, functools.partial(Proofs, tmp_path))

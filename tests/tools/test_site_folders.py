@@ -1,5 +1,6 @@
 """Sites that are folders, as docs/FORMATS.md has them: what a take leaves there, and what a reader sees meanwhile."""
 import contextlib
+import functools
 import hashlib
 import json
 import os
@@ -17,7 +18,7 @@ from tests.machine import ended
 from tests.reference.events import document
 from tests.reference.replica_files import file_of, read_file
 from tests.reference.split_files import in_order, parts_of
-from tests.tools.copies import copied
+from tests.tools.copies import copied, is_caught
 from tests.tools.faulty import calls_of
 
 TOOLS = os.path.join(TOP, "tools")
@@ -597,8 +598,5 @@ def test_what_a_site_names_and_lacks_is_named(site):
     (test_strangers_are_named_and_passed_over, 'not file.name.startswith(".") and', ""),
 ])
 def test_a_wrong_version_is_caught(tmp_path, check, right, wrong):
-    tools = copied(tmp_path / "copy", right, wrong)
-    assert tools, "there is not one: " + right
     words = [["--windows", "1"], contents(1, 2)] if "refused" in check.__name__ else []
-    with pytest.raises(AssertionError):
-        check(Site(tmp_path, tools), *words)
+    is_caught(tmp_path, (right, wrong), check, functools.partial(Site, tmp_path), *words)

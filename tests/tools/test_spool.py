@@ -3,6 +3,7 @@
 A file costs too much, keeps the others of its group from being taken, or is a sender's who is another user.
 """
 import ctypes
+import functools
 import glob
 import json
 import os
@@ -20,7 +21,7 @@ import pytest
 
 from tests.machine import ended, side_by_side
 from tests.tools import others
-from tests.tools.copies import copied
+from tests.tools.copies import is_caught
 from tests.tools.faulty import calls_of
 from tests.tools.odd_logs import EVENT
 from tests.tools.programs import loaded, tool
@@ -629,10 +630,7 @@ def test_unclosed(shared):
     pytest.param(test_group_at_fault, ["echo 'cadf: out of memory' >&2; exit 4"], ["return Refused(\"it can't be taken: \"", "return Waits(FAILED, \""],
                  id="a file that fails alone waits")])
 def test_wrong_copy_is_caught(cadf, tmp_path, check, words, texts):
-    tools = copied(tmp_path / "copy", *texts)
-    assert tools, "there is not one: " + texts[0]
-    with pytest.raises(AssertionError):
-        check(Spools(cadf, tmp_path, tools), *words)
+    is_caught(tmp_path, texts, check, functools.partial(Spools, cadf, tmp_path), *words)
 
 
 @others.needed
@@ -648,7 +646,5 @@ def test_wrong_copy_is_caught(cadf, tmp_path, check, words, texts):
                  id="takes the sender's own file"),
     pytest.param(test_unclosed, [], ["if abs(time.time() - found.st_mtime) < quiet:", "if False:"], id="waits for no other user")])
 def test_wrong_copy_is_caught_by_other_users(cadf, tmp_path, check, words, texts):
-    tools = copied(tmp_path / "copy", *texts)
-    assert tools, "there is not one: " + texts[0]
-    with others.open_folder() as folder, pytest.raises(AssertionError):
-        check(Shared(cadf, folder, tools), *words)
+    with others.open_folder() as folder:
+        is_caught(tmp_path, texts, check, functools.partial(Shared, cadf, folder), *words)

@@ -3,7 +3,6 @@
 What sites have to hold is made by the second implementation. The far side is tests/tools/far_side.py where bytes are
 counted, cut or made up, and a real sshd on loopback where there is one.
 """
-import compileall
 import datetime
 import hashlib
 import json
@@ -29,7 +28,7 @@ from tests.reference.inventory_files import inventory_of
 from tests.reference.json_text import spelled
 from tests.reference.replica_files import file_of, read_file
 from tests.reference.split_files import parts_of
-from tests.tools.copies import copied
+from tests.tools.copies import copied, is_caught
 
 sys.path.insert(0, os.path.join(TOP, "share", "cadf"))
 import cadf_site
@@ -94,9 +93,7 @@ class Sites:
 def tools(tmp_path_factory):
     """The tools, with what they import compiled: most of these tests are starts of them."""
     folder = str(tmp_path_factory.mktemp("tools"))
-    found = copied(folder)
-    compileall.compile_dir(os.path.join(folder, "share", "cadf"), quiet=1)
-    return found
+    return copied(folder)
 
 
 @pytest.fixture
@@ -865,23 +862,18 @@ WRONG_OF_FOLDERS = [
 ]
 
 
-def is_caught(kind, path, right, wrong, check, **words):
-    """Has a check fail of tools that have one text in the place of another."""
-    (path / "sites").mkdir()
-    tools = copied(str(path), right, wrong)
-    assert tools, "no such text: %s" % right
-    with pytest.raises(AssertionError):
-        check(kind(path / "sites", tools=tools, patience=3, **words))
-
-
 @pytest.mark.parametrize("number", range(len(WRONG)))
 def test_wrong_tools_are_caught(tmp_path, number):
-    is_caught(Sites, tmp_path, *WRONG[number])
+    *texts, check = WRONG[number]
+    (tmp_path / "sites").mkdir()
+    is_caught(tmp_path, texts, check, lambda tools: Sites(tmp_path / "sites", tools=tools, patience=3))
 
 
 @pytest.mark.parametrize("number", range(len(WRONG_OF_FOLDERS)))
 def test_wrong_tools_over_folders_are_caught(tmp_path, cadf, number):
-    is_caught(Folders, tmp_path, *WRONG_OF_FOLDERS[number], cadf=cadf)
+    *texts, check = WRONG_OF_FOLDERS[number]
+    (tmp_path / "sites").mkdir()
+    is_caught(tmp_path, texts, check, lambda tools: Folders(tmp_path / "sites", tools=tools, patience=3, cadf=cadf))
 
 
 # ---- By a real sshd, on loopback

@@ -1,4 +1,5 @@
 """What tools/cadf-take answers and leaves: in each case, at each fault, with many callers at once, and beside other users."""
+import functools
 import json
 import os
 import resource
@@ -12,7 +13,7 @@ import pytest
 from tests import TOP
 from tests.machine import ended
 from tests.tools import others
-from tests.tools.copies import copied
+from tests.tools.copies import copied, is_caught
 from tests.tools.faulty import calls_of
 from tests.tools.odd_logs import EVENT
 
@@ -432,16 +433,12 @@ def test_bits_of_another_users_site(shared):
     pytest.param(test_access_stays, [None, 0o640, 0o600], "0o660 if is_shared else 0o600", "0o660", id="a lock for each group")])
 def test_wrong_copy_is_caught(cadf, tmp_path, monkeypatch, check, words, right, wrong):
     monkeypatch.chdir(tmp_path)
-    tools = copied(tmp_path / "copy", right, wrong)
-    assert tools, "there is not one: " + right
-    with pytest.raises(AssertionError):
-        check(Folder(cadf, tools), *words)
+    is_caught(tmp_path, (right, wrong), check, functools.partial(Folder, cadf), *words)
 
 
 @others.needed
 def test_copy_that_follows_a_link_is_caught(cadf, tmp_path, monkeypatch):
     tools = copied(tmp_path / "copy", "os.O_RDWR | os.O_NOFOLLOW | os.O_NONBLOCK)", "os.O_RDWR | os.O_NONBLOCK)")
-    assert tools
     with others.open_folder() as path:
         monkeypatch.chdir(path)
         with pytest.raises(AssertionError):

@@ -1,4 +1,5 @@
 """The tools that read a site, where it is a folder: cadf-agree, cadf-which, cadf-conflicts, cadf-report and cadf-spool."""
+import functools
 import json
 import os
 import shlex
@@ -6,7 +7,7 @@ import shlex
 import pytest
 
 from tests.machine import ended
-from tests.tools.copies import copied
+from tests.tools.copies import is_caught
 from tests.tools.test_site_folders import DAYS, EVENT, TOOLS, Site, atoms_of, contents, index_of, with_digest
 
 # A command that tells which files it is given.
@@ -205,7 +206,4 @@ def test_spool_sets_aside_what_begins_many_windows(sites):
     (test_spool_takes_into_a_folder, "if cadf_site.is_folder(self.site):", "if False:"),
 ])
 def test_a_wrong_version_is_caught(tmp_path, check, right, wrong):
-    tools = copied(tmp_path / "copy", right, wrong)
-    assert tools, "there is not one: " + right
-    with pytest.raises(AssertionError):
-        check(Sites(tmp_path, tools))
+    is_caught(tmp_path, (right, wrong), check, functools.partial(Sites, tmp_path))
