@@ -4,11 +4,11 @@
     bench/files.py [--atoms 100000] [--runs 5] [--only join,missing,inventory,missing-by,seal,verify] [BINARY]
 
 Two files share half of their atoms, each in either format; an event has a chain of one step and a tag. What other programs
-compare are lines, so they read format 1: tools with `sha256sum` or `openssl dgst` of each file that is read or written, and
-sqlite, which has the lines in memory. The peer in Rust (bench/peer) reads either format and must write the same bytes, as
-must hashlib's inventory and the delta by `missing`. By inventories a site sends its inventory in place of its file, and the
-same delta comes back. A proof is of the three facts of one event, or of one of them. Prints a table for each command: the
-least user time and the greatest memory of the runs, in which all programs take turns.
+compare are lines, so they read those of format 1, sorted by their bytes: tools with `sha256sum` or `openssl dgst` of each file
+that is read or written, and sqlite, which has the lines in memory; all must write the same lines. The peer in Rust (bench/peer)
+reads either format and must write the same bytes, as must hashlib's inventory and the delta by `missing`. By inventories a site
+sends its inventory in place of its file, and the same delta comes back. A proof is of the three facts of one event, or of one of
+them. Prints a table for each command: the least user time and the greatest memory of the runs, in which all programs take turns.
 """
 import os
 import sys
@@ -18,8 +18,9 @@ from measure import asked, atoms_of, best_of, check_same_bytes, run_apart, tell,
 from peer import SQLITE, found, has, rust
 
 HASHES = {"sha256sum": "sha256sum", "openssl": "openssl dgst -sha256"}
-PLAIN = {"join": ("sort -mu", "{hash} {0} {1} && sort -mu {0} {1} >{2} && {hash} {2}"),
-         "missing": ("comm -23", "{hash} {0} {1} && comm -23 --nocheck-order {0} {1}")}
+# Of each command the tool that does it on sorted lines, sqlite's word for it, and what runs with digests.
+PLAIN = {"join": ("sort -mu", "UNION", "{hash} {0} {1} && {tool} {0} {1} >{2} && {hash} {2}"),
+         "missing": ("comm -23", "EXCEPT", "{hash} {0} {1} && {tool} {0} {1}")}
 AIMS = {"join": {"sha256sum": "0.6", "openssl": "1.1"}, "missing": {"sha256sum": "0.9"}}
 # Writes the inventory of a file of format 1, without judging its lines.
 HASH_LINES = """
@@ -31,12 +32,19 @@ sys.stdout.buffer.write(text + b"Z " + hashlib.sha256(text).hexdigest().encode()
 """
 
 
+def plain(script):
+    """The words that run a script of tools which compare bytes."""
+    return ["sh", "-c", "export LC_ALL=C; " + script]
+
+
 class Trial:
     """The command and the files of two sites by format, in a folder."""
 
     def __init__(self, options, folder):
         self.binary, self.runs, self.atoms, self.folder = options.binary, options.runs, options.atoms, folder
-        self.files = two_sites(folder, options.atoms)
+        self.files, self.lines = two_sites(folder, options.atoms), [self.path("lines"), self.path("lines.2")]
+        for path, lines in zip(self.files[1], self.lines):
+            run_apart(plain("sort " + path), lines)
 
     def path(self, name):
         return os.path.join(self.folder, name)
@@ -54,13 +62,14 @@ class Trial:
         tell(command, ours, others, self.runs, aims)
 
     def beside_plain_tools(self, command):
-        what, script = PLAIN[command]
+        tool, word, script = PLAIN[command]
         others, aims = {}, {}
         for name, words in HASHES.items():
             if has(name, *found(name)):
-                others["`%s`, `%s`" % (words, what)] = ["sh", "-c", "export LC_ALL=C; " + script.format(*self.files[1], self.path("union"), hash=words)]
-                aims["`%s`, `%s`" % (words, what)] = AIMS[command].get(name, "")
-        others["sqlite in memory"] = [sys.executable, "-c", SQLITE, {"join": "UNION", "missing": "EXCEPT"}[command], *self.files[1]]
+                others["`%s`, `%s`" % (words, tool)] = plain(script.format(*self.lines, self.path("union"), hash=words, tool=tool))
+                aims["`%s`, `%s`" % (words, tool)] = AIMS[command].get(name, "")
+        others["sqlite in memory"] = [sys.executable, "-c", SQLITE, word, *self.lines]
+        check_same_bytes([others["sqlite in memory"], plain(" ".join([tool, *self.lines]))])
         for name, words in rust("join").items() if command == "join" else ():
             peers = {"%s, format %d" % (name, version): [*words, *paths] for version, paths in self.files.items()}
             check_same_bytes([[self.binary, "join", *self.files[1]], *peers.values()])
