@@ -20,7 +20,7 @@ MEASURED = re.compile(r"(?<![\w^.,-])(?:%s (?:[kKMGT]?B|bytes|m?s)\b|\d\.\d+\b(?
 SHOW, JOIN, MISSING, SYNC, TAKES = "\n| 100 MB, ", "| join |", "| missing |", "## Exchanges over a line", "## Takes into a site"
 PAGE, LARGE_PAGE, MEMORY, TIME = "## The page of", "A page of 1,000,000 events of", "Bytes of memory a byte:", "Processor time a byte"
 SKETCHES, SALTS, DISK = "\n1,000,000 facts:\n", "How many of 100 salts", "| Calls a second |"
-COMMANDS, BOTH, A_CALL = ((MISSING, "`cadf missing`"), (JOIN, "`cadf join`")), ("Sent", "Received"), ("MB a day", "GB a year")
+COMMANDS, BOTH, A_CALL = ((JOIN, "`cadf join`"), (MISSING, "`cadf missing`")), ("Sent", "Received"), ("MB a day", "GB a year")
 OPENSSL, SHA256SUM = "`openssl dgst -sha256`", "`sha256sum`"
 # Of each page its places: the text, in which `{}` is a number, `{/1000}` a thousandth of one; and for each number its table, by a
 # text before it, the beginning of its row and that of its column, each with `:1` for the second number of the cell; with several
@@ -31,10 +31,10 @@ FIGURES = {
             SHOW, "`cadf show`", "User"), (SHOW, "`cadf show`", "Memory"), (SHOW, "C++", "`cadf show`")),
         ("| {} of the time of orjson, {} of node, {} of Rust by hand. Of `jq` it takes {} of the time, and {} of the memory (the aim was {})",
          *((SHOW, name, "`cadf show`") for name in ("orjson", "node", "Rust", "jq")), (SHOW, "jq", "`cadf show`:2"), (SHOW, "jq", "Aim:1")),
-        ("`missing` of files of format 1 takes {} times the time of `comm` with two digests by OpenSSL, and {} with `sha256sum`; "
-         "`join` {} with `sort` and OpenSSL, and {} with `sha256sum`.",
+        ("`join` of files of format 1 takes {} times the time of `sort` with digests by OpenSSL, and {} with `sha256sum`; "
+         "`missing` {} with `comm` and OpenSSL, and {} with `sha256sum`.",
          *((where, tool, command + ", format 1") for where, command in COMMANDS for tool in (OPENSSL, SHA256SUM))),
-        ("`missing` takes {} s, {} MB and {} of the time with `sha256sum` (the aim was {}), `join` {} s, {} MB and {} ({}).", *(
+        ("`join` takes {} s, {} MB and {} of the time with `sha256sum` (the aim was {}), `missing` {} s, {} MB and {} ({}).", *(
             cell for where, command in COMMANDS for cell in (
                 (where, command + ", format 2", "User"), (where, command + ", format 2", "Memory"),
                 (where, SHA256SUM, command + ", format 2"), (where, SHA256SUM, "Aim")))),
