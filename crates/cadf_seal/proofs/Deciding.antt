@@ -1,4 +1,4 @@
--- What shown leaves tell of a digest, by the number of those that are below it.
+-- What shown leaves say of a digest, by the number of those that are below it.
 use Rattle.std.proofs.Common.{◌≡◌, ◌∙◌, ◌<◌, ◌≤◌, ◌-◌, ℕ, zero, suc, Bool, true, false, List, [], ◌∷◌, Some, None, length, take, drop, refl, ap, sym, subst, arith, true≢false}
 use Rattle.std.specs.Prelude.{◌||◌, nat_eq, slice_index_or, if◌then◌else◌}
 use Rattle.std.specs.List.{AllByRecursion}

@@ -1,4 +1,4 @@
--- The proof that is made for facts: its root is that of all leaves, it tells of each fact, and facts need each shown leaf.
+-- The proof that is made for facts: its root is that of all leaves, it decides each fact, and facts need each shown leaf.
 use Rattle.std.proofs.Common.{◌≡◌, ◌∙◌, ◌<◌, ◌≤◌, ◌+◌, ◌-◌, ℕ, zero, suc, max, min, Bool, true, false, cond, List, [], ◌∷◌, Option, Some, None, length, get_or, refl, ap, sym, subst, arith, inl, inr, true≢false, append-nil}
 use Rattle.std.specs.Prelude.{◌⊎◌, ◌&&◌, ◌||◌, nat_eq, if◌then◌else◌}
 use Rattle.std.specs.List.{filter, AllByRecursion}
