@@ -13,7 +13,7 @@ from tests.tables.texts import (
 )
 
 CALLS = {
-    "read": ["read_replica", "read_file", "LineDecoder::start", "LineDecoder::new", "LineDecoder::accept", "LineDecoder::cause_of_previous", "EitherDecoder::into_chosen",
+    "read": ["read_replica", "read_file", "LineDecoder::start", "LineDecoder::new", "LineDecoder::accept", "LineDecoder::cause_of_previous",
              "next_path_kind"],
     "read_beside": ["read_replica_beside"],
     "each_failing_read": ["read_replica"],

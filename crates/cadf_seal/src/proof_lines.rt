@@ -19,6 +19,7 @@ use cadf_sketch::number_in;
 use memchr::memchr;
 use std::alloc::Global;
 use std::marker::Model;
+use std::mem;
 
 const HEADER: &[u8; 12] = b"CADF-PROOF 1";
 
@@ -208,6 +209,8 @@ impl LineDecoder for ProofLines {
 
     ghost lines = { λ lines. lines };
 
+    ghost sound = { λ _. Unit {0} };
+
     type Start = ProofStart;
 
     type Held = ();
@@ -229,15 +232,10 @@ impl LineDecoder for ProofLines {
         }
     }
 
-    fn accept(
-        self,
-        alloc: Global,
-        _held: Option<&()>,
-        line: &[u8],
-    ) -> Result<ProofLines, LineFault> {
-        let ProofLines { log, told } = self;
-        let told = told_more(alloc, told, line)?;
-        Ok(ProofLines { log, told })
+    fn accept(&mut self, alloc: Global, _held: Option<&()>, line: &[u8]) -> Result<(), LineFault> {
+        let told = mem::replace(&mut self.told, Told::Nothing);
+        self.told = told_more(alloc, told, line)?;
+        Ok(())
     }
 
     fn cause_of_previous(&self, _line: &[u8]) -> Option<Cause> {

@@ -15,6 +15,7 @@ use cadf_linefile::{Cause, LineDecoder, LineFault};
 use cadf_sketch::number_in;
 use std::alloc::Global;
 use std::marker::Model;
+use std::mem;
 
 const HEADER: &[u8; 11] = b"CADF-SEAL 1";
 
@@ -134,6 +135,8 @@ impl LineDecoder for SealLines {
 
     ghost lines = { λ lines. lines };
 
+    ghost sound = { λ _. Unit {0} };
+
     type Start = SealStart;
 
     type Held = ();
@@ -155,15 +158,10 @@ impl LineDecoder for SealLines {
         }
     }
 
-    fn accept(
-        self,
-        _alloc: Global,
-        _held: Option<&()>,
-        line: &[u8],
-    ) -> Result<SealLines, LineFault> {
-        let SealLines { log, told } = self;
-        let told = told_more(told, line)?;
-        Ok(SealLines { log, told })
+    fn accept(&mut self, _alloc: Global, _held: Option<&()>, line: &[u8]) -> Result<(), LineFault> {
+        let told = mem::replace(&mut self.told, Told::Nothing);
+        self.told = told_more(told, line)?;
+        Ok(())
     }
 
     fn cause_of_previous(&self, _line: &[u8]) -> Option<Cause> {

@@ -16,6 +16,7 @@ use cadf_event::Name;
 use cadf_linefile::{Cause, LineDecoder, LineFault};
 use std::alloc::Global;
 use std::marker::Model;
+use std::mem;
 
 const HEADER: &[u8; 13] = b"CADF-SKETCH 1";
 
@@ -147,6 +148,8 @@ impl LineDecoder for SketchLines {
 
     ghost lines = { λ lines. lines };
 
+    ghost sound = { λ _. Unit {0} };
+
     type Start = SketchStart;
 
     type Held = ();
@@ -168,15 +171,10 @@ impl LineDecoder for SketchLines {
         }
     }
 
-    fn accept(
-        self,
-        alloc: Global,
-        _held: Option<&()>,
-        line: &[u8],
-    ) -> Result<SketchLines, LineFault> {
-        let SketchLines { log, told } = self;
-        let told = told_more(alloc, told, line)?;
-        Ok(SketchLines { log, told })
+    fn accept(&mut self, alloc: Global, _held: Option<&()>, line: &[u8]) -> Result<(), LineFault> {
+        let told = mem::replace(&mut self.told, Told::Nothing);
+        self.told = told_more(alloc, told, line)?;
+        Ok(())
     }
 
     fn cause_of_previous(&self, _line: &[u8]) -> Option<Cause> {

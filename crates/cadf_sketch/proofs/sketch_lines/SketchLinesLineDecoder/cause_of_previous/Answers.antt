@@ -5,8 +5,8 @@ use Rattle.cadf_sketch.proofs.sketch_lines.SketchLinesLineDecoder.cause_of_previ
 
 pub returns-then-is_whole : goal.returns-then-is_whole
 returns-then-is_whole c =
-    end_none _ _ c.requires (sym (c.is_whole.ensures ∙ ap (λ ls. is_whole (drop 2 ls)) c.self.view_is) ∙ c.if-is_whole.true)
+    end_none _ _ c.requires.digest (sym (c.is_whole.ensures ∙ ap (λ ls. is_whole (drop 2 ls)) c.self.view_is) ∙ c.if-is_whole.true)
 
 pub returns-else-is_whole : goal.returns-else-is_whole
 returns-else-is_whole c =
-    end_unended _ _ c.requires (sym (c.is_whole.ensures ∙ ap (λ ls. is_whole (drop 2 ls)) c.self.view_is) ∙ c.if-is_whole.false)
+    end_unended _ _ c.requires.digest (sym (c.is_whole.ensures ∙ ap (λ ls. is_whole (drop 2 ls)) c.self.view_is) ∙ c.if-is_whole.false)
