@@ -16,7 +16,7 @@ use Rattle.cadf_join.specs.laws.Contents.{text_total, text_same}
 use Rattle.cadf_join.specs.laws.Rising.{rising_is_sorted, listed-rising, rising-listed}
 use Rattle.cadf_set.specs.Inventory.{InventoryModel}
 use Rattle.cadf_seal.specs.Tree.{root}
-use Rattle.cadf_seal.specs.Shown.{first_text, is_above, is_below, needs, shown, hidden, all_hidden, rebuilt}
+use Rattle.cadf_seal.specs.Shown.{first_leaf, is_above, is_below, needs, shown, hidden, all_hidden, rebuilt}
 use Rattle.cadf_seal.specs.Verified.{alone, root_from, proof_root, leaves_below, leaves_above, past_last, lowest_place, is_shown, state, first_digest, unneeded, IsAt, TellsAll}
 use Rattle.cadf_seal.specs.declared.leaf.Leaf.{Leaf}
 use Rattle.cadf_seal.proofs.Trees.{root_none, root_tree, below_power}
@@ -70,7 +70,7 @@ pub sorted_rest : (d : Text) (ds : List Text) → AreSorted (d ∷ ds) → AreSo
 unfolding IsStrictlySortedBy
 sorted_rest d ds h = h.1
 
-below_head : (d : Text) (ds : List Text) → AllByRecursion (λ x. IsLess d x) ds → is_below (first_text ds) d ≡ true
+below_head : (d : Text) (ds : List Text) → AllByRecursion (λ x. IsLess d x) ds → is_below (first_leaf ds) d ≡ true
 below_head d [] h = refl
 below_head d (e ∷ ds) h = h.0
 
@@ -124,7 +124,7 @@ module _ (i : ℕ) (d : Text) (ds : List Text) where
 
 pub shown_at : (before : Option Text) (i : ℕ) (ds fs : List Text) → AllByRecursion (IsAt i ds) (shown before i ds fs)
 shown_at before i [] fs = tt
-shown_at before i (d ∷ ds) fs = by (needs before (first_text ds) fs) (all_map (shown (Some d) (suc i) ds fs) (later_at i d ds) (shown_at (Some d) (suc i) ds fs))
+shown_at before i (d ∷ ds) fs = by (needs before (first_leaf ds) fs) (all_map (shown (Some d) (suc i) ds fs) (later_at i d ds) (shown_at (Some d) (suc i) ds fs))
   where
     by : (b : Bool) → AllByRecursion (IsAt i (d ∷ ds)) (shown (Some d) (suc i) ds fs)
         → AllByRecursion (IsAt i (d ∷ ds)) (if b then record { place = i; digest = d } ∷ shown (Some d) (suc i) ds fs else shown (Some d) (suc i) ds fs)
@@ -185,16 +185,16 @@ leaf_shown : (before : Option Text) (i : ℕ) (ds fs : List Text) (f : Text) →
     → Listed f fs → Listed f ds → is_shown (shown before i ds fs) f ≡ true
 leaf_shown before i [] fs f sorted low asked l = absurd l
 leaf_shown before i (d ∷ ds) fs f sorted low asked l =
-    by (needs before (first_text ds) fs) refl l
+    by (needs before (first_leaf ds) fs) refl l
     (λ m. leaf_shown (Some d) (suc i) ds fs f (sorted_rest d ds sorted) (sorted_above d ds sorted) asked m)
   where
-    by : (b : Bool) → needs before (first_text ds) fs ≡ b → Listed f (d ∷ ds) → (Listed f ds → is_shown (shown (Some d) (suc i) ds fs) f ≡ true)
+    by : (b : Bool) → needs before (first_leaf ds) fs ≡ b → Listed f (d ∷ ds) → (Listed f ds → is_shown (shown (Some d) (suc i) ds fs) f ≡ true)
         → is_shown (if b then record { place = i; digest = d } ∷ shown (Some d) (suc i) ds fs else shown (Some d) (suc i) ds fs) f ≡ true
     by true is (inl e) rest =
         ap (λ o. is_eq o || is_shown (shown (Some d) (suc i) ds fs) f) (subst (λ x. text_cmp d x ≡ Equal) (sym e) (tied_itself text_total d))
     by true is (inr m) rest = ap (λ b. is_eq (text_cmp d f) || b) (rest m) ∙ or_true (is_eq (text_cmp d f))
     by false is (inl e) rest =
-        absurd (true≢false (sym (needs_listed before (first_text ds) fs d (subst (λ x. Listed x fs) e asked) low.0 (below_head d ds (sorted_above d ds sorted))) ∙ is))
+        absurd (true≢false (sym (needs_listed before (first_leaf ds) fs d (subst (λ x. Listed x fs) e asked) low.0 (below_head d ds (sorted_above d ds sorted))) ∙ is))
     by false is (inr m) rest = rest m
 
 -- ---- a fact that is no leaf is between two neighbours
@@ -217,7 +217,7 @@ kept_places P p ss h = all_map (filter p ss) (λ s k. k.0) (all_kept P p ss h)
 
 -- if nothing needs d, which is below f, the leaf after it is below f too
 one_more : (before : Option Text) (d f : Text) (ds fs : List Text) → is_above before f ≡ true → Listed f fs → (Listed f ds → ⊥)
-    → needs before (first_text ds) fs ≡ false → 1 ≤ count_below f ds
+    → needs before (first_leaf ds) fs ≡ false → 1 ≤ count_below f ds
 one_more before d f [] fs low asked other none = absurd (true≢false (sym (needs_listed before None fs f asked low refl) ∙ none))
 one_more before d f (e ∷ ds) fs low asked other none = by (is_lt (text_cmp f e)) refl
   where
@@ -280,10 +280,10 @@ gap : (before : Option Text) (i : ℕ) (ds fs : List Text) (f : Text) → AreSor
     → IsGap i (i + length ds) (shown before i ds fs) f (i + count_below f ds)
 gap before i [] fs f sorted low asked other = (omega arith, omega arith)
 gap before i (d ∷ ds) fs f sorted low asked other =
-    by (is_lt (text_cmp d f)) (needs before (first_text ds) fs) refl refl
+    by (is_lt (text_cmp d f)) (needs before (first_leaf ds) fs) refl refl
     (λ less. gap (Some d) (suc i) ds fs f (sorted_rest d ds sorted) less asked (λ l. other (inr l)))
   where
-    by : (b c : Bool) → is_lt (text_cmp d f) ≡ b → needs before (first_text ds) fs ≡ c
+    by : (b c : Bool) → is_lt (text_cmp d f) ≡ b → needs before (first_leaf ds) fs ≡ c
         → (is_lt (text_cmp d f) ≡ true → IsGap (suc i) (suc i + length ds) (shown (Some d) (suc i) ds fs) f (suc i + count_below f ds))
         → IsGap i (i + length (d ∷ ds)) (if c then record { place = i; digest = d } ∷ shown (Some d) (suc i) ds fs else shown (Some d) (suc i) ds fs) f
         (i + (if b then suc (count_below f ds) else 0))
@@ -293,7 +293,7 @@ gap before i (d ∷ ds) fs f sorted low asked other =
     by false false is need later =
         let less = is_greater d f is (λ e. other (inl (sym e))) in
         let past_last = below_head f ds (all_map ds (λ x more. less_trans f d x less more) (sorted_above d ds sorted)) in
-        absurd (true≢false (sym (needs_listed before (first_text ds) fs f asked low past_last) ∙ need))
+        absurd (true≢false (sym (needs_listed before (first_leaf ds) fs f asked low past_last) ∙ need))
 
 -- ---- what the proof says of a fact
 
@@ -329,7 +329,7 @@ first_below : (f : Text) (ss : List Leaf) → AllByRecursion (λ s. IsLess f s.d
 first_below f [] h = refl
 first_below f (s ∷ ss) h = h.0
 
-below_shown : (d f : Text) (i : ℕ) (ds fs : List Text) → AreSorted ds → is_below (first_text ds) f ≡ true → is_below (first_digest (shown (Some d) i ds fs)) f ≡ true
+below_shown : (d f : Text) (i : ℕ) (ds fs : List Text) → AreSorted ds → is_below (first_leaf ds) f ≡ true → is_below (first_digest (shown (Some d) i ds fs)) f ≡ true
 below_shown d f i [] fs sorted h = refl
 below_shown d f i (e ∷ ds) fs sorted h =
     first_below f (shown (Some d) i (e ∷ ds) fs)
@@ -340,15 +340,15 @@ honest_needed : (k i : ℕ) (before other : Option Text) (ds fs : List Text) →
     → ((f : Text) → is_above before f ≡ true → is_above other f ≡ true) → unneeded k other (shown before i ds fs) fs ≡ None
 honest_needed k i before other [] fs sorted low wider = refl
 honest_needed k i before other (d ∷ ds) fs sorted low wider =
-    by (needs before (first_text ds) fs) refl
+    by (needs before (first_leaf ds) fs) refl
     (λ (m : ℕ) (o : Option Text) w. honest_needed m (suc i) (Some d) o ds fs (sorted_rest d ds sorted) (sorted_above d ds sorted) w)
   where
-    by : (b : Bool) → needs before (first_text ds) fs ≡ b
+    by : (b : Bool) → needs before (first_leaf ds) fs ≡ b
         → ((m : ℕ) (o : Option Text) → ((f : Text) → is_above (Some d) f ≡ true → is_above o f ≡ true) → unneeded m o (shown (Some d) (suc i) ds fs) fs ≡ None)
         → unneeded k other (if b then record { place = i; digest = d } ∷ shown (Some d) (suc i) ds fs else shown (Some d) (suc i) ds fs) fs ≡ None
     by true need rest =
         ap (λ b. if b then unneeded (k + 1) (Some d) (shown (Some d) (suc i) ds fs) fs else Some k)
-        (needs_wider before (first_text ds) other (first_digest (shown (Some d) (suc i) ds fs)) fs wider (λ f h. below_shown d f (suc i) ds fs (sorted_rest d ds sorted) h) need)
+        (needs_wider before (first_leaf ds) other (first_digest (shown (Some d) (suc i) ds fs)) fs wider (λ f h. below_shown d f (suc i) ds fs (sorted_rest d ds sorted) h) need)
         ∙ rest (k + 1) (Some d) (λ f h. h)
     by false need rest = rest k other (λ f h. wider f (above_trans before d f low.0 h))
 

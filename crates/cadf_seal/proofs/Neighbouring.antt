@@ -11,7 +11,7 @@ use Rattle.cadf_join.specs.Sets.{Listed}
 use Rattle.cadf_join.specs.laws.Contents.{text_total, text_same}
 use Rattle.cadf_seal.specs.Facts.{AreAscending}
 use Rattle.cadf_seal.specs.Neighbours.{first_from, last_from, HasPlace, FactHasPlace, FactNeeds, FactsNeed}
-use Rattle.cadf_seal.specs.Shown.{first_text, is_above, is_below, needs, shown}
+use Rattle.cadf_seal.specs.Shown.{first_leaf, is_above, is_below, needs, shown}
 use Rattle.cadf_seal.proofs.ShownLemmas.{below_both}
 use Rattle.cadf_seal.specs.declared.leaf.Leaf.{Leaf}
 
@@ -25,17 +25,17 @@ needs_one : (before behind : Option Text) (f : Text) → needs before behind (f 
 unfolding needs
 needs_one before behind f = or_false (is_above before f && is_below behind f)
 
-taken : (before : Option Text) (i : ℕ) (d : Text) (ds : List Text) (f : Text) → is_above before f ≡ true → is_below (first_text ds) f ≡ true
+taken : (before : Option Text) (i : ℕ) (d : Text) (ds : List Text) (f : Text) → is_above before f ≡ true → is_below (first_leaf ds) f ≡ true
     → shown before i (d ∷ ds) (f ∷ []) ≡ record { place = i; digest = d } ∷ shown (Some d) (suc i) ds (f ∷ [])
 taken before i d ds f above below =
     ap (λ b. if b then record { place = i; digest = d } ∷ shown (Some d) (suc i) ds (f ∷ []) else shown (Some d) (suc i) ds (f ∷ []))
-    (needs_one before (first_text ds) f ∙ (λ j. above j && below j))
+    (needs_one before (first_leaf ds) f ∙ (λ j. above j && below j))
 
-skipped : (before : Option Text) (i : ℕ) (d : Text) (ds : List Text) (f : Text) → (is_above before f && is_below (first_text ds) f) ≡ false
+skipped : (before : Option Text) (i : ℕ) (d : Text) (ds : List Text) (f : Text) → (is_above before f && is_below (first_leaf ds) f) ≡ false
     → shown before i (d ∷ ds) (f ∷ []) ≡ shown (Some d) (suc i) ds (f ∷ [])
 skipped before i d ds f out =
     ap (λ b. if b then record { place = i; digest = d } ∷ shown (Some d) (suc i) ds (f ∷ []) else shown (Some d) (suc i) ds (f ∷ []))
-    (needs_one before (first_text ds) f ∙ out)
+    (needs_one before (first_leaf ds) f ∙ out)
 
 and_false : (a b : Bool) → b ≡ false → (a && b) ≡ false
 and_false true b e = e
@@ -58,7 +58,7 @@ middle_of : (P : Text → Type 0) (lower : List Text) (f : Text) (upper : List T
 middle_of P [] f upper h = h.0
 middle_of P (d ∷ lower) f upper h = middle_of P lower f upper h.1
 
-first_below : (f : Text) (upper : List Text) → AllByRecursion (λ g. text_cmp f g ≡ Less) upper → is_below (first_text upper) f ≡ true
+first_below : (f : Text) (upper : List Text) → AllByRecursion (λ g. text_cmp f g ≡ Less) upper → is_below (first_leaf upper) f ≡ true
 first_below f [] h = refl
 first_below f (u ∷ upper) h = ap is_lt h.0
 
@@ -75,12 +75,12 @@ none_past : (f e : Text) (i : ℕ) (ds : List Text) → is_lt (text_cmp e f) ≡
 unfolding IsStrictlySortedBy
 none_past f e i [] past h = refl
 none_past f e i (d ∷ ds) past h =
-    skipped (Some e) i d ds f (ap (λ b. b && is_below (first_text ds) f) past)
+    skipped (Some e) i d ds f (ap (λ b. b && is_below (first_leaf ds) f) past)
     ∙ none_past f d (suc i) ds (still_past e d f h.0.0 past) h.1
 
 -- ---- the fact is a leaf
 
-leaf_below : (f d : Text) (lower upper : List Text) → AreAscending (d ∷ lower ++ f ∷ upper) → is_below (first_text (lower ++ f ∷ upper)) f ≡ false
+leaf_below : (f d : Text) (lower upper : List Text) → AreAscending (d ∷ lower ++ f ∷ upper) → is_below (first_leaf (lower ++ f ∷ upper)) f ≡ false
 unfolding IsStrictlySortedBy
 leaf_below f d [] upper h = not_itself f
 leaf_below f d (e ∷ lower) upper h = not_above e f (middle_of (λ g. text_cmp e g ≡ Less) lower f upper h.1.0)
@@ -202,13 +202,13 @@ of_some : (before : Option Text) (i : ℕ) (ds fs : List Text) (s : Leaf) → Li
 of_some before i [] fs s l = absurd l
 of_some before i (d ∷ ds) fs s l =
     let x : Leaf = record { place = i; digest = d } in
-    elim (listed_cases (needs before (first_text ds) fs) s x (shown (Some d) (suc i) ds fs) l) [
+    elim (listed_cases (needs before (first_leaf ds) fs) s x (shown (Some d) (suc i) ds fs) l) [
       | inl q ↦
-          let r = some_needs before (first_text ds) fs q.0 in
-          (r.0, r.1, listed_here (needs before (first_text ds) (r.0 ∷ [])) s x (shown (Some d) (suc i) ds (r.0 ∷ [])) r.2 q.1)
+          let r = some_needs before (first_leaf ds) fs q.0 in
+          (r.0, r.1, listed_here (needs before (first_leaf ds) (r.0 ∷ [])) s x (shown (Some d) (suc i) ds (r.0 ∷ [])) r.2 q.1)
       | inr m ↦
           let r = of_some (Some d) (suc i) ds fs s m in
-          (r.0, r.1, listed_there (needs before (first_text ds) (r.0 ∷ [])) s x (shown (Some d) (suc i) ds (r.0 ∷ [])) r.2)
+          (r.0, r.1, listed_there (needs before (first_leaf ds) (r.0 ∷ [])) s x (shown (Some d) (suc i) ds (r.0 ∷ [])) r.2)
     ]
 
 of_all : (before : Option Text) (i : ℕ) (ds fs : List Text) (s : Leaf) (f : Text) → Listed f fs → Listed s (shown before i ds (f ∷ []))
@@ -216,9 +216,9 @@ of_all : (before : Option Text) (i : ℕ) (ds fs : List Text) (s : Leaf) (f : Te
 of_all before i [] fs s f among l = absurd l
 of_all before i (d ∷ ds) fs s f among l =
     let x : Leaf = record { place = i; digest = d } in
-    elim (listed_cases (needs before (first_text ds) (f ∷ [])) s x (shown (Some d) (suc i) ds (f ∷ [])) l) [
-      | inl q ↦ listed_here (needs before (first_text ds) fs) s x (shown (Some d) (suc i) ds fs) (all_need before (first_text ds) fs f among q.0) q.1
-      | inr m ↦ listed_there (needs before (first_text ds) fs) s x (shown (Some d) (suc i) ds fs) (of_all (Some d) (suc i) ds fs s f among m)
+    elim (listed_cases (needs before (first_leaf ds) (f ∷ [])) s x (shown (Some d) (suc i) ds (f ∷ [])) l) [
+      | inl q ↦ listed_here (needs before (first_leaf ds) fs) s x (shown (Some d) (suc i) ds fs) (all_need before (first_leaf ds) fs f among q.0) q.1
+      | inr m ↦ listed_there (needs before (first_leaf ds) fs) s x (shown (Some d) (suc i) ds fs) (of_all (Some d) (suc i) ds fs s f among m)
     ]
 
 pub facts_need : FactsNeed

@@ -13,7 +13,7 @@ use Rattle.cadf_inventory.proofs.InventoryVerdictLemmas.{each_digest}
 use Rattle.cadf_sketch.proofs.WholeLemmas.{sha_digest}
 use Rattle.cadf_seal.specs.Facts.{AreAscending}
 use Rattle.cadf_seal.specs.ProofFile.{IsLeafOf, AreRising, HasProofParts, proof_of}
-use Rattle.cadf_seal.specs.Shown.{first_text, needs, shown, until, leaves_from, hidden, all_hidden}
+use Rattle.cadf_seal.specs.Shown.{first_leaf, needs, shown, until, leaves_from, hidden, all_hidden}
 use Rattle.cadf_seal.specs.Tree.{tree, node_hash}
 use Rattle.cadf_seal.specs.declared.leaf.Leaf.{Leaf}
 
@@ -22,7 +22,7 @@ use Rattle.cadf_seal.specs.declared.leaf.Leaf.{Leaf}
 each_leaf : (n i : ℕ) (before : Option Text) (ds fs : List Text) → i + length ds ≤ n → AllByRecursion IsDigest ds
     → AllByRecursion (IsLeafOf n) (shown before i ds fs)
 each_leaf n i before [] fs within are = tt
-each_leaf n i before (d ∷ ds) fs within are = by (needs before (first_text ds) fs) (each_leaf n (suc i) (Some d) ds fs (omega (arith, within)) are.1)
+each_leaf n i before (d ∷ ds) fs within are = by (needs before (first_leaf ds) fs) (each_leaf n (suc i) (Some d) ds fs (omega (arith, within)) are.1)
   where
     by : (b : Bool) → AllByRecursion (IsLeafOf n) (shown (Some d) (suc i) ds fs)
         → AllByRecursion (IsLeafOf n) (if b then record { place = i; digest = d } ∷ shown (Some d) (suc i) ds fs else shown (Some d) (suc i) ds fs)
@@ -33,7 +33,7 @@ rise_after : (s : Leaf) (i : ℕ) (before : Option Text) (ds fs : List Text) →
 unfolding IsStrictlySortedBy
 rise_after s i before [] fs far h = tt
 rise_after s i before (d ∷ ds) fs far h =
-    by (needs before (first_text ds) fs) (rise_after (record { place = i; digest = d }) (suc i) (Some d) ds fs (omega arith) h.1)
+    by (needs before (first_leaf ds) fs) (rise_after (record { place = i; digest = d }) (suc i) (Some d) ds fs (omega arith) h.1)
     (rise_after s (suc i) (Some d) ds fs (omega (arith, far)) (h.0.1, h.1.1))
   where
     by : (b : Bool) → AreRising (record { place = i; digest = d } ∷ shown (Some d) (suc i) ds fs) → AreRising (s ∷ shown (Some d) (suc i) ds fs)
@@ -45,7 +45,7 @@ pub shown_rise : (i : ℕ) (before : Option Text) (ds fs : List Text) → AreAsc
 unfolding IsStrictlySortedBy
 shown_rise i before [] fs h = tt
 shown_rise i before (d ∷ ds) fs h =
-    by (needs before (first_text ds) fs) (rise_after (record { place = i; digest = d }) (suc i) (Some d) ds fs (omega arith) h)
+    by (needs before (first_leaf ds) fs) (rise_after (record { place = i; digest = d }) (suc i) (Some d) ds fs (omega arith) h)
     (shown_rise (suc i) (Some d) ds fs h.1)
   where
     by : (b : Bool) → AreRising (record { place = i; digest = d } ∷ shown (Some d) (suc i) ds fs) → AreRising (shown (Some d) (suc i) ds fs)

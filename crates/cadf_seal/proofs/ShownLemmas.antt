@@ -10,7 +10,7 @@ use Rattle.std.specs.declared.cmp.Ordering.TheVariants.{Less, Equal, Greater}
 use Rattle.cadf_join.specs.Contents.{Text, text_cmp}
 use Rattle.cadf_join.specs.laws.Contents.{text_total}
 use Rattle.cadf_seal.specs.Facts.{facts_left, AreAscending, facts_above}
-use Rattle.cadf_seal.specs.Shown.{first_text, is_below, needs, shown}
+use Rattle.cadf_seal.specs.Shown.{first_leaf, is_below, needs, shown}
 use Rattle.cadf_seal.specs.declared.leaf.Leaf.{Leaf}
 use Rattle.cadf_seal.specs.declared.shown_leaves.Facts.{Facts}
 
@@ -100,8 +100,8 @@ abbrev here : Bool → ℕ → Text → List Leaf
 here b i d = if b then record { place = i; digest = d } ∷ [] else []
 
 pub shown_here : (before : Option Text) (i : ℕ) (d : Text) (ds fs : List Text)
-    → shown before i (d ∷ ds) fs ≡ here (needs before (first_text ds) fs) i d ++ shown (Some d) (suc i) ds fs
-shown_here before i d ds fs = by (needs before (first_text ds) fs)
+    → shown before i (d ∷ ds) fs ≡ here (needs before (first_leaf ds) fs) i d ++ shown (Some d) (suc i) ds fs
+shown_here before i d ds fs = by (needs before (first_leaf ds) fs)
   where
     by : (b : Bool) → (if b then record { place = i; digest = d } ∷ shown (Some d) (suc i) ds fs else shown (Some d) (suc i) ds fs)
         ≡ here b i d ++ shown (Some d) (suc i) ds fs
@@ -113,7 +113,7 @@ unfolding IsStrictlySortedBy
 kept d e before i [] fs h = refl
 kept d e before i (g ∷ ds) fs h =
     shown_here (Some e) i g ds fs
-    ∙ (λ j. here (needs_kept d e before (first_text ds) fs j) i g ++ kept d g (text_total.trans d e g before h.0.0) (suc i) ds fs h.1 j)
+    ∙ (λ j. here (needs_kept d e before (first_leaf ds) fs j) i g ++ kept d g (text_total.trans d e g before h.0.0) (suc i) ds fs h.1 j)
     ∙ sym (shown_here (Some e) i g ds (facts_above d fs))
 
 dropped : (d : Text) (i : ℕ) (ds fs : List Text) → AreAscending (d ∷ ds) → shown (Some d) i ds fs ≡ shown None i ds (facts_above d fs)
@@ -121,7 +121,7 @@ unfolding IsStrictlySortedBy
 dropped d i [] fs h = refl
 dropped d i (e ∷ ds) fs h =
     shown_here (Some d) i e ds fs
-    ∙ (λ j. here (needs_above d (first_text ds) fs j) i e ++ kept d e h.0.0 (suc i) ds fs h.1 j)
+    ∙ (λ j. here (needs_above d (first_leaf ds) fs j) i e ++ kept d e h.0.0 (suc i) ds fs h.1 j)
     ∙ sym (shown_here None i e ds (facts_above d fs))
 
 -- ---- the facts that are left
@@ -160,9 +160,9 @@ dropped_one d fs total more f rest e h near all is =
 
 -- a call of `next`
 module _ (xs ys : List Text) where
-  pub head_of : (r : Option (Bor Text)) → MatchOption r ((xs ≡ []) × (ys ≡ [])) (λ x. xs ≡ x.now ∷ ys) → option_copied r ≡ first_text xs
-  head_of None e = ap first_text (sym e.0)
-  head_of (Some x) e = ap first_text (sym e)
+  pub head_of : (r : Option (Bor Text)) → MatchOption r ((xs ≡ []) × (ys ≡ [])) (λ x. xs ≡ x.now ∷ ys) → option_copied r ≡ first_leaf xs
+  head_of None e = ap first_leaf (sym e.0)
+  head_of (Some x) e = ap first_leaf (sym e)
 
   pub rest_of : (r : Option (Bor Text)) → MatchOption r ((xs ≡ []) × (ys ≡ [])) (λ x. xs ≡ x.now ∷ ys) → ys ≡ drop 1 xs
   rest_of None e = e.1 ∙ ap (drop 1) (sym e.0)
@@ -175,7 +175,7 @@ tail_ascends its d ds e h =
     falls.1
 
 pub shown_more : (total so_far more : List Leaf) (i : ℕ) (d : Text) (its ds fs rest : List Text) (needed : Bool)
-    → its ≡ d ∷ ds → AreAscending its → needed ≡ needs None (first_text ds) fs → rest ≡ facts_above d fs → more ≡ so_far ++ here needed i d
+    → its ≡ d ∷ ds → AreAscending its → needed ≡ needs None (first_leaf ds) fs → rest ≡ facts_above d fs → more ≡ so_far ++ here needed i d
     → so_far ++ shown None i its fs ≡ total → more ++ shown None (i + 1) ds rest ≡ total
 shown_more total so_far more i d its ds fs rest needed is rise found left put so =
     let next : i + 1 ≡ suc i = omega arith in

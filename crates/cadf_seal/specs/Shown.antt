@@ -1,5 +1,5 @@
 -- What a proof shows of the leaves of a tree, and the hashes that stand for the others.
---     first_text ds             the first leaf, if there is one
+--     first_leaf ds             the first leaf, if there is one
 --     needs before behind fs    some fact is above the leaf before, if there is one, and below the leaf behind, if there is one
 --     shown before i ds fs      the leaves of ds that facts need, with their places, of which the first is i
 --     until m ss, leaves_from m ss  the shown leaves before place m, and the others
@@ -17,9 +17,9 @@ use Rattle.cadf_seal.specs.declared.leaf.Leaf.{Leaf}
 
 -- ---- which leaves are shown
 
-abbrev pub first_text : List Text → Option Text
-first_text [] = None
-first_text (d ∷ ds) = Some d
+abbrev pub first_leaf : List Text → Option Text
+first_leaf [] = None
+first_leaf (d ∷ ds) = Some d
 
 abbrev pub is_above : Option Text → Text → Bool
 is_above None f = true
@@ -37,7 +37,7 @@ needs before behind (f ∷ fs) = (is_above before f && is_below behind f) || nee
 abbrev pub shown : Option Text → ℕ → List Text → List Text → List Leaf
 shown before i [] fs = []
 shown before i (d ∷ ds) fs =
-    if needs before (first_text ds) fs then record { place = i; digest = d } ∷ shown (Some d) (suc i) ds fs
+    if needs before (first_leaf ds) fs then record { place = i; digest = d } ∷ shown (Some d) (suc i) ds fs
     else shown (Some d) (suc i) ds fs
 
 -- ---- the other leaves

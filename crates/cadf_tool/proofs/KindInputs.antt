@@ -1,5 +1,5 @@
 -- Sources that are read as files of each kind.
-use Rattle.std.proofs.Common.{ℕ, List, Result, Ok, Err, ap}
+use Rattle.std.proofs.Common.{Result, Ok, ap}
 use Rattle.cadf_inventory.specs.InventoryReads.{ReadsInventory, AnswersInventory}
 use Rattle.cadf_inventory.specs.InventoryVerdict.{inventory_grammar, inventory_model_or_fault}
 use Rattle.cadf_inventory.proofs.InventoryVerdictLemmas.{accepts-inventories}
@@ -13,15 +13,11 @@ use Rattle.cadf_sketch.specs.SketchReads.{ReadsSketch, AnswersSketch}
 use Rattle.cadf_sketch.specs.SketchVerdict.{sketch_grammar, sketch_model_or_fault}
 use Rattle.cadf_sketch.specs.Sketches.{SketchModel}
 use Rattle.cadf_sketch.proofs.SketchFileLemmas.{accepts-sketches}
-use Rattle.cadf_tool.specs.InputFault.{of_file}
-use Rattle.cadf_tool.specs.Faults.{of_load}
 use Rattle.cadf_tool.specs.InventoryInput.{inventory_kind, inventory_spec}
-use Rattle.cadf_tool.specs.MissingBy.{IsInventoryInput}
-use Rattle.cadf_tool.specs.SealInput.{IsModelInput, kind_of, model_spec}
-use Rattle.cadf_tool.specs.Sketch.{IsSketchInput}
+use Rattle.cadf_tool.specs.SealInput.{kind_of, model_spec}
 use Rattle.cadf_tool.specs.SketchInput.{sketch_kind, sketch_spec}
-use Rattle.cadf_tool.specs.Run.{SourceTransition, with_number, IsReadAs, IsUnread}
-use Rattle.cadf_tool.proofs.KindReading.{AnswersKind, ReadsKind, kind_read, kind_unread}
+use Rattle.cadf_tool.specs.Run.{SourceTransition, IsReadAs}
+use Rattle.cadf_tool.proofs.KindReading.{AnswersKind, ReadsKind, kind_read}
 
 module _ (t : SourceTransition) where
   abbrev pub ReadsNoted : Result InventoryModel FileFault → Type 0
@@ -46,9 +42,6 @@ module _ (t : SourceTransition) where
       let is = (accepts-inventories FILE_LIMIT p.0.0 n).0 p.0.1.2 in
       ((p.0.0, (p.0.1.0, p.0.1.1, record { is = is.0; within = is.1; inventory = is.2 })), p.1)
 
-  pub inventory_unread : (number : ℕ) (f : FileFault) → ReadsNoted (Err f) → IsUnread (with_number number inventory_spec t) (of_load number (of_file f))
-  inventory_unread number f h = kind_unread inventory_kind t (IsInventoryInput FILE_LIMIT) number f (noted (Err f) (λ v a. a) h)
-
   abbrev pub ReadsSketched : Result SketchModel FileFault → Type 0
   ReadsSketched r = ReadsSketch FILE_LIMIT t.old.left t.new.left t.old.failures t.new.failures r
 
@@ -70,9 +63,6 @@ module _ (t : SourceTransition) where
       s (sketched (Ok s) (λ v a. a) h) in
       let is = (accepts-sketches FILE_LIMIT p.0.0 s).0 p.0.1.2 in
       ((p.0.0, (p.0.1.0, p.0.1.1, record { is = is.0; within = is.1; holds = is.2 })), p.1)
-
-  pub sketch_unread : (number : ℕ) (f : FileFault) → ReadsSketched (Err f) → IsUnread (with_number number sketch_spec t) (of_load number (of_file f))
-  sketch_unread number f h = kind_unread sketch_kind t (IsSketchInput FILE_LIMIT) number f (sketched (Err f) (λ v a. a) h)
 
 module _ {M : Type 0} (k : ModelKind M) (Is : M → Type 0) (t : SourceTransition) where
   abbrev pub ReadsFile : Result M FileFault → Type 0
@@ -96,7 +86,3 @@ module _ {M : Type 0} (k : ModelKind M) (Is : M → Type 0) (t : SourceTransitio
       m (modelled (Ok m) (λ v a. a) h) in
       let is = (accepts FILE_LIMIT p.0.0 m).0 p.0.1.2 in
       ((p.0.0, (p.0.1.0, p.0.1.1, record { is = is.0; within = is.1; holds = is.2 })), p.1)
-
-  pub model_unread : (number : ℕ) (f : FileFault) → ReadsFile (Err f)
-      → IsUnread (with_number number (model_spec k Is) t) (of_load number (of_file f))
-  model_unread number f h = kind_unread (kind_of k) t (IsModelInput k Is FILE_LIMIT) number f (modelled (Err f) (λ v a. a) h)

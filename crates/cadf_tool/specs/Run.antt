@@ -154,9 +154,6 @@ abbrev pub IsExpectedOfBy : {A M : Type 0} → Sources A → (A → Result M Too
 IsExpectedOfBy {A} sources work (Ok made) = (a : A) × sources.are a × work a (Ok made)
 IsExpectedOfBy sources work (Err fault) = IsFirstFaultBy sources work fault (fault_stage fault)
 
-abbrev pub IsExpectedOf : {A M : Type 0} → Sources A → (A → Result M ToolFault) → Result M ToolFault → Type 0
-IsExpectedOf sources work expected = IsExpectedOfBy sources (IsValueOf work) expected
-
 pub record IsExpectedBy {A M : Type 0} (sources : Sources A) (work : A → Result M ToolFault → Type 0)
     (expected : Result M ToolFault) : Type 0 where
   pub is : IsExpectedOfBy sources work expected

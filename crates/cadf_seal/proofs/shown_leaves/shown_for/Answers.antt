@@ -1,7 +1,7 @@
 use Rattle.std.proofs.Common.{◌∙◌, ◌++◌, None, drop, length, sym, ap, subst, arith}
 use Rattle.cadf_inventory.proofs.RisingLists.{rising_set}
 use Rattle.cadf_seal.specs.Facts.{facts_left, AreAscending}
-use Rattle.cadf_seal.specs.Shown.{first_text, needs, shown}
+use Rattle.cadf_seal.specs.Shown.{first_leaf, needs, shown}
 use Rattle.cadf_seal.proofs.ShownLemmas.{shown_more, head_of, rest_of, tail_ascends, above_ascend}
 use Rattle.cadf_seal.proofs.shown_leaves.shown_for.Goals as goal
 
@@ -25,7 +25,7 @@ loop-leaf-preserved c =
     let next = c.next-in-loop-leaf in
     let found = c.are_below-needed.ensures
     ∙ ap (λ o. needs None o facts) (head_of c.loop-leaf.behind next.new.self next.result next.ensures.steps)
-    ∙ ap (λ ds. needs None (first_text ds) facts) behind in (
+    ∙ ap (λ ds. needs None (first_leaf ds) facts) behind in (
       shown_more _ c.loop-leaf.shown.items c.push_if.new.shown.items c.loop-leaf.place c.in-Some.leaf.now c.loop-leaf.leaf-iterator c.next.new.self facts _
           c.are_below-needed.result is kept.2 found c.drop_through.ensures c.in_ok-push_if.ensures kept.0,
       rest_of c.loop-leaf.behind next.new.self next.result next.ensures.steps ∙ ap (drop 1) behind,
