@@ -20,6 +20,7 @@ def files(commit):
 
 
 def crates(names):
-    """The crates whose sources, definitions or proofs are among the files."""
+    """The crates whose sources, definitions or proofs are among the files, but for those that are gone."""
     parts = [name.split("/") for name in names]
-    return {each[1] for each in parts if each[0] == "crates" and each[2:3] and each[2] in ("src", "specs", "proofs")}
+    found = {each[1] for each in parts if each[0] == "crates" and each[2:3] and each[2] in ("src", "specs", "proofs")}
+    return {crate for crate in found if os.path.isdir(os.path.join(TOP, "crates", crate))}
