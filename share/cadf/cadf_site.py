@@ -137,7 +137,7 @@ class Folder:
     """A folder that is open: whatever is renamed around it, names are looked up in it."""
 
     def __init__(self, name):
-        self.name, self.read = name.rstrip("/") or "/", (None, None)
+        self.name, self.read, self.files = name.rstrip("/") or "/", (None, None), contextlib.ExitStack()
         try:
             self.descriptor = os.open(name, os.O_RDONLY | os.O_DIRECTORY)
         except OSError as fault:
@@ -152,6 +152,7 @@ class Folder:
         return self
 
     def __exit__(self, *_):
+        self.files.close()
         os.close(self.descriptor)
 
     def path(self, name):
@@ -184,14 +185,19 @@ class Folder:
             raise Fault("%s: %s" % (self.shown(name), said)) from None
 
     def index(self):
-        """What `site` says, or None if it isn't there."""
+        """What `site` says, or None if it isn't there. It is read once, until another file has its name or it is written to."""
         try:
-            with self.input(INDEX).file as file:
-                data = file.read(LONGEST_INDEX)
+            file = self.input(INDEX).file
         except FileNotFoundError:
             return None
-        if data != self.read[0]:
-            self.read = data, Index.read(data)
+        with contextlib.ExitStack() as files:
+            files.enter_context(file)
+            found = os.fstat(file.fileno())
+            state = found.st_dev, found.st_ino, found.st_size, found.st_mtime_ns, found.st_ctime_ns
+            if state != self.read[0]:
+                self.read = state, Index.read(file.read(LONGEST_INDEX))
+                self.files.close()  # the one read stays open, so that no other file gets its number
+                self.files = files.pop_all()
         if self.read[1] is None:
             raise Fault("%s: not the file of a site: %s" % (self.shown(INDEX), DAMAGED), REFUSED)
         return self.read[1]
