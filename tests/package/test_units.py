@@ -29,7 +29,7 @@ SAID = [
     (SERVICE, "Service", "PrivateDevices", "yes"), (SERVICE, "Service", "ProtectSystem", "strict"),
     (SERVICE, "Service", "StateDirectory", "cadf/%i"), (SERVICE, "Service", "ReadWritePaths", "/var/spool/cadf/%i"),
     (SERVICE, "Service", "MemoryMax", "5G"), (TIMER, "Timer", "OnCalendar", "*:0/5"), (TIMER, "Timer", "Persistent", "yes"),
-    ("cadf-listen@.service", "Service", "StateDirectory", "cadf/%i cadf/%i/bus"),
+    ("cadf-listen@.service", "Service", "StateDirectory", "cadf/%i cadf/%i/bus"), ("cadf-listen@.service", "Service", "MemoryMax", "1G"),
     (SYNC, "Service", "CapabilityBoundingSet", ""), (SYNC, "Service", "StateDirectory", "cadf/%i"),
     (SYNC, "Service", "EnvironmentFile", "/etc/cadf/%i.peer"), (SYNC, "Service", "LoadCredential", "key:/etc/cadf/%i.key"),
     ("cadf-sync@.timer", "Timer", "OnCalendar", "*:0/15"),
