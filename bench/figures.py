@@ -63,7 +63,7 @@ FIGURES = {
         ("a take without a merge {} MB.", (TAKES, "1,000 MB, 1 event", "Folder:1")),
     ],
     README: [
-        ("`show` of 100 MB takes {} s and {} MB. A take of one event into a folder of 1,000 MB takes {} s and {} MB, into one file of that size {} s.",
+        ("`show` of 100 MB takes {} s of user time and {} MB. A take of one event into a folder of 1,000 MB takes {} s and {} MB, into one file of that size {} s.",
          (SHOW, "`cadf show`", "User"), (SHOW, "`cadf show`", "Memory"), *((TAKES, "1,000 MB, 1 event", column) for column in ("Folder", "Folder:1", "File"))),
         ("a sketch has {/1000} KB, an inventory {/1000000} MB, and the answer {/1000} KB.",
          *((SKETCHES, "100, 65", column) for column in ("Sketch", "Inventory", "Inventory:1"))),

@@ -1,4 +1,4 @@
-"""That each lemma and definition of the proofs is cited: an abandoned one costs its reader time and the gate a check."""
+"""That each lemma of the proofs is cited, but for those inside of a module: an abandoned one costs its reader and the gate time."""
 import collections
 import os
 import re
