@@ -1,10 +1,11 @@
 -- The first of several values: how many nodes it has.
-use Rattle.std.proofs.Common.{◌≡◌, ℕ, suc, ◌+◌, List, [], ◌∷◌, ◌++◌, length, take, drop, refl, sym, ap, ap₂, ◌∙◌, subst, arith, inl, inr, append-nil, length-append}
+use Rattle.std.proofs.Common.{◌≡◌, ℕ, suc, ◌+◌, ◌-◌, List, [], ◌∷◌, ◌++◌, length, take, drop, refl, sym, ap, ap₂, ◌∙◌, subst, arith, inl, inr, append-nil, length-append, take_all}
 use Rattle.std.proofs.Math.Seq.{take-append_seam, drop-append_seam}
 use Rattle.serde_json.specs.Data.{Num, Data, null, boolean, number, string, array, object, Members, member}
 use Rattle.cadf_json.specs.declared.node.Node.{Node}
 use Rattle.cadf_json.specs.declared.node.Node.TheVariants.{Null, Bool as Truth, Whole, Fraction, Text, Array, Object}
 use Rattle.cadf_json.specs.declared.node.Place.{Place}
+use Rattle.cadf_json.specs.declared.walk.FirstMember.{FirstMember}
 use Rattle.cadf_json.specs.Flat.{size_of, IsTextAt, NumberStands, Stands, MembersStand, text_at}
 use Rattle.cadf_json.specs.Reading.{IsFirstMember}
 
@@ -57,19 +58,22 @@ opens t nodes k d ms (p, (ys, (zs, (is, at, h, j)))) =
       rest = j;
     }
 
-pub first_of : (t : List ℕ) (nodes : List Node) (k : List ℕ) (d : Data) (ms : Members) (name : List ℕ) (n : ℕ) → (o : Opens t nodes k d ms)
-    → name ≡ text_at t o.place → n ≡ size_of o.x + 1 → IsFirstMember t nodes k d ms name n
-first_of t nodes k d ms name n o named sized =
+pub first_of : (t : List ℕ) (nodes : List Node) (k : List ℕ) (d : Data) (ms : Members) (f : FirstMember) (n : ℕ) → (o : Opens t nodes k d ms)
+    → n ≡ size_of o.x + 1 → f.name.now ≡ text_at t o.place → f.nodes.now ≡ take n nodes
+    → f.value.now ≡ take (length f.nodes.now - 1) (drop 1 f.nodes.now) → f.rest.now ≡ drop n nodes → IsFirstMember t nodes k d ms f
+first_of t nodes k d ms f n o sized named whole valued left =
     let lead = Text o.place ∷ o.x ∷ o.ys in
     let size = o.size in
     let long : length nodes ≡ length lead + length o.zs = ap length o.is ∙ length-append lead o.zs in
     let is_n : n ≡ length lead = omega (arith, sized, size) in
-    let taken : take n nodes ≡ lead = ap₂ take is_n o.is ∙ take-append_seam lead o.zs in
+    let one : f.nodes.now ≡ lead = whole ∙ ap₂ take is_n o.is ∙ take-append_seam lead o.zs in
+    let value : f.value.now ≡ o.x ∷ o.ys = valued ∙ ap (λ ns. take (length ns - 1) (drop 1 ns)) one ∙ take_all (length lead - 1) (o.x ∷ o.ys) (omega arith) in
+    let rest : f.rest.now ≡ o.zs = left ∙ ap₂ drop is_n o.is ∙ drop-append_seam lead o.zs in
+    let fewer = ap length rest in
     record {
       name_is = named ∙ o.at.is;
-      some = omega (arith, is_n);
-      within = omega (arith, is_n, long);
-      one = (o.place, (o.x ∷ o.ys, ([], (taken ∙ ap (λ xs. Text o.place ∷ xs) (sym (append-nil (o.x ∷ o.ys))), o.at, o.value, refl))));
-      value = subst (Stands t d) (sym (ap (drop 1) taken)) o.value;
-      rest = subst (MembersStand t ms) (sym (ap₂ drop is_n o.is ∙ drop-append_seam lead o.zs)) o.rest;
+      one = (o.place, (o.x ∷ o.ys, ([], (one ∙ ap (λ xs. Text o.place ∷ xs) (sym (append-nil (o.x ∷ o.ys))), o.at, o.value, refl))));
+      value = subst (Stands t d) (sym value) o.value;
+      rest = subst (MembersStand t ms) (sym rest) o.rest;
+      shorter = omega (arith, fewer, long);
     }

@@ -3,8 +3,9 @@ use Rattle.std.proofs.Common.{◌≡◌, ℕ, List, Option, Some, true, false, t
 use Rattle.std.proofs.lemmas.Map.Text.{is_eq-slice_cmp}
 use Rattle.std.specs.Cmp.Lexicographic.{slice_cmp}
 use Rattle.std.specs.Ordering.{match_ordering}
-use Rattle.serde_json.specs.Data.{Data, Members, member}
-use Rattle.serde_json.specs.Find.{get_member}
+use Rattle.serde_json.specs.Data.{Data, null, boolean, number, string, array, object, Members, member}
+use Rattle.serde_json.specs.Find.{get, get_member}
+use Rattle.cadf_json.specs.Parts.{members_in}
 
 here_at : (o : Ordering) (a : Option Data) (e : Data) → is_eq o ≡ true → match_ordering o a (Some e) a ≡ Some e
 here_at Less a e h = absurd (true≢false (sym h))
@@ -21,3 +22,11 @@ member_here k l e ms h = here_at (slice_cmp nat_cmp k l) (get_member k ms) e (is
 
 pub member_passed : (k l : List ℕ) (e : Data) (ms : Members) → bytes_eq k l ≡ false → get_member k (member l e ms) ≡ get_member k ms
 member_passed k l e ms h = passed_at (slice_cmp nat_cmp k l) (get_member k ms) (Some e) (is_eq-slice_cmp k l ∙ h)
+
+pub member_in : (k : List ℕ) (d : Data) → get k d ≡ get_member k (members_in d)
+member_in k null = refl
+member_in k (boolean b) = refl
+member_in k (number n) = refl
+member_in k (string s) = refl
+member_in k (array ds) = refl
+member_in k (object ms) = refl

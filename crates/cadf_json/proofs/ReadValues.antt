@@ -7,7 +7,7 @@ use Rattle.json.specs.Json as json
 use Rattle.json.specs.Json.{value, read_key}
 use Rattle.json.specs.Tree as tree
 use Rattle.json.proofs.Nesting.{value-depth}
-use Rattle.serde_json.specs.Data.{Num, Data, null, boolean, number, string, array, object, Items, item, Members, no_members, member, put, depth, items_depth, members_depth}
+use Rattle.serde_json.specs.Data.{Num, Data, number, array, object, item, Members, no_members, member, put, depth, items_depth, members_depth}
 use Rattle.serde_json.specs.Read.{number_of, of_json, of_items, of_members, converted}
 use Rattle.serde_json.specs.Written.{has_float}
 use Rattle.cadf_json.specs.TokenUtf8.{HaveUtf8}

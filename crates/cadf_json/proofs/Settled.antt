@@ -1,5 +1,5 @@
 -- A normalized tree is the outline of a value.
-use Rattle.std.proofs.Common.{◌≡◌, ℕ, pos, negsuc, List, Some, decimal, refl, sym, ap, ap₂, ◌∙◌, subst}
+use Rattle.std.proofs.Common.{◌≡◌, ℕ, pos, negsuc, List, Some, refl, sym, ap, ap₂, ◌∙◌, subst}
 use Rattle.json.specs.Json as json
 use Rattle.json.specs.Tree.{json_tokens}
 use Rattle.json.specs.Print.{print}

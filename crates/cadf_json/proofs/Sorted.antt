@@ -1,4 +1,4 @@
--- Spans that are sorted by name: the last of each name is what is there once all were put one after another.
+-- Members that are sorted by name: the last of each name is what is there once all were put one after another.
 use Rattle.std.proofs.Common.{take, drop, slice_index_or, length-drop, take_all, ◌-◌, ◌≡◌, ℕ, ◌+◌, ◌<◌, List, [], ◌∷◌, ◌++◌, length, Bool, true, false, not, ◌&&◌, cond, Option, Some, None, refl, sym, ap, ◌∙◌, subst, arith, append_assoc, append-nil}
 use native.Mathlib.Numerals.{unary_clauses}
 use Rattle.std.proofs.Common.{Ordering, Less, Equal, Greater}
@@ -12,36 +12,36 @@ use Rattle.std.specs.Ordering.{is_lt, is_eq, eq_by_cmp, ordering_reverse}
 use Rattle.std.specs.Prelude.{⊤, T, if◌then◌else◌}
 use Rattle.std.specs.Str.{bytes_eq}
 use Rattle.cadf_json.proofs.Orders.{greater-from_less, less-from_greater}
-use Rattle.cadf_json.proofs.Spans.{Entry, name_cmp}
+use Rattle.cadf_json.proofs.ByName.{name_cmp}
 use Rattle.cadf_json.proofs.Splits.{same_name, itself}
-use Rattle.cadf_json.specs.declared.order.Span.{Span}
-use Rattle.cadf_json.specs.Reading.{put_spans, is_replaced, lasts}
+use Rattle.cadf_json.specs.declared.order.Named.{Named}
+use Rattle.cadf_json.specs.Reading.{Entry, put_named, is_replaced, lasts}
 
-abbrev pub below : Span → Span → Bool
+abbrev pub below : Named → Named → Bool
 below p q = is_lt (name_cmp p.name.now q.name.now)
 
 -- ---- what is found at a name
 
--- the last of the spans, else what was there
-abbrev ended : List Span → Option Span → Option Span
+-- the last of them, else what was there
+abbrev ended : List Named → Option Named → Option Named
 ended [] o = o
 ended (p ∷ ps) o = ended ps (Some p)
 
-abbrev has_name : List ℕ → Span → Bool
+abbrev has_name : List ℕ → Named → Bool
 has_name k p = eq_by_cmp name_cmp k p.name.now
 
-found_at : (b : Bool) (k : List ℕ) (p : Span) (ps : List Span) (o : Option Span) → eq_by_cmp name_cmp k p.name.now ≡ b
+found_at : (b : Bool) (k : List ℕ) (p : Named) (ps : List Named) (o : Option Named) → eq_by_cmp name_cmp k p.name.now ≡ b
     → ended (filter (has_name k) ps) (cond b (Some p) o) ≡ ended (filter (has_name k) (p ∷ ps)) o
 found_at true k p ps o is = rw is refl
 found_at false k p ps o is = rw is refl
 
-found : (k : List ℕ) (ps : List Span) (es : List Entry) → entries.find name_cmp k (put_spans ps es) ≡ ended (filter (has_name k) ps) (entries.find name_cmp k es)
+found : (k : List ℕ) (ps : List Named) (es : List Entry) → entries.find name_cmp k (put_named ps es) ≡ ended (filter (has_name k) ps) (entries.find name_cmp k es)
 found k [] es = refl
 found k (p ∷ ps) es =
     found k ps (entries.put name_cmp p.name.now p es) ∙ ap (ended (filter (has_name k) ps)) (entries.find-put name_cmp nat_list_cmp_total k p.name.now p es)
     ∙ found_at _ k p ps (entries.find name_cmp k es) refl
 
-in_order : (ps : List Span) (es : List Entry) → T (entries.is_sorted name_cmp es) → T (entries.is_sorted name_cmp (put_spans ps es))
+in_order : (ps : List Named) (es : List Entry) → T (entries.is_sorted name_cmp es) → T (entries.is_sorted name_cmp (put_named ps es))
 in_order [] es h = h
 in_order (p ∷ ps) es h = in_order ps _ (entries.is_sorted-put name_cmp nat_list_cmp_total p.name.now p es h)
 
@@ -52,64 +52,64 @@ tied_at Less r is = refl
 tied_at Equal r is = rw is refl
 tied_at Greater r is = rw is refl
 
-abbrev pub spot : List ℕ → Span
-spot k = record { name = record { ref_ptr = (0, 0); now = k }; start = 0; end = 0 }
+abbrev pub spot : List ℕ → Named
+spot k = record { name = record { ref_ptr = (0, 0); now = k }; nodes = record { ref_ptr = (0, 0); now = [] } }
 
-tied : (k : List ℕ) (p : Span) → ties below (spot k) p ≡ has_name k p
+tied : (k : List ℕ) (p : Named) → ties below (spot k) p ≡ has_name k p
 tied k p = tied_at _ _ (nat_list_cmp_total.antisymm p.name.now k)
 
-pub same_puts : (ps qs : List Span) → ((x : Span) → filter (ties below x) qs ≡ filter (ties below x) ps) → put_spans qs [] ≡ put_spans ps []
-same_puts ps qs stable = entries.same_entries name_cmp nat_list_cmp_total same_name (put_spans qs []) (put_spans ps []) (in_order qs [] tt) (in_order ps [] tt)
+pub same_puts : (ps qs : List Named) → ((x : Named) → filter (ties below x) qs ≡ filter (ties below x) ps) → put_named qs [] ≡ put_named ps []
+same_puts ps qs stable = entries.same_entries name_cmp nat_list_cmp_total same_name (put_named qs []) (put_named ps []) (in_order qs [] tt) (in_order ps [] tt)
     (λ k.
     let same : filter (has_name k) qs ≡ filter (has_name k) ps = subst (λ test. filter test qs ≡ filter test ps) (λ i p. tied k p i) (stable (spot k)) in
     found k qs [] ∙ ap (λ rs. ended rs None) same ∙ sym (found k ps []))
 
--- ---- sorted spans are put at the end
+-- ---- sorted members are put at the end
 
 abbrev AreUnder : List Entry → List ℕ → Type 0
 AreUnder [] k = ⊤
 AreUnder (e ∷ es) k = (name_cmp e.0 k ≡ Less) × AreUnder es k
 
-put_last : (es : List Entry) (k : List ℕ) (p : Span) → AreUnder es k → entries.put name_cmp k p es ≡ es ++ (k, p) ∷ []
+put_last : (es : List Entry) (k : List ℕ) (p : Named) → AreUnder es k → entries.put name_cmp k p es ≡ es ++ (k, p) ∷ []
 put_last [] k p h = refl
 put_last (e ∷ es) k p h = rw (greater-from_less k e.0 h.0) (ap (λ fs. e ∷ fs) (put_last es k p h.1))
 
-put_over : (es : List Entry) (k : List ℕ) (p q : Span) → AreUnder es k → name_cmp k k ≡ Equal
+put_over : (es : List Entry) (k : List ℕ) (p q : Named) → AreUnder es k → name_cmp k k ≡ Equal
     → entries.put name_cmp k q (es ++ (k, p) ∷ []) ≡ es ++ (k, q) ∷ []
 put_over [] k p q h same = rw same refl
 put_over (e ∷ es) k p q h same = rw (greater-from_less k e.0 h.0) (ap (λ fs. e ∷ fs) (put_over es k p q h.1 same))
 
-under_further : (es : List Entry) (k l : List ℕ) (p : Span) → AreUnder es k → name_cmp k l ≡ Less → AreUnder (es ++ (k, p) ∷ []) l
+under_further : (es : List Entry) (k l : List ℕ) (p : Named) → AreUnder es k → name_cmp k l ≡ Less → AreUnder (es ++ (k, p) ∷ []) l
 under_further [] k l p h is = (is, tt)
 under_further (e ∷ es) k l p h is = (nat_list_cmp_total.trans e.0 k l h.0 is, under_further es k l p h.1 is)
 
 -- none is below the one before it
-abbrev Rise : List Span → Type 0
+abbrev Rise : List Named → Type 0
 Rise [] = ⊤
 Rise (p ∷ []) = ⊤
 Rise (p ∷ q ∷ ps) = (below q p ≡ false) × Rise (q ∷ ps)
 
-rise : (ps : List Span) → IsSortedBy below ps → Rise ps
+rise : (ps : List Named) → IsSortedBy below ps → Rise ps
 rise [] h = tt
 rise (p ∷ []) h = tt
 rise (p ∷ q ∷ ps) h = (h 0 p (omega arith) (omega arith), rise (q ∷ ps) (λ k d low high. simp unary_clauses (simp unary_clauses at (h (k + 1) d (omega arith) (omega (arith, high))))))
 
-abbrev Under : List Entry → List Span → Type 0
+abbrev Under : List Entry → List Named → Type 0
 Under es [] = ⊤
 Under es (p ∷ ps) = AreUnder es p.name.now
 
-under_none : (ps : List Span) → Under [] ps
+under_none : (ps : List Named) → Under [] ps
 under_none [] = tt
 under_none (p ∷ ps) = tt
 
-put_at_end_at : (o : Ordering) (p q : Span) (ps : List Span) (es : List Entry) → name_cmp p.name.now q.name.now ≡ o → below q p ≡ false → AreUnder es p.name.now
-    → ((fs : List Entry) → AreUnder fs q.name.now → put_spans (q ∷ ps) fs ≡ fs ++ lasts (q ∷ ps))
-    → put_spans (p ∷ q ∷ ps) es ≡ es ++ lasts (p ∷ q ∷ ps)
+put_at_end_at : (o : Ordering) (p q : Named) (ps : List Named) (es : List Entry) → name_cmp p.name.now q.name.now ≡ o → below q p ≡ false → AreUnder es p.name.now
+    → ((fs : List Entry) → AreUnder fs q.name.now → put_named (q ∷ ps) fs ≡ fs ++ lasts (q ∷ ps))
+    → put_named (p ∷ q ∷ ps) es ≡ es ++ lasts (p ∷ q ∷ ps)
 put_at_end_at Less p q ps es is up under further =
     let other : bytes_eq q.name.now p.name.now ≡ false = sym (is_eq-slice_cmp q.name.now p.name.now) ∙ ap is_eq (greater-from_less q.name.now p.name.now is) in
     let last = p.name.now in
     rw other
-    (ap (put_spans (q ∷ ps)) (put_last es last p under) ∙ further (es ++ (last, p) ∷ []) (under_further es last q.name.now p under is)
+    (ap (put_named (q ∷ ps)) (put_last es last p under) ∙ further (es ++ (last, p) ∷ []) (under_further es last q.name.now p under is)
     ∙ append_assoc es ((last, p) ∷ []) (lasts (q ∷ ps)))
 put_at_end_at Equal p q ps es is up under further =
     let name = q.name.now in
@@ -117,27 +117,23 @@ put_at_end_at Equal p q ps es is up under further =
     let here = subst (AreUnder es) same under in
     let again : bytes_eq name p.name.now ≡ true = ap (bytes_eq name) same ∙ sym (is_eq-slice_cmp name name) ∙ ap is_eq (itself name) in
     rw again
-    (ap (put_spans ps)
+    (ap (put_named ps)
     (ap (λ k. entries.put name_cmp name q (entries.put name_cmp k p es)) same ∙ ap (entries.put name_cmp name q) (put_last es name p here)
     ∙ put_over es name p q here (itself name) ∙ sym (put_last es name q here))
     ∙ further es here)
 put_at_end_at Greater p q ps es is up under further = absurd (let lower = ap is_lt (less-from_greater p.name.now q.name.now is) in cc)
 
-put_at_end : (ps : List Span) (es : List Entry) → Under es ps → Rise ps → put_spans ps es ≡ es ++ lasts ps
+put_at_end : (ps : List Named) (es : List Entry) → Under es ps → Rise ps → put_named ps es ≡ es ++ lasts ps
 put_at_end [] es under up = sym (append-nil es)
 put_at_end (p ∷ []) es under up = put_last es p.name.now p under
 put_at_end (p ∷ q ∷ ps) es under up = put_at_end_at _ p q ps es refl up.0 under (λ fs h. put_at_end (q ∷ ps) fs h up.1)
 
-pub lasts_are : (ps qs : List Span) → IsSortedBy below qs → ((x : Span) → filter (ties below x) qs ≡ filter (ties below x) ps) → lasts qs ≡ put_spans ps []
+pub lasts_are : (ps qs : List Named) → IsSortedBy below qs → ((x : Named) → filter (ties below x) qs ≡ filter (ties below x) ps) → lasts qs ≡ put_named ps []
 lasts_are ps qs sorted stable = sym (put_at_end qs [] (under_none qs) (rise qs sorted)) ∙ same_puts ps qs stable
-
-pub put_spans_push : (ps : List Span) (p : Span) (es : List Entry) → put_spans (ps ++ p ∷ []) es ≡ entries.put name_cmp p.name.now p (put_spans ps es)
-put_spans_push [] p es = refl
-put_spans_push (q ∷ ps) p es = put_spans_push ps p (entries.put name_cmp q.name.now q es)
 
 -- ---- the last of each name, from one place on
 
-pub lasts_from : (ps : List Span) (i : ℕ) (b : Bool) → i < length ps
+pub lasts_from : (ps : List Named) (i : ℕ) (b : Bool) → i < length ps
     → b ≡ is_replaced (slice_index_or ps i (spot [])).name.now (take (length ps - (i + 1)) (drop (i + 1) ps))
     → lasts (drop i ps) ≡ (if b then lasts (drop (i + 1) ps) else (((slice_index_or ps i (spot [])).name.now, slice_index_or ps i (spot [])) ∷ lasts (drop (i + 1) ps)))
 lasts_from ps i b some is =

@@ -1,20 +1,22 @@
 -- From one item or member to the next, over the nodes that are left.
 use Rattle.std.proofs.Common.{◌≡◌, ℕ, ◌<◌, ◌≤◌, List, [], length, take, drop, IsUtf8, true, false, is_some, refl, sym, ap, ap₂, ◌∙◌, subst, arith, append-nil, take_all}
-use Rattle.std.proofs.Common.{◌-◌, ◌∷◌}
+use Rattle.std.proofs.Common.{◌-◌, ◌∷◌, ◌++◌, length-append}
+use Rattle.std.proofs.Math.Seq.{take-append_seam, drop-append_seam}
 use Rattle.std.specs.Prelude.{slice_index_or}
 use Rattle.serde_json.specs.Data.{Data, null, boolean, number, string, array, object, Items, no_items, item, Members, no_members, member, items_depth}
 use Rattle.serde_json.specs.Find.{as_array}
 use Rattle.cadf_json.specs.Parts.{is_object, items_in, members_in}
-use Rattle.cadf_json.specs.Value.{ItemsAreWhole, IsValue, AreMembers, Rises, RisesFrom}
+use Rattle.cadf_json.specs.Value.{IsWhole, ItemsAreWhole, MembersAreWhole, IsValue, AreMembers, Rises, RisesFrom}
 use Rattle.cadf_json.specs.Flat.{size_of, node_values, decode, Stands, ItemsStand, MembersStand}
 use Rattle.cadf_json.specs.Reading.{IsFirstMember}
 use Rattle.cadf_json.specs.Walks.{paired, members_at, AreItemsLeft, AreMembersLeft}
 use Rattle.cadf_json.specs.declared.node.Node.{Node}
 use Rattle.cadf_json.specs.declared.node.Node.TheVariants.{Null}
+use Rattle.cadf_json.specs.declared.walk.FirstMember.{FirstMember}
 use Rattle.cadf_json.proofs.Decoding.{flattened, items_values, members_values, decoded_whole}
 use Rattle.cadf_json.proofs.Passing.{followed-none}
 use Rattle.cadf_json.proofs.Texts.{has_float-IsWhole}
-use Rattle.cadf_json.proofs.Writing.{first_item, first_left}
+use Rattle.cadf_json.proofs.Firsts.{begins}
 
 paired_flattened : (ms : Members) → paired (flattened ms no_items) ≡ ms
 paired_flattened no_members = refl
@@ -56,6 +58,39 @@ module _ (t : List ℕ) where
 
   -- ---- the next item
 
+  record FirstItem (rest : List Node) (left : Items) : Type 0 where
+    pub d : Data
+    pub later : Items
+    pub is : left ≡ item d later
+    pub size : ℕ
+    pub size_is : size_of (slice_index_or rest 0 Null) ≡ size
+    pub within : size ≤ length rest
+    pub some : 0 < size
+    pub stands : Stands t d (take size rest)
+    pub behind : ItemsStand t later (drop size rest)
+    pub whole : IsWhole d
+    pub others : ItemsAreWhole later
+
+  first_item : (rest : List Node) (left : Items) → 0 < length rest → ItemsStand t left rest → ItemsAreWhole left → FirstItem rest left
+  first_item rest no_items some h w = let none = ap length h in absurd (omega (arith, some, none))
+  first_item rest (item d later) some (ys, (zs, (is, h, k))) w =
+      let b = begins t d ys h in
+      let long = ap length is ∙ length-append ys zs in
+      let begun = ap length b.is in
+      record {
+        d = d;
+        later = later;
+        is = refl;
+        size = length ys;
+        size_is = ap (λ xs. size_of (slice_index_or xs 0 Null)) (is ∙ ap (λ xs. xs ++ zs) b.is) ∙ b.size;
+        within = omega (arith, long);
+        some = omega (arith, begun);
+        stands = subst (Stands t d) (sym (ap (take (length ys)) is ∙ take-append_seam ys zs)) h;
+        behind = subst (ItemsStand t later) (sym (ap (drop (length ys)) is ∙ drop-append_seam ys zs)) k;
+        whole = w.0;
+        others = w.1;
+      }
+
   pub record NextItem (rest : List Node) (n : ℕ) : Type 0 where
     pub within : n ≤ length rest
     pub value : Stands t (decode t (take n rest)) (take n rest) × IsValue (decode t (take n rest))
@@ -64,7 +99,7 @@ module _ (t : List ℕ) where
 
   pub next_item : (rest : List Node) (n : ℕ) → 0 < length rest → AreItemsLeft t rest → n ≡ size_of (slice_index_or rest 0 Null) → NextItem rest n
   next_item rest n some h size =
-      let f = first_item t rest (node_values t rest) some h.stand h.whole in
+      let f = first_item rest (node_values t rest) some h.stand h.whole in
       let is_n : n ≡ f.size = size ∙ f.size_is in
       let deep : items_depth (item f.d f.later) ≤ 126 = subst (λ es. items_depth es ≤ 126) f.is h.shallow in
       let v = seen f.d (take n rest) (subst (λ m. Stands t f.d (take m rest)) (sym is_n) f.stands) (f.whole, omega (arith, deep)) in
@@ -74,36 +109,47 @@ module _ (t : List ℕ) where
 
   -- ---- the next member
 
-  pub record NextMember (rest : List Node) (name : List ℕ) (n : ℕ) : Type 0 where
-    pub some : 1 < n
-    pub within : n ≤ length rest
-    pub utf8 : IsUtf8 name
-    pub value : Stands t (decode t (drop 1 (take n rest))) (drop 1 (take n rest)) × IsValue (decode t (drop 1 (take n rest)))
-    pub left : AreMembersLeft t (drop n rest)
-    pub is : members_at t rest ≡ member name (decode t (drop 1 (take n rest))) (members_at t (drop n rest))
+  record FirstLeft (rest : List Node) (left : Members) : Type 0 where
+    pub k : List ℕ
+    pub d : Data
+    pub later : Members
+    pub is : left ≡ member k d later
+    pub stands : MembersStand t (member k d later) rest
+    pub utf8 : IsUtf8 k
+    pub whole : IsWhole d
+    pub others : MembersAreWhole later
 
-  abbrev IsFirst : List Node → List ℕ → ℕ → Type 0
-  IsFirst rest name n = (k : List ℕ) (d : Data) (ms : Members) → MembersStand t (member k d ms) rest → IsFirstMember t rest k d ms name n
+  first_left : (rest : List Node) (left : Members) → 0 < length rest → MembersStand t left rest → MembersAreWhole left → FirstLeft rest left
+  first_left rest no_members some h w = let none = ap length h in absurd (omega (arith, some, none))
+  first_left rest (member k d later) some h w =
+      record { k = k; d = d; later = later; is = refl; stands = h; utf8 = w.0; whole = w.1; others = w.2 }
+
+  abbrev IsFirst : List Node → FirstMember → Type 0
+  IsFirst rest f = (k : List ℕ) (d : Data) (ms : Members) → MembersStand t (member k d ms) rest → IsFirstMember t rest k d ms f
+
+  pub record NextMember (rest : List Node) (f : FirstMember) : Type 0 where
+    pub utf8 : IsUtf8 f.name.now
+    pub value : Stands t (decode t f.value.now) f.value.now × IsValue (decode t f.value.now)
+    pub left : AreMembersLeft t f.rest.now
+    pub is : members_at t rest ≡ member f.name.now (decode t f.value.now) (members_at t f.rest.now)
 
   pub any_member : (rest : List Node) → 0 < length rest → AreMembersLeft t rest
       → (k : List ℕ) × ((d : Data) × ((ms : Members) × MembersStand t (member k d ms) rest))
-  any_member rest some h = let f = first_left t rest (members_at t rest) some h.stand h.are_members.0 in (f.k, (f.d, (f.later, f.stands)))
+  any_member rest some h = let l = first_left rest (members_at t rest) some h.stand h.are_members.0 in (l.k, (l.d, (l.later, l.stands)))
 
-  pub next_member : (rest : List Node) (name : List ℕ) (n : ℕ) → 0 < length rest → AreMembersLeft t rest → IsFirst rest name n → NextMember rest name n
-  next_member rest name n some h first =
-      let f = first_left t rest (members_at t rest) some h.stand h.are_members.0 in
-      let m = first f.k f.d f.later f.stands in
-      let all : AreMembers (member f.k f.d f.later) = subst AreMembers f.is h.are_members in
+  pub next_member : (rest : List Node) (f : FirstMember) → 0 < length rest → AreMembersLeft t rest → IsFirst rest f → NextMember rest f
+  next_member rest f some h first =
+      let l = first_left rest (members_at t rest) some h.stand h.are_members.0 in
+      let m = first l.k l.d l.later l.stands in
+      let all : AreMembers (member l.k l.d l.later) = subst AreMembers l.is h.are_members in
       let deep = all.2 in
-      let v = seen f.d (drop 1 (take n rest)) m.value (f.whole, omega (arith, deep)) in
-      let l = members_left_of f.later (drop n rest) m.rest (f.others, later_rises f.k f.later all.1, omega (arith, deep)) in
+      let v = seen l.d f.value.now m.value (l.whole, omega (arith, deep)) in
+      let r = members_left_of l.later f.rest.now m.rest (l.others, later_rises l.k l.later all.1, omega (arith, deep)) in
       record {
-        some = m.some;
-        within = m.within;
-        utf8 = subst IsUtf8 (sym m.name_is) f.utf8;
+        utf8 = subst IsUtf8 (sym m.name_is) l.utf8;
         value = v.0;
-        left = l.0;
-        is = f.is ∙ ap (λ k. member k f.d f.later) (sym m.name_is) ∙ ap₂ (member name) (sym v.1) (sym l.1);
+        left = r.0;
+        is = l.is ∙ ap (λ k. member k l.d l.later) (sym m.name_is) ∙ ap₂ (member f.name.now) (sym v.1) (sym r.1);
       }
 
   -- ---- the items and members of a value

@@ -1,5 +1,5 @@
 -- What is appended as tokens are read: the nodes and the texts of the values.
-use Rattle.std.specs.Prelude.{◌≡◌, ℕ, ◌<◌, ◌≤◌, List, [], ◌∷◌, ◌++◌, length, take, drop, slice_range, Bool, true, false, Option, Some, None, ⊤}
+use Rattle.std.specs.Prelude.{◌≡◌, ℕ, ◌<◌, List, [], ◌∷◌, ◌++◌, length, Bool, true, false, Some, None, ⊤}
 use Rattle.std.specs.Prelude.{if◌then◌else◌}
 use Rattle.std.specs.Ordering.{nat_cmp}
 use Rattle.std.specs.Cmp.Lexicographic.{slice_cmp}
@@ -11,7 +11,8 @@ use Rattle.serde_json.specs.Data.{Num, Data, array, object, Items, Members, no_m
 use Rattle.serde_json.specs.Read.{number_of, of_json, of_items, of_members, converted}
 use Rattle.cadf_json.specs.declared.node.Node.{Node}
 use Rattle.cadf_json.specs.declared.node.Node.TheVariants.{Null}
-use Rattle.cadf_json.specs.declared.order.Span.{Span}
+use Rattle.cadf_json.specs.declared.order.Named.{Named}
+use Rattle.cadf_json.specs.declared.walk.FirstMember.{FirstMember}
 use Rattle.cadf_json.specs.Flat.{Stands, NumberStands, MembersStand, put_all}
 
 -- nodes and texts were appended, and S holds of them
@@ -60,44 +61,39 @@ ordered false ms = put_all ms no_members
 abbrev pub IsClosed : List ℕ → List Node → List Node → Members → Type 0
 IsClosed t old nodes ms = (xs : List Node) × ((nodes ≡ old ++ xs) × Stands t (object ms) xs)
 
--- the span of a member: its name's node, and those of its value
-pub record IsSpan (t : List ℕ) (nodes : List Node) (p : Span) (k : List ℕ) (d : Data) : Type 0 where
-  pub rise : p.start ≤ p.end
-  pub within : p.end ≤ length nodes
-  pub stands : MembersStand t (member k d no_members) (slice_range nodes p.start p.end)
+-- a name, and the last member of that name
+abbrev pub Entry : Type 0
+Entry = List ℕ × Named
 
-abbrev pub AreSpans : List ℕ → List Node → List (List ℕ × Span) → Members → Type 0
-AreSpans t nodes [] no_members = ⊤
-AreSpans t nodes [] (member k d ms) = ⊥
-AreSpans t nodes (e ∷ es) no_members = ⊥
-AreSpans t nodes (e ∷ es) (member k d ms) = (e.0 ≡ k) × IsSpan t nodes e.1 k d × AreSpans t nodes es ms
+-- the entries are the members, each with its nodes
+abbrev pub AreNamed : List ℕ → List Entry → Members → Type 0
+AreNamed t [] no_members = ⊤
+AreNamed t [] (member k d ms) = ⊥
+AreNamed t (e ∷ es) no_members = ⊥
+AreNamed t (e ∷ es) (member k d ms) = (e.0 ≡ k) × MembersStand t (member k d no_members) e.1.nodes.now × AreNamed t es ms
 
--- the spans put one after another at their names: of two with the same name the later one stays
-abbrev pub put_spans : List Span → List (List ℕ × Span) → List (List ℕ × Span)
-put_spans [] es = es
-put_spans (p ∷ ps) es = put_spans ps (entries.put (slice_cmp nat_cmp) p.name.now p es)
+abbrev pub nodes_of : List Entry → List Node
+nodes_of [] = []
+nodes_of (e ∷ es) = e.1.nodes.now ++ nodes_of es
 
--- of spans in the order of their names the last one of each name
-abbrev pub is_replaced : List ℕ → List Span → Bool
+-- the members put one after another at their names: of two with the same name the later one stays
+abbrev pub put_named : List Named → List Entry → List Entry
+put_named [] es = es
+put_named (p ∷ ps) es = put_named ps (entries.put (slice_cmp nat_cmp) p.name.now p es)
+
+-- of members in the order of their names the last one of each name
+abbrev pub is_replaced : List ℕ → List Named → Bool
 is_replaced k [] = false
 is_replaced k (p ∷ ps) = bytes_eq p.name.now k
 
-abbrev pub lasts : List Span → List (List ℕ × Span)
+abbrev pub lasts : List Named → List Entry
 lasts [] = []
 lasts (p ∷ ps) = if is_replaced p.name.now ps then lasts ps else ((p.name.now, p) ∷ lasts ps)
 
--- the nodes begin with a member of n nodes, and those of the others follow
-pub record IsFirstMember (t : List ℕ) (nodes : List Node) (k : List ℕ) (d : Data) (ms : Members) (name : List ℕ) (n : ℕ) : Type 0 where
-  pub name_is : name ≡ k
-  pub some : 1 < n
-  pub within : n ≤ length nodes
-  pub one : MembersStand t (member k d no_members) (take n nodes)
-  pub value : Stands t d (drop 1 (take n nodes))
-  pub rest : MembersStand t ms (drop n nodes)
-
--- a member of that name was found: its nodes
-abbrev pub IsFound : List ℕ → Option Data → Option (List Node) → Type 0
-IsFound t None None = ⊤
-IsFound t None (Some xs) = ⊥
-IsFound t (Some d) None = ⊥
-IsFound t (Some d) (Some xs) = Stands t d xs
+-- the first member of those at the nodes
+pub record IsFirstMember (t : List ℕ) (nodes : List Node) (k : List ℕ) (d : Data) (ms : Members) (f : FirstMember) : Type 0 where
+  pub name_is : f.name.now ≡ k
+  pub one : MembersStand t (member k d no_members) f.nodes.now
+  pub value : Stands t d f.value.now
+  pub rest : MembersStand t ms f.rest.now
+  pub shorter : length f.rest.now < length nodes

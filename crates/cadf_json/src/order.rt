@@ -1,24 +1,23 @@
 //! Members in the order of their names.
-ghost use Rattle.std.specs.Prelude.{◌≡◌, ◌+◌, ◌<◌, ◌≤◌, ◌++◌, [], ℕ, OnOk, IfOk, length, take, drop, vec_len, List as ListOf};
+ghost use Rattle.std.specs.Prelude.{◌≡◌, ◌≤◌, ◌++◌, [], OnOk, IfOk, length, List as ListOf};
 ghost use Rattle.serde_json.specs.Data.{Members, no_members};
 ghost use Rattle.cadf_json.specs.declared.node.Node.{Node as NodeOf};
 ghost use Rattle.cadf_json.specs.Flat.{MembersStand, put_all, members_count};
-ghost use Rattle.cadf_json.specs.Reading.{IsOpen, IsClosed, ordered, AreSpans, put_spans, is_replaced as is_replaced_by, lasts};
+ghost use Rattle.cadf_json.specs.Reading.{IsOpen, IsClosed, ordered, AreNamed, nodes_of, put_named, is_replaced as is_replaced_by, lasts};
 
 use crate::node::Node;
-use crate::push::{MOST, extent_from};
+use crate::push::extent_from;
 use crate::walk::first_member;
 use std::alloc::{AllocError, Global};
 
 /// Memory for more nodes isn't kept.
 const MOST_SPARE: usize = 1 << 12;
 
-/// A member: its name, and where its nodes are, those of the name and of the value.
+/// A member: its name, and the nodes of its name and its value.
 #[derive(Clone, Copy, Drop)]
-struct Span<'v> {
+struct Named<'v> {
     name: &'v [u8],
-    start: u32,
-    end: u32,
+    nodes: &'v [Node],
 }
 
 /// Writes the node of an object whose members were appended after the node at `at`, once they are in order.
@@ -106,61 +105,55 @@ fn copy_in_order(
         → ((xs : ListOf NodeOf) × ((out.new.items ≡ out.old.items ++ xs) × MembersStand texts.now (put_all ms no_members) xs))
         × (n ≡ members_count (put_all ms no_members))) }
 {
-    let mut spans = spans_of(alloc, count, members, texts)?;
-    sort(&mut spans)?;
-    let count = copy_lasts(members, spans.as_slice(), out)?;
+    let mut named = by_name(alloc, count, members, texts)?;
+    sort(&mut named)?;
+    let count = copy_lasts(named.as_slice(), out)?;
     Ok(count)
 }
 
-/// Finds the span of each member. `Memory` past 2^32 nodes.
-fn spans_of<'v>(
+/// Finds the name and the nodes of each member.
+fn by_name<'v>(
     alloc: Global,
     count: u32,
-    members: &[Node],
+    members: &'v [Node],
     texts: &'v [u8],
-) -> Result<Vec<Span<'v>>, AllocError>
+) -> Result<Vec<Named<'v>>, AllocError>
     requires { (ms : Members) × MembersStand texts.now ms members.now }
-    ensures { IfOk result (λ spans. (ms : Members) → MembersStand texts.now ms members.now
-        → AreSpans texts.now members.now (put_spans spans.items []) (put_all ms no_members)) }
+    ensures { IfOk result (λ named. (ms : Members) → MembersStand texts.now ms members.now
+        → AreNamed texts.now (put_named named.items []) (put_all ms no_members)) }
 {
-    if members.len() > MOST {
-        return Err(AllocError);
-    }
-    let mut spans = Vec::with_capacity(alloc, count as usize)?;
-    let mut start = 0;
-    'members: while start < members.len() {
-        let (name, size) = first_member(&members[start..], texts);
-        let end = start + size;
-        spans.push(Span {
-            name,
-            start: start as u32,
-            end: end as u32,
+    let mut named = Vec::with_capacity(alloc, count as usize)?;
+    let mut rest = members;
+    'members: while !rest.is_empty() {
+        let first = first_member(rest, texts);
+        named.push(Named {
+            name: first.name,
+            nodes: first.nodes,
         })?;
-        start = end;
+        rest = first.rest;
     }
-    Ok(spans)
+    Ok(named)
 }
 
 /// Sorts members by name. Those with the same name stay in their order.
-fn sort(spans: &mut Vec<Span<'_>>) -> Result<(), AllocError>
-    ensures { OnOk result (lasts spans.new.items ≡ put_spans spans.old.items []) }
+fn sort(named: &mut Vec<Named<'_>>) -> Result<(), AllocError>
+    ensures { OnOk result (lasts named.new.items ≡ put_named named.old.items []) }
 {
-    spans.sort_by(|one, other| one.name.cmp(other.name))
+    named.sort_by(|one, other| one.name.cmp(other.name))
 }
 
-/// Appends the last member of each name, and returns how many there are.
-fn copy_lasts(members: &[Node], spans: &[Span<'_>], out: &mut Vec<Node>) -> Result<u32, AllocError>
-    requires { (texts : ListOf ℕ) × ((ms : Members) × AreSpans texts members.now (lasts spans.now) ms) }
-    ensures { IfOk result (λ n. (texts : ListOf ℕ) (ms : Members) → AreSpans texts members.now (lasts spans.now) ms
-        → ((xs : ListOf NodeOf) × ((out.new.items ≡ out.old.items ++ xs) × MembersStand texts ms xs)) × (n ≡ members_count ms)) }
+/// Appends the nodes of the last member of each name, and returns how many there are.
+fn copy_lasts(named: &[Named<'_>], out: &mut Vec<Node>) -> Result<u32, AllocError>
+    ensures nodes { OnOk result (out.new.items ≡ out.old.items ++ nodes_of (lasts named.now)) }
+    ensures count { IfOk result (λ n. n ≡ length (lasts named.now)) }
 {
     let mut count: u32 = 0;
     let mut at = 0;
-    'spans: while at < spans.len() {
-        let span = spans[at];
+    'members: while at < named.len() {
+        let member = named[at];
         at += 1;
-        if !is_replaced(span.name, &spans[at..]) {
-            out.extend_from_slice(&members[span.start as usize..span.end as usize])?;
+        if !is_replaced(member.name, &named[at..]) {
+            out.extend_from_slice(member.nodes)?;
             if count == u32::MAX {
                 return Err(AllocError);
             }
@@ -171,7 +164,7 @@ fn copy_lasts(members: &[Node], spans: &[Span<'_>], out: &mut Vec<Node>) -> Resu
 }
 
 /// Returns whether the first of the later members has this name too.
-fn is_replaced(name: &[u8], later: &[Span<'_>]) -> bool
+fn is_replaced(name: &[u8], later: &[Named<'_>]) -> bool
     ensures { result ≡ is_replaced_by name.now later.now }
 {
     match later {

@@ -1,5 +1,5 @@
 //! A borrowed part of a value.
-ghost use Rattle.std.specs.Prelude.{◌≡◌, ◌++◌, OnOk, IfOk, IfSome, length, nat_le, option_map, is_some, slice_get, string_bytes};
+ghost use Rattle.std.specs.Prelude.{◌≡◌, ◌++◌, OnOk, IfOk, IfSome, length, nat_le, option_map, is_some, not, slice_get, string_bytes};
 ghost use Rattle.serde_json.specs.Find.{as_null, as_str, as_array, get};
 ghost use Rattle.serde_json.specs.Data.{string as text_value, object as object_of, depth as nesting};
 ghost use Rattle.cadf_json.specs.Parts.{is_object, parts_in, names_in, items_in, members_in, to_list, values_of};
@@ -13,7 +13,6 @@ use crate::items::Items;
 use crate::members::Members;
 use crate::node::Node;
 use crate::rewrite::rewritten_text;
-use crate::walk::find_member;
 use crate::write::{text_at, write_value};
 use std::alloc::Global;
 use std::marker::Model;
@@ -21,8 +20,8 @@ use std::marker::Model;
 /// A part of a `Json`.
 #[derive(Drop)]
 pub struct View<'v> {
-    nodes: &'v [Node],
-    texts: &'v [u8],
+    pub(crate) nodes: &'v [Node],
+    pub(crate) texts: &'v [u8],
 }
 
 impl<'v> Model for View<'v> {
@@ -92,17 +91,17 @@ impl<'v> View<'v> {
     }
 
     /// Returns the value of the member `name`, or `None` if there is none.
+    #[tactic(auto, using(crate::proofs::Looks::member_here, crate::proofs::Looks::member_passed, crate::proofs::Looks::member_in))]
     pub fn member(&self, name: &str) -> Option<View<'v>>
         ensures part { result ≡ get name.now self.now }
         ensures value { IfSome result IsValue }
     {
-        match self.nodes[0] {
-            Node::Object(_) => {
-                let found = find_member(&self.nodes[1..], self.texts, name.as_bytes())?;
-                Some(View::of(found, self.texts))
+        for member in self.members() {
+            if name == member.name {
+                return Some(member.value);
             }
-            _ => None,
         }
+        None
     }
 
     /// Returns the items of a list in order, none of anything else.
@@ -161,11 +160,21 @@ impl<'v> View<'v> {
             ≡ all_members (λ k d. nat_le (nesting d) (limit_for (limits_of limits.now) others k)) (members_in self.now) }
     {
         for member in self.members() {
-            if member.value.depth() > limit_of(limits, others, member.name) {
+            if member
+                .value
+                .nests_below(limit_of(limits, others, member.name))
+            {
                 return false;
             }
         }
         true
+    }
+
+    /// Returns whether lists and objects nest deeper than that. As many nodes, or fewer, don't.
+    fn nests_below(&self, limit: u8) -> bool
+        ensures { result ≡ not (nat_le (nesting self.now) limit) }
+    {
+        self.nodes.len() > limit as usize && self.depth() > limit
     }
 
     /// Encodes the canonical text of an object without the members of these names, and with this text at that name if
@@ -196,13 +205,6 @@ impl<'v> View<'v> {
         let _nodes = &self.nodes;
     }
 
-    /// Returns a further borrow of the same part.
-    pub fn reborrow(&self) -> View<'v>
-        ensures { result ≡ self.now }
-    {
-        View::of(self.nodes, self.texts)
-    }
-
     /// Computes how deep lists and objects nest: 0 for a scalar.
     pub fn depth(&self) -> u8
         ensures depth { result ≡ nesting self.now }
@@ -229,7 +231,7 @@ impl<'v> View<'v> {
     pub fn write(&self, alloc: Global, out: &mut Vec<u8>) -> Result<(), Memory>
         ensures { OnOk result (out.new.items ≡ out.old.items ++ text_of self.now) }
     {
-        write_value(alloc, self.nodes, self.texts, out)
+        write_value(alloc, self, out)
     }
 }
 

@@ -1,35 +1,42 @@
 //! The canonical text, from the nodes.
-ghost use Rattle.std.specs.Prelude.{◌≡◌, ◌≤◌, ◌++◌, IsUtf8, OnOk, length};
-ghost use Rattle.serde_json.specs.Data.{array, object, boolean, Items, Members};
-ghost use Rattle.serde_json.specs.Written.{comma_if};
-ghost use Rattle.cadf_json.specs.Value.{ItemsAreWhole, MembersAreWhole, text as text_of};
-ghost use Rattle.cadf_json.specs.Flat.{decode, IsFlat, ItemsStand, MembersStand, text_at as bytes_at};
+ghost use Rattle.std.specs.Prelude.{◌≡◌, ◌≤◌, ◌++◌, IsUtf8, OnOk, false, is_some, length};
+ghost use Rattle.serde_json.specs.Data.{array, object};
+ghost use Rattle.serde_json.specs.Find.{as_array};
+ghost use Rattle.cadf_json.specs.Parts.{is_object, items_in, members_in};
+ghost use Rattle.cadf_json.specs.Value.{text as text_of};
+ghost use Rattle.cadf_json.specs.Flat.{text_at as bytes_at};
 
 use crate::Memory;
 use crate::node::{Node, Place};
 use crate::spelling::{push_bool, push_comma_if, push_quoted};
-use crate::walk::first_member;
+use crate::view::View;
 use std::alloc::Global;
 
-/// Appends the canonical text of the value.
+/// Appends the canonical text of the part.
 #[cycle(write_value)]
-pub(crate) fn write_value(
-    alloc: Global,
-    nodes: &[Node],
-    texts: &[u8],
-    out: &mut Vec<u8>,
-) -> Result<(), Memory>
-    requires { IsFlat texts.now nodes.now }
-    ensures { OnOk result (out.new.items ≡ out.old.items ++ text_of (decode texts.now nodes.now)) }
+pub(crate) fn write_value(alloc: Global, view: &View<'_>, out: &mut Vec<u8>) -> Result<(), Memory>
+    ensures { OnOk result (out.new.items ≡ out.old.items ++ text_of view.now) }
 {
-    match nodes[0] {
-        Node::Null => Ok(out.extend_from_slice(b"null")?),
-        Node::Fraction => Ok(()),
-        Node::Bool(b) => Ok(push_bool(b, out)?),
-        Node::Whole(place) => Ok(out.extend_from_slice(bytes_of(texts, place))?),
-        Node::Text(place) => Ok(push_quoted(alloc, text_at(texts, place), out)?),
-        Node::Array(_) => Ok(write_items(alloc, &nodes[1..], texts, out)?),
-        Node::Object(_) => Ok(write_members(alloc, &nodes[1..], texts, out)?),
+    if view.is_list() {
+        write_items(alloc, view, out)
+    } else if view.is_object() {
+        write_members(alloc, view, out)
+    } else {
+        write_scalar(alloc, view, out)
+    }
+}
+
+/// Appends the canonical text of a part that is no list and no object.
+fn write_scalar(alloc: Global, view: &View<'_>, out: &mut Vec<u8>) -> Result<(), Memory>
+    requires { (is_some (as_array view.now) ≡ false) × (is_object view.now ≡ false) }
+    ensures { OnOk result (out.new.items ≡ out.old.items ++ text_of view.now) }
+{
+    match view.nodes[0] {
+        Node::Null => out.extend_from_slice(b"null"),
+        Node::Bool(b) => push_bool(b, out),
+        Node::Whole(place) => out.extend_from_slice(bytes_of(view.texts, place)),
+        Node::Text(place) => push_quoted(alloc, text_at(view.texts, place), out),
+        Node::Fraction | Node::Array(_) | Node::Object(_) => Ok(()),
     }
 }
 
@@ -61,19 +68,14 @@ pub(crate) fn as_text(bytes: &[u8]) -> &str
 /// Appends the items with their brackets.
 #[cycle(write_value)]
 #[inline(never)]
-fn write_items(alloc: Global, nodes: &[Node], texts: &[u8], out: &mut Vec<u8>) -> Result<(), Memory>
-    requires { (ds : Items) × (ItemsStand texts.now ds nodes.now × ItemsAreWhole ds) }
-    ensures { OnOk result ((ds : Items) → ItemsStand texts.now ds nodes.now → ItemsAreWhole ds
-        → out.new.items ≡ out.old.items ++ text_of (array ds)) }
+fn write_items(alloc: Global, view: &View<'_>, out: &mut Vec<u8>) -> Result<(), Memory>
+    ensures { OnOk result (out.new.items ≡ out.old.items ++ text_of (array (items_in view.now))) }
 {
     out.push(b'[')?;
-    let mut rest = nodes;
     let mut later = false;
-    'items: while !rest.is_empty() {
+    for item in view.items() {
         push_comma_if(later, out)?;
-        let (item, more) = rest.split_at(rest[0].size());
-        write_value(alloc, item, texts, out)?;
-        rest = more;
+        write_value(alloc, &item, out)?;
         later = true;
     }
     out.push(b']')?;
@@ -83,27 +85,16 @@ fn write_items(alloc: Global, nodes: &[Node], texts: &[u8], out: &mut Vec<u8>) -
 /// Appends the members with their braces.
 #[cycle(write_value)]
 #[inline(never)]
-fn write_members(
-    alloc: Global,
-    nodes: &[Node],
-    texts: &[u8],
-    out: &mut Vec<u8>,
-) -> Result<(), Memory>
-    requires { (ms : Members) × (MembersStand texts.now ms nodes.now × MembersAreWhole ms) }
-    ensures { OnOk result ((ms : Members) → MembersStand texts.now ms nodes.now → MembersAreWhole ms
-        → out.new.items ≡ out.old.items ++ text_of (object ms)) }
+fn write_members(alloc: Global, view: &View<'_>, out: &mut Vec<u8>) -> Result<(), Memory>
+    ensures { OnOk result (out.new.items ≡ out.old.items ++ text_of (object (members_in view.now))) }
 {
     out.push(b'{')?;
-    let mut rest = nodes;
     let mut later = false;
-    'members: while !rest.is_empty() {
+    for member in view.members() {
         push_comma_if(later, out)?;
-        let (name, size) = first_member(rest, texts);
-        push_quoted(alloc, as_text(name), out)?;
+        push_quoted(alloc, member.name, out)?;
         out.push(b':')?;
-        let (member, more) = rest.split_at(size);
-        write_value(alloc, &member[1..], texts, out)?;
-        rest = more;
+        write_value(alloc, &member.value, out)?;
         later = true;
     }
     out.push(b'}')?;

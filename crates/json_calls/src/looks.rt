@@ -25,12 +25,8 @@ pub(crate) fn value_kind(alloc: Global, bytes: &[u8]) -> Result<String, Memory> 
 pub(crate) fn reused(alloc: Global, call: &Call) -> Result<String, Memory> {
     let mut json = Json::new(alloc);
     let mut scratch = Scratch::new(alloc);
-    let _first = json.read_into(alloc, &mut scratch, call.bytes(2));
-    let read = match call.text(1) {
-        "canonical" => json.read_canonical_into(alloc, &mut scratch, call.text(3)),
-        _ => json.read_into(alloc, &mut scratch, call.bytes(3)),
-    };
-    match read {
+    let _first = json.read_into(alloc, &mut scratch, call.bytes(1));
+    match json.read_into(alloc, &mut scratch, call.bytes(2)) {
         Ok(()) => shown(alloc, "ok", &json.view()),
         Err(fault) => calls::refused(alloc, &fault),
     }
@@ -55,7 +51,6 @@ fn seen(alloc: Global, call: &Call, view: &View<'_>) -> Result<String, Memory> {
         "members" => members(alloc, view),
         "within" => within(alloc, view, call),
         "rewritten_text" => rewritten_text(alloc, view, call),
-        "reborrow" => shown(alloc, "ok", &view.reborrow()),
         _ => shown(alloc, "ok", view),
     }
 }

@@ -1,12 +1,12 @@
-use Rattle.std.proofs.Common.{◌-◌, ℕ, List, length, drop}
-use Rattle.serde_json.specs.Data.{Members}
-use Rattle.cadf_json.specs.Reading.{AreSpans, lasts}
-use Rattle.cadf_json.proofs.Spans.{Copied}
+use Rattle.std.proofs.Common.{◌≡◌, ◌+◌, ◌-◌, ◌++◌, length, drop}
+use Rattle.cadf_json.specs.Reading.{nodes_of, lasts}
 use Rattle.cadf_json.proofs.order.copy_lasts.Given as goal
 
-abbrev pub invariant-spans : goal.invariant-spans
-invariant-spans l =
-    (t : List ℕ) (ms : Members) → AreSpans t l.members (lasts l.spans) ms → Copied t l.members l.fn.out.items l.out.items (lasts (drop l.at l.spans)) ms l.count
+abbrev pub invariant-members : goal.invariant-members
+invariant-members l = record {
+  nodes : l.out.items ++ nodes_of (lasts (drop l.at l.named)) ≡ l.fn.out.items ++ nodes_of (lasts l.named);
+  counted : l.count + length (lasts (drop l.at l.named)) ≡ length (lasts l.named);
+}
 
-abbrev pub decreases-spans : goal.decreases-spans
-decreases-spans l = length l.spans - l.at
+abbrev pub decreases-members : goal.decreases-members
+decreases-members l = length l.named - l.at

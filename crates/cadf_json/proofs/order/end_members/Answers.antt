@@ -1,7 +1,7 @@
 use Rattle.std.proofs.Common.{set, refl, sym, subst, arith}
 use Rattle.cadf_json.specs.declared.node.Node.TheVariants.{Object}
 use Rattle.cadf_json.specs.Reading.{IsOpen, IsClosed, ordered}
-use Rattle.cadf_json.proofs.Spans.{open_within, closed}
+use Rattle.cadf_json.proofs.ByName.{open_within, closed}
 use Rattle.cadf_json.proofs.order.end_members.Goals as goal
 
 pub extent_from-requires : goal.extent_from-requires

@@ -1,7 +1,7 @@
 use Rattle.std.proofs.Common.{◌≡◌, ◌+◌, ◌-◌, ◌++◌, length, take, drop, refl, sym, ap, ◌∙◌, subst, rules}
 use Rattle.serde_json.specs.Data.{no_members}
 use Rattle.cadf_json.specs.Flat.{MembersStand, put_all}
-use Rattle.cadf_json.proofs.Spans.{rest_is, open_rest, reopened}
+use Rattle.cadf_json.proofs.ByName.{rest_is, open_rest, reopened}
 use Rattle.cadf_json.proofs.order.put_in_order.Goals as goal
 
 pub copy_in_order-requires : goal.copy_in_order-requires
@@ -11,7 +11,7 @@ copy_in_order-requires c =
     let first = c.args.at + 1 in
     let ms = c.requires.1.0 in
     let o = c.requires.1.1 in
-    let rest = ap (λ ns. take (length ns - first) (drop first ns)) c.deref.ensures.value ∙ rest_is t nodes first
+    let rest = ap (λ ns. take (length ns - first) (drop first ns)) c.deref.ensures.value ∙ rest_is nodes first
     ∙ (open_rest t c.requires.0 nodes c.args.at first ms o refl).0 in
     (ms, subst (MembersStand t ms) (sym rest) o.stands)
 
@@ -20,7 +20,7 @@ returns c = λ old ms o.
     let t = c.args.texts.now in
     let nodes = c.args.nodes.now.items in
     let first = c.args.at + 1 in
-    let rest = ap (λ ns. take (length ns - first) (drop first ns)) c.deref.ensures.value ∙ rest_is t nodes first
+    let rest = ap (λ ns. take (length ns - first) (drop first ns)) c.deref.ensures.value ∙ rest_is nodes first
     ∙ (open_rest t old nodes c.args.at first ms o refl).0 in
     let done = c.in_ok-count.ensures ms (subst (MembersStand t ms) (sym rest) o.stands) in
     let copy : c.copy_in_order.new.out.items ≡ done.0.0 = done.0.1.0 ∙ ap (λ ys. ys ++ done.0.0) (c.reserve.ensures.items ∙ c.clear.ensures.items) in

@@ -1,5 +1,5 @@
-use Rattle.std.proofs.Common.{◌+◌, ◌-◌, length, slice_index_or, take, drop, ap, ◌∙◌, arith}
-use Rattle.cadf_json.specs.declared.node.Node.TheVariants.{Null}
+use Rattle.std.proofs.Common.{◌+◌, ◌-◌, ◌∷◌, length, slice_index_or, take, drop, ap, ◌∙◌, arith, refl, length-append}
+use Rattle.cadf_json.specs.declared.node.Node.TheVariants.{Null, Text}
 use Rattle.cadf_json.specs.Flat.{size_of}
 use Rattle.cadf_json.proofs.Firsts.{opens, first_of}
 use Rattle.cadf_json.proofs.walk.first_member.Goals as goal
@@ -11,12 +11,24 @@ bounds-nodes-1 c =
     let long = ap length o.is in
     omega (arith, long)
 
-pub overflow_add-result : goal.overflow_add-result
-overflow_add-result c = let small = c.size-size.ensures.small in omega (arith, small)
+pub overflow_add-end : goal.overflow_add-end
+overflow_add-end c = let small = c.size-size.ensures.small in omega (arith, small)
+
+pub split_at-requires : goal.split_at-requires
+split_at-requires c =
+    let r = c.requires in
+    let o = opens c.args.texts.now c.args.nodes.now r.0 r.1.0 r.1.1.0 r.1.1.1 in
+    let sized = c.size-size.ensures.value ∙ ap (λ ns. size_of (slice_index_or ns 1 Null)) o.is in
+    let size = o.size in
+    let long = ap length o.is ∙ length-append (Text o.place ∷ o.x ∷ o.ys) o.zs in
+    omega (arith, sized, size, long)
 
 pub returns : goal.returns
 returns c = λ k d ms h.
-    let o = opens c.args.texts.now c.args.nodes.now k d ms h in
+    let t = c.args.texts.now in
+    let nodes = c.args.nodes.now in
+    let o = opens t nodes k d ms h in
     let place = c.place_of-place.ensures o.place (ap (λ ns. slice_index_or ns 0 Null) o.is) in
     let sized = c.size-size.ensures.value ∙ ap (λ ns. size_of (slice_index_or ns 1 Null)) o.is in
-    first_of c.args.texts.now c.args.nodes.now k d ms _ _ o (ap (λ p. take (p.end - p.start) (drop p.start c.args.texts.now)) place) (ap (λ n. n + 1) sized)
+    first_of t nodes k d ms _ _ o (ap (λ n. n + 1) sized) (ap (λ p. take (p.end - p.start) (drop p.start t)) place)
+    c.split_at.ensures.front refl c.split_at.ensures.back
