@@ -6,6 +6,7 @@ use Rattle.std.specs.Ordering.{match_ordering}
 use Rattle.std.specs.Cmp.Lexicographic.{slice_cmp}
 use Rattle.std.proofs.Math.Seq.{take-append_seam, drop-append_seam}
 use Rattle.serde_json.specs.Data.{Data, Members, no_members, member, put}
+use Rattle.cadf_json.proofs.Firsts.{no_member}
 use Rattle.cadf_json.proofs.Splits.{same_name}
 use Rattle.cadf_json.specs.declared.node.Extent.{Extent}
 use Rattle.cadf_json.specs.declared.node.Node.{Node}
@@ -55,41 +56,21 @@ module _ (t : List ℕ) where
   naming_start es nodes ms none h =
       record { left = ms; before = no_members; named = subst (λ fs. AreNamed t fs no_members) (sym none) tt; puts = refl; stands = h }
 
-  pub record Another (rest : List Node) (before ms : Members) : Type 0 where
-    pub k : List ℕ
-    pub d : Data
-    pub later : Members
-    pub puts : put_all later (put k d before) ≡ put_all ms no_members
-    pub stands : MembersStand t (member k d later) rest
-
-  another_at : (rest : List Node) (before ms left : Members) → put_all left before ≡ put_all ms no_members → 0 < length rest → MembersStand t left rest
-      → Another rest before ms
-  another_at rest before ms no_members puts some h = let none = ap length h in absurd (omega (arith, none, some))
-  another_at rest before ms (member k d later) puts some h = record { k = k; d = d; later = later; puts = puts; stands = h }
-
-  pub another : (es : List Entry) (rest : List Node) (ms : Members) → 0 < length rest → (n : Naming es rest ms) → Another rest n.before ms
-  another es rest ms some n = another_at rest n.before ms n.left n.puts some n.stands
-
-  pub naming_more : (es : List Entry) (rest : List Node) (ms : Members) (f : FirstMember) (p : Named) (n : Naming es rest ms) → (a : Another rest n.before ms)
-      → IsFirstMember t rest a.k a.d a.later f → p.nodes.now ≡ f.nodes.now → Naming (entries.put name_cmp f.name.now p es) f.rest.now ms
-  naming_more es rest ms f p n a m same = record {
-    left = a.later;
-    before = put f.name.now a.d n.before;
-    named = named_put es n.before f.name.now p a.d n.named
-        (subst (λ k. MembersStand t (member k a.d no_members) p.nodes.now) (sym m.name_is) (subst (MembersStand t (member a.k a.d no_members)) (sym same) m.one));
-    puts = ap (λ k. put_all a.later (put k a.d n.before)) m.name_is ∙ a.puts;
+  pub naming_more : (es : List Entry) (rest : List Node) (ms : Members) (k : List ℕ) (d : Data) (later : Members) (f : FirstMember) (p : Named)
+      → (n : Naming es rest ms) → n.left ≡ member k d later → IsFirstMember t rest k d later f → p.nodes.now ≡ f.nodes.now
+      → Naming (entries.put name_cmp f.name.now p es) f.rest.now ms
+  naming_more es rest ms k d later f p n is m same = record {
+    left = later;
+    before = put f.name.now d n.before;
+    named = named_put es n.before f.name.now p d n.named
+        (subst (λ l. MembersStand t (member l d no_members) p.nodes.now) (sym m.name_is) (subst (MembersStand t (member k d no_members)) (sym same) m.one));
+    puts = ap (λ l. put_all later (put l d n.before)) m.name_is ∙ ap (λ ns. put_all ns n.before) (sym is) ∙ n.puts;
     stands = m.rest;
   }
 
-  naming_over_at : (es : List Entry) (rest : List Node) (ms left before : Members) → length rest ≡ 0 → MembersStand t left rest → AreNamed t es before
-      → put_all left before ≡ put_all ms no_members → AreNamed t es (put_all ms no_members)
-  naming_over_at es rest ms no_members before none h named puts = subst (AreNamed t es) puts named
-  naming_over_at es rest ms (member k d left) before none (p, (ys, (zs, (is, at, value, j)))) named puts =
-      let some = ap length is in
-      absurd (omega (arith, some, none))
-
   pub naming_over : (es : List Entry) (rest : List Node) (ms : Members) → length rest ≡ 0 → Naming es rest ms → AreNamed t es (put_all ms no_members)
-  naming_over es rest ms none n = naming_over_at es rest ms n.left n.before none n.stands n.named n.puts
+  naming_over es rest ms none n =
+      subst (AreNamed t es) (ap (λ ns. put_all ns n.before) (sym (no_member t rest n.left none n.stands)) ∙ n.puts) n.named
 
   -- ---- their nodes
 

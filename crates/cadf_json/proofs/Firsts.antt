@@ -1,7 +1,7 @@
 -- The first of several values: how many nodes it has.
-use Rattle.std.proofs.Common.{◌≡◌, ℕ, suc, ◌+◌, ◌-◌, List, [], ◌∷◌, ◌++◌, length, take, drop, refl, sym, ap, ap₂, ◌∙◌, subst, arith, inl, inr, append-nil, length-append, take_all}
+use Rattle.std.proofs.Common.{◌≡◌, ℕ, suc, ◌+◌, ◌-◌, ◌<◌, List, [], ◌∷◌, ◌++◌, length, take, drop, refl, sym, ap, ap₂, ◌∙◌, subst, arith, inl, inr, append-nil, length-append, take_all}
 use Rattle.std.proofs.Math.Seq.{take-append_seam, drop-append_seam}
-use Rattle.serde_json.specs.Data.{Num, Data, null, boolean, number, string, array, object, Members, member}
+use Rattle.serde_json.specs.Data.{Num, Data, null, boolean, number, string, array, object, Members, no_members, member}
 use Rattle.cadf_json.specs.declared.node.Node.{Node}
 use Rattle.cadf_json.specs.declared.node.Node.TheVariants.{Null, Bool as Truth, Whole, Fraction, Text, Array, Object}
 use Rattle.cadf_json.specs.declared.node.Place.{Place}
@@ -30,6 +30,16 @@ begins t (number n) xs h = number_begins t n xs h
 begins t (string s) xs (p, (is, at)) = begins_with xs [] (Text p) is refl
 begins t (array ds) xs (e, (ys, (is, extent, h))) = begins_with xs ys (Array e) is extent.0
 begins t (object ms) xs (e, (ys, (is, extent, h))) = begins_with xs ys (Object e) is extent.0
+
+-- nodes that are left have a first member
+pub some_member : (t : List ℕ) (rest : List Node) (left : Members) → 0 < length rest → MembersStand t left rest
+    → (k : List ℕ) × ((d : Data) × ((later : Members) × ((left ≡ member k d later) × MembersStand t (member k d later) rest)))
+some_member t rest no_members some h = let none = ap length h in absurd (omega (arith, some, none))
+some_member t rest (member k d later) some h = (k, (d, (later, (refl, h))))
+
+pub no_member : (t : List ℕ) (rest : List Node) (left : Members) → length rest ≡ 0 → MembersStand t left rest → left ≡ no_members
+no_member t rest no_members none h = refl
+no_member t rest (member k d later) none (p, (ys, (zs, (is, at, value, j)))) = let some = ap length is in absurd (omega (arith, some, none))
 
 -- the first member: its name's place, and the first node of its value
 pub record Opens (t : List ℕ) (nodes : List Node) (k : List ℕ) (d : Data) (ms : Members) : Type 0 where

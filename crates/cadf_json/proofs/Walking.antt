@@ -6,7 +6,7 @@ use Rattle.std.specs.Prelude.{slice_index_or}
 use Rattle.serde_json.specs.Data.{Data, null, boolean, number, string, array, object, Items, no_items, item, Members, no_members, member, items_depth}
 use Rattle.serde_json.specs.Find.{as_array}
 use Rattle.cadf_json.specs.Parts.{is_object, items_in, members_in}
-use Rattle.cadf_json.specs.Value.{IsWhole, ItemsAreWhole, MembersAreWhole, IsValue, AreMembers, Rises, RisesFrom}
+use Rattle.cadf_json.specs.Value.{ItemsAreWhole, IsValue, AreMembers, Rises, RisesFrom}
 use Rattle.cadf_json.specs.Flat.{size_of, node_values, decode, Stands, ItemsStand, MembersStand}
 use Rattle.cadf_json.specs.Reading.{IsFirstMember}
 use Rattle.cadf_json.specs.Walks.{paired, members_at, AreItemsLeft, AreMembersLeft}
@@ -16,7 +16,7 @@ use Rattle.cadf_json.specs.declared.walk.FirstMember.{FirstMember}
 use Rattle.cadf_json.proofs.Decoding.{flattened, items_values, members_values, decoded_whole}
 use Rattle.cadf_json.proofs.Passing.{followed-none}
 use Rattle.cadf_json.proofs.Texts.{has_float-IsWhole}
-use Rattle.cadf_json.proofs.Firsts.{begins}
+use Rattle.cadf_json.proofs.Firsts.{begins, some_member}
 
 paired_flattened : (ms : Members) → paired (flattened ms no_items) ≡ ms
 paired_flattened no_members = refl
@@ -58,71 +58,29 @@ module _ (t : List ℕ) where
 
   -- ---- the next item
 
-  record FirstItem (rest : List Node) (left : Items) : Type 0 where
-    pub d : Data
-    pub later : Items
-    pub is : left ≡ item d later
-    pub size : ℕ
-    pub size_is : size_of (slice_index_or rest 0 Null) ≡ size
-    pub within : size ≤ length rest
-    pub some : 0 < size
-    pub stands : Stands t d (take size rest)
-    pub behind : ItemsStand t later (drop size rest)
-    pub whole : IsWhole d
-    pub others : ItemsAreWhole later
-
-  first_item : (rest : List Node) (left : Items) → 0 < length rest → ItemsStand t left rest → ItemsAreWhole left → FirstItem rest left
-  first_item rest no_items some h w = let none = ap length h in absurd (omega (arith, some, none))
-  first_item rest (item d later) some (ys, (zs, (is, h, k))) w =
-      let b = begins t d ys h in
-      let long = ap length is ∙ length-append ys zs in
-      let begun = ap length b.is in
-      record {
-        d = d;
-        later = later;
-        is = refl;
-        size = length ys;
-        size_is = ap (λ xs. size_of (slice_index_or xs 0 Null)) (is ∙ ap (λ xs. xs ++ zs) b.is) ∙ b.size;
-        within = omega (arith, long);
-        some = omega (arith, begun);
-        stands = subst (Stands t d) (sym (ap (take (length ys)) is ∙ take-append_seam ys zs)) h;
-        behind = subst (ItemsStand t later) (sym (ap (drop (length ys)) is ∙ drop-append_seam ys zs)) k;
-        whole = w.0;
-        others = w.1;
-      }
-
   pub record NextItem (rest : List Node) (n : ℕ) : Type 0 where
     pub within : n ≤ length rest
     pub value : Stands t (decode t (take n rest)) (take n rest) × IsValue (decode t (take n rest))
     pub left : AreItemsLeft t (drop n rest)
     pub is : node_values t rest ≡ item (decode t (take n rest)) (node_values t (drop n rest))
 
+  next_item_at : (rest : List Node) (n : ℕ) (left : Items) → node_values t rest ≡ left → 0 < length rest → ItemsStand t left rest → ItemsAreWhole left
+      → items_depth left ≤ 126 → n ≡ size_of (slice_index_or rest 0 Null) → NextItem rest n
+  next_item_at rest n no_items e some h w deep size = let none = ap length h in absurd (omega (arith, some, none))
+  next_item_at rest n (item d later) e some (ys, (zs, (is, h, k))) w deep size =
+      let b = begins t d ys h in
+      let is_n : n ≡ length ys = size ∙ ap (λ xs. size_of (slice_index_or xs 0 Null)) (is ∙ ap (λ xs. xs ++ zs) b.is) ∙ b.size in
+      let long = ap length is ∙ length-append ys zs in
+      let first : take n rest ≡ ys = ap₂ take is_n is ∙ take-append_seam ys zs in
+      let behind : drop n rest ≡ zs = ap₂ drop is_n is ∙ drop-append_seam ys zs in
+      let v = seen d (take n rest) (subst (Stands t d) (sym first) h) (w.0, omega (arith, deep)) in
+      let l = items_left_of later (drop n rest) (subst (ItemsStand t later) (sym behind) k) w.1 (omega (arith, deep)) in
+      record { within = omega (arith, is_n, long); value = v.0; left = l.0; is = e ∙ ap₂ item (sym v.1) (sym l.1) }
+
   pub next_item : (rest : List Node) (n : ℕ) → 0 < length rest → AreItemsLeft t rest → n ≡ size_of (slice_index_or rest 0 Null) → NextItem rest n
-  next_item rest n some h size =
-      let f = first_item rest (node_values t rest) some h.stand h.whole in
-      let is_n : n ≡ f.size = size ∙ f.size_is in
-      let deep : items_depth (item f.d f.later) ≤ 126 = subst (λ es. items_depth es ≤ 126) f.is h.shallow in
-      let v = seen f.d (take n rest) (subst (λ m. Stands t f.d (take m rest)) (sym is_n) f.stands) (f.whole, omega (arith, deep)) in
-      let l = items_left_of f.later (drop n rest) (subst (λ m. ItemsStand t f.later (drop m rest)) (sym is_n) f.behind) f.others (omega (arith, deep)) in
-      let inside = f.within in
-      record { within = omega (arith, is_n, inside); value = v.0; left = l.0; is = f.is ∙ ap₂ item (sym v.1) (sym l.1) }
+  next_item rest n some h size = next_item_at rest n (node_values t rest) refl some h.stand h.whole h.shallow size
 
   -- ---- the next member
-
-  record FirstLeft (rest : List Node) (left : Members) : Type 0 where
-    pub k : List ℕ
-    pub d : Data
-    pub later : Members
-    pub is : left ≡ member k d later
-    pub stands : MembersStand t (member k d later) rest
-    pub utf8 : IsUtf8 k
-    pub whole : IsWhole d
-    pub others : MembersAreWhole later
-
-  first_left : (rest : List Node) (left : Members) → 0 < length rest → MembersStand t left rest → MembersAreWhole left → FirstLeft rest left
-  first_left rest no_members some h w = let none = ap length h in absurd (omega (arith, some, none))
-  first_left rest (member k d later) some h w =
-      record { k = k; d = d; later = later; is = refl; stands = h; utf8 = w.0; whole = w.1; others = w.2 }
 
   abbrev IsFirst : List Node → FirstMember → Type 0
   IsFirst rest f = (k : List ℕ) (d : Data) (ms : Members) → MembersStand t (member k d ms) rest → IsFirstMember t rest k d ms f
@@ -135,21 +93,26 @@ module _ (t : List ℕ) where
 
   pub any_member : (rest : List Node) → 0 < length rest → AreMembersLeft t rest
       → (k : List ℕ) × ((d : Data) × ((ms : Members) × MembersStand t (member k d ms) rest))
-  any_member rest some h = let l = first_left rest (members_at t rest) some h.stand h.are_members.0 in (l.k, (l.d, (l.later, l.stands)))
+  any_member rest some h =
+      let l = some_member t rest (members_at t rest) some h.stand in
+      (l.0, (l.1.0, (l.1.1.0, l.1.1.1.1)))
 
   pub next_member : (rest : List Node) (f : FirstMember) → 0 < length rest → AreMembersLeft t rest → IsFirst rest f → NextMember rest f
   next_member rest f some h first =
-      let l = first_left rest (members_at t rest) some h.stand h.are_members.0 in
-      let m = first l.k l.d l.later l.stands in
-      let all : AreMembers (member l.k l.d l.later) = subst AreMembers l.is h.are_members in
+      let l = some_member t rest (members_at t rest) some h.stand in
+      let k = l.0 in
+      let d = l.1.0 in
+      let later = l.1.1.0 in
+      let m = first k d later l.1.1.1.1 in
+      let all : AreMembers (member k d later) = subst AreMembers l.1.1.1.0 h.are_members in
       let deep = all.2 in
-      let v = seen l.d f.value.now m.value (l.whole, omega (arith, deep)) in
-      let r = members_left_of l.later f.rest.now m.rest (l.others, later_rises l.k l.later all.1, omega (arith, deep)) in
+      let v = seen d f.value.now m.value (all.0.1, omega (arith, deep)) in
+      let r = members_left_of later f.rest.now m.rest (all.0.2, later_rises k later all.1, omega (arith, deep)) in
       record {
-        utf8 = subst IsUtf8 (sym m.name_is) l.utf8;
+        utf8 = subst IsUtf8 (sym m.name_is) all.0.0;
         value = v.0;
         left = r.0;
-        is = l.is ∙ ap (λ k. member k l.d l.later) (sym m.name_is) ∙ ap₂ (member f.name.now) (sym v.1) (sym r.1);
+        is = l.1.1.1.0 ∙ ap (λ n. member n d later) (sym m.name_is) ∙ ap₂ (member f.name.now) (sym v.1) (sym r.1);
       }
 
   -- ---- the items and members of a value

@@ -34,51 +34,34 @@ pub(crate) fn end_members(
     ensures { OnOk result ((old : ListOf NodeOf) (ms : Members) → IsOpen texts.now.items old nodes.old.items at ms → count ≡ members_count ms
         → IsClosed texts.now.items old nodes.new.items (ordered rising ms)) }
 {
-    let kept = settle(alloc, rising, at, count, nodes, texts.as_slice(), spare)?;
+    let kept = put_in_order(alloc, rising, at, count, nodes, texts, spare)?;
     let extent = extent_from(nodes, at, kept)?;
     nodes[at] = Node::Object(extent);
     Ok(())
 }
 
-/// Puts the members in order if they aren't, and returns how many there are.
-fn settle(
+/// Puts the members that were appended after the node at `at` in the order of their names, unless they rise; of two with
+/// the same name the later one stays. Returns how many there are.
+fn put_in_order(
     alloc: Global,
     rising: bool,
     at: usize,
     count: u32,
     nodes: &mut Vec<Node>,
-    texts: &[u8],
+    texts: &Vec<u8>,
     spare: &mut Vec<Node>,
 ) -> Result<u32, AllocError>
-    requires { (old : ListOf NodeOf) × ((ms : Members) × IsOpen texts.now old nodes.old.items at ms) }
-    ensures { IfOk result (λ n. (old : ListOf NodeOf) (ms : Members) → IsOpen texts.now old nodes.old.items at ms → count ≡ members_count ms
-        → IsOpen texts.now old nodes.new.items at (ordered rising ms) × (n ≡ members_count (ordered rising ms))) }
+    requires { (old : ListOf NodeOf) × ((ms : Members) × IsOpen texts.now.items old nodes.old.items at ms) }
+    ensures { IfOk result (λ n. (old : ListOf NodeOf) (ms : Members) → IsOpen texts.now.items old nodes.old.items at ms → count ≡ members_count ms
+        → IsOpen texts.now.items old nodes.new.items at (ordered rising ms) × (n ≡ members_count (ordered rising ms))) }
 {
     if rising {
         return Ok(count);
     }
-    let count = put_in_order(alloc, at, count, nodes, texts, spare)?;
-    Ok(count)
-}
-
-/// Puts the members that were appended after the node at `at` in the order of their names; of two with the same name
-/// the later one stays. Returns how many there are. Room is made for `count` members.
-fn put_in_order(
-    alloc: Global,
-    at: usize,
-    count: u32,
-    nodes: &mut Vec<Node>,
-    texts: &[u8],
-    spare: &mut Vec<Node>,
-) -> Result<u32, AllocError>
-    requires { (old : ListOf NodeOf) × ((ms : Members) × IsOpen texts.now old nodes.old.items at ms) }
-    ensures { IfOk result (λ n. (old : ListOf NodeOf) (ms : Members) → IsOpen texts.now old nodes.old.items at ms
-        → IsOpen texts.now old nodes.new.items at (put_all ms no_members) × (n ≡ members_count (put_all ms no_members))) }
-{
     let first = at + 1;
     spare.clear();
     spare.reserve(nodes.len() - first)?;
-    let count = copy_in_order(alloc, count, &nodes[first..], texts, spare)?;
+    let count = copy_in_order(alloc, count, &nodes[first..], texts.as_slice(), spare)?;
     nodes.truncate(first);
     nodes.extend_from_slice(spare.as_slice())?;
     free_if_large(alloc, spare);
@@ -92,7 +75,7 @@ fn free_if_large(alloc: Global, spare: &mut Vec<Node>) {
     }
 }
 
-/// Appends the members in the order of their names, and returns how many there are.
+/// Appends the members in the order of their names, and returns how many there are. Room is made for `count` members.
 fn copy_in_order(
     alloc: Global,
     count: u32,
