@@ -1,6 +1,7 @@
 -- The value that nodes are is determined by them, and so is whether a number of it isn't whole.
 use Rattle.std.proofs.Common.{◌≡◌, ℕ, List, [], ◌++◌, Bool, true, false, ◌||◌, refl, sym, ap, ap₂, ◌∙◌, inl, inr, append_assoc, append-nil}
 use Rattle.std.proofs.lemmas.Bool.{or_parts}
+use Rattle.std.proofs.Math.Bool.{or-false}
 use Rattle.serde_json.specs.Data.{Num, unsigned, negative, float, Data, null, boolean, number, string, array, object, Items, no_items, item, Members, no_members, member}
 use Rattle.serde_json.specs.Find.{is_float}
 use Rattle.serde_json.specs.Written.{has_float, items_have_float, members_have_float}
@@ -111,9 +112,5 @@ module _ (t : List ℕ) where
         ap (λ zs. have_fraction (zs ++ ys)) is ∙ ap have_fraction (append_assoc vs ws ys) ∙ fraction_of d vs (ws ++ ys) h
         ∙ ap (λ b. has_float d || b) (members_fraction ms ws ys j) ∙ or_assoc (has_float d) (members_have_float ms) (have_fraction ys)
 
-  or_none : (b : Bool) → (b || false) ≡ b
-  or_none true = refl
-  or_none false = refl
-
   pub fraction_is : (d : Data) (xs : List Node) → Stands t d xs → have_fraction xs ≡ has_float d
-  fraction_is d xs h = ap have_fraction (sym (append-nil xs)) ∙ fraction_of d xs [] h ∙ or_none (has_float d)
+  fraction_is d xs h = ap have_fraction (sym (append-nil xs)) ∙ fraction_of d xs [] h ∙ or-false (has_float d)

@@ -1,6 +1,6 @@
 -- The loops of the descent: items and members, appended as they are read.
 use Rattle.std.proofs.Common.{◌≡◌, ℕ, zero, suc, ◌+◌, ◌-◌, ◌<◌, ◌≤◌, List, [], ◌∷◌, ◌++◌, length, set, Bool, true, false, ◌&&◌, Option, Some, None, option_map, refl, sym, ap, ◌∙◌, subst, arith, append_assoc, append-nil, length-append}
-use Rattle.std.proofs.Common.{Less, nat_cmp}
+use Rattle.std.proofs.Common.{Ordering, Less, Equal, Greater, nat_cmp}
 use Rattle.std.specs.Cmp.Lexicographic.{slice_cmp}
 use Rattle.std.proofs.Math.Seq.{set-append_seam}
 use Rattle.json.specs.Token.{Token}
@@ -13,7 +13,8 @@ use Rattle.serde_json.specs.Read.{of_json, of_items, of_members, converted}
 use Rattle.cadf_json.specs.Canonical.{is_name_above}
 use Rattle.cadf_json.proofs.Orders.{AreBelow, joined, push_if_last, AreBelow-further, AreBelow-joined}
 use Rattle.cadf_json.proofs.Passing.{followed, followed-none, with_last, further as further_items, parsed_none}
-use Rattle.cadf_json.proofs.RisingRows.{less_from, both_true}
+use Rattle.std.proofs.lemmas.Bool.{and_parts}
+use Rattle.std.specs.Ordering.{is_lt}
 use Rattle.cadf_json.proofs.Turns.{item_read, items_over, member_read, members_over}
 use Rattle.cadf_json.specs.declared.node.Node.{Node}
 use Rattle.cadf_json.specs.declared.node.Node.TheVariants.{Null, Text, Array}
@@ -179,6 +180,11 @@ abbrev pub IsLast : Members → Option (List ℕ) → Type 0
 IsLast got None = got ≡ no_members
 IsLast got (Some l) = (k : List ℕ) → slice_cmp nat_cmp l k ≡ Less → AreBelow got k
 
+less_from : (o : Ordering) → is_lt o ≡ true → o ≡ Less
+less_from Less h = refl
+less_from Equal h = absurd cc
+less_from Greater h = absurd cc
+
 below_next : (got : Members) (last : Option (List ℕ)) (k : List ℕ) → IsLast got last → is_name_above last k ≡ true → AreBelow got k
 below_next got None k h above = subst (λ ms. AreBelow ms k) (sym h) tt
 below_next got (Some l) k h above = h k (less_from (slice_cmp nat_cmp l k) above)
@@ -251,7 +257,7 @@ module _ (p : Parse json.Json) (start : List Token) (old : List Node) (t : List 
         left = h.left ∙ member_read p (put_all h.got no_members) h.bound k now s r d (omega (arith, enough, less)) key read
             ∙ ap (λ found. converted (λ ms. of_members ms found) (members p (h.bound - 1) r)) (sym (put_last h.got k d no_members));
         shorter = omega (arith, shorter, less);
-        in_order = λ still. let both = both_true rising (is_name_above last k) still in rises_further h.got last k d (h.in_order both.0) both.1;
+        in_order = λ still. let both = and_parts rising (is_name_above last k) still in rises_further h.got last k d (h.in_order both.0) both.1;
         xs = h.xs ++ Text place ∷ g.xs;
         more = h.more ++ (named.more ++ g.more);
         nodes_are = new_are ∙ ap (λ ys. ys ++ Text place ∷ g.xs) h.nodes_are ∙ append_assoc old (Null ∷ h.xs) (Text place ∷ g.xs);

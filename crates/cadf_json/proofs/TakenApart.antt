@@ -24,7 +24,7 @@ use Rattle.cadf_json.proofs.Looks.{member_here, member_passed}
 use Rattle.cadf_json.proofs.Loops.{AreRising, rises_further, put_last}
 use Rattle.cadf_json.proofs.Orders.{joined}
 use Rattle.cadf_json.proofs.Rewriting.{get-put}
-use Rattle.cadf_json.proofs.RisingRows.{both_true}
+use Rattle.std.proofs.lemmas.Bool.{and_parts}
 use Rattle.cadf_json.proofs.Splits.{same_name}
 use Rattle.cadf_json.proofs.Standing.{text_further, members_further, members_last, count_joined}
 use Rattle.cadf_json.proofs.Turns.{member_read, members_over}
@@ -242,7 +242,7 @@ module _ {T : Type 0} (took : T → List Data → Type 0) (name : List ℕ) (p :
             ∙ ap (λ found. converted (λ ms. of_members ms found) (members p (h.bound - 1) r)) (sym (put_last h.got k d no_members));
         shorter = omega (arith, shorter, less);
         taken = subst (λ ms. TookItems took s (get_member name ms)) (sym (put_last h.got k d no_members)) taken;
-        in_order = λ still. let both = both_true rising (is_name_above last k) still in
+        in_order = λ still. let both = and_parts rising (is_name_above last k) still in
             subst (λ ms. AreRising ms (Some k)) (sym is_joined) (rises_further before_got last k e (h.in_order both.0) both.1);
         xs = h.xs ++ Text place ∷ g.xs;
         more = h.more ++ (named.more ++ g.more);

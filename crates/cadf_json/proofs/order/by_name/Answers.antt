@@ -1,4 +1,4 @@
-use Rattle.std.proofs.Common.{◌≡◌, ◌<◌, [], length, refl, sym, ap, ◌∙◌, subst, arith}
+use Rattle.std.proofs.Common.{◌≡◌, [], length, refl, sym, ap, ◌∙◌, subst, arith}
 use Rattle.cadf_json.specs.declared.order.Named.{Named}
 use Rattle.cadf_json.specs.Reading.{put_named}
 use Rattle.cadf_json.proofs.ByName.{Naming, put_named_push, naming_start, naming_more, naming_over}
@@ -12,18 +12,16 @@ pub first_member-first-requires : goal.first_member-first-requires
 first_member-first-requires c =
     let t = c.args.texts.now in
     let rest = c.members.rest.now in
-    let some : 0 < length rest = grind arith in
     let n = c.members.invariant c.requires.0 c.requires.1 in
-    let l = some_member t rest n.left some n.stands in
+    let l = some_member t rest n.left (grind arith) n.stands in
     (l.0, (l.1.0, (l.1.1.0, l.1.1.1.1)))
 
 pub members-smaller : goal.members-smaller
 members-smaller c =
     let t = c.args.texts.now in
     let rest = c.members.rest.now in
-    let some : 0 < length rest = grind arith in
     let n = c.members.invariant c.requires.0 c.requires.1 in
-    let l = some_member t rest n.left some n.stands in
+    let l = some_member t rest n.left (grind arith) n.stands in
     (c.first_member-first.ensures l.0 l.1.0 l.1.1.0 l.1.1.1.1).shorter
 
 pub members-preserved : goal.members-preserved
@@ -32,9 +30,8 @@ members-preserved c = λ ms h.
     let rest = c.members.rest.now in
     let f = c.first_member-first.result in
     let p : Named = record { name = f.name; nodes = f.nodes } in
-    let some : 0 < length rest = grind arith in
     let n = c.members.invariant ms h in
-    let l = some_member t rest n.left some n.stands in
+    let l = some_member t rest n.left (grind arith) n.stands in
     subst (λ es. Naming t es f.rest.now ms) (sym (ap (λ ps. put_named ps []) c.in_ok-push.ensures.items ∙ put_named_push c.members.named.items p []))
     (naming_more t (put_named c.members.named.items []) rest ms l.0 l.1.0 l.1.1.0 f p n l.1.1.1.0
     (c.first_member-first.ensures l.0 l.1.0 l.1.1.0 l.1.1.1.1) refl)
