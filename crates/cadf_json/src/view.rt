@@ -162,7 +162,7 @@ impl<'v> View<'v> {
         for member in self.members() {
             if member
                 .value
-                .nests_below(limit_of(limits, others, member.name))
+                .nests_deeper(limit_of(limits, others, member.name))
             {
                 return false;
             }
@@ -170,8 +170,8 @@ impl<'v> View<'v> {
         true
     }
 
-    /// Returns whether lists and objects nest deeper than that. As many nodes, or fewer, don't.
-    fn nests_below(&self, limit: u8) -> bool
+    /// Returns whether lists and objects nest deeper than the limit. A part of no more nodes than that doesn't.
+    fn nests_deeper(&self, limit: u8) -> bool
         ensures { result ≡ not (nat_le (nesting self.now) limit) }
     {
         self.nodes.len() > limit as usize && self.depth() > limit

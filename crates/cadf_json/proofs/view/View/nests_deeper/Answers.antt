@@ -1,7 +1,7 @@
 use Rattle.std.proofs.Common.{◌≡◌, ℕ, ◌≤◌, not, nat_le, nat_lt, length, subst, arith}
 use Rattle.serde_json.specs.Data.{depth}
 use Rattle.cadf_json.proofs.Depths.{nests_within}
-use Rattle.cadf_json.proofs.view.View.nests_below.Goals as goal
+use Rattle.cadf_json.proofs.view.View.nests_deeper.Goals as goal
 
 shallow : (limit nodes deep : ℕ) → nodes ≤ limit → deep ≤ nodes → nat_lt limit nodes ≡ not (nat_le deep limit)
 shallow limit nodes deep few within = grind arith
