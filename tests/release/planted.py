@@ -85,6 +85,9 @@ ROWS = [
     Row("listener: no memory is tried again", "tools/cadf-listen", "        except (Fault, MemoryError):\n", "        except Fault:\n", LISTENER + "test_memory"),
     Row("listener: no heartbeat", "tools/cadf-listen", "        connection.heartbeat_tick()\n", "", LISTENER + "test_heartbeats"),
     Row("listener: no look at the room", "tools/cadf-listen", "            self.check_room()\n", "", LISTENER + "test_room"),
+    Row("listener: no file is tried", "tools/cadf-listen", "        os.close(os.open(\".room\", os.O_WRONLY | os.O_CREAT | os.O_NOFOLLOW, 0o600, dir_fd=self.own))\n        os.unlink(\".room\", dir_fd=self.own)\n", "", LISTENER + "test_no_file"),
+    Row("listener: gathers without an end", "tools/cadf-listen", " and time.monotonic() < until:", ":", LISTENER + "test_trickle"),
+    Row("listener: a slow message is an empty queue", "tools/cadf-listen", "        if deliveries.count > count:", "        if deliveries.tag > count:", LISTENER + "test_slow_message"),
     Row("listener: recovered, not synced", "tools/cadf-listen", "                os.ftruncate(file, whole)\n            os.fsync(file)\n", "                os.ftruncate(file, whole)\n", CRASH + "test_listener"),
     Row("listener: torn end not synced", "tools/cadf-listen", "            os.fsync(copy)\n", "", CRASH + "test_listener"),
     # ---- Sites compared

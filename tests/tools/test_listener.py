@@ -105,11 +105,36 @@ def test_heartbeats(program, monkeypatch):
         raise socket.timeout
 
     channel = types.SimpleNamespace(basic_qos=lambda *_: None, basic_consume=lambda _: None)
-    connection = types.SimpleNamespace(channel=lambda: channel, drain_events=drain, heartbeat_tick=lambda: calls.update(["tick"]))
+    connection = types.SimpleNamespace(channel=lambda: channel, blocking_read=drain, heartbeat_tick=lambda: calls.update(["tick"]))
     monkeypatch.setattr(program, "find_queue", lambda *_: None)
     options = types.SimpleNamespace(queue="q", bind=[], prefetch=1, until_empty=0)
     program.listen(connection, program.Deliveries(), types.SimpleNamespace(finish_if_old=lambda: None), options)
     assert calls["tick"] == 1
+
+
+class Trickle:
+    """A connection on which a frame comes every 9 milliseconds, and which the broker gives up after a minute without a heartbeat."""
+
+    def __init__(self, clock, came):
+        self.clock, self.came = clock, came
+
+    def blocking_read(self, timeout):
+        self.clock.now += 0.009
+        assert self.clock.now < 1060, "a minute without a heartbeat"
+        return self.came()
+
+    def drain_events(self, timeout):
+        while not self.blocking_read(timeout):
+            pass
+
+
+@pytest.mark.parametrize("is_whole", [False, True], ids=["parts of one message", "messages"])
+def test_trickle(program, monkeypatch, is_whole):
+    """What comes without a pause keeps it no longer than some seconds from a heartbeat, and from hearing that it is to end."""
+    clock, deliveries = Clock(), program.Deliveries()
+    monkeypatch.setattr(program, "time", clock)
+    deliveries.gather(Trickle(clock, lambda: is_whole and deliveries.lines.append(b"{}\n") is None), 65535)
+    assert clock.now < 1005 and deliveries.lines[:1] == [b"{}\n"] * is_whole
 
 
 @pytest.mark.parametrize("free, is_enough", [(2 ** 25 - 1, False), (2 ** 25, True)])
@@ -121,6 +146,19 @@ def test_room(program, monkeypatch, tmp_path, free, is_enough):
     else:
         with pytest.raises(program.Fault, match="less than 32 MiB of room"):
             program.Spool(str(tmp_path / "spool"), 1, 1)
+
+
+def test_no_file(program, tmp_path):
+    """Nor does it take anything if no file can be made there, as on a disk without inodes or for reading alone."""
+    folder = str(tmp_path / "spool")
+    os.mkdir(folder, 0o500)
+    os.chown(folder, ANOTHER, ANOTHER) if os.geteuid() == 0 else None
+    here = os.open(".", os.O_RDONLY)
+    os.chdir(folder)
+    said = as_user(ANOTHER, refused, program.Spool, ".", 1, 1)
+    os.fchdir(here)
+    os.close(here)
+    assert said == "./.room: Permission denied"
 
 
 def answer(program, words):
@@ -306,6 +344,29 @@ def test_deliveries(program):
               for frame in [*frames_of(7, b"{", b"}"), *frames_of(8, b"[", b"1", b"]"), *frames_of(9), *frames_of(10, b"1")]]
     assert states == [(False, 0, 0), (False, 0, 0), (False, 0, 0), (True, 1, 7), (False, 1, 7), (False, 1, 7), (False, 1, 7), (False, 1, 7), (True, 2, 8), (False, 2, 8), (True, 3, 9), (False, 3, 9), (False, 3, 9), (True, 4, 10)]
     assert deliveries.lines == [b"{}\n", b"[1]\n", b'{"base64":""}\n', b"1\n"]
+
+
+def test_slow_message(program, monkeypatch):
+    """A message whose parts come all the time is no empty queue, however long it takes."""
+    clock, frames, lines, acknowledged = Clock(), frames_of(7, *[b"x"] * 20), [], []
+    monkeypatch.setattr(program, "time", clock)
+    monkeypatch.setattr(program, "find_queue", lambda *_: None)
+    program.frame_handler = lambda connection, callback: None
+    deliveries = program.Deliveries()
+    handle = deliveries.handler(types.SimpleNamespace(bytes_recv=0), None)
+
+    def read(timeout):
+        clock.now += 0.9
+        frame = next(frames, None)
+        if frame is None:
+            raise socket.timeout
+        handle(frame)
+
+    channel = types.SimpleNamespace(basic_qos=lambda *_: None, basic_consume=lambda _: None, basic_ack=lambda tag, multiple: acknowledged.append(tag))
+    connection = types.SimpleNamespace(channel=lambda: channel, blocking_read=read, heartbeat_tick=lambda: None)
+    spool = types.SimpleNamespace(write=lines.extend, finish_if_old=lambda: None)
+    program.listen(connection, deliveries, spool, types.SimpleNamespace(queue="q", bind=[], prefetch=1, until_empty=1))
+    assert (lines, acknowledged) == ([b"x" * 20 + b"\n"], [7])
 
 
 def refused(call, *words):
