@@ -223,6 +223,8 @@ class Parser(argparse.ArgumentParser):
     """The parser of a tool's words. What it repeats of them can be printed."""
 
     def __init__(self, description, usage):
+        if sys.getfilesystemencoding() != "utf-8":  # as cadf has words and names, whatever the locale says
+            os.execv(sys.executable, [sys.executable, "-X", "utf8", *sys.argv])
         super().__init__(prog=tool(), description=description, usage=usage, allow_abbrev=False, formatter_class=Help)
         self.add_argument("--version", action=Version, nargs=0, help="print the version and the commit, and exit")
 

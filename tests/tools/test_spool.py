@@ -209,6 +209,15 @@ def test_names(spools):
     spools.leaves(folder, spools.joined(site, document("again2", "again3")), **wanted)
 
 
+def test_locale(spools, monkeypatch):
+    """Logs and names are UTF-8, whatever the locale says."""
+    for name, value in (("LC_ALL", "C"), ("PYTHONUTF8", "0"), ("PYTHONCOERCECLOCALE", "0")):
+        monkeypatch.setenv(name, value)
+    folder = spools.site(**{"ü.json": document("e1", log="Jürnal Ж")})
+    assert spools.run(folder, "--log", "Jürnal Ж", "s.cadf", "spool") == (0, b"", counted(1, 0).encode() + b"\n")
+    assert os.listdir(os.path.join(folder, "spool", "taken")) == ["ü.json"]
+
+
 def test_odd_files(spools):
     """What is no regular file is set aside, and nothing behind a link is read."""
     folder = spools.site(**{"a.json": document("e1")})
@@ -242,6 +251,18 @@ def test_groups(spools, files, size, seconds):
     folder = spools.site(**{name: document(name) for name in names})
     spool = program.Spool(os.path.join(folder, "spool"))
     assert program.Run(spool, os.path.join(folder, "s.cadf"), "g", program.Budget(0, 2 ** 20, 60, 2 ** 32)).run() == 0
+    spools.leaves(folder, spools.joined(document(*names)), **names_in("taken", names))
+
+
+def test_documents_go(spools):
+    """What was made of files goes with their group: a run over many files holds the documents of one group."""
+    program, names, most = spools.program(), ["%02d.jsonl" % number for number in range(9)], []
+    program.MOST_FILES = 2
+    folder = spools.site(**{name: message(name) for name in names})
+    run = program.Run(program.Spool(os.path.join(folder, "spool")), os.path.join(folder, "s.cadf"), "g", program.Budget(0, 2 ** 20, 60, 2 ** 32))
+    right = run.prepared
+    run.prepared = lambda number, name: (right(number, name), most.append(len(os.listdir(run.spool.work))))[0]
+    assert run.run() == 0 and max(most) <= 3  # a group, and the file that is looked at
     spools.leaves(folder, spools.joined(document(*names)), **names_in("taken", names))
 
 
