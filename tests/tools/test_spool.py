@@ -345,6 +345,16 @@ def test_no_command(spools):
     assert spools.takes(spools.site(**{"a.jsonl": message("e1"), "b.json": document("e2")}), cadf="/absent").status == 3
 
 
+def test_fault_in_the_spool(spools):
+    """A fault of the tool's own files names the spool."""
+    folder = spools.site(**{"a.json": document("e1")})
+    os.makedirs(os.path.join(folder, "spool", "taking", ".work", "x"), 0o700)
+    os.chmod(os.path.join(folder, "spool", "taking"), 0o700)
+    assert spools.takes(folder) == (3, b"", b"cadf-spool: spool (x): Is a directory\n")
+    os.rmdir(os.path.join(folder, "spool", "taking", ".work", "x"))
+    assert spools.takes(folder).status == 0
+
+
 @pytest.mark.parametrize("limit", [0, 300])
 def test_full_disk(spools, limit):
     folder = spools.site(**{"a.jsonl": message("e1"), "b.json": document("e2"), "c.json": b"{"})
@@ -464,13 +474,13 @@ def test_long_paths(spools):
 
 
 def test_confined(spools):
-    """A program that judges a file writes nowhere but into the working folder, where the system has Landlock."""
+    """A program that judges a file writes nowhere but into files of the working folder, where the system has Landlock."""
     if ctypes.CDLL(None).syscall(444, None, 0, 1) <= 0:
         pytest.skip("this kernel has no Landlock")
     folder, site = spools.site(**{"a.json": document("e1")}), spools.joined(document("e0"))
     put(os.path.join(folder, "s.cadf"), site)
     odd = spools.command(folder, 'if [ "$3" = a.json ]; then (cd %s; for each in s.cadf other spool/taken/other spool/taking/a.json; do echo x >>$each; done; '
-                                 'mv s.cadf moved; rm s.cadf; echo x >spool/taking/.work/x) || exit 3; fi 2>&-' % folder)
+                                 'mv s.cadf moved; rm s.cadf; mkdir spool/taking/.work/d; echo x >spool/taking/.work/x) || exit 3; fi 2>&-' % folder)
     assert spools.run(folder, "s.cadf", "spool", cadf=odd).status == 0
     assert sorted(os.listdir(folder)) == ["odd", "s.cadf", "s.cadf.before", "s.cadf.lock", "spool"] and held(folder)["s.cadf.before"] == site
     spools.leaves(folder, spools.joined(document("e0", "e1")), **{"taken/a.json": document("e1")})
