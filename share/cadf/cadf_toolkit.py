@@ -229,6 +229,8 @@ class Parser(argparse.ArgumentParser):
         self.add_argument("--version", action=Version, nargs=0, help="print the version and the commit, and exit")
 
     def error(self, message):
+        if sys.stderr is None:
+            self.exit(USAGE)  # what argparse would say it to isn't there
         super().error(printable(message))
 
 

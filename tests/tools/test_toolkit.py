@@ -99,3 +99,9 @@ def test_no_command(words, tmp_path):
     done = subprocess.run([os.path.join(TOP, "tools", words[0]), *words[1:]], cwd=tmp_path, env=dict(os.environ, CADF="/none"), stdin=subprocess.DEVNULL,
                           stdout=subprocess.PIPE, stderr=subprocess.PIPE, timeout=60, check=False)
     assert done.returncode == 3 and done.stderr.decode() == "%s: /none: No such file or directory: name the command by CADF, or put it on PATH\n" % words[0]
+
+
+def test_refused_words_that_nobody_hears():
+    """Where standard error is closed, the status of refused words is the same, and nothing is written elsewhere."""
+    done = subprocess.run(["sh", "-c", '"$0" --no 2>&-', os.path.join(TOP, "tools", "cadf-which")], stdout=subprocess.PIPE, timeout=60, check=False)
+    assert (done.returncode, done.stdout) == (2, b"")
