@@ -3,6 +3,7 @@
 A file costs too much, keeps the others of its group from being taken, or is a sender's who is another user.
 """
 import ctypes
+import errno
 import functools
 import glob
 import json
@@ -266,6 +267,19 @@ def test_documents_go(spools):
     spools.leaves(folder, spools.joined(document(*names)), **names_in("taken", names))
 
 
+def test_not_set_aside(spools):
+    """A file that can't be set aside waits, as where names are shorter, and keeps no other from being taken."""
+    program, folder = spools.program(), spools.site(**{"a.json": b"{", "b.json": document("e1")})
+    run = program.Run(program.Spool(os.path.join(folder, "spool")), os.path.join(folder, "s.cadf"), "g", program.Budget(0, 2 ** 20, 60, 2 ** 32))
+
+    def refuse(*_):
+        raise OSError(errno.ENAMETOOLONG, os.strerror(errno.ENAMETOOLONG))
+
+    run.spool.refuse = refuse
+    assert (run.run(), run.counts) == (3, {"taken": 1, "set aside": 0, "waiting": 1})
+    spools.leaves(folder, spools.joined(document("e1")), **names_in("taken", ["b.json"]), **names_in("taking", ["a.json"]))
+
+
 def test_withdrawn(spools):
     """A file that is gone before it is claimed is passed over."""
     program = spools.program()
@@ -339,6 +353,13 @@ def test_command_that_fails(spools, script, status):
     spools.leaves(folder, None, **names_in("taking", ["a.jsonl", "b.json"]))
     assert spools.takes(folder).status == 0
     spools.leaves(folder, spools.joined(document("e1", "e2")), **names_in("taken", ["a.jsonl", "b.json"]))
+
+
+def test_nowhere(spools):
+    """Where no site can be made, as in a folder that isn't there, the first file shows it, and the others aren't tried."""
+    folder = spools.site(**{"%d.json" % number: document("e1") for number in range(4)})
+    done = spools.run(folder, "--log", "g", "absent/s.cadf", "spool")
+    assert done.status == 3 and done.error.endswith(b"absent/s.cadf.lock: No such file or directory\ncadf-spool: 4 files wait in spool/taking\n")
 
 
 def test_no_command(spools):
