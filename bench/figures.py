@@ -18,7 +18,8 @@ RESULTS, PERFORMANCE, GUIDE, README = (os.path.join(TOP, *name.split("/")) for n
 NUMBER = r"\d[\d,]*(?:\.\d+)?"
 MEASURED = re.compile(r"(?<![\w^.,-])(?:%s (?:[kKMGT]?B|bytes|m?s)\b|\d\.\d+\b(?!\.\d))" % NUMBER)
 SHOW, JOIN, MISSING, SYNC, TAKES = "\n| 100 MB, ", "| join |", "| missing |", "## Exchanges over a line", "## Takes into a site"
-PAGE, LARGE_PAGE, MEMORY, TIME = "## The page of", "A page of 1,000,000 events of", "Bytes of memory a byte:", "Processor time a byte"
+PAGE, LARGE_PAGE, MEMORY = "## The page of", "A page of 1,000,000 events of", "Bytes of memory a byte:"
+FOUND_TIME, FOUND_MEMORY = "Found, processor time a byte", "Found, bytes of memory a byte"
 SKETCHES, SALTS, DISK = "\n1,000,000 facts:\n", "How many of 100 salts", "| Calls a second |"
 COMMANDS, BOTH, A_CALL = ((JOIN, "`cadf join`"), (MISSING, "`cadf missing`")), ("Sent", "Received"), ("MB a day", "GB a year")
 OPENSSL, SHA256SUM = "`openssl dgst -sha256`", "`sha256sum`"
@@ -48,8 +49,9 @@ FIGURES = {
         ("take up to {} bytes for each byte of a document of ordinary events. `join` takes {} for each byte of files of format 2, and `missing` {}.",
          (MEMORY, "ordinary events, document", "`check`"), (MEMORY, "ordinary events, file", "`join`"), (MEMORY, "ordinary events, file", "`missing`")),
         ("A take into a folder takes {} MB, if no files", (TAKES, "1,000 MB, 1 event", "Folder:1")),
-        ("by up to {} times the time a byte, and {} bytes of memory a byte,",
-         (TIME, "values of a property, file", "`show`"), (MEMORY, "attachments `{}`", "`inventory`")),
+        ("by up to {} times the time a byte, and {} bytes of memory a byte, in `verify` {} and {},",
+         (FOUND_TIME, "a list of `0` in 125 such objects, beside", "`show`"), (FOUND_MEMORY, "rulings of a key of 1,024", "`show --conflicts`"),
+         (FOUND_TIME, "short tags of an event", "`verify --absent`"), (FOUND_MEMORY, "short tags of an event", "`verify --absent`")),
         ("written in {} s with {} GB, and loads in {} s", *((LARGE_PAGE, "69 bytes", column) for column in ("Written", "Memory", "Loaded"))),
     ],
     GUIDE: [

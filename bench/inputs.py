@@ -1,12 +1,14 @@
 """The inputs of bench/shapes.py. A shape is much of one thing, in a log document or in a replica file."""
 import itertools
 import os
+import random
 from typing import Callable, NamedTuple, Optional
 
 from measure import key_of, run_apart, sealed_lines, spelled, write_replica, written_apart
 from show import event
 
 LOG = "openstack:audit"
+PLAIN = "".join(chr(code) for code in range(0x21, 0x7F) if chr(code) not in '"\\')
 DOCUMENT, FILE, FILE_1 = "document", "file", "file of format 1"  # a file is of format 2 unless its form says otherwise
 EVENT = {"id": "e1", "eventType": "activity", "eventTime": "2024-03-01T12:00:00Z", "action": "read",
          "outcome": "success", "initiatorId": "u1", "targetId": "t1", "observerId": "s1"}
@@ -90,6 +92,26 @@ def tags(numbers):
     return ["tag-%07d" % number for number in numbers]
 
 
+def short(number):
+    """A name of three bytes, or more from 92^3 on."""
+    text = ""
+    while number or len(text) < 3:
+        number, place = divmod(number, len(PLAIN))
+        text += PLAIN[place]
+    return text
+
+
+def shuffled(numbers):
+    """Short names in no order."""
+    names = [short(number) for number in numbers]
+    random.Random(0).shuffle(names)
+    return names
+
+
+def shuffled_properties(numbers):
+    return {"events": []} | {name: "0" for name in shuffled(numbers)}
+
+
 def attachments(numbers):
     return [{"content": number, "name": "a%07d" % number, "typeURI": "number"} for number in numbers]
 
@@ -123,13 +145,13 @@ def tiniest(numbers):
     return itertools.chain([str(numbers.start)], ('{"":0}' for _ in numbers))
 
 
-def falling(numbers):
-    return "{%s}" % ",".join('"m%08d":1' % number for number in reversed(numbers))
+def shuffled_members(numbers):
+    return "{%s}" % ",".join('"%s":0' % name for name in shuffled(numbers))
 
 
-def nested_falling(numbers):
-    """A list of numbers in objects of which each has its members in falling order."""
-    return '{"b":0,"a":' * 98 + "[%s]" % ",".join(map(str, numbers)) + "}" * 98
+def nested_falling(numbers, depth):
+    """A list of zeros in so many objects, of which each has its members in falling order."""
+    return '{"b":0,"a":' * depth + "[%s]" % ",".join("0" for _ in numbers) + "}" * depth
 
 
 def overwritten(numbers):
@@ -147,6 +169,8 @@ def line_after_blank(numbers):
 
 
 TINY = 12  # bytes of memory a byte of tiny objects and fractions
+SHORT = 25  # of short names
+TWO_BLOCKS = 38  # bytes of a member by which the line of a tag ends in a second block of SHA-256
 TREE = 140  # where they are read into a tree of values
 DOCUMENTS, FILES = (DOCUMENT,), (FILE,)
 SHAPES = {
@@ -157,8 +181,10 @@ SHAPES = {
     "values": Shape("values of an entity", 27, lambda numbers: resources(
         '{"id":"r","name":"%07d"}' % number for number in numbers)),
     "tags": Shape("tags of an event", 14, lambda numbers: one_event(tags=tags(numbers))),
-    "tags-falling": Shape("tags in descending order", 14, lambda numbers: one_event(tags=tags(reversed(numbers))),
-                          forms=DOCUMENTS),
+    "tags-shuffled": Shape("short tags in no order, their digests of two blocks", 6, lambda numbers: one_event(
+        tags=shuffled(numbers), name="x" * TWO_BLOCKS), forms=DOCUMENTS, memory=SHORT),
+    "tags-long-id": Shape("short tags of an event, its identifier of 1,024 quotation marks", 6, lambda numbers: one_event(
+        id='"' * 1024, tags=list(map(short, numbers))), forms=DOCUMENTS, memory=SHORT),
     "tags-equal": Shape("equal tags", 6, lambda numbers: one_event(tags=["tag" for _ in numbers]), forms=DOCUMENTS),
     "body-tags": Shape("tags of an event, and a body as long as they are", 28, lambda numbers: large_event(
         14 * len(numbers), tags=tags(numbers))),
@@ -179,15 +205,16 @@ SHAPES = {
                          memory=TINY),
     "rulings": Shape("rulings of a key", 73, atoms=lambda numbers: [
         ("U", "P", "x", key_of(number)) for number in numbers], forms=FILES),
+    "rulings-long": Shape("rulings of a key of 1,024 bytes", 73, atoms=lambda numbers: [
+        ("U", "P", "x" * 1024, key_of(number)) for number in numbers], forms=FILES, memory=SHORT),
     "properties": Shape("properties", 18, lambda numbers: properties(numbers)),
-    "properties-falling": Shape("properties in descending order", 18, lambda numbers: properties(reversed(numbers)),
-                                forms=DOCUMENTS),
+    "properties-shuffled": Shape("short properties in no order", 8, shuffled_properties, forms=DOCUMENTS, memory=SHORT),
     "property-values": Shape("values of a property", 14, atoms=lambda numbers: [
         ("P", "x", str(number)) for number in numbers], forms=FILES),
     "names": Shape("entities, their identifiers alike in 1,000 bytes", 1016, lambda numbers: resources(
         '{"id":"%s%07d"}' % ("x" * 1000, number) for number in numbers)),
-    "resources-falling": Shape("entities in descending order", 17, lambda numbers: resources(
-        '{"id":"%07d"}' % number for number in reversed(numbers)), forms=DOCUMENTS),
+    "resources-shuffled": Shape("short entities in no order", 13, lambda numbers: resources(
+        '{"id":"%s"}' % name for name in shuffled(numbers)), forms=DOCUMENTS, memory=SHORT),
     "nested-resources": Shape("entities that nest 98 deep", 220, lambda numbers: resources(
         '{"id":"r%07d","x":%s}' % (number, "[" * 98 + "0" + "]" * 98) for number in numbers), forms=DOCUMENTS),
     "escapes": Shape("escapes", 99, lambda numbers: a_property(
@@ -196,9 +223,14 @@ SHAPES = {
         numbers, "[" * 99 + "%d" + "]" * 99)),
     "nested-event": Shape("lists 97 deep in an event", 196, lambda numbers: with_list(
         "[" * 97 + "0" + "]" * 97 for _ in numbers), forms=DOCUMENTS),
-    "falling": Shape("members in descending order", 13, lambda numbers: a_property(falling(numbers)), forms=DOCUMENTS),
-    "nested-falling": Shape("a list in 98 objects, their members in descending order", 7, lambda numbers: a_property(
-        nested_falling(numbers)), forms=DOCUMENTS),
+    "shuffled": Shape("short members in no order", 8, lambda numbers: a_property(shuffled_members(numbers)), forms=DOCUMENTS,
+                      memory=SHORT),
+    "nested-falling": Shape("a list of `0` in 98 objects, their members in descending order", 2, lambda numbers: a_property(
+        nested_falling(numbers, 98)), forms=DOCUMENTS),
+    "nested-fraction": Shape("a list of `0` in 125 such objects, beside a fraction, refused", 2, lambda numbers: a_property(
+        nested_falling(numbers, 125) + ',"y":1.5'), forms=DOCUMENTS, is_refused=True),
+    "nested-line": Shape("a line of a list of `0` in 125 such objects, refused", 2, lines=lambda numbers: [
+        nested_falling(numbers, 125)], forms=FILES, is_refused=True),
     "tiny": Shape("`{\"a\":1}` in a property", 8, **in_a_property(tiny), memory=TINY),
     "tiny-event": Shape("`{\"a\":1}` in an event", 8, lambda numbers: with_list(tiny(numbers)), forms=DOCUMENTS,
                         memory=TINY),

@@ -31,7 +31,7 @@ import sys
 import tempfile
 from typing import NamedTuple
 
-from inputs import FILE, FILE_1, SHAPES
+from inputs import FILE, FILE_1, SHAPES, write_log
 from measure import are_counts_true, asked, best_of, can_count, instructions, run_apart
 
 MEGABYTE = 10 ** 6
@@ -61,6 +61,7 @@ COMMANDS = {
     "missing-by-sketch": Command(("missing-by-sketch",), ("first", "sketch"), (0, 1), notes=True),  # or too few cells
     "seal": Command(("seal",), ("first",), notes=True),
     "prove": Command(("prove",), ("second", "first"), notes=True),
+    "verify --absent": Command(("verify", "--absent"), ("seal", "first", "proof"), notes=True),  # of no facts
     "rule": Command(("rule", "E", "e1", "1"), ("first",), (0, 1)),  # or no such value
 }
 REFUSED = (1,)
@@ -106,6 +107,11 @@ class Inputs:
         if not os.path.exists(path):
             if name in ("inventory", "sketch"):
                 run_apart([self.options.binary, name, self.path("second")], path)
+            elif name in ("seal", "proof"):
+                words = {"seal": ("seal",), "proof": ("prove", self.path("first"))}[name]
+                run_apart([self.options.binary, *words, self.path("empty")], path)
+            elif name == "empty":
+                write_log(path, {"events": "[]"})
             else:
                 start = 0 if name == "first" else self.number // 2
                 self.shape.write(path, self.form, range(start, start + self.number), self.options.binary)
