@@ -141,6 +141,8 @@ def test_report_of_a_folder_is_that_of_its_file(sites):
     sites.north.takes(told_on_two_days(2))
     file = sites.file("file.cadf", told_on_two_days(0), told_on_two_days(2))
     assert sites.run("report", "north/") == sites.run("report", file)
+    of_range = ["report", "--from", DAYS[2], "--against"]
+    assert sites.run(*of_range, "north/", file) == sites.run(*of_range, file, "north/") == sites.run(*of_range, file, file)
 
 
 @pytest.mark.parametrize("words", [["conflicts"], ["events"], ["report", "--from", "2024-03-01"]])

@@ -118,7 +118,7 @@ function fillHead() {
   document.title = "CADF: " + cut(named(name), 80);
   id("span").textContent = events.length ? utc(0) + " \u2013 " + utc(events.length - 1) + " UTC" : "no events";
   id("when").hidden = !events.length;
-  id("other").hidden = !data.lacks.length;
+  id("other").hidden = !id("other").querySelector("code").textContent;
   id("range").hidden = !id("range").textContent;
   id("open").textContent = counted(unsettled.length);
   id("sums").textContent = explained();
