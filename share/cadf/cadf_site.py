@@ -147,6 +147,7 @@ class Folder:
             elif fault.errno == errno.ENOENT:
                 said += ": `cadf-take --by day SITE/ FILE..` makes it"
             raise Fault("%s: %s" % (name_shown(name), said)) from None
+        self.found = os.fstat(self.descriptor)
 
     def __enter__(self):
         return self
@@ -154,6 +155,13 @@ class Folder:
     def __exit__(self, *_):
         self.files.close()
         os.close(self.descriptor)
+
+    def give(self, file, mode):
+        """Gives a new file the folder's owner and group, as far as the caller may, and this mode."""
+        for user, group in ((self.found.st_uid, -1), (-1, self.found.st_gid)):
+            with contextlib.suppress(PermissionError):
+                os.fchown(file, user, group)
+        os.fchmod(file, mode)
 
     def path(self, name):
         return os.path.join(self.name, name)
@@ -414,7 +422,7 @@ class Taking:
     """A folder that is locked for a take: what its `site` says, and the files of each part that will be others."""
 
     def __init__(self, folder, wait):
-        self.folder, self.found = folder, os.fstat(folder.descriptor)
+        self.folder = folder
         self.lock = self.opened_lock()
         try:
             wait_for_lock(self.lock, folder.path(LOCK), wait)
@@ -434,17 +442,10 @@ class Taking:
         """The lock's file, which is made if it isn't there, for a group if that may write to the folder."""
         try:
             lock = self.folder.open(LOCK, os.O_RDWR | os.O_CREAT | os.O_EXCL)
-            self.give(lock, 0o660 if self.found.st_mode & stat.S_IWGRP else 0o600)
+            self.folder.give(lock, 0o660 if self.folder.found.st_mode & stat.S_IWGRP else 0o600)
             return lock
         except FileExistsError:
             return self.folder.open(LOCK, os.O_RDWR | os.O_NONBLOCK)
-
-    def give(self, file, mode):
-        """Gives a new file the folder's owner and group, as far as the caller may, and this mode."""
-        for user, group in ((self.found.st_uid, -1), (-1, self.found.st_gid)):
-            with contextlib.suppress(PermissionError):
-                os.fchown(file, user, group)
-        os.fchmod(file, mode)
 
     def digests(self, part):
         """The digests of the files of a part."""
@@ -512,7 +513,7 @@ class Taking:
         with os.fdopen(file, "wb") as output:
             yield output
             output.flush()
-            self.give(file, 0o666 & self.found.st_mode)
+            self.folder.give(file, 0o666 & self.folder.found.st_mode)
 
     def name(self, name):
         """Gives the new file its name, once it is on the disk."""

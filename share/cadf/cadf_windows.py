@@ -172,11 +172,11 @@ def key_of(part, files):
 
 
 def kept_unions(folder):
-    """The digests of unions that are kept in a folder, by what stands for their files; none of a file that is damaged."""
+    """The digests of unions that are kept in a folder, by what stands for their files; none of a file that is damaged or can't be read."""
     try:
         with folder.input(UNIONS).file as file:
             data = file.read(cadf_site.LONGEST_INDEX)
-    except FileNotFoundError:
+    except (Fault, OSError):
         return {}
     cut = data.rfind(b"Z ")
     found = [UNION.fullmatch(line) for line in data[:cut].splitlines(True)]
@@ -193,6 +193,7 @@ def keep_unions(folder, unions):
         with contextlib.suppress(FileNotFoundError):
             os.unlink(working, dir_fd=folder.descriptor)  # what a call left that was killed, or found a full disk
         with os.fdopen(folder.open(working, os.O_WRONLY | os.O_CREAT | os.O_EXCL), "wb") as file:
+            folder.give(file.fileno(), 0o666 & folder.found.st_mode)
             file.write(data + b"Z %s\n" % hashlib.sha256(data).hexdigest().encode())
         os.rename(working, UNIONS, src_dir_fd=folder.descriptor, dst_dir_fd=folder.descriptor)
 

@@ -587,7 +587,7 @@ def test_what_a_site_names_and_lacks_is_named(site):
 # ---- Wrong versions
 
 @pytest.mark.parametrize("check, right, wrong", [
-    (test_a_take_writes_the_windows_of_what_it_takes, "self.give(file, 0o666 & self.found.st_mode)", "self.give(file, 0o644)"),
+    (test_a_take_writes_the_windows_of_what_it_takes, "give(file, 0o666 & self.folder.found.st_mode)", "give(file, 0o644)"),
     (test_a_long_line_is_written_by_pieces, "found = LAST_LINE.fullmatch(piece)", 'found = re.match(rb"Z (.*)", piece)'),
     (test_what_is_held_already_changes_nothing, "digest in digests or self.is_held(part, size)", "False"),
     (test_what_is_held_already_changes_nothing, '.count(b"\\n") == NOTHING', '.count(b"\\n") >= NOTHING'),

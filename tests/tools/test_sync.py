@@ -7,6 +7,7 @@ import datetime
 import hashlib
 import json
 import os
+import pathlib
 import random
 import resource
 import shlex
@@ -28,6 +29,7 @@ from tests.reference.inventory_files import inventory_of
 from tests.reference.json_text import spelled
 from tests.reference.replica_files import file_of, read_file
 from tests.reference.split_files import parts_of
+from tests.tools import others
 from tests.tools.copies import copied, is_caught
 
 sys.path.insert(0, os.path.join(TOP, "share", "cadf"))
@@ -603,6 +605,31 @@ def test_digests_that_cannot_be_kept_pile_up_nothing(tmp_path, monkeypatch):
         assert len(os.listdir(tmp_path)) == 1
         cadf_windows.keep_unions(folder, unions)
         assert os.listdir(tmp_path) == [".unions"] and cadf_windows.kept_unions(folder) == unions
+
+
+@others.needed
+def test_each_member_of_a_group_exchanges(cadf, tools):
+    """What one member's run keeps in a folder serves the others; where they can't read it, it stops none of them."""
+    with others.open_folder() as path:
+        own = Folders(pathlib.Path(path), cadf)
+        own.tools, own.cadf = others.shared_tools(path, os.path.join(tools, "cadf-sync"), cadf)
+        own.put("29.cadf", facts(29))
+        for name in ("here/", "there/"):
+            own.put(name, facts(1))
+            own.takes(name, ["29.cadf"])
+            for each in (own.path / name, *(own.path / name).iterdir()):
+                os.chown(each, others.CALLER, others.GROUP)
+                each.chmod(0o660 if each.is_file() else 0o2770)
+        for user in (others.CALLER, others.OTHER, None, others.CALLER):
+            unions = own.path / "here" / ".unions"
+            if user is None:  # as a run by root, or by an earlier release, left it
+                unions.chmod(0o600)
+                os.chown(unions, others.SENDER, others.SENDER)
+                continue
+            program, *words = others.as_user(user, others.GROUP, others.PYTHON, os.path.join(own.tools, "cadf-sync"), "--quiet", "here/", "there/")
+            assert ended(program, words, env=own.environment(), cwd=own.path) == (0, b"", b"")
+            found = unions.stat()
+            assert (found.st_mode & 0o777, found.st_gid) == (0o660, others.GROUP) or found.st_uid == others.SENDER
 
 
 NARROW = """#!/bin/sh
