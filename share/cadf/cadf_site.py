@@ -475,6 +475,8 @@ class Taking:
         left, strangers = self.stale()
         if self.index is None and set(left) - {WORKING}:
             raise Fault("%s: it is not there, and files of windows are: %s" % (self.folder.shown(INDEX), DAMAGED), REFUSED)
+        if left:
+            os.fsync(self.folder.descriptor)  # a call that was killed may have put the `site` there that no longer names them
         strangers += [name for name in left if not self.is_removed(name)]
         for name in sorted(strangers)[:MOST_STRANGERS]:
             say("%s: no file of the site: it is passed over" % self.folder.shown(name))

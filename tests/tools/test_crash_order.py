@@ -15,7 +15,7 @@ from tests.tools.odd_logs import EVENT
 
 pytestmark = pytest.mark.needs("strace")
 
-TRACED = "openat,write,pwrite64,ftruncate,fsync,fdatasync,rename,renameat,renameat2,link,linkat"
+TRACED = "openat,write,pwrite64,ftruncate,fsync,fdatasync,rename,renameat,renameat2,link,linkat,unlinkat"
 GOOD, BAD = json.dumps(dict(EVENT, id="e1")), json.dumps(dict(EVENT, id=""))
 RECOVER = "import sys; from tests.tools.programs import loaded; loaded(sys.argv[1]).Spool(sys.argv[2], 1, 1)"
 
@@ -58,16 +58,19 @@ def test_take(cadf, tmp_path, held, form):
     (None, "PFw+srF(w+sp)+Fw+srF"),  # the folder's name; a `site` of no window; each window's file, all names, and a `site` of them
     ("e2", "(w+sp)+Fw+srF"),
     ("e1", "w+F"),  # nothing new: a call that was killed may have put it there
+    ("e2 e3", "Fuu(w+sp)+Fw+srF"),  # what `site` no longer names goes once that is on the disk: a call that was killed may have put it there
 ])
 def test_take_into_a_folder(cadf, tmp_path, held, form):
     """A file is on the disk before it has its name, and all names that `site` has before it is replaced."""
     environment, site = {**os.environ, "CADF": cadf}, tmp_path / "site"
     (tmp_path / "new.json").write_text(document("e1"))
     if held:
-        (tmp_path / "held.json").write_text(document(held))
-        subprocess.run([tool("cadf-take"), "--by", "day", site, tmp_path / "held.json"], env=environment, check=True)
+        for key in held.split():
+            (tmp_path / "held.json").write_text(document(key))
+            subprocess.run([tool("cadf-take"), "--by", "day", site, tmp_path / "held.json"], env=environment, check=True)
+        subprocess.run([tool("cadf-take"), "--settle", site], env=environment, check=True)
     calls = {"P": r"fsync\(\d+<TMP>\)", "F": r"fsync\(\d+<TMP/site>\)", "w": r"write\(\d+<TMP/site/\.new>", "s": r"fsync\(\d+<TMP/site/\.new>",
-             "p": r'renameat2?\(.*"\.new", .*"2024-03-01\.[0-9a-f]*', "r": r'renameat2?\(.*"\.new", .*"site"'}
+             "p": r'renameat2?\(.*"\.new", .*"2024-03-01\.[0-9a-f]*', "r": r'renameat2?\(.*"\.new", .*"site"', "u": r'unlinkat\(.*"2024-03-01\.'}
     status, told = steps(tmp_path, [tool("cadf-take"), "--by", "day", site, tmp_path / "new.json"], calls, env=environment)
     assert status == 0 and re.fullmatch(form, told), told
 
