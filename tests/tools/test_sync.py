@@ -374,6 +374,18 @@ def test_a_far_side_that_is_not_there(sites, rsh, status, part):
     assert answer.status == status and part in said(answer) and "\x1b" not in said(answer), answer
 
 
+def test_a_far_shell_that_leaves_a_program(sites):
+    """Whoever is left there with standard error, as an agent, is not waited for."""
+    sites.put("here.cadf", facts(1))
+    sites.put("there.cadf", facts(2))
+    (sites.path / "shell").write_text('#!/bin/sh\nsleep 30 </dev/null >/dev/null &\necho $! >left\nPATH=%s:$PATH exec sh -c "$3"\n' % shlex.quote(sites.tools))
+    (sites.path / "shell").chmod(0o755)
+    begun = time.monotonic()
+    answer = sites.sync("--quiet", "--rsh=./shell", "here.cadf", "h:there.cadf")
+    os.kill(int((sites.path / "left").read_text()), signal.SIGKILL)
+    assert answer == (0, b"", b"") and time.monotonic() - begun < 20
+
+
 # ---- A caller that lies
 
 def hello(**members):
