@@ -17,7 +17,7 @@ import subprocess
 import tempfile
 
 from cadf_link import Store
-from cadf_site import LARGEST, PART, SHARED, UNITS, Folder, check_window, opened_parts, opened_site, split, without_facts
+from cadf_site import LARGEST, PART, SHARED, UNITS, Folder, check_window, made_of_parts, split, without_facts
 from cadf_toolkit import CADF, REFUSED, Fault, Input, Progress, Refusal, cadf, log_name, name_shown, other_log, with_advice
 
 UNIT = re.compile(("B (%s)" % "|".join(UNITS)).encode())
@@ -132,14 +132,17 @@ def sealed(inputs):
 
 def sealed_folder(name):
     """The seal of a folder, as it stood at one moment. Refuses a file that holds something else than its name says."""
-    with opened_site(name) as (index, inputs), Progress() as progress:
+    with Folder(name) as folder, Progress() as progress:
+        index, count = folder.site(), itertools.count()
         seal = SiteSeal(canonical(index), index.unit)
-        for part, digests in index.parts().items():
-            progress.count(len(seal.parts), "windows sealed")
-            files = {digest: inputs[part, digest] for digest in digests}
+
+        def sealed_part(part, files):
+            progress.count(next(count), "windows sealed")
             for digest, file in files.items():
                 check_window(index, (part, digest), file)
-            seal.parts[part] = sealed(list(files.values()))
+            return sealed(list(files.values())) if files else NOTHING
+
+        seal.parts = made_of_parts(folder, None, sealed_part)
     return seal
 
 
@@ -247,11 +250,12 @@ def proved(facts, name):
     with Folder(name) as folder:
         index = folder.site()
         proof, asked = SiteProof(canonical(index), index.unit), by_part(facts, index.name(), index.unit)
-        with opened_parts(folder, asked) as (index, inputs), without_facts(proof.log, name) as empty:
-            for part, item in asked.items():
-                files = [inputs[part, digest] for digest in index.digests(part)]
-                with item.opened("%s of %s" % (part, facts.name)) as own:
-                    proof.parts[part] = cadf(["prove"], [own, *(files or [empty])], subprocess.PIPE)
+        with without_facts(proof.log, name) as empty:
+            def proof_of_part(part, files):
+                with asked[part].opened("%s of %s" % (part, facts.name)) as own:
+                    return cadf(["prove"], [own, *(files.values() or [empty])], subprocess.PIPE)
+
+            proof.parts = made_of_parts(folder, asked, proof_of_part)
     return proof
 
 

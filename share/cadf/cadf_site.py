@@ -7,6 +7,7 @@ the moment of a take. A reader needs no lock. A tool imports this as it imports 
   Folder(name).index()       what its file `site` says: an Index, or None if there is none
   opened_site(name, parts)   its files as inputs, all or those of some parts, as it stood at one moment
   opened_parts(folder, ..)   the same of a Folder
+  made_of_parts(folder, ..)  what is made of the files of each part, as it stood at one moment
   opened_whole(names)        the inputs that hold all of these sites, of which each is a file or a folder
   take(..), settle(..)       take inputs into a folder, and join the files of each window
 """
@@ -39,6 +40,7 @@ WINDOW_FILE = re.compile(r"%s\.%s\.cadf" % (PART, DIGITS))
 NOTHING = 3  # lines of a replica file without facts
 LONGEST_INDEX = 2 ** 28  # bytes
 TRIES = 100  # of a reader, before takes that never end are a fault
+CHANGED = "%%s: it changed at each of %d looks: try again" % TRIES
 MOST_NEW = 400  # windows that a take begins, unless more are allowed
 MOST_STRANGERS = 20  # that are named
 PIECE = 2 ** 16  # bytes of a line that are held at once
@@ -271,7 +273,26 @@ def opened_parts(folder, parts):
                 yield index, inputs
                 return
             files.close()
-    raise Fault("%s: it changed at each of %d looks: try again" % (folder.shown(), TRIES))
+    raise Fault(CHANGED % folder.shown())
+
+
+def made_of_parts(folder, parts, make):
+    """What is made of the files of each part of a folder, or of some, as it stood at one moment; by part.
+
+    `make` is given a part and its files as inputs, by digest. Those of one part are open at a time: a program that is started
+    costs as much as there are open files. If a part changes meanwhile, it is made again, and no other.
+    """
+    made = {}
+    for _ in range(TRIES):
+        index = folder.site()
+        keys = {part: (part, *index.digests(part)) for part in (index.parts() if parts is None else parts)}
+        for part, key in keys.items():
+            if key not in made:
+                with opened_parts(folder, [part]) as (now, inputs):
+                    made[(part, *now.digests(part))] = make(part, {digest: each for (_, digest), each in inputs.items()})
+        if made.keys() >= set(keys.values()):
+            return {part: made[key] for part, key in keys.items()}
+    raise Fault(CHANGED % folder.shown())
 
 
 def check_window(index, entry, file):

@@ -104,7 +104,7 @@ ROWS = [
     Row("conflicts: no metrics", "tools/cadf-conflicts", "if len(texts) > 1 or key in wanted:", "if len(texts) > 1 and key[0] != 'M' or key in wanted:", COMPARED + "test_every_kind"),
     # ---- Seals
     Row("seal: files unjudged", "share/cadf/cadf_seals.py", "                check_window(index, (part, digest), file)\n", "", SEALS + "test_a_fact_in_another"),
-    Row("seal: a file of each window", "share/cadf/cadf_seals.py", "for digest in digests}\n", "for digest in digests[:1]}\n", SEALS + "test_seal_of_a_folder"),
+    Row("seal: a file of each window", "share/cadf/cadf_seals.py", "sealed(list(files.values()))", "sealed(list(files.values())[:1])", SEALS + "test_seal_of_a_folder"),
     Row("seal: any digest line", "share/cadf/cadf_seals.py", 'if line != b"Z " + digest:', "if False:", SEALS + "test_each_bit"),
     Row("seal: windows in any order", "share/cadf/cadf_seals.py", "if kept.parts and order(part) <= order(next(reversed(kept.parts))):", "if False:", SEALS + "test_refused"),
     Row("seal: counts are compared", "tools/cadf-seal", "if then.parts.get(part) != now.parts.get(part)]", "if then.parts.get(part, NOTHING)[0] != now.parts.get(part, NOTHING)[0]]", SEALS + "test_compare"),

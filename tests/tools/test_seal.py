@@ -23,6 +23,7 @@ from tests.tools.test_site_folders import DAYS, EVENT, TOOLS, Site, atoms_of, co
 
 sys.path.insert(0, os.path.join(TOP, "share", "cadf"))
 import cadf_seals
+import cadf_toolkit
 
 ROOT = hashlib.sha256(b"").hexdigest()
 HEAD = 'CADF-SITE-SEAL 1\nL "g"\nB day\n'
@@ -95,6 +96,35 @@ def test_seal_of_a_folder(seals):
     assert seals.writes("site/") == seals.writes("site") == others.writes("other") == wanted
     seals.site.settles()
     assert seals.writes("site") == wanted
+
+
+def test_takes_meanwhile(seals, monkeypatch):
+    """All of a take is sealed or nothing of it, though it changes what was sealed before, and what was open is gone then."""
+    documents = [contents(0, 2), contents(3, 5)]
+    seals.site.takes(documents[0])
+    real, later = cadf_seals.sealed, [documents[1]]
+
+    def late(inputs):
+        found = real(inputs)
+        if later:
+            seals.site.takes(later.pop())
+            seals.site.settles()
+            seals.site.settles()
+        return found
+
+    monkeypatch.setattr(cadf_toolkit, "CADF", Site.command)
+    monkeypatch.setattr(cadf_seals, "sealed", late)
+    wanted = [site_seal_of("g", atoms_of(*documents[:count]), "day") for count in (1, 2)]
+    assert cadf_seals.sealed_folder(str(seals.site.folder)).bytes() in wanted and not later
+
+
+def test_files_of_one_window_are_open_at_a_time(seals):
+    """A start of the command costs as much as there are open files, so of all windows at once the square of their number."""
+    seals.site.takes(contents(0, 2, name="n"))
+    few = {"preexec_fn": lambda: resource.setrlimit(resource.RLIMIT_NOFILE, (67, 67))}
+    assert seals.writes("site", **few) == site_seal_of("g", atoms_of(contents(0, 2, name="n")), "day")
+    seals.put("facts", json.dumps(contents(0, 2, name="n")))
+    assert seals.writes("--prove", "facts", "site", **few) == seals.writes("--prove", "facts", "site")
 
 
 @pytest.mark.parametrize("unit", ["month", "day", "hour"])
@@ -368,7 +398,7 @@ def test_a_command_that_writes_no_seal(seals, said):
 # ---- Copies that do wrong
 
 @pytest.mark.parametrize("check, right, wrong", [
-    (test_seal_of_a_folder, "for digest in digests}\n", "for digest in digests[:1]}\n"),
+    (test_seal_of_a_folder, "sealed(list(files.values()))", "sealed(list(files.values())[:1])"),
     (test_seal_of_a_folder, "itertools.starmap(self.lines, self.parts.items())", "itertools.starmap(self.lines, sorted(self.parts.items()))"),
     (test_a_fact_in_another_window_is_refused, "                check_window(index, (part, digest), file)\n", ""),
     (test_windows, "= self.parts.get(part, NOTHING)\n", "= self.parts.get(part, (1, NOTHING[1]))\n"),
