@@ -18,7 +18,7 @@ from cadf_toolkit import REFUSED, Fault, Input, Refusal, cadf, check_end, naming
 
 ALL, SHARED = "all", cadf_site.SHARED
 UNITS = {length: unit for unit, length in cadf_site.UNITS.items()}
-WINDOW = re.compile(r"\d{4}-\d\d(?:-\d\d(?:T\d\d)?)?")
+WINDOW = re.compile(r"\d{4}-\d\d(?:-\d\d(?:T\d\d)?)?", re.ASCII)
 UNIONS = ".unions"
 UNION = re.compile(rb"U ([0-9a-f]{64}) ([0-9a-f]{64})\n")
 SECOND = b"CADF-REPLICA 2\n"

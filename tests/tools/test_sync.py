@@ -206,7 +206,8 @@ def test_conflicts_and_metrics(sites):
     (("a.cadf",), "two SITEs"), (("a.cadf", "b.cadf", "c.cadf"), "two SITEs"), (("h:a.cadf", "b.cadf"), "the first SITE is on this machine"),
     (("a.cadf", "--", "-oProxyCommand=x:b.cadf"), "doesn't begin with `-`"), (("a.cadf", "[-x]:b.cadf"), "doesn't begin with `-`"),
     (("a.cadf", ":b.cadf"), "no HOST:SITE"), (("a.cadf", "h::b"), "no HOST:SITE"), (("a.cadf", "h:"), "no HOST:SITE"),
-    (("--since=2024", "a.cadf", "b.cadf"), "WINDOW is"), (("--pull", "--push", "a.cadf", "b.cadf"), "not allowed with"),
+    *((("--since=" + window, "a.cadf", "b.cadf"), "WINDOW is") for window in ("2024", "2024-13", "2024-31-03", "2024-03-01T24")),
+    (("--pull", "--push", "a.cadf", "b.cadf"), "not allowed with"),
     (("--limit=2000000000", "a.cadf", "b.cadf"), "--limit"), (("--rsh=ssh 'a", "a.cadf", "h:b.cadf"), "--rsh"), (("--serve", "a.cadf", "b.cadf"), "--serve has one SITE"),
 ])
 def test_usage(sites, words, part):
@@ -296,6 +297,7 @@ LIES = {
     "waits": (FIRST + b"wait 0\n" * 1001, 1, "it says that it works"),
     "a path": (FIRST + message(b"list", b"W ../../x %s\n" % DIGEST), 1, "no list of windows"),
     "a window without a unit": (FIRST + message(b"list", b"W 2024-03-01 %s\n" % DIGEST), 1, "no list of windows"),
+    "other digits": (first(unit="day") + message(b"list", b"W %s %s\n" % ("\u0662\u0660\u0662\u0664-\u0660\u0663-\u0660\u0661".encode(), DIGEST)), 1, "no list"),
     "a short digest": (FIRST + message(b"list", b"W all 00\n"), 1, "no list of windows"),
     "twice": (FIRST + message(b"list", b"W all %s\n" % DIGEST * 2), 1, "no list of windows"),
     "windows that fall": (first(unit="day") + message(b"list", b"W 2024-03-02 %s\nW 2024-03-01 %s\n" % (DIGEST, DIGEST)), 1, "no list"),
