@@ -145,7 +145,7 @@ ROWS = [
     Row("README: another status", "README.md", "4 out of memory", "5 out of memory", TOLD + "readme"),
     Row("FORMATS: 128 levels", "docs/FORMATS.md", "nest at most 127", "nest at most 128", TOLD + "limit"),
     Row("FORMATS: another status", "docs/FORMATS.md", "`input N: a number is not whole` | 1 |", "`input N: a number is not whole` | 2 |", TOLD + "test_status"),
-    Row("chart: another number", "docs/PERFORMANCE.md", "45 KB", "54 KB", TOLD + "chart"),
+    Row("chart: another number", "docs/PERFORMANCE.md", "45 KB", "54 KB", TOLD + "figures"),
     Row("help: wider than 100 columns", "share/cadf/cadf_toolkit.py", "columns, 102) - 2", "columns, 202) - 2", TOLD + "help"),
     Row("manual: another default", "share/man/man1/cadf.1", "by default 100.", "by default 1000.", TOLD + "defaults"),
     Row("promises: a clause that isn't there", "tests/docs/promises.py", "if name in found and clause not in found[name]:", "if name not in found and clause not in found[name]:", "tests/docs/test_promises.py"),

@@ -1,5 +1,6 @@
 """Each planted fault can still be placed, and its test is there."""
 import os
+import re
 
 import pytest
 
@@ -15,4 +16,6 @@ def test_names():
 def test_placed(row):
     with open(os.path.join(TOP, row.file), encoding="utf-8") as file:
         assert file.read().count(row.right) == 1
-    assert row.right != row.wrong and os.path.exists(os.path.join(TOP, row.aim.split()[0]))
+    place, _, name = row.aim.partition(" -k ")
+    with open(os.path.join(TOP, place), encoding="utf-8") as file:
+        assert row.right != row.wrong and re.search(r"(?m)^def (?=test_)\w*%s" % name, file.read())
