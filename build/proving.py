@@ -22,6 +22,8 @@ from build.kept import Kept
 PROOF_MEMORY, JOB_MEMORY = 3 * 2 ** 30, 2 ** 29
 # The seconds after which the pace of a build says something of what is left.
 PACED = 60
+# The seconds between two looks at what runs, and how many of them pass before what is urgent is chosen anew.
+LOOK, LOOKS = 0.05, 10
 # The nice level of the proofs that aren't urgent.
 LATER = 19
 # What ends a build in an orderly way.
@@ -201,6 +203,13 @@ class Build:
             names, len(waiting) + len(self.running), len(self.plan.names), minutes(self.left())),
             "" if sys.stdout.isatty() else "\n")
 
+    def wait(self):
+        """Waits for a proof to end, at most half a second."""
+        for _ in range(LOOKS):
+            if self.is_stopped or any(proof.child.poll() is not None for proof in self.running.values()):
+                return
+            time.sleep(LOOK)
+
     def run(self, make_target):
         """Proves the crates that are not kept, and the targets. Returns the verdicts. Raises Failed."""
         self.kept_before = self.kept.names(self.plan.names - self.targets)
@@ -214,7 +223,7 @@ class Build:
                 prioritize(proof.child.pid, name in urgent)
             if sys.stdout.isatty() or set(self.running) - before:
                 self.progress(waiting)
-            time.sleep(0.5)
+            self.wait()
             self.take_in()
             if self.is_stopped:
                 raise Failed("ended before all was proved; the crates that were proved are kept")
