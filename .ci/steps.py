@@ -1,4 +1,4 @@
-"""Runs the steps of the gate: what needs no build, then `rt ci`, then what runs what it has built, side by side.
+"""Runs the steps of the gate: what needs no build, then `rt ci`, then what runs what it has built, side by side; `test` beside all.
 
     .ci/run [--no-skips]
     .ci/run --list       what each step runs and shows, in the words of its program; nothing is run
@@ -7,7 +7,7 @@ Prints a line a step with its times as the step ends, all that a failed step has
 steps with the kit's name, why something was skipped, and `N passed, M failed, K skipped`. A step of pytest counts as its
 tests do, any other is one. With --no-skips what was skipped has failed. The first time is that of the clock, the second
 that of all processors. A failed stage ends the run: what comes after it stands on it. A call that is answered wrongly
-beside the proofs ends them too.
+ends the proofs too.
 Each step writes to a folder of its own, and leaves nothing in the tree but crates/*/out.
 """
 import argparse
@@ -40,9 +40,12 @@ UNLIMITED = {
     "/sys/fs/cgroup/memory/memory.limit_in_bytes": str(2 ** 63 - 4096),
 }
 
-# Each stage: its steps, by name, and whether the first that fails ends the others. The proofs leave processors idle, as a
-# crate waits for those below it: `test` takes what they leave, and is through long before them.
+# Each stage: its steps, by name, and whether the first that fails ends the others. The steps of the first are begun before
+# the others, which don't wait for them: they take the processors that the others leave idle.
 STAGES = [
+    ("beside all others", False, {
+        "test": "nice -n 19 python3 -m tests",
+    }),
     ("before any build", False, {
         "calls": "python3 -m tests.tables.make --check",
         "mutants": ".ci/mutants --placed",
@@ -52,7 +55,6 @@ STAGES = [
     }),
     ("proofs", True, {
         "rt ci": "rt ci",
-        "test": "nice -n 19 python3 -m tests",
     }),
     ("built programs", False, {
         "built": "pytest -m built",
@@ -146,11 +148,16 @@ WITHOUT_PYTEST = "skipped: pytest with xdist and timeout (Debian: python3-pytest
 
 
 def pytest_words():
-    """How pytest is run, on all processors: by this Python or the system's, where Debian's packages are; None without it."""
+    """How pytest is run: by this Python or the system's, where Debian's packages are; None without it."""
     for python in (sys.executable, "/usr/bin/python3"):
         if os.path.exists(python) and not subprocess.run([python, "-c", "import " + PLUGINS], stderr=subprocess.DEVNULL).returncode:
-            return [python, "-m", "pytest", "-q", "-n", str(len(os.sched_getaffinity(0))), "--dist", "loadgroup"]
+            return [python, "-m", "pytest", "-q", "--dist", "loadgroup"]
     return None
+
+
+def workers(words):
+    """How many processes pytest gets: one a processor, and twice as many before a build, as those tests wait for most of their time."""
+    return ["-n", str(len(os.sched_getaffinity(0)) * (2 if "unbuilt" in words else 1))]
 
 
 class Ended(NamedTuple):
@@ -191,6 +198,7 @@ class Gate:
 
     def __init__(self):
         self.ended, self.running, self.lock, self.pytest = [], set(), threading.Lock(), pytest_words()
+        self.is_ended = False  # whether a step that fails now ends all others
 
     def run(self, step):
         """Runs a step in a process group of its own; its last line says what it did."""
@@ -200,7 +208,7 @@ class Gate:
         if is_many:
             if not self.pytest:
                 return self.say(Ended(name, 0, 0, 0, WITHOUT_PYTEST, is_many))
-            words[:1] = self.pytest
+            words[:1] = self.pytest + workers(words)
             environment = {**ENVIRONMENT, "PATH": os.path.dirname(self.pytest[0]) + os.pathsep + ENVIRONMENT["PATH"]}  # for the tools too
         with tempfile.TemporaryFile("w+", errors="replace") as log:
             child = subprocess.Popen(words, cwd=TOP, env=environment, stdin=subprocess.DEVNULL, stdout=log,
@@ -221,15 +229,27 @@ class Gate:
                 sys.stdout.write(ended.said)
             last = ended.said.rstrip("\n").rsplit("\n", 1)[-1]
             print("%s%s" % (ended.line(), "" if ended.status else ": " + last), flush=True)
+        if ended.status and self.is_ended:
+            self.end()
         return ended
 
     def run_all(self, steps, is_ended):
-        """Runs the steps side by side, if so until one fails. True if all passed."""
+        """Runs the steps side by side, if so until one fails."""
+        self.is_ended = is_ended
         with concurrent.futures.ThreadPoolExecutor(os.cpu_count()) as pool:
-            for step in concurrent.futures.as_completed([pool.submit(self.run, step) for step in steps.items()]):
-                if is_ended and step.result().status:
+            list(pool.map(self.run, steps.items()))
+
+    def run_stages(self, beside, *stages):
+        """Runs the stages one after the other, until one has failed, and the steps of the first beside all others."""
+        with concurrent.futures.ThreadPoolExecutor() as pool:
+            waiting = pool.map(self.run, beside[2].items())
+            for title, is_ended, steps in stages:
+                if any(step.status for step in self.ended):
                     self.end()
-        return not any(step.status for step in self.ended)
+                    break
+                print("== %s" % title, flush=True)
+                self.run_all(steps, is_ended)
+            list(waiting)
 
     def end(self):
         """Ends every process that a step has started."""
@@ -267,10 +287,7 @@ def main():
     gate, begun = Gate(), time.monotonic()
     for number in (signal.SIGINT, signal.SIGTERM):
         signal.signal(number, gate.stop)
-    for title, is_ended, steps in STAGES:
-        print("== %s" % title, flush=True)
-        if not gate.run_all(steps, is_ended):
-            break
+    gate.run_stages(*STAGES)
     return gate.table(begun, not options.no_skips)
 
 

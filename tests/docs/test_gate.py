@@ -54,6 +54,21 @@ def test_each_test_is_listed(listed):
     assert names and [name for name in names if "\n%s: " % name not in listed] == []
 
 
+@pytest.mark.parametrize("commands, passed, failed", [
+    (("sleep 2", "true", "true", "true"), ["first", "proofs", "last", "beside"], []),
+    (("sleep 2", "true", "true", "false"), ["first", "proofs", "beside"], ["last"]),
+    (("sleep 60", "false", "true", "true"), [], ["first", "beside"]),
+    (("false", "sleep 1", "true", "true"), ["first"], ["beside"]),
+    (("timeout 1 sleep 60", "true", "sleep 60", "true"), ["first"], ["beside", "proofs"]),
+])
+def test_stages(commands, passed, failed):
+    """No stage waits for what runs beside them. A failed stage ends the run, and a failed step beside them the proofs."""
+    gate, names = STEPS["Gate"](), ("beside", "first", "proofs", "last")
+    gate.run_stages(*((name, name == "proofs", {name: command}) for name, command in zip(names, commands)))
+    assert [step.name for step in gate.ended if not step.status] == passed
+    assert [step.name for step in gate.ended if step.status] == failed
+
+
 def on_demand():
     """The programs of the table of what runs on demand, but for pytest. In a row, those of one folder follow each other."""
     for row in re.findall(r"(?m)^\| (`.*?) \|", section("CONTRIBUTING.md", "What runs on demand")):
