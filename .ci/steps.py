@@ -112,7 +112,7 @@ def show_list():
         for name, command in steps.items():
             place = program(command)
             print("%-16s %s%s" % (name, command, ": " + about(place) if place in found else ""))
-    print("== the tests of pytest: those that use a built program after `rt ci`, the others before any build")
+    print("== the tests of pytest: those that use a built program or a broker after `rt ci`, the others before any build")
     for place in (place for place, commands in found.items() if not commands):
         print("%s: %s" % (place, about(place)))
 

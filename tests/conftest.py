@@ -15,6 +15,8 @@ try:
 except ImportError:
     pass  # the tests that need it are skipped
 PROGRAMS = {"broker": ("rabbitmq-server",), "browser": ("chromium", "chromedriver")}
+# The groups and files of tests that take longest, the longest first: no process is left alone with one at the end.
+SLOW = ("bindings", "limits", "browser", "broker", "packages", "test_oom", "test_bits", "sandbox", "test_builds")
 
 
 def pytest_configure():
@@ -29,16 +31,25 @@ def pytest_addoption(parser):
     parser.addoption("--release", action="store_true", help="run what runs before a release too")
 
 
-def pytest_collection_modifyitems(config, items):
-    """Marks each test by whether it runs the built command, so that `-m unbuilt` is what can run before a build.
+def slowness(item):
+    """The place of a test in SLOW, by its group or its file."""
+    group = item.get_closest_marker("xdist_group")
+    name = group.args[0] if group else item.path.stem
+    return SLOW.index(name) if name in SLOW else len(SLOW)
 
-    Leaves out those of a release, which are no skips: CONTRIBUTING has them among what runs on demand.
+
+def pytest_collection_modifyitems(config, items):
+    """Marks each test by whether it runs the built command, so that `-m unbuilt` is what can run before a build. Slow ones come first.
+
+    A broker takes ten seconds to start, so those that have one run together, after the build. Leaves out those of a release,
+    which are no skips: CONTRIBUTING has them among what runs on demand.
     """
     later = [] if config.getoption("--release") else [item for item in items if item.get_closest_marker("release")]
     config.hook.pytest_deselected(items=later)
-    items[:] = [item for item in items if item not in later]
+    items[:] = sorted((item for item in items if item not in later), key=slowness)
     for item in items:
-        item.add_marker("built" if {"cadf", "drivers"} & set(item.fixturenames) else "unbuilt")
+        is_later = {"cadf", "drivers"} & set(item.fixturenames) or item.get_closest_marker("broker")
+        item.add_marker("built" if is_later else "unbuilt")
 
 
 def pytest_runtest_setup(item):

@@ -1,4 +1,5 @@
 """What the gate says of its steps, and CONTRIBUTING beside what runs on demand and the places of the tree."""
+import glob
 import os
 import re
 import runpy
@@ -7,6 +8,7 @@ import subprocess
 import pytest
 
 from tests import TOP
+from tests.conftest import SLOW
 
 CODE = re.compile(r"`([^`]+)`")
 STEPS = runpy.run_path(os.path.join(TOP, ".ci", "steps.py"))
@@ -52,6 +54,16 @@ def test_each_test_is_listed(listed):
     """Each file of pytest and each program of the steps is in the list, by its place or as a module."""
     names = [name for name in git_files() if re.fullmatch(r"tests/.*/test_\w+\.py", name)]
     assert names and [name for name in names if "\n%s: " % name not in listed] == []
+
+
+@pytest.mark.parametrize("name", SLOW)
+def test_slow_first(name):
+    """What pytest begins with is there: a group of tests, or a file."""
+    found = set()
+    for path in glob.glob(os.path.join(TOP, "tests", "*", "test_*.py")):
+        with open(path, encoding="utf-8") as file:
+            found |= {os.path.basename(path)[:-len(".py")], *re.findall(r'xdist_group\("(\w+)"\)', file.read())}
+    assert name in found
 
 
 @pytest.mark.parametrize("commands, passed, failed", [
