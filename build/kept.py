@@ -27,6 +27,10 @@ class Kept:
     def mark(self, name):
         return os.path.join(self.folder, name + ".made")
 
+    def archive(self, name):
+        """The library for C, if the crate is one; its record is beside it."""
+        return os.path.join(self.folder, "lib%s.a" % name)
+
     def state(self, name, sources):
         """What the library is made of: these sources, this kit, and the libraries of the crates that it uses."""
         below = {"over " + other: record.digest_of_file(self.mark(other)) for other in self.uses[name]}
@@ -50,7 +54,8 @@ class Kept:
 
     def tidy(self):
         """Removes all that is no crate's: what an earlier version or a killed proof left there."""
-        ours = {path for name in self.uses for path in (self.library(name), self.mark(name))}
+        ours = {path for name in self.uses
+                for path in (self.library(name), self.mark(name), self.archive(name), self.archive(name) + ".built")}
         for item in list(os.scandir(self.folder)) if os.path.isdir(self.folder) else []:
             if item.path not in ours and item.is_dir(follow_symlinks=False):
                 shutil.rmtree(item.path)

@@ -1,4 +1,4 @@
-"""build/command in a small tree, with a stand-in for the kit that sleeps where the kit proves."""
+"""build/command and build/library in a small tree, with a stand-in for the kit that sleeps where the kit proves."""
 import contextlib
 import os
 import shutil
@@ -41,7 +41,7 @@ proved, changed = os.environ.get("CHANGES", " ").split(" ")
 if name == proved:
     open("../%s/src/lib.rt" % changed, "a").write("// Changed.\\n")
 tell("ends")
-if name == "cadf":
+if "cadf-build" not in made:
     open(made, "w").write(" ".join(words))
 print("logic=proved")
 '''
@@ -256,3 +256,30 @@ def test_cut_off(tree, sign):
     assert tree.build()[0] == 0 and "low" not in tree.begun()
     assert os.path.exists(tree.path("crates", "cadf", "out", "cadf"))
     assert tree.is_quiet()
+
+
+def library(tree, *words):
+    """Runs build/library. Returns the crates that it has proved, and the archive."""
+    open(tree.told, "w", encoding="utf-8").close()
+    subprocess.run([tree.path("build", "library"), *words], env=tree.environment({}), check=True, stdout=subprocess.DEVNULL)
+    with open(tree.path("crates", "cadf_c", "out", "libcadf_c.a"), encoding="utf-8") as file:
+        return tree.begun(), file.read()
+
+
+def test_library(tree):
+    """The archive that `rt ci` has removed is put back, and nothing is proved, until a crate below or the processor is another."""
+    tree.add("crates", "cadf_c", "src", "lib.rt")
+    with open(tree.path("crates.txt"), "a", encoding="utf-8") as file:
+        file.write("cadf_c staticlib: left low\n")
+    proved, archive = library(tree)
+    assert proved == ["low", "left", "cadf_c"]
+    for words in ((), ("--over-ci",), ()):
+        shutil.rmtree(tree.path("crates", "cadf_c", "out"))
+        assert library(tree, *words) == ([], archive)
+    assert library(tree, "--cpu", "x86-64-v3")[0] == ["cadf_c"]
+    tree.add("crates", "left", "specs", "Lib.antt")
+    assert library(tree)[0] == ["left", "cadf_c"]
+    tree.add("crates", "left", "specs", "Lib.antt")
+    for name in ("low", "left"):
+        os.makedirs(tree.path("crates", name, "out", "rlib"))
+    assert library(tree, "--over-ci")[0] == ["cadf_c"]
