@@ -455,7 +455,7 @@ def test_a_site_that_is_read_alone(sites):
 def test_no_work_for_a_caller_that_is_gone(sites):
     """Of many items of a request none is begun once a sign of life finds no reader."""
     sites.put("here.cadf", facts(1))
-    (sites.path / "slow").write_text('#!/bin/sh\n[ $1 = missing-by ] && echo >>told && sleep 0.5\nexec %s "$@"\n' % REFERENCE)
+    (sites.path / "slow").write_text('#!/bin/sh\n[ $1 = missing-by ] && echo >>told && sleep 0.5\nexec %s "$@"\n' % shlex.quote(REFERENCE))
     (sites.path / "slow").chmod(0o755)
     with subprocess.Popen([sys.executable, os.path.join(sites.tools, "cadf-sync"), "--serve", "here.cadf"], stdin=subprocess.PIPE, stdout=subprocess.PIPE,
                           stderr=subprocess.PIPE, cwd=sites.path, env=dict(sites.environment(), CADF="./slow")) as child:
@@ -922,9 +922,9 @@ def test_wrong_tools_over_folders_are_caught(tmp_path, cadf, number):
 SSHD_SETTINGS = """
 Port {port}
 ListenAddress 127.0.0.1
-HostKey {folder}/host
+HostKey "{folder}/host"
 PidFile none
-AuthorizedKeysFile {folder}/keys
+AuthorizedKeysFile "{folder}/keys"
 StrictModes no
 UsePAM no
 PasswordAuthentication no
@@ -950,17 +950,17 @@ class Ssh(Sites):
         self.port = free_port()
         for name in ("host", "all", "one"):
             subprocess.run(["ssh-keygen", "-q", "-t", "ed25519", "-N", "", "-f", path / name], check=True)
-        forced = 'restrict,command="cadf-sync --serve %s" ' % (path / "there.cadf")
+        forced = 'restrict,command="cadf-sync --serve %s" ' % shlex.quote(str(path / "there.cadf"))
         (path / "keys").write_bytes(forced.encode() + (path / "one.pub").read_bytes() + (path / "all.pub").read_bytes())
         (path / "settings").write_text(SSHD_SETTINGS.format(port=self.port, folder=path, tools=TOOLS, path=os.environ["PATH"], cadf=REFERENCE))
 
     def ssh(self, key):
         """The words that reach the sshd by a key."""
         return ["ssh", "-F", "none", "-p", str(self.port), "-i", str(self.path / key), "-o", "IdentitiesOnly=yes", "-o", "BatchMode=yes",
-                "-o", "UserKnownHostsFile=%s" % (self.path / "known")]
+                "-o", 'UserKnownHostsFile="%s"' % (self.path / "known")]
 
     def sync_by(self, key, *words):
-        return self.sync("--rsh=" + " ".join(self.ssh(key)), *words)
+        return self.sync("--rsh=" + shlex.join(self.ssh(key)), *words)
 
     def asks(self, *words, data=b""):
         """What a client gets that asks for something else with the key that is restricted."""
@@ -1004,11 +1004,11 @@ def test_ssh(ssh):
     before = sorted((each.name, each.read_bytes()) for each in ssh.path.iterdir())
     answer = ssh.sync_by("one", "here.cadf", other)
     assert answer.status == 1 and "another site than the one that is served here" in said(answer), answer
-    wrong = ssh.path / "wrong"
-    assert ssh.asks("-tt", "127.0.0.1", "touch", str(wrong), data=b"touch %s\nexit\n" % os.fsencode(wrong)).status not in (0, None)
-    for words in (["127.0.0.1"], ["127.0.0.1", "touch", str(wrong)], ["-s", "127.0.0.1", "sftp"],
-                  ["127.0.0.1", "cadf-sync", "--serve", str(ssh.path / "other.cadf")]):
-        answer = ssh.asks(*words, data=b"touch %s\nexit\n" % os.fsencode(wrong))
+    wrong = shlex.quote(str(ssh.path / "wrong"))
+    assert ssh.asks("-tt", "127.0.0.1", "touch", wrong, data=b"touch %s\nexit\n" % wrong.encode()).status not in (0, None)
+    for words in (["127.0.0.1"], ["127.0.0.1", "touch", wrong], ["-s", "127.0.0.1", "sftp"],
+                  ["127.0.0.1", "cadf-sync", "--serve", shlex.quote(str(ssh.path / "other.cadf"))]):
+        answer = ssh.asks(*words, data=b"touch %s\nexit\n" % wrong.encode())
         assert answer.status not in (0, None) and b"no first line of cadf-sync" in answer.output, (words, answer)
     answer = ssh.asks("-W", "127.0.0.1:%d" % ssh.port, "127.0.0.1")
     assert answer.status not in (0, None) and b"prohibited" in answer.error and b"SSH-2.0" not in answer.output, answer
