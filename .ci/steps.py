@@ -156,8 +156,8 @@ def pytest_words():
 
 
 def workers(words):
-    """How many processes pytest gets: one a processor, and twice as many before a build, as those tests wait for most of their time."""
-    return ["-n", str(len(os.sched_getaffinity(0)) * (2 if "unbuilt" in words else 1))]
+    """How many processes pytest gets: one a processor, and twice as many for all that is unbuilt, which waits for most of its time."""
+    return ["-n", str(len(os.sched_getaffinity(0)) * (2 if words[-1] == "unbuilt" else 1))]
 
 
 class Ended(NamedTuple):
