@@ -187,7 +187,7 @@ def test_greatest_size(folder, under, line, front, number, fault, room, size):
     """A file that is followed by zeros, as a sparse file. All but the document are refused in little memory."""
     shutil.copy(folder / front, folder / "zeros")
     os.truncate(folder / "zeros", size)
-    got = under('ulimit -v %s; exec "$@"' % (room or "unlimited"), line)
+    got = under('exec "$@"' if room is None else 'ulimit -v %d; exec "$@"' % room, line)
     assert got == Answer(1, b"", b"cadf: input %d: %s\n" % (number, fault if size == GREATEST else b"too large"))
 
 
