@@ -258,16 +258,16 @@ def test_cut_off(tree, sign):
     assert tree.is_quiet()
 
 
-def library(tree, *words):
+def library(tree, *words, **more):
     """Runs build/library. Returns the crates that it has proved, and the archive."""
     open(tree.told, "w", encoding="utf-8").close()
-    subprocess.run([tree.path("build", "library"), *words], env=tree.environment({}), check=True, stdout=subprocess.DEVNULL)
+    subprocess.run([tree.path("build", "library"), *words], env=tree.environment(more), check=True, stdout=subprocess.DEVNULL)
     with open(tree.path("crates", "cadf_c", "out", "libcadf_c.a"), encoding="utf-8") as file:
         return tree.begun(), file.read()
 
 
 def test_library(tree):
-    """The archive that `rt ci` has removed is put back, and nothing is proved, until a crate below or the processor is another."""
+    """The archive that `rt ci` has removed is put back, and nothing is proved, until a crate below, the processor or the kit is another."""
     tree.add("crates", "cadf_c", "src", "lib.rt")
     with open(tree.path("crates.txt"), "a", encoding="utf-8") as file:
         file.write("cadf_c staticlib: left low\n")
@@ -283,3 +283,4 @@ def test_library(tree):
     for name in ("low", "left"):
         os.makedirs(tree.path("crates", name, "out", "rlib"))
     assert library(tree, "--over-ci")[0] == ["cadf_c"]
+    assert library(tree, VERSION="another")[0] == ["low", "left", "cadf_c"]

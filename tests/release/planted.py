@@ -31,6 +31,7 @@ ROWS = [
     Row("build: kit unread", "build/kept.py", '"kit": self.kit, ', "", "tests/package/test_builds.py -k test_other_kit"),
     Row("build: crates below unread", "build/kept.py", ", **below}", "}", CHANGED + "test_changed"),
     Row("build: verdict unread", "build/proving.py", 'if line.startswith("logic=")', "if True", "tests/package/test_recheck.py -k test_what_is_above"),
+    Row("library: kit unread", "build/library", '"kit": record.kit(TOP), ', "", CHANGED + "test_library"),
     # ---- What is installed and packed
     Row("package: no change log", "install/contents.py", '"README.md", "CHANGELOG.md", ', '"README.md", ', INSTALLED + "test_places"),
     Row("package: no units", "install/contents.py", "        yield file_of(top, name, OF_SYSTEMD[kind] % name_alone)\n", "", INSTALLED + "test_places"),
