@@ -154,12 +154,19 @@ def test_python(prefix):
     assert "skipped" not in said
 
 
-@pytest.mark.parametrize("kind", ["folder", "wheel"])
-def test_installed_by_pip(prefix, tmp_path, kind):
-    """The package as pip installs it, without a network, with the program that the page shows."""
-    venv, alone = tmp_path / "venv", {**environment(prefix), "PYTHONPATH": ""}
-    if subprocess.run([sys.executable, "-m", "venv", venv], stdout=subprocess.DEVNULL, stderr=subprocess.DEVNULL, check=False).returncode:
+@pytest.fixture(scope="module")
+def venv(tmp_path_factory):
+    """A folder with a Python and a pip of its own."""
+    folder = tmp_path_factory.mktemp("venv")
+    if subprocess.run([sys.executable, "-m", "venv", folder], stdout=subprocess.DEVNULL, stderr=subprocess.DEVNULL, check=False).returncode:
         pytest.skip("venv isn't there (Debian: python3-venv)")
+    return folder
+
+
+@pytest.mark.parametrize("kind", ["folder", "wheel"])
+def test_installed_by_pip(prefix, venv, tmp_path, kind):
+    """The package as pip installs it, without a network, with the program that the page shows."""
+    alone = {**environment(prefix), "PYTHONPATH": ""}
     package = PYTHON if kind == "folder" else str(tmp_path / library_files.wheel(TOP, str(tmp_path)))
     if kind == "wheel":
         alone.pop("CADF_LIBRARY")  # it has its own
