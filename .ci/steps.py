@@ -169,7 +169,7 @@ class Ended(NamedTuple):
     is_many: bool  # a step of pytest
 
     def line(self):
-        verdict = "passed" if self.status == 0 else "FAILED: status %d" % self.status
+        verdict = {0: "passed", -signal.SIGTERM: "ended by SIGTERM"}.get(self.status, "FAILED: status %d" % self.status)
         return "%-12s %7.1f s %8.1f s  %s" % (self.name, self.seconds, self.processors, verdict)
 
     def counts(self):
@@ -199,6 +199,7 @@ class Gate:
     def __init__(self):
         self.ended, self.running, self.lock, self.pytest = [], set(), threading.Lock(), pytest_words()
         self.is_ended = False  # whether a step that fails now ends all others
+        self.is_over = False
 
     def run(self, step):
         """Runs a step in a process group of its own; its last line says what it did."""
@@ -215,6 +216,8 @@ class Gate:
                                      stderr=subprocess.STDOUT, start_new_session=True)
             with self.lock:
                 self.running.add(child.pid)
+            if self.is_over:
+                self.end()
             status, processors = wait_for(child)
             with self.lock:
                 self.running.discard(child.pid)
@@ -252,7 +255,8 @@ class Gate:
             list(waiting)
 
     def end(self):
-        """Ends every process that a step has started."""
+        """Ends every process that a step has started, or starts from now on."""
+        self.is_over = True
         for group in list(self.running):
             with contextlib.suppress(ProcessLookupError):
                 os.killpg(group, signal.SIGTERM)
