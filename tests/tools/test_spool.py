@@ -10,6 +10,7 @@ import json
 import os
 import random
 import resource
+import shlex
 import signal
 import socket
 import stat
@@ -387,7 +388,7 @@ def test_full_disk(spools, limit):
 def test_stopped(spools):
     """Asked to end while `cadf` joins, it ends what it has started, and leaves nothing of it; the next run takes the files."""
     folder = spools.site(**{"a.json": document("e1")})
-    odd = spools.command(folder, '[ "$1" = join ] && { echo $$ >%s/part; mv %s/part %s/joins; exec sleep 30; }' % (folder, folder, folder))
+    odd = spools.command(folder, '[ "$1" = join ] && { cd %s; echo $$ >part; mv part joins; exec sleep 30; }' % shlex.quote(folder))
     child = spools.started(folder, "--log", "g", cadf=odd, stderr=subprocess.PIPE)
     while not os.path.exists(os.path.join(folder, "joins")) and child.poll() is None:
         time.sleep(0.01)
@@ -501,7 +502,7 @@ def test_confined(spools):
     folder, site = spools.site(**{"a.json": document("e1")}), spools.joined(document("e0"))
     put(os.path.join(folder, "s.cadf"), site)
     odd = spools.command(folder, 'if [ "$3" = a.json ]; then (cd %s; for each in s.cadf other spool/taken/other spool/taking/a.json; do echo x >>$each; done; '
-                                 'mv s.cadf moved; rm s.cadf; mkdir spool/taking/.work/d; echo x >spool/taking/.work/x) || exit 3; fi 2>&-' % folder)
+                                 'mv s.cadf moved; rm s.cadf; mkdir spool/taking/.work/d; echo x >spool/taking/.work/x) || exit 3; fi 2>&-' % shlex.quote(folder))
     assert spools.run(folder, "s.cadf", "spool", cadf=odd).status == 0
     assert sorted(os.listdir(folder)) == ["odd", "s.cadf", "s.cadf.before", "s.cadf.lock", "spool"] and held(folder)["s.cadf.before"] == site
     spools.leaves(folder, spools.joined(document("e0", "e1")), **{"taken/a.json": document("e1")})
@@ -534,7 +535,7 @@ def test_group_at_fault(spools, fault):
     names = ["%d.json" % number for number in range(16)]
     folder = spools.site(**{name: document("BOMB" if name == "7.json" else name) for name in names})
     names.remove("7.json")
-    script = 'echo "$1" >>%s/calls\n[ "$1" = join ] && for each; do grep -q BOMB "$each" 2>/dev/null && { %s; }; done' % (folder, fault)
+    script = 'echo "$1" >>%s/calls\n[ "$1" = join ] && for each; do grep -q BOMB "$each" 2>/dev/null && { %s; }; done' % (shlex.quote(folder), fault)
     done = spools.takes(folder, cadf=spools.command(folder, script))
     assert (done.status, last_line(done)) == (1, counted(15, 1))
     spools.leaves(folder, spools.joined(document(*names)), **names_in("set-aside", ["7.json", "7.json.reason"]), **names_in("taken", names))
@@ -644,7 +645,7 @@ def test_sender_that_writes_on(shared):
     shared.send("b.json", document("e2"))
     put(os.path.join(shared.folder, "sending"), SENDING.encode())
     sender = subprocess.Popen(others.as_user(others.SENDER, others.GROUP, others.PYTHON, "sending", "spool/a.jsonl", place), cwd=shared.folder)
-    odd = shared.command(shared.folder, 'case "$1 $3" in "check "*0001.json) read done <%s/begun;; esac' % place)
+    odd = shared.command(shared.folder, 'case "$1 $3" in "check "*0001.json) read done <%s/begun;; esac' % shlex.quote(place))
     while not os.path.exists(os.path.join(place, "begun")) and sender.poll() is None:
         time.sleep(0.01)
     done = shared.takes_own(cadf=odd)

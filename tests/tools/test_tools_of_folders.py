@@ -26,7 +26,7 @@ class Sites:
         self.south.count = 100  # of its files' names
         self.told = path / "told"
         telling = path / "telling"
-        telling.write_text(TELLING % (self.told, shlex.quote(Site.command)))
+        telling.write_text(TELLING % (shlex.quote(str(self.told)), shlex.quote(Site.command)))
         telling.chmod(0o755)
         self.environment = dict(os.environ, CADF=str(telling))
 
