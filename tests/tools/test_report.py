@@ -3,6 +3,7 @@
 `tests/tools/test_report_page.py` and `test_report_meaning.py` try the pages in a browser.
 """
 import base64
+import fcntl
 import hashlib
 import io
 import json
@@ -11,9 +12,11 @@ import pty
 import re
 import resource
 import signal
+import struct
 import subprocess
 import sys
 import tempfile
+import termios
 import time
 
 import pytest
@@ -411,6 +414,7 @@ def test_progress(reports):
     said = []
     for quiet in (0, 60):
         leader, terminal = pty.openpty()
+        fcntl.ioctl(terminal, termios.TIOCSWINSZ, struct.pack("4H", 24, 500, 0, 0))  # columns for a command far down in the tree
         done = subprocess.run([PYTHON, "-c", script % (SHARE, quiet, TOOL)], env=reports.environment, stdout=subprocess.DEVNULL, stderr=terminal)
         os.write(terminal, b"end")
         os.close(terminal)
