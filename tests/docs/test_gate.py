@@ -70,7 +70,7 @@ def test_slow_first(name):
     (("sleep 2", "true", "true", "true"), ["first", "proofs", "last", "beside"], []),
     (("sleep 2", "true", "true", "false"), ["first", "proofs", "beside"], ["last"]),
     (("sleep 60", "false", "true", "true"), [], ["first", "beside"]),
-    (("false", "sleep 1", "true", "true"), ["first"], ["beside"]),
+    (("timeout 1 sleep 60", "sleep 3", "true", "true"), ["first"], ["beside"]),
     (("timeout 1 sleep 60", "true", "sleep 60", "true"), ["first"], ["beside", "proofs"]),
 ])
 def test_stages(commands, passed, failed):
