@@ -1,5 +1,5 @@
 use Rattle.cadf_tool.specs.Run.{transition_of}
-use Rattle.cadf_tool.proofs.KindInputs.{inventory_read}
+use Rattle.cadf_tool.proofs.KindReading.{inventory_read}
 use Rattle.cadf_tool.proofs.inputs.load_inventory.Goals as goal
 
 pub returns-in-Ok-clause-ok : goal.returns-in-Ok-clause-ok

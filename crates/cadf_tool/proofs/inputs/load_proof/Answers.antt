@@ -2,7 +2,7 @@ use Rattle.cadf_seal.specs.ProofFile.{IsProof}
 use Rattle.cadf_seal.specs.ProofVerdict.{proof_kind}
 use Rattle.cadf_seal.proofs.ProofLineLemmas.{accepts-proofs}
 use Rattle.cadf_tool.specs.Run.{transition_of}
-use Rattle.cadf_tool.proofs.KindInputs.{model_read}
+use Rattle.cadf_tool.proofs.KindReading.{model_read}
 use Rattle.cadf_tool.proofs.inputs.load_proof.Goals as goal
 
 pub returns-in-Ok-clause-ok : goal.returns-in-Ok-clause-ok

@@ -1,5 +1,5 @@
 use Rattle.cadf_tool.specs.Run.{transition_of}
-use Rattle.cadf_tool.proofs.KindInputs.{sketch_read}
+use Rattle.cadf_tool.proofs.KindReading.{sketch_read}
 use Rattle.cadf_tool.proofs.inputs.load_sketch.Goals as goal
 
 pub returns-in-Ok-clause-ok : goal.returns-in-Ok-clause-ok
