@@ -15,7 +15,7 @@ use Rattle.cadf_tool.specs.declared.input.Loaded.{Loaded}
 use Rattle.cadf_tool.specs.declared.fault.ToolFault.{ToolFault}
 use Rattle.cadf_tool.specs.Told.{log_named, atoms_loaded, replica_model_of}
 use Rattle.cadf_tool.specs.Inputs.{SourceState, source_state}
-use Rattle.cadf_tool.specs.Run.{transition_of, Sources, one, two, all, input_spec, IsReadAs, IsValueOf, IsExpectedOfBy, IsAnswer, IsRun, IsRunBy}
+use Rattle.cadf_tool.specs.Run.{transition_of, Sources, one, two, all, input_spec, IsReadAs, IsExpectedOfBy, IsAnswer, IsRun, IsRunBy}
 use Rattle.cadf_tool.specs.InventoryInput.{inventory_spec}
 use Rattle.cadf_tool.specs.SketchInput.{sketch_spec}
 use Rattle.cadf_tool.specs.Sketch.{AreAsked, sketch_model_of, IsPartBySketch, IsSketchInput}
@@ -47,20 +47,26 @@ use Rattle.cadf_tool.proofs.ExchangeLaws.{read_of, are_read, written_behind}
 
 -- ---- a run that returned Ok
 
+-- the sources encode some value, for which the work allows the result
+pub record HasRun {A M W : Type 0} (sources : Sources A) (work : A → Result M ToolFault → Type 0) (tell : M → Text)
+    (sink : Sink W) (old new : W) : Type 0 where
+  pub value : A
+  pub made : M
+  pub are : sources.are value
+  pub worked : work value (Ok made)
+  pub written : Appends (sink.written old) (sink.written new) (tell made)
+
 module _ {A M W T : Type 0} (sources : Sources A) (work : A → Result M ToolFault → Type 0) (tell : M → Text)
     (sink : Sink W) (old new : W) (t : T) where
   never : (fault : ToolFault) → ◌≡◌ {A = Result T ToolFault} (Ok t) (Err fault) → ⊥
   never fault e = cc
 
-  -- the sources encode some value, for which the work allows the result
-  abbrev pub HasRun : Type 0
-  HasRun = (a : A) × (made : M) × sources.are a × work a (Ok made) × Appends (sink.written old) (sink.written new) (tell made)
-
-  run_by : (expected : Result M ToolFault) → IsExpectedOfBy sources work expected → IsAnswer tell sink old new expected (Ok t) → HasRun
-  run_by (Ok made) (a, are, worked) answer = (a, made, are, worked, answer.whole)
+  run_by : (expected : Result M ToolFault) → IsExpectedOfBy sources work expected → IsAnswer tell sink old new expected (Ok t)
+      → HasRun sources work tell sink old new
+  run_by (Ok made) (a, are, worked) answer = record { value = a; made = made; are = are; worked = worked; written = answer.whole }
   run_by (Err fault) first answer = absurd (never fault answer.0)
 
-  pub run_ok : IsRunBy sources work tell sink old new (Ok t) → HasRun
+  pub run_ok : IsRunBy sources work tell sink old new (Ok t) → HasRun sources work tell sink old new
   run_ok run = run_by run.expected run.first.is run.answer
 
 pub text_behind : {W : Type 0} (sink : Sink W) (old new : W) (before bytes : List ℕ) → sink.written old ≡ Some before
@@ -72,17 +78,21 @@ text_behind sink old new before bytes begun w =
 
 module _ {S W T : Type 0} (source : Source S) (sink : Sink W) (old new : W) (t : T) (before : List ℕ)
     (begun : sink.written old ≡ Some before) where
+  behind : (bytes : List ℕ) → Appends (sink.written old) (sink.written new) bytes → sink.written new ≡ Some (before ++ bytes)
+  behind bytes w = text_behind sink old new before bytes begun w
+
   pub join_makes : (log : Option Text) (operands : Operands) (inputs after : List S) → AreSources operands (map (source_state source) inputs)
       → IsRun (all source inputs after) (join_of log) written_file sink old new (Ok t)
       → (bytes : List ℕ) × (sink.written new ≡ Some (before ++ bytes)) × IsDerived (Joined log operands) bytes
-  join_makes log operands inputs after given run = by (run_ok (all source inputs after) (IsValueOf (join_of log)) written_file sink old new t run)
-    where
-      by : HasRun (all source inputs after) (IsValueOf (join_of log)) written_file sink old new t
-          → (bytes : List ℕ) × (sink.written new ≡ Some (before ++ bytes)) × IsDerived (Joined log operands) bytes
-      by (loaded, h, read, joined, w) = (
-        written_file h,
-        text_behind sink old new before (written_file h) begun w,
-        (loaded, are_read operands (map (source_state source) inputs) (map (source_state source) after) loaded given read, (h, joined, refl)),
+  join_makes log operands inputs after given run =
+      let r = run_ok _ _ _ _ _ _ _ run in (
+        written_file r.made,
+        behind (written_file r.made) r.written,
+        (
+          r.value,
+          are_read operands (map (source_state source) inputs) (map (source_state source) after) r.value given r.are,
+          (r.made, r.worked, refl),
+        ),
       )
 
   pub missing_makes : (from to : Derivation) (input other after other_after : S) → GivesFile (λ b. IsDerived from b) (source_state source input)
@@ -90,20 +100,15 @@ module _ {S W T : Type 0} (source : Source S) (sink : Sink W) (old new : W) (t :
       → IsRun (two input_spec (transition_of source input after) input_spec (transition_of source other other_after)) delta_between written_file sink old new (Ok t)
       → (bytes : List ℕ) × (sink.written new ≡ Some (before ++ bytes)) × IsPartOf (λ b. IsDerived from b) (λ b. IsDerived to b) bytes
   missing_makes from to input other after other_after s u run =
-      by (run_ok (two input_spec (transition_of source input after) input_spec (transition_of source other other_after))
-      (IsValueOf delta_between) written_file sink old new t run)
-    where
-      by : HasRun (two input_spec (transition_of source input after) input_spec (transition_of source other other_after)) (IsValueOf delta_between) written_file sink old new t
-          → (bytes : List ℕ) × (sink.written new ≡ Some (before ++ bytes)) × IsPartOf (λ b. IsDerived from b) (λ b. IsDerived to b) bytes
-      by ((first, second), h, (r, k), made, w) = (
-        written_file h,
-        text_behind sink old new before (written_file h) begun w,
+      let r = run_ok _ _ _ _ _ _ _ run in (
+        written_file r.made,
+        behind (written_file r.made) r.written,
         (
-          first,
-          second,
-          read_of (λ b. IsDerived from b) (source_state source input) (source_state source after) first s r,
-          read_of (λ b. IsDerived to b) (source_state source other) (source_state source other_after) second u k,
-          (h, made, refl),
+          r.value.0,
+          r.value.1,
+          read_of (λ b. IsDerived from b) (source_state source input) (source_state source after) r.value.0 s r.are.0,
+          read_of (λ b. IsDerived to b) (source_state source other) (source_state source other_after) r.value.1 u r.are.1,
+          (r.made, r.worked, refl),
         ),
       )
 
@@ -113,14 +118,16 @@ module _ {S W T : Type 0} (source : Source S) (sink : Sink W) (old new : W) (t :
       → IsRun (one input_spec (transition_of source input after)) work tell sink old new (Ok t)
       → (bytes : List ℕ) × (sink.written new ≡ Some (before ++ bytes)) × IsOutputOf work tell (λ b. IsDerived m b) bytes
   output_makes work tell m input after s run =
-      by (run_ok (one input_spec (transition_of source input after)) (IsValueOf work) tell sink old new t run)
-    where
-      by : HasRun (one input_spec (transition_of source input after)) (IsValueOf work) tell sink old new t
-          → (bytes : List ℕ) × (sink.written new ≡ Some (before ++ bytes)) × IsOutputOf work tell (λ b. IsDerived m b) bytes
-      by (loaded, made, r, worked, w) = (
-        tell made,
-        text_behind sink old new before (tell made) begun w,
-        (loaded, made, read_of (λ b. IsDerived m b) (source_state source input) (source_state source after) loaded s r, worked, refl),
+      let r = run_ok _ _ _ _ _ _ _ run in (
+        tell r.made,
+        behind (tell r.made) r.written,
+        (
+          r.value,
+          r.made,
+          read_of (λ b. IsDerived m b) (source_state source input) (source_state source after) r.value s r.are,
+          r.worked,
+          refl,
+        ),
       )
 
   pub rule_makes : (letter key : Text) (place : ℕ) (m : Derivation) (input after : S) → GivesFile (λ b. IsDerived m b) (source_state source input)
@@ -128,23 +135,18 @@ module _ {S W T : Type 0} (source : Source S) (sink : Sink W) (old new : W) (t :
       → (value : Text) × (bytes : List ℕ) × (sink.written new ≡ Some (before ++ bytes))
       × IsDerived (Ruled place (ruling_on letter key value) m) bytes
   rule_makes letter key place m input after s run =
-      by (run_ok (one input_spec (transition_of source input after)) (IsValueOf (ruled_of letter key place)) written_file sink old new t run)
-    where
-      by : HasRun (one input_spec (transition_of source input after)) (IsValueOf (ruled_of letter key place)) written_file sink old new t
-          → (value : Text) × (bytes : List ℕ) × (sink.written new ≡ Some (before ++ bytes))
-          × IsDerived (Ruled place (ruling_on letter key value) m) bytes
-      by (loaded, h, r, made, w) =
-          let ruled = ruled_is letter key place (log_named loaded) (atoms_loaded loaded) h made in (
-            ruled.value,
-            written_file h,
-            text_behind sink old new before (written_file h) begun w,
-            (
-              loaded,
-              read_of (λ b. IsDerived m b) (source_state source input) (source_state source after) loaded s r,
-              ap (ruling_for letter key) ruled.at_place,
-              (h, made, refl),
-            ),
-          )
+      let r = run_ok _ _ _ _ _ _ _ run in
+      let ruled = ruled_is letter key place (log_named r.value) (atoms_loaded r.value) r.made r.worked in (
+        ruled.value,
+        written_file r.made,
+        behind (written_file r.made) r.written,
+        (
+          r.value,
+          read_of (λ b. IsDerived m b) (source_state source input) (source_state source after) r.value s r.are,
+          ap (ruling_for letter key) ruled.at_place,
+          (r.made, r.worked, refl),
+        ),
+      )
 
   noted_of_file : (to : List ℕ → Type 0) (by by_after : SourceState) (noted : InventoryModel) → GivesFile (IsInventoryOf to) by
       → IsReadAs inventory_spec (record { old = by; new = by_after }) noted → IsInventoryReadOf to noted
@@ -157,21 +159,15 @@ module _ {S W T : Type 0} (source : Source S) (sink : Sink W) (old new : W) (t :
       → IsRun (two input_spec (transition_of source input after) inventory_spec (transition_of source by by_after)) part_by written_file sink old new (Ok t)
       → (bytes : List ℕ) × (sink.written new ≡ Some (before ++ bytes)) × IsPartByOf (λ b. IsDerived from b) (λ b. IsDerived to b) bytes
   missing_by_makes from to input by after by_after s u run =
-      made_by (run_ok (two input_spec (transition_of source input after) inventory_spec (transition_of source by by_after))
-      (IsValueOf part_by) written_file sink old new t run)
-    where
-      made_by : HasRun (two input_spec (transition_of source input after) inventory_spec (transition_of source by by_after))
-          (IsValueOf part_by) written_file sink old new t
-          → (bytes : List ℕ) × (sink.written new ≡ Some (before ++ bytes)) × IsPartByOf (λ b. IsDerived from b) (λ b. IsDerived to b) bytes
-      made_by ((loaded, noted), h, (r, k), made, w) = (
-        written_file h,
-        text_behind sink old new before (written_file h) begun w,
+      let r = run_ok _ _ _ _ _ _ _ run in (
+        written_file r.made,
+        behind (written_file r.made) r.written,
         (
-          loaded,
-          noted,
-          read_of (λ b. IsDerived from b) (source_state source input) (source_state source after) loaded s r,
-          noted_of_file (λ b. IsDerived to b) (source_state source by) (source_state source by_after) noted u k,
-          (h, made, refl),
+          r.value.0,
+          r.value.1,
+          read_of (λ b. IsDerived from b) (source_state source input) (source_state source after) r.value.0 s r.are.0,
+          noted_of_file (λ b. IsDerived to b) (source_state source by) (source_state source by_after) r.value.1 u r.are.1,
+          (r.made, r.worked, refl),
         ),
       )
 
@@ -180,25 +176,21 @@ module _ {S W T : Type 0} (source : Source S) (sink : Sink W) (old new : W) (t :
       → IsRun (one input_spec (transition_of source input after)) (sketch_model_of cells salt) sketch_file sink old new (Ok t)
       → (noted : InventoryModel) × (bytes : List ℕ) × (sink.written new ≡ Some (before ++ bytes)) × IsSketchOf (λ b. IsDerived to b) noted bytes
   sketch_makes cells salt to input after given s run =
-      by (run_ok (one input_spec (transition_of source input after)) (IsValueOf (sketch_model_of cells salt)) sketch_file sink old new t run)
-    where
-      by : HasRun (one input_spec (transition_of source input after)) (IsValueOf (sketch_model_of cells salt)) sketch_file sink old new t
-          → (noted : InventoryModel) × (bytes : List ℕ) × (sink.written new ≡ Some (before ++ bytes)) × IsSketchOf (λ b. IsDerived to b) noted bytes
-      by (loaded, sketch, r, made, w) =
-          let of_noted = sketched_is cells salt loaded sketch made in (
-            of_noted.0,
-            sketch_file sketch,
-            text_behind sink old new before (sketch_file sketch) begun w,
-            (
-              loaded,
-              cells,
-              salt,
-              given,
-              read_of (λ b. IsDerived to b) (source_state source input) (source_state source after) loaded s r,
-              of_noted.1,
-              ap sketch_file of_noted.2,
-            ),
-          )
+      let r = run_ok _ _ _ _ _ _ _ run in
+      let of_noted = sketched_is cells salt r.value r.made r.worked in (
+        of_noted.0,
+        sketch_file r.made,
+        behind (sketch_file r.made) r.written,
+        (
+          r.value,
+          cells,
+          salt,
+          given,
+          read_of (λ b. IsDerived to b) (source_state source input) (source_state source after) r.value s r.are,
+          of_noted.1,
+          ap sketch_file of_noted.2,
+        ),
+      )
 
   sketch_of_file : (to : List ℕ → Type 0) (noted : InventoryModel) (by by_after : SourceState) (sketch : SketchModel) → GivesFile (IsSketchOf to noted) by
       → IsReadAs sketch_spec (record { old = by; new = by_after }) sketch → IsSketchReadOf to noted sketch
@@ -212,48 +204,37 @@ module _ {S W T : Type 0} (source : Source S) (sink : Sink W) (old new : W) (t :
       → (read : InventoryModel) × (bytes : List ℕ) × (sink.written new ≡ Some (before ++ bytes))
       × IsPartBySketchOf (λ b. IsDerived from b) (λ b. IsDerived to b) sketched read bytes
   missing_by_sketch_makes from to sketched input by after by_after s u run =
-      made_by (run_ok (two input_spec (transition_of source input after) sketch_spec (transition_of source by by_after)) IsPartBySketch written_file sink old new t run)
-    where
-      made_by : HasRun (two input_spec (transition_of source input after) sketch_spec (transition_of source by by_after)) IsPartBySketch written_file sink old new t
-          → (read : InventoryModel) × (bytes : List ℕ) × (sink.written new ≡ Some (before ++ bytes))
-          × IsPartBySketchOf (λ b. IsDerived from b) (λ b. IsDerived to b) sketched read bytes
-      made_by ((loaded, sketch), h, (r, k), made, w) =
-          let of_read = answer_read loaded sketch h made in (
-            of_read.0,
-            written_file h,
-            text_behind sink old new before (written_file h) begun w,
-            (
-              loaded,
-              sketch,
-              h,
-              read_of (λ b. IsDerived from b) (source_state source input) (source_state source after) loaded s r,
-              sketch_of_file (λ b. IsDerived to b) sketched (source_state source by) (source_state source by_after) sketch u k,
-              of_read.1,
-              refl,
-            ),
-          )
+      let r = run_ok _ _ _ _ _ _ _ run in
+      let of_read = answer_read r.value.0 r.value.1 r.made r.worked in (
+        of_read.0,
+        written_file r.made,
+        behind (written_file r.made) r.written,
+        (
+          r.value.0,
+          r.value.1,
+          r.made,
+          read_of (λ b. IsDerived from b) (source_state source input) (source_state source after) r.value.0 s r.are.0,
+          sketch_of_file (λ b. IsDerived to b) sketched (source_state source by) (source_state source by_after) r.value.1 u r.are.1,
+          of_read.1,
+          refl,
+        ),
+      )
 
--- ---- an engine with one input, by the input's log and atoms
-
-module _ {S W T : Type 0} (source : Source S) (sink : Sink W) (old new : W) (t : T) (before : List ℕ)
-    (begun : sink.written old ≡ Some before) (tell : ReplicaModel → Text) where
-  pub text_makes : (m : Derivation) (input after : S) → GivesFile (λ b. IsDerived m b) (source_state source input)
+  -- an engine with one input, by the input's log and atoms
+  pub text_makes : (tell : ReplicaModel → Text) (m : Derivation) (input after : S) → GivesFile (λ b. IsDerived m b) (source_state source input)
       → IsRun (one input_spec (transition_of source input after)) replica_model_of tell sink old new (Ok t)
       → (text : Text) × (sink.written new ≡ Some (before ++ text)) × IsTextOfFile tell m text
-  text_makes m input after s run = by (run_ok (one input_spec (transition_of source input after)) (IsValueOf replica_model_of) tell sink old new t run)
-    where
-      by : HasRun (one input_spec (transition_of source input after)) (IsValueOf replica_model_of) tell sink old new t
-          → (text : Text) × (sink.written new ≡ Some (before ++ text)) × IsTextOfFile tell m text
-      by (loaded, h, r, made, w) =
-          let file_read = read_of (λ b. IsDerived m b) (source_state source input) (source_state source after) loaded s r in
-          let named = held_named (log_named loaded) (atoms_loaded loaded) h made in (
-            tell h,
-            text_behind sink old new before (tell h) begun w,
-            record {
-              bytes = file_read.0;
-              made = file_read.1;
-              held = h;
-              read = record { loaded = loaded; input = file_read.2; named = named.0; atoms = named.1 };
-              written = refl;
-            },
-          )
+  text_makes tell m input after s run =
+      let r = run_ok _ _ _ _ _ _ _ run in
+      let file_read = read_of (λ b. IsDerived m b) (source_state source input) (source_state source after) r.value s r.are in
+      let named = held_named (log_named r.value) (atoms_loaded r.value) r.made r.worked in (
+        tell r.made,
+        behind (tell r.made) r.written,
+        record {
+          bytes = file_read.0;
+          made = file_read.1;
+          held = r.made;
+          read = record { loaded = r.value; input = file_read.2; named = named.0; atoms = named.1 };
+          written = refl;
+        },
+      )
