@@ -24,20 +24,15 @@ use Rattle.std.proofs.Common.{
 use Rattle.std.specs.Option.{option_or}
 use Rattle.cadf_json.specs.declared.stream.Source.{Ghosts as Source}
 use Rattle.cadf_json.specs.declared.stream.Sink.{Ghosts as Sink}
-use Rattle.cadf_join.specs.Contents.{Text, Contents}
+use Rattle.cadf_join.specs.Contents.{Text}
 use Rattle.cadf_join.specs.laws.Contents.{texts_total, texts_same}
 use Rattle.cadf_join.specs.laws.Sets as sets
-use Rattle.cadf_line.specs.Digest.{atom_digest}
-use Rattle.cadf_line.specs.Missing.{digests_of}
 use Rattle.cadf_set.specs.Replica.{ReplicaModel}
-use Rattle.cadf_seal.specs.SealFile.{seal_of}
 use Rattle.cadf_tool.specs.declared.input.Loaded.{Loaded}
 use Rattle.cadf_tool.specs.declared.input.Loaded.TheVariants.{Replica}
 use Rattle.cadf_tool.specs.declared.fault.ToolFault.{ToolFault}
 use Rattle.cadf_tool.specs.Faults.{FaultStage, Reading, Working, Writing, OutOfMemoryStage, fault_stage}
 use Rattle.cadf_tool.specs.Join.{is_other, join_in, join_from, join_of, on_ok, of_union}
-use Rattle.cadf_tool.specs.MissingBy.{inventory_model_under, inventory_model_of}
-use Rattle.cadf_tool.specs.Rule.{ruled_in, ruled_of}
 use Rattle.cadf_tool.specs.Run.{
   SourceTransition,
   Sources,
@@ -52,9 +47,8 @@ use Rattle.cadf_tool.specs.Run.{
   IsToldBy,
   IsRun,
 }
-use Rattle.cadf_tool.specs.Sketch.{sketch_of_result, sketch_model_of}
-use Rattle.cadf_tool.specs.Seal.{seal_model_of}
 use Rattle.cadf_tool.specs.Told.{log_named, atoms_loaded, under_log, replica_model_of}
+use Rattle.cadf_tool.specs.laws.Engines.{IsOfReplica}
 use Rattle.cadf_tool.proofs.LoadedLists.{none_failed}
 use Rattle.cadf_tool.proofs.Runs.{worked}
 use Rattle.cadf_tool.proofs.UnitingLemmas.{is_united, not_other}
@@ -120,49 +114,6 @@ join_one first l = by (log_named l) refl
         is_united first None (l ∷ []) (record { log = log; atoms = atoms_loaded l }) (ap (λ o. option_or o None) is)
         (ap (λ o. cond (is_other log o) (Some first) None) is ∙ ap (λ b. cond b (Some first) None) (not_other log))
         (sym (sets.union-empty texts_total texts_same (atoms_loaded l)))
-
--- the work is that on the replica of the input
-abbrev IsOfReplica : {M : Type 0} → (Loaded → Result M ToolFault) → Type 0
-IsOfReplica work = (l : Loaded) → work l ≡ on_ok (replica_model_of l) (λ h. work (Replica h))
-
-pub of_replica : IsOfReplica replica_model_of
-of_replica l = by (log_named l) (atoms_loaded l)
-  where
-    by : (o : Option Text) (s : Contents) → under_log o s ≡ on_ok (under_log o s) (λ h. replica_model_of (Replica h))
-    by None s = refl
-    by (Some log) s = refl
-
-pub of_inventory : IsOfReplica inventory_model_of
-of_inventory l = by (log_named l) (atoms_loaded l)
-  where
-    by : (o : Option Text) (s : Contents) → inventory_model_under o (digests_of atom_digest s)
-        ≡ on_ok (under_log o s) (λ h. inventory_model_of (Replica h))
-    by None s = refl
-    by (Some log) s = refl
-
-pub of_sketch : (cells salt : Option ℕ) → IsOfReplica (sketch_model_of cells salt)
-of_sketch cells salt l = by (log_named l) (atoms_loaded l)
-  where
-    by : (o : Option Text) (s : Contents) → sketch_of_result cells salt (inventory_model_under o (digests_of atom_digest s))
-        ≡ on_ok (under_log o s) (λ h. sketch_model_of cells salt (Replica h))
-    by None s = refl
-    by (Some log) s = refl
-
-pub of_seal : IsOfReplica seal_model_of
-of_seal l = by (log_named l) (atoms_loaded l)
-  where
-    by : (o : Option Text) (s : Contents) → on_ok (inventory_model_under o (digests_of atom_digest s)) (λ n. Ok (seal_of n))
-        ≡ on_ok (under_log o s) (λ h. seal_model_of (Replica h))
-    by None s = refl
-    by (Some log) s = refl
-
-pub of_ruled : (letter key : Text) (place : ℕ) → IsOfReplica (ruled_of letter key place)
-of_ruled letter key place l = by (log_named l) (atoms_loaded l)
-  where
-    by : (o : Option Text) (s : Contents) → ruled_in letter key place (under_log o s)
-        ≡ on_ok (under_log o s) (λ h. ruled_of letter key place (Replica h))
-    by None s = refl
-    by (Some log) s = refl
 
 -- ---- engines, by the replica that was read
 

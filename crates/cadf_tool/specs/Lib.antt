@@ -25,3 +25,4 @@ pub mod Sites
 pub mod CountingSink
 pub mod Exchange
 pub mod TwoTexts
+pub mod laws

@@ -2,47 +2,44 @@
 ghost use Rattle.cadf_inventory.specs.InventoryFile.{inventory_file};
 ghost use Rattle.cadf_tool.specs.MissingBy.{inventory_model_of};
 ghost use Rattle.cadf_tool.specs.Join.{of_union};
-ghost use Rattle.cadf_tool.specs.Run.{one, all, transition_of, input_spec, IsValueOf, IsWorked, IsWritten, IsToldBy, IsRun};
-ghost use Rattle.cadf_tool.specs.declared.input.Loaded.TheVariants as loaded;
+ghost use Rattle.cadf_tool.specs.laws.Engines.{of_inventory};
+ghost use Rattle.cadf_tool.specs.Run.{one, all, transition_of, input_spec, IsRun};
 
+use crate::engine::{Engine, run_one, run_union};
 use crate::fault::{ToolFault, answered};
-use crate::join::{join, join_one};
 use cadf_inventory::write_inventory;
 use cadf_json::{Sink, Source};
 use cadf_set::{Inventory, Replica};
 use std::alloc::Global;
 
-/// Makes the inventory of the replica. `Memory` if an allocation fails.
-fn noted(replica: &Replica) -> Result<Inventory, ToolFault>
-    ensures { IsWorked (inventory_model_of (loaded.Replica replica.now)) result }
-{
-    match replica.inventory() {
-        Ok(inventory) => Ok(inventory),
-        Err(_) => Err(ToolFault::Memory),
+/// Makes the inventory of a replica, and writes its file.
+#[derive(Drop)]
+pub struct InventoryEngine;
+
+impl Engine for InventoryEngine {
+    type Made = Inventory;
+
+    ghost work = { λ _. inventory_model_of };
+
+    ghost tell = { λ _. inventory_file };
+
+    ghost of_replica = { λ _. of_inventory };
+
+    fn make(&self, _alloc: Global, replica: Replica) -> Result<Inventory, ToolFault> {
+        match replica.inventory() {
+            Ok(inventory) => Ok(inventory),
+            Err(_) => Err(ToolFault::Memory),
+        }
     }
-}
 
-/// Writes the file of the inventory. `WriteFault` if a write fails, `Memory` if an allocation fails.
-fn write_noted<W: Sink>(
-    alloc: Global,
-    inventory: &Inventory,
-    output: &mut W,
-) -> Result<(), ToolFault>
-    ensures { IsWritten W.Sink output.old output.new (inventory_file inventory.now) result }
-{
-    answered(write_inventory(alloc, inventory, output))
-}
-
-/// Makes the inventory of the replica, and writes its file.
-fn write_noted_of<W: Sink>(
-    alloc: Global,
-    replica: &Replica,
-    output: &mut W,
-) -> Result<(), ToolFault>
-    ensures { IsToldBy (IsValueOf inventory_model_of (loaded.Replica replica.now)) inventory_file W.Sink output.old output.new result }
-{
-    let inventory = noted(replica)?;
-    write_noted(alloc, &inventory, output)
+    fn write<W: Sink>(
+        &self,
+        alloc: Global,
+        made: &Inventory,
+        output: &mut W,
+    ) -> Result<(), ToolFault> {
+        answered(write_inventory(alloc, made, output))
+    }
 }
 
 /// Writes the inventory file of an input: its log, and the digest of each atom that it contributes. `Err`: why nothing
@@ -55,10 +52,7 @@ pub fn run_inventory<R: Source, W: Sink>(
     ensures { IsRun (one input_spec (transition_of R.Source input.old input.new)) inventory_model_of
         inventory_file W.Sink output.old output.new result }
 {
-    match join_one(alloc, input) {
-        Ok(replica) => write_noted_of(alloc, &replica, output),
-        Err(fault) => Err(fault),
-    }
+    run_one(alloc, &InventoryEngine, input, output)
 }
 
 /// Writes the inventory file of the union of all inputs. `Err`: why nothing was written, or only a prefix.
@@ -70,8 +64,5 @@ pub fn run_inventory_union<R: Source, W: Sink>(
     ensures { IsRun (all R.Source inputs.old inputs.new) (of_union inventory_model_of)
         inventory_file W.Sink output.old output.new result }
 {
-    match join(alloc, None, inputs) {
-        Ok(replica) => write_noted_of(alloc, &replica, output),
-        Err(fault) => Err(fault),
-    }
+    run_union(alloc, &InventoryEngine, inputs, output)
 }

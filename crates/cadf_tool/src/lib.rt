@@ -3,6 +3,7 @@
 
 mod check;
 mod counting_sink;
+mod engine;
 pub mod exchange;
 mod facts;
 mod fault;
@@ -27,19 +28,20 @@ mod verify;
 
 pub use crate::check::{run_check, run_check_union};
 pub use crate::counting_sink::{CountingSink, OverLimit};
+pub use crate::engine::{Engine, run_one};
 pub use crate::fault::{ToolFault, VerifyRefusal, status};
 pub use crate::input::{LoadFault, Loaded, load, load_within};
-pub use crate::inventory::{run_inventory, run_inventory_union};
+pub use crate::inventory::{InventoryEngine, run_inventory, run_inventory_union};
 pub use crate::join::run_join;
 pub use crate::missing::{run_missing, run_missing_unions};
 pub use crate::missing_by::{run_missing_by, run_missing_by_union};
 pub use crate::missing_by_sketch::{run_missing_by_sketch, run_missing_by_sketch_union};
 pub use crate::prove::run_prove;
 pub use crate::rehearse::run_rehearse;
-pub use crate::rule::{run_rule, run_rule_union};
-pub use crate::seal::{run_seal, run_seal_union};
-pub use crate::show::{run_show, run_show_union};
-pub use crate::sketch::{run_sketch, run_sketch_union};
+pub use crate::rule::{RuleEngine, run_rule, run_rule_union};
+pub use crate::seal::{SealEngine, run_seal, run_seal_union};
+pub use crate::show::{ShowEngine, run_show, run_show_union};
+pub use crate::sketch::{SketchEngine, run_sketch, run_sketch_union};
 pub use crate::split::run_split;
 pub use crate::verify::run_verify;
 pub use cadf_event::{Document, DocumentFault, Name};

@@ -4,11 +4,11 @@ ghost use Rattle.cadf_seal.specs.SealFile.{seal_of, seal_file};
 ghost use Rattle.cadf_sketch.specs.Answers.{inventory_of};
 ghost use Rattle.cadf_tool.specs.Seal.{seal_model_of};
 ghost use Rattle.cadf_tool.specs.Join.{of_union};
-ghost use Rattle.cadf_tool.specs.Run.{one, all, transition_of, input_spec, IsValueOf, IsWorked, IsWritten, IsToldBy, IsRun};
-ghost use Rattle.cadf_tool.specs.declared.input.Loaded.TheVariants as loaded;
+ghost use Rattle.cadf_tool.specs.laws.Engines.{of_seal};
+ghost use Rattle.cadf_tool.specs.Run.{one, all, transition_of, input_spec, IsRun};
 
+use crate::engine::{Engine, run_one, run_union};
 use crate::fault::{ToolFault, answered};
-use crate::join::{join, join_one};
 use cadf_json::{Memory, Sink, Source};
 use cadf_seal::{Seal, write_seal};
 use cadf_set::Replica;
@@ -22,33 +22,29 @@ fn seal_of(alloc: Global, replica: &Replica) -> Result<Seal, Memory>
     Seal::of(alloc, &inventory)
 }
 
-/// Makes the same seal, as the work of an engine.
-fn sealed(alloc: Global, replica: &Replica) -> Result<Seal, ToolFault>
-    ensures { IsWorked (seal_model_of (loaded.Replica replica.now)) result }
-{
-    match seal_of(alloc, replica) {
-        Ok(seal) => Ok(seal),
-        Err(_) => Err(ToolFault::Memory),
+/// Makes the seal of a replica's inventory, and writes its file.
+#[derive(Drop)]
+pub struct SealEngine;
+
+impl Engine for SealEngine {
+    type Made = Seal;
+
+    ghost work = { λ _. seal_model_of };
+
+    ghost tell = { λ _. seal_file };
+
+    ghost of_replica = { λ _. of_seal };
+
+    fn make(&self, alloc: Global, replica: Replica) -> Result<Seal, ToolFault> {
+        match seal_of(alloc, &replica) {
+            Ok(seal) => Ok(seal),
+            Err(_) => Err(ToolFault::Memory),
+        }
     }
-}
 
-/// Writes the file of the seal. `WriteFault` if a write fails, `Memory` if an allocation fails.
-fn write_sealed<W: Sink>(alloc: Global, seal: &Seal, output: &mut W) -> Result<(), ToolFault>
-    ensures { IsWritten W.Sink output.old output.new (seal_file seal.now) result }
-{
-    answered(write_seal(alloc, seal, output))
-}
-
-/// Makes the seal of the replica, and writes its file.
-fn write_sealed_of<W: Sink>(
-    alloc: Global,
-    replica: &Replica,
-    output: &mut W,
-) -> Result<(), ToolFault>
-    ensures { IsToldBy (IsValueOf seal_model_of (loaded.Replica replica.now)) seal_file W.Sink output.old output.new result }
-{
-    let seal = sealed(alloc, replica)?;
-    write_sealed(alloc, &seal, output)
+    fn write<W: Sink>(&self, alloc: Global, made: &Seal, output: &mut W) -> Result<(), ToolFault> {
+        answered(write_seal(alloc, made, output))
+    }
 }
 
 /// Writes the seal file of an input: its log, how many atoms it contributes, and the root of the tree over their digests.
@@ -61,10 +57,7 @@ pub fn run_seal<R: Source, W: Sink>(
     ensures { IsRun (one input_spec (transition_of R.Source input.old input.new)) seal_model_of
         seal_file W.Sink output.old output.new result }
 {
-    match join_one(alloc, input) {
-        Ok(replica) => write_sealed_of(alloc, &replica, output),
-        Err(fault) => Err(fault),
-    }
+    run_one(alloc, &SealEngine, input, output)
 }
 
 /// Writes the seal file of the union of all inputs. `Err`: why nothing was written, or only a prefix.
@@ -76,8 +69,5 @@ pub fn run_seal_union<R: Source, W: Sink>(
     ensures { IsRun (all R.Source inputs.old inputs.new) (of_union seal_model_of)
         seal_file W.Sink output.old output.new result }
 {
-    match join(alloc, None, inputs) {
-        Ok(replica) => write_sealed_of(alloc, &replica, output),
-        Err(fault) => Err(fault),
-    }
+    run_union(alloc, &SealEngine, inputs, output)
 }

@@ -6,11 +6,11 @@ ghost use Rattle.cadf_sketch.specs.SketchFile.{sketch_file};
 ghost use Rattle.cadf_sketch.specs.Sketches.{asked};
 ghost use Rattle.cadf_tool.specs.Sketch.{AreAsked, sketch_model_of};
 ghost use Rattle.cadf_tool.specs.Join.{of_union};
-ghost use Rattle.cadf_tool.specs.Run.{one, all, transition_of, input_spec, IsValueOf, IsWorked, IsWritten, IsToldBy, IsRun};
-ghost use Rattle.cadf_tool.specs.declared.input.Loaded.TheVariants as loaded;
+ghost use Rattle.cadf_tool.specs.laws.Engines.{of_sketch};
+ghost use Rattle.cadf_tool.specs.Run.{one, all, transition_of, input_spec, IsRun};
 
+use crate::engine::{Engine, run_one, run_union};
 use crate::fault::{ToolFault, answered};
-use crate::join::{join, join_one};
 use cadf_json::{Memory, Sink, Source};
 use cadf_set::Replica;
 use cadf_sketch::{Cells, Salt, Sketch, write_sketch};
@@ -40,40 +40,37 @@ fn sketch_of(
     Sketch::of(alloc, &inventory, cells_or_default(cells), salt)
 }
 
-/// Makes the same sketch, as the work of an engine.
-fn sketched(
-    alloc: Global,
-    cells: Option<Cells>,
-    salt: Option<Salt>,
-    replica: &Replica,
-) -> Result<Sketch, ToolFault>
-    ensures { IsWorked (sketch_model_of cells salt (loaded.Replica replica.now)) result }
-{
-    match sketch_of(alloc, cells, salt, replica) {
-        Ok(sketch) => Ok(sketch),
-        Err(_) => Err(ToolFault::Memory),
+/// Makes the sketch of a replica's inventory, with the cells and the salt that are given, and writes its file.
+#[derive(Drop)]
+pub struct SketchEngine {
+    pub cells: Option<Cells>,
+    pub salt: Option<Salt>,
+}
+
+impl Engine for SketchEngine {
+    type Made = Sketch;
+
+    ghost work = { λ e. sketch_model_of e.cells e.salt };
+
+    ghost tell = { λ _. sketch_file };
+
+    ghost of_replica = { λ e. of_sketch e.cells e.salt };
+
+    fn make(&self, alloc: Global, replica: Replica) -> Result<Sketch, ToolFault> {
+        match sketch_of(alloc, self.cells, self.salt, &replica) {
+            Ok(sketch) => Ok(sketch),
+            Err(_) => Err(ToolFault::Memory),
+        }
     }
-}
 
-/// Writes the file of the sketch. `WriteFault` if a write fails, `Memory` if an allocation fails.
-fn write_sketched<W: Sink>(alloc: Global, sketch: &Sketch, output: &mut W) -> Result<(), ToolFault>
-    ensures { IsWritten W.Sink output.old output.new (sketch_file sketch.now) result }
-{
-    answered(write_sketch(alloc, sketch, output))
-}
-
-/// Makes the sketch of the replica, and writes its file.
-fn write_sketched_of<W: Sink>(
-    alloc: Global,
-    cells: Option<Cells>,
-    salt: Option<Salt>,
-    replica: &Replica,
-    output: &mut W,
-) -> Result<(), ToolFault>
-    ensures { IsToldBy (IsValueOf (sketch_model_of cells salt) (loaded.Replica replica.now)) sketch_file W.Sink output.old output.new result }
-{
-    let sketch = sketched(alloc, cells, salt, replica)?;
-    write_sketched(alloc, &sketch, output)
+    fn write<W: Sink>(
+        &self,
+        alloc: Global,
+        made: &Sketch,
+        output: &mut W,
+    ) -> Result<(), ToolFault> {
+        answered(write_sketch(alloc, made, output))
+    }
 }
 
 /// Writes the sketch file of an input's inventory. The number of cells is `Cells::by_default` if none is given. If no
@@ -91,10 +88,7 @@ pub fn run_sketch<R: Source, W: Sink>(
     // A number of cells and a salt that are given are such that a sketch can have.
     ensures asked { AreAsked cells salt }
 {
-    match join_one(alloc, input) {
-        Ok(replica) => write_sketched_of(alloc, cells, salt, &replica, output),
-        Err(fault) => Err(fault),
-    }
+    run_one(alloc, &SketchEngine { cells, salt }, input, output)
 }
 
 /// Writes the sketch file of the union of all inputs. `Err`: why nothing was written, or only a prefix.
@@ -109,8 +103,5 @@ pub fn run_sketch_union<R: Source, W: Sink>(
         sketch_file W.Sink output.old output.new result }
     ensures asked { AreAsked cells salt }
 {
-    match join(alloc, None, inputs) {
-        Ok(replica) => write_sketched_of(alloc, cells, salt, &replica, output),
-        Err(fault) => Err(fault),
-    }
+    run_union(alloc, &SketchEngine { cells, salt }, inputs, output)
 }
