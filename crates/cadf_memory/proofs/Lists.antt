@@ -1,10 +1,10 @@
 -- Sources in a list, of which each tells what it has left and no read fails.
-use Rattle.std.proofs.Common.{◌≡◌, ℕ, List, [], ◌∷◌, map, Option, Some, Result, refl, ap}
+use Rattle.std.proofs.Common.{◌≡◌, ℕ, List, [], ◌∷◌, map, Option, Some, Result, refl, sym, ap, ◌∙◌}
 use Rattle.cadf_json.specs.declared.stream.Source.{Ghosts as Source}
 use Rattle.cadf_tool.specs.declared.input.Loaded.{Loaded}
 use Rattle.cadf_tool.specs.declared.fault.ToolFault.{ToolFault}
 use Rattle.cadf_tool.specs.declared.fault.ToolFault.TheVariants.{Memory}
-use Rattle.cadf_tool.specs.Inputs.{SourceState, source_state}
+use Rattle.cadf_tool.specs.Inputs.{SourceState, source_state, NoneFailed, AreReadWithin}
 use Rattle.cadf_memory.specs.Memory.{unread}
 use Rattle.cadf_memory.specs.Refused.{NoReadFailed, AreUnfailedSources, IsFirstOfAll, IsFirstOfOneAndAll}
 use Rattle.cadf_tool.specs.Run.{InputSpec}
@@ -23,6 +23,16 @@ module _ {S : Type 0} (source : Source S) where
   pub none_has_failed : ((s : S) → source.failures s ≡ 0) → (ss : List S) → NoReadFailed (map (source_state source) ss)
   none_has_failed never [] = tt
   none_has_failed never (s ∷ ss) = (never s, none_has_failed never ss)
+
+  -- as many were left as there were
+  pub none_failed : ((s : S) → source.failures s ≡ 0) → (ss rs : List S) → AreReadWithin (map source.reads ss) (map source.reads rs)
+      → NoneFailed (map (source_state source) ss) (map (source_state source) rs)
+  none_failed never [] [] h = refl
+  none_failed never [] (r ∷ rs) h = absurd h
+  none_failed never (s ∷ ss) [] h = absurd h
+  none_failed never (s ∷ ss) (r ∷ rs) h =
+      same_lists (source.failures r) (source.failures s) (map (λ (s : SourceState). s.failures) (map (source_state source) rs))
+      (map (λ (s : SourceState). s.failures) (map (source_state source) ss)) (never r ∙ sym (never s)) (none_failed never ss rs h.1)
 
 -- ---- there was no memory before a source was read
 

@@ -1,5 +1,5 @@
 -- Why a run on bytes in memory gave up.
-use Rattle.std.proofs.Common.{◌≡◌, ℕ, List, map, Some, Result, Ok, Err, ◌⊎◌, inl, inr, sym, subst}
+use Rattle.std.proofs.Common.{◌≡◌, ℕ, List, map, Some, Result, Ok, Err, ◌⊎◌, inl, inr, sym, ◌∙◌, subst}
 use Rattle.cadf_json.specs.declared.stream.Sink.{Ghosts as Sink}
 use Rattle.cadf_json.specs.declared.stream.Source.{Ghosts as Source}
 use Rattle.cadf_join.specs.Contents.{Text}
@@ -37,12 +37,11 @@ use Rattle.cadf_tool.specs.Run.{
   IsRunBy,
   IsRun,
 }
-use Rattle.cadf_tool.proofs.LoadedLists.{none_failed}
+use Rattle.cadf_memory.proofs.Lists.{none_has_failed, none_failed}
 use Rattle.cadf_memory.specs.Refused.{
-  unwritten_of,
+  fault_in_memory_of,
   three_sources,
   seen_from,
-  NoReadFailed,
   IsFirstBy,
   IsFirstOf,
   IsFirstOfTwoBy,
@@ -55,37 +54,37 @@ module _ {A M : Type 0} (sources : Sources A) (work : A → Result M ToolFault �
   abbrev IsFirst : ToolFault → Type 0
   IsFirst fault = IsFirstFaultBy sources work fault (fault_stage fault)
 
-  -- what comes first is no failed write, and is answered as it is
-  kept : (fault : ToolFault) → IsFirst fault → IsFirst (unwritten_of fault)
-  kept (Input n f) h = h
-  kept NoLog h = h
-  kept (OtherLog n) h = h
-  kept (TooFewCells n cells) h = h
-  kept (Script line) h = h
-  kept (Rehearse f) h = h
-  kept NoValue h = h
-  kept (Unverified f) h = h
-  kept (ReadFault n) h = h
-  kept WriteFault h = absurd h
-  kept Memory h = h
+  -- what comes first is no failed write, and is answered as it is, but for a failed read
+  kept : sources.unfailed → (fault : ToolFault) → IsFirst fault → IsFirst (fault_in_memory_of fault)
+  kept unfailed (Input n f) h = h
+  kept unfailed NoLog h = h
+  kept unfailed (OtherLog n) h = h
+  kept unfailed (TooFewCells n cells) h = h
+  kept unfailed (Script line) h = h
+  kept unfailed (Rehearse f) h = h
+  kept unfailed NoValue h = h
+  kept unfailed (Unverified f) h = h
+  kept unfailed (ReadFault n) h = unfailed
+  kept unfailed WriteFault h = absurd h
+  kept unfailed Memory h = h
 
   -- the work was done, and there was no memory for its text
-  starved : sources.unfailed → (fault : ToolFault) → (fault ≡ WriteFault) ⊎ (fault ≡ Memory) → IsFirst (unwritten_of fault)
-  starved unfailed fault (inl e) = subst (λ (f : ToolFault). IsFirst (unwritten_of f)) (sym e) unfailed
-  starved unfailed fault (inr e) = subst (λ (f : ToolFault). IsFirst (unwritten_of f)) (sym e) unfailed
+  starved : sources.unfailed → (fault : ToolFault) → (fault ≡ WriteFault) ⊎ (fault ≡ Memory) → IsFirst (fault_in_memory_of fault)
+  starved unfailed fault (inl e) = subst (λ (f : ToolFault). IsFirst (fault_in_memory_of f)) (sym e) unfailed
+  starved unfailed fault (inr e) = subst (λ (f : ToolFault). IsFirst (fault_in_memory_of f)) (sym e) unfailed
 
-  module _ (V : Type 0) {W : Type 0} (tell : M → Text) (sink : Sink W) (old new : W) (fault : ToolFault)
-      (read : (a : A) → sources.are a → sources.unfailed) where
+  module _ (V : Type 0) {W : Type 0} (tell : M → Text) (sink : Sink W) (old new : W) (fault : ToolFault) where
     same_fault : (f : ToolFault) → ◌≡◌ {A = Result V ToolFault} (Err fault) (Err f) → fault ≡ f
     same_fault f e = cc
 
-    first_at : (expected : Result M ToolFault) → IsExpectedOfBy sources work expected
-        → IsAnswer {T = V} tell sink old new expected (Err fault) → IsFirst (unwritten_of fault)
-    first_at (Ok made) (a, are, e) w = starved (read a are) fault w.only
-    first_at (Err f) d w = subst (λ (f : ToolFault). IsFirst (unwritten_of f)) (sym (same_fault f w.0)) (kept f d)
+    first_at : sources.unfailed → (expected : Result M ToolFault) → IsExpectedOfBy sources work expected
+        → IsAnswer {T = V} tell sink old new expected (Err fault) → IsFirst (fault_in_memory_of fault)
+    first_at unfailed (Ok made) d w = starved unfailed fault w.only
+    first_at unfailed (Err f) d w = subst (λ (f : ToolFault). IsFirst (fault_in_memory_of f)) (sym (same_fault f w.0)) (kept unfailed f d)
 
-    first_of : IsRunBy {T = V} sources work tell sink old new (Err fault) → IsFirst (unwritten_of fault)
-    first_of r = first_at r.expected r.first.is r.answer
+    -- no read failed
+    first_of : (sources.bounded → sources.unfailed) → IsRunBy {T = V} sources work tell sink old new (Err fault) → IsFirst (fault_in_memory_of fault)
+    first_of unfailed r = first_at (unfailed r.first.bounded) r.expected r.first.is r.answer
 
 -- however often the sources were read
 module _ {S M : Type 0} (source : Source S) (ss rs : List S) (work : List Loaded → Result M ToolFault) where
@@ -104,20 +103,20 @@ module _ {A S M : Type 0} (first : Sources A) (source : Source S) (ss rs : List 
   seen_after fault Writing h = h
   seen_after fault OutOfMemoryStage h = h
 
-by_first : {S A M : Type 0} (fault result : ToolFault) → result ≡ unwritten_of fault → (IsSeen : S → Type 0) (sources : S → Sources A)
-    (work : A → Result M ToolFault → Type 0) (s : S) → IsSeen s → IsFirst (sources s) work (unwritten_of fault) → IsFirstBy IsSeen sources work result
+by_first : {S A M : Type 0} (fault result : ToolFault) → result ≡ fault_in_memory_of fault → (IsSeen : S → Type 0) (sources : S → Sources A)
+    (work : A → Result M ToolFault → Type 0) (s : S) → IsSeen s → IsFirst (sources s) work (fault_in_memory_of fault) → IsFirstBy IsSeen sources work result
 by_first fault result answered IsSeen sources work s seen first =
     subst (λ (f : ToolFault). IsFirstBy IsSeen sources work f) (sym answered) (record { source = s; seen = seen; first = first })
 
 module _ {M W V : Type 0} (tell : M → Text) (sink : Sink W) (old new : W) (fault result : ToolFault)
-    (answered : result ≡ unwritten_of fault) where
+    (answered : result ≡ fault_in_memory_of fault) where
   pub run_refused : {T : Type 0} (reader : InputSpec T) (work : T → Result M ToolFault) (t : SourceTransition) (bytes : List ℕ)
       → t.old.left ≡ Some bytes → t.old.failures ≡ 0 → t.new.failures ≡ 0
       → IsRun {T = V} (one reader t) work tell sink old new (Err fault)
       → IsFirstOf reader work bytes result
   run_refused reader work t bytes given before after r =
       by_first fault result answered _ (one reader) (IsValueOf work) t (record { left = given; before = before; after = after })
-      (first_of (one reader t) (IsValueOf work) V tell sink old new fault (λ a are. are.1) r)
+      (first_of (one reader t) (IsValueOf work) V tell sink old new fault (λ b. after ∙ sym before) r)
 
   pub run_refused_two : {T U : Type 0} (reader : InputSpec T) (other : InputSpec U) (work : T × U → Result M ToolFault → Type 0)
       (t u : SourceTransition) (from to : List ℕ) → t.old.left ≡ Some from → u.old.left ≡ Some to
@@ -127,18 +126,17 @@ module _ {M W V : Type 0} (tell : M → Text) (sink : Sink W) (old new : W) (fau
   run_refused_two reader other work t u from to given given' before after before' after' r =
       by_first fault result answered _ (λ s. two reader s.0 other s.1) work (t, u)
       (record { left = given; before = before; after = after }, record { left = given'; before = before'; after = after' })
-      (first_of (two reader t other u) work V tell sink old new fault (λ a are. (are.0.1, are.1.1)) r)
+      (first_of (two reader t other u) work V tell sink old new fault (λ b. (after ∙ sym before, after' ∙ sym before')) r)
 
   pub run_refused_all : {S : Type 0} (source : Source S) (work : List Loaded → Result M ToolFault) (ss rs : List S)
       (inputs : List (List ℕ)) → map (λ (s : SourceState). s.left) (map (source_state source) ss) ≡ map Some inputs
-      → NoReadFailed (map (source_state source) ss) → NoReadFailed (map (source_state source) rs)
-      → IsRun {T = V} (all source ss rs) work tell sink old new (Err fault) → IsFirstOfAll work inputs result
-  run_refused_all source work ss rs inputs given before after r =
+      → ((s : S) → source.failures s ≡ 0) → IsRun {T = V} (all source ss rs) work tell sink old new (Err fault)
+      → IsFirstOfAll work inputs result
+  run_refused_all source work ss rs inputs given never r =
       by_first fault result answered _ (λ s. seen_from 1 s.0 s.1) (IsValueOf work) (map (source_state source) ss, map (source_state source) rs)
-      (record { left = given; before = before; after = after })
-      (seen_at source ss rs work (unwritten_of fault) (fault_stage (unwritten_of fault))
-      (first_of (all source ss rs) (IsValueOf work) V tell sink old new fault
-      (λ ls are. none_failed (map (source_state source) ss) (map (source_state source) rs) ls are) r))
+      (record { left = given; before = none_has_failed source never ss; after = none_has_failed source never rs })
+      (seen_at source ss rs work (fault_in_memory_of fault) (fault_stage (fault_in_memory_of fault))
+      (first_of (all source ss rs) (IsValueOf work) V tell sink old new fault (none_failed source never ss rs) r))
 
   pub run_refused_three : {T U X : Type 0} (i : InputSpec T) (j : InputSpec U) (k : InputSpec X) (work : T × (U × X) → Result M ToolFault)
       (t u x : SourceTransition) (a b c : List ℕ) → t.old.left ≡ Some a → u.old.left ≡ Some b → x.old.left ≡ Some c
@@ -149,19 +147,22 @@ module _ {M W V : Type 0} (tell : M → Text) (sink : Sink W) (old new : W) (fau
         record { left = given; before = before; after = after },
         (record { left = given'; before = before'; after = after' }, record { left = given''; before = before''; after = after'' }),
       )
-      (first_of (three_sources i t j u k x) (IsValueOf work) V tell sink old new fault (λ a are. (are.0.1, (are.1.0.1, are.1.1.1))) r)
+      (first_of (three_sources i t j u k x) (IsValueOf work) V tell sink old new fault
+      (λ b. (after ∙ sym before, (after' ∙ sym before', after'' ∙ sym before''))) r)
 
   pub run_refused_one_and_all : {T S : Type 0} (reader : InputSpec T) (source : Source S) (work : T × List Loaded → Result M ToolFault)
       (t : SourceTransition) (ss rs : List S) (bytes : List ℕ) (inputs : List (List ℕ)) → t.old.left ≡ Some bytes
       → t.old.failures ≡ 0 → t.new.failures ≡ 0
       → map (λ (s : SourceState). s.left) (map (source_state source) ss) ≡ map Some inputs
-      → NoReadFailed (map (source_state source) ss) → NoReadFailed (map (source_state source) rs)
+      → ((s : S) → source.failures s ≡ 0)
       → IsRun {T = V} (both (one reader t) (all_from 2 source ss rs)) work tell sink old new (Err fault)
       → IsFirstOfOneAndAll reader work bytes inputs result
-  run_refused_one_and_all reader source work t ss rs bytes inputs given before after given' before' after' r =
+  run_refused_one_and_all reader source work t ss rs bytes inputs given before after given' never r =
       by_first fault result answered _ (λ s. both (one reader s.0) (seen_from 2 s.1.0 s.1.1)) (IsValueOf work)
-      (t, (map (source_state source) ss, map (source_state source) rs))
-      (record { left = given; before = before; after = after }, record { left = given'; before = before'; after = after' })
-      (seen_after (one reader t) source ss rs work (unwritten_of fault) (fault_stage (unwritten_of fault))
+      (t, (map (source_state source) ss, map (source_state source) rs)) (
+        record { left = given; before = before; after = after },
+        record { left = given'; before = none_has_failed source never ss; after = none_has_failed source never rs },
+      )
+      (seen_after (one reader t) source ss rs work (fault_in_memory_of fault) (fault_stage (fault_in_memory_of fault))
       (first_of (both (one reader t) (all_from 2 source ss rs)) (IsValueOf work) V tell sink old new fault
-      (λ a are. (are.0.1, none_failed (map (source_state source) ss) (map (source_state source) rs) a.1 are.1)) r))
+      (λ b. (after ∙ sym before, none_failed source never ss rs b.1)) r))

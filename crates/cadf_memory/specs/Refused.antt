@@ -1,5 +1,5 @@
 -- Why an engine over bytes in memory gives up: the first refusal, or there is no memory.
---     unwritten_of fault                         a failed write to memory counts as no memory
+--     fault_in_memory_of fault                   no read of memory fails, and a failed write to it counts as no memory
 --     is_of_memory fault                         it is neither a failed read nor a failed write
 --     IsFirstBy IsSeen sources work fault        the fault comes first, of sources that are seen so
 --     IsFirstOf reader work bytes fault          the same of one source, which has these bytes and of which no read failed
@@ -27,18 +27,18 @@ use Rattle.cadf_tool.specs.Faults.{fault_stage}
 use Rattle.cadf_tool.specs.Inputs.{SourceState, NoneFailed}
 use Rattle.cadf_tool.specs.Run.{SourceTransition, InputSpec, Sources, with_number, one, two, both, AreLoaded, IsRefusedAt, IsValueOf, IsFirstFaultBy}
 
-abbrev pub unwritten_of : ToolFault → ToolFault
-unwritten_of (Input n f) = Input n f
-unwritten_of NoLog = NoLog
-unwritten_of (OtherLog n) = OtherLog n
-unwritten_of (TooFewCells n cells) = TooFewCells n cells
-unwritten_of (Script line) = Script line
-unwritten_of (Rehearse f) = Rehearse f
-unwritten_of NoValue = NoValue
-unwritten_of (Unverified f) = Unverified f
-unwritten_of (ReadFault n) = ReadFault n
-unwritten_of WriteFault = Memory
-unwritten_of Memory = Memory
+abbrev pub fault_in_memory_of : ToolFault → ToolFault
+fault_in_memory_of (Input n f) = Input n f
+fault_in_memory_of NoLog = NoLog
+fault_in_memory_of (OtherLog n) = OtherLog n
+fault_in_memory_of (TooFewCells n cells) = TooFewCells n cells
+fault_in_memory_of (Script line) = Script line
+fault_in_memory_of (Rehearse f) = Rehearse f
+fault_in_memory_of NoValue = NoValue
+fault_in_memory_of (Unverified f) = Unverified f
+fault_in_memory_of (ReadFault n) = Memory
+fault_in_memory_of WriteFault = Memory
+fault_in_memory_of Memory = Memory
 
 abbrev pub is_of_memory : ToolFault → Bool
 is_of_memory (ReadFault n) = false

@@ -29,16 +29,35 @@ ghost use Rattle.cadf_memory.specs.Made.{IsMadeOf, IsMadeOfTwo, IsMadeOfTwoBy, I
 ghost use Rattle.cadf_memory.specs.Refused.{is_of_memory, IsFirstOf, IsFirstOfTwo, IsFirstOfTwoBy, IsFirstOfThree, IsFirstOfAll, IsFirstOfOneAndAll};
 
 use crate::buffer::Buffer;
-use crate::output::unwritten;
+use crate::output::fault_in_memory;
 use crate::slice_source::SliceSource;
 use cadf_event::Name;
 use cadf_sketch::{Cells, Salt};
 use cadf_tool::{
-    ToolFault, Unit, run_check, run_inventory, run_join, run_missing, run_missing_by,
-    run_missing_by_sketch, run_prove, run_rehearse, run_rule, run_seal, run_show, run_sketch,
-    run_split, run_verify,
+    Engine, InventoryEngine, RuleEngine, SealEngine, ShowEngine, SketchEngine, ToolFault, Unit,
+    run_check, run_join, run_missing, run_missing_by, run_missing_by_sketch, run_one, run_prove,
+    run_rehearse, run_split, run_verify,
 };
 use std::alloc::{AllocError as Memory, Global};
+
+/// Runs the engine on the input.
+fn over_one<E: Engine>(
+    alloc: Global,
+    engine: &E,
+    input: &[u8],
+    output: &mut [u8],
+) -> Result<usize, ToolFault>
+    ensures ok { IfOk result (IsHandedOut (IsMadeOf input_spec (E.work engine.now) (E.tell engine.now) input.now) output.old output.new) }
+    ensures err { IfErr result (λ fault. IsFirstOf input_spec (E.work engine.now) input.now fault) }
+    ensures only { IfErr result (λ fault. is_of_memory fault ≡ true) }
+{
+    let mut source = SliceSource::new(input);
+    let mut buffer = Buffer::new(output);
+    match run_one(alloc, engine, &mut source, &mut buffer) {
+        Ok(()) => Ok(buffer.length()),
+        Err(fault) => Err(fault_in_memory(fault)),
+    }
+}
 
 /// Writes the log of the input, or with `conflicts` the list of its conflicts.
 pub fn show(
@@ -51,12 +70,7 @@ pub fn show(
     ensures err { IfErr result (λ fault. IsFirstOf input_spec replica_model_of input.now fault) }
     ensures only { IfErr result (λ fault. is_of_memory fault ≡ true) }
 {
-    let mut source = SliceSource::new(input);
-    let mut buffer = Buffer::new(output);
-    match run_show(alloc, conflicts, &mut source, &mut buffer) {
-        Ok(()) => Ok(buffer.length()),
-        Err(fault) => Err(unwritten(fault)),
-    }
+    over_one(alloc, &ShowEngine { conflicts }, input, output)
 }
 
 /// Writes the line that says what the input holds.
@@ -69,7 +83,7 @@ pub fn check(alloc: Global, input: &[u8], output: &mut [u8]) -> Result<usize, To
     let mut buffer = Buffer::new(output);
     match run_check(alloc, &mut source, &mut buffer) {
         Ok(()) => Ok(buffer.length()),
-        Err(fault) => Err(unwritten(fault)),
+        Err(fault) => Err(fault_in_memory(fault)),
     }
 }
 
@@ -79,12 +93,7 @@ pub fn inventory(alloc: Global, input: &[u8], output: &mut [u8]) -> Result<usize
     ensures err { IfErr result (λ fault. IsFirstOf input_spec inventory_model_of input.now fault) }
     ensures only { IfErr result (λ fault. is_of_memory fault ≡ true) }
 {
-    let mut source = SliceSource::new(input);
-    let mut buffer = Buffer::new(output);
-    match run_inventory(alloc, &mut source, &mut buffer) {
-        Ok(()) => Ok(buffer.length()),
-        Err(fault) => Err(unwritten(fault)),
-    }
+    over_one(alloc, &InventoryEngine, input, output)
 }
 
 /// Writes the seal file of the input.
@@ -93,12 +102,7 @@ pub fn seal(alloc: Global, input: &[u8], output: &mut [u8]) -> Result<usize, Too
     ensures err { IfErr result (λ fault. IsFirstOf input_spec seal_model_of input.now fault) }
     ensures only { IfErr result (λ fault. is_of_memory fault ≡ true) }
 {
-    let mut source = SliceSource::new(input);
-    let mut buffer = Buffer::new(output);
-    match run_seal(alloc, &mut source, &mut buffer) {
-        Ok(()) => Ok(buffer.length()),
-        Err(fault) => Err(unwritten(fault)),
-    }
+    over_one(alloc, &SealEngine, input, output)
 }
 
 /// Writes a line for each fact of `facts`, if the proof shows under the seal that each is in the sealed set; with
@@ -129,7 +133,7 @@ pub fn verify<'b>(
         &mut buffer,
     ) {
         Ok(()) => Ok(buffer.length()),
-        Err(fault) => Err(unwritten(fault)),
+        Err(fault) => Err(fault_in_memory(fault)),
     }
 }
 
@@ -146,12 +150,7 @@ pub fn rule(
     ensures err { IfErr result (λ fault. IsFirstOf input_spec (ruled_of (encode_utf8 letter) key.now place) input.now fault) }
     ensures only { IfErr result (λ fault. is_of_memory fault ≡ true) }
 {
-    let mut source = SliceSource::new(input);
-    let mut buffer = Buffer::new(output);
-    match run_rule(alloc, letter, key, place, &mut source, &mut buffer) {
-        Ok(()) => Ok(buffer.length()),
-        Err(fault) => Err(unwritten(fault)),
-    }
+    over_one(alloc, &RuleEngine { letter, key, place }, input, output)
 }
 
 /// Writes a line for each site of the log after the schedule of the script.
@@ -170,7 +169,7 @@ pub fn rehearse(
     let mut buffer = Buffer::new(output);
     match run_rehearse(alloc, log, sites, &mut source, &mut buffer) {
         Ok(()) => Ok(buffer.length()),
-        Err(fault) => Err(unwritten(fault)),
+        Err(fault) => Err(fault_in_memory(fault)),
     }
 }
 
@@ -185,7 +184,7 @@ pub fn missing(alloc: Global, from: &[u8], to: &[u8], output: &mut [u8]) -> Resu
     let mut buffer = Buffer::new(output);
     match run_missing(alloc, &mut first, &mut second, &mut buffer) {
         Ok(()) => Ok(buffer.length()),
-        Err(fault) => Err(unwritten(fault)),
+        Err(fault) => Err(fault_in_memory(fault)),
     }
 }
 
@@ -205,7 +204,7 @@ pub fn missing_by(
     let mut buffer = Buffer::new(output);
     match run_missing_by(alloc, &mut first, &mut second, &mut buffer) {
         Ok(()) => Ok(buffer.length()),
-        Err(fault) => Err(unwritten(fault)),
+        Err(fault) => Err(fault_in_memory(fault)),
     }
 }
 
@@ -223,12 +222,7 @@ pub fn sketch(
     // A number of cells and a salt that are given are such that a sketch can have.
     ensures asked { AreAsked cells salt }
 {
-    let mut source = SliceSource::new(input);
-    let mut buffer = Buffer::new(output);
-    match run_sketch(alloc, cells, salt, &mut source, &mut buffer) {
-        Ok(()) => Ok(buffer.length()),
-        Err(fault) => Err(unwritten(fault)),
-    }
+    over_one(alloc, &SketchEngine { cells, salt }, input, output)
 }
 
 /// Writes the replica file of what `from` has beyond the sketch. Inputs count from 1: `from` is the first.
@@ -247,7 +241,7 @@ pub fn missing_by_sketch(
     let mut buffer = Buffer::new(output);
     match run_missing_by_sketch(alloc, &mut first, &mut second, &mut buffer) {
         Ok(()) => Ok(buffer.length()),
-        Err(fault) => Err(unwritten(fault)),
+        Err(fault) => Err(fault_in_memory(fault)),
     }
 }
 
@@ -280,7 +274,7 @@ pub fn join(
     let mut buffer = Buffer::new(output);
     match run_join(alloc, log, sources.as_mut_slice(), &mut buffer) {
         Ok(()) => Ok(buffer.length()),
-        Err(fault) => Err(unwritten(fault)),
+        Err(fault) => Err(fault_in_memory(fault)),
     }
 }
 
@@ -303,7 +297,7 @@ pub fn split(
     let mut buffer = Buffer::new(output);
     match run_split(alloc, unit, log, sources.as_mut_slice(), &mut buffer) {
         Ok(()) => Ok(buffer.length()),
-        Err(fault) => Err(unwritten(fault)),
+        Err(fault) => Err(fault_in_memory(fault)),
     }
 }
 
@@ -325,6 +319,6 @@ pub fn prove<'b>(
     let mut buffer = Buffer::new(output);
     match run_prove(alloc, &mut first, sources.as_mut_slice(), &mut buffer) {
         Ok(()) => Ok(buffer.length()),
-        Err(fault) => Err(unwritten(fault)),
+        Err(fault) => Err(fault_in_memory(fault)),
     }
 }

@@ -3,7 +3,6 @@ use Rattle.cadf_tool.specs.Run.{input_spec}
 use Rattle.cadf_tool.specs.Shown.{checked_text}
 use Rattle.cadf_tool.specs.Told.{replica_model_of}
 use Rattle.cadf_memory.proofs.Made.{run_made}
-use Rattle.cadf_memory.proofs.OfMemory.{first_of_memory, input_safe}
 use Rattle.cadf_memory.proofs.Refused.{run_refused}
 use Rattle.cadf_memory.proofs.engines.check.Goals as goal
 
@@ -15,8 +14,5 @@ returns-in-Ok-clause-ok c =
 
 pub returns-in-Err-clause-err : goal.returns-in-Err-clause-err
 returns-in-Err-clause-err c =
-    run_refused checked_text _ _ _ c.in-Err.fault c.unwritten.result c.unwritten.ensures input_spec replica_model_of _ _
+    run_refused checked_text _ _ _ c.in-Err.fault c.fault_in_memory.result c.fault_in_memory.ensures.same input_spec replica_model_of _ _
     (ap Some c.new-source.ensures) refl refl c.in-Err.ensures.checked
-
-pub returns-in-Err-clause-only : goal.returns-in-Err-clause-only
-returns-in-Err-clause-only c = first_of_memory input_spec input_safe _ _ _ (returns-in-Err-clause-err c)

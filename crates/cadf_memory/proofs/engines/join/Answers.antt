@@ -2,9 +2,8 @@ use Rattle.std.proofs.Common.{Some, ap, refl, rules, map, ◌∙◌}
 use Rattle.cadf_tool.specs.Join.{join_of}
 use Rattle.cadf_tool.specs.WrittenFile.{written_file}
 use Rattle.cadf_memory.specs.Memory.{slice_left}
-use Rattle.cadf_memory.proofs.Lists.{lefts, none_has_failed, refused_unread}
+use Rattle.cadf_memory.proofs.Lists.{lefts, refused_unread}
 use Rattle.cadf_memory.proofs.Made.{run_made_all}
-use Rattle.cadf_memory.proofs.OfMemory.{first_of_memory_all}
 use Rattle.cadf_memory.proofs.Refused.{run_refused_all}
 use Rattle.cadf_memory.proofs.engines.join.Goals as goal
 
@@ -21,11 +20,8 @@ returns-in-Ok-run_join-clause-ok c =
 
 pub returns-clause-err : goal.returns-clause-err
 returns-clause-err c =
-    run_refused_all written_file _ _ _ c.in-Err.fault c.unwritten.result c.unwritten.ensures _ (join_of _)
+    run_refused_all written_file _ _ _ c.in-Err.fault c.fault_in_memory.result c.fault_in_memory.ensures.same _ (join_of _)
     c.as_mut_slice.result.now c.run_join.new.inputs _
     (lefts _ slice_left (λ s. refl) c.as_mut_slice.result.now
     ∙ ap (map Some) (ap (map slice_left) c.as_mut_slice.ensures.value ∙ c.in-Ok.ensures))
-    (none_has_failed _ (λ s. refl) c.as_mut_slice.result.now) (none_has_failed _ (λ s. refl) c.run_join.new.inputs) c.in-Err.ensures
-
-pub returns-clause-only : goal.returns-clause-only
-returns-clause-only c = first_of_memory_all (join_of _) _ _ (returns-clause-err c)
+    (λ s. refl) c.in-Err.ensures

@@ -3,7 +3,6 @@ use Rattle.cadf_tool.specs.Missing.{delta_between}
 use Rattle.cadf_tool.specs.Run.{input_spec, IsValueOf}
 use Rattle.cadf_tool.specs.WrittenFile.{written_file}
 use Rattle.cadf_memory.proofs.Made.{run_made_two}
-use Rattle.cadf_memory.proofs.OfMemory.{first_of_memory_two, input_safe}
 use Rattle.cadf_memory.proofs.Refused.{run_refused_two}
 use Rattle.cadf_memory.proofs.engines.missing.Goals as goal
 
@@ -15,9 +14,5 @@ returns-in-Ok-clause-ok c =
 
 pub returns-in-Err-clause-err : goal.returns-in-Err-clause-err
 returns-in-Err-clause-err c =
-    run_refused_two written_file _ _ _ c.in-Err.fault c.unwritten.result c.unwritten.ensures input_spec input_spec (IsValueOf delta_between) _ _ _ _
+    run_refused_two written_file _ _ _ c.in-Err.fault c.fault_in_memory.result c.fault_in_memory.ensures.same input_spec input_spec (IsValueOf delta_between) _ _ _ _
     (ap Some c.new-first.ensures) (ap Some c.new-second.ensures) refl refl refl refl c.in-Err.ensures
-
-pub returns-in-Err-clause-only : goal.returns-in-Err-clause-only
-returns-in-Err-clause-only c =
-    first_of_memory_two input_spec input_spec input_safe input_safe _ _ _ _ (returns-in-Err-clause-err c)

@@ -3,9 +3,8 @@ use Rattle.cadf_seal.specs.ProofFile.{proof_file}
 use Rattle.cadf_tool.specs.Prove.{proof_of_union}
 use Rattle.cadf_tool.specs.Run.{input_spec}
 use Rattle.cadf_memory.specs.Memory.{slice_left}
-use Rattle.cadf_memory.proofs.Lists.{lefts, none_has_failed, refused_one_unread}
+use Rattle.cadf_memory.proofs.Lists.{lefts, refused_one_unread}
 use Rattle.cadf_memory.proofs.Made.{run_made_one_and_all}
-use Rattle.cadf_memory.proofs.OfMemory.{first_of_memory_one_and_all, input_safe}
 use Rattle.cadf_memory.proofs.Refused.{run_refused_one_and_all}
 use Rattle.cadf_memory.proofs.engines.prove.Goals as goal
 
@@ -22,11 +21,8 @@ returns-in-Ok-run_prove-clause-ok c =
 
 pub returns-clause-err : goal.returns-clause-err
 returns-clause-err c =
-    run_refused_one_and_all proof_file _ _ _ c.in-Err.fault c.unwritten.result c.unwritten.ensures input_spec _ proof_of_union _
+    run_refused_one_and_all proof_file _ _ _ c.in-Err.fault c.fault_in_memory.result c.fault_in_memory.ensures.same input_spec _ proof_of_union _
     c.as_mut_slice.result.now c.run_prove.new.inputs _ _ (ap Some c.new-first.ensures) refl refl
     (lefts _ slice_left (λ s. refl) c.as_mut_slice.result.now
     ∙ ap (map Some) (ap (map slice_left) c.as_mut_slice.ensures.value ∙ c.in-Ok.ensures))
-    (none_has_failed _ (λ s. refl) c.as_mut_slice.result.now) (none_has_failed _ (λ s. refl) c.run_prove.new.inputs) c.in-Err.ensures
-
-pub returns-clause-only : goal.returns-clause-only
-returns-clause-only c = first_of_memory_one_and_all input_spec input_safe proof_of_union _ _ _ (returns-clause-err c)
+    (λ s. refl) c.in-Err.ensures

@@ -2,7 +2,6 @@ use Rattle.std.proofs.Common.{Some, ap, refl, rules}
 use Rattle.cadf_tool.specs.Rehearse.{script_spec, final_sites}
 use Rattle.cadf_tool.specs.Sites.{sites_text}
 use Rattle.cadf_memory.proofs.Made.{run_made}
-use Rattle.cadf_memory.proofs.OfMemory.{first_of_memory, script_safe}
 use Rattle.cadf_memory.proofs.Refused.{run_refused}
 use Rattle.cadf_memory.proofs.States.{slice_transition}
 use Rattle.cadf_memory.proofs.engines.rehearse.Goals as goal
@@ -16,9 +15,6 @@ returns-in-Ok-clause-ok c =
 
 pub returns-in-Err-clause-err : goal.returns-in-Err-clause-err
 returns-in-Err-clause-err c =
-    run_refused sites_text _ _ _ c.in-Err.fault c.unwritten.result c.unwritten.ensures script_spec (final_sites _ _)
+    run_refused sites_text _ _ _ c.in-Err.fault c.fault_in_memory.result c.fault_in_memory.ensures.same script_spec (final_sites _ _)
     (slice_transition c.new-source.result c.run_rehearse.new.script) _
     (ap Some c.new-source.ensures) refl refl c.in-Err.ensures.final_sites
-
-pub returns-in-Err-clause-only : goal.returns-in-Err-clause-only
-returns-in-Err-clause-only c = first_of_memory script_spec script_safe _ _ _ (returns-in-Err-clause-err c)

@@ -3,7 +3,6 @@ use Rattle.cadf_tool.specs.Run.{input_spec}
 use Rattle.cadf_tool.specs.SealInput.{seal_spec, proof_spec}
 use Rattle.cadf_tool.specs.Verify.{verdict_of}
 use Rattle.cadf_memory.proofs.Made.{run_made_three}
-use Rattle.cadf_memory.proofs.OfMemory.{first_of_memory_three, input_safe, seal_safe, proof_safe}
 use Rattle.cadf_memory.proofs.Refused.{run_refused_three}
 use Rattle.cadf_memory.proofs.engines.verify.Goals as goal
 
@@ -15,10 +14,6 @@ returns-in-Ok-clause-ok c =
 
 pub returns-in-Err-clause-err : goal.returns-in-Err-clause-err
 returns-in-Err-clause-err c =
-    run_refused_three (λ text. text) _ _ _ c.in-Err.fault c.unwritten.result c.unwritten.ensures seal_spec input_spec proof_spec (verdict_of _)
+    run_refused_three (λ text. text) _ _ _ c.in-Err.fault c.fault_in_memory.result c.fault_in_memory.ensures.same seal_spec input_spec proof_spec (verdict_of _)
     _ _ _ _ _ _ (ap Some c.new-first.ensures) (ap Some c.new-second.ensures) (ap Some c.new-third.ensures) refl refl refl refl refl refl
     c.in-Err.ensures.verdict
-
-pub returns-in-Err-clause-only : goal.returns-in-Err-clause-only
-returns-in-Err-clause-only c =
-    first_of_memory_three seal_spec input_spec proof_spec seal_safe input_safe proof_safe _ _ _ _ _ (returns-in-Err-clause-err c)

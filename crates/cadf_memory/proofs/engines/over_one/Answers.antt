@@ -1,0 +1,16 @@
+use Rattle.std.proofs.Common.{Some, ap, refl, rules}
+use Rattle.cadf_tool.specs.Run.{input_spec}
+use Rattle.cadf_memory.proofs.Made.{run_made}
+use Rattle.cadf_memory.proofs.Refused.{run_refused}
+use Rattle.cadf_memory.proofs.engines.over_one.Goals as goal
+
+pub returns-in-Ok-clause-ok : goal.returns-in-Ok-clause-ok
+returns-in-Ok-clause-ok g c =
+    run_made (g.E.Engine.tell c.args.engine.now) _ _ _ _ c.new-buffer.result c.run_one.new.output refl refl _ _ _ c.new-buffer.ensures.before
+    c.new-buffer.ensures.text c.length.ensures (λ same. search rules) input_spec (g.E.Engine.work c.args.engine.now) _ _
+    (ap Some c.new-source.ensures) c.in-Ok.ensures
+
+pub returns-in-Err-clause-err : goal.returns-in-Err-clause-err
+returns-in-Err-clause-err g c =
+    run_refused (g.E.Engine.tell c.args.engine.now) _ _ _ c.in-Err.fault c.fault_in_memory.result c.fault_in_memory.ensures.same input_spec
+    (g.E.Engine.work c.args.engine.now) _ _ (ap Some c.new-source.ensures) refl refl c.in-Err.ensures
