@@ -148,6 +148,15 @@ def test_since_leaves_older_windows(sites):
     assert sites.holds("here.cadf") == facts(1, 10, 11) and sites.holds("there.cadf") == facts(2, 10, 11)
 
 
+@pytest.mark.parametrize("window", ["0000-12", "0000-12-31", "0000-12-31T10", "9999-01", "9999-01-01", "9999-01-01T13"])
+def test_since_the_first_and_the_last_window(sites, window):
+    """The windows of the first and the last instant that a time can have are of the years 0000 and 9999."""
+    events = [dict(EVENT, id=time, eventTime=time) for time in ("0001-01-01T00:00:00+14:00", "9998-12-31T23:59:59-14:00")]
+    sites.put("there.cadf", document({"id": "g", "events": events})[1])
+    assert sites.sync("--pull", "--since=" + window, "here.cadf", "there.cadf").status == 0
+    assert {atom[1] for atom in sites.holds("here.cadf")} == {event["id"] for event in events if window[0] == "0" or event["id"][0] == "9"}
+
+
 def test_names_are_quoted_for_the_far_shell(sites):
     """A name with what a shell would run is a name there too."""
     name = "it's; touch wrong #.cadf"
@@ -206,7 +215,7 @@ def test_conflicts_and_metrics(sites):
     (("a.cadf",), "two SITEs"), (("a.cadf", "b.cadf", "c.cadf"), "two SITEs"), (("h:a.cadf", "b.cadf"), "the first SITE is on this machine"),
     (("a.cadf", "--", "-oProxyCommand=x:b.cadf"), "doesn't begin with `-`"), (("a.cadf", "[-x]:b.cadf"), "doesn't begin with `-`"),
     (("a.cadf", ":b.cadf"), "no HOST:SITE"), (("a.cadf", "h::b"), "no HOST:SITE"), (("a.cadf", "h:"), "no HOST:SITE"),
-    *((("--since=" + window, "a.cadf", "b.cadf"), "WINDOW is") for window in ("2024", "2024-13", "2024-31-03", "2024-03-01T24")),
+    *((("--since=" + window, "a.cadf", "b.cadf"), "WINDOW is") for window in ("2024", "2024-13", "2024-31-03", "2024-03-01T24", "0000-13", "0000-02-30")),
     (("--pull", "--push", "a.cadf", "b.cadf"), "not allowed with"),
     (("--limit=2000000000", "a.cadf", "b.cadf"), "--limit"), (("--rsh=ssh 'a", "a.cadf", "h:b.cadf"), "--rsh"), (("--serve", "a.cadf", "b.cadf"), "--serve has one SITE"),
 ])
