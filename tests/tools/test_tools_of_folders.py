@@ -2,6 +2,7 @@
 import functools
 import json
 import os
+import resource
 import shlex
 
 import pytest
@@ -30,9 +31,9 @@ class Sites:
         telling.chmod(0o755)
         self.environment = dict(os.environ, CADF=str(telling))
 
-    def run(self, tool, *words):
+    def run(self, tool, *words, **options):
         self.told.write_text("")
-        answer = ended(os.path.join(self.tools, "cadf-" + tool), [str(word) for word in words], env=self.environment, cwd=self.path)
+        answer = ended(os.path.join(self.tools, "cadf-" + tool), [str(word) for word in words], env=self.environment, cwd=self.path, **options)
         return answer.status, answer.output.decode(), answer.error.decode().splitlines()
 
     def read(self):
@@ -119,6 +120,16 @@ def test_which_judges_each_file(sites):
     one.write_bytes(held[1])
     status, _, said = sites.run("which", "north")
     assert status == 1 and said[0].startswith("north/%s: it holds something else than its name says" % one.name)
+
+
+def test_which_has_the_files_of_one_window_open_at_a_time(sites):
+    """So it judges a site of more windows than files may be open."""
+    sites.north.takes(contents(0, 2, name="n"))
+    one = min(sites.north.folder.glob("2024-*.cadf"))
+    few = {"preexec_fn": lambda: resource.setrlimit(resource.RLIMIT_NOFILE, (67, 67))}
+    assert sites.run("which", "north", **few) == (0, "", [])
+    one.write_bytes(one.read_bytes().replace(b"read", b"reap"))
+    assert sites.run("which", "north", **few) == sites.run("which", "north") != (0, "", [])
 
 
 def test_a_key_of_two_windows_is_open(sites):
