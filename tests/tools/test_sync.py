@@ -978,9 +978,8 @@ class Ssh(Sites):
 
 @pytest.fixture
 def ssh(tmp_path):
-    is_made = not os.geteuid() and not os.path.isdir(PRIVILEGES)
-    if is_made:
-        os.mkdir(PRIVILEGES, 0o755)
+    if not os.geteuid():
+        os.makedirs(PRIVILEGES, 0o755, exist_ok=True)  # it stays: the sshd of another run resets each connection without it
     found = Ssh(tmp_path)
     with subprocess.Popen([shutil.which("sshd", path="/usr/sbin:" + os.environ["PATH"]), "-D", "-q", "-f", tmp_path / "settings"]) as child:
         try:
@@ -994,8 +993,6 @@ def ssh(tmp_path):
             yield found
         finally:
             child.terminate()
-            if is_made:
-                os.rmdir(PRIVILEGES)
 
 
 @pytest.mark.needs("ssh", "ssh-keygen", "/usr/sbin/sshd")
