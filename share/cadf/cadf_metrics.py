@@ -2,10 +2,8 @@
 
 A run that succeeds replaces the file whole. One that fails leaves it, so the time of the last success grows old.
 """
-import contextlib
 import os
 import re
-import secrets
 import subprocess
 import sys
 import tempfile
@@ -13,7 +11,7 @@ import time
 
 import cadf_site
 from cadf_logs import Text
-from cadf_toolkit import DIFFERS, DONE, FAILED, MEMORY, REFUSED, Fault, cadf, name_shown, naming, opened, started, tool
+from cadf_toolkit import DIFFERS, DONE, FAILED, MEMORY, REFUSED, Fault, cadf, name_shown, naming, new_file, opened, started, tool
 
 HELP = {
     "facts_taken": "Facts that the last run took into the site; of cadf-spool, those that it held before among them.",
@@ -42,18 +40,16 @@ def text_of(labels, values):
 
 
 def write(path, labels, values):
-    """Replaces the file, which all may read, by values with these labels, to which the tool's name is added."""
-    working = "%s.%s" % (path, secrets.token_hex(8))
-    with naming(path):
-        try:
-            with open(os.open(working, os.O_WRONLY | os.O_CREAT | os.O_EXCL, 0o644), "w", encoding="utf-8") as file:
-                file.write(text_of({"tool": tool(), **labels}, values))
-                os.fchmod(file.fileno(), 0o644)
-            os.rename(working, path)
-        except BaseException:
-            with contextlib.suppress(OSError):
-                os.unlink(working)
-            raise
+    """Replaces the file, which all may read, by values with these labels, to which the tool's name is added.
+
+    FILE.new is written and renamed. What a run that was killed left there goes first.
+    """
+    working = path + ".new"
+    with naming(path), new_file(working, []) as file:
+        with open(file, "w", encoding="utf-8", closefd=False) as output:
+            output.write(text_of({"tool": tool(), **labels}, values))
+        os.fchmod(file, 0o644)
+        os.rename(working, path)
 
 
 def largest_window(name):

@@ -211,6 +211,31 @@ def test_conflicts_and_metrics(sites):
     assert 'cadf_facts_lacked{tool="cadf-agree",sites="here.cadf there.cadf",site="here.cadf",of="there.cadf"} 0\n' in (sites.path / "a.prom").read_text()
 
 
+KILLED = """
+import os, sys
+sys.path.insert(0, sys.argv[1])
+import cadf_metrics
+os.rename = lambda *_: os._exit(9)
+cadf_metrics.write(sys.argv[2], {}, [])
+"""
+
+
+def test_metrics_of_a_run_that_is_killed(sites):
+    """A run that is killed before the rename leaves FILE.new alone, which the next one replaces. A link there is not followed."""
+    share, links = os.path.join(TOP, "share", "cadf"), [sites.path / "here.cadf", sites.path / "here.cadf.before"]
+    for name in ("here.cadf", "there.cadf"):
+        sites.put(name, facts(1, 2))
+    shutil.copyfile(*links)
+    (sites.path / "m.prom.new").symlink_to(links[1])
+    for _ in range(2):
+        assert sites.runs("cadf-sync", "--metrics=m.prom", "here.cadf", "there.cadf").status == 0
+        assert sorted(os.listdir(sites.path)) == ["here.cadf", "here.cadf.before", "m.prom", "there.cadf"]
+        for _ in range(2):
+            assert ended(sys.executable, ["-c", KILLED, share, str(sites.path / "m.prom")]).status == 9
+            assert sorted(each for each in os.listdir(sites.path) if each.startswith("m.")) == ["m.prom", "m.prom.new"]
+    assert links[0].read_bytes() == links[1].read_bytes() and not (sites.path / "m.prom").is_symlink()
+
+
 @pytest.mark.parametrize("words, part", [
     (("a.cadf",), "two SITEs"), (("a.cadf", "b.cadf", "c.cadf"), "two SITEs"), (("h:a.cadf", "b.cadf"), "the first SITE is on this machine"),
     (("a.cadf", "--", "-oProxyCommand=x:b.cadf"), "doesn't begin with `-`"), (("a.cadf", "[-x]:b.cadf"), "doesn't begin with `-`"),
