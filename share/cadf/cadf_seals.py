@@ -142,7 +142,7 @@ def sealed_folder(name):
                 check_window(index, (part, digest), file)
             return sealed(list(files.values())) if files else NOTHING
 
-        seal.parts = made_of_parts(folder, None, sealed_part)
+        seal.parts = made_of_parts([folder], None, sealed_part)
     return seal
 
 
@@ -255,7 +255,7 @@ def proved(facts, name):
                 with asked[part].opened("%s of %s" % (part, facts.name)) as own:
                     return cadf(["prove"], [own, *(files.values() or [empty])], subprocess.PIPE)
 
-            proof.parts = made_of_parts(folder, asked, proof_of_part)
+            proof.parts = made_of_parts([folder], asked, proof_of_part)
     return proof
 
 

@@ -7,7 +7,7 @@ the moment of a take. A reader needs no lock. A tool imports this as it imports 
   Folder(name).index()       what its file `site` says: an Index, or None if there is none
   opened_site(name, parts)   its files as inputs, all or those of some parts, as it stood at one moment
   opened_parts(folder, ..)   the same of a Folder
-  made_of_parts(folder, ..)  what is made of the files of each part, as it stood at one moment
+  made_of_parts(folders, ..) what is made of the files of each part, as each folder stood at one moment
   opened_whole(names)        the inputs that hold all of these sites, of which each is a file or a folder
   take(..), settle(..)       take inputs into a folder, and join the files of each window
 """
@@ -267,7 +267,8 @@ def opened_parts(folder, parts):
                     missing = file_name(*entry)
                     break
                 files.enter_context(inputs[entry].file)
-            if folder.site().lines == index.lines:
+            now = folder.site()
+            if now is index or now.lines == index.lines:
                 if missing:
                     raise Fault("%s: not there: %s" % (folder.shown(missing), DAMAGED))
                 yield index, inputs
@@ -276,23 +277,30 @@ def opened_parts(folder, parts):
     raise Fault(CHANGED % folder.shown())
 
 
-def made_of_parts(folder, parts, make):
-    """What is made of the files of each part of a folder, or of some, as it stood at one moment; by part.
+def made_of_parts(folders, parts, make):
+    """What is made of the files of each part of some folders, or of some parts, as each stood at one moment; by part.
 
-    `make` is given a part and its files as inputs, by digest. Those of one part are open at a time: a program that is started
-    costs as much as there are open files. If a part changes meanwhile, it is made again, and no other.
+    `make` is given a part and, of each folder, its files as inputs, by digest. Those of one part are open at a time: a program
+    that is started costs as much as there are open files. If a part changes meanwhile, it is made again, and no other.
     """
     made = {}
     for _ in range(TRIES):
-        index = folder.site()
-        keys = {part: (part, *index.digests(part)) for part in (index.parts() if parts is None else parts)}
+        indexes = [folder.site() for folder in folders]
+        names = dict.fromkeys(itertools.chain(*(index.parts() for index in indexes)) if parts is None else parts)
+        keys = {part: files_of(part, indexes) for part in names}
         for part, key in keys.items():
             if key not in made:
-                with opened_parts(folder, [part]) as (now, inputs):
-                    made[(part, *now.digests(part))] = make(part, {digest: each for (_, digest), each in inputs.items()})
+                with contextlib.ExitStack() as files:
+                    now, inputs = zip(*(files.enter_context(opened_parts(folder, [part])) for folder in folders))
+                    made[files_of(part, now)] = make(part, *({digest: each for (_, digest), each in found.items()} for found in inputs))
         if made.keys() >= set(keys.values()):
             return {part: made[key] for part, key in keys.items()}
-    raise Fault(CHANGED % folder.shown())
+    raise Fault(CHANGED % ", ".join(folder.shown() for folder in folders))
+
+
+def files_of(part, indexes):
+    """A part, with the digests of its files in each folder."""
+    return (part, *(tuple(index.digests(part)) for index in indexes))
 
 
 def check_window(index, entry, file):

@@ -338,7 +338,7 @@ ANY_WINDOW = """    (window, shown), = found.parts.items()
     (test_a_proof_in_part, "        if part not in proof.parts:\n", "        if False:\n"),
     (test_another_seal, "own.seal(part), item", "own.seal(next(iter(asked))), item"),
     (test_a_window_that_is_not_there, "*(files.values() or [empty])]", "*(files.values() or [own])]"),
-    (test_present, "with opened_parts(folder, [part]) as (now, inputs):", "with opened_parts(folder, None) as (now, inputs):"),
+    (test_present, "files.enter_context(opened_parts(folder, [part]))", "files.enter_context(opened_parts(folder, None))"),
     (test_present, 'cadf(["verify", *words], inputs', 'cadf(["verify"], inputs'),
     (test_others, "if proof.log != seal.log:", "if False:"),
     (test_others, "if proof.unit != seal.unit:", "if False:"),

@@ -122,14 +122,42 @@ def test_which_judges_each_file(sites):
     assert status == 1 and said[0].startswith("north/%s: it holds something else than its name says" % one.name)
 
 
+FEW = {"preexec_fn": lambda: resource.setrlimit(resource.RLIMIT_NOFILE, (67, 67))}  # to open a file, and not two
+
+
+def test_agree_has_the_files_of_one_window_open_at_a_time(sites):
+    """So it compares folders of more windows than files may be open, as they stood."""
+    sites.north.takes(contents(0, 2, name="n"))
+    sites.south.takes(contents(3, 5, name="n"))
+    said = ["north lacks 4 facts of south", "south lacks 4 facts of north"]
+    assert sites.run("agree", "north", "south", **FEW) == (5, "", said)
+    min(sites.north.folder.glob("2024-*.cadf")).unlink()
+    status, _, said = sites.run("agree", "north", "south", **FEW)
+    assert status == 3 and "not there: the site is damaged" in said[0]
+
+
+def test_agree_amid_takes(sites):
+    """All of a take is compared or nothing of it, though it changes a window that was compared before."""
+    sites.north.takes(contents(0, 2))
+    sites.south.takes(contents(3, 5))
+    document = sites.north.put(contents(3, 5))
+    late = sites.path / "late"
+    late.write_text("#!/bin/sh\nif [ $1 = sketch ] && mkdir %s 2>%s; then\n  CADF=%s %s %s %s || exit 9\nfi\nexec %s \"$@\"\n" % tuple(map(shlex.quote, map(str, [
+        sites.path / "once", os.devnull, Site.command, os.path.join(sites.tools, "cadf-take"), sites.north.folder, document, Site.command]))))
+    late.chmod(0o755)
+    sites.environment["CADF"] = str(late)
+    said = sites.run("agree", "north", "south")[2]
+    assert said in (["south lacks 4 facts of north"], ["north lacks 4 facts of south", "south lacks 4 facts of north"])
+    assert (sites.path / "once").is_dir()
+
+
 def test_which_has_the_files_of_one_window_open_at_a_time(sites):
     """So it judges a site of more windows than files may be open."""
     sites.north.takes(contents(0, 2, name="n"))
     one = min(sites.north.folder.glob("2024-*.cadf"))
-    few = {"preexec_fn": lambda: resource.setrlimit(resource.RLIMIT_NOFILE, (67, 67))}
-    assert sites.run("which", "north", **few) == (0, "", [])
+    assert sites.run("which", "north", **FEW) == (0, "", [])
     one.write_bytes(one.read_bytes().replace(b"read", b"reap"))
-    assert sites.run("which", "north", **few) == sites.run("which", "north") != (0, "", [])
+    assert sites.run("which", "north", **FEW) == sites.run("which", "north") != (0, "", [])
 
 
 def test_a_key_of_two_windows_is_open(sites):
@@ -210,8 +238,8 @@ def test_spool_sets_aside_what_begins_many_windows(sites):
 
 
 @pytest.mark.parametrize("check, right, wrong", [
-    (test_agree_reads_windows_that_differ, "sorted({*first.parts, *second.parts})", "sorted(first.parts)[1:]"),
-    (test_agree_reads_windows_that_differ, "if first.parts.get(part) != second.parts.get(part):", "if True:"),
+    (test_agree_reads_windows_that_differ, "made_of_parts([first.site, second.site], None,", "made_of_parts([first.site, second.site], sorted(first.index.parts())[1:],"),
+    (test_agree_reads_windows_that_differ, "if own.keys() != others.keys():", "if True:"),
     (test_agree_of_windows_of_several_files, "[*site.inputs, sketch.input], len(site.inputs))", "[site.inputs[0], sketch.input])"),
     (test_which_judges_each_file, "if found != [entry]:", "if False:"),
     (test_a_key_of_two_windows_is_open, "for fact in windows.facts:", "for fact in ():"),
