@@ -11,7 +11,7 @@ of a crate.
 
 A table of definitions, as in docs/AUDIT.md, has rows with the names, the file and its length in lines without comments,
 imports and blanks. The names must be defined there, and the length and the sums above the tables must be right. What
-such a file imports of the crates must be in a table too, and what clauses cite in the sources that the page names, as
+such a file imports of the crates must be in an earlier row too, unless a sentence names the file, and what clauses cite in the sources that the page names, as
 `crates/*/src/laws.rt`.
 
 A type that implements a trait is named as `Walk for PathSet`. Such an `impl` must stand in the sources, and each trait
@@ -182,6 +182,16 @@ def unlisted(rows):
                 yield "%s/%s imports %s of %s, which is in no table" % (crate, path, module, other)
 
 
+def early(rows, text):
+    """The files of the rows that import one of a later row, unless a sentence of the page names them too."""
+    listed = [(row[1], row[2]) for row in rows]
+    for number, (crate, path) in enumerate(listed, 1):
+        for other, module in IMPORTED.findall(definition_file(crate, path)):
+            needed = (other, module.replace(".", "/") + ".antt")
+            if needed in listed[number:] and text.count("`%s/%s`" % (crate, path)) == 1:
+                yield "%s/%s comes before %s/%s, which it imports" % (crate, path, *needed)
+
+
 def cited(path):
     """The definitions that the clauses of a source cite, each with its crate and file."""
     with open(path, encoding="utf-8") as file:
@@ -206,8 +216,10 @@ def uncited(text):
 
 def unaudited(text):
     """What is wrong with the tables of definitions, and with their sums."""
+    there = [row for row in AUDITED.findall(text) if os.path.exists(os.path.join(TOP, "crates", *row[1:3]))]
     yield from uncited(text)
-    yield from unlisted(row for row in AUDITED.findall(text) if os.path.exists(os.path.join(TOP, "crates", *row[1:3])))
+    yield from unlisted(there)
+    yield from early(there, text)
     for section in text.split("\n## "):
         rows = [row for row in AUDITED.findall(section) if os.path.exists(os.path.join(TOP, "crates", *row[1:3]))]
         for row in rows:

@@ -58,6 +58,18 @@ def test_row_is_gone(name, row, fault):
     assert any(line.endswith(fault or "no row names the mutant newest_ruling_wins") for line in new)
 
 
+@pytest.mark.parametrize("old, new", [
+    ("", "comes before cadf_event/specs/Names.antt, which it imports"),
+    ("`cadf_tool/specs/Verify.antt`. How", "cadf_tool/specs/Verify.antt comes before cadf_tool/specs/Faults.antt, which it imports"),
+])
+def test_order(old, new):
+    """A file comes after those that it imports, unless a sentence names it: not if its row is last, or that name is gone."""
+    text = page("AUDIT")
+    row = "".join(line for line in text.splitlines(keepends=True) if "| `cadf_event/specs/Names.antt` |" in line)
+    assert old in text and "which it imports" not in "".join(found(text))
+    assert any(line.endswith(new) for line in found(text.replace(old or row, "") + ("" if old else row)))
+
+
 def test_unread():
     """A file of definitions that a row of CONTRACTS names is in AUDIT."""
     assert list(promises.unread(page("CONTRACTS"), page("AUDIT"))) == []
