@@ -5,6 +5,7 @@
 Each build proves everything and takes as long as build/command does. The second has other permissions, another zone and
 language, a path with a blank and a comma, and half of the processors.
 """
+import argparse
 import os
 import shutil
 import subprocess
@@ -35,10 +36,13 @@ def made(folder, name, processors):
 
 
 def main():
+    parser = argparse.ArgumentParser(description=__doc__, formatter_class=argparse.RawDescriptionHelpFormatter)
+    parser.add_argument("folder", metavar="FOLDER", nargs="?", type=os.path.abspath)
+    options = parser.parse_args()
     processors = sorted(os.sched_getaffinity(0))
     shares = [set(processors), set(processors[:max(1, len(processors) // 2)])]
     with tempfile.TemporaryDirectory(prefix="cadf-twice-") as temporary:
-        folder = os.path.abspath(sys.argv[1]) if len(sys.argv) > 1 else temporary
+        folder = options.folder or temporary
         first, second = (made(folder, name, share) for name, share in zip(SURROUNDINGS, shares))
     print("\n".join(first))
     if first != second:
