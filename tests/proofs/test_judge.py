@@ -78,3 +78,11 @@ def test_blind_judge(mutants):
     try_rows = mutants.try_rows
     mutants.try_rows = lambda rows, _: try_rows(rows)
     assert verdicts(mutants) != RIGHT
+
+
+def test_branches_go_with_their_answer(mutants):
+    """With another body they are other ones, and an import of what isn't there is no verdict."""
+    head, branches = "use A.proofs.f.Goals as goal\n", "use A.proofs.f.Goals.{then-a, else-a}\n"
+    first, second = "pub returns : goal.returns\nreturns c = elim c [ | then-a w ↦ w ]\n", "pub other : goal.other\nother c = c\n"
+    assert mutants.without_answers(head + branches + first + second, {"returns"}) == head + second
+    assert mutants.without_answers(head + branches + second + first, {"other"}) == head + branches + first
