@@ -164,6 +164,48 @@ def test_uninstall(cadf, tmp_path):
     assert sorted(path for path in tmp_path.rglob("*") if not path.is_dir()) == sorted(others)
 
 
+def test_uninstall_ended(cadf, tmp_path):
+    """An --uninstall that ends before it is done leaves the list, and the next one removes the rest."""
+    subprocess.run([INSTALL, "--any", tmp_path], check=True, stdout=subprocess.DEVNULL)
+    (tmp_path / "bin" / "cadf").unlink()
+    (tmp_path / "bin" / "cadf" / "of-another").mkdir(parents=True)
+    assert ended(INSTALL, ["--uninstall", tmp_path]).status == 1
+    shutil.rmtree(tmp_path / "bin" / "cadf")
+    subprocess.run([INSTALL, "--uninstall", tmp_path], check=True, stdout=subprocess.DEVNULL)
+    assert list(tmp_path.iterdir()) == []
+
+
+def test_install_ended(cadf, tmp_path):
+    """What an install that ends before it is done has made is removed like the rest, folders too."""
+    of_another = tmp_path / "share" / "man" / "man1" / "cadf.1.new"
+    of_another.mkdir(parents=True)
+    assert ended(INSTALL, ["--any", tmp_path]).status == 1
+    subprocess.run([INSTALL, "--uninstall", tmp_path], check=True, stdout=subprocess.DEVNULL)
+    assert sorted(tmp_path.rglob("*")) == sorted([*list(of_another.parents)[:3], of_another])
+
+
+def test_uninstall_of_links(cadf, tmp_path):
+    """A folder that somebody made a link stays, and all files go."""
+    folder, elsewhere = tmp_path / "prefix", tmp_path / "elsewhere"
+    subprocess.run([INSTALL, "--any", folder], check=True, stdout=subprocess.DEVNULL)
+    (folder / "share" / "man").rename(elsewhere)
+    (folder / "share" / "man").symlink_to(elsewhere)
+    subprocess.run([INSTALL, "--uninstall", folder], check=True, stdout=subprocess.DEVNULL)
+    assert [path for path in tmp_path.rglob("*") if path.is_file()] == [] and elsewhere.is_dir()
+
+
+@pytest.mark.parametrize("mask", [0o077, 0o000])
+def test_umask(cadf, tmp_path, mask):
+    """Others may read all that is made, and write to none of it, whatever the mask; a prefix that was there stays as it was."""
+    there = tmp_path / "there"
+    there.mkdir(mode=0o700)
+    for folder, first in ((tmp_path / "new" / "prefix", "new"), (there, "there/bin")):
+        subprocess.run([INSTALL, "--any", folder], check=True, stdout=subprocess.DEVNULL, preexec_fn=lambda: os.umask(mask))
+        made = [tmp_path / first, *(tmp_path / first).rglob("*")]
+        assert {path.stat().st_mode & 0o777 for path in made} <= {0o755, 0o644}
+    assert there.stat().st_mode & 0o777 == 0o700
+
+
 def test_staged(cadf, prefix, tmp_path):
     """With DESTDIR all is done below that folder, as it is done under a prefix."""
     def run(*words):
