@@ -21,7 +21,7 @@ from tests.tables.completions import WORDS, options
 SECONDS = 60  # for a machine that does other work too
 COMPLETE, INSERT_ALL = "\t", "\x18*"
 
-FILES = ["a.cadf", "b.json", "c d.cadf"]
+FILES = ["a.cadf", "b.json", "c d.cadf", "n\nz.cadf", "-x.cadf", "$(touch ran).cadf", "`touch ran`\".cadf"]
 # What is typed, and the words that the command gets: after a tab, which completes what can be only one thing.
 COMPLETED = [
     ("inv", ["inventory"]), ("missing-", ["missing-by"]), ("he", ["help"]), ("--he", ["--help"]), ("--v", ["--version"]),
@@ -43,6 +43,8 @@ COMPLETED = [
     ("rehearse g a", ["rehearse", "g", "a"]), ("rehearse g 2 a", ["rehearse", "g", "2", "a.cadf"]),
     ("help inv", ["help", "inventory"]), ("help help", ["help", "help"]), ("help a", ["help", "a"]),
     ("help show a", ["help", "show", "a"]), ("show -- a", ["show", "--", "a.cadf"]), ("--help a", ["--help", "a"]),
+    ("show n", ["show", "n\nz.cadf"]), ("show -- -", ["show", "--", "-x.cadf"]), ("show -- a.cadf -", ["show", "--", "a.cadf", "-x.cadf"]),
+    ("show '$", ["show", "$(touch ran).cadf"]), ("show \\`", ["show", "`touch ran`\".cadf"]),
     ("rule -- E e1 1 a", ["rule", "--", "E", "e1", "1", "a.cadf"]), ("join --log=g a", ["join", "--log=g", "a.cadf"]),
 ] + [("%s --h" % command, [command, "--help"]) for command in COMMANDS if command != "help"]
 # The same, with all completions of what is typed in its place.
@@ -55,7 +57,7 @@ CASES = [(typed, COMPLETE, words) for typed, words in COMPLETED] + [(typed, INSE
 # How each shell is started in a folder, with what it reads first. The command becomes a function that writes its words.
 BASH = """
 bind '"\\C-x*": insert-completions'
-cadf() { printf '%%s\\n' "$@" >../answer.new; mv ../answer.new ../answer; }
+cadf() { printf '%%s\\0' "$@" >../answer.new; mv ../answer.new ../answer; }
 . '%s'
 PS1=
 : >../ready
@@ -68,7 +70,7 @@ zle -C all-matches complete-word _generic
 zstyle ':completion:all-matches:*' insert true
 zstyle ':completion:all-matches::::' completer _all_matches _complete
 bindkey '^X*' all-matches
-cadf() { printf '%%s\\n' "$@" >../answer.new; mv ../answer.new ../answer }
+cadf() { printf '%%s\\0' "$@" >../answer.new; mv ../answer.new ../answer }
 PS1=
 : >../ready
 """
@@ -129,8 +131,8 @@ class Shell:
         os.write(self.terminal, ("cadf %s%s\r" % (typed, key)).encode())
         self.wait_for("answer")
         answer = os.path.join(self.folder, "answer")
-        with open(answer, encoding="utf-8") as file:
-            words = file.read().splitlines()
+        with open(answer, encoding="utf-8", newline="") as file:
+            words = file.read().split("\0")[:-1]
         os.remove(answer)
         return words
 
@@ -149,6 +151,8 @@ def wrong_of(name, place):
                 words = shell.words(typed, key)
                 if words != wanted and (key == COMPLETE or sorted(words) != sorted(wanted)):
                     wrong.append("%s: cadf %s%r: %r, and not %r" % (name, typed, key, words, wanted))
+            if sorted(os.listdir(os.path.join(folder, "work"))) != sorted(FILES):
+                wrong.append("%s: completing ran what a name says" % name)
         except TimeoutError as fault:
             wrong.append("%s: no file %s in %d seconds: %r" % (name, fault, SECONDS, shell.shown[-2000:]))
         finally:

@@ -34,14 +34,14 @@ BASH = """\
 _cadf() {
     local commands='%s help'
     local word=${COMP_WORDS[COMP_CWORD]} words=''
+    [[ $word = -* && " ${COMP_WORDS[*]:1:COMP_CWORD - 1} " = *' -- '* ]] && compopt -o default && return
     case $COMP_CWORD:${COMP_WORDS[1]}:${COMP_WORDS[COMP_CWORD - 1]}:$word in
         1:*:-*) words='--help --version' ;;
         1:* | 2:help:*) words=$commands ;;
         *:help:* | *:-*:*:*) ;;
 %s
         *)
-            compopt -o filenames
-            mapfile -t COMPREPLY < <(compgen -f -- "$word")
+            compopt -o default
             return
             ;;
     esac
