@@ -177,11 +177,13 @@ def test_uninstall_ended(cadf, tmp_path):
 
 def test_install_ended(cadf, tmp_path):
     """What an install that ends before it is done has made is removed like the rest, folders too."""
-    of_another = tmp_path / "share" / "man" / "man1" / "cadf.1.new"
-    of_another.mkdir(parents=True)
+    in_the_way = tmp_path / "share" / "man" / "man1" / "cadf.1"
+    in_the_way.mkdir(parents=True)
     assert ended(INSTALL, ["--any", tmp_path]).status == 1
-    subprocess.run([INSTALL, "--uninstall", tmp_path], check=True, stdout=subprocess.DEVNULL)
-    assert sorted(tmp_path.rglob("*")) == sorted([*list(of_another.parents)[:3], of_another])
+    in_the_way.rmdir()
+    count = sum(path.is_file() for path in tmp_path.rglob("*"))
+    assert ended(INSTALL, ["--uninstall", tmp_path]).output.decode() == "removed %d files under %s\n" % (count, tmp_path)
+    assert sorted(tmp_path.rglob("*")) == sorted(list(in_the_way.parents)[:3])
 
 
 def test_uninstall_of_links(cadf, tmp_path):
@@ -204,6 +206,13 @@ def test_umask(cadf, tmp_path, mask):
         made = [tmp_path / first, *(tmp_path / first).rglob("*")]
         assert {path.stat().st_mode & 0o777 for path in made} <= {0o755, 0o644}
     assert there.stat().st_mode & 0o777 == 0o700
+
+
+def test_advice(cadf, tmp_path):
+    """What install/install says is to be done can be pasted into a shell, also where the prefix has a blank."""
+    said = subprocess.run([INSTALL, "--any", tmp_path / "a $(b)'"], check=True, stdout=subprocess.PIPE).stdout.decode()
+    line = re.search(r"(?m)^put it on the path: (.*)$", said)[1]
+    assert ended("sh", ["-c", line + "; command -v cadf"]).output.decode() == "%s\n" % (tmp_path / "a $(b)'" / "bin" / "cadf")
 
 
 def test_staged(cadf, prefix, tmp_path):
