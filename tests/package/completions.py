@@ -54,12 +54,13 @@ INSERTED = [
 ] + [(name + " --", [name, "--help", *("--" + word.name for word in options(name))]) for name in WORDS]
 CASES = [(typed, COMPLETE, words) for typed, words in COMPLETED] + [(typed, INSERT_ALL, words) for typed, words in INSERTED]
 
-# How each shell is started in a folder, with what it reads first. The command becomes a function that writes its words.
+# How each shell is started in a folder, with what it reads first. The command becomes a function that writes its words. Users
+# of bash change IFS.
 BASH = """
 bind '"\\C-x*": insert-completions'
 cadf() { printf '%%s\\0' "$@" >../answer.new; mv ../answer.new ../answer; }
 . '%s'
-PS1=
+PS1= IFS=$'\\n'
 : >../ready
 """
 ZSH = """

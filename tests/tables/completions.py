@@ -33,7 +33,7 @@ BASH = """\
 # Completion of cadf's words for bash. `python3 -m tests.tables.make` makes it of the words of cadf itself.
 _cadf() {
     local commands='%s help'
-    local word=${COMP_WORDS[COMP_CWORD]} words=''
+    local word=${COMP_WORDS[COMP_CWORD]} words='' IFS=' '
     [[ $word = -* && " ${COMP_WORDS[*]:1:COMP_CWORD - 1} " = *' -- '* ]] && compopt -o default && return
     case $COMP_CWORD:${COMP_WORDS[1]}:${COMP_WORDS[COMP_CWORD - 1]}:$word in
         1:*:-*) words='--help --version' ;;
