@@ -230,11 +230,13 @@ def test_staged(cadf, prefix, tmp_path):
 
 
 def test_first_look(tmp_path):
-    """build/try runs the toolchain in the command's crate, on the files that are named from where it is called."""
+    """build/try runs the toolchain in the command's crate, on the files that are named from where it is called, also by a link."""
     rt = tmp_path / "rt"
     rt.write_text('#!/bin/sh\npwd -P\nprintf "%s\\n" "$@"\n')
     rt.chmod(0o755)
-    done = ended(os.path.join(TOP, "build", "try"), ["show", "examples/nova-audit.json"], cwd=TOP,
+    (tmp_path / "try").symlink_to(os.path.join(TOP, "build", "try"))
+    for name in ("show", "a b.json"):
+        (tmp_path / name).write_text("x")
+    done = ended(tmp_path / "try", ["show", "a b.json"], cwd=tmp_path,
                  env={**os.environ, "PATH": "%s%s%s" % (tmp_path, os.pathsep, os.environ["PATH"])})
-    top = os.path.realpath(TOP)
-    assert done.output.decode().splitlines() == [top + "/crates/cadf", "try", "--", "show", top + "/examples/nova-audit.json"]
+    assert done.output.decode().splitlines() == [os.path.realpath(TOP) + "/crates/cadf", "try", "--", "show", str(tmp_path / "a b.json")]
