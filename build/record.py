@@ -6,6 +6,7 @@ the kit, and the verdict on each crate.
 import hashlib
 import os
 import subprocess
+import sys
 
 PROGRAM = "cadf"
 DEFAULT_PROCESSOR = "x86-64-v2"
@@ -25,18 +26,26 @@ def path(top):
 
 
 def answer(words, top):
-    """What a command prints, without the last line feed; empty where it fails."""
-    ran = subprocess.run(words, cwd=top, stdin=subprocess.DEVNULL, stdout=subprocess.PIPE, stderr=subprocess.DEVNULL, check=False)
+    """What a command prints, without the last line feed; empty where it fails, or isn't there."""
+    try:
+        ran = subprocess.run(words, cwd=top, stdin=subprocess.DEVNULL, stdout=subprocess.PIPE, stderr=subprocess.DEVNULL, check=False)
+    except FileNotFoundError:
+        return ""
     return ran.stdout.decode("utf-8", "replace").rstrip("\n") if ran.returncode == 0 else ""
 
 
+def of_kit(word, top):
+    """What the kit answers. SystemExit: it isn't there."""
+    return answer(["rt", word], top) or sys.exit("`rt %s` answers nothing: the kit isn't on PATH" % word)
+
+
 def kit(top):
-    return answer(["rt", "version"], top)
+    return of_kit("version", top)
 
 
 def kit_folder(top):
     """The kit's folder: its first page is there."""
-    return os.path.dirname(answer(["rt", "doc"], top))
+    return os.path.dirname(of_kit("doc", top))
 
 
 def commit(top):

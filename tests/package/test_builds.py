@@ -4,12 +4,14 @@ import os
 import shutil
 import signal
 import subprocess
+import sys
 import time
 
 import pytest
 
 from build.proving import JOB_MEMORY, PROOF_MEMORY, free_memory
 from tests import TOP
+from tests.machine import ended
 
 pytestmark = pytest.mark.needs("git")
 
@@ -204,6 +206,15 @@ def test_changed_uses(built):
 def test_other_kit(built):
     """Another kit proves everything again."""
     assert (built.build(VERSION="another")[0], sorted(built.begun())) == (0, sorted(CRATES))
+
+
+def test_no_kit(tree):
+    """Without the kit it says so in one line, and so does the first look."""
+    os.mkdir(tree.path("bin"))
+    os.symlink(sys.executable, tree.path("bin", "python3"))
+    assert tree.build(PATH=tree.path("bin")) == (1, "`rt version` answers nothing: the kit isn't on PATH\n")
+    done = ended(tree.path("build", "try"), ["show"], env={"PATH": tree.path("bin")})
+    assert (done.status, done.error) == (1, b"try: the kit isn't on PATH: rt: No such file or directory\n")
 
 
 def test_changed_below(built):
