@@ -282,7 +282,9 @@ def test_faults(reports):
     absent = "cadf-report: /absent/cadf: No such file or directory: name the command by CADF, or put it on PATH"
     assert reports.answer("both", env={"CADF": "/absent/cadf"}) == (3, b"", [absent])
     assert reports.answer("both", env={"CADF": "true"})[0] == 3
-    for words in ([], ["--lo", "g", "both"], ["--from", "yesterday", "both"], ["--until", "2024-02-30", "both"], ["--from", "0000-01-01", "both"]):
+    no_times = ["yesterday", "2024-02-30", "0000-01-01", "2024-03-01T24:00", "2024-03-01T12:60", "2024-03-01T12:00:60Z",
+                "2024-03-01T12:00+14:01", "2024-03-01T12:00-02:60", "2024-03-01T12:00+15:00"]
+    for words in ([], ["--lo", "g", "both"], *(["--from", text, "both"] for text in no_times)):
         status, output, said = reports.answer(*words)
         assert (status, output) == (2, b""), "usage %s" % words
         assert said[-1].startswith("cadf-report: error: "), "usage %s" % words
