@@ -53,6 +53,16 @@ def test_times(opened):
     assert shown_times(tried) == wanted[:2] + [CONFLICTED[1]] * 2 + wanted[2:]
 
 
+@pytest.mark.parametrize("year", ["2024", "9998"])
+def test_late_fraction(opened, year):
+    """The last nanosecond of a second is in that second."""
+    time = year + "-03-01T12:00:00.999999999Z"
+    tried = opened("late" + year, {"id": "g", "events": [dict(EVENT, id="e", eventTime=time)]})
+    assert shown_times(tried) == [time.replace("T", " ")[:-1]]
+    tried.one("#until").send_keys(year + "-03-01 12:00:01", "\ue004")
+    assert shown_times(tried) == [time.replace("T", " ")[:-1]]
+
+
 def test_range(opened):
     """A range has the events from an instant on until before another, by UTC."""
     tried = opened("range", document())

@@ -46,11 +46,11 @@ const columns = {action: new Column(), outcome: new Column(), initiator: new Col
 const times = new Float64Array(events.length);
 const outcomes = new Uint8Array(events.length);
 
-/** Reads a time: its instant in milliseconds since 1970. */
+/** Reads a time: its instant in milliseconds since 1970, that of a late fraction as the last 1/32 before the next second. */
 function instant(time) {
   const [, fraction, sign, hours, minutes] = /^.{19}(\.\d+)?(?:Z|([+-])(\d\d):(\d\d))$/.exec(time);
   const offset = sign ? (sign === "-" ? -1 : 1) * (Number(hours) * 60 + Number(minutes)) : 0;
-  return Date.parse(time.slice(0, 19) + "Z") + Number(fraction || 0) * 1000 - offset * 60000;
+  return Date.parse(time.slice(0, 19) + "Z") - offset * 60000 + Math.min(Number(fraction || 0) * 1000, 1000 - 1 / 32);
 }
 
 /** Writes an instant for reading, as exactly as its event has it. */
