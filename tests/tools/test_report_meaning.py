@@ -71,6 +71,15 @@ def test_range(opened):
     assert shown_times(tried) == [shown for _, shown in TIMES[1:3]]
 
 
+@pytest.mark.parametrize("typed", ["5", "2", "2024-02-30", "2024-02-29 24:00", "2024-3-1"])
+def test_no_time(opened, typed):
+    """What is no time is marked, and no other time is taken for it."""
+    tried = opened("typed", document())
+    tried.one("#until").send_keys(typed, "\ue004")
+    assert tried.one("#until").get_attribute("aria-invalid") == "true"
+    assert shown_times(tried) == [shown for _, shown in TIMES]
+
+
 def test_columns(opened):
     """Each column sorts by its own texts, and filters by them."""
     tried = opened("columns", document())

@@ -181,8 +181,9 @@ function typedRange() {
   const read = (name, none) => {
     const typed = id(name).value.trim();
     const time = Date.parse(/^\d{4}-\d\d-\d\d$/.test(typed) ? typed + "T00:00Z" : typed.replace(" ", "T").replace(/Z?$/, "Z"));
-    id(name).setAttribute("aria-invalid", typed !== "" && Number.isNaN(time));
-    return typed === "" || Number.isNaN(time) ? none : time;
+    const isTime = /^\d{4}/.test(typed) && stamp(time).startsWith(typed.slice(0, 10));   // a browser takes "5", and a 30th of February
+    id(name).setAttribute("aria-invalid", typed !== "" && !isTime);
+    return isTime ? time : none;
   };
   Object.assign(chosen, {from: read("from", -Infinity), until: read("until", Infinity)});
   timeline.anchor = timeline.cursor = null;
