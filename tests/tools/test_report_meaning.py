@@ -116,6 +116,15 @@ def test_sides(place, driver):
     assert listed == [["these files lack", "event", "e%d" % at] for at in (1, 2, 3)]
 
 
+def test_whole_values(place, driver):
+    """A text differs from an object whose member has that text, whatever name the member has."""
+    files = [place.file("whole%d.json" % at, {"id": "g", "events": [], "p": value}) for at, value in enumerate(["x", {"value": "x"}])]
+    tried = Tried(driver, place.page("whole", *files)).ready()
+    tried.show("conflicts")
+    assert tried.texts("#panel-conflicts article .compare thead ~ tbody td") == ['"x"', "absent", "absent", '"x"']
+    assert tried.texts("#panel-conflicts article p.minor")[0] == "2 values differ in 2 paths"
+
+
 @pytest.fixture
 def four(place):
     """A file in which an event has four values, and another one value."""

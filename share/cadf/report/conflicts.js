@@ -25,10 +25,10 @@ function stepped(path, name) {
   return /^[\w:-]+$/.test(name) ? (path ? path + "." : "") + name : `${path}[${JSON.stringify(name)}]`;
 }
 
-/** Lists a value's leaves by their paths. */
+/** Lists a value's leaves by their paths: the empty path is that of the value itself. */
 function leaves(cell, path = "", found = new Map(), skipped = new Set()) {
   const inside = entries(cell).filter(([name]) => !skipped.has(name));
-  if (!inside.length) found.set(path || "value", text(cell));
+  if (!inside.length) found.set(path, text(cell));
   for (const [name, part] of inside) {
     leaves(part, stepped(path, name), found);
   }
@@ -91,7 +91,7 @@ function comparison(path, flat, differs) {
     if (!each.has(path)) return make("td", {class: "absent"}, "absent");
     return many ? putMarked(make("td"), each.get(path), front, back) : put(make("td"), cut(each.get(path), 2000));
   };
-  return make("tr", {class: differs ? "differs" : ""}, put(make("th", {scope: "row"}), cut(path, 600)), ...flat.map(cell));
+  return make("tr", {class: differs ? "differs" : ""}, put(make("th", {scope: "row"}), cut(path || "value", 600)), ...flat.map(cell));
 }
 
 /* ---- Choices. ---- */
