@@ -125,6 +125,17 @@ def test_whole_values(place, driver):
     assert tried.texts("#panel-conflicts article p.minor")[0] == "2 values differ in 2 paths"
 
 
+def test_many_members(place, driver):
+    """A thousand values, each with a member of its own, are compared in as many steps as they have members, and not for each two."""
+    files = [place.file("member%d.json" % at, {"id": "g", "events": [], "p": {"m%d" % at: 1, "n": 1}}) for at in range(1000)]
+    tried = Tried(driver, place.page("members", *files)).ready()
+    tried.js("const get = Map.prototype.get; window.steps = 0; Map.prototype.get = function (key) { steps++; return get.call(this, key); }")
+    tried.show("conflicts")
+    assert tried.texts("#panel-conflicts article p.minor")[0] == "1,000 values differ in 1,000 paths"
+    assert tried.texts("#panel-conflicts article summary") == ["1 path is the same; values in full, and commands"]
+    assert tried.js("return steps") < 100000
+
+
 @pytest.fixture
 def four(place):
     """A file in which an event has four values, and another one value."""

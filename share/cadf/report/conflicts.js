@@ -38,8 +38,9 @@ function leaves(cell, path = "", found = new Map(), skipped = new Set()) {
 /** Compares values path by path: those that differ, and those that are the same in all. */
 function compared(values, isEvent) {
   const flat = values.map(({value}) => leaves(value, "", new Map(), isEvent ? BESIDE : new Set()));
-  const paths = [...new Set(flat.flatMap(each => [...each.keys()]))].sort();
-  const same = path => flat.every(each => each.get(path) === flat[0].get(path));
+  const counts = new Map();   // of each path, how many values have there what the first has
+  for (const each of flat) for (const [path, string] of each) counts.set(path, (counts.get(path) || 0) + Number(string === flat[0].get(path)));
+  const paths = [...counts.keys()].sort(), same = path => counts.get(path) === flat.length;
   return {flat, differing: paths.filter(path => !same(path)), equal: paths.filter(same)};
 }
 
