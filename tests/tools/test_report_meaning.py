@@ -136,6 +136,16 @@ def test_many_members(place, driver):
     assert tried.js("return steps") < 100000
 
 
+def test_last_value(place, driver):
+    """A group names all paths in which its conflicts differ, also where the last of many values alone differs."""
+    values = [{"n": at} for at in range(30)] + [{"n": 99, "z": 1}]
+    files = [place.file("last%d.json" % at, {"id": "g", "events": [], "p": value}) for at, value in enumerate(values)]
+    tried = Tried(driver, place.page("last", *files)).ready()
+    tried.show("conflicts")
+    assert tried.texts(".patterns button code") == ["n", "z"]
+    assert "z is 1 (1)" in tried.texts("#panel-conflicts option")
+
+
 @pytest.fixture
 def four(place):
     """A file in which an event has four values, and another one value."""

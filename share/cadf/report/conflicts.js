@@ -130,7 +130,8 @@ function saveChoices() {
 
 /** Names what tells a conflict's values apart: what they have at the paths at which they differ, and who reported them. */
 function tellings(at) {
-  const named = paths[at].map(path => [path, valuesOf(at).map(({value}) => told(value, path))]);
+  const count = valuesOf(at).length, some = paths[at].slice(0, Math.max(20, Math.floor(20000 / count)));   // so many values may part in as many paths
+  const named = some.map(path => [path, valuesOf(at).map(({value}) => told(value, path))]);
   const found = valuesOf(at).map((_, index) => new Map(named.map(([path, values]) => [JSON.stringify([path, values[index]]), [pathText(path), values[index]]])));
   if (kindOf(at) === "E") valuesOf(at).forEach(({value}, index) => {
     for (const step of chainsOf(value).flatMap(parts)) {
@@ -284,11 +285,16 @@ function conflictCard(at) {
 function parting(cells, path, found, skipped = new Set()) {
   if (cells.every(cell => cell === cells[0])) return found;
   if (!cells.every(isObject)) {
-    if (cells.some(cell => cell === undefined || text(cell) !== text(cells[0]))) found.push(path);
+    if (cells.some(cell => text(cell) !== text(cells[0]))) found.push(path);
     return found;
   }
-  const names = new Set(cells.flatMap(cell => data.shapes[real(cell)[0] - 1]));
-  for (const name of [...names].sort()) if (!skipped.has(name)) parting(cells.map(cell => member(cell, name)), [...path, name], found);
+  const held = new Map();   // what the values have of each name
+  for (const [name, part] of cells.flatMap(entries)) held.has(name) ? held.get(name).push(part) : held.set(name, [part]);
+  for (const name of [...held.keys()].sort()) {
+    if (skipped.has(name)) continue;
+    if (held.get(name).length < cells.length) found.push([...path, name]);
+    else parting(held.get(name), [...path, name], found);
+  }
   return found;
 }
 
@@ -297,7 +303,7 @@ let paths = [];   // of each conflict, when they are first shown
 
 /** Finds of each conflict the paths at which its values part. */
 function findPaths() {
-  paths = conflicts.map((_, at) => parting(valuesOf(at).slice(0, 20).map(({value}) => value), [], [], kindOf(at) === "E" ? BESIDE : undefined));
+  paths = conflicts.map((_, at) => parting(valuesOf(at).map(({value}) => value), [], [], kindOf(at) === "E" ? BESIDE : undefined));
 }
 
 /** Groups conflicts by the paths at which their values part. */
