@@ -146,6 +146,21 @@ def test_last_value(place, driver):
     assert "z is 1 (1)" in tried.texts("#panel-conflicts option")
 
 
+def test_many_rulings(place, driver):
+    """Each of more than a thousand rulings is on some page of their table."""
+    keys = ["k%04d" % at for at in range(1001)]
+    joined = place.file("bodies", place.run("cadf", "join", place.file("bodies.json", {"id": "g", "events": [dict(EVENT, id=key, name=name) for key in keys for name in "ab"]})))
+    listed = place.run("bash", "-c", "cadf-conflicts bodies || [ $? = 5 ]").decode().splitlines(keepends=True)
+    place.file("every", "".join(line for line in listed if re.match('E "[^"]*" 1 ', line)).encode())
+    ruled = place.file("every.cadf", place.run("cadf-conflicts", "--rule", "every", "bodies"))
+    tried = Tried(driver, place.page("rulings", joined, ruled)).ready()
+    tried.show("conflicts")
+    rows = "return [...document.querySelectorAll('#panel-conflicts table.pairs tbody td.party')].map(each => each.innerText)"
+    assert tried.js(rows) == keys[:50]
+    tried.js("document.querySelector('#panel-conflicts section button[aria-label=\"Last page\"]').click()")
+    assert tried.js(rows) == keys[1000:]
+
+
 @pytest.fixture
 def four(place):
     """A file in which an event has four values, and another one value."""

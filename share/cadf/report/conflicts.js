@@ -342,14 +342,16 @@ const STATES = {
   idle: "has no effect yet: the key has this value alone",
 };
 
-/** Makes the table of rulings. */
+/** Makes the table of rulings, some at a time. */
 function rulingTable() {
-  const rows = rulings.slice(0, 1000).map((ruling, at) => {
+  const body = make("tbody"), top = make("div", {class: "pages"});
+  const list = paged(50, top, body, ([ruling, state]) => {
     const [kind, key, digest] = parts(ruling).map(plain);
-    return make("tr", {}, make("td", {}, KINDS[kind]), put(make("td", {class: "party"}), key), make("td", {}, make("code", {}, digest)), make("td", {}, STATES[data.states[at]]));
+    return make("tr", {}, make("td", {}, KINDS[kind]), put(make("td", {class: "party"}), key), make("td", {}, make("code", {}, digest)), make("td", {}, STATES[state]));
   });
   const heads = heading(["Kind", "Key", "SHA-256 of the value", "What it does"]);
-  return titled(`Rulings: ${counted(rulings.length)}`, make("div", {class: "scroll"}, make("table", {class: "pairs"}, heads, make("tbody", {}, ...rows))));
+  list(rulings.map((ruling, at) => [ruling, data.states[at]]));
+  return titled(`Rulings: ${counted(rulings.length)}`, ...(rulings.length > 50 ? [top] : []), make("div", {class: "scroll"}, make("table", {class: "pairs"}, heads, body)));
 }
 
 /** Lists conflicts by group and search, with what chooses among their values. */
