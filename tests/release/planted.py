@@ -119,7 +119,7 @@ ROWS = [
     Row("report: ten million events", "tools/cadf-report", "MOST_EVENTS = 1000000", "MOST_EVENTS = 10000000", REPORTS + "test_most_events"),
     Row("report: a hangup is no end", "share/cadf/cadf_toolkit.py", "STOPPING = (signal.SIGHUP, ", "STOPPING = (", TURNS + "test_asked"),
     Row("page: sign of offsets", PAGE + "filters.js", '(sign === "-" ? -1 : 1)', '(sign === "-" ? 1 : -1)', MEANING + "test_times"),
-    Row("page: fractions lost", PAGE + "filters.js", " + Number(fraction || 0) * 1000 - offset", " - offset", MEANING + "test_times"),
+    Row("page: fractions lost", PAGE + "filters.js", "Number(fraction || 0) * 1000", "0", MEANING + "test_times"),
     Row("page: seconds rounded", PAGE + "filters.js", "Math.floor(times[event] / 1000)", "Math.round(times[event] / 1000)", MEANING + "test_times"),
     Row("page: sorts targets by initiators", PAGE + "filters.js", "ranks = columns[chosen.sort].ranks()", 'ranks = columns[chosen.sort === "target" ? "initiator" : chosen.sort].ranks()', MEANING + "test_columns"),
     Row("page: no filter of observers", PAGE + "filters.js", 'passes(columns[name], chosen[name] || "")', 'passes(columns[name], name === "observer" ? "" : chosen[name] || "")', MEANING + "test_columns"),
