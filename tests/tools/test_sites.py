@@ -155,6 +155,14 @@ def test_many_values(sites):
     assert len(lines) == 1 + 66 + 64 and lines[2:130:2] == ["#   all of it: %d" % (100 + number) for number in range(64)]
 
 
+def test_values_that_differ_late(sites):
+    """Long texts are shown from shortly before the place where they differ; one beside none is shown from its beginning."""
+    same = "x" * 2000
+    lines = shown_of(sites, {"a": same + "a"}, {"a": same + "b" + same, "b": same})
+    assert sorted(line for line in lines if line.startswith("#   ")) == [
+        '#   /a: ..%sa"' % same[:64], "#   /a: ..%sb%s.." % (same[:64], same[:935]), '#   /b: "%s..' % same[:999], "#   /b: absent"]
+
+
 def test_values_of_each_kind(sites):
     """Members of each kind, and where one value has parts and another none."""
     lines = shown_of(sites, {}, {"a": []}, {"a": [7, {"b": "é\u009b"}], "c": {}}, {"a": {"k": 7}, "c": {}})
