@@ -9,7 +9,7 @@
 An input is a replica file, a log document or one event, as bytes or as a text. A `str` is always a text and never a path.
 Each function returns what the command of its name writes, and raises a CadfError where the command refuses: Refused for an
 input, WrongArgument for another argument, OutOfMemory. What is no input at all is a TypeError. The first call raises
-ImportError if there is no library.
+ImportError if there is no library, or one that lacks a function.
 
 A call releases the interpreter's lock while it works, and any number of threads may call. Don't call in the forked child of
 a process that has threads: start multiprocessing's workers by `spawn` or `forkserver`.

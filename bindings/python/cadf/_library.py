@@ -45,15 +45,14 @@ def find(package: str = os.path.dirname(os.path.abspath(__file__))) -> str:
 
 
 def load(path: Optional[str] = None) -> ctypes.CDLL:
-    """Loads the library and declares its functions. ImportError: there is none, in one line that says what to do."""
-    path = path or find()
+    """Loads the library and declares its functions. ImportError: there is none with all of them, in one line that says what to do."""
     try:
-        library = ctypes.CDLL(path)
-    except OSError as error:
+        library = ctypes.CDLL(path or find())
+        for name, arguments in FUNCTIONS.items():
+            function = getattr(library, "cadf_" + name)
+            function.argtypes, function.restype = [*arguments, *OUTPUT], ctypes.c_int
+        library.cadf_version.argtypes, library.cadf_version.restype = [], ctypes.c_uint32
+    except (OSError, AttributeError) as error:
         raise ImportError("cadf: no library (%s): install it (build/library, install/install), or name it in the variable %s"
                           % (error, VARIABLE)) from None
-    for name, arguments in FUNCTIONS.items():
-        function = getattr(library, "cadf_" + name)
-        function.argtypes, function.restype = [*arguments, *OUTPUT], ctypes.c_int
-    library.cadf_version.argtypes, library.cadf_version.restype = [], ctypes.c_uint32
     return library

@@ -47,6 +47,12 @@ class Library(unittest.TestCase):
         self.assertIn(_library.VARIABLE, str(caught.exception))
         self.assertNotIn("\n", str(caught.exception))
 
+    def test_that_lacks_a_function_is_told_so_too(self):
+        with self.assertRaises(ImportError) as caught:
+            _library.load("libc.so.6")
+        self.assertIn("cadf_show", str(caught.exception))
+        self.assertIn(_library.VARIABLE, str(caught.exception))
+
 
 def plant_above(package, top):
     """Puts an empty library into each folder above the package up to that one, and into its `lib`. Returns their places."""
