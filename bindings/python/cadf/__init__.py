@@ -27,7 +27,7 @@ __all__ = ["CadfError", "Check", "OutOfMemory", "Refused", "WrongArgument", "che
 
 Input = Union[bytes, bytearray, memoryview, str]
 
-_PLACED = re.compile(r"(?:input (\d+): )?(?:(.*): )?.*", re.DOTALL)
+_PLACED = re.compile(r"(?:input (\d+): )?([a-z]+ \d+)?")
 _CHECKED = re.compile(rb"ok (.*) atoms (\d+) conflicts (\d+)\n", re.DOTALL)
 # What a call is given room for at first, beyond twice the size of its inputs.
 _ROOM = 4096
@@ -42,8 +42,8 @@ class CadfError(Exception):
     """Why a call made nothing: the command's line on standard error, without `cadf: `.
 
     `status` is the exit status of the command, for which each class derived from this one stands. `input` is the number of
-    the refused input, from 1, and `place` is where in it, as `line 5`, `event 2` or `fact 3`; each is None if the text names
-    none.
+    the refused input, from 1, and `place` is where in it, as `line 5`, `event 2`, `property 1` or `fact 3`; each is None if the
+    text names none.
     """
 
     status: int

@@ -79,7 +79,8 @@ class Errors(unittest.TestCase):
     def test_name_the_input_and_the_place(self):
         for text, number, place in (
                 ("input 2: line 5: shape", 2, "line 5"), ("input 1: not JSON", 1, None), ("line 3: script", None, "line 3"),
-                ("no log named", None, None), ("input 12: event 3: step 2: role", 12, "event 3: step 2")):
+                ("no log named", None, None), ("input 12: event 3: chain 0 step 2", 12, "event 3"), ("fact 1: present", None, "fact 1"),
+                ("input 1: property 3", 1, "property 3"), ("input 2: too few cells: ask for 36", 2, None)):
             error = cadf.Refused(text)
             self.assertEqual((error.input, error.place, error.text, str(error)), (number, place, text, text))
 
