@@ -92,10 +92,13 @@ def _of(value: Input) -> bytes:
 
     Half of a surrogate pair becomes bytes that are no UTF-8, which the library refuses in its words.
     """
-    if isinstance(value, str):
-        return str.encode(value, "utf-8", "surrogatepass")
-    if isinstance(value, (bytes, bytearray, memoryview)):
-        return memoryview(value).tobytes()
+    try:
+        if isinstance(value, str):
+            return str.encode(value, "utf-8", "surrogatepass")
+        if isinstance(value, (bytes, bytearray, memoryview)):
+            return memoryview(value).tobytes()
+    except MemoryError:
+        raise OutOfMemory(_NO_MEMORY) from None
     raise TypeError("an input is bytes or a text, not %s" % type(value).__name__)
 
 
@@ -130,16 +133,16 @@ def _call(name: str, room: int, *arguments: Any) -> bytes:
     The library writes into the bytes that are returned. They are copied only where there was more room.
     """
     function, length = getattr(_functions(), "cadf_" + name), ctypes.c_size_t()
-    while True:
-        try:
+    try:
+        while True:
             text: bytes = _new_bytes(None, min(room, sys.maxsize))
-        except (MemoryError, OverflowError):
-            raise OutOfMemory(_NO_MEMORY) from None
-        status = function(*arguments, text, room, ctypes.byref(length))
-        if length.value <= room:
-            break
-        room = length.value
-    text = text[:length.value]
+            status = function(*arguments, text, room, ctypes.byref(length))
+            if length.value <= room:
+                break
+            room = length.value
+        text = text[:length.value]
+    except (MemoryError, OverflowError):
+        raise OutOfMemory(_NO_MEMORY) from None
     if status:
         raise _ERRORS[status](text.decode("utf-8", "replace") or _NO_MEMORY)
     return text

@@ -155,6 +155,24 @@ class Sizes(unittest.TestCase):
                 cadf.show("{}")
             self.assertEqual((caught.exception.status, caught.exception.text), (4, "out of memory"))
 
+    def test_of_inputs_that_no_memory_has_are_out_of_memory(self):
+        byte = ctypes.c_char()
+        value = memoryview((ctypes.c_char * 2 ** 62).from_address(ctypes.addressof(byte)))  # refused before a byte is read
+        with self.assertRaises(cadf.OutOfMemory):
+            cadf.show(value)
+
+    def test_of_a_text_without_memory_for_its_copy_are_out_of_memory(self):
+        with mock.patch.object(cadf, "_loaded", Fake(b"a")), mock.patch.object(cadf, "_new_bytes", lambda _, size: Uncopied(size)):
+            with self.assertRaises(cadf.OutOfMemory):
+                cadf.show("{}")
+
+
+class Uncopied(bytes):
+    """Bytes of which no part can be copied."""
+
+    def __getitem__(self, _):
+        raise MemoryError
+
 
 class LongBytes(bytes):
     """Bytes that tell a length that they don't have."""
