@@ -298,8 +298,8 @@ def rule(letter: str, key: str, place: int, value: Input) -> bytes:
     `letter` is E for an event, R for a resource, G for a geolocation, M for a metric, P for a property. Refused: the input is
     refused, or has no such value. WrongArgument: `letter`, `key` or `place` is none. OutOfMemory.
     """
-    texts = _of(key), _of(value)
-    number = ord(letter) if len(letter) == 1 and ord(letter) < 256 else 0
+    kind, texts = _of(letter), (_of(key), _of(value))
+    number = kind[0] if len(kind) == 1 else 0
     return _call("rule", _room(texts[1]), number, _given(texts[0]), _whole(place, "place"), _given(texts[1]))
 
 

@@ -239,6 +239,9 @@ class Calls(unittest.TestCase):
         for wrong in ("1", 1.0, True):
             with mock.patch.object(cadf, "_loaded", Fake(b"")), self.assertRaises(TypeError):
                 cadf.rule("E", "k", wrong, "{}")
+        for wrong in (None, [], 69, {"E": 1}):
+            with mock.patch.object(cadf, "_loaded", Fake(b"letter", 2)), self.assertRaisesRegex(TypeError, "^an input is"):
+                cadf.rule(wrong, "k", 1, "{}")
 
 
 class Wheel(unittest.TestCase):
