@@ -139,7 +139,7 @@ def _call(name: str, room: int, *arguments: Any) -> bytes:
             status = function(*arguments, text, room, ctypes.byref(length))
             if length.value <= room:
                 break
-            room = length.value
+            room, text = length.value, b""
         text = text[:length.value]
     except (MemoryError, OverflowError):
         raise OutOfMemory(_NO_MEMORY) from None

@@ -216,6 +216,22 @@ class Calls(unittest.TestCase):
                 self.assertEqual(cadf.show(b"a"), fake.text)
             self.assertEqual(len(fake.rooms), rooms)
 
+    def test_have_one_buffer_at_a_time(self):
+        given, freed = [], []
+
+        class Buffer(bytes):
+            def __del__(self):
+                freed.append(len(self))
+
+        def new_bytes(_, size):
+            given.append(size)
+            self.assertEqual(freed, given[:-1])
+            return Buffer(size)
+
+        with mock.patch.object(cadf, "_loaded", Fake(b"x" * 100000)), mock.patch.object(cadf, "_new_bytes", new_bytes):
+            self.assertEqual(cadf.show(b"a"), b"x" * 100000)
+        self.assertEqual(given, [4096 + 2, 100000])
+
     def test_raise_what_is_refused(self):
         for text, status, kinds in (
                 (b"input 1: not JSON", 1, (cadf.Refused, cadf.CadfError)), (b"letter", 2, (cadf.WrongArgument, ValueError)),
