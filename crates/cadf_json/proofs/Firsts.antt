@@ -1,12 +1,13 @@
 -- The first of several values: how many nodes it has.
 use Rattle.std.proofs.Common.{◌≡◌, ℕ, suc, ◌+◌, ◌-◌, ◌<◌, List, [], ◌∷◌, ◌++◌, length, take, drop, refl, sym, ap, ap₂, ◌∙◌, subst, arith, inl, inr, append-nil, length-append, take_all}
 use Rattle.std.proofs.Math.Seq.{take-append_seam, drop-append_seam}
-use Rattle.serde_json.specs.Data.{Num, Data, null, boolean, number, string, array, object, Members, no_members, member}
+use Rattle.std.specs.Prelude.{slice_index_or}
+use Rattle.serde_json.specs.Data.{Num, Data, null, boolean, number, string, array, object, Items, no_items, item, Members, no_members, member}
 use Rattle.cadf_json.specs.declared.node.Node.{Node}
 use Rattle.cadf_json.specs.declared.node.Node.TheVariants.{Null, Bool as Truth, Whole, Fraction, Text, Array, Object}
 use Rattle.cadf_json.specs.declared.node.Place.{Place}
 use Rattle.cadf_json.specs.declared.walk.FirstMember.{FirstMember}
-use Rattle.cadf_json.specs.Flat.{size_of, IsTextAt, NumberStands, Stands, MembersStand, text_at}
+use Rattle.cadf_json.specs.Flat.{size_of, IsTextAt, NumberStands, Stands, ItemsStand, MembersStand, text_at}
 use Rattle.cadf_json.specs.Reading.{IsFirstMember}
 
 -- a value begins with a node that says how many it has
@@ -30,6 +31,34 @@ begins t (number n) xs h = number_begins t n xs h
 begins t (string s) xs (p, (is, at)) = begins_with xs [] (Text p) is refl
 begins t (array ds) xs (e, (ys, (is, extent, h))) = begins_with xs ys (Array e) is extent.0
 begins t (object ms) xs (e, (ys, (is, extent, h))) = begins_with xs ys (Object e) is extent.0
+
+-- the first item of those at the nodes, of n nodes
+pub record FirstItem (t : List ℕ) (rest : List Node) (n : ℕ) (left : Items) : Type 0 where
+  pub value : Data
+  pub later : Items
+  pub is : left ≡ item value later
+  pub some : 0 < n
+  pub within : n ≤ length rest
+  pub stands : Stands t value (take n rest)
+  pub left_stand : ItemsStand t later (drop n rest)
+
+pub first_item : (t : List ℕ) (rest : List Node) (n : ℕ) (left : Items) → 0 < length rest → ItemsStand t left rest
+    → n ≡ size_of (slice_index_or rest 0 Null) → FirstItem t rest n left
+first_item t rest n no_items some h size = let none = ap length h in absurd (omega (arith, some, none))
+first_item t rest n (item d later) some (ys, (zs, (is, h, k))) size =
+    let b = begins t d ys h in
+    let is_n : n ≡ length ys = size ∙ ap (λ xs. size_of (slice_index_or xs 0 Null)) (is ∙ ap (λ xs. xs ++ zs) b.is) ∙ b.size in
+    let long = ap length is ∙ length-append ys zs in
+    let one = ap length b.is in
+    record {
+      value = d;
+      later = later;
+      is = refl;
+      some = omega (arith, is_n, one);
+      within = omega (arith, is_n, long);
+      stands = subst (Stands t d) (sym (ap₂ take is_n is ∙ take-append_seam ys zs)) h;
+      left_stand = subst (ItemsStand t later) (sym (ap₂ drop is_n is ∙ drop-append_seam ys zs)) k;
+    }
 
 -- nodes that are left have a first member
 pub some_member : (t : List ℕ) (rest : List Node) (left : Members) → 0 < length rest → MembersStand t left rest
@@ -86,4 +115,5 @@ first_of t nodes k d ms f n o sized named whole valued left =
       value = subst (Stands t d) (sym value) o.value;
       rest = subst (MembersStand t ms) (sym rest) o.rest;
       shorter = omega (arith, fewer, long);
+      within = let lead_long = ap length one in omega (arith, lead_long, long);
     }

@@ -1,5 +1,5 @@
 -- The loops of the descent: items and members, appended as they are read.
-use Rattle.std.proofs.Common.{◌≡◌, ℕ, zero, suc, ◌+◌, ◌-◌, ◌<◌, ◌≤◌, List, [], ◌∷◌, ◌++◌, length, set, Bool, true, false, ◌&&◌, Option, Some, None, option_map, refl, sym, ap, ◌∙◌, subst, arith, append_assoc, append-nil, length-append}
+use Rattle.std.proofs.Common.{◌≡◌, ℕ, zero, suc, ◌+◌, ◌-◌, ◌<◌, ◌≤◌, List, [], ◌∷◌, ◌++◌, length, set, Bool, true, false, ◌&&◌, Option, Some, None, option_map, refl, sym, ap, ap₂, ◌∙◌, subst, arith, append_assoc, append-nil, length-append}
 use Rattle.std.proofs.Common.{Ordering, Less, Equal, Greater, nat_cmp}
 use Rattle.std.specs.Cmp.Lexicographic.{slice_cmp}
 use Rattle.std.proofs.Math.Seq.{set-append_seam}
@@ -17,10 +17,11 @@ use Rattle.std.proofs.lemmas.Bool.{and_parts}
 use Rattle.std.specs.Ordering.{is_lt}
 use Rattle.cadf_json.proofs.Turns.{item_read, items_over, member_read, members_over}
 use Rattle.cadf_json.specs.declared.node.Node.{Node}
-use Rattle.cadf_json.specs.declared.node.Node.TheVariants.{Null, Text, Array}
+use Rattle.cadf_json.specs.declared.node.Node.TheVariants.{Null, Text, Array, Object}
 use Rattle.cadf_json.specs.declared.node.Extent.{Extent}
-use Rattle.cadf_json.specs.Flat.{IsTextAt, Stands, TextStands, ItemsStand, MembersStand, items_count, members_count, put_all}
-use Rattle.cadf_json.specs.Reading.{Grown, IsOpen, IsClosed, ordered}
+use Rattle.cadf_json.specs.Flat.{IsTextAt, TextStands, ItemsStand, MembersStand, items_count, members_count, put_all, settled_items, settled_members}
+use Rattle.cadf_json.specs.Reading.{Grown, StandsAsRead}
+use Rattle.cadf_json.proofs.Settling.{settled_last, settled_joined}
 use Rattle.cadf_json.proofs.Standing.{text_further, items_further, members_further, items_last, members_last, count_last, count_joined}
 
 -- ---- what can't be read
@@ -85,18 +86,21 @@ module _ (p : Parse json.Json) where
 
 -- ---- items
 
-pub record ItemsRead (p : Parse json.Json) (start now : List Token) (old nodes : List Node) (t u : List ℕ) (count : ℕ) : Type 0 where
+pub record ItemsRead (p : Parse json.Json) (start now : List Token) (old nodes : List Node) (t u : List ℕ) (count : ℕ) (rising : Bool) : Type 0 where
   pub bound : ℕ
   pub enough : length now ≤ bound
   pub got : Items
   pub left : converted of_items (items p (length start) start) ≡ parse_map (followed got) (converted of_items (items p bound now))
   pub shorter : length now ≤ length start
+  pub raw : Items
+  pub settles : settled_items raw ≡ got
+  pub same : rising ≡ true → raw ≡ got
   pub xs : List Node
   pub more : List ℕ
   pub nodes_are : nodes ≡ old ++ Null ∷ xs
   pub texts_are : u ≡ t ++ more
-  pub stands : ItemsStand u got xs
-  pub counted : count ≡ items_count got
+  pub stands : ItemsStand u raw xs
+  pub counted : count ≡ items_count raw
 
 -- the list or object that the node at the seam begins
 pub closed_at : (old nodes new xs : List Node) (x : Node) (place : ℕ) → nodes ≡ old ++ Null ∷ xs → place ≡ length old → new ≡ set nodes place x
@@ -111,13 +115,16 @@ size_is old nodes xs place len size is at whole e =
     omega (arith, long, at, whole, e)
 
 module _ (p : Parse json.Json) (start : List Token) (old : List Node) (t : List ℕ) where
-  pub items_start : ItemsRead p start start old (old ++ Null ∷ []) t t 0
+  pub items_start : ItemsRead p start start old (old ++ Null ∷ []) t t 0 true
   items_start = record {
     bound = length start;
     enough = omega arith;
     got = no_items;
     left = parsed_none _;
     shorter = omega arith;
+    raw = no_items;
+    settles = refl;
+    same = λ r. refl;
     xs = [];
     more = [];
     nodes_are = refl;
@@ -126,32 +133,38 @@ module _ (p : Parse json.Json) (start : List Token) (old : List Node) (t : List 
     counted = refl;
   }
 
-  pub one_more_item : (now r : List Token) (nodes new : List Node) (u v : List ℕ) (count : ℕ) (d : Data) → ItemsRead p start now old nodes t u count
-      → after_end_array now ≡ None → converted of_json (p now) ≡ Some (d, r) → Grown (λ u xs. Stands u d xs) nodes new u v → length r < length now
-      → ItemsRead p start r old new t v (count + 1)
-  one_more_item now r nodes new u v count d h going read g less =
+  pub one_more_item : (now r : List Token) (nodes new : List Node) (u v : List ℕ) (count : ℕ) (rising rises : Bool) (d : Data)
+      → ItemsRead p start now old nodes t u count rising → after_end_array now ≡ None → converted of_json (p now) ≡ Some (d, r)
+      → Grown (λ u xs. StandsAsRead rises u d xs) nodes new u v → length r < length now
+      → ItemsRead p start r old new t v (count + 1) (rises && rising)
+  one_more_item now r nodes new u v count rising rises d h going read g less =
       let enough = h.enough in
       let shorter = h.shorter in
       let counted = h.counted in
-      let one = count_last h.got d in
+      let s = g.stands in
+      let one = count_last h.raw s.raw in
       record {
         bound = h.bound - 1;
         enough = omega (arith, enough, less);
         got = with_last d h.got;
         left = h.left ∙ ap (parse_map (followed h.got)) (item_read p h.bound now r d (omega (arith, enough, less)) going read) ∙ further_items h.got d _;
         shorter = omega (arith, shorter, less);
+        raw = with_last s.raw h.raw;
+        settles = settled_last h.raw s.raw ∙ ap₂ with_last s.settles h.settles;
+        same = λ still. let both = and_parts rises rising still in ap₂ with_last (s.same both.0) (h.same both.1);
         xs = h.xs ++ g.xs;
         more = h.more ++ g.more;
         nodes_are = g.nodes ∙ ap (λ ys. ys ++ g.xs) h.nodes_are ∙ append_assoc old (Null ∷ h.xs) g.xs;
         texts_are = g.texts ∙ ap (λ ys. ys ++ g.more) h.texts_are ∙ append_assoc t h.more g.more;
-        stands = items_last v h.got d h.xs g.xs (subst (λ w. ItemsStand w h.got h.xs) (sym g.texts) (items_further u g.more h.got h.xs h.stands)) g.stands;
+        stands = items_last v h.raw s.raw h.xs g.xs (subst (λ w. ItemsStand w h.raw h.xs) (sym g.texts) (items_further u g.more h.raw h.xs h.stands)) s.stands;
         counted = omega (arith, counted, one);
       }
 
-  pub all_items : (now r : List Token) (nodes new : List Node) (u : List ℕ) (count place len : ℕ) (e : Extent) → ItemsRead p start now old nodes t u count
-      → after_end_array now ≡ Some r → place ≡ length old → len ≡ length nodes → (e.size ≡ len - place) × (e.count ≡ count) → new ≡ set nodes place (Array e)
-      → (ds : Items) × ((converted of_items (items p (length start) start) ≡ Some (ds, r)) × Grown (λ u xs. Stands u (array ds) xs) old new t u)
-  all_items now r nodes new u count place len e h over at whole extent stored = (
+  pub all_items : (now r : List Token) (nodes new : List Node) (u : List ℕ) (count place len : ℕ) (rising : Bool) (e : Extent)
+      → ItemsRead p start now old nodes t u count rising → after_end_array now ≡ Some r → place ≡ length old → len ≡ length nodes
+      → (e.size ≡ len - place) × (e.count ≡ count) → new ≡ set nodes place (Array e)
+      → (ds : Items) × ((converted of_items (items p (length start) start) ≡ Some (ds, r)) × Grown (λ u xs. StandsAsRead rising u (array ds) xs) old new t u)
+  all_items now r nodes new u count place len rising e h over at whole extent stored = (
     h.got,
     (
       h.left ∙ ap (parse_map (followed h.got)) (items_over p h.bound now r h.enough over) ∙ ap (λ es. Some (es, r)) (followed-none h.got),
@@ -160,14 +173,19 @@ module _ (p : Parse json.Json) (start : List Token) (old : List Node) (t : List 
         more = h.more;
         nodes = closed_at old nodes new h.xs (Array e) place h.nodes_are at stored;
         texts = h.texts_are;
-        stands = (e, (h.xs, (refl, (size_is old nodes h.xs place len e.size h.nodes_are at whole extent.0, extent.1 ∙ h.counted), h.stands)));
+        stands = record {
+          raw = array h.raw;
+          settles = ap array h.settles;
+          same = λ still. ap array (h.same still);
+          stands = (e, (h.xs, (refl, (size_is old nodes h.xs place len e.size h.nodes_are at whole extent.0, extent.1 ∙ h.counted), h.stands)));
+        };
       },
     ),
   )
 
-  pub no_items_here : (now : List Token) (nodes : List Node) (u : List ℕ) (count : ℕ) → ItemsRead p start now old nodes t u count → after_end_array now ≡ None
-      → converted of_json (p now) ≡ None → converted of_items (items p (length start) start) ≡ None
-  no_items_here now nodes u count h going e = h.left ∙ ap (parse_map (followed h.got)) (item_failed p h.bound now going e)
+  pub no_items_here : (now : List Token) (nodes : List Node) (u : List ℕ) (count : ℕ) (rising : Bool) → ItemsRead p start now old nodes t u count rising
+      → after_end_array now ≡ None → converted of_json (p now) ≡ None → converted of_items (items p (length start) start) ≡ None
+  no_items_here now nodes u count rising h going e = h.left ∙ ap (parse_map (followed h.got)) (item_failed p h.bound now going e)
 
 -- ---- members
 
@@ -212,12 +230,15 @@ pub record MembersRead (p : Parse json.Json) (start now : List Token) (old nodes
       ≡ converted (λ ms. of_members ms (put_all got no_members)) (members p bound now)
   pub shorter : length now ≤ length start
   pub in_order : rising ≡ true → AreRising got last
+  pub raw : Members
+  pub settles : settled_members raw ≡ got
+  pub same : rising ≡ true → raw ≡ got
   pub xs : List Node
   pub more : List ℕ
   pub nodes_are : nodes ≡ old ++ Null ∷ xs
   pub texts_are : u ≡ t ++ more
-  pub stands : MembersStand u got xs
-  pub counted : count ≡ members_count got
+  pub stands : MembersStand u raw xs
+  pub counted : count ≡ members_count raw
 
 module _ (p : Parse json.Json) (start : List Token) (old : List Node) (t : List ℕ) where
   pub members_start : MembersRead p start start old (old ++ Null ∷ []) t t 0 None true
@@ -228,6 +249,9 @@ module _ (p : Parse json.Json) (start : List Token) (old : List Node) (t : List 
     left = refl;
     shorter = omega arith;
     in_order = λ r. record { ends = refl; same = refl };
+    raw = no_members;
+    settles = refl;
+    same = λ r. refl;
     xs = [];
     more = [];
     nodes_are = refl;
@@ -236,20 +260,21 @@ module _ (p : Parse json.Json) (start : List Token) (old : List Node) (t : List 
     counted = refl;
   }
 
-  pub one_more_member : (now s r : List Token) (nodes mid new : List Node) (u v w : List ℕ) (count : ℕ) (last : Option (List ℕ)) (rising : Bool)
+  pub one_more_member : (now s r : List Token) (nodes mid new : List Node) (u v w : List ℕ) (count : ℕ) (last : Option (List ℕ)) (rising rises : Bool)
       (k : List ℕ) (d : Data) → MembersRead p start now old nodes t u count last rising → read_key now ≡ Some (Some k, s)
-      → Grown (λ u xs. TextStands u k xs) nodes mid u v → converted of_json (p s) ≡ Some (d, r) → Grown (λ u xs. Stands u d xs) mid new v w
-      → length r < length now → MembersRead p start r old new t w (count + 1) (Some k) (rising && is_name_above last k)
-  one_more_member now s r nodes mid new u v w count last rising k d h key named read g less =
+      → Grown (λ u xs. TextStands u k xs) nodes mid u v → converted of_json (p s) ≡ Some (d, r) → Grown (λ u xs. StandsAsRead rises u d xs) mid new v w
+      → length r < length now → MembersRead p start r old new t w (count + 1) (Some k) (rises && (rising && is_name_above last k))
+  one_more_member now s r nodes mid new u v w count last rising rises k d h key named read g less =
       let enough = h.enough in
       let shorter = h.shorter in
       let counted = h.counted in
-      let one = count_joined h.got k d in
+      let value = g.stands in
+      let one = count_joined h.raw k value.raw in
       let place = named.stands.0 in
       let is : named.xs ≡ Text place ∷ [] = named.stands.1.0 in
       let mid_are : mid ≡ nodes ++ Text place ∷ [] = named.nodes ∙ ap (λ ys. nodes ++ ys) is in
       let new_are : new ≡ nodes ++ Text place ∷ g.xs = g.nodes ∙ ap (λ ys. ys ++ g.xs) mid_are ∙ append_assoc nodes (Text place ∷ []) g.xs in
-      let before = subst (λ y. MembersStand y h.got h.xs) (sym named.texts) (members_further u named.more h.got h.xs h.stands) in
+      let before = subst (λ y. MembersStand y h.raw h.xs) (sym named.texts) (members_further u named.more h.raw h.xs h.stands) in
       record {
         bound = h.bound - 1;
         enough = omega (arith, enough, less);
@@ -257,40 +282,46 @@ module _ (p : Parse json.Json) (start : List Token) (old : List Node) (t : List 
         left = h.left ∙ member_read p (put_all h.got no_members) h.bound k now s r d (omega (arith, enough, less)) key read
             ∙ ap (λ found. converted (λ ms. of_members ms found) (members p (h.bound - 1) r)) (sym (put_last h.got k d no_members));
         shorter = omega (arith, shorter, less);
-        in_order = λ still. let both = and_parts rising (is_name_above last k) still in rises_further h.got last k d (h.in_order both.0) both.1;
+        in_order = λ still.
+            let both = and_parts rises (rising && is_name_above last k) still in
+            let up = and_parts rising (is_name_above last k) both.1 in
+            rises_further h.got last k d (h.in_order up.0) up.1;
+        raw = joined h.raw (member k value.raw no_members);
+        settles = settled_joined h.raw k value.raw ∙ ap₂ (λ ms e. joined ms (member k e no_members)) h.settles value.settles;
+        same = λ still.
+            let both = and_parts rises (rising && is_name_above last k) still in
+            ap₂ (λ ms e. joined ms (member k e no_members)) (h.same (and_parts rising (is_name_above last k) both.1).0) (value.same both.0);
         xs = h.xs ++ Text place ∷ g.xs;
         more = h.more ++ (named.more ++ g.more);
         nodes_are = new_are ∙ ap (λ ys. ys ++ Text place ∷ g.xs) h.nodes_are ∙ append_assoc old (Null ∷ h.xs) (Text place ∷ g.xs);
         texts_are = g.texts ∙ ap (λ ys. ys ++ g.more) (named.texts ∙ ap (λ ys. ys ++ named.more) h.texts_are)
             ∙ append_assoc (t ++ h.more) named.more g.more ∙ append_assoc t h.more (named.more ++ g.more);
-        stands = members_last w h.got k d place h.xs g.xs
-            (subst (λ y. MembersStand y h.got h.xs) (sym g.texts) (members_further v g.more h.got h.xs before))
-            (subst (λ y. IsTextAt y place k) (sym g.texts) (text_further v g.more place k named.stands.1.1)) g.stands;
+        stands = members_last w h.raw k value.raw place h.xs g.xs
+            (subst (λ y. MembersStand y h.raw h.xs) (sym g.texts) (members_further v g.more h.raw h.xs before))
+            (subst (λ y. IsTextAt y place k) (sym g.texts) (text_further v g.more place k named.stands.1.1)) value.stands;
         counted = omega (arith, counted, one);
       }
 
-  pub is_open : (now : List Token) (nodes : List Node) (u : List ℕ) (count : ℕ) (last : Option (List ℕ)) (rising : Bool) (place : ℕ)
-      → (h : MembersRead p start now old nodes t u count last rising) → place ≡ length old → IsOpen u old nodes place h.got
-  is_open now nodes u count last rising place h at = record { xs = h.xs; is = h.nodes_are; place_is = at; stands = h.stands }
-
-  ordered_all : (rising : Bool) (got : Members) (last : Option (List ℕ)) → (rising ≡ true → AreRising got last) → ordered rising got ≡ put_all got no_members
-  ordered_all true got last h = sym (h refl).same
-  ordered_all false got last h = refl
-
-  pub all_members : (now r : List Token) (nodes new : List Node) (u : List ℕ) (count : ℕ) (last : Option (List ℕ)) (rising : Bool)
-      → (h : MembersRead p start now old nodes t u count last rising) → read_key now ≡ Some (None, r) → IsClosed u old new (ordered rising h.got)
+  pub all_members : (now r : List Token) (nodes new : List Node) (u : List ℕ) (count place len : ℕ) (last : Option (List ℕ)) (rising : Bool) (e : Extent)
+      → (h : MembersRead p start now old nodes t u count last rising) → read_key now ≡ Some (None, r) → place ≡ length old → len ≡ length nodes
+      → (e.size ≡ len - place) × (e.count ≡ count) → new ≡ set nodes place (Object e)
       → (ms : Members) × ((converted (λ ms. of_members ms no_members) (members p (length start) start) ≡ Some (ms, r))
-      × Grown (λ u xs. Stands u (object ms) xs) old new t u)
-  all_members now r nodes new u count last rising h key closed = (
+      × Grown (λ u xs. StandsAsRead rising u (object ms) xs) old new t u)
+  all_members now r nodes new u count place len last rising e h key at whole extent stored = (
     put_all h.got no_members,
     (
       h.left ∙ members_over p (put_all h.got no_members) h.bound now r h.enough key,
       record {
-        xs = closed.0;
+        xs = Object e ∷ h.xs;
         more = h.more;
-        nodes = closed.1.0;
+        nodes = closed_at old nodes new h.xs (Object e) place h.nodes_are at stored;
         texts = h.texts_are;
-        stands = subst (λ ms. Stands u (object ms) closed.0) (ordered_all rising h.got last h.in_order) closed.1.1;
+        stands = record {
+          raw = object h.raw;
+          settles = ap (λ ms. object (put_all ms no_members)) h.settles;
+          same = λ still. ap object (h.same still ∙ sym (h.in_order still).same);
+          stands = (e, (h.xs, (refl, (size_is old nodes h.xs place len e.size h.nodes_are at whole extent.0, extent.1 ∙ h.counted), h.stands)));
+        };
       },
     ),
   )

@@ -1,5 +1,5 @@
 -- Members that are read while the items of one list are taken apart.
-use Rattle.std.proofs.Common.{◌≡◌, ℕ, ◌+◌, ◌-◌, ◌<◌, ◌≤◌, List, [], ◌∷◌, ◌++◌, length, Bool, true, false, true≢false, ◌&&◌, ◌||◌, if◌then◌else◌, Option, Some, None, option_map, bytes_eq, refl, sym, ap, ap₂, ◌∙◌, subst, arith, append_assoc, append-nil}
+use Rattle.std.proofs.Common.{◌≡◌, ℕ, ◌+◌, ◌-◌, ◌<◌, ◌≤◌, List, [], ◌∷◌, ◌++◌, length, set, Bool, true, false, true≢false, ◌&&◌, ◌||◌, if◌then◌else◌, Option, Some, None, option_map, bytes_eq, refl, sym, ap, ap₂, ◌∙◌, subst, arith, append_assoc, append-nil}
 use Rattle.std.proofs.Common.{Ordering, Less, Equal, Greater, nat_cmp}
 use Rattle.std.specs.Cmp.Lexicographic.{slice_cmp}
 use Rattle.std.proofs.lemmas.Bool.{or_parts}
@@ -14,17 +14,19 @@ use Rattle.serde_json.specs.Written.{has_float, items_have_float, members_have_f
 use Rattle.serde_json.proofs.Views.{get_member-put}
 use Rattle.cadf_json.specs.Apart.{a_fraction, emptied, emptied_at, emptied_in, AreTaken, TookItems}
 use Rattle.cadf_json.specs.Canonical.{is_name_above}
-use Rattle.cadf_json.specs.Flat.{IsTextAt, Stands, TextStands, MembersStand, members_count, put_all}
+use Rattle.cadf_json.specs.Flat.{IsTextAt, TextStands, MembersStand, members_count, put_all, settled_members}
 use Rattle.cadf_json.specs.Rewritten.{is_one_of, without}
-use Rattle.cadf_json.specs.Reading.{Grown, IsOpen, IsClosed, ordered}
+use Rattle.cadf_json.specs.Reading.{Grown, StandsAsRead}
 use Rattle.cadf_json.specs.Value.{IsWhole, MembersAreWhole, RisesFrom, Rises, IsValue}
 use Rattle.cadf_json.specs.declared.node.Node.{Node}
-use Rattle.cadf_json.specs.declared.node.Node.TheVariants.{Null, Text}
+use Rattle.cadf_json.specs.declared.node.Extent.{Extent}
+use Rattle.cadf_json.specs.declared.node.Node.TheVariants.{Null, Text, Object}
 use Rattle.cadf_json.proofs.Looks.{member_here, member_passed}
-use Rattle.cadf_json.proofs.Loops.{AreRising, rises_further, put_last}
+use Rattle.cadf_json.proofs.Loops.{AreRising, rises_further, put_last, closed_at, size_is}
 use Rattle.cadf_json.proofs.Orders.{joined}
 use Rattle.cadf_json.proofs.Rewriting.{get-put}
 use Rattle.std.proofs.lemmas.Bool.{and_parts}
+use Rattle.cadf_json.proofs.Settling.{settled_joined}
 use Rattle.cadf_json.proofs.Splits.{same_name}
 use Rattle.cadf_json.proofs.Standing.{text_further, members_further, members_last, count_joined}
 use Rattle.cadf_json.proofs.Turns.{member_read, members_over}
@@ -189,12 +191,15 @@ pub record Apart {T : Type 0} (took : T → List Data → Type 0) (t : T) (name 
   pub shorter : length now ≤ length start
   pub taken : TookItems took t (get_member name (put_all got no_members))
   pub in_order : rising ≡ true → AreRising (emptied_in name got) last
+  pub raw : Members
+  pub settles : settled_members raw ≡ emptied_in name got
+  pub same : rising ≡ true → raw ≡ emptied_in name got
   pub xs : List Node
   pub more : List ℕ
   pub nodes_are : nodes ≡ old ++ Null ∷ xs
   pub texts_are : u ≡ v ++ more
-  pub stands : MembersStand u (emptied_in name got) xs
-  pub counted : count ≡ members_count (emptied_in name got)
+  pub stands : MembersStand u raw xs
+  pub counted : count ≡ members_count raw
 
 module _ {T : Type 0} (took : T → List Data → Type 0) (name : List ℕ) (p : Parse json.Json) (start : List Token) (old : List Node) (v : List ℕ) where
   pub apart_start : (t : T) → Apart took t name p start start old (old ++ Null ∷ []) v v 0 None true
@@ -206,6 +211,9 @@ module _ {T : Type 0} (took : T → List Data → Type 0) (name : List ℕ) (p :
     shorter = omega arith;
     taken = tt;
     in_order = λ r. record { ends = refl; same = refl };
+    raw = no_members;
+    settles = refl;
+    same = λ r. refl;
     xs = [];
     more = [];
     nodes_are = refl;
@@ -215,25 +223,28 @@ module _ {T : Type 0} (took : T → List Data → Type 0) (name : List ℕ) (p :
   }
 
   -- one more member, and what was taken after it
-  apart_more : (t s : T) (now between r : List Token) (nodes mid new : List Node) (u w x : List ℕ) (count : ℕ) (last : Option (List ℕ)) (rising : Bool)
-      (k : List ℕ) (d : Data) → (h : Apart took t name p start now old nodes v u count last rising) → read_key now ≡ Some (Some k, between)
-      → Grown (λ u xs. TextStands u k xs) nodes mid u w → converted of_json (p between) ≡ Some (d, r)
-      → Grown (λ u xs. Stands u (emptied_at name k d) xs) mid new w x → length r < length now
+  apart_more : (t s : T) (now between r : List Token) (nodes mid new : List Node) (u w x : List ℕ) (count : ℕ) (last : Option (List ℕ))
+      (rising rises after : Bool) (k : List ℕ) (d : Data) → (h : Apart took t name p start now old nodes v u count last rising)
+      → read_key now ≡ Some (Some k, between) → Grown (λ u xs. TextStands u k xs) nodes mid u w → converted of_json (p between) ≡ Some (d, r)
+      → Grown (λ u xs. StandsAsRead rises u (emptied_at name k d) xs) mid new w x → length r < length now
       → TookItems took s (get_member name (put k d (put_all h.got no_members)))
-      → Apart took s name p start r old new v x (count + 1) (Some k) (rising && is_name_above last k)
-  apart_more t s now between r nodes mid new u w x count last rising k d h key named read g less taken =
+      → (after ≡ true → (rises ≡ true) × ((rising && is_name_above last k) ≡ true))
+      → Apart took s name p start r old new v x (count + 1) (Some k) after
+  apart_more t s now between r nodes mid new u w x count last rising rises after k d h key named read g less taken still =
       let enough = h.enough in
       let shorter = h.shorter in
       let counted = h.counted in
       let e = emptied_at name k d in
+      let value = g.stands in
       let before_got = emptied_in name h.got in
-      let one = count_joined before_got k e in
+      let one = count_joined h.raw k value.raw in
       let is_joined = emptied-joined name h.got k d in
       let place = named.stands.0 in
       let is : named.xs ≡ Text place ∷ [] = named.stands.1.0 in
       let mid_are : mid ≡ nodes ++ Text place ∷ [] = named.nodes ∙ ap (λ ys. nodes ++ ys) is in
       let new_are : new ≡ nodes ++ Text place ∷ g.xs = g.nodes ∙ ap (λ ys. ys ++ g.xs) mid_are ∙ append_assoc nodes (Text place ∷ []) g.xs in
-      let before = subst (λ y. MembersStand y before_got h.xs) (sym named.texts) (members_further u named.more before_got h.xs h.stands) in
+      let before = subst (λ y. MembersStand y h.raw h.xs) (sym named.texts) (members_further u named.more h.raw h.xs h.stands) in
+      let up = λ (a : after ≡ true). and_parts rising (is_name_above last k) (still a).1 in
       record {
         bound = h.bound - 1;
         enough = omega (arith, enough, less);
@@ -242,72 +253,70 @@ module _ {T : Type 0} (took : T → List Data → Type 0) (name : List ℕ) (p :
             ∙ ap (λ found. converted (λ ms. of_members ms found) (members p (h.bound - 1) r)) (sym (put_last h.got k d no_members));
         shorter = omega (arith, shorter, less);
         taken = subst (λ ms. TookItems took s (get_member name ms)) (sym (put_last h.got k d no_members)) taken;
-        in_order = λ still. let both = and_parts rising (is_name_above last k) still in
-            subst (λ ms. AreRising ms (Some k)) (sym is_joined) (rises_further before_got last k e (h.in_order both.0) both.1);
+        in_order = λ a. subst (λ ms. AreRising ms (Some k)) (sym is_joined) (rises_further before_got last k e (h.in_order (up a).0) (up a).1);
+        raw = joined h.raw (member k value.raw no_members);
+        settles = settled_joined h.raw k value.raw ∙ ap₂ (λ ms f. joined ms (member k f no_members)) h.settles value.settles ∙ sym is_joined;
+        same = λ a. ap₂ (λ ms f. joined ms (member k f no_members)) (h.same (up a).0) (value.same (still a).0) ∙ sym is_joined;
         xs = h.xs ++ Text place ∷ g.xs;
         more = h.more ++ (named.more ++ g.more);
         nodes_are = new_are ∙ ap (λ ys. ys ++ Text place ∷ g.xs) h.nodes_are ∙ append_assoc old (Null ∷ h.xs) (Text place ∷ g.xs);
         texts_are = g.texts ∙ ap (λ ys. ys ++ g.more) (named.texts ∙ ap (λ ys. ys ++ named.more) h.texts_are)
             ∙ append_assoc (v ++ h.more) named.more g.more ∙ append_assoc v h.more (named.more ++ g.more);
-        stands = subst (λ ms. MembersStand x ms (h.xs ++ Text place ∷ g.xs)) (sym is_joined)
-            (members_last x before_got k e place h.xs g.xs
-            (subst (λ y. MembersStand y before_got h.xs) (sym g.texts) (members_further w g.more before_got h.xs before))
-            (subst (λ y. IsTextAt y place k) (sym g.texts) (text_further w g.more place k named.stands.1.1)) g.stands);
-        counted = let same = ap members_count is_joined in omega (arith, counted, one, same);
+        stands = members_last x h.raw k value.raw place h.xs g.xs
+            (subst (λ y. MembersStand y h.raw h.xs) (sym g.texts) (members_further w g.more h.raw h.xs before))
+            (subst (λ y. IsTextAt y place k) (sym g.texts) (text_further w g.more place k named.stands.1.1)) value.stands;
+        counted = omega (arith, counted, one);
       }
 
   -- a member of another name
-  pub apart_other : (t : T) (now between r : List Token) (nodes mid new : List Node) (u w x : List ℕ) (count : ℕ) (last : Option (List ℕ)) (rising : Bool)
-      (k : List ℕ) (d : Data) → Apart took t name p start now old nodes v u count last rising → bytes_eq k name ≡ false → read_key now ≡ Some (Some k, between)
-      → Grown (λ u xs. TextStands u k xs) nodes mid u w → converted of_json (p between) ≡ Some (d, r)
-      → Grown (λ u xs. Stands u d xs) mid new w x → length r < length now
-      → Apart took t name p start r old new v x (count + 1) (Some k) (rising && is_name_above last k)
-  apart_other t now between r nodes mid new u w x count last rising k d h other key named read g less =
+  pub apart_other : (t : T) (now between r : List Token) (nodes mid new : List Node) (u w x : List ℕ) (count : ℕ) (last : Option (List ℕ))
+      (rising rises : Bool) (k : List ℕ) (d : Data) → Apart took t name p start now old nodes v u count last rising → bytes_eq k name ≡ false
+      → read_key now ≡ Some (Some k, between) → Grown (λ u xs. TextStands u k xs) nodes mid u w → converted of_json (p between) ≡ Some (d, r)
+      → Grown (λ u xs. StandsAsRead rises u d xs) mid new w x → length r < length now
+      → Apart took t name p start r old new v x (count + 1) (Some k) (rises && (rising && is_name_above last k))
+  apart_other t now between r nodes mid new u w x count last rising rises k d h other key named read g less =
       let same : emptied_at name k d ≡ d = rw other refl in
-      apart_more t t now between r nodes mid new u w x count last rising k d h key named read
-      (subst (λ e. Grown (λ u xs. Stands u e xs) mid new w x) (sym same) g) less
+      apart_more t t now between r nodes mid new u w x count last rising rises _ k d h key named read
+      (subst (λ e. Grown (λ u xs. StandsAsRead rises u e xs) mid new w x) (sym same) g) less
       (subst (TookItems took t) (sym (get-put name k d (put_all h.got no_members) (other_order k name other))) h.taken)
+      (and_parts rises (rising && is_name_above last k))
 
   -- the list, whose items were taken
   pub apart_list : (t s : T) (now between r : List Token) (nodes mid new : List Node) (u w x : List ℕ) (count : ℕ) (last : Option (List ℕ)) (rising : Bool)
       (k : List ℕ) (ds : Items) → Apart took t name p start now old nodes v u count last rising → bytes_eq k name ≡ true → read_key now ≡ Some (Some k, between)
       → Grown (λ u xs. TextStands u k xs) nodes mid u w → converted of_json (p between) ≡ Some (array ds, r)
-      → Grown (λ u xs. Stands u (array no_items) xs) mid new w x → length r < length now → AreTaken took s ds
+      → Grown (λ u xs. StandsAsRead true u (array no_items) xs) mid new w x → length r < length now → AreTaken took s ds
       → Apart took s name p start r old new v x (count + 1) (Some k) (rising && is_name_above last k)
   apart_list t s now between r nodes mid new u w x count last rising k ds h equal key named read g less taken =
       let same : emptied_at name k (array ds) ≡ array no_items = rw (equal, taken.0) refl in
       let found = put_all h.got no_members in
       let there : get_member name (put k (array ds) found) ≡ Some (array ds) =
       ap (λ n. get_member name (put n (array ds) found)) ((bytes_eq-Decides k name).0 equal) ∙ get_member-put name (array ds) found in
-      apart_more t s now between r nodes mid new u w x count last rising k (array ds) h key named read
-      (subst (λ e. Grown (λ u xs. Stands u e xs) mid new w x) (sym same) g) less (subst (TookItems took s) (sym there) taken)
-
-  pub apart_open : (t : T) (now : List Token) (nodes : List Node) (u : List ℕ) (count : ℕ) (last : Option (List ℕ)) (rising : Bool) (place : ℕ)
-      → (h : Apart took t name p start now old nodes v u count last rising) → place ≡ length old → IsOpen u old nodes place (emptied_in name h.got)
-  apart_open t now nodes u count last rising place h at = record { xs = h.xs; is = h.nodes_are; place_is = at; stands = h.stands }
-
-  ordered_all : (rising : Bool) (got : Members) (last : Option (List ℕ)) → (rising ≡ true → AreRising got last) → ordered rising got ≡ put_all got no_members
-  ordered_all true got last h = sym (h refl).same
-  ordered_all false got last h = refl
+      apart_more t s now between r nodes mid new u w x count last rising true _ k (array ds) h key named read
+      (subst (λ e. Grown (λ u xs. StandsAsRead true u e xs) mid new w x) (sym same) g) less (subst (TookItems took s) (sym there) taken) (λ a. (refl, a))
 
   -- the closing brace
-  pub apart_over : (t : T) (now r : List Token) (nodes new : List Node) (u : List ℕ) (count : ℕ) (last : Option (List ℕ)) (rising : Bool)
-      → (h : Apart took t name p start now old nodes v u count last rising) → read_key now ≡ Some (None, r)
-      → IsClosed u old new (ordered rising (emptied_in name h.got))
+  pub apart_over : (t : T) (now r : List Token) (nodes new : List Node) (u : List ℕ) (count place len : ℕ) (last : Option (List ℕ)) (rising : Bool)
+      (e : Extent) → (h : Apart took t name p start now old nodes v u count last rising) → read_key now ≡ Some (None, r) → place ≡ length old
+      → len ≡ length nodes → (e.size ≡ len - place) × (e.count ≡ count) → new ≡ set nodes place (Object e)
       → (ms : Members) × ((converted (λ ms. of_members ms no_members) (members p (length start) start) ≡ Some (ms, r))
-      × TookItems took t (get_member name ms) × Grown (λ w xs. Stands w (object (emptied_in name ms)) xs) old new v u)
-  apart_over t now r nodes new u count last rising h key closed = (
+      × TookItems took t (get_member name ms) × Grown (λ w xs. StandsAsRead rising w (object (emptied_in name ms)) xs) old new v u)
+  apart_over t now r nodes new u count place len last rising e h key at whole extent stored = (
     put_all h.got no_members,
     (
       h.left ∙ members_over p (put_all h.got no_members) h.bound now r h.enough key,
       h.taken,
       record {
-        xs = closed.0;
+        xs = Object e ∷ h.xs;
         more = h.more;
-        nodes = closed.1.0;
+        nodes = closed_at old nodes new h.xs (Object e) place h.nodes_are at stored;
         texts = h.texts_are;
-        stands = subst (λ ms. Stands u (object ms) closed.0)
-            (ordered_all rising (emptied_in name h.got) last h.in_order ∙ emptied-all name h.got no_members) closed.1.1;
+        stands = record {
+          raw = object h.raw;
+          settles = ap object (ap (λ ms. put_all ms no_members) h.settles ∙ emptied-all name h.got no_members);
+          same = λ still. ap object (h.same still ∙ sym (h.in_order still).same ∙ emptied-all name h.got no_members);
+          stands = (e, (h.xs, (refl, (size_is old nodes h.xs place len e.size h.nodes_are at whole extent.0, extent.1 ∙ h.counted), h.stands)));
+        };
       },
     ),
   )

@@ -16,7 +16,7 @@ use Rattle.cadf_json.specs.declared.walk.FirstMember.{FirstMember}
 use Rattle.cadf_json.proofs.Decoding.{flattened, items_values, members_values, decoded_whole}
 use Rattle.cadf_json.proofs.Passing.{followed-none}
 use Rattle.cadf_json.proofs.Texts.{has_float-IsWhole}
-use Rattle.cadf_json.proofs.Firsts.{begins, some_member}
+use Rattle.cadf_json.proofs.Firsts.{first_item, some_member}
 
 paired_flattened : (ms : Members) → paired (flattened ms no_items) ≡ ms
 paired_flattened no_members = refl
@@ -64,21 +64,14 @@ module _ (t : List ℕ) where
     pub left : AreItemsLeft t (drop n rest)
     pub is : node_values t rest ≡ item (decode t (take n rest)) (node_values t (drop n rest))
 
-  next_item_at : (rest : List Node) (n : ℕ) (left : Items) → node_values t rest ≡ left → 0 < length rest → ItemsStand t left rest → ItemsAreWhole left
-      → items_depth left ≤ 126 → n ≡ size_of (slice_index_or rest 0 Null) → NextItem rest n
-  next_item_at rest n no_items e some h w deep size = let none = ap length h in absurd (omega (arith, some, none))
-  next_item_at rest n (item d later) e some (ys, (zs, (is, h, k))) w deep size =
-      let b = begins t d ys h in
-      let is_n : n ≡ length ys = size ∙ ap (λ xs. size_of (slice_index_or xs 0 Null)) (is ∙ ap (λ xs. xs ++ zs) b.is) ∙ b.size in
-      let long = ap length is ∙ length-append ys zs in
-      let first : take n rest ≡ ys = ap₂ take is_n is ∙ take-append_seam ys zs in
-      let behind : drop n rest ≡ zs = ap₂ drop is_n is ∙ drop-append_seam ys zs in
-      let v = seen d (take n rest) (subst (Stands t d) (sym first) h) (w.0, omega (arith, deep)) in
-      let l = items_left_of later (drop n rest) (subst (ItemsStand t later) (sym behind) k) w.1 (omega (arith, deep)) in
-      record { within = omega (arith, is_n, long); value = v.0; left = l.0; is = e ∙ ap₂ item (sym v.1) (sym l.1) }
-
   pub next_item : (rest : List Node) (n : ℕ) → 0 < length rest → AreItemsLeft t rest → n ≡ size_of (slice_index_or rest 0 Null) → NextItem rest n
-  next_item rest n some h size = next_item_at rest n (node_values t rest) refl some h.stand h.whole h.shallow size
+  next_item rest n some h size =
+      let f = first_item t rest n (node_values t rest) some h.stand size in
+      let whole : ItemsAreWhole (item f.value f.later) = subst ItemsAreWhole f.is h.whole in
+      let deep : items_depth (item f.value f.later) ≤ 126 = subst (λ ds. items_depth ds ≤ 126) f.is h.shallow in
+      let v = seen f.value (take n rest) f.stands (whole.0, omega (arith, deep)) in
+      let l = items_left_of f.later (drop n rest) f.left_stand whole.1 (omega (arith, deep)) in
+      record { within = f.within; value = v.0; left = l.0; is = f.is ∙ ap₂ item (sym v.1) (sym l.1) }
 
   -- ---- the next member
 

@@ -1,5 +1,5 @@
 -- A value that is read with the items of one list apart: they are taken in turn, and the list stays behind without them.
-use Rattle.std.specs.Prelude.{◌≡◌, ℕ, pos, List, [], ◌∷◌, ◌++◌, length, false, if◌then◌else◌, Option, Some, None, ⊤}
+use Rattle.std.specs.Prelude.{◌≡◌, ℕ, pos, List, [], ◌∷◌, ◌++◌, length, Bool, false, if◌then◌else◌, Option, Some, None, ⊤}
 use Rattle.std.specs.Float.{binary64}
 use Rattle.std.specs.Float.Ieee.{of_int}
 use Rattle.std.specs.Str.{bytes_eq}
@@ -11,9 +11,8 @@ use Rattle.serde_json.specs.Read.{of_json, of_items, of_members, converted}
 use Rattle.serde_json.specs.Written.{items_have_float}
 use Rattle.cadf_json.specs.declared.node.Node.{Node}
 use Rattle.cadf_json.specs.declared.node.Node.TheVariants.{Array}
-use Rattle.cadf_json.specs.Flat.{Stands}
 use Rattle.cadf_json.specs.Parts.{to_list}
-use Rattle.cadf_json.specs.Reading.{Grown}
+use Rattle.cadf_json.specs.Reading.{Grown, StandsAsRead}
 use Rattle.cadf_json.specs.Value.{SpellsValue}
 
 abbrev pub a_fraction : Data
@@ -62,11 +61,11 @@ PassesList took t depth ts rest old new =
     × (new ≡ old ++ Array (record { size = 1; count = 0 }) ∷ []))
 
 -- the members that the tokens begin with, up to the closing brace, were appended without the items that were taken
-abbrev pub AppendsMembers : {T : Type 0} → (T → List Data → Type 0) → T → List ℕ → ℕ → List Token → List Token → List Node → List Node → List ℕ
+abbrev pub AppendsMembers : {T : Type 0} → (T → List Data → Type 0) → T → List ℕ → Bool → ℕ → List Token → List Token → List Node → List Node → List ℕ
     → List ℕ → Type 0
-AppendsMembers took t name depth ts rest old new u v =
+AppendsMembers took t name rising depth ts rest old new u v =
     (ms : Members) × ((converted (λ ms. of_members ms no_members) (members (value depth) (length ts) ts) ≡ Some (ms, rest))
-    × TookItems took t (get_member name ms) × Grown (λ w xs. Stands w (object (emptied_in name ms)) xs) old new u v)
+    × TookItems took t (get_member name ms) × Grown (λ w xs. StandsAsRead rising w (object (emptied_in name ms)) xs) old new u v)
 
 -- THE VALUE that the bytes spell is an object, e is it without the items of the list, and these were taken
 abbrev pub IsApart : {T : Type 0} → (T → List Data → Type 0) → T → List ℕ → List ℕ → Data → Type 0

@@ -130,6 +130,24 @@ abbrev pub put_all : Members → Members → Members
 put_all no_members found = found
 put_all (member k d ms) found = put_all ms (put k d found)
 
+abbrev mutual
+  -- the members of each object put one after another
+  pub settled : Data → Data
+  settled null = null
+  settled (boolean b) = boolean b
+  settled (number n) = number n
+  settled (string s) = string s
+  settled (array ds) = array (settled_items ds)
+  settled (object ms) = object (put_all (settled_members ms) no_members)
+
+  pub settled_items : Items → Items
+  settled_items no_items = no_items
+  settled_items (item d ds) = item (settled d) (settled_items ds)
+
+  pub settled_members : Members → Members
+  settled_members no_members = no_members
+  settled_members (member k d ms) = member k (settled d) (settled_members ms)
+
 -- a number isn't whole
 abbrev pub is_fraction : Node → Bool
 is_fraction Null = false

@@ -1,5 +1,5 @@
 -- What is appended as tokens are read: the nodes and the texts of the values.
-use Rattle.std.specs.Prelude.{◌≡◌, ℕ, ◌<◌, List, [], ◌∷◌, ◌++◌, length, Bool, true, false, Some, None, ⊤}
+use Rattle.std.specs.Prelude.{◌≡◌, ℕ, ◌<◌, ◌≤◌, List, [], ◌∷◌, ◌++◌, length, Bool, true, false, Some, None, ⊤}
 use Rattle.std.specs.Prelude.{if◌then◌else◌}
 use Rattle.std.specs.Ordering.{nat_cmp}
 use Rattle.std.specs.Cmp.Lexicographic.{slice_cmp}
@@ -10,10 +10,9 @@ use Rattle.json.specs.Json.{value, items, members}
 use Rattle.serde_json.specs.Data.{Num, Data, array, object, Items, Members, no_members, member}
 use Rattle.serde_json.specs.Read.{number_of, of_json, of_items, of_members, converted}
 use Rattle.cadf_json.specs.declared.node.Node.{Node}
-use Rattle.cadf_json.specs.declared.node.Node.TheVariants.{Null}
 use Rattle.cadf_json.specs.declared.order.Named.{Named}
 use Rattle.cadf_json.specs.declared.walk.FirstMember.{FirstMember}
-use Rattle.cadf_json.specs.Flat.{Stands, NumberStands, MembersStand, put_all}
+use Rattle.cadf_json.specs.Flat.{Stands, NumberStands, MembersStand, settled}
 
 -- nodes and texts were appended, and S holds of them
 pub record Grown (S : List ℕ → List Node → Type 0) (old new : List Node) (t u : List ℕ) : Type 0 where
@@ -23,23 +22,32 @@ pub record Grown (S : List ℕ → List Node → Type 0) (old new : List Node) (
   pub texts : u ≡ t ++ more
   pub stands : S u xs
 
-abbrev pub ReadsValue : ℕ → List Token → List Token → List Node → List Node → List ℕ → List ℕ → Type 0
-ReadsValue depth ts rest old new t u = (d : Data) × ((converted of_json (value depth ts) ≡ Some (d, rest)) × Grown (λ u xs. Stands u d xs) old new t u)
+-- the nodes are of members as they came: once put in order they are of d, and if all names rise they are so already
+pub record StandsAsRead (rising : Bool) (t : List ℕ) (d : Data) (xs : List Node) : Type 0 where
+  pub raw : Data
+  pub settles : settled raw ≡ d
+  pub same : rising ≡ true → raw ≡ d
+  pub stands : Stands t raw xs
+
+abbrev pub ReadsValue : Bool → ℕ → List Token → List Token → List Node → List Node → List ℕ → List ℕ → Type 0
+ReadsValue rising depth ts rest old new t u =
+    (d : Data) × ((converted of_json (value depth ts) ≡ Some (d, rest)) × Grown (λ u xs. StandsAsRead rising u d xs) old new t u)
 
 abbrev pub IsNoValue : ℕ → List Token → Type 0
 IsNoValue depth ts = converted of_json (value depth ts) ≡ None
 
-abbrev pub AreItemsRead : ℕ → List Token → List Token → List Node → List Node → List ℕ → List ℕ → Type 0
-AreItemsRead depth ts rest old new t u =
-    (ds : Items) × ((converted of_items (items (value depth) (length ts) ts) ≡ Some (ds, rest)) × Grown (λ u xs. Stands u (array ds) xs) old new t u)
+abbrev pub AreItemsRead : Bool → ℕ → List Token → List Token → List Node → List Node → List ℕ → List ℕ → Type 0
+AreItemsRead rising depth ts rest old new t u =
+    (ds : Items) × ((converted of_items (items (value depth) (length ts) ts) ≡ Some (ds, rest))
+    × Grown (λ u xs. StandsAsRead rising u (array ds) xs) old new t u)
 
 abbrev pub AreNoItems : ℕ → List Token → Type 0
 AreNoItems depth ts = converted of_items (items (value depth) (length ts) ts) ≡ None
 
-abbrev pub AreMembersRead : ℕ → List Token → List Token → List Node → List Node → List ℕ → List ℕ → Type 0
-AreMembersRead depth ts rest old new t u =
+abbrev pub AreMembersRead : Bool → ℕ → List Token → List Token → List Node → List Node → List ℕ → List ℕ → Type 0
+AreMembersRead rising depth ts rest old new t u =
     (ms : Members) × ((converted (λ ms. of_members ms no_members) (members (value depth) (length ts) ts) ≡ Some (ms, rest))
-    × Grown (λ u xs. Stands u (object ms) xs) old new t u)
+    × Grown (λ u xs. StandsAsRead rising u (object ms) xs) old new t u)
 
 abbrev pub AreNoMembers : ℕ → List Token → Type 0
 AreNoMembers depth ts = converted (λ ms. of_members ms no_members) (members (value depth) (length ts) ts) ≡ None
@@ -47,34 +55,21 @@ AreNoMembers depth ts = converted (λ ms. of_members ms no_members) (members (va
 abbrev pub IsNumberRead : List ℕ → List Node → List Node → List ℕ → List ℕ → Type 0
 IsNumberRead s old new t u = (n : Num) × ((number_of s ≡ Some n) × Grown (λ u xs. NumberStands u n xs) old new t u)
 
--- an object is open: its members follow the node at the place
-pub record IsOpen (t : List ℕ) (old nodes : List Node) (place : ℕ) (ms : Members) : Type 0 where
-  pub xs : List Node
-  pub is : nodes ≡ old ++ Null ∷ xs
-  pub place_is : place ≡ length old
-  pub stands : MembersStand t ms xs
-
-abbrev pub ordered : Bool → Members → Members
-ordered true ms = ms
-ordered false ms = put_all ms no_members
-
-abbrev pub IsClosed : List ℕ → List Node → List Node → Members → Type 0
-IsClosed t old nodes ms = (xs : List Node) × ((nodes ≡ old ++ xs) × Stands t (object ms) xs)
+-- the nodes of the value were appended
+abbrev pub Copied : List ℕ → Data → List Node → List Node → Type 0
+Copied t d old new = (xs : List Node) × ((new ≡ old ++ xs) × Stands t d xs)
 
 -- a name, and the last member of that name
 abbrev pub Entry : Type 0
 Entry = List ℕ × Named
 
--- the entries are the members, each with its nodes
-abbrev pub AreNamed : List ℕ → List Entry → Members → Type 0
-AreNamed t [] no_members = ⊤
-AreNamed t [] (member k d ms) = ⊥
-AreNamed t (e ∷ es) no_members = ⊥
-AreNamed t (e ∷ es) (member k d ms) = (e.0 ≡ k) × MembersStand t (member k d no_members) e.1.nodes.now × AreNamed t es ms
-
-abbrev pub nodes_of : List Entry → List Node
-nodes_of [] = []
-nodes_of (e ∷ es) = e.1.nodes.now ++ nodes_of es
+-- the entries are the members, each with its nodes, which are at most n
+abbrev pub AreNamed : List ℕ → ℕ → List Entry → Members → Type 0
+AreNamed t n [] no_members = ⊤
+AreNamed t n [] (member k d ms) = ⊥
+AreNamed t n (e ∷ es) no_members = ⊥
+AreNamed t n (e ∷ es) (member k d ms) =
+    (e.0 ≡ k) × MembersStand t (member k d no_members) e.1.nodes.now × (length e.1.nodes.now ≤ n) × AreNamed t n es ms
 
 -- the members put one after another at their names: of two with the same name the later one stays
 abbrev pub put_named : List Named → List Entry → List Entry
@@ -97,3 +92,4 @@ pub record IsFirstMember (t : List ℕ) (nodes : List Node) (k : List ℕ) (d : 
   pub value : Stands t d f.value.now
   pub rest : MembersStand t ms f.rest.now
   pub shorter : length f.rest.now < length nodes
+  pub within : length f.nodes.now ≤ length nodes

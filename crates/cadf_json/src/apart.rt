@@ -8,8 +8,8 @@ ghost use Rattle.cadf_json.specs.Value.{IsValue};
 
 use crate::Memory;
 use crate::node::{Extent, Node};
-use crate::order::end_members;
-use crate::push::{ReadFault, push_string};
+use crate::order::put_in_order;
+use crate::push::{ReadFault, extent_from, push_string};
 use crate::read::{MAX_DEPTH, read_value};
 use crate::rising::rises_to;
 use crate::value::{Json, JsonFault, has_fraction};
@@ -82,7 +82,7 @@ fn pass_list<T: ItemVisitor>(
 }
 
 /// Appends an object of the next members, the opening brace of which was read, but passes the items of the list `name`
-/// to the visitor.
+/// to the visitor. Returns whether the names of each object rise.
 fn pass_members<'a, T: ItemVisitor>(
     alloc: Global,
     reader: &mut Reader<'a>,
@@ -91,12 +91,11 @@ fn pass_members<'a, T: ItemVisitor>(
     taker: &mut T,
     nodes: &mut Vec<Node>,
     texts: &mut Vec<u8>,
-    spare: &mut Vec<Node>,
-) -> Result<(), ReadFault>
+) -> Result<bool, ReadFault>
     requires depth { depth ≤ 127 }
     requires utf8 { HaveUtf8 reader.old }
-    ensures { OnOk result
-        (AppendsMembers T.took taker.new name.now depth reader.old reader.new nodes.old.items nodes.new.items texts.old.items texts.new.items) }
+    ensures { IfOk result (λ rising.
+        AppendsMembers T.took taker.new name.now rising depth reader.old reader.new nodes.old.items nodes.new.items texts.old.items texts.new.items) }
 {
     let at = nodes.len();
     nodes.push(Node::Null)?;
@@ -109,7 +108,7 @@ fn pass_members<'a, T: ItemVisitor>(
             return Err(ReadFault::NotJson);
         };
         let Some(key) = key else {
-            return Ok(end_members(alloc, rising, at, count, nodes, texts, spare)?);
+            break;
         };
         if count == u32::MAX {
             return Err(ReadFault::Memory);
@@ -121,9 +120,12 @@ fn pass_members<'a, T: ItemVisitor>(
         if key == name {
             pass_list(alloc, reader, depth, &mut item, taker, nodes)?;
         } else {
-            read_value(alloc, reader, depth, nodes, texts, spare)?;
+            rising = read_value(reader, depth, nodes, texts)? & rising;
         }
     }
+    let extent = extent_from(nodes, at, count)?;
+    nodes[at] = Node::Object(extent);
+    Ok(rising)
 }
 
 /// Reads the object that the bytes spell into empty vectors, but passes the items of the list `name` to the visitor.
@@ -148,7 +150,7 @@ fn read_flat_apart<T: ItemVisitor>(
     let Some(Token::BeginObject) = reader.next() else {
         return Err(ReadFault::NotJson);
     };
-    pass_members(
+    let rising = pass_members(
         alloc,
         &mut reader,
         MAX_DEPTH - 1,
@@ -156,11 +158,11 @@ fn read_flat_apart<T: ItemVisitor>(
         taker,
         nodes,
         texts,
-        spare,
     )?;
     if reader.next().is_some() {
         return Err(ReadFault::NotJson);
     }
+    put_in_order(alloc, rising, nodes, texts, spare)?;
     if has_fraction(nodes.as_slice()) {
         return Err(ReadFault::NotJson);
     }

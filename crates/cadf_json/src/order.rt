@@ -1,9 +1,8 @@
-//! Members in the order of their names.
-ghost use Rattle.std.specs.Prelude.{◌≡◌, ◌≤◌, ◌++◌, [], OnOk, IfOk, length, List as ListOf};
-ghost use Rattle.serde_json.specs.Data.{Members, no_members};
-ghost use Rattle.cadf_json.specs.declared.node.Node.{Node as NodeOf};
-ghost use Rattle.cadf_json.specs.Flat.{MembersStand, put_all, members_count};
-ghost use Rattle.cadf_json.specs.Reading.{IsOpen, IsClosed, ordered, AreNamed, nodes_of, put_named, is_replaced as is_replaced_by, lasts};
+//! The members of each object in the order of their names.
+ghost use Rattle.std.specs.Prelude.{◌≡◌, [], OnOk, IfOk, length};
+ghost use Rattle.serde_json.specs.Data.{Data, Items, array, object, Members, no_members};
+ghost use Rattle.cadf_json.specs.Flat.{Stands, ItemsStand, MembersStand, put_all, items_count, settled, settled_items, settled_members};
+ghost use Rattle.cadf_json.specs.Reading.{StandsAsRead, Copied, AreNamed, put_named, is_replaced as is_replaced_by, lasts};
 
 use crate::node::Node;
 use crate::push::extent_from;
@@ -20,52 +19,28 @@ struct Named<'v> {
     nodes: &'v [Node],
 }
 
-/// Writes the node of an object whose members were appended after the node at `at`, once they are in order.
-pub(crate) fn end_members(
+/// Puts the members of each object in the order of their names, unless all rise; of two with the same name the later one
+/// stays.
+pub(crate) fn put_in_order(
     alloc: Global,
     rising: bool,
-    at: usize,
-    count: u32,
     nodes: &mut Vec<Node>,
     texts: &Vec<u8>,
     spare: &mut Vec<Node>,
 ) -> Result<(), AllocError>
-    requires { (old : ListOf NodeOf) × ((ms : Members) × (IsOpen texts.now.items old nodes.old.items at ms × (count ≡ members_count ms))) }
-    ensures { OnOk result ((old : ListOf NodeOf) (ms : Members) → IsOpen texts.now.items old nodes.old.items at ms → count ≡ members_count ms
-        → IsClosed texts.now.items old nodes.new.items (ordered rising ms)) }
-{
-    let kept = put_in_order(alloc, rising, at, count, nodes, texts, spare)?;
-    let extent = extent_from(nodes, at, kept)?;
-    nodes[at] = Node::Object(extent);
-    Ok(())
-}
-
-/// Puts the members that were appended after the node at `at` in the order of their names, unless they rise; of two with
-/// the same name the later one stays. Returns how many there are.
-fn put_in_order(
-    alloc: Global,
-    rising: bool,
-    at: usize,
-    count: u32,
-    nodes: &mut Vec<Node>,
-    texts: &Vec<u8>,
-    spare: &mut Vec<Node>,
-) -> Result<u32, AllocError>
-    requires { (old : ListOf NodeOf) × ((ms : Members) × IsOpen texts.now.items old nodes.old.items at ms) }
-    ensures { IfOk result (λ n. (old : ListOf NodeOf) (ms : Members) → IsOpen texts.now.items old nodes.old.items at ms → count ≡ members_count ms
-        → IsOpen texts.now.items old nodes.new.items at (ordered rising ms) × (n ≡ members_count (ordered rising ms))) }
+    requires { (d : Data) × StandsAsRead rising texts.now.items d nodes.old.items }
+    ensures { OnOk result ((d : Data) → StandsAsRead rising texts.now.items d nodes.old.items → Stands texts.now.items d nodes.new.items) }
 {
     if rising {
-        return Ok(count);
+        return Ok(());
     }
-    let first = at + 1;
     spare.clear();
-    spare.reserve(nodes.len() - first)?;
-    let count = copy_in_order(alloc, count, &nodes[first..], texts.as_slice(), spare)?;
-    nodes.truncate(first);
+    spare.reserve(nodes.len())?;
+    copy_value(alloc, nodes.as_slice(), texts.as_slice(), spare)?;
+    nodes.clear();
     nodes.extend_from_slice(spare.as_slice())?;
     free_if_large(alloc, spare);
-    Ok(count)
+    Ok(())
 }
 
 /// Frees the memory if it is for many nodes.
@@ -75,23 +50,85 @@ fn free_if_large(alloc: Global, spare: &mut Vec<Node>) {
     }
 }
 
-/// Appends the members in the order of their names, and returns how many there are. Room is made for `count` members.
-fn copy_in_order(
+/// Appends a value, with the members of each object in order.
+#[cycle(copy_value)]
+fn copy_value(
+    alloc: Global,
+    value: &[Node],
+    texts: &[u8],
+    out: &mut Vec<Node>,
+) -> Result<(), AllocError>
+    requires { (d : Data) × Stands texts.now d value.now }
+    ensures { OnOk result ((d : Data) → Stands texts.now d value.now → Copied texts.now (settled d) out.old.items out.new.items) }
+{
+    let first = value[0];
+    match first {
+        Node::Array(extent) => copy_items(alloc, extent.count, &value[1..], texts, out),
+        Node::Object(extent) => copy_members(alloc, extent.count, &value[1..], texts, out),
+        _ => Ok(out.push(first)?),
+    }
+}
+
+/// Appends a list of the items.
+#[cycle(copy_value)]
+fn copy_items(
+    alloc: Global,
+    count: u32,
+    items: &[Node],
+    texts: &[u8],
+    out: &mut Vec<Node>,
+) -> Result<(), AllocError>
+    requires { (ds : Items) × ItemsStand texts.now ds items.now }
+    ensures { OnOk result ((ds : Items) → ItemsStand texts.now ds items.now → count ≡ items_count ds
+        → Copied texts.now (array (settled_items ds)) out.old.items out.new.items) }
+{
+    let at = out.len();
+    out.push(Node::Null)?;
+    let mut rest = items;
+    'items: while !rest.is_empty() {
+        let (item, later) = rest.split_at(rest[0].size());
+        copy_value(alloc, item, texts, out)?;
+        rest = later;
+    }
+    let extent = extent_from(out, at, count)?;
+    out[at] = Node::Array(extent);
+    Ok(())
+}
+
+/// Appends an object of the members. Room is made for `count` of them.
+#[cycle(copy_value)]
+fn copy_members(
     alloc: Global,
     count: u32,
     members: &[Node],
     texts: &[u8],
     out: &mut Vec<Node>,
-) -> Result<u32, AllocError>
+) -> Result<(), AllocError>
     requires { (ms : Members) × MembersStand texts.now ms members.now }
-    ensures { IfOk result (λ n. (ms : Members) → MembersStand texts.now ms members.now
-        → ((xs : ListOf NodeOf) × ((out.new.items ≡ out.old.items ++ xs) × MembersStand texts.now (put_all ms no_members) xs))
-        × (n ≡ members_count (put_all ms no_members))) }
+    ensures { OnOk result ((ms : Members) → MembersStand texts.now ms members.now
+        → Copied texts.now (object (put_all (settled_members ms) no_members)) out.old.items out.new.items) }
 {
+    let start = out.len();
+    out.push(Node::Null)?;
     let mut named = by_name(alloc, count, members, texts)?;
     sort(&mut named)?;
-    let count = copy_lasts(named.as_slice(), out)?;
-    Ok(count)
+    let mut kept: u32 = 0;
+    let mut at = 0;
+    'members: while at < named.len() {
+        let member = named[at];
+        at += 1;
+        if !is_replaced(member.name, &named[at..]) {
+            out.push(member.nodes[0])?;
+            copy_value(alloc, &member.nodes[1..], texts, out)?;
+            if kept == u32::MAX {
+                return Err(AllocError);
+            }
+            kept += 1;
+        }
+    }
+    let extent = extent_from(out, start, kept)?;
+    out[start] = Node::Object(extent);
+    Ok(())
 }
 
 /// Finds the name and the nodes of each member.
@@ -103,7 +140,7 @@ fn by_name<'v>(
 ) -> Result<Vec<Named<'v>>, AllocError>
     requires { (ms : Members) × MembersStand texts.now ms members.now }
     ensures { IfOk result (λ named. (ms : Members) → MembersStand texts.now ms members.now
-        → AreNamed texts.now (put_named named.items []) (put_all ms no_members)) }
+        → AreNamed texts.now (length members.now) (put_named named.items []) (put_all ms no_members)) }
 {
     let mut named = Vec::with_capacity(alloc, count as usize)?;
     let mut rest = members;
@@ -123,27 +160,6 @@ fn sort(named: &mut Vec<Named<'_>>) -> Result<(), AllocError>
     ensures { OnOk result (lasts named.new.items ≡ put_named named.old.items []) }
 {
     named.sort_by(|one, other| one.name.cmp(other.name))
-}
-
-/// Appends the nodes of the last member of each name, and returns how many there are.
-fn copy_lasts(named: &[Named<'_>], out: &mut Vec<Node>) -> Result<u32, AllocError>
-    ensures nodes { OnOk result (out.new.items ≡ out.old.items ++ nodes_of (lasts named.now)) }
-    ensures count { IfOk result (λ n. n ≡ length (lasts named.now)) }
-{
-    let mut count: u32 = 0;
-    let mut at = 0;
-    'members: while at < named.len() {
-        let member = named[at];
-        at += 1;
-        if !is_replaced(member.name, &named[at..]) {
-            out.extend_from_slice(member.nodes)?;
-            if count == u32::MAX {
-                return Err(AllocError);
-            }
-            count += 1;
-        }
-    }
-    Ok(count)
 }
 
 /// Returns whether the first of the later members has this name too.

@@ -6,7 +6,7 @@ use Rattle.cadf_json.proofs.Firsts.{some_member}
 use Rattle.cadf_json.proofs.order.by_name.Goals as goal
 
 pub members-init : goal.members-init
-members-init c = λ ms h. naming_start c.args.texts.now _ c.args.members.now ms (ap (λ ps. put_named ps []) c.in_ok-named.ensures.items) h
+members-init c = λ ms h. naming_start c.args.texts.now (length c.args.members.now) _ c.args.members.now ms (ap (λ ps. put_named ps []) c.in_ok-named.ensures.items) h (omega arith)
 
 pub first_member-first-requires : goal.first_member-first-requires
 first_member-first-requires c =
@@ -32,11 +32,11 @@ members-preserved c = λ ms h.
     let p : Named = record { name = f.name; nodes = f.nodes } in
     let n = c.members.invariant ms h in
     let l = some_member t rest n.left (grind arith) n.stands in
-    subst (λ es. Naming t es f.rest.now ms) (sym (ap (λ ps. put_named ps []) c.in_ok-push.ensures.items ∙ put_named_push c.members.named.items p []))
-    (naming_more t (put_named c.members.named.items []) rest ms l.0 l.1.0 l.1.1.0 f p n l.1.1.1.0
+    subst (λ es. Naming t (length c.args.members.now) es f.rest.now ms) (sym (ap (λ ps. put_named ps []) c.in_ok-push.ensures.items ∙ put_named_push c.members.named.items p []))
+    (naming_more t (length c.args.members.now) (put_named c.members.named.items []) rest ms l.0 l.1.0 l.1.1.0 f p n l.1.1.1.0
     (c.first_member-first.ensures l.0 l.1.0 l.1.1.0 l.1.1.1.1) refl)
 
 pub returns : goal.returns
 returns c = λ ms h.
     let none : length c.members.rest.now ≡ 0 = grind arith in
-    naming_over c.args.texts.now (put_named c.members.named.items []) c.members.rest.now ms none (c.members.invariant ms h)
+    naming_over c.args.texts.now (length c.args.members.now) (put_named c.members.named.items []) c.members.rest.now ms none (c.members.invariant ms h)

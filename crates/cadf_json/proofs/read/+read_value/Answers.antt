@@ -1,15 +1,16 @@
-use Rattle.std.proofs.Common.{◌≡◌, ◌-◌, ◌+◌, ◌<◌, ◌++◌, [], ◌∷◌, length, set, true, Some, None, Err, option_map, refl, sym, ap, ◌∙◌, subst, arith, rules, append-nil}
+use Rattle.std.proofs.Common.{◌≡◌, ◌-◌, ◌+◌, ◌<◌, ◌++◌, [], ◌∷◌, length, set, true, ◌&&◌, Some, None, Err, option_map, refl, sym, ap, ◌∙◌, subst, arith, rules, append-nil}
 use Rattle.json.specs.Json.{parse_map, after_end_array, read_key, items, members, value}
 use Rattle.json.specs.Reads.{token_of}
 use Rattle.json.proofs.Grammar.{value_is, value-begin_array, value-begin_object, read_key-shorter}
 use Rattle.serde_json.specs.Data.{null, boolean, number, string, array, object}
 use Rattle.serde_json.specs.Read.{of_json, converted}
 use Rattle.cadf_json.proofs.Turns.{converted-array, converted-object}
-use Rattle.cadf_json.specs.declared.node.Node.TheVariants.{Null, Array}
+use Rattle.cadf_json.specs.declared.node.Node.TheVariants.{Null, Array, Object}
 use Rattle.cadf_json.specs.declared.push.ReadFault.TheVariants.{NotJson}
 use Rattle.json.specs.Reads.{opens}
+use Rattle.cadf_json.proofs.Settling.{scalar}
 use Rattle.cadf_json.proofs.Loops.{too_deep, ItemsRead, MembersRead, items_start, one_more_item, all_items, no_items_here}
-use Rattle.cadf_json.proofs.Loops.{members_start, one_more_member, is_open, all_members, no_key_here, no_member_here}
+use Rattle.cadf_json.proofs.Loops.{members_start, one_more_member, all_members, no_key_here, no_member_here}
 use Rattle.cadf_json.proofs.read.+read_value.Goals as goal
 
 -- ---- a value
@@ -67,7 +68,7 @@ pub read_value-returns-in_ok-push_string-in-String-clause-ok : goal.read_value-r
 read_value-returns-in_ok-push_string-in-String-clause-ok t c =
     let rest = c.next.new.self in
     let is = c.in-Some.ensures.value ∙ ap (λ k. token_of k ∷ rest) c.in-String.is in
-    (string c.in-String.text.now, (ap (converted of_json) (ap (value c.args.depth) is ∙ value_is c.args.depth _), c.in_ok-push_string-in-String.ensures))
+    (string c.in-String.text.now, (ap (converted of_json) (ap (value c.args.depth) is ∙ value_is c.args.depth _), scalar (string _) refl c.in_ok-push_string-in-String.ensures))
 
 pub read_value-returns-in_ok-push_number-in-Number-clause-ok : goal.read_value-returns-in_ok-push_number-in-Number-clause-ok
 read_value-returns-in_ok-push_number-in-Number-clause-ok t c =
@@ -77,7 +78,7 @@ read_value-returns-in_ok-push_number-in-Number-clause-ok t c =
       number read.0,
       (
         ap (converted of_json) (ap (value c.args.depth) is ∙ value_is c.args.depth _) ∙ ap (λ n. option_map (λ d. (d, rest)) (option_map number n)) read.1.0,
-        read.1.1,
+        scalar (number _) refl read.1.1,
       ),
     )
 
@@ -88,7 +89,7 @@ read_value-returns-in_ok-push-in-Bool-clause-ok t c =
       boolean c.in-Bool.b,
       (
         ap (converted of_json) (ap (value c.args.depth) is ∙ value_is c.args.depth _),
-        record { xs = _ ∷ []; more = []; nodes = search rules; texts = sym (append-nil _); stands = refl },
+        record { xs = _ ∷ []; more = []; nodes = search rules; texts = sym (append-nil _); stands = record { raw = _; settles = refl; same = λ r. refl; stands = refl } },
       ),
     )
 
@@ -99,12 +100,12 @@ read_value-returns-in_ok-push-in-Null-clause-ok t c =
       null,
       (
         ap (converted of_json) (ap (value c.args.depth) is ∙ value_is c.args.depth _),
-        record { xs = _ ∷ []; more = []; nodes = search rules; texts = sym (append-nil _); stands = refl },
+        record { xs = _ ∷ []; more = []; nodes = search rules; texts = sym (append-nil _); stands = record { raw = _; settles = refl; same = λ r. refl; stands = refl } },
       ),
     )
 
-pub read_value-returns-in_ok-read_items-in-BeginArray-clause-ok : goal.read_value-returns-in_ok-read_items-in-BeginArray-clause-ok
-read_value-returns-in_ok-read_items-in-BeginArray-clause-ok t c =
+pub read_value-returns-in-BeginArray-clause-ok : goal.read_value-returns-in-BeginArray-clause-ok
+read_value-returns-in-BeginArray-clause-ok t c =
     let rest = c.next.new.self in
     let is = c.in-Some.ensures.value ∙ ap (λ k. token_of k ∷ rest) c.in-BeginArray.is in
     let opened = ap (converted of_json) (ap (value c.args.depth) is ∙ value-begin_array c.args.depth rest (omega arith))
@@ -112,8 +113,8 @@ read_value-returns-in_ok-read_items-in-BeginArray-clause-ok t c =
     let done = c.in_ok-read_items-in-BeginArray.ensures.ok in
     (array done.0, (opened ∙ ap (parse_map array) done.1.0, done.1.1))
 
-pub read_value-returns-in_ok-read_members-in-BeginObject-clause-ok : goal.read_value-returns-in_ok-read_members-in-BeginObject-clause-ok
-read_value-returns-in_ok-read_members-in-BeginObject-clause-ok t c =
+pub read_value-returns-in-BeginObject-clause-ok : goal.read_value-returns-in-BeginObject-clause-ok
+read_value-returns-in-BeginObject-clause-ok t c =
     let rest = c.next.new.self in
     let is = c.in-Some.ensures.value ∙ ap (λ k. token_of k ∷ rest) c.in-BeginObject.is in
     let opened = ap (converted of_json) (ap (value c.args.depth) is ∙ value-begin_object c.args.depth rest (omega arith))
@@ -130,30 +131,30 @@ read_items-items-init t c =
     let pushed : c.push.new.self.items ≡ old ++ Null ∷ [] = search rules in
     let len = c.args.nodes.now.ok.0 in
     let at = c.len-at.ensures in (
-      subst (λ xs. ItemsRead (value c.args.depth) c.args.reader.now c.args.reader.now old xs u u 0) (sym pushed)
+      subst (λ xs. ItemsRead (value c.args.depth) c.args.reader.now c.args.reader.now old xs u u 0 true) (sym pushed)
           (items_start (value c.args.depth) c.args.reader.now old u),
       omega (arith, len, at),
     )
 
-pub read_items-returns-in_err-read_value-clause-not_json : goal.read_items-returns-in_err-read_value-clause-not_json
-read_items-returns-in_err-read_value-clause-not_json t c h =
+pub read_items-returns-in_err-rising-clause-not_json : goal.read_items-returns-in_err-rising-clause-not_json
+read_items-returns-in_err-rising-clause-not_json t c h =
     let l = c.items in
     let going : (after_end_array l.reader ≡ None) × (c.take_end_array.new.self ≡ l.reader) = grind arith in
-    let failed : Err c.in_err-read_value.field-0.0 ≡ Err NotJson = search rules in
-    no_items_here (value c.args.depth) c.args.reader.now c.args.nodes.now.items c.args.texts.now.items l.reader l.nodes.items l.texts.items l.count l.invariant.0
-    going.0 (subst (λ ts. converted of_json (value c.args.depth ts) ≡ None) going.1 (c.in_err-read_value.ensures.not_json failed))
+    let failed : Err c.in_err-rising.field-0.0 ≡ Err NotJson = search rules in
+    no_items_here (value c.args.depth) c.args.reader.now c.args.nodes.now.items c.args.texts.now.items l.reader l.nodes.items l.texts.items l.count l.rising l.invariant.0
+    going.0 (subst (λ ts. converted of_json (value c.args.depth ts) ≡ None) going.1 (c.in_err-rising.ensures.not_json failed))
 
 pub read_items-items-preserved : goal.read_items-items-preserved
 read_items-items-preserved t c =
     let l = c.items in
     let p = value c.args.depth in
     let going : (after_end_array l.reader ≡ None) × (c.take_end_array.new.self ≡ l.reader) = grind arith in
-    let done = c.in_ok-read_value.ensures in
+    let done = c.in_ok-rising.ensures in
     let r = c.read_value.new.reader in
     let less : length r < length l.reader = rw (← going.1) done.shorter in
     let read = done.ok in (
       one_more_item p c.args.reader.now c.args.nodes.now.items c.args.texts.now.items l.reader r l.nodes.items c.read_value.new.nodes.items l.texts.items
-          c.read_value.new.texts.items l.count read.0 l.invariant.0 going.0 (rw (← going.1) read.1.0) read.1.1 less,
+          c.read_value.new.texts.items l.count l.rising _ read.0 l.invariant.0 going.0 (rw (← going.1) read.1.0) read.1.1 less,
       l.invariant.1,
     )
 
@@ -162,7 +163,7 @@ read_items-returns-clause-ok t c =
     let l = c.items in
     let len = l.nodes.ok.0 in
     all_items (value c.args.depth) c.args.reader.now c.args.nodes.now.items c.args.texts.now.items l.reader c.take_end_array.new.self l.nodes.items
-    (set l.nodes.items c.len-at.result (Array c.in_ok-extent.extent)) l.texts.items l.count c.len-at.result l.nodes.len c.in_ok-extent.extent l.invariant.0 (grind arith)
+    (set l.nodes.items c.len-at.result (Array c.in_ok-extent.extent)) l.texts.items l.count c.len-at.result l.nodes.len l.rising c.in_ok-extent.extent l.invariant.0 (grind arith)
     l.invariant.1 (omega (arith, len)) c.in_ok-extent.ensures refl
 
 -- ---- members
@@ -186,30 +187,25 @@ read_members-returns-in_default-clause-not_json t c h =
     no_key_here (value c.args.depth) c.args.reader.now c.args.nodes.now.items c.args.texts.now.items l.reader l.nodes.items l.texts.items l.count
     (option_map (λ x. x.now) l.last) l.rising l.invariant.0 key
 
-pub read_members-returns-in_default-key-clause-ok : goal.read_members-returns-in_default-key-clause-ok
-read_members-returns-in_default-key-clause-ok t c =
+pub read_members-returns-clause-ok : goal.read_members-returns-clause-ok
+read_members-returns-clause-ok t c =
     let l = c.members in
-    let p = value c.args.depth in
-    let start = c.args.reader.now in
-    let old = c.args.nodes.now.items in
-    let u = c.args.texts.now.items in
-    let last = option_map (λ x. x.now) l.last in
     let s = c.next_key.new.self in
-    let over = c.in-Ok.ensures.value ∙ ap (λ o. Some (option_map (λ x. x.now) o, s)) c.in_default-key.is in
-    let h = l.invariant.0 in
-    let open_now = is_open p start old u l.reader l.nodes.items l.texts.items l.count last l.rising c.len-at.result h l.invariant.1 in
-    all_members p start old u l.reader s l.nodes.items c.end_members.new.nodes.items l.texts.items l.count last l.rising h over
-    (c.in_ok-end_members.ensures old h.got open_now h.counted)
+    let over : read_key l.reader ≡ Some (None, s) = c.in-Ok.ensures.value ∙ ap (λ o. Some (option_map (λ x. x.now) o, s)) c.in_default-key.is in
+    let len = l.nodes.ok.0 in
+    all_members (value c.args.depth) c.args.reader.now c.args.nodes.now.items c.args.texts.now.items l.reader s l.nodes.items
+    (set l.nodes.items c.len-at.result (Object c.in_ok-extent.extent)) l.texts.items l.count c.len-at.result l.nodes.len (option_map (λ x. x.now) l.last) l.rising
+    c.in_ok-extent.extent l.invariant.0 over l.invariant.1 (omega (arith, len)) c.in_ok-extent.ensures refl
 
-pub read_members-returns-in_err-read_value-clause-not_json : goal.read_members-returns-in_err-read_value-clause-not_json
-read_members-returns-in_err-read_value-clause-not_json t c h =
+pub read_members-returns-in_err-rising-clause-not_json : goal.read_members-returns-in_err-rising-clause-not_json
+read_members-returns-in_err-rising-clause-not_json t c h =
     let l = c.members in
     let k = c.in-Some.name in
     let s = c.next_key.new.self in
     let named : read_key l.reader ≡ Some (Some k.now, s) = c.in-Ok.ensures.value ∙ ap (λ o. Some (option_map (λ x. x.now) o, s)) c.in-Some.is in
-    let failed : Err c.in_err-read_value.field-0.0 ≡ Err NotJson = search rules in
+    let failed : Err c.in_err-rising.field-0.0 ≡ Err NotJson = search rules in
     no_member_here (value c.args.depth) c.args.reader.now c.args.nodes.now.items c.args.texts.now.items l.reader s l.nodes.items l.texts.items l.count
-    (option_map (λ x. x.now) l.last) l.rising k.now l.invariant.0 named (c.in_err-read_value.ensures.not_json failed)
+    (option_map (λ x. x.now) l.last) l.rising k.now l.invariant.0 named (c.in_err-rising.ensures.not_json failed)
 
 pub read_members-members-preserved : goal.read_members-members-preserved
 read_members-members-preserved t c =
@@ -222,15 +218,16 @@ read_members-members-preserved t c =
     let k = c.in-Some.name in
     let s = c.next_key.new.self in
     let named : read_key l.reader ≡ Some (Some k.now, s) = c.in-Ok.ensures.value ∙ ap (λ o. Some (option_map (λ x. x.now) o, s)) c.in-Some.is in
-    let done = c.in_ok-read_value.ensures in
+    let done = c.in_ok-rising.ensures in
     let r = c.read_value.new.reader in
     let sooner = read_key-shorter l.reader (Some k.now) s named in
     let later = done.shorter in
     let less : length r < length l.reader = omega (arith, sooner, later) in
     let read = done.ok in (
-      subst (λ b. MembersRead p start r old c.read_value.new.nodes.items u c.read_value.new.texts.items (l.count + 1) (Some k.now) b) (sym c.rises_to-rising.ensures)
+      subst (λ b. MembersRead p start r old c.read_value.new.nodes.items u c.read_value.new.texts.items (l.count + 1) (Some k.now) (c.in_ok-rising.field-0 && b))
+          (sym c.rises_to-rising.ensures)
           (one_more_member p start old u l.reader s r l.nodes.items c.push_string.new.nodes.items c.read_value.new.nodes.items l.texts.items
-          c.push_string.new.texts.items c.read_value.new.texts.items l.count last l.rising k.now read.0 l.invariant.0 named c.in_ok-push_string.ensures read.1.0
+          c.push_string.new.texts.items c.read_value.new.texts.items l.count last l.rising _ k.now read.0 l.invariant.0 named c.in_ok-push_string.ensures read.1.0
           read.1.1 less),
       l.invariant.1,
     )

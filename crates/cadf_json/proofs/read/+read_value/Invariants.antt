@@ -14,7 +14,7 @@ decreases-read_members l = 2 * l.depth + 1
 
 abbrev pub invariant-read_items-items : goal.invariant-read_items-items
 invariant-read_items-items l =
-    ItemsRead (value l.depth) l.initial.reader l.reader l.fn.nodes.items l.nodes.items l.fn.texts.items l.texts.items l.count
+    ItemsRead (value l.depth) l.initial.reader l.reader l.fn.nodes.items l.nodes.items l.fn.texts.items l.texts.items l.count l.rising
     × (l.at ≡ length l.fn.nodes.items)
 
 abbrev pub decreases-read_items-items : goal.decreases-read_items-items
