@@ -35,9 +35,9 @@ module _ (t : List ℕ) (n : ℕ) where
   named_put (e ∷ es) (member l f ms) k p d h at within =
       let here = subst (λ m. MembersStand t (member m f no_members) e.1.nodes.now) (sym h.0) h.1 in
       subst (λ name. AreNamed t n (entries.put name_cmp k p (e ∷ es)) (put k d (member name f ms))) h.0
-      (named_either (name_cmp k e.0) _ _ _ _ _ _ (λ o. (refl, at, within, (refl, here, h.2)))
-      (λ o. (refl, subst (λ m. MembersStand t (member m d no_members) p.nodes.now) (same_name k e.0 o) at, within, h.2.1))
-      (λ o. (refl, here, h.2.0, named_put es ms k p d h.2.1 at within)))
+      (named_either (name_cmp k e.0) _ _ _ _ _ _ (λ o. (refl, at, within, (refl, here, h.2, h.3)))
+      (λ o. (refl, subst (λ m. MembersStand t (member m d no_members) p.nodes.now) (same_name k e.0 o) at, within, h.3))
+      (λ o. (refl, here, h.2, named_put es ms k p d h.3 at within)))
 
   -- ---- one after another
 

@@ -1,5 +1,6 @@
 -- Nodes that are copied with members in order: the loops over items and over members.
-use Rattle.std.proofs.Common.{◌≡◌, ℕ, suc, ◌+◌, ◌-◌, ◌<◌, ◌≤◌, List, [], ◌∷◌, ◌++◌, length, set, take, drop, refl, sym, ap, ap₂, ◌∙◌, subst, arith, inl, inr, append_assoc, append-nil}
+use Rattle.std.proofs.Common.{◌≡◌, ℕ, suc, ◌+◌, ◌-◌, ◌<◌, ◌≤◌, List, [], ◌∷◌, ◌++◌, length, set, take, drop, refl, sym, ap, ap₂, ◌∙◌, subst, arith, inl, inr, append_assoc, append-nil, length-append}
+use Rattle.std.specs.Prelude.{slice_index_or}
 use Rattle.serde_json.specs.Data.{Data, null, boolean, number, string, array, object, Items, no_items, item, Members, no_members, member}
 use Rattle.cadf_json.specs.declared.node.Extent.{Extent}
 use Rattle.cadf_json.specs.declared.node.Place.{Place}
@@ -7,7 +8,7 @@ use Rattle.cadf_json.specs.declared.node.Node.{Node}
 use Rattle.cadf_json.specs.declared.node.Node.TheVariants.{Null, Bool as Truth, Whole, Fraction, Text, Array, Object}
 use Rattle.cadf_json.specs.Flat.{IsTextAt, Stands, ItemsStand, MembersStand, items_count, members_count, put_all, settled, settled_items, settled_members}
 use Rattle.cadf_json.specs.Reading.{Entry, Copied, AreNamed}
-use Rattle.cadf_json.proofs.Firsts.{FirstItem}
+use Rattle.cadf_json.proofs.Firsts.{FirstItem, no_item, tail_of, tail_is}
 use Rattle.cadf_json.proofs.Loops.{closed_at, size_is}
 use Rattle.cadf_json.proofs.Orders.{joined, joined-none, joined-one}
 use Rattle.cadf_json.proofs.Passing.{with_last, followed, followed-none, followed-last}
@@ -26,10 +27,7 @@ Begun t (Text p) d ys = (ys ≡ []) × (settled d ≡ d)
 Begun t (Array e) d ys = (ds : Items) × ((d ≡ array ds) × (e.count ≡ items_count ds) × ItemsStand t ds ys)
 Begun t (Object e) d ys = (ms : Members) × ((d ≡ object ms) × MembersStand t ms ys)
 
-abbrev pub IsBegun : List ℕ → Data → List Node → Type 0
-IsBegun t d xs = (x : Node) × ((ys : List Node) × ((xs ≡ x ∷ ys) × Begun t x d ys))
-
-pub begun : (t : List ℕ) (d : Data) (xs : List Node) → Stands t d xs → IsBegun t d xs
+begun : (t : List ℕ) (d : Data) (xs : List Node) → Stands t d xs → (x : Node) × ((ys : List Node) × ((xs ≡ x ∷ ys) × Begun t x d ys))
 begun t null xs h = (Null, ([], (h, (refl, refl))))
 begun t (boolean b) xs h = (Truth b, ([], (h, (refl, refl))))
 begun t (number n) xs (inl (p, (is, at, whole))) = (Whole p, ([], (is, (refl, refl))))
@@ -37,6 +35,30 @@ begun t (number n) xs (inr (is, float)) = (Fraction, ([], (is, (refl, refl))))
 begun t (string s) xs (p, (is, at)) = (Text p, ([], (is, (refl, refl))))
 begun t (array ds) xs (e, (ys, (is, extent, h))) = (Array e, (ys, (is, (ds, (refl, extent.1, h)))))
 begun t (object ms) xs (e, (ys, (is, extent, h))) = (Object e, (ys, (is, (ms, (refl, h)))))
+
+pub nonempty : (t : List ℕ) (d : Data) (xs : List Node) → Stands t d xs → xs ≡ slice_index_or xs 0 Null ∷ tail_of xs
+nonempty t d xs h =
+    let b = begun t d xs h in
+    b.1.1.0 ∙ ap₂ (λ x ys. x ∷ ys) (sym (ap (λ ns. slice_index_or ns 0 Null) b.1.1.0)) (sym (tail_is b.0 xs b.1.0 b.1.1.0))
+
+pub begun_by : (t : List ℕ) (d : Data) (xs : List Node) (x : Node) → Stands t d xs → slice_index_or xs 0 Null ≡ x → Begun t x d (tail_of xs)
+begun_by t d xs x h is =
+    let b = begun t d xs h in
+    subst (λ y. Begun t y d (tail_of xs)) (sym (ap (λ ns. slice_index_or ns 0 Null) b.1.1.0) ∙ is)
+    (subst (Begun t b.0 d) (sym (tail_is b.0 xs b.1.0 b.1.1.0)) b.1.1.1)
+
+pub scalar_begun : (t : List ℕ) (x : Node) (d : Data) (ys : List Node) → Begun t x d ys → ((e : Extent) → x ≡ Array e → ⊥)
+    → ((e : Extent) → x ≡ Object e → ⊥) → (ys ≡ []) × (settled d ≡ d)
+scalar_begun t Null d ys h no_list no_object = h
+scalar_begun t (Truth b) d ys h no_list no_object = h
+scalar_begun t (Whole p) d ys h no_list no_object = h
+scalar_begun t Fraction d ys h no_list no_object = h
+scalar_begun t (Text p) d ys h no_list no_object = h
+scalar_begun t (Array e) d ys h no_list no_object = absurd (no_list e refl)
+scalar_begun t (Object e) d ys h no_list no_object = absurd (no_object e refl)
+
+pub place_within : (old out xs : List Node) (place : ℕ) → out ≡ old ++ Null ∷ xs → place ≡ length old → place < length out
+place_within old out xs place is at = let long = ap length is ∙ length-append old (Null ∷ xs) in omega (arith, long, at)
 
 -- ---- items
 
@@ -66,15 +88,11 @@ module _ (t : List ℕ) (ds : Items) (old : List Node) where
         (items_last t (settled_items h.done) (settled f.value) h.xs copy.0 h.stands copy.1.1);
   }
 
-  no_item : (rest : List Node) (left : Items) → length rest ≡ 0 → ItemsStand t left rest → left ≡ no_items
-  no_item rest no_items none h = refl
-  no_item rest (item d later) none (ys, (zs, (is, value, k))) = absurd cc
-
   pub copied_all : (rest out new : List Node) (count place len : ℕ) (e : Extent) → ItemsCopied t ds rest old out → length rest ≡ 0 → count ≡ items_count ds
       → place ≡ length old → len ≡ length out → (e.size ≡ len - place) × (e.count ≡ count) → new ≡ set out place (Array e)
       → Copied t (array (settled_items ds)) old new
   copied_all rest out new count place len e h none counted at whole extent stored =
-      let is : h.done ≡ ds = sym (followed-none h.done) ∙ ap (followed h.done) (sym (no_item rest h.left none h.left_stand)) ∙ h.all in (
+      let is : h.done ≡ ds = sym (followed-none h.done) ∙ ap (followed h.done) (sym (no_item t rest h.left none h.left_stand)) ∙ h.all in (
         Array e ∷ h.xs,
         (
           closed_at old out new h.xs (Array e) place h.out_are at stored,
@@ -134,6 +152,11 @@ module _ (t : List ℕ) (n : ℕ) where
     within = within;
     named = h;
   }
+
+  -- the first of the entries that are left
+  pub first_kept : {ms : Members} {fs es : List Entry} {e : Entry} {old out : List Node} {kept : ℕ} → (now : fs ≡ e ∷ es)
+      → (h : MembersCopied t n ms fs old out kept) → FirstNamed t n e es (subst (λ gs. MembersCopied t n ms gs old out kept) now h).left
+  first_kept {ms} {fs} {es} {e} {old} {out} {kept} now h = first_named e es _ (subst (λ gs. MembersCopied t n ms gs old out kept) now h).named
 
   none_named : (left : Members) → AreNamed t n [] left → left ≡ no_members
   none_named no_members h = refl

@@ -1,5 +1,5 @@
 -- The first of several values: how many nodes it has.
-use Rattle.std.proofs.Common.{◌≡◌, ℕ, suc, ◌+◌, ◌-◌, ◌<◌, List, [], ◌∷◌, ◌++◌, length, take, drop, refl, sym, ap, ap₂, ◌∙◌, subst, arith, inl, inr, append-nil, length-append, take_all}
+use Rattle.std.proofs.Common.{◌≡◌, ℕ, suc, ◌+◌, ◌-◌, ◌<◌, ◌≤◌, List, [], ◌∷◌, ◌++◌, length, take, drop, refl, sym, ap, ap₂, ◌∙◌, subst, arith, inl, inr, append-nil, length-append, take_all}
 use Rattle.std.proofs.Math.Seq.{take-append_seam, drop-append_seam}
 use Rattle.std.specs.Prelude.{slice_index_or}
 use Rattle.serde_json.specs.Data.{Num, Data, null, boolean, number, string, array, object, Items, no_items, item, Members, no_members, member}
@@ -9,6 +9,14 @@ use Rattle.cadf_json.specs.declared.node.Place.{Place}
 use Rattle.cadf_json.specs.declared.walk.FirstMember.{FirstMember}
 use Rattle.cadf_json.specs.Flat.{size_of, IsTextAt, NumberStands, Stands, ItemsStand, MembersStand, text_at}
 use Rattle.cadf_json.specs.Reading.{IsFirstMember}
+
+abbrev pub tail_of : List Node → List Node
+tail_of xs = take (length xs - 1) (drop 1 xs)
+
+pub tail_is : (x : Node) (xs ys : List Node) → xs ≡ x ∷ ys → tail_of xs ≡ ys
+tail_is x xs ys is =
+    let size : length xs - 1 ≡ length ys = omega (arith, ap length is) in
+    ap (take (length xs - 1)) (ap (drop 1) is) ∙ take_all (length xs - 1) ys (omega (arith, size))
 
 -- a value begins with a node that says how many it has
 pub record Begins (xs : List Node) : Type 0 where
@@ -39,6 +47,7 @@ pub record FirstItem (t : List ℕ) (rest : List Node) (n : ℕ) (left : Items) 
   pub is : left ≡ item value later
   pub some : 0 < n
   pub within : n ≤ length rest
+  pub size : length (take n rest) ≡ n
   pub stands : Stands t value (take n rest)
   pub left_stand : ItemsStand t later (drop n rest)
 
@@ -50,15 +59,24 @@ first_item t rest n (item d later) some (ys, (zs, (is, h, k))) size =
     let is_n : n ≡ length ys = size ∙ ap (λ xs. size_of (slice_index_or xs 0 Null)) (is ∙ ap (λ xs. xs ++ zs) b.is) ∙ b.size in
     let long = ap length is ∙ length-append ys zs in
     let one = ap length b.is in
+    let first = ap₂ take is_n is ∙ take-append_seam ys zs in
     record {
       value = d;
       later = later;
       is = refl;
       some = omega (arith, is_n, one);
       within = omega (arith, is_n, long);
-      stands = subst (Stands t d) (sym (ap₂ take is_n is ∙ take-append_seam ys zs)) h;
+      size = ap length first ∙ sym is_n;
+      stands = subst (Stands t d) (sym first) h;
       left_stand = subst (ItemsStand t later) (sym (ap₂ drop is_n is ∙ drop-append_seam ys zs)) k;
     }
+
+pub no_item : (t : List ℕ) (rest : List Node) (left : Items) → length rest ≡ 0 → ItemsStand t left rest → left ≡ no_items
+no_item t rest no_items none h = refl
+no_item t rest (item d later) none (ys, (zs, (is, value, k))) =
+    let long = ap length is ∙ length-append ys zs in
+    let some = ap length (begins t d ys value).is in
+    absurd (omega (arith, none, long, some))
 
 -- nodes that are left have a first member
 pub some_member : (t : List ℕ) (rest : List Node) (left : Members) → 0 < length rest → MembersStand t left rest

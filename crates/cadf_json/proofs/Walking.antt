@@ -16,7 +16,7 @@ use Rattle.cadf_json.specs.declared.walk.FirstMember.{FirstMember}
 use Rattle.cadf_json.proofs.Decoding.{flattened, items_values, members_values, decoded_whole}
 use Rattle.cadf_json.proofs.Passing.{followed-none}
 use Rattle.cadf_json.proofs.Texts.{has_float-IsWhole}
-use Rattle.cadf_json.proofs.Firsts.{first_item, some_member}
+use Rattle.cadf_json.proofs.Firsts.{first_item, some_member, tail_of, tail_is}
 
 paired_flattened : (ms : Members) → paired (flattened ms no_items) ≡ ms
 paired_flattened no_members = refl
@@ -109,14 +109,6 @@ module _ (t : List ℕ) where
       }
 
   -- ---- the items and members of a value
-
-  abbrev tail_of : List Node → List Node
-  tail_of xs = take (length xs - 1) (drop 1 xs)
-
-  tail_is : (x : Node) (xs ys : List Node) → xs ≡ x ∷ ys → tail_of xs ≡ ys
-  tail_is x xs ys is =
-      let size : length xs - 1 ≡ length ys = omega (arith, ap length is) in
-      ap (take (length xs - 1)) (ap (drop 1) is) ∙ take_all (length xs - 1) ys (omega (arith, size))
 
   pub list_parts : (d : Data) (xs : List Node) → Stands t d xs → IsValue d → is_some (as_array d) ≡ true
       → AreItemsLeft t (tail_of xs) × (node_values t (tail_of xs) ≡ items_in d)

@@ -112,12 +112,13 @@ fn copy_members(
     out.push(Node::Null)?;
     let mut named = by_name(alloc, count, members, texts)?;
     sort(&mut named)?;
+    let sorted = named.as_slice();
     let mut kept: u32 = 0;
     let mut at = 0;
-    'members: while at < named.len() {
-        let member = named[at];
+    'members: while at < sorted.len() {
+        let member = sorted[at];
         at += 1;
-        if !is_replaced(member.name, &named[at..]) {
+        if !is_replaced(member.name, &sorted[at..]) {
             out.push(member.nodes[0])?;
             copy_value(alloc, &member.nodes[1..], texts, out)?;
             if kept == u32::MAX {

@@ -1,0 +1,261 @@
+use Rattle.std.proofs.Common.{◌≡◌, [], ◌∷◌, ◌++◌, length, ◌+◌, ◌-◌, ◌<◌, ◌≤◌, true, false, take, drop, set, slice_index_or, refl, sym, ap, ap₂, ◌∙◌, subst, arith, rules, length-drop}
+use Rattle.std.proofs.lemmas.List.{at_drop_all}
+use Rattle.std.proofs.lemmas.Result.{on_ok_weaker}
+use Rattle.serde_json.specs.Data.{no_members}
+use Rattle.cadf_json.specs.declared.node.Node.TheVariants.{Null, Text, Array, Object}
+use Rattle.cadf_json.specs.Flat.{Stands, put_all, settled}
+use Rattle.cadf_json.specs.Reading.{Copied, AreNamed, lasts}
+use Rattle.cadf_json.proofs.Copying.{
+  nonempty,
+  begun_by,
+  scalar_begun,
+  place_within,
+  ItemsCopied,
+  copied_none,
+  copied_more,
+  copied_all,
+  MembersCopied,
+  first_kept,
+  named_none,
+  named_more,
+  named_all,
+}
+use Rattle.cadf_json.proofs.Firsts.{first_item, tail_of, tail_is}
+use Rattle.cadf_json.proofs.Sorted.{lasts_from, spot}
+use Rattle.cadf_json.proofs.order.+copy_value.Goals as goal
+
+-- ---- a value
+
+pub copy_value-bounds-value-0 : goal.copy_value-bounds-value-0
+copy_value-bounds-value-0 t c =
+    let some = ap length (nonempty c.args.texts.now c.requires.0 c.args.value.now c.requires.1) in
+    omega (arith, some)
+
+pub copy_value-copy_items-requires : goal.copy_value-copy_items-requires
+copy_value-copy_items-requires t c =
+    let xs = c.args.value.now in
+    let long = ap length (nonempty c.args.texts.now c.requires.0 xs c.requires.1) in
+    let inside = begun_by c.args.texts.now c.requires.0 xs (Array c.in-Array.extent) c.requires.1 c.in-Array.is in
+    (omega (arith, long), (inside.0, inside.1.2))
+
+pub copy_value-copy_members-requires : goal.copy_value-copy_members-requires
+copy_value-copy_members-requires t c =
+    let xs = c.args.value.now in
+    let long = ap length (nonempty c.args.texts.now c.requires.0 xs c.requires.1) in
+    let inside = begun_by c.args.texts.now c.requires.0 xs (Object c.in-Object.extent) c.requires.1 c.in-Object.is in
+    (omega (arith, long), (inside.0, inside.1.1))
+
+pub copy_value-returns-in-Array : goal.copy_value-returns-in-Array
+copy_value-returns-in-Array t c = on_ok_weaker c.copy_items.result (λ copy. λ d h.
+    let inside = begun_by c.args.texts.now d c.args.value.now (Array c.in-Array.extent) h c.in-Array.is in
+    subst (λ e. Copied c.args.texts.now (settled e) c.args.out.now.items c.copy_items.new.out.items) (sym inside.1.0) (copy inside.0 inside.1.2 inside.1.1))
+    c.copy_items.ensures
+
+pub copy_value-returns-in-Object : goal.copy_value-returns-in-Object
+copy_value-returns-in-Object t c = on_ok_weaker c.copy_members.result (λ copy. λ d h.
+    let inside = begun_by c.args.texts.now d c.args.value.now (Object c.in-Object.extent) h c.in-Object.is in
+    subst (λ e. Copied c.args.texts.now (settled e) c.args.out.now.items c.copy_members.new.out.items) (sym inside.1.0) (copy inside.0 inside.1.1))
+    c.copy_members.ensures
+
+pub copy_value-returns-in_ok-push-in_default : goal.copy_value-returns-in_ok-push-in_default
+copy_value-returns-in_ok-push-in_default t c = λ d h.
+    let texts = c.args.texts.now in
+    let xs = c.args.value.now in
+    let x = slice_index_or xs 0 Null in
+    let one = scalar_begun texts x d (tail_of xs) (begun_by texts d xs x h refl) (λ e is. c.in_default.not-Array e is) (λ e is. c.in_default.not-Object e is) in
+    let is : xs ≡ x ∷ [] = nonempty texts d xs h ∙ ap (λ ys. x ∷ ys) one.0 in
+    (x ∷ [], (search rules, subst (λ e. Stands texts e (x ∷ [])) (sym one.1) (subst (Stands texts d) is h)))
+
+-- ---- items
+
+pub copy_items-items-init : goal.copy_items-items-init
+copy_items-items-init t c =
+    let texts = c.args.texts.now in
+    let old = c.args.out.now.items in
+    let pushed : c.push.new.self.items ≡ old ++ Null ∷ [] = search rules in
+    let len = c.args.out.now.ok.0 in
+    let at = c.len-at.ensures in (
+      (λ ds h. subst (ItemsCopied texts ds c.args.items.now old) (sym pushed) (copied_none texts ds old c.args.items.now h)),
+      omega (arith, len, at),
+      omega arith,
+    )
+
+pub copy_items-split_at-requires : goal.copy_items-split_at-requires
+copy_items-split_at-requires t c =
+    let l = c.items in
+    let g = l.invariant.0 c.requires.0 c.requires.1 in
+    (first_item c.args.texts.now l.rest.now c.size.result g.left (grind arith) g.left_stand c.size.ensures.value).within
+
+pub copy_items-copy_value-requires : goal.copy_items-copy_value-requires
+copy_items-copy_value-requires t c =
+    let l = c.items in
+    let g = l.invariant.0 c.requires.0 c.requires.1 in
+    let f = first_item c.args.texts.now l.rest.now c.size.result g.left (grind arith) g.left_stand c.size.ensures.value in
+    let front = ap length c.split_at.ensures.front in
+    let size = f.size in
+    let within = f.within in
+    let shorter = l.invariant.2 in
+    (omega (arith, front, size, within, shorter), (f.value, subst (Stands c.args.texts.now f.value) (sym c.split_at.ensures.front) f.stands))
+
+pub copy_items-items-smaller : goal.copy_items-items-smaller
+copy_items-items-smaller t c =
+    let l = c.items in
+    let g = l.invariant.0 c.requires.0 c.requires.1 in
+    let f = first_item c.args.texts.now l.rest.now c.size.result g.left (grind arith) g.left_stand c.size.ensures.value in
+    let back = ap length c.split_at.ensures.back ∙ length-drop c.size.result l.rest.now in
+    let some = f.some in
+    let within = f.within in
+    omega (arith, back, some, within)
+
+pub copy_items-items-preserved : goal.copy_items-items-preserved
+copy_items-items-preserved t c =
+    let l = c.items in
+    let texts = c.args.texts.now in
+    let old = c.args.out.now.items in
+    let back = ap length c.split_at.ensures.back ∙ length-drop c.size.result l.rest.now in
+    let shorter = l.invariant.2 in (
+      (λ ds h.
+          let g = l.invariant.0 ds h in
+          let f = first_item texts l.rest.now c.size.result g.left (grind arith) g.left_stand c.size.ensures.value in
+          subst (λ rest. ItemsCopied texts ds rest old c.copy_value.new.out.items) (sym c.split_at.ensures.back)
+          (copied_more texts ds old l.rest.now l.out.items c.copy_value.new.out.items c.size.result g f
+          (c.in_ok-copy_value.ensures f.value (subst (Stands texts f.value) (sym c.split_at.ensures.front) f.stands)))),
+      l.invariant.1,
+      omega (arith, back, shorter),
+    )
+
+pub copy_items-extent_from-requires : goal.copy_items-extent_from-requires
+copy_items-extent_from-requires t c =
+    let l = c.items in
+    let g = l.invariant.0 c.requires.0 c.requires.1 in
+    let within = place_within c.args.out.now.items l.out.items g.xs c.len-at.result g.out_are l.invariant.1 in
+    let len = l.out.ok.0 in
+    omega (arith, within, len)
+
+pub copy_items-index_mut-requires : goal.copy_items-index_mut-requires
+copy_items-index_mut-requires t c =
+    let l = c.items in
+    let g = l.invariant.0 c.requires.0 c.requires.1 in
+    let within = place_within c.args.out.now.items l.out.items g.xs c.len-at.result g.out_are l.invariant.1 in
+    let len = l.out.ok.0 in
+    omega (arith, within, len)
+
+pub copy_items-returns : goal.copy_items-returns
+copy_items-returns t c = λ ds h counted.
+    let l = c.items in
+    let len = l.out.ok.0 in
+    let none : length l.rest.now ≡ 0 = grind arith in
+    copied_all c.args.texts.now ds c.args.out.now.items l.rest.now l.out.items (set l.out.items c.len-at.result (Array c.in_ok-extent.extent)) c.args.count
+    c.len-at.result l.out.len c.in_ok-extent.extent (l.invariant.0 ds h) none counted l.invariant.1 (omega (arith, len)) c.in_ok-extent.ensures refl
+
+-- ---- members
+
+pub copy_members-members-init : goal.copy_members-members-init
+copy_members-members-init t c =
+    let texts = c.args.texts.now in
+    let n = length c.args.members.now in
+    let old = c.args.out.now.items in
+    let pushed : c.push.new.self.items ≡ old ++ Null ∷ [] = search rules in
+    let len = c.args.out.now.ok.0 in
+    let at = c.len-start.ensures in
+    let same = ap lasts c.as_slice-sorted.ensures.value ∙ c.in_ok-sort.ensures in (
+      (λ ms h.
+          subst (λ out. MembersCopied texts n ms (lasts c.as_slice-sorted.result.now) old out 0) (sym pushed)
+          (named_none texts n ms old (lasts c.as_slice-sorted.result.now)
+          (subst (λ es. AreNamed texts n es (put_all ms no_members)) (sym same) (c.in_ok-named.ensures ms h)))),
+      omega (arith, len, at),
+    )
+
+pub copy_members-members-preserved : goal.copy_members-members-preserved
+copy_members-members-preserved t c =
+    let l = c.members in
+    let now = lasts_from c.as_slice-sorted.result.now l.at true c.members-test.true (sym c.if-not-is_replaced.false ∙ c.is_replaced.ensures) in (
+      (λ ms h. subst (λ es. MembersCopied c.args.texts.now (length c.args.members.now) ms es c.args.out.now.items l.out.items l.kept) now (l.invariant.0 ms h)),
+      l.invariant.1,
+    )
+
+pub copy_members-bounds-member-0 : goal.copy_members-bounds-member-0
+copy_members-bounds-member-0 t c =
+    let l = c.members in
+    let p = slice_index_or c.as_slice-sorted.result.now l.at (spot []) in
+    let now = lasts_from c.as_slice-sorted.result.now l.at false c.members-test.true (sym c.if-not-is_replaced.true ∙ c.is_replaced.ensures) in
+    let f = first_kept c.args.texts.now (length c.args.members.now) now (l.invariant.0 c.requires.0 c.requires.1) in
+    let long = ap length f.nodes_are in
+    let some : 0 < length p.nodes.now = omega (arith, long) in
+    some
+
+pub copy_members-slice_bounds-copy_value-count : goal.copy_members-slice_bounds-copy_value-count
+copy_members-slice_bounds-copy_value-count t c =
+    let l = c.members in
+    let now = lasts_from c.as_slice-sorted.result.now l.at false c.members-test.true (sym c.if-not-is_replaced.true ∙ c.is_replaced.ensures) in
+    let long = ap length (first_kept c.args.texts.now (length c.args.members.now) now (l.invariant.0 c.requires.0 c.requires.1)).nodes_are in
+    omega (arith, long)
+
+pub copy_members-slice_bounds-copy_value-start : goal.copy_members-slice_bounds-copy_value-start
+copy_members-slice_bounds-copy_value-start t c =
+    let l = c.members in
+    let p = slice_index_or c.as_slice-sorted.result.now l.at (spot []) in
+    let now = lasts_from c.as_slice-sorted.result.now l.at false c.members-test.true (sym c.if-not-is_replaced.true ∙ c.is_replaced.ensures) in
+    let long = ap length (first_kept c.args.texts.now (length c.args.members.now) now (l.invariant.0 c.requires.0 c.requires.1)).nodes_are in
+    let some : 1 ≤ length p.nodes.now = omega (arith, long) in
+    some
+
+pub copy_members-copy_value-requires : goal.copy_members-copy_value-requires
+copy_members-copy_value-requires t c =
+    let l = c.members in
+    let p = slice_index_or c.as_slice-sorted.result.now l.at (spot []) in
+    let now = lasts_from c.as_slice-sorted.result.now l.at false c.members-test.true (sym c.if-not-is_replaced.true ∙ c.is_replaced.ensures) in
+    let f = first_kept c.args.texts.now (length c.args.members.now) now (l.invariant.0 c.requires.0 c.requires.1) in
+    let tail = tail_is (Text f.place) p.nodes.now f.ys f.nodes_are in
+    let long = ap length f.nodes_are in
+    let size = ap length tail in
+    let within = f.within in
+    (omega (arith, long, size, within), (f.value, subst (Stands c.args.texts.now f.value) (sym tail) f.stands))
+
+pub copy_members-members-preserved-then-not-is_replaced : goal.copy_members-members-preserved-then-not-is_replaced
+copy_members-members-preserved-then-not-is_replaced t c =
+    let l = c.members in
+    let texts = c.args.texts.now in
+    let n = length c.args.members.now in
+    let p = slice_index_or c.as_slice-sorted.result.now l.at (spot []) in
+    let rest = lasts (drop (l.at + 1) c.as_slice-sorted.result.now) in
+    let old = c.args.out.now.items in
+    let mid = c.push-then-not-is_replaced.new.self.items in
+    let now = lasts_from c.as_slice-sorted.result.now l.at false c.members-test.true (sym c.if-not-is_replaced.true ∙ c.is_replaced.ensures) in
+    let pushed : mid ≡ l.out.items ++ slice_index_or p.nodes.now 0 Null ∷ [] = search rules in (
+      (λ ms h.
+          let f = first_kept c.args.texts.now (length c.args.members.now) now (l.invariant.0 ms h) in
+          let tail = tail_is (Text f.place) p.nodes.now f.ys f.nodes_are in
+          named_more texts n ms old (p.name.now, p) rest l.out.items mid c.copy_value.new.out.items l.kept
+          (subst (λ es. MembersCopied texts n ms es old l.out.items l.kept) now (l.invariant.0 ms h)) f
+          (pushed ∙ ap (λ ns. l.out.items ++ slice_index_or ns 0 Null ∷ []) f.nodes_are)
+          (c.in_ok-copy_value.ensures f.value (subst (Stands texts f.value) (sym tail) f.stands))),
+      l.invariant.1,
+    )
+
+pub copy_members-extent_from-requires : goal.copy_members-extent_from-requires
+copy_members-extent_from-requires t c =
+    let l = c.members in
+    let g = l.invariant.0 c.requires.0 c.requires.1 in
+    let within = place_within c.args.out.now.items l.out.items g.xs c.len-start.result g.out_are l.invariant.1 in
+    let len = l.out.ok.0 in
+    omega (arith, within, len)
+
+pub copy_members-index_mut-requires : goal.copy_members-index_mut-requires
+copy_members-index_mut-requires t c =
+    let l = c.members in
+    let g = l.invariant.0 c.requires.0 c.requires.1 in
+    let within = place_within c.args.out.now.items l.out.items g.xs c.len-start.result g.out_are l.invariant.1 in
+    let len = l.out.ok.0 in
+    omega (arith, within, len)
+
+pub copy_members-returns : goal.copy_members-returns
+copy_members-returns t c = λ ms h.
+    let l = c.members in
+    let len = l.out.ok.0 in
+    let over = c.members-test.false in
+    let none = at_drop_all lasts c.as_slice-sorted.result.now l.at (omega (arith, over)) in
+    named_all c.args.texts.now (length c.args.members.now) ms c.args.out.now.items l.out.items
+    (set l.out.items c.len-start.result (Object c.in_ok-extent.extent)) l.kept c.len-start.result l.out.len c.in_ok-extent.extent
+    (subst (λ es. MembersCopied c.args.texts.now (length c.args.members.now) ms es c.args.out.now.items l.out.items l.kept) none (l.invariant.0 ms h))
+    l.invariant.1 (omega (arith, len)) c.in_ok-extent.ensures refl
