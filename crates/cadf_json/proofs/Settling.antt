@@ -1,8 +1,8 @@
 -- Values whose members are put in order, at every depth.
-use Rattle.std.proofs.Common.{◌≡◌, ℕ, List, true, refl, ap, ◌∙◌, arith}
+use Rattle.std.proofs.Common.{◌≡◌, ℕ, List, [], ◌++◌, Bool, true, refl, sym, ap, ◌∙◌, subst, arith}
 use Rattle.std.proofs.Common.{Ordering, Less, Equal, Greater, nat_cmp}
 use Rattle.std.specs.Cmp.Lexicographic.{slice_cmp}
-use Rattle.serde_json.specs.Data.{Data, null, boolean, number, string, array, object, Items, no_items, item, Members, no_members, member, put}
+use Rattle.serde_json.specs.Data.{Data, Items, no_items, item, Members, no_members, member, put}
 use Rattle.cadf_json.proofs.Orders.{joined}
 use Rattle.cadf_json.proofs.Passing.{with_last}
 use Rattle.cadf_json.specs.Flat.{Stands, put_all, items_count, settled, settled_items, settled_members}
@@ -13,6 +13,11 @@ use Rattle.cadf_json.specs.declared.node.Node.{Node}
 pub scalar : {old new : List Node} {t u : List ℕ} (d : Data) → settled d ≡ d → Grown (λ u xs. Stands u d xs) old new t u
     → Grown (λ u xs. StandsAsRead true u d xs) old new t u
 scalar d is g = record { xs = g.xs; more = g.more; nodes = g.nodes; texts = g.texts; stands = record { raw = d; settles = is; same = λ r. refl; stands = g.stands } }
+
+-- nodes that were appended to none
+pub from_none : {old new : List Node} {t u : List ℕ} (rising : Bool) (d : Data) → old ≡ [] → Grown (λ u xs. StandsAsRead rising u d xs) old new t u
+    → StandsAsRead rising u d new
+from_none {old} {new} {t} {u} rising d none g = subst (StandsAsRead rising u d) (sym (g.nodes ∙ ap (λ xs. xs ++ g.xs) none)) g.stands
 
 pub settled_last : (ds : Items) (d : Data) → settled_items (with_last d ds) ≡ with_last (settled d) (settled_items ds)
 settled_last no_items d = refl

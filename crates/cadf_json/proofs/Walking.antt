@@ -1,7 +1,5 @@
 -- From one item or member to the next, over the nodes that are left.
-use Rattle.std.proofs.Common.{◌≡◌, ℕ, ◌<◌, ◌≤◌, List, [], length, take, drop, IsUtf8, true, false, is_some, refl, sym, ap, ap₂, ◌∙◌, subst, arith, append-nil, take_all}
-use Rattle.std.proofs.Common.{◌-◌, ◌∷◌, ◌++◌, length-append}
-use Rattle.std.proofs.Math.Seq.{take-append_seam, drop-append_seam}
+use Rattle.std.proofs.Common.{◌≡◌, ℕ, ◌<◌, ◌≤◌, List, [], length, take, drop, IsUtf8, true, false, is_some, refl, sym, ap, ap₂, ◌∙◌, subst, arith, append-nil}
 use Rattle.std.specs.Prelude.{slice_index_or}
 use Rattle.serde_json.specs.Data.{Data, null, boolean, number, string, array, object, Items, no_items, item, Members, no_members, member, items_depth}
 use Rattle.serde_json.specs.Find.{as_array}

@@ -150,15 +150,7 @@ fn read_flat_apart<T: ItemVisitor>(
     let Some(Token::BeginObject) = reader.next() else {
         return Err(ReadFault::NotJson);
     };
-    let rising = pass_members(
-        alloc,
-        &mut reader,
-        MAX_DEPTH - 1,
-        name,
-        taker,
-        nodes,
-        texts,
-    )?;
+    let rising = pass_members(alloc, &mut reader, MAX_DEPTH - 1, name, taker, nodes, texts)?;
     if reader.next().is_some() {
         return Err(ReadFault::NotJson);
     }

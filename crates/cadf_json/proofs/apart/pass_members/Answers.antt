@@ -1,12 +1,12 @@
-use Rattle.std.proofs.Common.{◌≡◌, ◌<◌, ◌+◌, ◌++◌, ◌∷◌, [], length, true, false, Some, None, option_map, bytes_eq, refl, sym, ap, ◌∙◌, subst, arith, rules, append-nil}
+use Rattle.std.proofs.Common.{◌≡◌, ◌<◌, ◌+◌, ◌++◌, ◌∷◌, [], length, set, true, false, ◌&&◌, Some, None, option_map, bytes_eq, refl, sym, ap, ◌∙◌, subst, arith, rules, append-nil}
 use Rattle.json.specs.Json.{value, read_key}
 use Rattle.json.proofs.Grammar.{read_key-shorter}
 use Rattle.serde_json.specs.Data.{array, no_items}
-use Rattle.cadf_json.specs.Flat.{Stands}
-use Rattle.cadf_json.specs.Reading.{Grown}
-use Rattle.cadf_json.specs.declared.node.Node.TheVariants.{Null}
+use Rattle.cadf_json.specs.declared.node.Node.TheVariants.{Null, Object}
+use Rattle.cadf_json.specs.Reading.{Grown, StandsAsRead}
+use Rattle.cadf_json.proofs.Settling.{scalar}
 use Rattle.cadf_json.proofs.ReadValues.{rest_utf8, key_utf8}
-use Rattle.cadf_json.proofs.TakenApart.{Apart, apart_start, apart_other, apart_list, apart_open, apart_over}
+use Rattle.cadf_json.proofs.TakenApart.{Apart, apart_start, apart_other, apart_list, apart_over}
 use Rattle.cadf_json.proofs.apart.pass_members.Goals as goal
 
 pub members-init : goal.members-init
@@ -23,22 +23,15 @@ members-init g c =
       c.requires.utf8,
     )
 
-pub returns-in_default-key : goal.returns-in_default-key
-returns-in_default-key g c =
-    let took = g.T.ItemVisitor.took in
-    let name = c.args.name.now in
+pub returns : goal.returns
+returns g c =
     let l = c.members in
-    let p = value c.args.depth in
-    let start = c.args.reader.now in
-    let old = c.args.nodes.now.items in
-    let u = c.args.texts.now.items in
-    let last = option_map (λ x. x.now) l.last in
     let s = c.next_key.new.self in
     let over : read_key l.reader ≡ Some (None, s) = c.in-Ok.ensures.value ∙ ap (λ o. Some (option_map (λ x. x.now) o, s)) c.in_default-key.is in
-    let h = l.invariant.0 in
-    let open_now = apart_open took name p start old u l.taker l.reader l.nodes.items l.texts.items l.count last l.rising c.len-at.result h l.invariant.1 in
-    apart_over took name p start old u l.taker l.reader s l.nodes.items c.end_members.new.nodes.items l.texts.items l.count last l.rising h over
-    (c.in_ok-end_members.ensures old _ open_now h.counted)
+    let len = l.nodes.ok.0 in
+    apart_over g.T.ItemVisitor.took c.args.name.now (value c.args.depth) c.args.reader.now c.args.nodes.now.items c.args.texts.now.items l.taker l.reader s
+    l.nodes.items (set l.nodes.items c.len-at.result (Object c.in_ok-extent.extent)) l.texts.items l.count c.len-at.result l.nodes.len
+    (option_map (λ x. x.now) l.last) l.rising c.in_ok-extent.extent l.invariant.0 over l.invariant.1 (omega (arith, len)) c.in_ok-extent.ensures refl
 
 pub members-preserved : goal.members-preserved
 members-preserved g c =
@@ -54,16 +47,16 @@ members-preserved g c =
     let s = c.next_key.new.self in
     let named : read_key l.reader ≡ Some (Some k.now, s) = c.in-Ok.ensures.value ∙ ap (λ o. Some (option_map (λ x. x.now) o, s)) c.in-Some.is in
     let other : bytes_eq k.now name ≡ false = search rules in
-    let done = c.in_ok-read_value.ensures in
+    let done = c.in_ok-rising.ensures in
     let r = c.read_value.new.reader in
     let sooner = read_key-shorter l.reader (Some k.now) s named in
     let later = done.shorter in
     let less : length r < length l.reader = omega (arith, sooner, later) in
     let read = done.ok in (
-      subst (λ b. Apart took l.taker name p start r old c.read_value.new.nodes.items u c.read_value.new.texts.items (l.count + 1) (Some k.now) b)
-          (sym c.rises_to-rising.ensures)
+      subst (λ b. Apart took l.taker name p start r old c.read_value.new.nodes.items u c.read_value.new.texts.items (l.count + 1) (Some k.now)
+          (c.in_ok-rising.field-0 && b)) (sym c.rises_to-rising.ensures)
           (apart_other took name p start old u l.taker l.reader s r l.nodes.items c.push_string.new.nodes.items c.read_value.new.nodes.items l.texts.items
-          c.push_string.new.texts.items c.read_value.new.texts.items l.count last l.rising k.now read.0 l.invariant.0 other named c.in_ok-push_string.ensures
+          c.push_string.new.texts.items c.read_value.new.texts.items l.count last l.rising _ k.now read.0 l.invariant.0 other named c.in_ok-push_string.ensures
           read.1.0 read.1.1 less),
       l.invariant.1,
       rest_utf8 c.args.depth s r read.0 (key_utf8 l.reader s (Some k.now) l.invariant.2 named) read.1.0,
@@ -90,8 +83,8 @@ members-preserved-in_ok-pass_list g c =
     let less : length r < length l.reader = omega (arith, sooner, later) in
     let list = done.ok in
     let w = c.push_string.new.texts.items in
-    let grown : Grown (λ u xs. Stands u (array no_items) xs) c.push_string.new.nodes.items c.pass_list.new.nodes.items w w =
-    record { xs = _ ∷ []; more = []; nodes = list.1.2; texts = sym (append-nil w); stands = (_, ([], (refl, (refl, refl), refl))) } in (
+    let grown : Grown (λ u xs. StandsAsRead true u (array no_items) xs) c.push_string.new.nodes.items c.pass_list.new.nodes.items w w =
+    scalar (array no_items) refl (record { xs = _ ∷ []; more = []; nodes = list.1.2; texts = sym (append-nil w); stands = (_, ([], (refl, (refl, refl), refl))) }) in (
       subst (λ b. Apart took c.pass_list.new.taker name p start r old c.pass_list.new.nodes.items u w (l.count + 1) (Some k.now) b)
           (sym c.rises_to-rising.ensures)
           (apart_list took name p start old u l.taker c.pass_list.new.taker l.reader s r l.nodes.items c.push_string.new.nodes.items

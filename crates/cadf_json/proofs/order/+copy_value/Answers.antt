@@ -1,4 +1,4 @@
-use Rattle.std.proofs.Common.{◌≡◌, [], ◌∷◌, ◌++◌, length, ◌+◌, ◌-◌, ◌<◌, ◌≤◌, true, false, take, drop, set, slice_index_or, refl, sym, ap, ap₂, ◌∙◌, subst, arith, rules, length-drop}
+use Rattle.std.proofs.Common.{◌≡◌, [], ◌∷◌, ◌++◌, length, ◌+◌, ◌<◌, ◌≤◌, true, false, drop, set, slice_index_or, refl, sym, ap, ◌∙◌, subst, arith, rules, length-drop}
 use Rattle.std.proofs.lemmas.List.{at_drop_all}
 use Rattle.std.proofs.lemmas.Result.{on_ok_weaker}
 use Rattle.serde_json.specs.Data.{no_members}

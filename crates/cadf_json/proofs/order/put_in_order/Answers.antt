@@ -1,4 +1,4 @@
-use Rattle.std.proofs.Common.{◌≡◌, ◌++◌, ap, ◌∙◌, sym, subst, rules}
+use Rattle.std.proofs.Common.{subst}
 use Rattle.cadf_json.specs.Flat.{Stands}
 use Rattle.cadf_json.proofs.order.put_in_order.Goals as goal
 
