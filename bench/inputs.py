@@ -164,7 +164,7 @@ def line(numbers):
 
 
 def line_after_blank(numbers):
-    """A line that is not canonical: why it is refused depends on all its numbers."""
+    """A line that is not canonical, of whole numbers."""
     return ["[ %s]" % ",".join("0" for _ in numbers)]
 
 
@@ -230,7 +230,7 @@ SHAPES = {
     "nested-fraction": Shape("a list of `0` in 125 such objects, beside a fraction, refused", 2, lambda numbers: a_property(
         nested_falling(numbers, 125) + ',"y":1.5'), forms=DOCUMENTS, is_refused=True),
     "nested-line": Shape("a line of a list of `0` in 125 such objects, refused", 2, lines=lambda numbers: [
-        nested_falling(numbers, 125)], forms=FILES, is_refused=True),
+        nested_falling(numbers, 125)], forms=FILES, is_refused=True, memory=4),
     "tiny": Shape("`{\"a\":1}` in a property", 8, **in_a_property(tiny), memory=TINY),
     "tiny-event": Shape("`{\"a\":1}` in an event", 8, lambda numbers: with_list(tiny(numbers)), forms=DOCUMENTS,
                         memory=TINY),
@@ -248,6 +248,8 @@ SHAPES = {
                          memory=TREE),
     "line": Shape("a line of `{\"\":0}`, refused", 7, lines=line, forms=FILES, is_refused=True, memory=4),
     "line-blank": Shape("a line of `0` after a blank, refused", 2, lines=line_after_blank, forms=FILES,
-                        is_refused=True, memory=TINY),
+                        is_refused=True, memory=4),
+    "line-fraction": Shape("a line of `0` behind a fraction, refused", 2, lines=lambda numbers: [
+        "[1.5,%s]" % ",".join("0" for _ in numbers)], forms=FILES, is_refused=True, memory=TINY),
     "line-1": Shape("a line of `{\"\":0}`, refused", 7, lines=line, forms=(FILE_1,), is_refused=True, memory=TINY),
 }

@@ -25,6 +25,7 @@ CALLS = {
     "quoted": ["quoted"],
     "apart": ["Json::read_apart", "ItemVisitor::begin", "ItemVisitor::take", "Json::read_next"],
     "is_canonical": ["is_canonical"],
+    "spells_value": ["spells_value"],
     "spells_object": ["spells_object"],
     "has_text_at": ["has_text_at"],
     "read_to_limit": ["read_to_limit", "MemorySource::new", "Source::read"],
@@ -294,6 +295,18 @@ def objects():
         yield "reused", [first, text], answer, VALUES
 
 
+def spelled():
+    """Texts that spell a value, and others: a number that isn't whole may be replaced, one without a double may not."""
+    for text, _ in SPELLED + TWICE:
+        yield "spells_value", [text], [True], CANONICAL
+    for number in WHOLE:
+        yield "spells_value", ["[%s ]" % number], [True], CANONICAL
+    for number in NOT_WHOLE:
+        yield "spells_value", ["[%s]" % number], [False], CANONICAL
+    for text in ('{"a":1,"a":1.5}', '{"a":1.5,"b":1}', "1e400", '{"a":1e400,"a":1}', '{"a":1.5,"a":1}]', "[1,]", "1 2", "", nested(128)):
+        yield "spells_value", [text], [False], CANONICAL
+
+
 def made():
     """The canonical text of a text."""
     yield "quoted", ['a"b\n'], ["ok", '"a\\"b\\n"'], CANONICAL
@@ -354,4 +367,4 @@ def times():
     for text, fault in NO_TIMES:
         yield "time", [text], ["err", fault], TIMES
 
-ROWS = [row for rows in (values, looks, objects, made, passed, streams, times) for row in rows()]
+ROWS = [row for rows in (values, looks, objects, spelled, made, passed, streams, times) for row in rows()]

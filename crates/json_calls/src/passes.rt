@@ -11,6 +11,12 @@ pub(crate) fn is_canonical(alloc: Global, text: &str, depth: &str) -> Result<Str
     format!(in alloc; "{is}")
 }
 
+/// Answers whether the text spells a value.
+pub(crate) fn spells_value(alloc: Global, text: &str) -> Result<String, Memory> {
+    let is = cadf_json::spells_value(alloc, text)?;
+    format!(in alloc; "{is}")
+}
+
 /// Answers whether the value of a canonical text is an object.
 pub(crate) fn spells_object(alloc: Global, text: &str) -> Result<String, Memory> {
     let is = cadf_json::spells_object(alloc, text)?;
