@@ -62,6 +62,10 @@ TWICE = [
     ('{"a":1,"b":3,"\\u0061":2}', '{"a":2,"b":3}'),
     ('{"a":1.5,"a":1}', '{"a":1}'),
     ('[{"x":[{"b":1,"b":2}]}]', '[{"x":[{"b":2}]}]'),
+    # Names rise in the outer object alone, or nowhere.
+    ('{"a":{"c":1,"b":2},"d":[{"f":{},"e":0}]}', '{"a":{"b":2,"c":1},"d":[{"e":0,"f":{}}]}'),
+    ('{"b":{"d":1,"c":[{"z":0,"y":1.5,"y":[]}],"d":3},"a":{"x":0,"w":1}}',
+     '{"a":{"w":1,"x":0},"b":{"c":[{"y":[],"z":0}],"d":3}}'),
     # Thirty members, from the last name to the first and once more.
     ("{%s}" % ",".join('"m%02d":%d' % (place % 15, place) for place in range(30, 0, -1)),
      '{"m00":15,%s}' % ",".join('"m%02d":%d' % (place, place) for place in range(1, 15))),
