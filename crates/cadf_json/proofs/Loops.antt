@@ -221,18 +221,19 @@ rises_further got last k d h above =
       same = put_last got k d no_members ∙ ap (put k d) h.same ∙ push_if_last got k d below;
     }
 
-pub record MembersRead (p : Parse json.Json) (start now : List Token) (old nodes : List Node) (t u : List ℕ) (count : ℕ) (last : Option (List ℕ))
-    (rising : Bool) : Type 0 where
+-- the members that were read, of which the nodes show `shown`
+pub record MembersRead (shown : Members → Members) (p : Parse json.Json) (start now : List Token) (old nodes : List Node) (t u : List ℕ) (count : ℕ)
+    (last : Option (List ℕ)) (rising : Bool) : Type 0 where
   pub bound : ℕ
   pub enough : length now ≤ bound
   pub got : Members
   pub left : converted (λ ms. of_members ms no_members) (members p (length start) start)
       ≡ converted (λ ms. of_members ms (put_all got no_members)) (members p bound now)
   pub shorter : length now ≤ length start
-  pub in_order : rising ≡ true → AreRising got last
+  pub in_order : rising ≡ true → AreRising (shown got) last
   pub raw : Members
-  pub settles : settled_members raw ≡ got
-  pub same : rising ≡ true → raw ≡ got
+  pub settles : settled_members raw ≡ shown got
+  pub same : rising ≡ true → raw ≡ shown got
   pub xs : List Node
   pub more : List ℕ
   pub nodes_are : nodes ≡ old ++ Null ∷ xs
@@ -240,18 +241,18 @@ pub record MembersRead (p : Parse json.Json) (start now : List Token) (old nodes
   pub stands : MembersStand u raw xs
   pub counted : count ≡ members_count raw
 
-module _ (p : Parse json.Json) (start : List Token) (old : List Node) (t : List ℕ) where
-  pub members_start : MembersRead p start start old (old ++ Null ∷ []) t t 0 None true
-  members_start = record {
+module _ (shown : Members → Members) (p : Parse json.Json) (start : List Token) (old : List Node) (t : List ℕ) where
+  unfoldable pub members_start : shown no_members ≡ no_members → MembersRead shown p start start old (old ++ Null ∷ []) t t 0 None true
+  members_start none = record {
     bound = length start;
     enough = omega arith;
     got = no_members;
     left = refl;
     shorter = omega arith;
-    in_order = λ r. record { ends = refl; same = refl };
+    in_order = λ r. subst (λ ms. AreRising ms None) (sym none) (record { ends = refl; same = refl });
     raw = no_members;
-    settles = refl;
-    same = λ r. refl;
+    settles = sym none;
+    same = λ r. sym none;
     xs = [];
     more = [];
     nodes_are = refl;
@@ -260,11 +261,13 @@ module _ (p : Parse json.Json) (start : List Token) (old : List Node) (t : List 
     counted = refl;
   }
 
-  pub one_more_member : (now s r : List Token) (nodes mid new : List Node) (u v w : List ℕ) (count : ℕ) (last : Option (List ℕ)) (rising rises : Bool)
-      (k : List ℕ) (d : Data) → MembersRead p start now old nodes t u count last rising → read_key now ≡ Some (Some k, s)
-      → Grown (λ u xs. TextStands u k xs) nodes mid u v → converted of_json (p s) ≡ Some (d, r) → Grown (λ u xs. StandsAsRead rises u d xs) mid new v w
-      → length r < length now → MembersRead p start r old new t w (count + 1) (Some k) (rises && (rising && is_name_above last k))
-  one_more_member now s r nodes mid new u v w count last rising rises k d h key named read g less =
+  -- one more member, of which the nodes show e
+  unfoldable pub one_more_member : (now s r : List Token) (nodes mid new : List Node) (u v w : List ℕ) (count : ℕ) (last : Option (List ℕ)) (rising rises after : Bool)
+      (k : List ℕ) (d e : Data) → (h : MembersRead shown p start now old nodes t u count last rising) → read_key now ≡ Some (Some k, s)
+      → Grown (λ u xs. TextStands u k xs) nodes mid u v → converted of_json (p s) ≡ Some (d, r) → Grown (λ u xs. StandsAsRead rises u e xs) mid new v w
+      → length r < length now → shown (joined h.got (member k d no_members)) ≡ joined (shown h.got) (member k e no_members)
+      → (after ≡ true → (rises ≡ true) × ((rising && is_name_above last k) ≡ true)) → MembersRead shown p start r old new t w (count + 1) (Some k) after
+  one_more_member now s r nodes mid new u v w count last rising rises after k d e h key named read g less joins still =
       let enough = h.enough in
       let shorter = h.shorter in
       let counted = h.counted in
@@ -275,6 +278,7 @@ module _ (p : Parse json.Json) (start : List Token) (old : List Node) (t : List 
       let mid_are : mid ≡ nodes ++ Text place ∷ [] = named.nodes ∙ ap (λ ys. nodes ++ ys) is in
       let new_are : new ≡ nodes ++ Text place ∷ g.xs = g.nodes ∙ ap (λ ys. ys ++ g.xs) mid_are ∙ append_assoc nodes (Text place ∷ []) g.xs in
       let before = subst (λ y. MembersStand y h.raw h.xs) (sym named.texts) (members_further u named.more h.raw h.xs h.stands) in
+      let up = λ (a : after ≡ true). and_parts rising (is_name_above last k) (still a).1 in
       record {
         bound = h.bound - 1;
         enough = omega (arith, enough, less);
@@ -282,15 +286,10 @@ module _ (p : Parse json.Json) (start : List Token) (old : List Node) (t : List 
         left = h.left ∙ member_read p (put_all h.got no_members) h.bound k now s r d (omega (arith, enough, less)) key read
             ∙ ap (λ found. converted (λ ms. of_members ms found) (members p (h.bound - 1) r)) (sym (put_last h.got k d no_members));
         shorter = omega (arith, shorter, less);
-        in_order = λ still.
-            let both = and_parts rises (rising && is_name_above last k) still in
-            let up = and_parts rising (is_name_above last k) both.1 in
-            rises_further h.got last k d (h.in_order up.0) up.1;
+        in_order = λ a. subst (λ ms. AreRising ms (Some k)) (sym joins) (rises_further (shown h.got) last k e (h.in_order (up a).0) (up a).1);
         raw = joined h.raw (member k value.raw no_members);
-        settles = settled_joined h.raw k value.raw ∙ ap₂ (λ ms e. joined ms (member k e no_members)) h.settles value.settles;
-        same = λ still.
-            let both = and_parts rises (rising && is_name_above last k) still in
-            ap₂ (λ ms e. joined ms (member k e no_members)) (h.same (and_parts rising (is_name_above last k) both.1).0) (value.same both.0);
+        settles = settled_joined h.raw k value.raw ∙ ap₂ (λ ms f. joined ms (member k f no_members)) h.settles value.settles ∙ sym joins;
+        same = λ a. ap₂ (λ ms f. joined ms (member k f no_members)) (h.same (up a).0) (value.same (still a).0) ∙ sym joins;
         xs = h.xs ++ Text place ∷ g.xs;
         more = h.more ++ (named.more ++ g.more);
         nodes_are = new_are ∙ ap (λ ys. ys ++ Text place ∷ g.xs) h.nodes_are ∙ append_assoc old (Null ∷ h.xs) (Text place ∷ g.xs);
@@ -303,35 +302,32 @@ module _ (p : Parse json.Json) (start : List Token) (old : List Node) (t : List 
       }
 
   pub all_members : (now r : List Token) (nodes new : List Node) (u : List ℕ) (count place len : ℕ) (last : Option (List ℕ)) (rising : Bool) (e : Extent)
-      → (h : MembersRead p start now old nodes t u count last rising) → read_key now ≡ Some (None, r) → place ≡ length old → len ≡ length nodes
+      → (h : MembersRead shown p start now old nodes t u count last rising) → read_key now ≡ Some (None, r) → place ≡ length old → len ≡ length nodes
       → (e.size ≡ len - place) × (e.count ≡ count) → new ≡ set nodes place (Object e)
-      → (ms : Members) × ((converted (λ ms. of_members ms no_members) (members p (length start) start) ≡ Some (ms, r))
-      × Grown (λ u xs. StandsAsRead rising u (object ms) xs) old new t u)
+      → (converted (λ ms. of_members ms no_members) (members p (length start) start) ≡ Some (put_all h.got no_members, r))
+      × Grown (λ u xs. StandsAsRead rising u (object (put_all (shown h.got) no_members)) xs) old new t u
   all_members now r nodes new u count place len last rising e h key at whole extent stored = (
-    put_all h.got no_members,
-    (
-      h.left ∙ members_over p (put_all h.got no_members) h.bound now r h.enough key,
-      record {
-        xs = Object e ∷ h.xs;
-        more = h.more;
-        nodes = closed_at old nodes new h.xs (Object e) place h.nodes_are at stored;
-        texts = h.texts_are;
-        stands = record {
-          raw = object h.raw;
-          settles = ap (λ ms. object (put_all ms no_members)) h.settles;
-          same = λ still. ap object (h.same still ∙ sym (h.in_order still).same);
-          stands = (e, (h.xs, (refl, (size_is old nodes h.xs place len e.size h.nodes_are at whole extent.0, extent.1 ∙ h.counted), h.stands)));
-        };
-      },
-    ),
+    h.left ∙ members_over p (put_all h.got no_members) h.bound now r h.enough key,
+    record {
+      xs = Object e ∷ h.xs;
+      more = h.more;
+      nodes = closed_at old nodes new h.xs (Object e) place h.nodes_are at stored;
+      texts = h.texts_are;
+      stands = record {
+        raw = object h.raw;
+        settles = ap (λ ms. object (put_all ms no_members)) h.settles;
+        same = λ still. ap object (h.same still ∙ sym (h.in_order still).same);
+        stands = (e, (h.xs, (refl, (size_is old nodes h.xs place len e.size h.nodes_are at whole extent.0, extent.1 ∙ h.counted), h.stands)));
+      };
+    },
   )
 
   pub no_key_here : (now : List Token) (nodes : List Node) (u : List ℕ) (count : ℕ) (last : Option (List ℕ)) (rising : Bool)
-      → MembersRead p start now old nodes t u count last rising → read_key now ≡ None
+      → MembersRead shown p start now old nodes t u count last rising → read_key now ≡ None
       → converted (λ ms. of_members ms no_members) (members p (length start) start) ≡ None
   no_key_here now nodes u count last rising h key = h.left ∙ key_failed p (put_all h.got no_members) h.bound now key
 
   pub no_member_here : (now s : List Token) (nodes : List Node) (u : List ℕ) (count : ℕ) (last : Option (List ℕ)) (rising : Bool) (k : List ℕ)
-      → MembersRead p start now old nodes t u count last rising → read_key now ≡ Some (Some k, s) → converted of_json (p s) ≡ None
+      → MembersRead shown p start now old nodes t u count last rising → read_key now ≡ Some (Some k, s) → converted of_json (p s) ≡ None
       → converted (λ ms. of_members ms no_members) (members p (length start) start) ≡ None
   no_member_here now s nodes u count last rising k h key e = h.left ∙ member_failed p (put_all h.got no_members) h.bound k now s key e

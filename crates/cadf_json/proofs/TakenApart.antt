@@ -1,5 +1,5 @@
 -- Members that are read while the items of one list are taken apart.
-use Rattle.std.proofs.Common.{◌≡◌, ℕ, ◌+◌, ◌-◌, ◌<◌, ◌≤◌, List, [], ◌∷◌, ◌++◌, length, set, Bool, true, false, true≢false, ◌&&◌, ◌||◌, if◌then◌else◌, Option, Some, None, option_map, bytes_eq, refl, sym, ap, ap₂, ◌∙◌, subst, arith, append_assoc, append-nil}
+use Rattle.std.proofs.Common.{◌≡◌, ℕ, ◌+◌, ◌-◌, ◌<◌, ◌≤◌, List, [], ◌∷◌, ◌++◌, length, set, Bool, true, false, true≢false, ◌&&◌, ◌||◌, if◌then◌else◌, Option, Some, None, option_map, bytes_eq, refl, sym, ap, ap₂, ◌∙◌, subst, arith}
 use Rattle.std.proofs.Common.{Ordering, Less, Equal, Greater, nat_cmp}
 use Rattle.std.specs.Cmp.Lexicographic.{slice_cmp}
 use Rattle.std.proofs.lemmas.Bool.{or_parts}
@@ -14,22 +14,19 @@ use Rattle.serde_json.specs.Written.{has_float, items_have_float, members_have_f
 use Rattle.serde_json.proofs.Views.{get_member-put}
 use Rattle.cadf_json.specs.Apart.{a_fraction, emptied, emptied_at, emptied_in, AreTaken, TookItems}
 use Rattle.cadf_json.specs.Canonical.{is_name_above}
-use Rattle.cadf_json.specs.Flat.{IsTextAt, TextStands, MembersStand, members_count, put_all, settled_members}
+use Rattle.cadf_json.specs.Flat.{TextStands, put_all}
 use Rattle.cadf_json.specs.Rewritten.{is_one_of, without}
 use Rattle.cadf_json.specs.Reading.{Grown, StandsAsRead}
 use Rattle.cadf_json.specs.Value.{IsWhole, MembersAreWhole, RisesFrom, Rises, IsValue}
 use Rattle.cadf_json.specs.declared.node.Node.{Node}
 use Rattle.cadf_json.specs.declared.node.Extent.{Extent}
-use Rattle.cadf_json.specs.declared.node.Node.TheVariants.{Null, Text, Object}
+use Rattle.cadf_json.specs.declared.node.Node.TheVariants.{Null, Object}
 use Rattle.cadf_json.proofs.Looks.{member_here, member_passed}
-use Rattle.cadf_json.proofs.Loops.{AreRising, rises_further, put_last, closed_at, size_is}
+use Rattle.cadf_json.proofs.Loops.{MembersRead, members_start, one_more_member, all_members, put_last}
 use Rattle.cadf_json.proofs.Orders.{joined}
 use Rattle.cadf_json.proofs.Rewriting.{get-put}
 use Rattle.std.proofs.lemmas.Bool.{and_parts}
-use Rattle.cadf_json.proofs.Settling.{settled_joined}
 use Rattle.cadf_json.proofs.Splits.{same_name}
-use Rattle.cadf_json.proofs.Standing.{text_further, members_further, members_last, count_joined}
-use Rattle.cadf_json.proofs.Turns.{member_read, members_over}
 
 apart : (k n : List ℕ) → bytes_eq k n ≡ false → k ≡ n → ⊥
 apart k n h e = true≢false (sym ((bytes_eq-Decides k n).1 e) ∙ h)
@@ -183,90 +180,28 @@ without-emptied names name (member k d ms) listed =
 
 pub record Apart {T : Type 0} (took : T → List Data → Type 0) (t : T) (name : List ℕ) (p : Parse json.Json) (start now : List Token)
     (old nodes : List Node) (v u : List ℕ) (count : ℕ) (last : Option (List ℕ)) (rising : Bool) : Type 0 where
-  pub bound : ℕ
-  pub enough : length now ≤ bound
-  pub got : Members
-  pub left : converted (λ ms. of_members ms no_members) (members p (length start) start)
-      ≡ converted (λ ms. of_members ms (put_all got no_members)) (members p bound now)
-  pub shorter : length now ≤ length start
-  pub taken : TookItems took t (get_member name (put_all got no_members))
-  pub in_order : rising ≡ true → AreRising (emptied_in name got) last
-  pub raw : Members
-  pub settles : settled_members raw ≡ emptied_in name got
-  pub same : rising ≡ true → raw ≡ emptied_in name got
-  pub xs : List Node
-  pub more : List ℕ
-  pub nodes_are : nodes ≡ old ++ Null ∷ xs
-  pub texts_are : u ≡ v ++ more
-  pub stands : MembersStand u raw xs
-  pub counted : count ≡ members_count raw
+  pub read : MembersRead (emptied_in name) p start now old nodes v u count last rising
+  pub taken : TookItems took t (get_member name (put_all read.got no_members))
 
 module _ {T : Type 0} (took : T → List Data → Type 0) (name : List ℕ) (p : Parse json.Json) (start : List Token) (old : List Node) (v : List ℕ) where
   pub apart_start : (t : T) → Apart took t name p start start old (old ++ Null ∷ []) v v 0 None true
-  apart_start t = record {
-    bound = length start;
-    enough = omega arith;
-    got = no_members;
-    left = refl;
-    shorter = omega arith;
-    taken = tt;
-    in_order = λ r. record { ends = refl; same = refl };
-    raw = no_members;
-    settles = refl;
-    same = λ r. refl;
-    xs = [];
-    more = [];
-    nodes_are = refl;
-    texts_are = sym (append-nil v);
-    stands = refl;
-    counted = refl;
-  }
+  unfolding members_start
+  apart_start t = record { read = members_start (emptied_in name) p start old v refl; taken = tt }
 
   -- one more member, and what was taken after it
   apart_more : (t s : T) (now between r : List Token) (nodes mid new : List Node) (u w x : List ℕ) (count : ℕ) (last : Option (List ℕ))
       (rising rises after : Bool) (k : List ℕ) (d : Data) → (h : Apart took t name p start now old nodes v u count last rising)
       → read_key now ≡ Some (Some k, between) → Grown (λ u xs. TextStands u k xs) nodes mid u w → converted of_json (p between) ≡ Some (d, r)
       → Grown (λ u xs. StandsAsRead rises u (emptied_at name k d) xs) mid new w x → length r < length now
-      → TookItems took s (get_member name (put k d (put_all h.got no_members)))
+      → TookItems took s (get_member name (put k d (put_all h.read.got no_members)))
       → (after ≡ true → (rises ≡ true) × ((rising && is_name_above last k) ≡ true))
       → Apart took s name p start r old new v x (count + 1) (Some k) after
-  apart_more t s now between r nodes mid new u w x count last rising rises after k d h key named read g less taken still =
-      let enough = h.enough in
-      let shorter = h.shorter in
-      let counted = h.counted in
-      let e = emptied_at name k d in
-      let value = g.stands in
-      let before_got = emptied_in name h.got in
-      let one = count_joined h.raw k value.raw in
-      let is_joined = emptied-joined name h.got k d in
-      let place = named.stands.0 in
-      let is : named.xs ≡ Text place ∷ [] = named.stands.1.0 in
-      let mid_are : mid ≡ nodes ++ Text place ∷ [] = named.nodes ∙ ap (λ ys. nodes ++ ys) is in
-      let new_are : new ≡ nodes ++ Text place ∷ g.xs = g.nodes ∙ ap (λ ys. ys ++ g.xs) mid_are ∙ append_assoc nodes (Text place ∷ []) g.xs in
-      let before = subst (λ y. MembersStand y h.raw h.xs) (sym named.texts) (members_further u named.more h.raw h.xs h.stands) in
-      let up = λ (a : after ≡ true). and_parts rising (is_name_above last k) (still a).1 in
-      record {
-        bound = h.bound - 1;
-        enough = omega (arith, enough, less);
-        got = joined h.got (member k d no_members);
-        left = h.left ∙ member_read p (put_all h.got no_members) h.bound k now between r d (omega (arith, enough, less)) key read
-            ∙ ap (λ found. converted (λ ms. of_members ms found) (members p (h.bound - 1) r)) (sym (put_last h.got k d no_members));
-        shorter = omega (arith, shorter, less);
-        taken = subst (λ ms. TookItems took s (get_member name ms)) (sym (put_last h.got k d no_members)) taken;
-        in_order = λ a. subst (λ ms. AreRising ms (Some k)) (sym is_joined) (rises_further before_got last k e (h.in_order (up a).0) (up a).1);
-        raw = joined h.raw (member k value.raw no_members);
-        settles = settled_joined h.raw k value.raw ∙ ap₂ (λ ms f. joined ms (member k f no_members)) h.settles value.settles ∙ sym is_joined;
-        same = λ a. ap₂ (λ ms f. joined ms (member k f no_members)) (h.same (up a).0) (value.same (still a).0) ∙ sym is_joined;
-        xs = h.xs ++ Text place ∷ g.xs;
-        more = h.more ++ (named.more ++ g.more);
-        nodes_are = new_are ∙ ap (λ ys. ys ++ Text place ∷ g.xs) h.nodes_are ∙ append_assoc old (Null ∷ h.xs) (Text place ∷ g.xs);
-        texts_are = g.texts ∙ ap (λ ys. ys ++ g.more) (named.texts ∙ ap (λ ys. ys ++ named.more) h.texts_are)
-            ∙ append_assoc (v ++ h.more) named.more g.more ∙ append_assoc v h.more (named.more ++ g.more);
-        stands = members_last x h.raw k value.raw place h.xs g.xs
-            (subst (λ y. MembersStand y h.raw h.xs) (sym g.texts) (members_further w g.more h.raw h.xs before))
-            (subst (λ y. IsTextAt y place k) (sym g.texts) (text_further w g.more place k named.stands.1.1)) value.stands;
-        counted = omega (arith, counted, one);
-      }
+  unfolding one_more_member
+  apart_more t s now between r nodes mid new u w x count last rising rises after k d h key named read g less taken still = record {
+    read = one_more_member (emptied_in name) p start old v now between r nodes mid new u w x count last rising rises after k d (emptied_at name k d) h.read
+        key named read g less (emptied-joined name h.read.got k d) still;
+    taken = subst (λ ms. TookItems took s (get_member name ms)) (sym (put_last h.read.got k d no_members)) taken;
+  }
 
   -- a member of another name
   pub apart_other : (t : T) (now between r : List Token) (nodes mid new : List Node) (u w x : List ℕ) (count : ℕ) (last : Option (List ℕ))
@@ -278,7 +213,7 @@ module _ {T : Type 0} (took : T → List Data → Type 0) (name : List ℕ) (p :
       let same : emptied_at name k d ≡ d = rw other refl in
       apart_more t t now between r nodes mid new u w x count last rising rises _ k d h key named read
       (subst (λ e. Grown (λ u xs. StandsAsRead rises u e xs) mid new w x) (sym same) g) less
-      (subst (TookItems took t) (sym (get-put name k d (put_all h.got no_members) (other_order k name other))) h.taken)
+      (subst (TookItems took t) (sym (get-put name k d (put_all h.read.got no_members) (other_order k name other))) h.taken)
       (and_parts rises (rising && is_name_above last k))
 
   -- the list, whose items were taken
@@ -289,7 +224,7 @@ module _ {T : Type 0} (took : T → List Data → Type 0) (name : List ℕ) (p :
       → Apart took s name p start r old new v x (count + 1) (Some k) (rising && is_name_above last k)
   apart_list t s now between r nodes mid new u w x count last rising k ds h equal key named read g less taken =
       let same : emptied_at name k (array ds) ≡ array no_items = rw (equal, taken.0) refl in
-      let found = put_all h.got no_members in
+      let found = put_all h.read.got no_members in
       let there : get_member name (put k (array ds) found) ≡ Some (array ds) =
       ap (λ n. get_member name (put n (array ds) found)) ((bytes_eq-Decides k name).0 equal) ∙ get_member-put name (array ds) found in
       apart_more t s now between r nodes mid new u w x count last rising true _ k (array ds) h key named read
@@ -301,22 +236,12 @@ module _ {T : Type 0} (took : T → List Data → Type 0) (name : List ℕ) (p :
       → len ≡ length nodes → (e.size ≡ len - place) × (e.count ≡ count) → new ≡ set nodes place (Object e)
       → (ms : Members) × ((converted (λ ms. of_members ms no_members) (members p (length start) start) ≡ Some (ms, r))
       × TookItems took t (get_member name ms) × Grown (λ w xs. StandsAsRead rising w (object (emptied_in name ms)) xs) old new v u)
-  apart_over t now r nodes new u count place len last rising e h key at whole extent stored = (
-    put_all h.got no_members,
-    (
-      h.left ∙ members_over p (put_all h.got no_members) h.bound now r h.enough key,
-      h.taken,
-      record {
-        xs = Object e ∷ h.xs;
-        more = h.more;
-        nodes = closed_at old nodes new h.xs (Object e) place h.nodes_are at stored;
-        texts = h.texts_are;
-        stands = record {
-          raw = object h.raw;
-          settles = ap object (ap (λ ms. put_all ms no_members) h.settles ∙ emptied-all name h.got no_members);
-          same = λ still. ap object (h.same still ∙ sym (h.in_order still).same ∙ emptied-all name h.got no_members);
-          stands = (e, (h.xs, (refl, (size_is old nodes h.xs place len e.size h.nodes_are at whole extent.0, extent.1 ∙ h.counted), h.stands)));
-        };
-      },
-    ),
-  )
+  apart_over t now r nodes new u count place len last rising e h key at whole extent stored =
+      let all = all_members (emptied_in name) p start old v now r nodes new u count place len last rising e h.read key at whole extent stored in (
+        put_all h.read.got no_members,
+        (
+          all.0,
+          h.taken,
+          subst (λ ms. Grown (λ w xs. StandsAsRead rising w (object ms) xs) old new v u) (emptied-all name h.read.got no_members) all.1,
+        ),
+      )

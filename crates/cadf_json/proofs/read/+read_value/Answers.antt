@@ -8,6 +8,10 @@ use Rattle.cadf_json.proofs.Turns.{converted-array, converted-object}
 use Rattle.cadf_json.specs.declared.node.Node.TheVariants.{Null, Array, Object}
 use Rattle.cadf_json.specs.declared.push.ReadFault.TheVariants.{NotJson}
 use Rattle.json.specs.Reads.{opens}
+use Rattle.std.proofs.lemmas.Bool.{and_parts}
+use Rattle.cadf_json.specs.Canonical.{is_name_above}
+use Rattle.cadf_json.specs.Flat.{put_all}
+use Rattle.serde_json.specs.Data.{no_members}
 use Rattle.cadf_json.proofs.Settling.{scalar}
 use Rattle.cadf_json.proofs.Loops.{too_deep, ItemsRead, MembersRead, items_start, one_more_item, all_items, no_items_here}
 use Rattle.cadf_json.proofs.Loops.{members_start, one_more_member, all_members, no_key_here, no_member_here}
@@ -175,8 +179,8 @@ read_members-members-init t c =
     let pushed : c.push.new.self.items ≡ old ++ Null ∷ [] = search rules in
     let len = c.args.nodes.now.ok.0 in
     let at = c.len-at.ensures in (
-      subst (λ xs. MembersRead (value c.args.depth) c.args.reader.now c.args.reader.now old xs u u 0 None true) (sym pushed)
-          (members_start (value c.args.depth) c.args.reader.now old u),
+      subst (λ xs. MembersRead (λ ms. ms) (value c.args.depth) c.args.reader.now c.args.reader.now old xs u u 0 None true) (sym pushed)
+          (members_start (λ ms. ms) (value c.args.depth) c.args.reader.now old u refl),
       omega (arith, len, at),
     )
 
@@ -184,7 +188,7 @@ pub read_members-returns-in_default-clause-not_json : goal.read_members-returns-
 read_members-returns-in_default-clause-not_json t c h =
     let l = c.members in
     let key : read_key l.reader ≡ None = grind arith in
-    no_key_here (value c.args.depth) c.args.reader.now c.args.nodes.now.items c.args.texts.now.items l.reader l.nodes.items l.texts.items l.count
+    no_key_here (λ ms. ms) (value c.args.depth) c.args.reader.now c.args.nodes.now.items c.args.texts.now.items l.reader l.nodes.items l.texts.items l.count
     (option_map (λ x. x.now) l.last) l.rising l.invariant.0 key
 
 pub read_members-returns-clause-ok : goal.read_members-returns-clause-ok
@@ -192,10 +196,12 @@ read_members-returns-clause-ok t c =
     let l = c.members in
     let s = c.next_key.new.self in
     let over : read_key l.reader ≡ Some (None, s) = c.in-Ok.ensures.value ∙ ap (λ o. Some (option_map (λ x. x.now) o, s)) c.in_default-key.is in
-    let len = l.nodes.ok.0 in
-    all_members (value c.args.depth) c.args.reader.now c.args.nodes.now.items c.args.texts.now.items l.reader s l.nodes.items
-    (set l.nodes.items c.len-at.result (Object c.in_ok-extent.extent)) l.texts.items l.count c.len-at.result l.nodes.len (option_map (λ x. x.now) l.last) l.rising
-    c.in_ok-extent.extent l.invariant.0 over l.invariant.1 (omega (arith, len)) c.in_ok-extent.ensures refl
+    let len = l.nodes.ok.0 in (
+      put_all l.invariant.0.got no_members,
+      all_members (λ ms. ms) (value c.args.depth) c.args.reader.now c.args.nodes.now.items c.args.texts.now.items l.reader s l.nodes.items
+          (set l.nodes.items c.len-at.result (Object c.in_ok-extent.extent)) l.texts.items l.count c.len-at.result l.nodes.len
+          (option_map (λ x. x.now) l.last) l.rising c.in_ok-extent.extent l.invariant.0 over l.invariant.1 (omega (arith, len)) c.in_ok-extent.ensures refl,
+    )
 
 pub read_members-returns-in_err-rising-clause-not_json : goal.read_members-returns-in_err-rising-clause-not_json
 read_members-returns-in_err-rising-clause-not_json t c h =
@@ -204,7 +210,7 @@ read_members-returns-in_err-rising-clause-not_json t c h =
     let s = c.next_key.new.self in
     let named : read_key l.reader ≡ Some (Some k.now, s) = c.in-Ok.ensures.value ∙ ap (λ o. Some (option_map (λ x. x.now) o, s)) c.in-Some.is in
     let failed : Err c.in_err-rising.field-0.0 ≡ Err NotJson = search rules in
-    no_member_here (value c.args.depth) c.args.reader.now c.args.nodes.now.items c.args.texts.now.items l.reader s l.nodes.items l.texts.items l.count
+    no_member_here (λ ms. ms) (value c.args.depth) c.args.reader.now c.args.nodes.now.items c.args.texts.now.items l.reader s l.nodes.items l.texts.items l.count
     (option_map (λ x. x.now) l.last) l.rising k.now l.invariant.0 named (c.in_err-rising.ensures.not_json failed)
 
 pub read_members-members-preserved : goal.read_members-members-preserved
@@ -224,10 +230,10 @@ read_members-members-preserved t c =
     let later = done.shorter in
     let less : length r < length l.reader = omega (arith, sooner, later) in
     let read = done.ok in (
-      subst (λ b. MembersRead p start r old c.read_value.new.nodes.items u c.read_value.new.texts.items (l.count + 1) (Some k.now) (c.in_ok-rising.field-0 && b))
+      subst (λ b. MembersRead (λ ms. ms) p start r old c.read_value.new.nodes.items u c.read_value.new.texts.items (l.count + 1) (Some k.now) (c.in_ok-rising.field-0 && b))
           (sym c.rises_to-rising.ensures)
-          (one_more_member p start old u l.reader s r l.nodes.items c.push_string.new.nodes.items c.read_value.new.nodes.items l.texts.items
-          c.push_string.new.texts.items c.read_value.new.texts.items l.count last l.rising _ k.now read.0 l.invariant.0 named c.in_ok-push_string.ensures read.1.0
-          read.1.1 less),
+          (one_more_member (λ ms. ms) p start old u l.reader s r l.nodes.items c.push_string.new.nodes.items c.read_value.new.nodes.items l.texts.items
+          c.push_string.new.texts.items c.read_value.new.texts.items l.count last l.rising _ _ k.now read.0 read.0 l.invariant.0 named
+          c.in_ok-push_string.ensures read.1.0 read.1.1 less refl (and_parts c.in_ok-rising.field-0 (l.rising && is_name_above last k.now))),
       l.invariant.1,
     )

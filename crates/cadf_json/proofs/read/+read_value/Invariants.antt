@@ -22,7 +22,7 @@ decreases-read_items-items l = length l.reader
 
 abbrev pub invariant-read_members-members : goal.invariant-read_members-members
 invariant-read_members-members l =
-    MembersRead (value l.depth) l.initial.reader l.reader l.fn.nodes.items l.nodes.items l.fn.texts.items l.texts.items l.count
+    MembersRead (λ ms. ms) (value l.depth) l.initial.reader l.reader l.fn.nodes.items l.nodes.items l.fn.texts.items l.texts.items l.count
     (option_map (λ s. s.now) l.last) l.rising
     × (l.at ≡ length l.fn.nodes.items)
 
