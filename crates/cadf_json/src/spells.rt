@@ -1,6 +1,6 @@
 //! Checks whether a text spells a value, without building it if every number in the text is whole.
 
-ghost use Rattle.std.specs.Prelude.{◌≡◌, ◌∷◌, [], true, false, Some, None, IfOk};
+ghost use Rattle.std.specs.Prelude.{◌≡◌, [], true, false, Some, None, IfOk};
 ghost use Rattle.json.specs.Json.{Json as JsonTree, value as value_at};
 ghost use Rattle.json.specs.Lex.{tokens};
 ghost use Rattle.json.specs.Reads.{token_of};
