@@ -106,7 +106,9 @@ impl<'b> Source for MemorySource<'b> {
         ensures bound { IfSome result (λ bytes. length bytes.now ≤ limit) }
         ensures* borrowed { sem 𝓛 (Rests (the_row (record { mir = named 1; lft = [] })) self.entry (λ new.
             Borrows (Some (memory_left self.old)) (Some (memory_left new)) limit result
-            × (memory_reads new ≡ memory_reads self.old) × (memory_read_failures new ≡ memory_read_failures self.old))) }
+            × (memory_reads new ≡ memory_reads self.old) × (memory_read_failures new ≡ memory_read_failures self.old)
+            × (source_piece new ≡ source_piece self.old) × (failing_read_of new ≡ failing_read_of self.old)
+            × (can_be_borrowed new ≡ can_be_borrowed self.old))) }
         ensures some { is_some result ≡ can_be_borrowed self.old }
         ensures value { IfSome result (λ bytes. bytes.now ≡ take limit (memory_left self.old)) }
     {
