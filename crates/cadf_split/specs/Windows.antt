@@ -1,30 +1,18 @@
 -- The windows of time, and the part of an atom.
---     window_year, window_month, day_of day  the civil date of a day number, of the years 0 to 9999
 --     window unit instant             the window of UTC that contains an instant: its century, the year in that, the month, the day and the hour,
 --                                     as five numbers, with 0 for each that the unit hasn't
 --     shared_key                      the key of the atoms that are no event's: five zeros. No window has it, since months count from 1
 --     key unit q                      the key of the part of an atom: the window of its body's instant, or `shared_key`
 --     name unit k                     the name of a part
-use Rattle.std.specs.Prelude.{ℕ, ◌+◌, ◌/◌, ◌%◌, not, cond, List, [], ◌∷◌, ◌++◌, codes, ℤ, pos, neg_ℤ, ◌-ℤ◌, ◌≤ℤ◌, int_lt, unsigned_abs}
+use Rattle.std.specs.Prelude.{ℕ, ◌/◌, ◌%◌, cond, List, [], ◌∷◌, ◌++◌, codes, ℤ, pos, neg_ℤ, ◌≤ℤ◌, unsigned_abs}
 use Rattle.std.specs.Int.{int_div_euclid, int_rem_euclid}
-use Rattle.jiff_core.specs.Calendar.{days_from_civil}
-use Rattle.cadf_time.specs.Time.{two_digits, last_passing, nanos_of_day}
+use Rattle.cadf_time.specs.Time.{two_digits, year_of, month_of, day_in_month, nanos_of_day}
 use Rattle.cadf_join.specs.Contents.{Text, Texts, Contents}
 use Rattle.cadf_line.specs.Atoms.{is_text, begins_with, event_letter}
 use Rattle.cadf_log.specs.Texts.{body_instant}
 use Rattle.cadf_split.specs.declared.unit.Unit.{Unit}
 use Rattle.cadf_split.specs.declared.unit.Unit.TheVariants.{Month, Day, Hour}
 use Rattle.cadf_split.specs.Parts.{part_by, keys_by}
-
--- the last year that doesn't begin after the day, the last month of it that doesn't, and the day in that month
-abbrev pub window_year : ℤ → ℕ
-window_year day = last_passing (λ y. not (int_lt day (days_from_civil (pos y) 1 1))) 9999
-
-abbrev pub window_month : ℤ → ℕ
-window_month day = last_passing (λ m. not (int_lt day (days_from_civil (pos (window_year day)) m 1))) 12
-
-abbrev pub day_of : ℤ → ℕ
-day_of day = unsigned_abs (day -ℤ days_from_civil (pos (window_year day)) (window_month day) 1) + 1
 
 -- the numbers that the unit has, and 0 for the others
 abbrev pub numbers : Unit → (year month day hour : ℕ) → Text
@@ -46,7 +34,7 @@ hour_of instant = unsigned_abs (int_rem_euclid instant (pos nanos_of_day)) / 3_6
 unfoldable pub window : Unit → ℤ → Text
 window unit instant =
     let day = day_number instant in
-    numbers unit (window_year day) (window_month day) (day_of day) (hour_of instant)
+    numbers unit (year_of day) (month_of day) (day_in_month day) (hour_of instant)
 
 abbrev pub shared_key : Text
 shared_key = 0 ∷ 0 ∷ 0 ∷ 0 ∷ 0 ∷ []
