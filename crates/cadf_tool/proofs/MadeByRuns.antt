@@ -1,27 +1,21 @@
 -- What engines write for derived files.
-use Rattle.std.proofs.Common.{◌≡◌, ℕ, List, map, ◌++◌, Option, Some, Ok, Err, Result, IfSome, refl, ap, subst}
+use Rattle.std.proofs.Common.{◌≡◌, ℕ, List, map, ◌++◌, Option, Some, Ok, Err, Result, refl, ap, subst}
 use Rattle.std.specs.Io.KnownBytes.{Appends}
-use Rattle.std.proofs.KnownBytes.{Consumes-whole}
 use Rattle.cadf_json.specs.declared.stream.Source.{Ghosts as Source}
 use Rattle.cadf_json.specs.declared.stream.Sink.{Ghosts as Sink}
 use Rattle.cadf_join.specs.Contents.{Text}
 use Rattle.cadf_set.specs.Inventory.{InventoryModel}
 use Rattle.cadf_set.specs.Replica.{ReplicaModel}
 use Rattle.cadf_sketch.specs.SketchFile.{sketch_file}
-use Rattle.cadf_sketch.specs.Sketches.{SketchModel}
 use Rattle.cadf_tool.specs.WrittenFile.{written_file}
-use Rattle.cadf_linefile.specs.declared.file_feed.TheConstants.{FILE_LIMIT}
 use Rattle.cadf_tool.specs.declared.input.Loaded.{Loaded}
 use Rattle.cadf_tool.specs.declared.fault.ToolFault.{ToolFault}
 use Rattle.cadf_tool.specs.Told.{log_named, atoms_loaded, replica_model_of}
-use Rattle.cadf_tool.specs.Inputs.{SourceState, source_state}
-use Rattle.cadf_tool.specs.Run.{transition_of, Sources, one, two, all, input_spec, IsReadAs, IsExpectedOfBy, IsAnswer, IsRun, IsRunBy}
-use Rattle.cadf_tool.specs.InventoryInput.{inventory_spec}
+use Rattle.cadf_tool.specs.Inputs.{source_state}
+use Rattle.cadf_tool.specs.Run.{InputSpec, transition_of, Sources, one, two, all, input_spec, IsExpectedOfBy, IsAnswer, IsRun, IsRunBy}
 use Rattle.cadf_tool.specs.SketchInput.{sketch_spec}
-use Rattle.cadf_tool.specs.Sketch.{AreAsked, sketch_model_of, IsPartBySketch, IsSketchInput}
+use Rattle.cadf_tool.specs.Sketch.{AreAsked, sketch_model_of, IsPartBySketch}
 use Rattle.cadf_tool.specs.Join.{join_of}
-use Rattle.cadf_tool.specs.Missing.{delta_between}
-use Rattle.cadf_tool.specs.MissingBy.{part_by, IsInventoryInput}
 use Rattle.cadf_tool.specs.Rule.{ruling_on, ruling_for, ruled_of}
 use Rattle.cadf_tool.specs.TwoTexts.{IsTextOfFile}
 use Rattle.cadf_tool.specs.Exchange.{
@@ -29,14 +23,11 @@ use Rattle.cadf_tool.specs.Exchange.{
   Joined,
   Ruled,
   Operands,
+  IsFileOf,
+  IsReadOf,
   IsDerived,
-  IsPartOf,
   IsOutputOf,
-  IsInventoryOf,
-  IsInventoryReadOf,
-  IsPartByOf,
   IsSketchOf,
-  IsSketchReadOf,
   IsPartBySketchOf,
   GivesFile,
   AreSources,
@@ -95,19 +86,21 @@ module _ {S W T : Type 0} (source : Source S) (sink : Sink W) (old new : W) (t :
         ),
       )
 
-  pub missing_makes : (from to : Derivation) (input other after other_after : S) → GivesFile (λ b. IsDerived from b) (source_state source input)
-      → GivesFile (λ b. IsDerived to b) (source_state source other)
-      → IsRun (two input_spec (transition_of source input after) input_spec (transition_of source other other_after)) delta_between written_file sink old new (Ok t)
-      → (bytes : List ℕ) × (sink.written new ≡ Some (before ++ bytes)) × IsPartOf (λ b. IsDerived from b) (λ b. IsDerived to b) bytes
-  missing_makes from to input other after other_after s u run =
+  -- an engine whose work makes a replica of an input and of what a second source encodes
+  pub part_makes : {U : Type 0} (spec : InputSpec U) (work : Loaded × U → Result ReplicaModel ToolFault) (from : Derivation) (P : List ℕ → Type 0)
+      (input other after other_after : S) → GivesFile (λ b. IsDerived from b) (source_state source input) → GivesFile P (source_state source other)
+      → IsRun (two input_spec (transition_of source input after) spec (transition_of source other other_after)) work written_file sink old new (Ok t)
+      → (bytes : List ℕ) × (sink.written new ≡ Some (before ++ bytes)) × ((one : Loaded) × (value : U) × IsReadOf (λ b. IsDerived from b) one
+      × ((b : List ℕ) × P b × spec.is b value) × IsFileOf (work (one, value)) bytes)
+  part_makes spec work from P input other after other_after s u run =
       let r = run_ok _ _ _ _ _ _ _ run in (
         written_file r.made,
         behind (written_file r.made) r.written,
         (
           r.value.0,
           r.value.1,
-          read_of (λ b. IsDerived from b) (source_state source input) (source_state source after) r.value.0 s r.are.0,
-          read_of (λ b. IsDerived to b) (source_state source other) (source_state source other_after) r.value.1 u r.are.1,
+          read_of input_spec (λ b. IsDerived from b) (source_state source input) (source_state source after) r.value.0 s r.are.0,
+          read_of spec P (source_state source other) (source_state source other_after) r.value.1 u r.are.1,
           (r.made, r.worked, refl),
         ),
       )
@@ -124,7 +117,7 @@ module _ {S W T : Type 0} (source : Source S) (sink : Sink W) (old new : W) (t :
         (
           r.value,
           r.made,
-          read_of (λ b. IsDerived m b) (source_state source input) (source_state source after) r.value s r.are,
+          read_of input_spec (λ b. IsDerived m b) (source_state source input) (source_state source after) r.value s r.are,
           r.worked,
           refl,
         ),
@@ -142,31 +135,8 @@ module _ {S W T : Type 0} (source : Source S) (sink : Sink W) (old new : W) (t :
         behind (written_file r.made) r.written,
         (
           r.value,
-          read_of (λ b. IsDerived m b) (source_state source input) (source_state source after) r.value s r.are,
+          read_of input_spec (λ b. IsDerived m b) (source_state source input) (source_state source after) r.value s r.are,
           ap (ruling_for letter key) ruled.at_place,
-          (r.made, r.worked, refl),
-        ),
-      )
-
-  noted_of_file : (to : List ℕ → Type 0) (by by_after : SourceState) (noted : InventoryModel) → GivesFile (IsInventoryOf to) by
-      → IsReadAs inventory_spec (record { old = by; new = by_after }) noted → IsInventoryReadOf to noted
-  noted_of_file to by by_after noted (bytes, left, made) ((given, (consumed, at_end, input)), failures) =
-      let of_given = Consumes-whole by.left by_after.left given (λ b. IsInventoryInput FILE_LIMIT b noted) consumed at_end input in
-      (bytes, made, subst (λ o. IfSome o (λ b. IsInventoryInput FILE_LIMIT b noted)) left of_given)
-
-  pub missing_by_makes : (from to : Derivation) (input by after by_after : S) → GivesFile (λ b. IsDerived from b) (source_state source input)
-      → GivesFile (IsInventoryOf (λ b. IsDerived to b)) (source_state source by)
-      → IsRun (two input_spec (transition_of source input after) inventory_spec (transition_of source by by_after)) part_by written_file sink old new (Ok t)
-      → (bytes : List ℕ) × (sink.written new ≡ Some (before ++ bytes)) × IsPartByOf (λ b. IsDerived from b) (λ b. IsDerived to b) bytes
-  missing_by_makes from to input by after by_after s u run =
-      let r = run_ok _ _ _ _ _ _ _ run in (
-        written_file r.made,
-        behind (written_file r.made) r.written,
-        (
-          r.value.0,
-          r.value.1,
-          read_of (λ b. IsDerived from b) (source_state source input) (source_state source after) r.value.0 s r.are.0,
-          noted_of_file (λ b. IsDerived to b) (source_state source by) (source_state source by_after) r.value.1 u r.are.1,
           (r.made, r.worked, refl),
         ),
       )
@@ -186,17 +156,11 @@ module _ {S W T : Type 0} (source : Source S) (sink : Sink W) (old new : W) (t :
           cells,
           salt,
           given,
-          read_of (λ b. IsDerived to b) (source_state source input) (source_state source after) r.value s r.are,
+          read_of input_spec (λ b. IsDerived to b) (source_state source input) (source_state source after) r.value s r.are,
           of_noted.1,
           ap sketch_file of_noted.2,
         ),
       )
-
-  sketch_of_file : (to : List ℕ → Type 0) (noted : InventoryModel) (by by_after : SourceState) (sketch : SketchModel) → GivesFile (IsSketchOf to noted) by
-      → IsReadAs sketch_spec (record { old = by; new = by_after }) sketch → IsSketchReadOf to noted sketch
-  sketch_of_file to noted by by_after sketch (bytes, left, made) ((given, (consumed, at_end, input)), failures) =
-      let of_given = Consumes-whole by.left by_after.left given (λ b. IsSketchInput FILE_LIMIT b sketch) consumed at_end input in
-      (bytes, made, subst (λ o. IfSome o (λ b. IsSketchInput FILE_LIMIT b sketch)) left of_given)
 
   pub missing_by_sketch_makes : (from to : Derivation) (sketched : InventoryModel) (input by after by_after : S)
       → GivesFile (λ b. IsDerived from b) (source_state source input) → GivesFile (IsSketchOf (λ b. IsDerived to b) sketched) (source_state source by)
@@ -213,8 +177,8 @@ module _ {S W T : Type 0} (source : Source S) (sink : Sink W) (old new : W) (t :
           r.value.0,
           r.value.1,
           r.made,
-          read_of (λ b. IsDerived from b) (source_state source input) (source_state source after) r.value.0 s r.are.0,
-          sketch_of_file (λ b. IsDerived to b) sketched (source_state source by) (source_state source by_after) r.value.1 u r.are.1,
+          read_of input_spec (λ b. IsDerived from b) (source_state source input) (source_state source after) r.value.0 s r.are.0,
+          read_of sketch_spec (IsSketchOf (λ b. IsDerived to b) sketched) (source_state source by) (source_state source by_after) r.value.1 u r.are.1,
           of_read.1,
           refl,
         ),
@@ -226,7 +190,7 @@ module _ {S W T : Type 0} (source : Source S) (sink : Sink W) (old new : W) (t :
       → (text : Text) × (sink.written new ≡ Some (before ++ text)) × IsTextOfFile tell m text
   text_makes tell m input after s run =
       let r = run_ok _ _ _ _ _ _ _ run in
-      let file_read = read_of (λ b. IsDerived m b) (source_state source input) (source_state source after) r.value s r.are in
+      let file_read = read_of input_spec (λ b. IsDerived m b) (source_state source input) (source_state source after) r.value s r.are in
       let named = held_named (log_named r.value) (atoms_loaded r.value) r.made r.worked in (
         tell r.made,
         behind (tell r.made) r.written,
