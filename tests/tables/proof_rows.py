@@ -9,7 +9,7 @@ import json
 from tests.tables.seal_rows import LIMIT, LIMITS, PIECES, closed, proof, seal
 from tests.tables.texts import B1, digits, line
 
-CALLS = {"read_proof": ["read_proof", "Proof::log", "Proof::count", "Proof::shown", "Proof::hidden"], "verified": ["verified"]}
+CALLS = {"read_proof": ["read_proof", "Proof::log", "Proof::count", "Proof::shown", "Proof::hidden"], "verified": ["verified", "FactLines::write"]}
 
 PROOF = "Proof file"
 SHOWN = 'CADF-PROOF 1\nL "g"\n'
@@ -105,12 +105,19 @@ SHOWN_LINES = [each for each in ASKED.split("\n") if each[:1] == "P"]
 NEXT_TO_P9 = next(number for number, each in enumerate(SHOWN_LINES, 4) if each.split()[2] != digits(P[0]))
 LINE_OF_P1 = next(number for number, each in enumerate(SHOWN_LINES, 4) if each.split()[2] == digits(P[0]))
 RULED, EVENT = line("U", "P", "p1", "0" * 64), line("E", "e1", B1)
+# Facts of one key, of which two keys have several, and the key and the ruling that come next are spelled alike.
+OF_KEYS = [EVENT, line("E", "e1", B1, "T", "x"), line("E", "e1", B1, "T", "y"), line("E", "e2", B1), line("P", 'e"\n', "1"), line("P", 'e"\n', "2"),
+           line("U", "E", "e2", "0" * 64), RULED, line("U", "P", "p1", "1" * 64)]
+TOLD = ['E "e1"', 'E "e1"', 'E "e1"', 'E "e2"', 'P "e\\"\\n"', 'P "e\\"\\n"', 'U "e2"', 'U "p1"', 'U "p1"']
 ROWS += [says("present", P[:size], text("present", *P[:size])) for size in range(9)]
 ROWS += [says("absent", P[8:], text("absent", *P[8:])), says("absent", [], ["ok", ""])]
 ROWS += [
     # What a ruling rules on, and an event's identifier, are the keys.
     ("verified", [LIMIT, 7, 0, seal(digits(RULED), digits(EVENT)), proof([digits(RULED), digits(EVENT)], [digits(RULED), digits(EVENT)]), "present",
                   "g", EVENT, RULED], ["ok", 'present E "e1"\npresent U "p1"\n'], SAYS),
+    # Each fact has its line, also those of one key. They are written in pieces.
+    *[("verified", [LIMIT, size, 0, seal(*map(digits, OF_KEYS)), proof([digits(fact) for fact in OF_KEYS], map(digits, OF_KEYS)), "present", "g", *OF_KEYS],
+       ["ok", "".join("present %s\n" % each for each in TOLD)], SAYS) for size in PIECES],
     # Of no facts each is absent.
     ("verified", [LIMIT, 7, 0, seal(), proof([], []), "absent", "g", *P], text("absent", *P), SAYS),
     ("verified", [LIMIT, 7, 0, seal(), proof([], []), "present", "g", *P], ["err", "Absent", 1], SAYS),

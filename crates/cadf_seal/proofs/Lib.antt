@@ -10,6 +10,7 @@ pub mod ProofLineLemmas
 pub mod ProofParts
 pub mod ProofWriting
 pub mod Rebuilding
+pub mod Repeating
 pub mod SealLemmas
 pub mod ShownLemmas
 pub mod Sound

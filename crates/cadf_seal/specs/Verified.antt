@@ -8,6 +8,7 @@
 --     refusal s p facts b     the fault for which a reader with the seal s refuses the proof of these facts; b: they are asked to be absent
 --     verified s p facts b    that fault, or the text that says of each fact that it is as asked
 --     told b qs               this text
+--     repeated_text ls        the text of lines, each of which stands as often as it is counted
 --     TellsAll f n            the proof made for the facts f has the root of n, says of each of them whether it is in n, and shows no other leaf
 --     IsAt a ds s             the shown leaf is the one of ds at its place, where the first of ds has place a
 --     ShowsLeaves             the shown leaves of a proof with the root of ds are leaves of ds
@@ -15,7 +16,7 @@
 --     FactsAreSo              of facts that are told, each is in the sealed set or not, as was asked
 use Rattle.std.specs.Prelude.{◌≡◌, ◌≤◌, ◌<◌, ◌+◌, ◌-◌, ℕ, suc, max, min, nat_eq, List, [], ◌∷◌, ◌++◌, length, map, flat_map, get_or, codes}
 use Rattle.std.specs.Prelude.{Bool, true, false, not, if◌then◌else◌, Option, None, Some, option_map, Result, Ok, Err}
-use Rattle.std.specs.List.{filter, list_any, position_from, AllByRecursion}
+use Rattle.std.specs.List.{filter, list_any, position_from, repeat, AllByRecursion}
 use Rattle.std.specs.Ordering.{is_eq}
 use Rattle.json.specs.Print.{quoted}
 use Rattle.sha2.specs.Sha256.{sha256}
@@ -33,6 +34,7 @@ use Rattle.cadf_seal.specs.SealFile.{SealModel, seal_of}
 use Rattle.cadf_seal.specs.ProofFile.{ProofModel, proof_of, IsProof}
 use Rattle.cadf_seal.specs.Shown.{Rebuilt, rebuilt, rehashed, is_above, is_below, needs}
 use Rattle.cadf_seal.specs.declared.leaf.Leaf.{Leaf}
+use Rattle.cadf_seal.specs.declared.telling.Repeated.{Repeated}
 use Rattle.cadf_seal.specs.declared.verify.VerifyFault.{VerifyFault}
 use Rattle.cadf_seal.specs.declared.verify.VerifyFault.TheVariants.{OtherCount, OtherRoot, NotShown, NotNeeded, Absent, Present, Memory}
 
@@ -148,6 +150,10 @@ told_line word q = word ++ (get_or q 0 [] ++ 32 ∷ (quoted (subject q) ++ 10 �
 
 abbrev pub told : Bool → List Texts → List ℕ
 told absent qs = flat_map (told_line (word_for absent)) qs
+
+-- the text of lines, each of which stands as often as it is counted
+abbrev pub repeated_text : List Repeated → List ℕ
+repeated_text ls = flat_map (λ l. repeat l.count l.line.items) ls
 
 -- telling of these facts, with the same flag, appends what is said of them
 abbrev pub Tells : Bool → List ℕ → List Texts → Bool → List ℕ → Type 0

@@ -31,5 +31,6 @@ pub use proof_write::write_proof;
 pub use seal::Seal;
 pub use seal_read::read_seal;
 pub use seal_write::write_seal;
+pub use telling::FactLines;
 pub use tree::root_of;
 pub use verify::{VerifyFault, verified};

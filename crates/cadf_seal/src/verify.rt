@@ -32,7 +32,7 @@ use crate::leaf::Leaf;
 use crate::proof::Proof;
 use crate::rebuilt::root_of_proof;
 use crate::seal::Seal;
-use crate::telling::told;
+use crate::telling::{FactLines, told};
 use cadf_json::Memory;
 use cadf_set::{Inventory, Replica};
 use std::alloc::Global;
@@ -207,8 +207,8 @@ pub fn verified(
     facts: &Replica,
     proof: &Proof,
     absent: bool,
-) -> Result<Vec<u8>, VerifyFault>
-    ensures ok { IfOk result (λ text. verified seal.now proof.now facts.now.atoms absent ≡ Ok text.items) }
+) -> Result<FactLines, VerifyFault>
+    ensures ok { IfOk result (λ lines. verified seal.now proof.now facts.now.atoms absent ≡ Ok lines) }
     ensures err { IfErr result (λ e. VerifyFaultIs e (verified seal.now proof.now facts.now.atoms absent)) }
 {
     if let Some(fault) = refusal_of_root(seal, proof) {
@@ -217,8 +217,8 @@ pub fn verified(
     if let Some(fault) = refusal_of_facts(alloc, facts, proof, absent)? {
         return Err(fault);
     }
-    let text = told(alloc, facts, absent)?;
-    Ok(text)
+    let lines = told(alloc, facts, absent)?;
+    Ok(lines)
 }
 
 /// Returns why the proof is none under this seal, if it isn't one.

@@ -8,8 +8,8 @@ use crate::facts::facts_under;
 use crate::fault::{ToolFault, unverified};
 use crate::input::Loaded;
 use crate::inputs::{load_one, load_proof, load_seal};
-use cadf_json::{Sink, Source, write_all};
-use cadf_seal::{Proof, Seal, verified};
+use cadf_json::{Sink, Source};
+use cadf_seal::{FactLines, Proof, Seal, verified};
 use cadf_set::Replica;
 use std::alloc::Global;
 
@@ -28,15 +28,15 @@ fn lines(
     seal: &Seal,
     facts: &Replica,
     proof: &Proof,
-) -> Result<Vec<u8>, ToolFault>
-    ensures ok { IfOk result (λ text. verdict_lines absent seal.now facts.now proof.now ≡ Ok text.items) }
+) -> Result<FactLines, ToolFault>
+    ensures ok { IfOk result (λ text. verdict_lines absent seal.now facts.now proof.now ≡ Ok text) }
     ensures err { IfErr result (λ fault. IsWorked (verdict_lines absent seal.now facts.now proof.now) (Err fault)) }
 {
     if is_other(seal, proof) {
         return Err(ToolFault::OtherLog(3));
     }
     match verified(alloc, seal, facts, proof, absent) {
-        Ok(text) => Ok(text),
+        Ok(lines) => Ok(lines),
         Err(fault) => Err(unverified(fault)),
     }
 }
@@ -49,8 +49,8 @@ fn verdict(
     seal: &Seal,
     facts: Loaded,
     proof: &Proof,
-) -> Result<Vec<u8>, ToolFault>
-    ensures ok { IfOk result (λ text. IsWorked (verdict_of absent (seal.now, (facts, proof.now))) (Ok text.items)) }
+) -> Result<FactLines, ToolFault>
+    ensures ok { IfOk result (λ text. IsWorked (verdict_of absent (seal.now, (facts, proof.now))) (Ok text)) }
     ensures err { IfErr result (λ fault. IsWorked (verdict_of absent (seal.now, (facts, proof.now))) (Err fault)) }
 {
     let Ok(log) = seal.log().copy(alloc) else {
@@ -69,9 +69,9 @@ fn verify<R: Source>(
     facts: &mut R,
     proof: &mut R,
     absent: bool,
-) -> Result<Vec<u8>, ToolFault>
+) -> Result<FactLines, ToolFault>
     ensures ok { IfOk result (λ text. IsExpected (sources_of (transition_of R.Source seal.old seal.new) (transition_of R.Source facts.old facts.new)
-        (transition_of R.Source proof.old proof.new)) (verdict_of absent) (Ok text.items)) }
+        (transition_of R.Source proof.old proof.new)) (verdict_of absent) (Ok text)) }
     ensures err { IfErr result (λ fault. IsExpected (sources_of (transition_of R.Source seal.old seal.new) (transition_of R.Source facts.old facts.new)
         (transition_of R.Source proof.old proof.new)) (verdict_of absent) (Err fault)) }
 {
@@ -82,11 +82,11 @@ fn verify<R: Source>(
 }
 
 /// Writes the lines. `WriteFault` if a write fails.
-fn write_lines<W: Sink>(lines: &[u8], output: &mut W) -> Result<(), ToolFault>
+fn write_lines<W: Sink>(lines: &FactLines, output: &mut W) -> Result<(), ToolFault>
     ensures written { IsWritten W.Sink output.old output.new lines.now result }
     ensures only { IfErr result (λ fault. fault ≡ ToolFault.WriteFault) }
 {
-    match write_all(output, lines) {
+    match lines.write(output) {
         Ok(()) => Ok(()),
         Err(_) => Err(ToolFault::WriteFault),
     }
@@ -105,11 +105,11 @@ pub fn run_verify<R: Source, W: Sink>(
 ) -> Result<(), ToolFault>
     ensures verdict { IsRun (sources_of (transition_of R.Source seal.old seal.new) (transition_of R.Source facts.old facts.new)
         (transition_of R.Source proof.old proof.new)) (verdict_of absent) (λ text. text) W.Sink output.old output.new result }
-    // All lines are in memory before they are written.
+    // All lines are made before they are written.
     ensures memory { result ≡ Err ToolFault.Memory → output.new ≡ output.old }
 {
     match verify(alloc, seal, facts, proof, absent) {
-        Ok(text) => write_lines(text.as_slice(), output),
+        Ok(lines) => write_lines(&lines, output),
         Err(fault) => Err(fault),
     }
 }

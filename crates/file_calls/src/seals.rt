@@ -5,13 +5,13 @@ use crate::reads::Reading;
 use crate::replicas::replica_of;
 use crate::streams::{sink_of, written};
 use cadf_file::FileFault;
-use cadf_json::Memory;
+use cadf_json::{FailingWrite, Memory, MemorySink};
 use cadf_replica::Inventory;
 use cadf_seal::{
-    Leaf, Proof, Seal, read_proof, read_seal, root_of, verified, write_proof, write_seal,
+    FactLines, Leaf, Proof, Seal, read_proof, read_seal, root_of, verified, write_proof, write_seal,
 };
-use calls::{Call, answer, push, push_bytes, push_number, refused};
-use std::alloc::Global;
+use calls::{Call, answer, push, push_number, refused};
+use std::alloc::{AllocError, Global};
 
 /// Answers `ok` with the seal's log, count and root.
 fn shown(alloc: Global, seal: &Seal) -> Result<String, Memory> {
@@ -147,14 +147,16 @@ pub(crate) fn verified_of(alloc: Global, call: &Call) -> Result<String, Memory> 
         return answer(alloc, "no replica", &[]);
     };
     match verified(alloc, &seal, &facts, &proof, call.text(6) == "absent") {
-        Ok(text) => told(alloc, &text),
+        Ok(lines) => told(alloc, call.number(2), &lines),
         Err(fault) => refused(alloc, &fault),
     }
 }
 
-/// Answers `ok` with the text.
-fn told(alloc: Global, text: &Vec<u8>) -> Result<String, Memory> {
-    let mut line = answer(alloc, "ok", &[])?;
-    push_bytes(&mut line, text.as_slice())?;
-    Ok(line)
+/// Answers `ok` with the lines, written `piece` bytes at a time.
+fn told(alloc: Global, piece: usize, lines: &FactLines) -> Result<String, Memory> {
+    let mut sink = MemorySink::new(alloc, piece.max(1), FailingWrite::Never);
+    match lines.write(&mut sink) {
+        Ok(()) => written(alloc, Ok(()), &sink),
+        Err(_) => Err(AllocError),
+    }
 }

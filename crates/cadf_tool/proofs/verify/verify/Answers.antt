@@ -19,7 +19,7 @@ returns-clause-ok g c =
     (λ text w. all_read c.args.absent (transition_of g.R.Source c.args.seal.now c.load_seal.new.input)
     (transition_of g.R.Source c.args.facts.now c.load_one.new.input) (transition_of g.R.Source c.args.proof.now c.load_proof.new.input)
     c.in_ok-seal.ensures.reads c.in_ok-loaded.ensures.reads c.in_ok-proof.ensures.reads c.in_ok-seal.seal c.in_ok-loaded.loaded c.in_ok-seal.ensures.ok
-    c.in_ok-loaded.ensures.ok c.in_ok-proof.proof c.in_ok-proof.ensures.ok (Ok text.items) w)
+    c.in_ok-loaded.ensures.ok c.in_ok-proof.proof c.in_ok-proof.ensures.ok (Ok text) w)
 
 pub returns-clause-err : goal.returns-clause-err
 returns-clause-err g c =

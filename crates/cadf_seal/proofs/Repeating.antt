@@ -1,0 +1,70 @@
+-- Lines that stand one after another, each as often as it is counted, and the writing of them.
+use Rattle.std.proofs.Common.{◌≡◌, ℕ, zero, suc, ◌<◌, ◌+◌, ◌-◌, List, [], ◌∷◌, ◌++◌, Option, sym, subst, ap, ◌∙◌, arith, append_assoc, append-nil}
+use Rattle.std.specs.List.{repeat}
+use Rattle.std.proofs.lemmas.Grind.{flat_map-append}
+use Rattle.std.specs.Io.KnownBytes.{Appends}
+use Rattle.std.proofs.KnownBytes.{Appends-nil, Appends-trans}
+use Rattle.cadf_json.specs.Streams.{AppendsPrefix}
+use Rattle.cadf_linefile.specs.laws.Prefixes.{front_more, front_after}
+use Rattle.cadf_seal.specs.declared.telling.Repeated.{Repeated}
+use Rattle.cadf_seal.specs.Verified.{repeated_text}
+
+-- ---- a line that is added
+
+-- the text with one further line
+text_and : (ls : List Repeated) (a : Repeated) → repeated_text (ls ++ a ∷ []) ≡ repeated_text ls ++ repeat a.count a.line.items
+text_and ls a = flat_map-append (λ (l : Repeated). repeat l.count l.line.items) ls (a ∷ [])
+    ∙ ap (λ t. repeated_text ls ++ t) (append-nil (repeat a.count a.line.items))
+
+repeat_after : (n : ℕ) (xs : List ℕ) → xs ++ repeat n xs ≡ repeat n xs ++ xs
+repeat_after zero xs = append-nil xs
+repeat_after (suc n) xs = ap (λ t. xs ++ t) (repeat_after n xs) ∙ sym (append_assoc xs (repeat n xs) xs)
+
+pub counted_once : (ls : List Repeated) (a : Repeated) → a.count ≡ 1 → repeated_text (ls ++ a ∷ []) ≡ repeated_text ls ++ a.line.items
+counted_once ls a e = text_and ls a ∙ ap (λ n. repeated_text ls ++ repeat n a.line.items) e ∙ ap (λ t. repeated_text ls ++ t) (append-nil a.line.items)
+
+pub counted_again : (ls : List Repeated) (a b : Repeated) → b.line.items ≡ a.line.items → b.count ≡ a.count + 1
+    → repeated_text (ls ++ b ∷ []) ≡ repeated_text (ls ++ a ∷ []) ++ a.line.items
+counted_again ls a b e f =
+    let n = a.count in
+    let xs = a.line.items in
+    let more : b.count ≡ suc n = omega (arith, f) in
+    let same : repeat b.count b.line.items ≡ repeat (suc n) xs = λ i. repeat (more i) (e i) in
+    text_and ls b
+    ∙ ap (λ t. repeated_text ls ++ t) (same ∙ repeat_after n xs)
+    ∙ sym (append_assoc (repeated_text ls) (repeat n xs) xs)
+    ∙ ap (λ t. t ++ xs) (sym (text_and ls a))
+
+-- ---- lines that are written
+
+-- all but what is left was written
+pub record IsLeft (old now : Option (List ℕ)) (all left : List ℕ) : Type 0 where
+  pub done : List ℕ
+  pub written : Appends old now done
+  pub parts : done ++ left ≡ all
+
+pub all_left : (a : Option (List ℕ)) (all left : List ℕ) → left ≡ all → IsLeft a a all left
+all_left a all left e = record { done = []; written = Appends-nil a; parts = e }
+
+pub as_left : (old now : Option (List ℕ)) (all left same : List ℕ) → IsLeft old now all left → left ≡ same → IsLeft old now all same
+as_left old now all left same w e = subst (IsLeft old now all) e w
+
+pub none_left : (old now : Option (List ℕ)) (all left : List ℕ) → IsLeft old now all left → left ≡ [] → Appends old now all
+none_left old now all left w e = subst (Appends old now) (sym (append-nil w.done) ∙ ap (λ t. w.done ++ t) (sym e) ∙ w.parts) w.written
+
+pub repeat_more : (n k : ℕ) (xs rest : List ℕ) → k < n → repeat (n - k) xs ++ rest ≡ xs ++ (repeat (n - (k + 1)) xs ++ rest)
+repeat_more n k xs rest h =
+    let e : n - k ≡ suc (n - (k + 1)) = omega arith in
+    ap (λ m. repeat m xs ++ rest) e ∙ append_assoc xs (repeat (n - (k + 1)) xs) rest
+
+module _ (old now new : Option (List ℕ)) (all left line rest : List ℕ) (w : IsLeft old now all left) (e : left ≡ line ++ rest) where
+  pub line_written : Appends now new line → IsLeft old new all rest
+  line_written h = record {
+    done = w.done ++ line;
+    written = Appends-trans old now new w.done line w.written h;
+    parts = append_assoc w.done line rest ∙ ap (λ t. w.done ++ t) (sym e) ∙ w.parts;
+  }
+
+  pub front_written : AppendsPrefix now new line → AppendsPrefix old new all
+  front_written h = subst (AppendsPrefix old new) (ap (λ t. w.done ++ t) (sym e) ∙ w.parts)
+      (front_after old now new w.done (line ++ rest) w.written (front_more now new line rest h))
