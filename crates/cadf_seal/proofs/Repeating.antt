@@ -43,14 +43,8 @@ pub record IsLeft (old now : Option (List ℕ)) (all left : List ℕ) : Type 0 w
   pub written : Appends old now done
   pub parts : done ++ left ≡ all
 
-pub all_left : (a : Option (List ℕ)) (all left : List ℕ) → left ≡ all → IsLeft a a all left
-all_left a all left e = record { done = []; written = Appends-nil a; parts = e }
-
 pub as_left : (old now : Option (List ℕ)) (all left same : List ℕ) → IsLeft old now all left → left ≡ same → IsLeft old now all same
 as_left old now all left same w e = subst (IsLeft old now all) e w
-
-pub none_left : (old now : Option (List ℕ)) (all left : List ℕ) → IsLeft old now all left → left ≡ [] → Appends old now all
-none_left old now all left w e = subst (Appends old now) (sym (append-nil w.done) ∙ ap (λ t. w.done ++ t) (sym e) ∙ w.parts) w.written
 
 pub repeat_more : (n k : ℕ) (xs rest : List ℕ) → k < n → repeat (n - k) xs ++ rest ≡ xs ++ (repeat (n - (k + 1)) xs ++ rest)
 repeat_more n k xs rest h =
