@@ -47,6 +47,15 @@ def test_status(status, fault):
     assert statuses(fault) == {status}
 
 
+@pytest.mark.parametrize("text", sorted({text for text, _ in told()}))
+def test_entry_of_fault(text):
+    """ERRORS has an entry for each text that FORMATS has, whatever input, fact or line it begins with."""
+    entries = page("docs", "ERRORS.md").split("\n## By message\n")[1].split("\n## ")[0]
+    named = {name for line in entries.splitlines() for name in re.findall("`([^`]*)`", line.split(" | ")[0])}
+    fault = re.sub(r"^(?:(?:input|fact|line) \w+: )+", "", text)
+    assert fault in {"", *named}
+
+
 def test_statuses_of_readme():
     found = {name: status for _, status, name in test_statuses.ENDS}
     line = re.search(r"Exit status: 0 [^,]+, (\d) [^,]*refused[^,]*, (\d) [^,]*command line[^,]*, (\d) [^,]*read or write[^,]*, (\d) out of memory",
