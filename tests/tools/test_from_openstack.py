@@ -581,6 +581,7 @@ def test_files():
                         ("an option", ["--log", "g", "--x"]), ("a short option", ["--lo", "g"]), ("a size", ["--log", "g", "--size", "1"]), ("a large size", ["--log", "g", "--size", str(2 ** 30 + 1)])):
         done = ended(TOOL, words)
         assert (done.status, done.output) == (2, b""), what
+        assert b"1 to 1,024 bytes" in done.error or "name" not in what, what
     with open("/dev/full", "wb") as full:
         done = subprocess.run([TOOL, "--log", "g", "--", "-a"], stdout=full, stderr=subprocess.PIPE)
         assert (done.returncode, done.stderr) == (3, b"cadf-from-openstack: standard output: write fault: No space left on device\n")
