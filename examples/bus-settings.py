@@ -55,7 +55,7 @@ class Service:
             self.child = subprocess.Popen([sys.executable, os.path.abspath(__file__), "--send", configuration, name + "-x", str(pause)],
                                           stdin=subprocess.DEVNULL, stdout=subprocess.PIPE, stderr=log)
 
-    def sent(self, seconds=60):
+    def sent(self, seconds=600):
         """How many calls came back within that time; the service is ended then."""
         try:
             return self.child.communicate(timeout=seconds)[0].count(b"sent")
