@@ -32,6 +32,7 @@ TOP = os.path.dirname(HERE)
 TOOLS = os.path.join(TOP, "tools")
 SYSTEM = "/usr/bin/python3"  # where Debian's packages are
 DAYS, BROKEN_DAY = 7, 3
+BEFORE_KILL = 20  # notifications of that day that are sent before the broker is killed
 CONFIGURATION = """[oslo_messaging_notifications]
 driver = messagingv2
 topics = audit
@@ -178,16 +179,24 @@ class Week:
     def services(self, day):
         return subprocess.Popen([sys.executable, os.path.abspath(__file__), "--serve", self.configuration, self.told, str(day)], stdin=subprocess.DEVNULL)
 
+    def count(self):
+        """How many notifications the services have written down."""
+        with open(self.told, "ab+") as file:
+            file.seek(0)
+            return sum(1 for _ in file)
+
     def run_day(self, day):
         """A day: the services send while both sites' programs are killed; then an evening and an exchange."""
         self.is_over.clear()
+        before = self.count()
         services = self.services(day)
         sites = [self.north] if day == 0 else [self.north, self.south]  # south's queue is made a day late
         threads = [thread for number, site in enumerate(sites) for thread in site.day(100 * day + 10 * number)]
         for thread in threads:
             thread.start()
         if day == BROKEN_DAY:
-            time.sleep(3)
+            while self.count() < before + BEFORE_KILL and services.poll() is None:
+                time.sleep(0.01)  # a service that finds no broker when it starts drops all that it sends
             self.broker.kill()
             self.broker.start()
         if services.wait() != 0:
@@ -224,11 +233,9 @@ class Week:
             if site.held() != wanted:
                 self.fail("%s holds something else than what was sent" % site.name)
         subprocess.run([sys.executable, os.path.join(TOOLS, "cadf-agree"), self.north.file, self.south.file], check=True, env=dict(os.environ, CADF=self.binary))
-        with open(self.told, encoding="utf-8") as file:
-            count = sum(1 for _ in file)
         kills = {what: self.north.kills[what] + self.south.kills[what] for what in self.north.kills}
         print("bus-week: %d notifications; listeners killed %d times, spool steps %d times, the broker once: equal logs" % (
-            count, kills["listener"], kills["spool step"]))
+            self.count(), kills["listener"], kills["spool step"]))
 
 
 def main():
