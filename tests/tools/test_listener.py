@@ -76,14 +76,14 @@ def test_reads_url_again(program, monkeypatch, tmp_path):
     url, seen = tmp_path / "url", []
     url.write_text("rabbit://u:old@h/")
 
-    def serve_once(host, spool, options):
+    def serve_once(host, *_):
         seen.append(host.password)
         url.write_text("rabbit://u:new@h/")
         if len(seen) < 2:
             raise OSError("refused")
 
     monkeypatch.setattr(program, "serve_once", serve_once)
-    program.serve(types.SimpleNamespace(finish_if_old=lambda: None), types.SimpleNamespace(url=None, url_file=str(url), ca=None))
+    program.serve(types.SimpleNamespace(finish_if_old=lambda: None), types.SimpleNamespace(url=None, url_file=str(url), ca=None, until_empty=None))
     assert seen == ["old", "new"]
 
 
@@ -110,6 +110,44 @@ def test_heartbeats(program, monkeypatch):
     options = types.SimpleNamespace(queue="q", bind=[], prefetch=1, until_empty=0)
     program.listen(connection, program.Deliveries(), types.SimpleNamespace(finish_if_old=lambda: None), options)
     assert calls["tick"] == 1
+
+
+@pytest.mark.parametrize("seconds, ends_at", [(0, 60), (300, 300), (None, None)])
+@pytest.mark.parametrize("is_heard", [False, True], ids=["broker away", "broker goes away"])
+def test_broker_away(program, monkeypatch, tmp_path, seconds, ends_at, is_heard):
+    """With --until-empty a broker that is away ends it with status 3: after that time, and a minute at least. Without, it goes on.
+
+    What was acknowledged before is in a finished file then. The time counts from when the queue could last be read.
+    """
+    clock, tried = Clock(), []
+    monkeypatch.setattr(program, "time", types.SimpleNamespace(monotonic=clock.monotonic, strftime=program.time.strftime, gmtime=program.time.gmtime))
+    monkeypatch.setattr(program.stopping, "wait", lambda pause: setattr(clock, "now", clock.now + pause))
+    program.amqp = program.amqp or object()
+
+    def serve_once(host, deliveries, spool, options):
+        if is_heard and not tried:
+            spool.write([b"x\n"])
+            clock.now += 5000
+            deliveries.gather(types.SimpleNamespace(blocking_read=lambda timeout: deliveries.lines.extend([b"y"] * 9)), 9)
+        tried.append(clock.now)
+        clock.now += 20  # as of a host that takes connections and says nothing
+        if len(tried) == 1000:
+            program.stopping.set()
+        raise OSError(111, "Connection refused")
+
+    monkeypatch.setattr(program, "serve_once", serve_once)
+    words = [] if seconds is None else ["--until-empty", str(seconds)]
+    try:
+        status, _, error = answer(program, ["--spool", str(tmp_path / "spool"), "--url", "rabbit://h/", "--seconds", "1000000", *words])
+    finally:
+        program.stopping.clear()
+    assert (lines_of(str(tmp_path / "spool")), glob.glob(str(tmp_path / "spool" / "*.part"))) == ([b"x"] * is_heard, [])
+    if seconds is None:
+        assert (status, len(tried), error) == (0, 1000, "")
+    else:
+        assert (status, error) == (3, "") and ends_at <= clock.now - tried[0] < ends_at + 40
+        assert re.fullmatch(r"h:5672: .*Connection refused; the queue could not be read for \d+ seconds, .*: make the broker and "
+                            "the queue answer, and run this again", [line for line in program.lines if "notifications" not in line][-1])
 
 
 class Trickle:
