@@ -1,6 +1,7 @@
 """What cadf-listen does that needs no broker: its words, its folder and files, and what it does between messages."""
 import collections
 import contextlib
+import errno
 import glob
 import io
 import os
@@ -8,6 +9,7 @@ import re
 import shutil
 import signal
 import socket
+import stat
 import struct
 import sys
 import types
@@ -184,6 +186,59 @@ def test_room(program, monkeypatch, tmp_path, free, is_enough):
     else:
         with pytest.raises(program.Fault, match="less than 32 MiB of room"):
             program.Spool(str(tmp_path / "spool"), 1, 1)
+
+
+@pytest.mark.parametrize("call, number, is_enough", [
+    ("posix_fallocate", errno.EDQUOT, False), ("posix_fallocate", errno.ENOSPC, False), ("fsync", errno.EDQUOT, False), ("fsync", errno.EIO, False),
+    ("posix_fallocate", errno.EOPNOTSUPP, True), ("posix_fallocate", errno.EFBIG, True)])
+def test_quota(program, monkeypatch, tmp_path, call, number, is_enough):
+    """Nor does it take anything if a quota leaves no room for two batches, of which the system may tell only at the sync."""
+    right, folder = getattr(os, call), str(tmp_path / "spool")
+
+    def failing(file, *words):
+        if call == "posix_fallocate" or os.fstat(file).st_size == 2 ** 25:
+            raise OSError(number, os.strerror(number))
+        return right(file, *words)
+
+    monkeypatch.setattr(program.os, call, failing)
+    if is_enough:
+        os.close(program.Spool(folder, 1, 1).own)
+    else:
+        assert refused(program.Spool, folder, 1, 1) == "%s: %s" % (folder, os.strerror(number))
+    assert os.listdir(folder) == []
+
+
+@pytest.mark.parametrize("call, size, lines", [("write", 1, 0), ("fsync", 1, 1), ("close", 1, 1)])
+def test_late_fault(program, monkeypatch, tmp_path, call, size, lines):
+    """A write, a sync or a close that fails by a quota ends it, and what was in the batch isn't acknowledged: it comes again."""
+    folder, right, acknowledged = str(tmp_path / "spool"), getattr(os, call), []
+    spool = program.Spool(folder, size, 1000)
+    monkeypatch.setattr(program, "find_queue", lambda *_: None)
+    channel = types.SimpleNamespace(basic_qos=lambda *_: None, basic_consume=lambda _: None, basic_ack=lambda tag, multiple: acknowledged.append(tag))
+
+    def serve_once(host, deliveries, spool, options):
+        def read(timeout):
+            deliveries.lines.append(b"{}\n")
+            monkeypatch.setattr(program.os, call, failing)
+
+        connection = types.SimpleNamespace(channel=lambda: channel, blocking_read=read, heartbeat_tick=lambda: None)
+        program.listen(connection, deliveries, spool, types.SimpleNamespace(queue="q", bind=[], prefetch=1, until_empty=None))
+
+    def failing(file, *words):
+        is_message = call != "fsync" or stat.S_ISREG(os.fstat(file).st_mode)
+        if call == "close":
+            right(file)
+        if is_message:
+            raise OSError(errno.EDQUOT, os.strerror(errno.EDQUOT))
+        return right(file, *words)
+
+    monkeypatch.setattr(program, "serve_once", serve_once)
+    said = refused(program.serve, spool, types.SimpleNamespace(url="rabbit://h/", url_file=None, ca=None))
+    monkeypatch.setattr(program.os, call, right)
+    os.close(spool.own)
+    assert (said, acknowledged) == (folder + ": Disk quota exceeded", [])
+    os.close(program.Spool(folder, 1, 1).own)
+    assert lines_of(folder) == [b"{}"] * lines
 
 
 def test_no_file(program, tmp_path):
