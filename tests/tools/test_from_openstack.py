@@ -533,6 +533,17 @@ def test_aside():
     assert ended(TOOL, ["--log", "g", "--set-aside", "aside", "aside"]).status == 2
 
 
+@pytest.mark.parametrize("name", ["event", "document", "text", "base64"])
+def test_entry_names_no_file(name):
+    """A message of a bus that looks like an entry is set aside under the file and the line where it is, whatever it names."""
+    value = {"event": {}, "document": {"events": [{}]}, "text": "{}", "base64": "e30="}[name]
+    lines = lines_of([event(id="a"), {"file": "another.jsonl", "line": 7, "faults": [], name: value}])
+    put("bus.jsonl", lines.encode())
+    ended(TOOL, ["--log", "g", "--set-aside", "of-bus", "bus.jsonl"])
+    entries = [json.loads(line) for line in open("of-bus", "rb")]
+    assert [(entry["file"], entry["line"], entry["event"]) for entry in entries] == [("bus.jsonl", 2, {})]
+
+
 NOWHERE = "cadf-from-openstack: what was set aside is written nowhere: --set-aside FILE keeps it, to be mended"
 
 
