@@ -6,11 +6,13 @@
  *     call sketch CELLS SALT FILE | missing-by-sketch FROM SKETCH | seal FILE | prove FACTS FILE..
  *     call verify SEAL FACTS PROOF | absent SEAL FACTS PROOF
  *
- * An empty LOG is none, and so is 0 for CELLS or SALT. PLACE, SITES, CELLS and SALT are decimal numbers. The exit status is that of
- * the command; 3 where a file can't be read or the output not written, 2 where the words are none of these.
+ * An empty LOG is none, and so is 0 for CELLS or SALT. PLACE, SITES, CELLS and SALT are decimal numbers below 2^64, without a sign or
+ * leading zeros. The exit status is that of the command; 3 where a file can't be read or the output not written, 2 where the words
+ * are none of these.
  */
 #include "cadf.h"
 
+#include <errno.h>
 #include <stdio.h>
 #include <stdlib.h>
 #include <string.h>
@@ -43,6 +45,17 @@ static struct cadf_bytes file(const char *name)
 static struct cadf_bytes word(const char *text)
 {
     return cadf_bytes_of(text, strlen(text));
+}
+
+/* The number that a word is. strtoull alone takes blanks, signs and what follows, too. */
+static uint64_t number(const char *text)
+{
+    char *end;
+    errno = 0;
+    unsigned long long value = strtoull(text, &end, 10);
+    if (text[0] < '0' || text[0] > '9' || (text[0] == '0' && text[1]) || *end || errno)
+        stop(CADF_ARGUMENT_REFUSED, "words");
+    return value;
 }
 
 /* The files of these names, read at the first call. */
@@ -96,15 +109,15 @@ static int call(int count, char **words, uint8_t *output, size_t room, size_t *l
     if (count == 3 && !strcmp(name, "missing-by-sketch"))
         return cadf_missing_by_sketch(&first, &second, output, room, length);
     if (count == 4 && !strcmp(name, "sketch"))
-        return cadf_sketch(strtoull(words[1], NULL, 10), strtoull(words[2], NULL, 10), &first, output, room, length);
+        return cadf_sketch(number(words[1]), number(words[2]), &first, output, room, length);
     if (count == 5 && !strcmp(name, "rule")) {
         struct cadf_bytes key = word(words[2]);
         uint8_t letter = strlen(words[1]) == 1 ? words[1][0] : 0;
-        return cadf_rule(letter, &key, strtoull(words[3], NULL, 10), &first, output, room, length);
+        return cadf_rule(letter, &key, number(words[3]), &first, output, room, length);
     }
     if (count == 4 && !strcmp(name, "rehearse")) {
         struct cadf_bytes log = word(words[1]);
-        return cadf_rehearse(&log, strtoull(words[2], NULL, 10), &first, output, room, length);
+        return cadf_rehearse(&log, number(words[2]), &first, output, room, length);
     }
     stop(CADF_ARGUMENT_REFUSED, "words");
 }

@@ -66,6 +66,24 @@ def test_wrappers(tmp_path, language, words):
     assert said.splitlines() == [told for _, told in calls]
 
 
+@pytest.mark.needs("gcc")
+def test_numbers_of_call(tmp_path):
+    """bindings/c/call.c takes decimal numbers below 2^64, and refuses any other word where it has a number."""
+    (tmp_path / "noting.c").write_text(noting())
+    (tmp_path / "file").write_bytes(b"")
+    subprocess.run(["gcc", *STRICT, "-I", HEADERS, "noting.c", os.path.join(HEADERS, "call.c"), "-o", "call"], cwd=tmp_path, check=True)
+    for number in ("0", "7", "12582912", str(2 ** 64 - 1), "-1", "+1", " 1", "1 ", "3x", "x", "", "007", "0x10", "1.5", str(2 ** 64), "9" * 30):
+        is_one = number.isdecimal() and str(int(number)) == number and int(number) < 2 ** 64
+        shown = int(number) if is_one and int(number) < 2 ** 31 else -1  # as the noting library prints it
+        for words, told in ((["sketch", number, "0"], "sketch %d 0" % shown), (["sketch", "0", number], "sketch 0 %d" % shown),
+                            (["rule", "E", "k", number], "rule %d 1 %d" % (ord("E"), shown)), (["rehearse", "g", number], "rehearse 1 %d" % shown)):
+            done = subprocess.run([tmp_path / "call", *words, tmp_path / "file"], stdout=subprocess.PIPE, stderr=subprocess.PIPE, universal_newlines=True)
+            if is_one:
+                assert (done.returncode, done.stderr) == (0, "") and done.stdout.startswith("cadf_%s " % told), (words, done)
+            else:
+                assert (done.returncode, done.stdout, done.stderr) == (2, "", "cadf: words\n"), (words, done)
+
+
 def test_functions():
     """The header declares what the crate exports, and so does the package."""
     crate = {name: (words, result) for name, words, result in exported()}
