@@ -5,6 +5,7 @@ them. tests/release/booted.py runs them.
 """
 import configparser
 import os
+import re
 import shlex
 import shutil
 import subprocess
@@ -20,8 +21,9 @@ SYSTEM = "/lib/systemd/system"
 INSTANCE = "audit"
 OLDEST = 250  # the first systemd-analyze that judges files in a folder
 SERVICE, TIMER = "cadf-spool@.service", "cadf-spool@.timer"
+FOLDERS = "cadf-spool-folders@.service"
 SYNC, SETTLE, TIMERS = "cadf-sync@.service", "cadf-settle@.service", (TIMER, "cadf-sync@.timer", "cadf-settle@.timer")
-MOST_EXPOSED = {SERVICE: 0.5, SETTLE: 0.5, SYNC: 1.2, "cadf-listen@.service": 2.5, "cadf-spool-folders@.service": 10}  # of 10, for each service
+MOST_EXPOSED = {SERVICE: 0.5, SETTLE: 0.5, SYNC: 1.2, "cadf-listen@.service": 2.5, FOLDERS: 1.2}  # of 10, for each service
 # What docs/OPERATING.md says of them: no capability, network or device; two folders to write to; each five minutes. A run
 # of an input of 2^30 bytes takes four times as much memory.
 SAID = [
@@ -92,6 +94,35 @@ def test_exposure(root, name):
 @pytest.mark.parametrize("unit, section, key, value", SAID)
 def test_setting(unit, section, key, value):
     assert settings(unit)[section][key] == value
+
+
+def makes_folders(top, capabilities):
+    """The status of the line of the unit that makes a spool's folders, with these capabilities alone, in a folder of the test's own."""
+    with open(os.path.join(UNITS, FOLDERS), encoding="utf-8") as unit:
+        lines = [line[len("StandardInputText="):] for line in unit if line.startswith("StandardInputText=")]
+    text = "".join(lines).replace("%i", INSTANCE).replace("/var/spool/cadf", str(top)).replace(" cadf-in ", " 2003 ")
+    text = re.sub("(?<= )cadf(?= )", "2002", text)
+    bounded = ["setpriv", "--no-new-privs", "--bounding-set=" + ",".join(["-all", *("+" + name for name in capabilities)])]
+    done = subprocess.run([*bounded, *shlex.split(settings(FOLDERS)["Service"]["ExecStart"])], input=text.encode(), capture_output=True)
+    return done.returncode
+
+
+@pytest.mark.root
+@pytest.mark.needs("setpriv", "systemd-tmpfiles")
+def test_folders(tmp_path):
+    """A spool's folders are made with the capabilities of their unit, also where they are there already, and each of these is needed."""
+    names = [name[len("CAP_"):].lower() for name in settings(FOLDERS)["Service"]["CapabilityBoundingSet"].split()]
+    spool = tmp_path / INSTANCE
+    for _ in range(2):
+        assert makes_folders(tmp_path, names) == 0
+        found = {path.name: (path.stat().st_uid, path.stat().st_gid, path.stat().st_mode) for path in (spool, *spool.iterdir())}
+        assert found == {INSTANCE: (2002, 2003, 0o41730), ".spool.lock": (2002, 2002, 0o100600),
+                         **{name: (2002, 2002, 0o40700) for name in ("taking", "taken", "set-aside")}}
+        spool.chmod(0o777)
+    for name in names:
+        top = tmp_path / ("without-" + name)
+        top.mkdir()
+        assert makes_folders(top, [each for each in names if each != name]) != 0, name
 
 
 def runs_line(name, places, cadf):

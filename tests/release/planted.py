@@ -50,6 +50,7 @@ ROWS = [
     Row("unit: another option", "examples/systemd/cadf-spool@.service", " --log %i ", " --logs %i ", UNITS + "test_words"),
     Row("unit: no folder to write to", "examples/systemd/cadf-spool@.service", "ReadWritePaths=/var/spool/cadf/%i\n", "", UNITS + "test_setting"),
     Row("unit: little memory", "examples/systemd/cadf-spool@.service", "MemoryMax=5G", "MemoryMax=5M", UNITS + "test_setting"),
+    Row("unit: folders by any capability", "examples/systemd/cadf-spool-folders@.service", "CAP_FOWNER\n", "CAP_FOWNER CAP_SYS_ADMIN\n", UNITS + "test_folders"),
     Row("unit: yearly", "examples/systemd/cadf-spool@.timer", "OnCalendar=*:0/5", "OnCalendar=yearly", UNITS + "test_setting"),
     Row("sandbox: more is allowed", "docs/OPERATING.md", "SystemCallFilter=access arch", "SystemCallFilter=access execveat socket connect ptrace arch", "tests/command/test_sandbox.py -k test_filter"),
     # ---- The tools: what a power cut, a signal or another caller does to them
