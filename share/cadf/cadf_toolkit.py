@@ -228,6 +228,12 @@ class Parser(argparse.ArgumentParser):
         super().__init__(prog=tool(), description=description, usage=usage, allow_abbrev=False, formatter_class=Help)
         self.add_argument("--version", action=Version, nargs=0, help="print the version and the commit, and exit")
 
+    def _get_value(self, action, text):
+        """The value of a word. An option has one: what is empty is a variable of a script that isn't set."""
+        if action.option_strings and not text:
+            raise argparse.ArgumentError(action, "it is empty")
+        return super()._get_value(action, text)
+
     def error(self, message):
         if sys.stderr is None:
             self.exit(USAGE)  # what argparse would say it to isn't there
@@ -235,7 +241,9 @@ class Parser(argparse.ArgumentParser):
 
 
 def site_name(text):
-    """The name of a site, as a word of a command line. ArgumentTypeError: it would be standard input, which is no site."""
+    """The name of a site, as a word of a command line. ArgumentTypeError: it is empty, or would be standard input, which is no site."""
+    if not text:
+        raise argparse.ArgumentTypeError("it is empty")
     if text == "-":
         raise argparse.ArgumentTypeError("a site is replaced, so it cannot be standard input; ./- is a file of that name")
     return text

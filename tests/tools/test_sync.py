@@ -242,7 +242,7 @@ def test_metrics_of_a_run_that_is_killed(sites):
     (("a.cadf", ":b.cadf"), "no HOST:SITE"), (("a.cadf", "h::b"), "no HOST:SITE"), (("a.cadf", "h:"), "no HOST:SITE"),
     *((("--since=" + window, "a.cadf", "b.cadf"), "WINDOW is") for window in ("2024", "2024-13", "2024-31-03", "2024-03-01T24", "0000-13", "0000-02-30")),
     (("--pull", "--push", "a.cadf", "b.cadf"), "not allowed with"),
-    (("--limit=2000000000", "a.cadf", "b.cadf"), "--limit"), (("--rsh=ssh 'a", "a.cadf", "h:b.cadf"), "--rsh"), (("--serve", "a.cadf", "b.cadf"), "--serve has one SITE"),
+    (("--limit=2000000000", "a.cadf", "b.cadf"), "--limit"), (("--rsh=ssh 'a", "a.cadf", "h:b.cadf"), "--rsh"), (("--rsh= ", "a.cadf", "h:b.cadf"), "--rsh names no command"), (("--serve", "a.cadf", "b.cadf"), "--serve has one SITE"),
 ])
 def test_usage(sites, words, part):
     answer = sites.sync(*words)

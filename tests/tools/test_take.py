@@ -205,7 +205,7 @@ def test_no_bits(folder):
     pytest.param(["--log", "h", "s.cadf", "one.json"], 1, "cadf-take: one.json: other log: ..", id="another log"),
     pytest.param(["s.cadf", "absent"], 3, "cadf-take: absent: No such file or directory\n", id="absent"),
     pytest.param(["s.cadf", "a\x1b\u202e"], 3, 'cadf-take: "a\\u001b\\u202e": No such file or directory\n', id="an odd name"),
-    pytest.param(["--log=", "s.cadf", "one.json"], 2, NO_NAME, id="no log's name"),
+    pytest.param(["--log=\x7f", "s.cadf", "one.json"], 2, NO_NAME, id="no log's name"), pytest.param(["--log=", "s.cadf", "one.json"], 2, "usage: ..", id="an empty name"),
     pytest.param(["-", "one.json"], 2, "usage: ..", id="no site"),
     pytest.param([], 2, "usage: ..", id="no words"), pytest.param(["s.cadf"], 2, "usage: ..", id="no file"),
     pytest.param(["--force", "s.cadf", "one.json"], 2, "usage: ..", id="an option")])

@@ -62,6 +62,29 @@ def test_ended_by_a_signal(kit, capsys, number):
     assert capsys.readouterr().err == "cadf-tool: stopped by %s\n" % number.name
 
 
+@pytest.mark.parametrize("words", [["--plain="], ["--plain", ""], ["--kind="], ["--list=a", "--list="], ["--one="], ["SITE", "--chosen="], [""]])
+def test_empty_values(kit, capsys, words):
+    """No option has an empty value, of whatever kind it is, and no site an empty name: it is usage."""
+    parser = kit.Parser("what it does", "cadf-tool [OPTION..] SITE")
+    parser.add_argument("--plain")
+    parser.add_argument("--kind", type=str.split)
+    parser.add_argument("--list", action="append")
+    parser.add_mutually_exclusive_group().add_argument("--one")
+    parser.add_argument("--chosen", choices=["", "a"])
+    parser.add_argument("site", metavar="SITE", type=kit.site_name)
+    with pytest.raises(SystemExit) as ended:
+        parser.parse_args(words)
+    name = max((word.rstrip("=") for word in words if word[:2] == "--" and word[-2:] != "=a"), default="SITE")
+    assert (ended.value.code, capsys.readouterr().err.splitlines()[-1]) == (2, "cadf-tool: error: argument %s: it is empty" % name)
+    assert vars(parser.parse_args(["--plain=0", "--kind= ", "--list=a", "--one=-", "--chosen=a", "x"])) == {
+        "version": None, "plain": "0", "kind": [], "list": ["a"], "one": "-", "chosen": "a", "site": "x"}
+
+
+def test_empty_value_of_a_tool(tmp_path):
+    done = subprocess.run([os.path.join(TOP, "tools", "cadf-events"), "--bulk", "", "site"], cwd=tmp_path, capture_output=True, universal_newlines=True)
+    assert (done.returncode, done.stdout, done.stderr.splitlines()[-1]) == (2, "", "cadf-events: error: argument --bulk: it is empty")
+
+
 STARTED = """import os, signal, subprocess, sys
 sys.path.insert(0, os.path.dirname(sys.argv[1]))
 import cadf_toolkit
