@@ -2,6 +2,7 @@
 
 tests/library/test_bindings.py does the same with the library for C.
 """
+import fcntl
 import os
 import re
 import shutil
@@ -184,6 +185,28 @@ def test_install_ended(cadf, tmp_path):
     count = sum(path.is_file() for path in tmp_path.rglob("*"))
     assert ended(INSTALL, ["--uninstall", tmp_path]).output.decode() == "removed %d files under %s\n" % (count, tmp_path)
     assert sorted(tmp_path.rglob("*")) == sorted(list(in_the_way.parents)[:3])
+
+
+@pytest.mark.parametrize("word", ["--any", "--uninstall"])
+def test_two_at_once(cadf, tmp_path, word):
+    """While a run is at work under a prefix another one is refused there, and changes nothing: they would write into one another's files."""
+    subprocess.run([INSTALL, "--any", tmp_path], check=True, stdout=subprocess.DEVNULL)
+    before = sorted((path, path.stat().st_ino) for path in tmp_path.rglob("*"))
+    folder = os.open(tmp_path, os.O_RDONLY)
+    fcntl.flock(folder, fcntl.LOCK_EX)
+    done = ended(INSTALL, [word, tmp_path])
+    os.close(folder)
+    assert (done.status, done.error.decode()) == (1, "install: another run is at work under %s: try again once it has ended\n" % tmp_path)
+    assert sorted((path, path.stat().st_ino) for path in tmp_path.rglob("*")) == before
+    assert ended(INSTALL, [word, tmp_path]).status == 0
+
+
+def test_no_prefix(tmp_path):
+    """An empty PREFIX, as an unset variable makes it, isn't the current folder."""
+    for words in ([""], ["--uninstall", ""]):
+        done = ended(INSTALL, words, cwd=tmp_path)
+        assert (done.status, done.output, done.error.decode().splitlines()[-1]) == (2, b"", "install: error: PREFIX is empty")
+    assert list(tmp_path.iterdir()) == []
 
 
 def test_uninstall_of_links(cadf, tmp_path):

@@ -41,6 +41,7 @@ ROWS = [
     Row("install: old files stay", "install/install", "if place not in places])", "if place not in places][:0])", INSTALLED + "test_install_over"),
     Row("install: in place", "install/install", '    os.replace(path + ".new", path)', "    __import__('shutil').copy2(path + '.new', path)", INSTALLED + "test_install_over"),
     Row("install: removes others' files", "install/install", "            elif not os.listdir(path):\n                os.rmdir(path)", "            else:\n                __import__('shutil').rmtree(path)", INSTALLED + "test_uninstall"),
+    Row("install: two at once", "install/install", "        fcntl.flock(folder, fcntl.LOCK_EX | fcntl.LOCK_NB)\n", "        pass\n", INSTALLED + "test_two_at_once"),
     Row("manual: no --cells", "share/man/man1/cadf.1", ".RB [ \\-\\-cells\n.IR N ]\n", "", INSTALLED + "test_commands"),
     Row("manual: no --set-aside", "share/man/man1/cadf.1", ".BI \\-\\-set\\-aside \" FILE\"\nAppends", ".BI \\-\\-aside \" FILE\"\nAppends", INSTALLED + "test_tool"),
     Row("manual: no --until-empty", "share/man/man1/cadf.1", ".BI \\-\\-until\\-empty", ".BI \\-\\-until", INSTALLED + "test_tool"),
