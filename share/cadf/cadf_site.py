@@ -42,6 +42,7 @@ LONGEST_INDEX = 2 ** 28  # bytes
 TRIES = 100  # of a reader, before takes that never end are a fault
 CHANGED = "%%s: it changed at each of %d looks: try again" % TRIES
 MOST_NEW = 400  # windows that a take begins, unless more are allowed
+TOO_MANY_NEW = "the files make more than %d new windows: if that is meant, allow it by --windows N"
 MOST_STRANGERS = 20  # that are named
 PIECE = 2 ** 16  # bytes of a line that are held at once
 MOST_AT_ONCE = 2 ** 28  # bytes of inputs that are split at once, if there are several
@@ -591,7 +592,7 @@ class Taking:
                 if not self.digests(part):
                     self.begun.add(part)
                 if len(self.begun) > most_new:
-                    raise Fault("the files make more than %d new windows: if that is meant, allow it by --windows N" % most_new, REFUSED)
+                    raise Fault(TOO_MANY_NEW % most_new, REFUSED)
                 with self.new_file() as output:
                     digest = parts.copy(output)
                 self.keep(part, digest)

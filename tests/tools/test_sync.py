@@ -639,7 +639,25 @@ def test_new_windows_are_counted_where_they_begin(folders, there):
     (folders.path / "shell").write_text("#!/bin/sh\nPATH=%s:$PATH exec sh -c \"$3\"\n" % shlex.quote(folders.tools))
     (folders.path / "shell").chmod(0o755)
     answer = folders.sync("--push", "--windows=3", "--rsh=./shell", "here/", there)
-    assert answer.status == 1 and "the files make more than 3 new windows" in said(answer)
+    assert answer.status == 1 and "%s: more than the 3 new windows that --windows allows a call, of which 0 were taken: " % there in said(answer)
+    assert not os.path.exists(folders.path / "there" / "site")
+
+
+def test_new_windows_after_a_part_was_taken(folders, monkeypatch):
+    """The line says how many windows may be new, and how many were taken before; called again with as many as are new it completes."""
+    folders.put("here/", facts(*range(1, 9)))
+    (folders.path / "shell").write_text("#!/bin/sh\nexec %s --serve --limit=1024 --windows=$WINDOWS there/\n" % (
+        shlex.join([sys.executable, os.path.join(folders.tools, "cadf-sync")])))
+    (folders.path / "shell").chmod(0o755)
+    monkeypatch.setenv("WINDOWS", "3")
+    answer = folders.sync("--push", "--rsh=./shell", "here/", "h:there/")
+    taken = len(folders.files("there/")) - 1
+    assert 0 < taken <= 3 and answer.status == 1
+    assert said(answer) == "cadf-sync: h:there/: more than the 3 new windows that --windows allows a call, of which %d were taken: " \
+        "if more are meant, make the call again with a greater --windows\n" % taken
+    monkeypatch.setenv("WINDOWS", "9")
+    assert folders.sync("--push", "--rsh=./shell", "here/", "h:there/").status == 0
+    assert folders.holds("there/") == facts(*range(1, 9))
 
 
 def test_digests_that_cannot_be_kept_pile_up_nothing(tmp_path, monkeypatch):
