@@ -8,14 +8,15 @@ import hashlib
 import itertools
 import json
 import os
-import subprocess
+import resource
 import tempfile
+from typing import NamedTuple
 
 from cadf_logs import utc
-from cadf_site import DAMAGED, SHARED, UNITS, is_folder, opened_site, opened_whole, without_facts
-from cadf_toolkit import FAILED, REFUSED, Fault, cadf, opened, started
+from cadf_site import CHANGED, DAMAGED, SHARED, TRIES, UNITS, Folder, is_folder, made_of_parts
+from cadf_toolkit import REFUSED, Fault, Input, cadf, in_order, opened
 
-AT_ONCE = 256  # files that one join is given
+AT_ONCE = 256  # files that one join is given, where as many may be open
 LARGEST = 2 ** 28  # bytes of windows whose common keys are put together at once
 KEY, NODES, RULINGS = b"\n[2,0,", b'\n[1,0,"E"]\n', b'\n[1,0,"U"]\n'
 
@@ -41,6 +42,11 @@ def contents(digest, each):
     return lines
 
 
+def lines_of(data, keys):
+    """The lines of these keys in a window's file."""
+    return [lines for key, lines in keys_in(data) if key in keys]
+
+
 def keys_in(data):
     """Yields the keys of a window's file in their order, as JSON texts, each with its lines."""
     place, end = data.find(KEY) + 1, len(data)
@@ -53,37 +59,90 @@ def keys_in(data):
 
 # ---- What is put together
 
+class Read(NamedTuple):
+    """What was read of a part: its name with the digests of its files, the file of its keys, and that of its rulings, in a list."""
+    files: tuple
+    keys: str
+    rulings: list
+
+
+def at_once():
+    """How many files one join is given: `cadf` opens each once more."""
+    _, most = resource.getrlimit(resource.RLIMIT_NOFILE)
+    return AT_ONCE if most == resource.RLIM_INFINITY else max(2, min(AT_ONCE, most // 2 - 32))
+
+
+def keys_of(part, read):
+    """Yields the keys of a part that was read, each as a line with its name."""
+    with open(read.keys, "rb") as keys:
+        yield from (b"%s\t%s\n" % (key[:-1], part.encode()) for key in keys)
+
+
 class Windows:
-    """The windows of a site as they stood at one moment, and what has to be known of all of them to show some.
+    """What is made of windows of a site that is a folder, as they stood at one moment, and what has to be known of all to make it.
 
     `common` has the keys that are in several windows, as JSON texts, `facts` the names of replica files that have all of
-    their facts, each key in one file, and `rulings` that of one of all rulings of the site, if there are any.
-    They are made in a new folder in `folder`, which is private.
+    their facts, each key in one file, and `rulings` that of one of all rulings of the site, if there are any. `made` has by
+    part, in order, what `make` gives of the windows of a range, and of the shared part if that is wanted. It is given this
+    object and the files of a part as inputs. Only those are open meanwhile: a program that is started costs as much as there
+    are open files. All files that are made are in a new folder in `folder`, which is private.
     """
 
-    def __init__(self, index, inputs, folder):
-        self.head, self.unit, self.folder, self.count = b"L %s\n" % index.log.encode(), index.unit, tempfile.mkdtemp(dir=folder), 0
-        self.parts = {}  # of each part, in their order, the digits and the inputs of its files
-        for (part, digest), each in inputs.items():
-            self.parts.setdefault(part, []).append((digest, each))
-        self.windows = [part for part in self.parts if part != SHARED]
-        self.common = frozenset(self.common_keys())
-        self.facts = list(self.common_facts())
-        self.rulings = self.joined(list(self.ruling_files()))
+    def __init__(self, name, limits, folder, make, with_shared=True):
+        self.folder, self.count, self.make, self.kept = tempfile.mkdtemp(dir=folder), 0, make, {}
+        with Folder(name) as site:
+            for _ in range(TRIES):
+                index = site.site()
+                self.head, self.unit = b"L %s\n" % index.log.encode(), index.unit
+                read = made_of_parts([site], None, self.read)
+                self.rulings = read[SHARED].rulings if SHARED in read else []
+                self.common_in = self.common_of({part: each for part, each in read.items() if part != SHARED})
+                self.common = frozenset().union(*self.common_in.values())
+                self.wanted = {*self.within(limits, read), *([SHARED] if with_shared and SHARED in read else [])}
+                found = made_of_parts([site], [part for part in read if part in self.wanted or part in self.common_in], self.of_part)
+                if all(files == read[part].files for part, (files, _, _) in found.items()):
+                    break
+            else:
+                raise Fault(CHANGED % site.shown())
+        self.made = {part: made for part, (_, made, _) in found.items() if part in self.wanted}
+        self.facts = list(self.common_facts([name for _, _, facts in found.values() for name in facts]))
 
-    def contents(self, part):
-        """Yields the bytes of each file of a part."""
-        return (contents(digest, each) for digest, each in self.parts.get(part, ()))
+    def read(self, part, files):
+        """Reads the files of a part, unless it was read with the same ones."""
+        key = part, *files
+        if key not in self.kept:
+            data = [contents(digest, each) for digest, each in files.items()]
+            name, rulings = None, []
+            if part == SHARED:
+                places = [(each, each.find(RULINGS)) for each in data]
+                rulings = self.joined([self.put([each[place + 1:]]) for each, place in places if place >= 0])
+            else:
+                name = self.new_name()
+                with open(name, "xb") as output:
+                    output.writelines({name + b"\n" for each in data for name, _ in keys_in(each)})
+            self.kept[key] = Read(key, name, rulings)
+        return self.kept[key]
 
-    def inputs(self, part):
-        return [each for _, each in self.parts.get(part, ())]
+    def of_part(self, part, files):
+        """What is made of a part, and the file of its facts of common keys, unless that was made of the same ones."""
+        common = self.common_in.get(part, frozenset())
+        key = part, *files
+        known = key, tuple(self.rulings), common
+        if known not in self.kept:
+            facts = [self.put([NODES[1:], *lines]) for lines in (lines_of(contents(*each), common) for each in files.items() if common) if lines]
+            self.kept[known] = key, self.make(self, list(files.values())) if part in self.wanted else None, facts
+        return self.kept[known]
 
-    def within(self, limits):
-        """The windows that have an instant of the range, in order of time."""
+    def within(self, limits, parts):
+        """The windows among the parts that have an instant of the range, in order of time."""
         length = UNITS[self.unit]
         first = "" if limits.first is None else utc(limits.first)[:length]
         last = "~" if limits.until is None else utc(limits.until - 1)[:length]
-        return [part for part in self.windows if first <= part <= last]
+        return [part for part in parts if part != SHARED and first <= part <= last]
+
+    def log(self):
+        """The log's name."""
+        return json.loads(self.head[len("L "):])
 
     def new_name(self):
         self.count += 1
@@ -100,44 +159,28 @@ class Windows:
         """Joins files in rounds. Returns the name of the one that is left, in a list that is empty for no files."""
         while len(names) > 1:
             made = []
-            for start in range(0, len(names), AT_ONCE):
+            for start in range(0, len(names), at_once()):
                 made.append(self.new_name())
-                with opened(names[start:start + AT_ONCE]) as inputs, open(made[-1], "xb") as output:
+                with opened(names[start:start + at_once()]) as inputs, open(made[-1], "xb") as output:
                     cadf(["join"], inputs, output.fileno(), where=made[-1])
             for name in names:
                 os.unlink(name)
             names = made
         return names
 
-    def ruling_files(self):
-        for data in self.contents(SHARED):
-            place = data.find(RULINGS)
-            if place >= 0:
-                yield self.put([data[place + 1:]])
+    def common_of(self, read):
+        """The keys that are in several windows, by window."""
+        found = {part.encode(): set() for part in read}
+        lines = in_order(itertools.chain.from_iterable(keys_of(*item) for item in read.items()), self.folder)
+        for key, group in itertools.groupby(lines, lambda line: line.rpartition(b"\t")[0]):
+            parts = [line[len(key) + 1:-1] for line in group]
+            if len(parts) > 1:
+                for part in parts:
+                    found[part].add(key)
+        return {part.decode(): frozenset(keys) for part, keys in found.items() if keys}
 
-    def common_keys(self):
-        """Yields the keys that are in several windows."""
-        words = ["sort", "-u", "--buffer-size=64M", "--temporary-directory=" + self.folder]
-        with started(words, stdin=subprocess.PIPE, stdout=subprocess.PIPE, env=dict(os.environ, LC_ALL="C")) as child:
-            with contextlib.suppress(BrokenPipeError), child.stdin:
-                for number, part in enumerate(self.windows):
-                    keys = {key for data in self.contents(part) for key, _ in keys_in(data)}
-                    child.stdin.writelines(b"%s\t%d\n" % (key, number) for key in keys)
-            for key, group in itertools.groupby(child.stdout, lambda line: line.rpartition(b"\t")[0]):
-                if len(list(itertools.islice(group, 2))) == 2:
-                    yield key
-            if child.wait():
-                raise Fault("sort: it could not put the keys in order", FAILED)
-
-    def common_facts(self):
-        """Yields the names of files that have the facts of the common keys, each key in one file."""
-        if not self.common:
-            return
-        names = []
-        for part in self.windows:
-            for data in self.contents(part):
-                lines = [lines for key, lines in keys_in(data) if key in self.common]
-                names += [self.put([NODES[1:], *lines])] if lines else []
+    def common_facts(self, names):
+        """Yields the names of files that have the facts of the common keys, each key in one file, of those of each window."""
         count = -(-sum(map(os.path.getsize, names)) // LARGEST)
         if count == 1:
             yield from self.joined(names)
@@ -155,21 +198,27 @@ class Windows:
                 yield self.put([NODES[1:], *lines])
 
 
+def joined_part(windows, inputs):
+    """The name of a replica file of a part."""
+    name = windows.new_name()
+    with open(name, "xb") as output:
+        cadf(["join"], inputs, output.fileno(), where=name)
+    return name
+
+
 @contextlib.contextmanager
 def opened_within(names, limits, folder):
-    """Opens files for a call, and of a site that is a folder those of its files that a range needs.
+    """Opens files for a call, and of a site that is a folder one of what a range needs of it.
 
-    These are the shared part, the windows of the range, and all facts of the keys that are in several windows.
+    This is the shared part, the windows of the range, and all facts of the keys that are in several windows.
     """
     with contextlib.ExitStack() as files:
         found = []
         for name in names:
-            if limits.is_all or not is_folder(name):
-                found += files.enter_context(opened_whole([name]))
-                continue
-            index, inputs = files.enter_context(opened_site(name))
-            windows = Windows(index, inputs, folder)
-            found.append(files.enter_context(without_facts(index.log, name)))
-            found += itertools.chain.from_iterable(map(windows.inputs, [SHARED, *windows.within(limits)]))
-            found += files.enter_context(opened(windows.facts))
+            if is_folder(name):
+                windows = Windows(name, limits, folder, joined_part)
+                together, = windows.joined([windows.put([]), *windows.made.values(), *windows.facts])
+                found.append(Input(name, files.enter_context(opened([together]))[0].file))
+            else:
+                found += files.enter_context(opened([name]))
         yield found

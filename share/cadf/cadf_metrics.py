@@ -58,10 +58,8 @@ def largest_window(name):
         return 0
     if not cadf_site.is_folder(name):
         return os.stat(name).st_size
-    with cadf_site.opened_site(name) as (_, inputs):
-        sizes = {}
-        for (part, _), each in inputs.items():
-            sizes[part] = sizes.get(part, 0) + os.fstat(each.file.fileno()).st_size
+    with cadf_site.Folder(name) as folder:
+        sizes = cadf_site.made_of_parts([folder], None, lambda _, files: sum(os.fstat(each.file.fileno()).st_size for each in files.values()))
     return max(sizes.values(), default=0)
 
 

@@ -8,7 +8,6 @@ the moment of a take. A reader needs no lock. A tool imports this as it imports 
   opened_site(name, parts)   its files as inputs, all or those of some parts, as it stood at one moment
   opened_parts(folder, ..)   the same of a Folder
   made_of_parts(folders, ..) what is made of the files of each part, as each folder stood at one moment
-  opened_whole(names)        the inputs that hold all of these sites, of which each is a file or a folder
   take(..), settle(..)       take inputs into a folder, and join the files of each window
 """
 import bisect
@@ -24,8 +23,8 @@ import stat
 import subprocess
 import tempfile
 
-from cadf_toolkit import (CADF, FAILED, LARGEST, REFUSED, Fault, Input, Refusal, cadf, check_end, log_name, name_shown, open_descriptor, opened,
-                          opened_file, other_log, say, started_cadf, sync, wait_for_lock)
+from cadf_toolkit import (CADF, FAILED, LARGEST, REFUSED, Fault, Input, Refusal, cadf, check_end, log_name, name_shown, open_descriptor, opened_file,
+                          other_log, say, started_cadf, sync, wait_for_lock)
 
 UNITS = {"month": len("2024-03"), "day": len("2024-03-01"), "hour": len("2024-03-01T12")}  # with the length of a window's name
 INDEX, LOCK, WORKING = "site", ".lock", ".new"
@@ -321,20 +320,6 @@ def without_facts(log, name):
         file.write(data + b"Z %s\n" % hashlib.sha256(data).hexdigest().encode())
         file.flush()
         yield Input(name, file)
-
-
-@contextlib.contextmanager
-def opened_whole(names):
-    """Opens the inputs that hold all of these sites: the file of each, or all the files of its folder. Each has at least one."""
-    with contextlib.ExitStack() as files:
-        inputs = []
-        for name in names:
-            if is_folder(name):
-                index, found = files.enter_context(opened_site(name))
-                inputs += found.values() or [files.enter_context(without_facts(index.log, name))]
-            else:
-                inputs += files.enter_context(opened([name]))
-        yield inputs
 
 
 # ---- Taking

@@ -434,6 +434,17 @@ def cadf(words, inputs, output=subprocess.DEVNULL, keep=(), where=None, union=1)
     return written
 
 
+def in_order(lines, folder):
+    """Yields the distinct ones of some lines, in the order of their bytes. What takes much memory goes into files of the folder."""
+    words = ["sort", "-u", "--buffer-size=64M", "--temporary-directory=" + folder]
+    with started(words, stdin=subprocess.PIPE, stdout=subprocess.PIPE, env=dict(os.environ, LC_ALL="C")) as child:
+        with contextlib.suppress(BrokenPipeError), child.stdin:
+            child.stdin.writelines(lines)
+        yield from child.stdout
+        if child.wait():
+            raise Fault("sort: it could not put the lines in order")
+
+
 def write_fault(file):
     """Why nothing more can be written to an open file, in the system's words, if it still can't be."""
     try:

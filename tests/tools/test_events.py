@@ -106,11 +106,13 @@ def test_file_and_folder_show_the_same(cadf, tmp_path, seed):
 
 
 @pytest.mark.parametrize("right, wrong", [
-    ("self.of([*windows.inputs(part), *rulings], windows.common)", "self.of([*windows.inputs(part), *rulings])"),
+    ("own.of([*inputs, *rulings], windows.common)", "own.of([*inputs, *rulings])"),
+    ("own.of([*inputs, *rulings], windows.common)", "own.of(inputs, windows.common)"),
+    ("        return name, own.left_out", "        return name, 0"),
     ("self.of([*facts, *rulings])", "self.of([*facts])"),
     (", *(self.of_facts(name, rulings) for name in windows.facts))", ")"),
     ("utc(limits.until - 1)[:length]", "utc(limits.until - 1)[:length - 1]"),
-    ("if len(list(itertools.islice(group, 2))) == 2:", "if len(list(itertools.islice(group, 3))) == 3:"),
+    ("            if len(parts) > 1:", "            if len(parts) > 2:"),
     ('yield instant(event["eventTime"]), event["id"], text', 'yield event["eventTime"], event["id"], text'),
     ('any(map(self.limits.has, conflict["values"]))', "1"),
 ])

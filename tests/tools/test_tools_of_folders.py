@@ -4,9 +4,11 @@ import json
 import os
 import resource
 import shlex
+import sys
 
 import pytest
 
+from tests import TOP
 from tests.machine import ended
 from tests.tools.copies import is_caught
 from tests.tools.test_site_folders import DAYS, EVENT, TOOLS, Site, atoms_of, contents, index_of, with_digest
@@ -134,6 +136,61 @@ def test_agree_has_the_files_of_one_window_open_at_a_time(sites):
     min(sites.north.folder.glob("2024-*.cadf")).unlink()
     status, _, said = sites.run("agree", "north", "south", **FEW)
     assert status == 3 and "not there: the site is damaged" in said[0]
+
+
+def test_agree_of_a_folder_and_others_has_the_files_of_one_window_open_at_a_time(sites):
+    sites.north.takes(contents(0, 2, name="n"))
+    sites.south.takes(contents(2, 3), by=("--by", "month"))
+    (sites.path / "inventory").write_bytes(ended(Site.command, ["inventory", sites.file("file.cadf", contents(0, 3))], cwd=sites.path).output)
+    for other in ("file.cadf", "inventory"):
+        said = ["north lacks 2 facts of " + other, other + " lacks 3 facts of north"]
+        assert sites.run("agree", "north", other, **FEW) == sites.run("agree", "north", other) == (5, "", said)
+        assert sites.run("agree", other, "north", **FEW) == (5, "", said[::-1])
+    assert sites.run("agree", "north", "south", **FEW) == (5, "", ["north lacks 2 facts of south", "south lacks 3 facts of north"])
+
+
+@pytest.mark.parametrize("words", [["conflicts", "--values"], ["events"], ["events", "--from", DAYS[0][:10]], ["report"], ["report", "--from", DAYS[0][:10]]])
+def test_lists_have_the_files_of_one_window_open_at_a_time(sites, words):
+    """So a site of more windows than files may be open is listed, also where a key is in several windows."""
+    for number in (0, 2):
+        sites.north.takes(told_on_two_days(number), contents(1, 3, name="n"))
+    wanted = sites.run(*words, "north")
+    assert wanted[0] in (0, 5) and wanted[1] and sites.run(*words, "north", **FEW) == wanted
+
+
+def test_a_report_of_more_windows_than_files_may_be_open(sites):
+    """What is made of the windows is joined a few at a time."""
+    sites.north.takes({"id": "g", "events": [dict(EVENT, id="e%d" % day, eventTime="2024-%02d-%02dT00:00:00Z" % (4 + day // 28, 1 + day % 28)) for day in range(40)]})
+    assert sites.run("report", "north", **FEW) == sites.run("report", sites.file("file.cadf", json.loads((sites.path / "1.json").read_text())))
+
+
+LARGEST = """import sys
+sys.path.insert(0, sys.argv[1])
+import cadf_metrics
+print(cadf_metrics.largest_window(sys.argv[2]))
+"""
+
+
+def test_largest_window_has_the_files_of_one_window_open_at_a_time(sites):
+    sites.north.takes(contents(0, 2, 5, 8, name="n"))
+    wanted = max(path.stat().st_size for path in sites.north.folder.glob("2024-03-01.*.cadf"))
+    assert ended(sys.executable, ["-c", LARGEST, os.path.join(TOP, "share", "cadf"), str(sites.north.folder)], **FEW) == (0, b"%d\n" % wanted, b"")
+
+
+@pytest.mark.parametrize("words, call", [(["conflicts", "--values"], "join"), (["events"], "show"), (["report"], "join")])
+def test_lists_amid_takes(sites, words, call):
+    """All of a take is listed or nothing of it, though it changes a window that was read before, and has a key that becomes common."""
+    takes = [told_on_two_days(0), contents(3, 5)], [told_on_two_days(2), contents(6)]
+    sites.north.takes(*takes[0])
+    wanted = [sites.run(*words, sites.file("%d.cadf" % count, *sum(takes[:count], []))) for count in (1, 2)]
+    documents = [sites.north.put(value) for value in takes[1]]
+    late = sites.path / "late"
+    late.write_text("#!/bin/sh\nif [ $1 = %s ] && mkdir %s 2>%s; then\n  CADF=%s %s %s %s || exit 9\n  CADF=%s %s --settle %s || exit 9\nfi\nexec %s \"$@\"\n" % (call, *map(
+        shlex.quote, [str(sites.path / "once"), os.devnull, Site.command, os.path.join(sites.tools, "cadf-take"), str(sites.north.folder)]),
+        shlex.join(documents), *map(shlex.quote, [Site.command, os.path.join(sites.tools, "cadf-take"), str(sites.north.folder), Site.command])))
+    late.chmod(0o755)
+    sites.environment["CADF"] = str(late)
+    assert sites.run(*words, "north") in wanted and (sites.path / "once").is_dir()
 
 
 def test_agree_amid_takes(sites):
