@@ -240,6 +240,22 @@ class Parser(argparse.ArgumentParser):
         super().error(printable(message))
 
 
+def whole_number(least, most):
+    """Reads a whole number between these, in digits alone."""
+    def number(text):
+        if not re.fullmatch("[0-9]{1,19}", text) or not least <= int(text) <= most:
+            raise argparse.ArgumentTypeError("not a whole number from %d to %d" % (least, most))
+        return int(text)
+    return number
+
+
+def number_of_seconds(text):
+    """Reads a number of seconds, below 2^31, in digits with a point or without."""
+    if not re.fullmatch(r"[0-9]{1,10}(\.[0-9]{1,9})?", text) or float(text) >= 2 ** 31:
+        raise argparse.ArgumentTypeError("not a number of seconds")
+    return float(text)
+
+
 def site_name(text):
     """The name of a site, as a word of a command line. ArgumentTypeError: it is empty, or would be standard input, which is no site."""
     if not text:

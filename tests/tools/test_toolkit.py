@@ -80,6 +80,38 @@ def test_empty_values(kit, capsys, words):
         "version": None, "plain": "0", "kind": [], "list": ["a"], "one": "-", "chosen": "a", "site": "x"}
 
 
+@pytest.mark.parametrize("text, wanted", [
+    ("0", None), ("1", 1), ("007", 7), ("9223372036854775807", 2 ** 63 - 1), ("9223372036854775808", None), ("9" * 30, None),
+    ("-1", None), ("+1", None), (" 1", None), ("1 ", None), ("1\n", None), ("1_0", None), ("1e3", None), ("1.0", None), ("0x1", None), ("\u0663", None), ("\u00b2", None), ("x", None)])
+def test_whole_numbers(kit, text, wanted):
+    read = kit.whole_number(1, 2 ** 63 - 1)
+    if wanted is None:
+        with pytest.raises(kit.argparse.ArgumentTypeError, match="not a whole number from 1 to 9223372036854775807"):
+            read(text)
+    else:
+        assert read(text) == wanted
+
+
+@pytest.mark.parametrize("text, wanted", [
+    ("0", 0), ("1", 1), ("0.5", 0.5), ("2147483647.999", 2147483647.999), ("2147483648", None), ("1e3", None), ("-1", None), ("+1", None), (" 1", None),
+    ("1\n", None), ("1_0", None), (".5", None), ("1.", None), ("nan", None), ("inf", None), ("\u0663", None), ("x", None)])
+def test_seconds(kit, text, wanted):
+    if wanted is None:
+        with pytest.raises(kit.argparse.ArgumentTypeError, match="not a number of seconds"):
+            kit.number_of_seconds(text)
+    else:
+        assert kit.number_of_seconds(text) == wanted
+
+
+@pytest.mark.parametrize("words", [
+    ["cadf-from-openstack", "--log=g", "--size=4_096"], ["cadf-from-openstack", "--log=g", "--longest=+1"], ["cadf-listen", "--spool=x", "--prefetch= 1"],
+    ["cadf-listen", "--spool=x", "--seconds=1e3"], ["cadf-take", "--wait=1e3", "x", "y"], ["cadf-take", "--windows=\u0663", "x", "y"],
+    ["cadf-spool", "--log=g", "--time=\u0663", "x", "y"], ["cadf-sync", "--most=\u0663", "x", "y"]])
+def test_odd_numbers_of_tools(words, tmp_path):
+    done = subprocess.run([os.path.join(TOP, "tools", words[0]), *words[1:]], cwd=tmp_path, stdin=subprocess.DEVNULL, capture_output=True, universal_newlines=True)
+    assert done.returncode == 2 and "not a " in done.stderr.splitlines()[-1] and os.listdir(tmp_path) == [], done
+
+
 def test_empty_value_of_a_tool(tmp_path):
     done = subprocess.run([os.path.join(TOP, "tools", "cadf-events"), "--bulk", "", "site"], cwd=tmp_path, capture_output=True, universal_newlines=True)
     assert (done.returncode, done.stdout, done.stderr.splitlines()[-1]) == (2, "", "cadf-events: error: argument --bulk: it is empty")
