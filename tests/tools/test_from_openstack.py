@@ -18,6 +18,7 @@ import resource
 import stat
 import subprocess
 import tempfile
+import threading
 
 import pytest
 
@@ -531,6 +532,29 @@ def test_aside():
     put("fixed", kept.replace(b'"event": {', b'"event": {"id": "f", ', 1))
     assert [each["id"] for each in read(open("fixed", "rb").read()).events] == ["f"]
     assert ended(TOOL, ["--log", "g", "--set-aside", "aside", "aside"]).status == 2
+
+
+def test_two_runs_set_aside_at_once(monkeypatch):
+    """Of two runs that set aside into one file each entry is whole, also if the other run comes while a long one is written."""
+    program, write, others = loaded(TOOL), os.write, []
+    first, second = (program.SetAside("shared") for _ in range(2))
+
+    def slow(file, data):
+        if not others:
+            others.append(threading.Thread(target=second.add, args=(("b", 1), ["id"], "event", {})))
+            others[0].start()
+            others[0].join(0.5)
+        return write(file, data)
+
+    monkeypatch.setattr(program.os, "write", slow)
+    first.add(("a", 1), ["id"], "event", {"x": "y" * 200000})
+    others[0].join()
+    first.put('{"torn": ')
+    first.flush()
+    second.add(("b", 2), ["id"], "event", {})
+    lines = [line for line in open("shared", encoding="utf-8")]
+    assert [line[:9] for line in lines] == ['{"file": '] * 2 + ['{"torn": '] + ['{"file": ']
+    assert [json.loads(line)["file"] for line in lines if "torn" not in line] == ["a", "b", "b"]
 
 
 @pytest.mark.parametrize("name", ["event", "document", "text", "base64"])
