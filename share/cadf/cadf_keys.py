@@ -16,7 +16,7 @@ from cadf_logs import utc
 from cadf_site import CHANGED, DAMAGED, SHARED, TRIES, UNITS, Folder, is_folder, made_of_parts
 from cadf_toolkit import REFUSED, Fault, Input, cadf, in_order, opened
 
-AT_ONCE = 256  # files that one join is given, where as many may be open
+AT_ONCE = 256  # files that one call is given, where as many may be open
 LARGEST = 2 ** 28  # bytes of windows whose common keys are put together at once
 KEY, NODES, RULINGS = b"\n[2,0,", b'\n[1,0,"E"]\n', b'\n[1,0,"U"]\n'
 
@@ -67,9 +67,9 @@ class Read(NamedTuple):
 
 
 def at_once():
-    """How many files one join is given: `cadf` opens each once more."""
+    """How many files one call is given: `cadf` opens each once more."""
     _, most = resource.getrlimit(resource.RLIMIT_NOFILE)
-    return AT_ONCE if most == resource.RLIM_INFINITY else max(2, min(AT_ONCE, most // 2 - 32))
+    return AT_ONCE if most == resource.RLIM_INFINITY else min(AT_ONCE, most // 2 - 32)
 
 
 def keys_of(part, read):
@@ -78,18 +78,50 @@ def keys_of(part, read):
         yield from (b"%s\t%s\n" % (key[:-1], part.encode()) for key in keys)
 
 
-class Windows:
+class Files:
+    """Replica files that are made in a new folder in `folder`, which is private."""
+
+    def __init__(self, folder):
+        self.folder, self.count = tempfile.mkdtemp(dir=folder), 0
+
+    def new_name(self):
+        self.count += 1
+        return os.path.join(self.folder, str(self.count))
+
+    def join(self, inputs):
+        """Makes a file of what the inputs hold. Returns its name."""
+        name = self.new_name()
+        with open(name, "xb") as output:
+            cadf(["join"], inputs, output.fileno(), where=name)
+        return name
+
+    def joined(self, names):
+        """Joins files in rounds. Returns the name of the one that is left, in a list that is empty for no files."""
+        most = max(2, at_once())
+        while len(names) > 1:
+            made = []
+            for start in range(0, len(names), most):
+                with opened(names[start:start + most]) as inputs:
+                    made.append(self.join(inputs))
+            for name in names:
+                os.unlink(name)
+            names = made
+        return names
+
+
+class Windows(Files):
     """What is made of windows of a site that is a folder, as they stood at one moment, and what has to be known of all to make it.
 
     `common` has the keys that are in several windows, as JSON texts, `facts` the names of replica files that have all of
     their facts, each key in one file, and `rulings` that of one of all rulings of the site, if there are any. `made` has by
     part, in order, what `make` gives of the windows of a range, and of the shared part if that is wanted. It is given this
     object and the files of a part as inputs. Only those are open meanwhile: a program that is started costs as much as there
-    are open files. All files that are made are in a new folder in `folder`, which is private.
+    are open files.
     """
 
     def __init__(self, name, limits, folder, make, with_shared=True):
-        self.folder, self.count, self.make, self.kept = tempfile.mkdtemp(dir=folder), 0, make, {}
+        super().__init__(folder)
+        self.make, self.kept = make, {}
         with Folder(name) as site:
             for _ in range(TRIES):
                 index = site.site()
@@ -144,29 +176,12 @@ class Windows:
         """The log's name."""
         return json.loads(self.head[len("L "):])
 
-    def new_name(self):
-        self.count += 1
-        return os.path.join(self.folder, str(self.count))
-
     def put(self, lines):
         """Writes a replica file of these lines. Returns its name."""
         data, name = b"CADF-REPLICA 2\n" + self.head + b"".join(lines), self.new_name()
         with open(name, "xb") as output:
             output.write(data + b"Z %s\n" % hashlib.sha256(data).hexdigest().encode())
         return name
-
-    def joined(self, names):
-        """Joins files in rounds. Returns the name of the one that is left, in a list that is empty for no files."""
-        while len(names) > 1:
-            made = []
-            for start in range(0, len(names), at_once()):
-                made.append(self.new_name())
-                with opened(names[start:start + at_once()]) as inputs, open(made[-1], "xb") as output:
-                    cadf(["join"], inputs, output.fileno(), where=made[-1])
-            for name in names:
-                os.unlink(name)
-            names = made
-        return names
 
     def common_of(self, read):
         """The keys that are in several windows, by window."""
@@ -198,14 +213,6 @@ class Windows:
                 yield self.put([NODES[1:], *lines])
 
 
-def joined_part(windows, inputs):
-    """The name of a replica file of a part."""
-    name = windows.new_name()
-    with open(name, "xb") as output:
-        cadf(["join"], inputs, output.fileno(), where=name)
-    return name
-
-
 @contextlib.contextmanager
 def opened_within(names, limits, folder):
     """Opens files for a call, and of a site that is a folder one of what a range needs of it.
@@ -216,7 +223,7 @@ def opened_within(names, limits, folder):
         found = []
         for name in names:
             if is_folder(name):
-                windows = Windows(name, limits, folder, joined_part)
+                windows = Windows(name, limits, folder, Files.join)
                 together, = windows.joined([windows.put([]), *windows.made.values(), *windows.facts])
                 found.append(Input(name, files.enter_context(opened([together]))[0].file))
             else:

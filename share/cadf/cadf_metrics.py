@@ -10,6 +10,7 @@ import tempfile
 import time
 
 import cadf_site
+from cadf_keys import Files, at_once
 from cadf_logs import Text
 from cadf_toolkit import DIFFERS, DONE, FAILED, MEMORY, REFUSED, Fault, cadf, name_shown, naming, new_file, opened, started, tool
 
@@ -70,8 +71,17 @@ def open_conflicts(name, parts=None):
             return shown_conflicts(inputs)
     if parts is None:
         return listed_conflicts(name)
-    with cadf_site.opened_site(name, {cadf_site.SHARED, *parts}) as (_, inputs):
-        return shown_conflicts(list(inputs.values())) if parts and inputs else 0
+    if not parts:
+        return 0
+    parts = {cadf_site.SHARED, *parts}
+    with cadf_site.Folder(name) as site, tempfile.TemporaryDirectory() as folder:
+        if sum(len(site.site().digests(part)) for part in parts) <= at_once():
+            with cadf_site.opened_parts(site, parts) as (_, inputs):
+                return shown_conflicts(list(inputs.values()))
+        files = Files(folder)
+        made = cadf_site.made_of_parts([site], parts, lambda _, found: [files.join(list(found.values()))] if found else [])
+        with opened(files.joined([each for names in made.values() for each in names])) as inputs:
+            return shown_conflicts(inputs)
 
 
 def shown_conflicts(inputs):
