@@ -654,10 +654,19 @@ def test_new_windows_after_a_part_was_taken(folders, monkeypatch):
     taken = len(folders.files("there/")) - 1
     assert 0 < taken <= 3 and answer.status == 1
     assert said(answer) == "cadf-sync: h:there/: more than the 3 new windows that --windows allows a call, of which %d were taken: " \
-        "if more are meant, make the call again with a greater --windows\n" % taken
+        "if more are meant, make the call again with a greater --windows; taken before that: at least 0 facts here, %d there\n" % (taken, 2 * taken - 1)
     monkeypatch.setenv("WINDOWS", "9")
     assert folders.sync("--push", "--rsh=./shell", "here/", "h:there/").status == 0
     assert folders.holds("there/") == facts(*range(1, 9))
+
+
+def test_a_push_that_is_refused_says_what_was_pulled(folders):
+    """The facts that were taken here stay, though the other end refuses those of this one."""
+    folders.put("here/", facts(1, 2, 3))
+    folders.put("there/", facts(4))
+    answer = folders.sync("--windows=2", "here/", "there/")
+    assert answer.status == 1 and said(answer).endswith("; taken before that: at least 2 facts here, 0 there\n")
+    assert folders.holds("here/") == facts(1, 2, 3, 4) and folders.holds("there/") == facts(4)
 
 
 def test_digests_that_cannot_be_kept_pile_up_nothing(tmp_path, monkeypatch):
