@@ -610,14 +610,14 @@ class Taking:
             return self.cadf(["missing"], [Input(self.folder.path(WORKING), new), held], subprocess.PIPE).count(b"\n") == NOTHING
 
     def join(self, part, digests):
-        """Joins files of a part into one, which is in their place."""
+        """Joins files of a part into one, which is in their place. Another file of the part may be that one."""
         with self.files(part, digests) as inputs, self.new_file() as output:
             self.cadf(["join"], inputs, output.fileno())
         with self.folder.input(WORKING).file as file:
             file.seek(-len("\n") - 64, os.SEEK_END)
             digest = file.read(64).decode()
         self.name(file_name(part, digest))
-        self.changed[part] = [each for each in self.digests(part) if each not in digests] + [digest]
+        self.changed[part] = [each for each in self.digests(part) if each not in (*digests, digest)] + [digest]
 
     def join_by_size(self):
         """Joins files of each part that has new ones, seven of a size into one, as long as there are such."""

@@ -233,6 +233,18 @@ def test_files_of_a_window_are_joined_by_seven(site):
     assert site.atoms() == atoms_of(contents(*range(0, 24, 3)))
 
 
+@pytest.mark.parametrize("keys, count", [(range(0, 84, 3), 7), ((0, 3), 2)])
+def test_a_union_of_files_that_is_there_is_named_once(site, monkeypatch, keys, count):
+    """A window has a file that is too large to look into, and all of it comes again in so many files. They are joined, by a take or by settling."""
+    monkeypatch.setattr(cadf_site, "MOST_SEEN", 0)
+    for each in [keys, *(keys[start::count] for start in range(count))]:
+        site.takes_here(site.put(contents(*each)), "day")
+    sizes = sorted(name.stat().st_size for name in site.folder.glob("2024-*.cadf"))
+    monkeypatch.setattr(cadf_site, "LARGEST", sum(sizes[:2]))
+    cadf_site.settle(str(site.folder))
+    assert list(map(len, site.files().values())) == [1] and site.atoms() == atoms_of(contents(*keys))
+
+
 def test_a_day_by_five_minutes(site):
     """288 takes of some events each, an hour a window, are settled as one join of each hour."""
     documents = []
@@ -591,7 +603,7 @@ def test_what_a_site_names_and_lacks_is_named(site):
     (test_a_long_line_is_written_by_pieces, "found = LAST_LINE.fullmatch(piece)", 'found = re.match(rb"Z (.*)", piece)'),
     (test_what_is_held_already_changes_nothing, "digest in digests or self.is_held(part, size)", "False"),
     (test_what_is_held_already_changes_nothing, '.count(b"\\n") == NOTHING', '.count(b"\\n") >= NOTHING'),
-    (test_a_settled_folder_is_a_function_of_its_facts, "for each in self.digests(part) if each not in digests]", "for each in self.digests(part)]"),
+    (test_a_settled_folder_is_a_function_of_its_facts, "for each in self.digests(part) if each not in (*digests, digest)]", "for each in self.digests(part)]"),
     (test_a_first_take_that_is_refused_leaves_no_site, "if is_first and self.index and not", "if False and not"),
     (test_a_lost_index_loses_no_window, "if self.index is None and set(left) - {WORKING}:", "if False:"),
     (test_strangers_are_named_and_passed_over, 'PART = r"(?:shared|[0-9]{4}', 'PART = r"(?:shared|[0-9]{4}|\\d{7}'),
