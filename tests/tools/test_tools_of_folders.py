@@ -124,6 +124,20 @@ def test_which_judges_each_file(sites):
     assert status == 1 and said[0].startswith("north/%s: it holds something else than its name says" % one.name)
 
 
+def test_which_names_all_that_is_damaged(sites):
+    """A file that isn't there, one that is a link and one that was changed: none keeps the others from being named."""
+    sites.north.takes(contents(0, 2, name="n"))
+    link, one, other = sorted(sites.north.folder.glob("s*.cadf")) + sorted(sites.north.folder.glob("2024-*.cadf"))
+    os.rename(link, sites.path / "held")
+    link.symlink_to(sites.path / "held")
+    one.unlink()
+    other.write_bytes(other.read_bytes().replace(b"read", b"reap"))
+    status, output, said = sites.run("which", "north")
+    assert (status, output, len(said)) == (3, "", 4) and said[3] == "north: not all of its files can be read"
+    for line, file, part in zip(said, (link, one, other), ("a symbolic link", "not there: the site is damaged", "digest: the file is damaged")):
+        assert line.startswith("north/%s: %s" % (file.name, part))
+
+
 FEW = {"preexec_fn": lambda: resource.setrlimit(resource.RLIMIT_NOFILE, (67, 67))}  # to open a file, and not two
 
 
@@ -302,6 +316,7 @@ def test_spool_sets_aside_what_begins_many_windows(sites):
     (test_agree_reads_windows_that_differ, "if own.keys() != others.keys():", "if True:"),
     (test_agree_of_windows_of_several_files, "[*site.inputs, sketch.input], len(site.inputs))", "[site.inputs[0], sketch.input])"),
     (test_which_judges_each_file, "if found != [entry]:", "if False:"),
+    (test_which_names_all_that_is_damaged, "return Fault(\"%s: not there: %s\"", "raise Fault(\"%s: not there: %s\""),
     (test_a_key_of_two_windows_is_open, "for fact in windows.facts:", "for fact in ():"),
     (test_a_damaged_window_lets_what_arrives_wait, "FAILED if fault.status == REFUSED else fault.status", "fault.status"),
     (test_spool_takes_into_a_folder, "if cadf_site.is_folder(self.site):", "if False:"),
