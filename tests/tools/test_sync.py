@@ -777,6 +777,17 @@ def test_refused_folders(folders, words, part):
     assert (folders.files("few/") == before) is bool(part)
 
 
+def test_a_first_push_has_no_copy_of_all(folders):
+    """No file is made that is larger than what goes in a message, though all of the site goes."""
+    folders.put("here/", facts(*range(1, 600)))
+    (folders.path / "shell").write_text("#!/bin/sh\nexec %s --serve --limit=20000 there/\n" % (
+        shlex.join([sys.executable, os.path.join(folders.tools, "cadf-sync")])))
+    (folders.path / "shell").chmod(0o755)
+    words = ["--quiet", "--push", "--rsh=./shell", "here/", "h:there/"]
+    answer = folders.runs("cadf-sync", *words, preexec_fn=lambda: resource.setrlimit(resource.RLIMIT_FSIZE, (40000, 40000)))
+    assert answer == (0, b"", b"") and folders.holds("there/") == facts(*range(1, 600))
+
+
 def test_three_sites_in_a_ring(folders):
     """After two rounds all hold what one of them held."""
     names = ["a/", "b.cadf", "c/"]
@@ -953,7 +964,7 @@ WRONG = [
     ("part == SHARED or since is None or part >= since", "True", test_since_leaves_older_windows),
     (" and not (is_over.is_set() and line == b\"cadf-sync: stopped by SIGTERM\\n\")", "",
      lambda sites: test_refused_sites(sites, None, None, (), "neither site is there")),
-    ("self.pushed += pieces(", "self.pulled += pieces(", lambda sites: test_two_files(sites, (), (1, 2, 3, 4), (1, 2, 3, 4))),
+    ("self.pushed += self.pieces(", "self.pulled += self.pieces(", lambda sites: test_two_files(sites, (), (1, 2, 3, 4), (1, 2, 3, 4))),
 ]
 
 
