@@ -445,7 +445,7 @@ class Taking:
         except BaseException:
             os.close(self.lock)
             raise
-        self.changed, self.begun = {}, set()
+        self.changed, self.begun, self.made = {}, set(), set()
 
     def __enter__(self):
         return self
@@ -499,25 +499,28 @@ class Taking:
             say("%s: %d more are no files of the site" % (self.folder.shown(), len(strangers) - MOST_STRANGERS))
 
     def is_removed(self, name):
-        """Removes a name. False if it is a folder's."""
+        """Removes a name, if it is there. False if it is a folder's."""
         try:
-            os.unlink(name, dir_fd=self.folder.descriptor)
+            with contextlib.suppress(FileNotFoundError):
+                os.unlink(name, dir_fd=self.folder.descriptor)
         except (IsADirectoryError, PermissionError):
             return False
         return True
 
     @contextlib.contextmanager
     def undone(self):
-        """Leaves nothing of a take that is refused or fails."""
+        """Leaves nothing of a take that is refused or fails: removes what it made, unless a `site` names it that a power cut may leave."""
         is_first = self.index is None
         try:
             yield
         except BaseException:
             with contextlib.suppress(OSError, Fault):
-                self.index = self.folder.index()
-                for name in self.stale()[0]:
-                    self.is_removed(name)
-                if is_first and self.index and not self.index.lines:
+                now = self.folder.index()
+                for name in self.made - {INDEX}:
+                    if not any(index.has(name) for index in (self.index, now) if index):
+                        self.is_removed(name)
+                self.is_removed(WORKING)
+                if is_first and now and not now.lines:
                     os.unlink(INDEX, dir_fd=self.folder.descriptor)
             raise
 
@@ -536,6 +539,7 @@ class Taking:
         """Gives the new file its name, once it is on the disk."""
         with open_descriptor(self.folder.open(WORKING, os.O_RDONLY)) as file:
             os.fsync(file)
+        self.made.add(name)
         os.rename(WORKING, name, src_dir_fd=self.folder.descriptor, dst_dir_fd=self.folder.descriptor)
 
     def size(self, name):

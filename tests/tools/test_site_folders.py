@@ -6,6 +6,7 @@ import json
 import os
 import random
 import resource
+import shlex
 import shutil
 import subprocess
 import sys
@@ -437,6 +438,19 @@ def test_a_lost_index_loses_no_window(site):
     assert answer.status == 0 and new.atoms() == atoms_of(contents(0, 1))
 
 
+def test_a_take_that_fails_removes_nothing_that_it_has_not_made(site):
+    """`site` gets lost meanwhile: the files of its windows are all that is left of it."""
+    site.takes(contents(0, 1))
+    before = site.listed()
+    losing = site.path / "losing"
+    losing.write_text('#!/bin/sh\nrm -f %s\nexec %s "$@"\n' % (shlex.quote(str(site.folder / "site")), shlex.quote(site.command)))
+    losing.chmod(0o755)
+    site.environment["CADF"] = str(losing)
+    assert site.take(files=[site.put(dict(contents(3), events=7))]).status == 1
+    before.pop("site")
+    assert site.listed() == before
+
+
 # ---- Kills, faults, and several at once
 
 def test_a_kill_before_each_call_leaves_all_or_nothing(site):
@@ -496,6 +510,22 @@ def test_each_call_that_fails_leaves_all_or_nothing(site):
         assert site.atoms() in ((new,) if done.status == 0 else (old, new)), (place, calls[place - 1])
         site.takes_here(source)
         assert site.atoms() == new and site.left() == []
+
+
+def test_files_stay_until_the_new_site_is_on_the_disk(site):
+    """If its sync fails, or a signal comes before, the old `site` may be what a power cut leaves, and needs its files."""
+    site.takes(contents(0))
+    site.takes(contents(3))
+    before, words = site.listed(), [CALLS, site.tool, ["--settle", "."]]
+    shutil.copytree(site.folder, site.path / "first")
+    _, calls = calls_of(*words, env=site.environment, cwd=site.folder, told="../calls")
+    shutil.rmtree(site.folder)
+    os.rename(site.path / "first", site.folder)
+    place = len(calls) - calls[::-1].index("fsync")
+    done, _ = calls_of(*words, "failed", place, env=site.environment, cwd=site.folder, told="../calls")
+    assert done.status == 3 and before.keys() <= site.listed().keys()
+    site.settles()
+    assert site.listed() == site.settled(atoms_of(contents(0, 3)))
 
 
 def test_two_takers_and_three_readers_at_once(site):
@@ -598,13 +628,19 @@ def test_what_a_site_names_and_lacks_is_named(site):
 
 # ---- Wrong versions
 
+REMOVES_ALL = ("now = self.folder.index()\n                for name in self.made - {INDEX}:",
+               "self.index = now = self.folder.index()\n                for name in self.stale()[0]:")
+
+
 @pytest.mark.parametrize("check, right, wrong", [
     (test_a_take_writes_the_windows_of_what_it_takes, "give(file, 0o666 & self.folder.found.st_mode)", "give(file, 0o644)"),
     (test_a_long_line_is_written_by_pieces, "found = LAST_LINE.fullmatch(piece)", 'found = re.match(rb"Z (.*)", piece)'),
     (test_what_is_held_already_changes_nothing, "digest in digests or self.is_held(part, size)", "False"),
     (test_what_is_held_already_changes_nothing, '.count(b"\\n") == NOTHING', '.count(b"\\n") >= NOTHING'),
     (test_a_settled_folder_is_a_function_of_its_facts, "for each in self.digests(part) if each not in (*digests, digest)]", "for each in self.digests(part)]"),
-    (test_a_first_take_that_is_refused_leaves_no_site, "if is_first and self.index and not", "if False and not"),
+    (test_a_first_take_that_is_refused_leaves_no_site, "if is_first and now and not", "if False and not"),
+    (test_a_take_that_fails_removes_nothing_that_it_has_not_made, *REMOVES_ALL),
+    (test_files_stay_until_the_new_site_is_on_the_disk, *REMOVES_ALL),
     (test_a_lost_index_loses_no_window, "if self.index is None and set(left) - {WORKING}:", "if False:"),
     (test_strangers_are_named_and_passed_over, 'PART = r"(?:shared|[0-9]{4}', 'PART = r"(?:shared|[0-9]{4}|\\d{7}'),
     (test_strangers_are_named_and_passed_over, 'not file.name.startswith(".") and', ""),
