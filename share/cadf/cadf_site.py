@@ -23,8 +23,8 @@ import stat
 import subprocess
 import tempfile
 
-from cadf_toolkit import (CADF, FAILED, LARGEST, REFUSED, Fault, Input, Refusal, cadf, check_end, log_name, name_shown, open_descriptor, opened_file,
-                          other_log, say, started_cadf, sync, wait_for_lock)
+from cadf_toolkit import (CADF, FAILED, LARGEST, REFUSED, Fault, Input, Refusal, cadf, check_end, check_lock, log_name, name_shown,
+                          open_descriptor, opened_file, other_log, say, started_cadf, sync, wait_for_lock)
 
 UNITS = {"month": len("2024-03"), "day": len("2024-03-01"), "hour": len("2024-03-01T12")}  # with the length of a window's name
 INDEX, LOCK, WORKING = "site", ".lock", ".new"
@@ -441,6 +441,7 @@ class Taking:
         self.lock = self.opened_lock()
         try:
             wait_for_lock(self.lock, folder.path(LOCK), wait)
+            self.check_lock()
             self.index = folder.index()
         except BaseException:
             os.close(self.lock)
@@ -461,6 +462,10 @@ class Taking:
             return lock
         except FileExistsError:
             return self.folder.open(LOCK, os.O_RDWR | os.O_NONBLOCK)
+
+    def check_lock(self):
+        """Raises that the lock was removed: another taker may be at the folder."""
+        check_lock(self.lock, self.folder.path(LOCK), LOCK, self.folder.descriptor)
 
     def digests(self, part):
         """The digests of the files of a part."""
@@ -663,6 +668,7 @@ class Taking:
         os.fsync(self.folder.descriptor)
         with self.new_file() as output:
             output.writelines(index.bytes())
+        self.check_lock()
         self.name(INDEX)
         os.fsync(self.folder.descriptor)
         self.index, self.changed = index, {}

@@ -511,6 +511,14 @@ def wait_for_lock(file, name, seconds):
         time.sleep(PAUSE)
 
 
+def check_lock(file, path, name=None, folder=None):
+    """Raises that a lock that is held isn't the file of that path any more, or of a name in an open folder: another call may hold that one."""
+    with contextlib.suppress(FileNotFoundError):
+        if os.path.samestat(os.fstat(file), os.stat(name or path, dir_fd=folder, follow_symlinks=False)):
+            return
+    raise Fault("%s: it was removed meanwhile: make the call again, and leave this file where it is" % name_shown(path))
+
+
 @contextlib.contextmanager
 def new_file(name, inputs):
     """A new private file. What a killed call left there goes first; unless it was renamed, the file goes at the end.

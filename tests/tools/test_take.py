@@ -438,7 +438,8 @@ def test_wrong_copy_is_caught(cadf, tmp_path, monkeypatch, check, words, right, 
 
 @others.needed
 def test_copy_that_follows_a_link_is_caught(cadf, tmp_path, monkeypatch):
-    tools = copied(tmp_path / "copy", "os.O_RDWR | os.O_NOFOLLOW | os.O_NONBLOCK)", "os.O_RDWR | os.O_NONBLOCK)")
+    tools = copied(tmp_path / "copy", "os.O_RDWR | os.O_NOFOLLOW | os.O_NONBLOCK)", "os.O_RDWR | os.O_NONBLOCK)",
+                   "name or path, dir_fd=folder, follow_symlinks=False", "name or path, dir_fd=folder")
     with others.open_folder() as path:
         monkeypatch.chdir(path)
         with pytest.raises(AssertionError):

@@ -74,6 +74,31 @@ def test_take_behind_a_link(cadf, tmp_path):
     assert done.returncode == 3 and not (tmp_path / "site.cadf").exists()
 
 
+# A command whose first call removes the lock, as one that looks stale, and has another caller take meanwhile.
+REMOVING = """#!/bin/sh
+mkdir "$PLACE/once" 2>"$PLACE/told" && rm "$LOCK" && CADF=$BUILT "$TAKE" "$SITE" "$OTHER"
+exec "$BUILT" "$@"
+"""
+
+
+@pytest.mark.parametrize("name", ["site/", "site.cadf"])
+def test_take_whose_lock_is_removed(cadf, tmp_path, name):
+    """The caller that holds the removed lock takes nothing, so nothing is lost of what the other one takes. Made again, it completes."""
+    one, two, three = (document(tmp_path, key) for key in ("e1", "e2", "e3"))
+    site, by = "%s/%s" % (tmp_path, name), ["--by", "day"] if name.endswith("/") else []
+    words, environment = [tool("cadf-take"), site, two], {**os.environ, "CADF": cadf}
+    subprocess.run([tool("cadf-take"), *by, site, one], env=environment, check=True)
+    removing = put(tmp_path, "removing", REMOVING, 0o755)
+    done = subprocess.run(words, stderr=subprocess.PIPE, env={**environment, "CADF": str(removing), "BUILT": cadf, "PLACE": str(tmp_path), "LOCK": site + ".lock",
+                                                              "TAKE": tool("cadf-take"), "SITE": site, "OTHER": str(three)})
+    assert done.returncode == 3 and done.stderr.startswith(b"cadf-take: %s: it was removed" % os.fsencode(site + ".lock")), done
+    agreed = [tool("cadf-agree"), site, put(tmp_path, "union", "")]
+    for held in ((one, three), (one, two, three)):
+        (tmp_path / "union").write_bytes(joined(cadf, *held))
+        assert subprocess.run(agreed, env=environment).returncode == 0
+        subprocess.run(words, env=environment, check=True)
+
+
 def test_spool_killed(cadf, tmp_path):
     """What a killed run has started holds the spool until it ends: the next run doesn't begin beside it."""
     spool = tmp_path / "spool"
