@@ -749,6 +749,15 @@ def test_metrics_of_folders(folders):
             "facts_taken": here, "facts_lacked_by_peer": there, "open_conflicts": conflicts, "largest_window_bytes": largest}
 
 
+def test_metrics_of_more_windows_than_files_may_be_open(folders):
+    """What an exchange can do is counted too: 28 windows and what is of no time, and 100 files."""
+    for name in ("here/", "there/"):
+        folders.put(name, facts(*range(28), 56))
+    answer = folders.runs("cadf-sync", "--quiet", "--metrics=m.prom", "here/", "there/", preexec_fn=lambda: resource.setrlimit(resource.RLIMIT_NOFILE, (100, 100)))
+    assert answer == (0, b"", b"")
+    assert numbers(folders.path / "m.prom", '{tool="cadf-sync",site="here/",peer="there/"}')["largest_window_bytes"] == len(file_of("g", facts(0, 56) - facts()))
+
+
 def test_metrics_of_a_spool(folders):
     """What a spool brings into a folder: one file is good, one is set aside."""
     (folders.path / "spool").mkdir()
