@@ -52,6 +52,7 @@ MOST_JOINED = 2 ** 24  # bytes that a take joins; more is left to --settle
 MOST_SETTLED = 2 ** 28  # bytes that are joined before `site` is replaced, so that a settling that is killed goes on from there
 NO_SITE = "no site in it: `cadf-take --by day SITE/ FILE..` makes one"
 DAMAGED = "the site is damaged: restore it as the guide says under `A damaged site`"
+OTHER_CONTENT = "it holds something else than its name says: " + DAMAGED
 
 
 def file_name(part, digest):
@@ -309,7 +310,7 @@ def check_window(index, entry, file):
         parts.head()
         found = [(part, parts.copy(nothing)) for part in parts.names()]
     if found != [entry]:
-        raise Fault("%s: it holds something else than its name says: %s" % (file.name, DAMAGED), REFUSED)
+        raise Fault("%s: %s" % (file.name, OTHER_CONTENT), REFUSED)
 
 
 @contextlib.contextmanager
@@ -548,11 +549,14 @@ class Taking:
         os.rename(WORKING, name, src_dir_fd=self.folder.descriptor, dst_dir_fd=self.folder.descriptor)
 
     def size(self, name):
-        """The bytes of a file of the folder. Fault: it isn't there."""
+        """The bytes of a file of the folder. Fault: it isn't there, or it is a link or the like."""
         try:
-            return os.stat(name, dir_fd=self.folder.descriptor, follow_symlinks=False).st_size
+            found = os.stat(name, dir_fd=self.folder.descriptor, follow_symlinks=False)
         except FileNotFoundError:
             raise Fault("%s: not there: %s" % (self.folder.shown(name), DAMAGED)) from None
+        if not stat.S_ISREG(found.st_mode):
+            raise Fault("%s: not a regular file: %s" % (self.folder.shown(name), DAMAGED))
+        return found.st_size
 
     def sizes(self, part):
         """The sizes of a part's files, by digest."""
@@ -592,20 +596,22 @@ class Taking:
                 self.keep(part, digest)
 
     def keep(self, part, digest):
-        """Keeps the new file as one of a part's, unless these hold it already."""
+        """Keeps the new file as one of a part's, unless these hold it already. Each of them has to be there."""
         size = self.size(WORKING)
         if size > LARGEST:
             raise Fault("%s: the files bring more than 2^30 bytes of %s at once: give fewer" % (self.folder.shown(), part), REFUSED)
-        digests = self.digests(part)
-        if digest in digests or self.is_held(part, size):
+        sizes = self.sizes(part)
+        if sizes.get(digest, size) != size:
+            raise Fault("%s: %s" % (self.folder.shown(file_name(part, digest)), OTHER_CONTENT))
+        if digest in sizes or self.is_held(part, sizes, size):
             os.unlink(WORKING, dir_fd=self.folder.descriptor)
         else:
             self.name(file_name(part, digest))
-            self.changed[part] = [*digests, digest]
+            self.changed[part] = [*sizes, digest]
 
-    def is_held(self, part, size):
-        """Whether the smaller files of a part hold all of the new file, of that size."""
-        sizes = sorted((own, digest) for digest, own in self.sizes(part).items())
+    def is_held(self, part, sizes, size):
+        """Whether the smaller files of a part, which has files of these sizes, hold all of the new file, of that size."""
+        sizes = sorted((own, digest) for digest, own in sizes.items())
         total = itertools.accumulate(own for own, _ in sizes)
         small = [entry for entry, sum_here in zip(sizes, total) if sum_here <= MOST_SEEN]
         if size > sum(own for own, _ in small):

@@ -426,6 +426,36 @@ def test_a_damaged_window_is_no_fault_of_what_is_taken(site):
     assert before.items() - {("site", before["site"])} <= site.listed().items()
 
 
+def linked(path):
+    path.rename(path.parent.parent / "held")
+    path.symlink_to(path.parent.parent / "held")
+
+
+@pytest.mark.parametrize("damage, said", [
+    (os.unlink, b"not there"), (linked, b"not a regular file"), (lambda path: os.truncate(path, 0), b"it holds something else than its name says")])
+def test_what_a_lost_file_held_is_held_no_more(site, damage, said):
+    """A take of the document that brought the file says what became of it. The other window is taken into."""
+    first = contents(0, 1, 2)
+    site.takes(first)
+    path = next(site.folder.glob("2024-02-29.*"))
+    damage(path)
+    before = (site.folder / "site").read_bytes()
+    answer = site.take(files=[site.put(first)])
+    assert answer == (3, b"", b"cadf-take: %s: %s: the site is damaged: restore it as the guide says under `A damaged site`\n" % (os.fsencode(path), said))
+    assert (site.folder / "site").read_bytes() == before
+    site.takes(contents(5), by=())
+    assert len(site.files()["2024-03-01"]) == 2
+
+
+def test_nothing_new_is_taken_beside_a_link(site):
+    """Nor what is larger than the file that the link is in place of."""
+    site.takes(contents(0))
+    path = next(site.folder.glob("2024-02-29.*"))
+    linked(path)
+    answer = site.take(files=[site.put(contents(*range(3, 30, 3)))])
+    assert answer.status == 3 and b"%s: not a regular file: the site is damaged" % os.fsencode(path) in answer.error
+
+
 def test_a_lost_index_loses_no_window(site):
     site.takes(contents(0, 1))
     (site.folder / "site").unlink()
@@ -635,7 +665,7 @@ REMOVES_ALL = ("now = self.folder.index()\n                for name in self.made
 @pytest.mark.parametrize("check, right, wrong", [
     (test_a_take_writes_the_windows_of_what_it_takes, "give(file, 0o666 & self.folder.found.st_mode)", "give(file, 0o644)"),
     (test_a_long_line_is_written_by_pieces, "found = LAST_LINE.fullmatch(piece)", 'found = re.match(rb"Z (.*)", piece)'),
-    (test_what_is_held_already_changes_nothing, "digest in digests or self.is_held(part, size)", "False"),
+    (test_what_is_held_already_changes_nothing, "digest in sizes or self.is_held(part, sizes, size)", "False"),
     (test_what_is_held_already_changes_nothing, '.count(b"\\n") == NOTHING', '.count(b"\\n") >= NOTHING'),
     (test_a_settled_folder_is_a_function_of_its_facts, "for each in self.digests(part) if each not in (*digests, digest)]", "for each in self.digests(part)]"),
     (test_a_first_take_that_is_refused_leaves_no_site, "if is_first and now and not", "if False and not"),
