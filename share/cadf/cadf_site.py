@@ -225,8 +225,14 @@ class Folder:
         """What `site` says. Raises that it isn't there."""
         index = self.index()
         if index is None:
-            raise Fault("%s: %s" % (self.shown(), NO_SITE), REFUSED)
+            raise self.no_site()
         return index
+
+    def no_site(self):
+        """The fault that `site` isn't there. It was lost if files of windows are: a first take, which may be at work, writes it before them."""
+        if any(map(WINDOW_FILE.fullmatch, os.listdir(self.descriptor))) and not self.is_site():
+            return Fault("%s: it is not there, and files of windows are: %s" % (self.shown(INDEX), DAMAGED), REFUSED)
+        return Fault("%s: %s" % (self.shown(), NO_SITE), REFUSED)
 
 
 # ---- Reading
@@ -491,11 +497,11 @@ class Taking:
     def begin(self):
         """Removes what earlier takes left: files that were joined since, or of a take that was killed. Names strangers.
 
-        Files of windows without a `site` are no take's: a folder's first take writes `site` before them.
+        Files of windows without a `site` are no take's.
         """
         left, strangers = self.stale()
         if self.index is None and set(left) - {WORKING}:
-            raise Fault("%s: it is not there, and files of windows are: %s" % (self.folder.shown(INDEX), DAMAGED), REFUSED)
+            raise self.folder.no_site()
         if left:
             os.fsync(self.folder.descriptor)  # a call that was killed may have put the `site` there that no longer names them
         strangers += [name for name in left if not self.is_removed(name)]
@@ -683,7 +689,7 @@ class Taking:
 def check(folder, index, unit, log):
     """Raises that what a folder's `site` says is of another unit or log, or that there is none, and no unit to make it by."""
     if index is None and unit is None:
-        raise Fault("%s: %s" % (folder.shown(), NO_SITE), REFUSED)
+        raise folder.no_site()
     if index and unit not in (None, index.unit):
         raise Fault("%s: other unit: its windows are a %s each, and not a %s" % (folder.shown(), index.unit, unit), REFUSED)
     if index and log not in (None, index.name()):
@@ -702,7 +708,7 @@ def taking(name, unit, log, wait):
     """Locks a folder for a take, unless it is of another unit or log."""
     with Folder(name) as folder, folder.naming():
         if unit is None and not folder.is_site():
-            raise Fault("%s: %s" % (folder.shown(), NO_SITE), REFUSED)
+            raise folder.no_site()
         with Taking(folder, wait) as found:
             check(folder, found.index, unit, log)
             found.begin()

@@ -460,9 +460,13 @@ def test_a_lost_index_loses_no_window(site):
     site.takes(contents(0, 1))
     (site.folder / "site").unlink()
     before = site.listed()
-    for options in ((), ("--by", "day")):
-        assert site.take(*options, files=[site.put(contents(3))]).status == 1
-    assert site.listed() == before
+    line = "%s/site: it is not there, and files of windows are: the site is damaged: restore it as the guide says under `A damaged site`" % site.folder
+    for words in ([], ["--by", "day"], ["--settle"]):
+        files = [] if "--settle" in words else [site.put(contents(3))]
+        assert site.take(*words, files=files) == (1, b"", b"cadf-take: %s\n" % os.fsencode(line))
+    with pytest.raises(cadf_toolkit.Fault) as fault, cadf_site.opened_site(str(site.folder)):
+        pass
+    assert str(fault.value) == line and site.listed() == before
     new = Site(site.path, os.path.dirname(site.tool), "new")
     answer = new.take("--by", "day", files=[str(site.folder / name) for name in before])
     assert answer.status == 0 and new.atoms() == atoms_of(contents(0, 1))

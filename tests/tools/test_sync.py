@@ -629,6 +629,10 @@ def test_a_folder_whose_first_take_ended_early_is_made(folders):
     assert folders.holds("there/") == facts(1, 2, 3)
     (folders.path / "there" / "site").unlink()
     answer = folders.sync("here/", "there/")
+    assert answer.status == 1 and "there/site: it is not there, and files of windows are: the site is damaged" in said(answer)
+    for name in (folders.path / "there").glob("*.cadf"):
+        name.rename(name.with_suffix(".txt"))
+    answer = folders.sync("here/", "there/")
     assert answer.status == 1 and "no site in it" in said(answer)
 
 
