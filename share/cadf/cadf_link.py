@@ -212,7 +212,7 @@ class Link:
                 raise Wrong("%s: a line without an end: %s" % (self.peer, shown(self.ahead)))
             if not self.read(ending):
                 if self.ahead:
-                    raise Fault("%s: cut in a line after %.1f seconds: %s" % (self.peer, time.monotonic() - begun, shown(self.ahead)))
+                    raise Fault("%s: cut in a line after %.1f seconds: %s: make the call again" % (self.peer, time.monotonic() - begun, shown(self.ahead)))
                 return None
         line, _, self.ahead = self.ahead.partition(b"\n")
         if len(line) >= longest:

@@ -403,6 +403,7 @@ def test_a_fault_is_heard_while_much_is_written(sites):
 @pytest.mark.parametrize("rsh, status, part", [
     ("true", 3, "it ended with status 0 before its first line"), ("false", 3, "it ended with status 1 before its first line"),
     ("./none", 3, "./none: No such file or directory"), ("sh -c 'echo \x1b[2Jno key >&2; exit 255'", 3, "no key"),
+    ("sh -c 'printf \"no route\\r\\n\" >&2'", 3, "h:there.cadf: no route\n"), ("sh -c 'printf CADF-SY'", 3, ': "CADF-SY": make the call again\n'),
 ])
 def test_a_far_side_that_is_not_there(sites, rsh, status, part):
     sites.put("here.cadf", facts(1))
