@@ -13,7 +13,7 @@ import subprocess
 import tempfile
 
 import cadf_site
-from cadf_link import Store
+from cadf_link import Item, Store
 from cadf_toolkit import REFUSED, Fault, Input, Refusal, cadf, check_end, naming, opened_file, started_cadf
 
 ALL, SHARED = "all", cadf_site.SHARED
@@ -261,9 +261,19 @@ def has_facts(item):
     return not (len(lines) > 2 and lines[2].startswith(b"Z "))
 
 
+def is_intact(input):
+    """Whether the last line of a replica file has the digest of the others."""
+    hash_all, length = hashlib.sha256(), os.fstat(input.file.fileno()).st_size - LAST_LINE
+    for block in Item(input.name, "facts", input.file, 0, length).blocks():
+        hash_all.update(block)
+    return hash_all.hexdigest() == last_digest(input.file)
+
+
 def whole(store, part, inputs):
-    """An item of all facts of a window."""
+    """An item of all facts of a window. A damaged file is refused under its name; the other end would say that it got it so."""
     if len(inputs) == 1:
+        if not is_intact(inputs[0]):
+            cadf(["inventory"], inputs)
         return store.copied(part, "facts", inputs[0].file)
     cadf(["join"], inputs, store.begin())
     return store.item(part, "facts")

@@ -452,7 +452,7 @@ CALLS = {
     "no number of cells": (hello() + message(b"ask", items((b"all", b"tell", b"7"))), 1, "no number of cells"),
     "too many cells": (hello() + message(b"ask", items((b"all", b"tell", b"999999999"))), 1, "no number of cells"),
     "no sketch": (hello() + message(b"ask", items((b"all", b"sketch", b"x\n"))), 1, "version"),
-    "no facts": (hello() + message(b"take", items((b"all", b"facts", b"x"))), 1, "not JSON"),
+    "no facts": (hello() + message(b"take", items((b"all", b"facts", b"x"))), 1, "all from the caller: not JSON"),
     "facts of another log": (hello() + message(b"take", items((b"all", b"facts", OTHER))), 1, 'other log: "h"'),
     "facts and none": (hello() + message(b"take", items((b"all", b"facts", GOOD), (b"all", b"facts", b"{"))), 1, "not JSON"),
     "waits": (hello() + b"wait 0\n" * 1001, 1, "it says that it works"),
@@ -635,6 +635,20 @@ def test_a_folder_whose_first_take_ended_early_is_made(folders):
         name.rename(name.with_suffix(".txt"))
     answer = folders.sync("here/", "there/")
     assert answer.status == 1 and "no site in it" in said(answer)
+
+
+@pytest.mark.parametrize("way, here, there", [("--push", "here/", "there/"), ("--pull", "there/", "here/"), ("--push", "here.cadf", "new.cadf")])
+def test_what_is_damaged_is_named_where_it_is(folders, way, here, there):
+    """Though the other end lacks all of it, which is then sent as it is, and would be refused there."""
+    folders.put("here/", facts(1, 2))
+    folders.put("there/", facts(1))
+    folders.put("here.cadf", facts(1, 2))
+    path = next((folders.path / "here").glob("2024-03-03.*")) if "here/" in (here, there) else folders.path / "here.cadf"
+    path.write_bytes(path.read_bytes().replace(b"read", b"reap"))
+    peer = "here/: " if way == "--pull" else ""
+    assert folders.sync(way, here, there) == (1, b"", (
+        "cadf-sync: %s%s: digest: the file is damaged: fetch it again, or restore it as the guide says under `A damaged site`\n"
+        % (peer, path.relative_to(folders.path))).encode())
 
 
 @pytest.mark.parametrize("there", ["there/", "h:there/"])
