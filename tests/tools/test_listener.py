@@ -280,7 +280,7 @@ def test_words(program, tmp_path):
             ("a control character", [*spool, "--url", "amqp://h/", "\x1b[2J"], 2), ("help", ["--help"], 0)):
         ended, output, error = answer(program, words)
         assert ended == status, what
-        assert "cadf-listen" in (output if what == "help" else error), what
+        assert "(--url-file FILE | --url URL)" in output if what == "help" else "cadf-listen" in error, what
         assert "\x1b" not in error, what
     program.amqp = None
     ended, _, error = answer(program, [*spool, "--url", "rabbit://h/"])
