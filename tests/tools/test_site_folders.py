@@ -340,6 +340,8 @@ def test_words(site):
     for words in (["--by", "week"], ["--settle", "--by", "day"], ["--windows", "-1", "--by", "day"]):
         assert site.take(*words, files=[file]).status == 2 and not site.folder.exists()
     assert site.take("--by", "day").status == 2 and site.take("--settle", files=[file]).status == 2
+    for words in (["--by", "day"], ["--log", "g"], ["--windows", "400"]):
+        assert b"--settle goes with one SITE, and with --wait alone" in site.take("--settle", *words).error
     site.folder.mkdir()
     for answer in (site.take(files=[file]), site.take("--settle")):
         assert answer.status == 1 and b"no site in it: `cadf-take --by day SITE/ FILE..` makes one" in answer.error
