@@ -5,13 +5,14 @@
 
 Drives Keystone (Debian: python3-keystone, python3-webtest) in this process, with a database of its own in a temporary folder:
 its bootstrap, logins that succeed and fail, users, projects, roles and what falls with a domain. Each payload that Keystone hands
-to its notifier is written as one line. tools/cadf-from-openstack has to keep all of them, and the log may have no conflict.
+to its notifier is written as one line. cadf-from-openstack has to keep all of them, and the log may have no conflict.
 Where Keystone isn't there the script says so, and ends with status 0.
 """
 import contextlib
 import json
 import logging
 import os
+import shutil
 import sqlite3
 import subprocess
 import sys
@@ -19,7 +20,7 @@ import tempfile
 import warnings
 
 TOP = os.path.dirname(os.path.dirname(os.path.abspath(__file__)))
-TOOL = os.path.join(TOP, "tools", "cadf-from-openstack")
+TOOL = shutil.which("cadf-from-openstack", path=os.path.join(TOP, "tools") + os.pathsep + os.environ["PATH"])
 SYSTEM = "/usr/bin/python3"  # where Debian's packages are
 CONFIGURATION = """[DEFAULT]
 notification_format = cadf

@@ -5,7 +5,7 @@
 
 Drives keystonemiddleware's audit filter and ceilometermiddleware's Swift filter with requests of many kinds. What they hand to
 their notifier is written as events, as messages with the envelope of oslo.messaging, as lines of keystonemiddleware's own
-logger, and as lines of `driver = log`. tools/cadf-from-openstack has to keep every event of each way, and the logs have to be
+logger, and as lines of `driver = log`. cadf-from-openstack has to keep every event of each way, and the logs have to be
 equal and without a conflict. Lines of `driver = log` are counted alone, since that driver masks tokens.
 Where a package isn't there the script says so, and ends with status 0 (Debian: python3-keystonemiddleware,
 python3-ceilometermiddleware, python3-webob).
@@ -14,13 +14,14 @@ import json
 import logging
 import os
 import random
+import shutil
 import subprocess
 import sys
 import tempfile
 import warnings
 
 TOP = os.path.dirname(os.path.dirname(os.path.abspath(__file__)))
-TOOL = os.path.join(TOP, "tools", "cadf-from-openstack")
+TOOL = shutil.which("cadf-from-openstack", path=os.path.join(TOP, "tools") + os.pathsep + os.environ["PATH"])
 SYSTEM = "/usr/bin/python3"  # where Debian's packages are
 PREFIX = "2026-11-25 12:00:00.123 7 INFO %s [-] %s"
 CALLS = 60

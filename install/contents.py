@@ -13,7 +13,7 @@ from install import sbom
 DOC = "share/doc/cadf"
 PAGES = ("README.md", "CHANGELOG.md", "bench/RESULTS.md")
 # These examples need tests/, which is not installed.
-NOT_INSTALLED = ("examples/many-sites.py", "examples/parcelled.py")
+NOT_INSTALLED = ("examples/bus-settings.py", "examples/bus-week.py", "examples/many-sites.py", "examples/parcelled.py")
 ZSH = "share/zsh/site-functions"
 # Where systemd looks for each kind of file of this folder, and what it is to be called there.
 UNITS = "examples/systemd"

@@ -14,6 +14,7 @@ from tests import TOP
 from tests.command.commands import COMMANDS
 from tests.machine import ended
 from tests.package import completions
+from tests.tools.programs import loaded
 
 INSTALL = os.path.join(TOP, "install", "install")
 TOOLS = sorted(name for name in os.listdir(os.path.join(TOP, "tools")) if os.path.isfile(os.path.join(TOP, "tools", name)))
@@ -109,8 +110,24 @@ def test_guide(prefix, name):
     text = (doc / "docs" / (name + ".md")).read_text(encoding="utf-8")
     for link in re.findall(r"\]\(([^):#]+)", text):
         assert (doc / "docs" / link).exists()
-    for example in re.findall(r"\$TOP\"?/([A-Za-z0-9./-]*)", text):
-        assert (doc / example).exists()
+    for example in re.findall(r"(?:\$TOP\"?/|`(?=examples/))([A-Za-z0-9./-]*)", text):
+        assert (doc / example).exists(), example
+
+
+def test_examples_import_what_is_there(prefix):
+    """None imports what tests/ has."""
+    for path in (prefix / "share/doc/cadf/examples").rglob("*.py"):
+        assert not re.search(r"(?m)^ *(?:from|import) tests\b", path.read_text(encoding="utf-8")), path
+
+
+@pytest.mark.parametrize("name, check", [
+    ("real-producers", lambda example, cadf, line: example.checked(cadf, "keystonemiddleware", {"event": [line]}, 1)),
+    ("real-keystone", lambda example, cadf, line: (example.LINES.append(line), example.check(cadf)))])
+def test_examples_find_the_tool(prefix, monkeypatch, name, check):
+    """What drives real producers makes a log of their lines by the installed tools."""
+    monkeypatch.setenv("PATH", "%s%s%s" % (prefix / "bin", os.pathsep, os.environ["PATH"]))
+    with open(os.path.join(TOP, "examples", "real", "keystonemiddleware.jsonl"), encoding="utf-8") as lines:
+        check(loaded(str(prefix / "share/doc/cadf/examples" / (name + ".py"))), str(prefix / "bin/cadf"), lines.readline())
 
 
 def test_take_and_report(run, prefix, tmp_path):
