@@ -612,7 +612,7 @@ def test_files():
     put("c\n", b"x")
     done = ended(TOOL, ["--log", "g", "c\n"])
     assert done.error.decode().split("\n")[0] == 'cadf-from-openstack: "c\\n": line 1: set aside: not JSON, and no line of a log'
-    for what, words in (("no log", []), ("no name", ["--log", ""]), ("a long name", ["--log", "x" * 1025]), ("no rule", ["--log", "g", "--without", "x"]),
+    for what, words in (("no log", []), ("an empty log", ["--log", ""]), ("a long name", ["--log", "x" * 1025]), ("no rule", ["--log", "g", "--without", "x"]),
                         ("an option", ["--log", "g", "--x"]), ("a short option", ["--lo", "g"]), ("a size", ["--log", "g", "--size", "1"]), ("a large size", ["--log", "g", "--size", str(2 ** 30 + 1)])):
         done = ended(TOOL, words)
         assert (done.status, done.output) == (2, b""), what
