@@ -242,7 +242,7 @@ WRITTEN = [
     ("seal", [made.EVENT_TREE], seal(digits(C1)), SEALED),
     ("prove", [V1, made.TWO], proof([digits(C1)], [digits(C1), digits(C2)]), LINES),
     ("verify", [seal(digits(C1), digits(C2)), made.TWO, proof([digits(C1), digits(C2)], [digits(C1), digits(C2)])],
-     'present E "e1"\npresent E "e2"\n', WHOLE),
+     'present E "e1"\npresent E "e2"\n', LINES),
     ("rule P name 2", [NAMED], made.SOUTH_TREE, LINES),
     ("rehearse g 2", [""], "site 0 atoms 0 as 0\nsite 1 atoms 0 as 0\n", WHOLE),
 ]

@@ -106,9 +106,9 @@ NEXT_TO_P9 = next(number for number, each in enumerate(SHOWN_LINES, 4) if each.s
 LINE_OF_P1 = next(number for number, each in enumerate(SHOWN_LINES, 4) if each.split()[2] == digits(P[0]))
 RULED, EVENT = line("U", "P", "p1", "0" * 64), line("E", "e1", B1)
 # Facts of one key, of which two keys have several, and the key and the ruling that come next are spelled alike.
-OF_KEYS = [EVENT, line("E", "e1", B1, "T", "x"), line("E", "e1", B1, "T", "y"), line("E", "e2", B1), line("P", 'e"\n', "1"), line("P", 'e"\n', "2"),
+OF_KEYS = [EVENT, line("E", "e1", B1, "T", "x"), line("E", "e1", B1, "T", "y"), line("E", "e2", B1), line("P", 'e"\\', "1"), line("P", 'e"\\', "2"),
            line("U", "E", "e2", "0" * 64), RULED, line("U", "P", "p1", "1" * 64)]
-TOLD = ['E "e1"', 'E "e1"', 'E "e1"', 'E "e2"', 'P "e\\"\\n"', 'P "e\\"\\n"', 'U "e2"', 'U "p1"', 'U "p1"']
+TOLD = ['E "e1"', 'E "e1"', 'E "e1"', 'E "e2"', 'P "e\\"\\\\"', 'P "e\\"\\\\"', 'U "e2"', 'U "p1"', 'U "p1"']
 ROWS += [says("present", P[:size], text("present", *P[:size])) for size in range(9)]
 ROWS += [says("absent", P[8:], text("absent", *P[8:])), says("absent", [], ["ok", ""])]
 ROWS += [
