@@ -57,7 +57,7 @@ ROWS = [
     # ---- The tools: what a power cut, a signal or another caller does to them
     Row("take: nothing new, not synced", "tools/cadf-take", "            sync(self.site)  # a call", "            pass  # a call", CRASH + "test_take"),
     Row("take: union for all to read", "share/cadf/cadf_toolkit.py", "os.O_EXCL, 0o600)) as file:", "os.O_EXCL, 0o666)) as file:", CRASH + "test_take"),
-    Row("folder: window not synced", SITE, "            os.fsync(file)\n        os.rename(", "            pass\n        os.rename(", CRASH + "test_take_into"),
+    Row("folder: window not synced", SITE, "            os.fsync(file)\n        self.made.add(name)\n        os.rename(", "            pass\n        self.made.add(name)\n        os.rename(", CRASH + "test_take_into"),
     Row("folder: names not synced", SITE, "        os.fsync(self.folder.descriptor)\n        with self", "        with self", CRASH + "test_take_into"),
     Row("folder: `site` not synced", SITE, "        self.name(INDEX)\n        os.fsync(self.folder.descriptor)\n", "        self.name(INDEX)\n", CRASH + "test_take_into"),
     Row("folder: nothing new, not synced", SITE, "            os.fsync(self.folder.descriptor)  # a call that was killed may have put it there", "            pass",
