@@ -3,7 +3,7 @@ use Rattle.std.proofs.Common.{◌≡◌, ℕ, zero, suc, ◌<◌, ◌+◌, ◌-�
 use Rattle.std.specs.List.{repeat}
 use Rattle.std.proofs.lemmas.Grind.{flat_map-append}
 use Rattle.std.specs.Io.KnownBytes.{Appends}
-use Rattle.std.proofs.KnownBytes.{Appends-nil, Appends-trans}
+use Rattle.std.proofs.KnownBytes.{Appends-trans}
 use Rattle.cadf_json.specs.Streams.{AppendsPrefix}
 use Rattle.cadf_linefile.specs.laws.Prefixes.{front_more, front_after}
 use Rattle.cadf_seal.specs.declared.telling.Repeated.{Repeated}
@@ -19,9 +19,6 @@ text_and ls a = flat_map-append (λ (l : Repeated). repeat l.count l.line.items)
 repeat_after : (n : ℕ) (xs : List ℕ) → xs ++ repeat n xs ≡ repeat n xs ++ xs
 repeat_after zero xs = append-nil xs
 repeat_after (suc n) xs = ap (λ t. xs ++ t) (repeat_after n xs) ∙ sym (append_assoc xs (repeat n xs) xs)
-
-pub counted_once : (ls : List Repeated) (a : Repeated) → a.count ≡ 1 → repeated_text (ls ++ a ∷ []) ≡ repeated_text ls ++ a.line.items
-counted_once ls a e = text_and ls a ∙ ap (λ n. repeated_text ls ++ repeat n a.line.items) e ∙ ap (λ t. repeated_text ls ++ t) (append-nil a.line.items)
 
 pub counted_again : (ls : List Repeated) (a b : Repeated) → b.line.items ≡ a.line.items → b.count ≡ a.count + 1
     → repeated_text (ls ++ b ∷ []) ≡ repeated_text (ls ++ a ∷ []) ++ a.line.items
