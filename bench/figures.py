@@ -49,9 +49,9 @@ FIGURES = {
         ("take up to {} bytes for each byte of a document of ordinary events. `join` takes {} for each byte of files of format 2, and `missing` {}.",
          (MEMORY, "ordinary events, document", "`check`"), (MEMORY, "ordinary events, file", "`join`"), (MEMORY, "ordinary events, file", "`missing`")),
         ("A take into a folder takes {} MB, if no files", (TAKES, "1,000 MB, 1 event", "Folder:1")),
-        ("by up to {} times the time a byte, and {} bytes of memory a byte, in `verify` {} and {},",
-         (FOUND_TIME, "a list of `0` in 125 such objects, beside", "`show`"), (FOUND_MEMORY, "rulings of a key of 1,024", "`show --conflicts`"),
-         (FOUND_TIME, "short tags of an event", "`verify --absent`"), (FOUND_MEMORY, "short tags of an event", "`verify --absent`")),
+        ("by up to {} times the time a byte, in `verify` {}, and {} bytes of memory a byte,",
+         (FOUND_TIME, "a list of `0` in 125 such objects, beside", "`show`"), (FOUND_TIME, "short tags of an event", "`verify --absent`"),
+         (FOUND_MEMORY, "short tags in no order", "`missing-by-sketch`")),
         ("written in {} s with {} GB, and loads in {} s", *((LARGE_PAGE, "69 bytes", column) for column in ("Written", "Memory", "Loaded"))),
     ],
     GUIDE: [
