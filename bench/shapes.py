@@ -79,6 +79,7 @@ GATE = {
     ("properties", "document"): ("check", "show"),
     ("overwritten", "document"): ("check",),
     ("shared-step", "file"): ("check", "show"),
+    ("nested-falling", "document"): ("check",),
     ("names", "file"): ("check",),
     ("chains-64", "file"): ("check", "show", "join"),
     ("chains-256", "file"): ("check", "show", "join"),
