@@ -373,8 +373,6 @@ def test_links_are_refused(site, name):
         with pytest.raises(cadf_toolkit.Fault, match="symbolic link"), cadf_site.opened_site(str(site.folder)):
             pass
     answer = site.take(files=[site.put(contents(3))])
-    if name == "window":  # which a take needn't read
-        answer = site.take("--settle")
     assert answer.status == 3 and str(path).encode() in answer.error
 
 
