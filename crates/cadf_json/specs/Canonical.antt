@@ -1,5 +1,5 @@
 -- Texts that are canonical, as a whole and token by token.
-use Rattle.std.specs.Prelude.{◌≡◌, ◌<◌, ◌≤◌, ◌^◌, ℕ, List, length, decimal, Bool, true, false, Option, Some, None, ◌++◌}
+use Rattle.std.specs.Prelude.{◌≡◌, ◌≤◌, ℕ, List, length, Bool, true, false, Option, Some, None, ◌++◌}
 use Rattle.std.specs.Ordering.{nat_cmp, is_lt}
 use Rattle.std.specs.Cmp.Lexicographic.{slice_cmp}
 use Rattle.json.specs.Token.{Token}
@@ -47,14 +47,6 @@ AreMembersUnordered depth ts = (ms : json.Members) (rest : List Token) → membe
 abbrev pub is_name_above : Option (List ℕ) → List ℕ → Bool
 is_name_above None k = true
 is_name_above (Some l) k = is_lt (slice_cmp nat_cmp l k)
-
--- the text is the canonical spelling of a whole number without a sign
-abbrev pub IsUnsignedText : List ℕ → Type 0
-IsUnsignedText s = (n : ℕ) × (n < 2 ^ 64) × (s ≡ decimal n)
-
--- the text may follow a minus
-abbrev pub IsMagnitude : List ℕ → Type 0
-IsMagnitude s = (n : ℕ) × (0 < n) × (n ≤ 2 ^ 63) × (s ≡ decimal n)
 
 -- ---- what is found among the tokens of a canonical text
 
