@@ -5,6 +5,7 @@ use Rattle.std.specs.Cmp.Lexicographic.{slice_cmp}
 use Rattle.std.specs.Ordering.{match_ordering}
 use Rattle.serde_json.specs.Data.{Data, null, boolean, number, string, array, object, Members, member}
 use Rattle.serde_json.specs.Find.{get, get_member}
+use Rattle.cadf_json.proofs.Rewriting.{pass_by}
 use Rattle.cadf_json.specs.Parts.{members_in}
 
 here_at : (o : Ordering) (a : Option Data) (e : Data) → is_eq o ≡ true → match_ordering o a (Some e) a ≡ Some e
@@ -12,16 +13,11 @@ here_at Less a e h = absurd (true≢false (sym h))
 here_at Equal a e h = refl
 here_at Greater a e h = absurd (true≢false (sym h))
 
-passed_at : (o : Ordering) (a b : Option Data) → is_eq o ≡ false → match_ordering o a b a ≡ a
-passed_at Less a b h = refl
-passed_at Equal a b h = absurd (true≢false h)
-passed_at Greater a b h = refl
-
 pub member_here : (k l : List ℕ) (e : Data) (ms : Members) → bytes_eq k l ≡ true → get_member k (member l e ms) ≡ Some e
 member_here k l e ms h = here_at (slice_cmp nat_cmp k l) (get_member k ms) e (is_eq-slice_cmp k l ∙ h)
 
 pub member_passed : (k l : List ℕ) (e : Data) (ms : Members) → bytes_eq k l ≡ false → get_member k (member l e ms) ≡ get_member k ms
-member_passed k l e ms h = passed_at (slice_cmp nat_cmp k l) (get_member k ms) (Some e) (is_eq-slice_cmp k l ∙ h)
+member_passed k l e ms h = pass_by k l (get_member k ms) (Some e) h
 
 pub member_in : (k : List ℕ) (d : Data) → get k d ≡ get_member k (members_in d)
 member_in k null = refl

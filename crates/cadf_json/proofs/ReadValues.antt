@@ -1,7 +1,6 @@
 -- A value that UTF-8 tokens begin with satisfies the invariant of values.
-use Rattle.std.proofs.Common.{◌≡◌, ℕ, ◌≤◌, List, false, Option, Some, None, option_map, Ordering, Less, Equal, Greater, subst, arith}
+use Rattle.std.proofs.Common.{◌≡◌, ℕ, ◌≤◌, List, false, Option, Some, None, option_map, subst, arith}
 use Rattle.std.specs.Prelude.{⊤}
-use Rattle.std.specs.Ordering.{match_ordering}
 use Rattle.json.specs.Token.{Token}
 use Rattle.json.specs.Json as json
 use Rattle.json.specs.Json.{value, read_key}
@@ -14,23 +13,18 @@ use Rattle.cadf_json.specs.TokenUtf8.{HaveUtf8}
 use Rattle.cadf_json.specs.Value.{IsValue}
 use Rattle.cadf_json.proofs.Formed.{IsFormed, formed_json}
 use Rattle.cadf_json.proofs.Given.{Given, Given-map, Given-and_then}
+use Rattle.cadf_json.proofs.Orders.{put_step}
 use Rattle.cadf_json.proofs.ReadTexts.{JsonHasUtf8, keys, value_reads}
 use Rattle.cadf_json.proofs.Spelled.{whole}
 use Rattle.cadf_json.proofs.Turns.{converted_some}
 
 -- ---- how deep a value nests
 
-low_put_at : (o : Ordering) (a b c : Members) (n : ℕ) → members_depth a ≤ n → members_depth b ≤ n → members_depth c ≤ n
-    → members_depth (match_ordering o a b c) ≤ n
-low_put_at Less a b c n p q r = p
-low_put_at Equal a b c n p q r = q
-low_put_at Greater a b c n p q r = r
-
 low_put : (k : List ℕ) (d : Data) (ms : Members) (n : ℕ) → depth d ≤ n → members_depth ms ≤ n → members_depth (put k d ms) ≤ n
 low_put k d no_members n p q = omega arith
 low_put k d (member l e ms) n p q =
-    low_put_at _ (member k d (member l e ms)) (member l d ms) (member l e (put k d ms)) n (omega arith) (omega arith)
-    (omega (arith, low_put k d ms n p (omega arith)))
+    let further = low_put k d ms n p (omega arith) in
+    put_step (λ ns. members_depth ns ≤ n) k l d e ms (λ _. omega arith) (λ _. omega arith) (λ _. omega arith)
 
 any_number : (o : Option Num) → Given (λ x. ⊤) o
 any_number None = tt

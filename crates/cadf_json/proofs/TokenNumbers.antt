@@ -1,8 +1,6 @@
 -- A text whose numbers are all whole spells a value if it is JSON.
-use Rattle.std.proofs.Common.{◌≡◌, ℕ, List, [], ◌∷◌, ◌++◌, Bool, true, false, ◌&&◌, Option, Some, None, option_map, refl, sym, ap, ◌∙◌, IsUtf8, append-nil, ap₂, Less, Equal, Greater, Ordering, nat_cmp}
+use Rattle.std.proofs.Common.{◌≡◌, ℕ, List, [], ◌∷◌, ◌++◌, Bool, true, false, ◌&&◌, Option, Some, None, option_map, refl, sym, ap, ◌∙◌, IsUtf8, append-nil, ap₂}
 use Rattle.std.specs.Prelude.{not, option_and_then, unwrap_or}
-use Rattle.std.specs.Ordering.{match_ordering}
-use Rattle.std.specs.Cmp.Lexicographic.{slice_cmp}
 use Rattle.std.proofs.lemmas.Bool.{and_parts, or_parts, or_from}
 use Rattle.json.specs.Token.{Token}
 use Rattle.json.specs.Lex.{tokens}
@@ -15,6 +13,7 @@ use Rattle.serde_json.specs.Find.{is_float}
 use Rattle.serde_json.specs.Read.{number_of, of_json, of_items, of_members}
 use Rattle.serde_json.specs.Written.{has_float, items_have_float, members_have_float}
 use Rattle.cadf_json.specs.Value.{SpellsValue}
+use Rattle.cadf_json.proofs.Orders.{put_step}
 use Rattle.cadf_json.specs.WholeTokens.{is_whole_number, is_whole_token, are_whole_tokens}
 
 front : (xs ys : List Token) → are_whole_tokens (xs ++ ys) ≡ true → (are_whole_tokens xs ≡ true) × (are_whole_tokens ys ≡ true)
@@ -33,18 +32,12 @@ number_read (Some n) h = (number n, refl, by (is_float n) h)
     by true e = absurd cc
     by false e = refl
 
-one_of : (o : Ordering) (a b c : Members) → members_have_float a ≡ false → members_have_float b ≡ false → members_have_float c ≡ false
-    → members_have_float (match_ordering o a b c) ≡ false
-one_of Less a b c p q r = p
-one_of Equal a b c p q r = q
-one_of Greater a b c p q r = r
-
 put_whole : (k : List ℕ) (d : Data) (ms : Members) → has_float d ≡ false → members_have_float ms ≡ false → members_have_float (put k d ms) ≡ false
 put_whole k d no_members h f = or_from (has_float d) false h refl
 put_whole k d (member l e ms) h f =
     let p = or_parts (has_float e) (members_have_float ms) f in
-    one_of (slice_cmp nat_cmp k l) (member k d (member l e ms)) (member l d ms) (member l e (put k d ms)) (or_from (has_float d) _ h f)
-    (or_from (has_float d) _ h p.1) (or_from (has_float e) _ p.0 (put_whole k d ms h p.1))
+    put_step (λ ns. members_have_float ns ≡ false) k l d e ms (λ _. or_from (has_float d) _ h f) (λ _. or_from (has_float d) _ h p.1)
+    (λ _. or_from (has_float e) _ p.0 (put_whole k d ms h p.1))
 
 mutual
   whole_json : (j : json.Json) → are_whole_tokens (json_tokens j) ≡ true → (d : Data) × (of_json j ≡ Some d) × (has_float d ≡ false)
