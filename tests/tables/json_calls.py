@@ -26,8 +26,6 @@ CALLS = {
     "apart": ["Json::read_apart", "ItemVisitor::begin", "ItemVisitor::take", "Json::read_next"],
     "is_canonical": ["is_canonical"],
     "spells_value": ["spells_value"],
-    "spells_object": ["spells_object"],
-    "has_text_at": ["has_text_at"],
     "read_to_limit": ["read_to_limit", "MemorySource::new", "Source::read"],
     "read_rest": ["cadf_json::read_rest"],
     "borrow_next": ["Source::borrow_next", "MemorySource::borrowable"],
@@ -196,7 +194,6 @@ JUDGED = [("null", 0), ("[]", 1), ('"\\u0001\\t\\""', 0), ('{"":{"a":[-922337203
 NOT_JUDGED = ['"\\u0041"', '"\\/"', '"\\u001F"', '"\\u000a"', '"\\ud83d\\ude00"', '["a","\\u0009"]', "-0", "1.0", "1e2", "[1.5]",
               "18446744073709551616", "-9223372036854775809", "[1, 2]", "1\n", '{"b":1,"a":2}', '{"a":1,"a":2}',
               '{"a":1.5,"a":1}', "", "[", "[1,]", "{}{}", "nul", nested(128)]
-NAMED = '{"id":"r","name":{"id":"s"},"no":1}'
 
 BYTES = b"twenty-two bytes long!"
 LONG = b"\x07" * 10000
@@ -325,16 +322,10 @@ def passed():
     for text, depth in JUDGED:
         yield "is_canonical", [text, depth], [True], CANONICAL
         yield "is_canonical", [text, 255], [True], CANONICAL
-        yield "spells_object", [text], [text.startswith("{")], VALUES
         if depth:
             yield "is_canonical", [text, depth - 1], [False], CANONICAL
     for text in NOT_JUDGED:
         yield "is_canonical", [text, 255], [False], CANONICAL
-    for name, expected, has in [("id", "r", True), ("id", "s", False), ("name", "s", False), ("no", "1", False),
-                                ("other", "r", False)]:
-        yield "has_text_at", [NAMED, name, expected], [has], VALUES
-    yield "has_text_at", ['["id","r"]', "id", "r"], [False], VALUES
-    yield "has_text_at", ['{"\\u0001":"\\n"}', "\x01", "\n"], [True], VALUES
 
 
 def streams():

@@ -11,7 +11,6 @@ mod members;
 mod memory;
 mod node;
 mod number;
-mod object_text;
 mod order;
 mod plain_run;
 mod push;
@@ -36,7 +35,6 @@ pub use crate::laws::{
 };
 pub use crate::members::{Member, Members};
 pub use crate::memory::{FailingWrite, MemorySink, MemorySource};
-pub use crate::object_text::{has_text_at, spells_object};
 pub use crate::plain_run::plain_length;
 pub use crate::spelling::push_quoted;
 pub use crate::spells::spells_value;

@@ -22,8 +22,6 @@ pub fn answered(alloc: Global, call: &Call) -> Result<String, Memory> {
         "apart" => apart::read(alloc, call.text(1).as_bytes()),
         "is_canonical" => passes::is_canonical(alloc, call.text(1), call.text(2)),
         "spells_value" => passes::spells_value(alloc, call.text(1)),
-        "spells_object" => passes::spells_object(alloc, call.text(1)),
-        "has_text_at" => passes::has_text_at(alloc, call.text(1), call.text(2), call.text(3)),
         "read_to_limit" => streams::whole(alloc, call),
         "read_rest" => streams::rest(alloc, call),
         "borrow_next" => streams::borrowed(alloc, call),

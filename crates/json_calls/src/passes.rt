@@ -16,20 +16,3 @@ pub(crate) fn spells_value(alloc: Global, text: &str) -> Result<String, Memory> 
     let is = cadf_json::spells_value(alloc, text)?;
     format!(in alloc; "{is}")
 }
-
-/// Answers whether the value of a canonical text is an object.
-pub(crate) fn spells_object(alloc: Global, text: &str) -> Result<String, Memory> {
-    let is = cadf_json::spells_object(alloc, text)?;
-    format!(in alloc; "{is}")
-}
-
-/// Answers whether the object of a canonical text has that text at that name.
-pub(crate) fn has_text_at(
-    alloc: Global,
-    text: &str,
-    name: &str,
-    expected: &str,
-) -> Result<String, Memory> {
-    let has = cadf_json::has_text_at(alloc, text, name, expected)?;
-    format!(in alloc; "{has}")
-}
