@@ -14,11 +14,10 @@ import threading
 
 import pytest
 
-from tests import TOP
+from tests import TOP, text_of
 from tests.command import commands, large_inputs, small_inputs
 from tests.machine import ended, side_by_side
 
-PAGE = os.path.join(TOP, "docs", "OPERATING.md")
 CONFINED = os.path.join(TOP, "tests", "command", "confined.c")
 TRACED = re.compile(r"^(\w+)\((.*)")
 EMPTY = "int main(void) { return 0; }\n"
@@ -34,8 +33,7 @@ pytestmark = [pytest.mark.xdist_group("sandbox"), pytest.mark.needs("gcc"), pyte
 
 def shown(pattern):
     """What the page shows at the one place of the pattern."""
-    with open(PAGE, encoding="utf-8") as file:
-        found, = re.findall(pattern, file.read(), re.M)
+    found, = re.findall(pattern, text_of("docs", "OPERATING.md"), re.M)
     return found
 
 

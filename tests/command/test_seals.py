@@ -1,7 +1,6 @@
 """Seals and proofs beside RFC 9162 itself: the roots of examples/vectors, and audit paths that its own check accepts."""
 import hashlib
 import json
-import os
 import random
 import re
 import subprocess
@@ -9,13 +8,13 @@ import sys
 
 import pytest
 
-from tests import TOP
+from tests import text_of
 from tests.command.vectors import read
 from tests.reference.events import Fault
 from tests.reference.seal_files import proof_of, read_proof, read_seal, seal_of, verified
 
 SIZES = range(9)
-PROGRAM = re.search(r"```python\n(.*?hash_of\(0, count\).*?)```", open(os.path.join(TOP, "docs", "FORMATS.md"), encoding="utf-8").read(), re.DOTALL)[1]
+PROGRAM = re.search(r"```python\n(.*?hash_of\(0, count\).*?)```", text_of("docs", "FORMATS.md"), re.DOTALL)[1]
 
 
 # ---- RFC 9162 by itself: sections 2.1.1 and 2.1.3.2

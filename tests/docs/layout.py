@@ -10,15 +10,9 @@ import sys
 import tempfile
 
 from tests import TOP
+from tests.proofs import corpus
 
 PARTS = ("src", "specs", "proofs")
-
-
-def files(folder):
-    """The files of a crate that have a layout, by their paths in it."""
-    for part in PARTS:
-        for at, _, names in os.walk(os.path.join(folder, part)):
-            yield from (os.path.relpath(os.path.join(at, name), folder) for name in names)
 
 
 def moved(crate, top):
@@ -28,8 +22,8 @@ def moved(crate, top):
         if os.path.isdir(os.path.join(own, part)):
             shutil.copytree(os.path.join(own, part), os.path.join(copy, part))
     subprocess.run(["rt", "fmt"], cwd=copy, check=True, stdin=subprocess.DEVNULL, stdout=subprocess.DEVNULL)
-    return [os.path.join("crates", crate, name) for name in sorted(files(own))
-            if not filecmp.cmp(os.path.join(own, name), os.path.join(copy, name), shallow=False)]
+    names = [os.path.relpath(path, TOP) for part in PARTS for path in corpus.files_of(crate, part)]
+    return [name for name in names if not filecmp.cmp(os.path.join(TOP, name), os.path.join(top, name), shallow=False)]
 
 
 def main():

@@ -20,10 +20,10 @@ import os
 import re
 import runpy
 import shutil
-import subprocess
 import sys
 
-from tests import TOP
+from build.plan import crates_of
+from tests import TOP, text_of, tracked
 from tests.docs import shown
 
 MOST_WORDS = 60
@@ -37,17 +37,6 @@ SH_BLOCK = re.compile(r"(?ms)^ *```sh\n(.*?)^ *```$")
 # Requests of a manual page: those whose words are text, joined with blanks or without, and those that go on with the text.
 ROFF_TEXT = {"B": " ", "I": " ", "SH": " ", "SS": " ", "BR": "", "BI": "", "RB": "", "RI": "", "IR": "", "IB": ""}
 ROFF_BREAKS = ("SH", "SS", "TP", "PP", "RS", "RE", "TH", "br")
-
-
-def read(name):
-    with open(os.path.join(TOP, name), encoding="utf-8") as file:
-        return file.read()
-
-
-def tracked():
-    """The names of the tracked files, and of those that a next commit may add."""
-    listed = subprocess.run(["git", "ls-files", "-co", "--exclude-standard"], cwd=TOP, check=True, capture_output=True, text=True)
-    return [name for name in listed.stdout.splitlines() if os.path.exists(os.path.join(TOP, name))]
 
 
 def plain(text):
@@ -121,10 +110,14 @@ def long_sentences(name, text):
                 yield "%s:%d: %d words: %s .." % (name, number, count_words(sentence), " ".join(sentence.split())[:70])
 
 
+def listed(name):
+    """The lines of a list of this folder, without comments."""
+    return [line for line in text_of("tests/docs", name).splitlines() if line and not line.startswith("#")]
+
+
 def refused_phrases():
     """The phrases of tests/docs/phrases, each with what to write instead."""
-    lines = [line for line in read("tests/docs/phrases").splitlines() if line and not line.startswith("#")]
-    return [line.split(" -> ") for line in lines]
+    return [line.split(" -> ") for line in listed("phrases")]
 
 
 def phrases(name, text):
@@ -157,14 +150,13 @@ def dead_links(name, text):
         target = os.path.join(TOP, os.path.dirname(name), path) if path else None
         if "://" in path:
             continue
-        if target and not os.path.exists(target) or anchor and anchor not in anchors(read(target) if target else text):
+        if target and not os.path.exists(target) or anchor and anchor not in anchors(text_of(target) if target else text):
             yield "%s: the link %s leads nowhere" % (name, path + ("#" + anchor if anchor else ""))
 
 
 def elsewhere():
     """The commands of tests/docs/elsewhere, each with the script that runs it."""
-    lines = [line for line in read("tests/docs/elsewhere").splitlines() if line and not line.startswith("#")]
-    return {command: script for script, command in (line.split(": ", 1) for line in lines)}
+    return {command: script for script, command in (line.split(": ", 1) for line in listed("elsewhere"))}
 
 
 def commands_of_blocks(text):
@@ -184,8 +176,8 @@ def idle_commands(name, text):
 
 def stale_commands(names):
     """A line for each command of tests/docs/elsewhere that no page shows, or whose script neither the gate nor anybody runs."""
-    known = [*runpy.run_path(os.path.join(TOP, ".ci", "steps.py"))["programs"](), read("CONTRIBUTING.md")]
-    listed = {command for name in names for command in commands_of_blocks(read(name))}
+    known = [*runpy.run_path(os.path.join(TOP, ".ci", "steps.py"))["programs"](), text_of("CONTRIBUTING.md")]
+    listed = {command for name in names for command in commands_of_blocks(text_of(name))}
     for command, script in elsewhere().items():
         if command not in listed:
             yield "tests/docs/elsewhere: no page shows `%s`" % command
@@ -202,10 +194,9 @@ def long_readme(name, text):
 
 
 def dependencies():
-    """Of each crate of the product, those of them that it depends on, as crates.txt says."""
-    lines = [line for line in read("crates.txt").split("# Tests")[0].splitlines() if line and not line.startswith("#")]
-    listed = dict(line.split(":") for line in lines)
-    return {name: [other for other in others.split() if other in listed] for name, others in listed.items()}
+    """Of each crate of the product, those of them that it depends on."""
+    product = text_of("crates.txt").split("# Tests")[0]
+    return {name: others for name, others in crates_of(TOP).items() if "\n%s:" % name in product}
 
 
 def below(crates, name):
@@ -250,19 +241,18 @@ def wrong_layers(name, text):
     if not name.endswith("ARCHITECTURE.md"):
         return
     places = [(crate, height) for height, box in enumerate(layers(text)) for crate in box]
-    lines = [re.match(r"(cadf\w*)[^:]*:(.*)", line) for line in read("crates.txt").splitlines()]
-    for crate, others in (line.groups() for line in lines if line):
+    for crate in PRODUCT:
         own = [height for found, height in places if found == crate]
         if len(own) != 1:
             yield "%s: %d of its layers have %s" % (name, len(own), crate)
-        for other in sorted(other for other, height in places if own and height < own[0] and other in others.split()):
+        for other in sorted(other for other, height in places if own and height < own[0] and other in crates_of(TOP)[crate]):
             yield "%s: %s is above %s, which depends on it" % (name, other, crate)
 
 
 FAULTS = (long_sentences, phrases, dead_links, idle_commands, wrong_picture, wrong_layers, long_readme)
 LONG = " ".join(["word"] * MOST_WORDS)
 BOXES = "docs/ARCHITECTURE.md"
-PRODUCT = re.findall(r"(?m)^(cadf\w*)", read("crates.txt"))  # each after those that it depends on
+PRODUCT = [name for name in crates_of(TOP) if name.startswith("cadf")]  # each after those that it depends on
 RIGHT = picture() + "\n+--+\n" + "".join("| %s |\n+--+\n" % crate for crate in reversed(PRODUCT))
 # A page, and how many faults each of FAULTS finds in it.
 TRIALS = [
@@ -303,11 +293,11 @@ def main():
     found = [*blind_faults(), *stale_commands(pages)]
     for name in names:
         if name in pages:
-            found += [line for fault in FAULTS for line in fault(name, read(name))]
+            found += [line for fault in FAULTS for line in fault(name, text_of(name))]
         elif name.endswith(".md"):
-            found += dead_links(name, read(name))
+            found += dead_links(name, text_of(name))
         elif PROGRAMS.fullmatch(name):
-            found += words_of_programs(name, read(name))
+            found += words_of_programs(name, text_of(name))
     print("".join("pages: %s\n" % line for line in found), end="")
     if found:
         sys.exit("pages: %d faults" % len(found))

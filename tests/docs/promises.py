@@ -29,7 +29,7 @@ import os
 import re
 import sys
 
-from tests import TOP
+from tests import TOP, text_of
 from tests.docs.public_calls import uncalled
 from tests.docs.reachable import is_reachable, unreached_laws
 from tests.proofs import corpus
@@ -62,33 +62,24 @@ def unbroken(text):
 
 
 def read(page):
-    with open(page, encoding="utf-8") as file:
-        return unbroken(file.read())
+    return unbroken(text_of(page))
 
 
 def clauses():
     """Of each name of an item of the sources, the names of the clauses behind it, up to the next item."""
     found = collections.defaultdict(set)
-    for path in glob.glob(os.path.join(TOP, "crates", "*", "src", "**", "*.rt"), recursive=True):
-        with open(path, encoding="utf-8") as file:
-            parts = ITEM.split(file.read())
+    for path in corpus.files_of("*", "src"):
+        parts = ITEM.split(text_of(path))
         for name, behind in zip(parts[1::2], parts[2::2]):
             found[name] |= set(CLAUSE.findall(behind))
         found[os.path.basename(path)[:-3]] |= set()
     return found
 
 
-def sources():
-    """The texts of all sources, one after another."""
-    for path in glob.glob(os.path.join(TOP, "crates", "*", "src", "**", "*.rt"), recursive=True):
-        with open(path, encoding="utf-8") as file:
-            yield file.read()
-
-
 def unimplemented(text):
     """The types that implement no such trait, and the traits of which the text names no type that implements them."""
     there, traits = set(), set()
-    for source in sources():
+    for source in map(text_of, corpus.files_of("*", "src")):
         there.update(IMPL.findall(source))
         traits.update(TRAIT.findall(source))
     named = set(IMPLEMENTED.findall(text))
@@ -100,11 +91,7 @@ def unimplemented(text):
 
 def definitions():
     """The names that the crates define in specs/."""
-    found = set()
-    for path in glob.glob(os.path.join(TOP, "crates", "*", "specs", "**", "*.antt"), recursive=True):
-        with open(path, encoding="utf-8") as file:
-            found |= set(DEFINED.findall(file.read()))
-    return found
+    return {name for path in corpus.files_of("*", "specs") for name in DEFINED.findall(text_of(path))}
 
 
 def unreached(text, found):
@@ -152,11 +139,6 @@ def unread(contracts, audit):
     yield from ("%s is not in AUDIT" % path for path in sorted(set(FILE.findall(rows)) - set(FILE.findall(audit))))
 
 
-def definition_file(crate, path):
-    with open(os.path.join(TOP, "crates", crate, path), encoding="utf-8") as file:
-        return file.read()
-
-
 def length_of(text):
     """The lines of definitions, without comments, imports and blanks."""
     lines = [line.strip() for line in IMPORT.sub("", text).splitlines()]
@@ -165,7 +147,7 @@ def length_of(text):
 
 def audited(names, crate, path, length):
     """What is wrong with a row of a table of definitions, whose file is there."""
-    text = definition_file(crate, path)
+    text = text_of("crates", crate, path)
     for name in re.findall(r"`(\w+)`", names):
         if not re.search(r"\bpub (?:record |data )?%s\b" % name, text):
             yield "%s/%s doesn't define %s" % (crate, path, name)
@@ -177,7 +159,7 @@ def unlisted(rows):
     """The files that those of the rows import, and that no row names."""
     listed = {(row[1], row[2]) for row in rows}
     for crate, path in sorted(listed):
-        for other, module in IMPORTED.findall(definition_file(crate, path)):
+        for other, module in IMPORTED.findall(text_of("crates", crate, path)):
             if (other, module.replace(".", "/") + ".antt") not in listed:
                 yield "%s/%s imports %s of %s, which is in no table" % (crate, path, module, other)
 
@@ -186,7 +168,7 @@ def early(rows, text):
     """The files of the rows that import one of a later row, unless a sentence of the page names them too."""
     listed = [(row[1], row[2]) for row in rows]
     for number, (crate, path) in enumerate(listed, 1):
-        for other, module in IMPORTED.findall(definition_file(crate, path)):
+        for other, module in IMPORTED.findall(text_of("crates", crate, path)):
             needed = (other, module.replace(".", "/") + ".antt")
             if needed in listed[number:] and text.count("`%s/%s`" % (crate, path)) == 1:
                 yield "%s/%s comes before %s/%s, which it imports" % (crate, path, *needed)
@@ -194,8 +176,7 @@ def early(rows, text):
 
 def cited(path):
     """The definitions that the clauses of a source cite, each with its crate and file."""
-    with open(path, encoding="utf-8") as file:
-        text = file.read()
+    text = text_of(path)
     clauses = [line for line in corpus.clauses_of(text) if not line.startswith("ghost use")]
     words = set(re.findall(r"\w+", " ".join(clauses)))
     for crate, module, names in CITED.findall(text):
@@ -235,16 +216,15 @@ def summed(rows):
 
 def written(section):
     """A part of AUDIT with the lengths of its files, and their sum."""
-    section = AUDITED.sub(lambda row: "%s| %d |" % (row[0].rpartition("| %s |" % row[4])[0], length_of(definition_file(row[2], row[3]))), section)
+    section = AUDITED.sub(lambda row: "%s| %d |" % (row[0].rpartition("| %s |" % row[4])[0], length_of(text_of("crates", row[2], row[3]))), section)
     rows = AUDITED.findall(section)
     return SUM.sub("%s lines in %s files" % summed(rows), section) if rows else section
 
 
 def write_lengths(page):
-    with open(page, encoding="utf-8") as file:
-        text = file.read()
+    text = "\n## ".join(map(written, text_of(page).split("\n## ")))
     with open(page, "w", encoding="utf-8") as file:
-        file.write("\n## ".join(map(written, text.split("\n## "))))
+        file.write(text)
 
 
 def main():

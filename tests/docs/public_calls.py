@@ -4,13 +4,12 @@ Each public call must be listed, each listed one must stand behind a row, and ea
 answer is no refusal.
 """
 import collections
-import glob
-import importlib
-import os
 import re
 
-from tests import TOP
+from tests import text_of
 from tests.docs import reachable
+from tests.proofs import corpus
+from tests.tables import make
 
 # A paragraph of the list: the crate and whether its calls take memory, or what no row makes.
 LISTED = re.compile(r"(?m)^(?:(\w+), (with|without) memory|Only .*):\n((?:  .*\n)+)")
@@ -33,11 +32,10 @@ def does_nothing(function):
     return "->" not in signature and "&mut" not in signature
 
 
-def blocks(folder):
+def blocks(crate):
     """The blocks of a crate's sources: a function, or a type's functions."""
-    for path in glob.glob(os.path.join(folder, "**", "*.rt"), recursive=True):
-        with open(path, encoding="utf-8") as file:
-            yield from re.split(r"(?m)^(?=\S.*[{(]$|impl|pub |fn )", file.read())
+    for path in corpus.files_of(crate, "src"):
+        yield from re.split(r"(?m)^(?=\S.*[{(]$|impl|pub |fn )", text_of(path))
 
 
 def calls_of(owner, block):
@@ -54,7 +52,7 @@ def public(crate):
     for _, home, item in reachable.items(crate):
         shown[home].add(item)
     for home, items in shown.items():
-        for block in blocks(os.path.join(TOP, "crates", home, "src")):
+        for block in blocks(home):
             owner, function = OWNER.match(block), re.match(r"pub fn (\w+)", block)
             if owner and owner.group(1) in items:
                 yield from calls_of(owner.group(1), block)
@@ -64,13 +62,10 @@ def public(crate):
 
 def made():
     """The calls behind a row, and those behind a row whose answer is no refusal."""
-    folder = os.path.join(TOP, "tests", "tables")
     asked, answered = set(), set()
-    for path in glob.glob(os.path.join(folder, "*_calls.py")):
-        table = importlib.import_module("tests.tables." + os.path.basename(path)[:-3])
+    for table in map(make.table, make.tables()):
         for call, words, fields, _ in table.ROWS:
-            names = [call, "%s %s" % (call, words[0])] if words else [call]
-            calls = {one for name in names for one in table.CALLS.get(name, [])}
+            calls = {one for name in make.row_names(call, words) for one in table.CALLS.get(name, [])}
             asked |= calls
             answered |= calls if fields[0] != "err" else set()
     return asked, answered
@@ -78,8 +73,7 @@ def made():
 
 def uncalled():
     """What is wrong with the list of public calls."""
-    with open(os.path.join(TOP, "tests", "docs", "public_calls.txt"), encoding="utf-8") as file:
-        calls, crates = listed(file.read())
+    calls, crates = listed(text_of("tests/docs/public_calls.txt"))
     stand = {(crate, name) for crate in crates for name in public(crate)}
     for crate, name in sorted(stand):
         if not {name, "%s::%s" % (crate, name)} & set(calls):

@@ -8,7 +8,8 @@ import glob
 import os
 import re
 
-from tests import TOP
+from tests import TOP, text_of
+from tests.proofs import corpus
 
 ITEM = re.compile(r"(?m)^pub (?:const fn|extern \"C\" fn|fn|struct|enum|trait|type|const) (\w+)")
 MODULE = re.compile(r"(?m)^pub mod (\w+);")
@@ -27,8 +28,7 @@ def libraries():
 
 def source(crate, *module):
     """Reads the file of a module, `lib` for the crate's own."""
-    with open(os.path.join(TOP, "crates", crate, "src", *module) + ".rt", encoding="utf-8") as file:
-        return file.read()
+    return text_of(os.path.join("crates", crate, "src", *module) + ".rt")
 
 
 def exports(crate, text):
@@ -55,13 +55,12 @@ def items(crate, *module):
 def methods(crate):
     """Returns the methods of each type and trait of a crate: the public ones, and those of traits."""
     found = collections.defaultdict(set)
-    for path in glob.glob(os.path.join(TOP, "crates", crate, "src", "**", "*.rt"), recursive=True):
-        with open(path, encoding="utf-8") as file:
-            for head, trait, body in BLOCK.findall(file.read()):
-                owner = re.match(r"[\w:]+", trait or head.split(" for ")[-1])
-                of_trait = trait or " for " in head
-                names = {name for public, name in METHOD.findall(body) if public or of_trait}
-                found[owner.group().split("::")[-1] if owner else head] |= names
+    for path in corpus.files_of(crate, "src"):
+        for head, trait, body in BLOCK.findall(text_of(path)):
+            owner = re.match(r"[\w:]+", trait or head.split(" for ")[-1])
+            of_trait = trait or " for " in head
+            names = {name for public, name in METHOD.findall(body) if public or of_trait}
+            found[owner.group().split("::")[-1] if owner else head] |= names
     return found
 
 
@@ -93,6 +92,5 @@ def unreached_laws():
     """Yields each law, a function with an empty body, that can't be named from outside its crate, with the crate."""
     for crate in libraries():
         reached = {name.split("::")[-1] for name, _, _ in items(crate)}
-        for path in sorted(glob.glob(os.path.join(TOP, "crates", crate, "src", "**", "*.rt"), recursive=True)):
-            with open(path, encoding="utf-8") as file:
-                yield from ((crate, law) for law in LAW.findall(file.read()) if law not in reached)
+        for path in corpus.files_of(crate, "src"):
+            yield from ((crate, law) for law in LAW.findall(text_of(path)) if law not in reached)

@@ -9,13 +9,14 @@ end, are what the command writes to standard output and standard error together;
 with a program that need not be on each machine is left out where it is not there, and the last line names the program.
 """
 import importlib.util
+import itertools
 import os
 import shutil
 import subprocess
 import sys
 import tempfile
 
-from tests import TOP
+from tests import TOP, text_of
 
 FOLDERS = [os.path.join(TOP, "crates", "cadf", "out"), os.path.join(TOP, "tools")]
 NOT_EVERYWHERE = ("jq", "ssh-keygen")
@@ -28,24 +29,15 @@ class Differs(AssertionError):
 def pages():
     """The pages of the tree that show commands with what they write."""
     docs = sorted(os.path.join("docs", name) for name in os.listdir(os.path.join(TOP, "docs")) if name.endswith(".md"))
-    for name in ("README.md", *docs):
-        with open(os.path.join(TOP, name), encoding="utf-8") as file:
-            if "\n    $ " in file.read():
-                yield name
+    return [name for name in ("README.md", *docs) if "\n    $ " in text_of(name)]
 
 
 def blocks(page):
     """The indented blocks of the page, as lists of (number, line)."""
-    block = []
-    with open(page, encoding="utf-8") as lines:
-        for number, line in enumerate(lines, 1):
-            if line.startswith("    "):
-                block.append((number, line[4:].rstrip("\n")))
-            elif block:
-                yield block
-                block = []
-    if block:
-        yield block
+    numbered = enumerate(text_of(page).split("\n"), 1)
+    for is_block, lines in itertools.groupby(numbered, lambda each: each[1].startswith("    ")):
+        if is_block:
+            yield [(number, line[4:]) for number, line in lines]
 
 
 def calls(block):

@@ -7,7 +7,7 @@ import subprocess
 
 import pytest
 
-from tests import TOP
+from tests import TOP, text_of, tracked
 from tests.conftest import SLOW
 
 CODE = re.compile(r"`([^`]+)`")
@@ -16,13 +16,7 @@ NAMES = [name for _, _, steps in STEPS["STAGES"] for name in steps]
 
 
 def section(name, heading):
-    with open(os.path.join(TOP, name), encoding="utf-8") as file:
-        return re.split("\n### |\n## ", file.read().split("# %s\n" % heading)[1])[0]
-
-
-def git_files():
-    listed = subprocess.run(["git", "ls-files", "-co", "--exclude-standard"], cwd=TOP, check=True, stdout=subprocess.PIPE, universal_newlines=True)
-    return listed.stdout.splitlines()
+    return re.split("\n### |\n## ", text_of(name).split("# %s\n" % heading)[1])[0]
 
 
 @pytest.fixture(scope="module")
@@ -52,7 +46,7 @@ def test_each_program_says_what_it_shows(place, listed):
 @pytest.mark.needs("git")
 def test_each_test_is_listed(listed):
     """Each file of pytest and each program of the steps is in the list, by its place or as a module."""
-    names = [name for name in git_files() if re.fullmatch(r"tests/.*/test_\w+\.py", name)]
+    names = [name for name in tracked() if re.fullmatch(r"tests/.*/test_\w+\.py", name)]
     assert names and [name for name in names if "\n%s: " % name not in listed] == []
 
 
@@ -61,8 +55,7 @@ def test_slow_first(name):
     """What pytest begins with is there: a group of tests, or a file."""
     found = set()
     for path in glob.glob(os.path.join(TOP, "tests", "*", "test_*.py")):
-        with open(path, encoding="utf-8") as file:
-            found |= {os.path.basename(path)[:-len(".py")], *re.findall(r'xdist_group\("(\w+)"\)', file.read())}
+        found |= {os.path.basename(path)[:-len(".py")], *re.findall(r'xdist_group\("(\w+)"\)', text_of(path))}
     assert name in found
 
 
@@ -100,19 +93,15 @@ def test_each_program_on_demand_is_there():
 @pytest.mark.needs("git")
 def test_each_release_program_is_on_demand():
     """Each program of tests/release that can be run is in the table; so are those that tests with `--release` need."""
-    release = [name for name in git_files() if re.match(r"tests/release/\w+\.(py|sh)$", name)]
-    programs = []
-    for name in release:
-        with open(os.path.join(TOP, name), encoding="utf-8") as file:
-            if name.endswith(".sh") or "__main__" in file.read():
-                programs.append(name)
-    assert sorted(set(programs) - set(on_demand())) == []
+    release = [name for name in tracked() if re.match(r"tests/release/\w+\.(py|sh)$", name)]
+    programs = {name for name in release if name.endswith(".sh") or "__main__" in text_of(name)}
+    assert sorted(programs - set(on_demand())) == []
 
 
 @pytest.mark.needs("git")
 def test_each_place_is_explained():
     """Each folder and each file at the top, but for what Git reads, is in the table of places."""
-    places = {name.split("/")[0] + ("/" if "/" in name else "") for name in git_files()}
+    places = {name.split("/")[0] + ("/" if "/" in name else "") for name in tracked()}
     explained = set(CODE.findall(section("CONTRIBUTING.md", "Where things are")))
     assert sorted(places - explained - {".gitignore", "CONTRIBUTING.md"}) == []
 
@@ -120,5 +109,5 @@ def test_each_place_is_explained():
 @pytest.mark.needs("git")
 def test_each_page_has_readers():
     """Each page of docs/ is in the table of pages by reader."""
-    pages = [os.path.basename(name)[:-len(".md")] for name in git_files() if re.fullmatch(r"docs/\w+\.md", name)]
+    pages = [os.path.basename(name)[:-len(".md")] for name in tracked() if re.fullmatch(r"docs/\w+\.md", name)]
     assert [name for name in pages if not re.search(r"\b%s\b" % name, section("CONTRIBUTING.md", "The pages"))] == []

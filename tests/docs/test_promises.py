@@ -3,7 +3,7 @@ import os
 
 import pytest
 
-from tests import TOP
+from tests import TOP, text_of
 from tests.docs import promises
 
 FOUND = promises.clauses()
@@ -12,8 +12,7 @@ TABLE = "| Promise | Contracts and laws | Definitions | Mutant |\n|---|---|---|-
 
 
 def page(name):
-    with open(os.path.join(TOP, "docs", name + ".md"), encoding="utf-8") as file:
-        return file.read()
+    return text_of("docs", name + ".md")
 
 
 def found(text):

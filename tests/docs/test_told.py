@@ -6,18 +6,13 @@ import subprocess
 
 import pytest
 
-from tests import TOP
+from tests import TOP, text_of
 from tests.command import test_statuses
 from tests.reference import events, json_text, sketch_files
 
 TOOLS = sorted(name for name in os.listdir(os.path.join(TOP, "tools")) if name.startswith("cadf-"))
 UNITS = {"MiB": 2 ** 20, "KiB": 2 ** 10}
 USERS = "README.md docs/SECURITY.md docs/GUIDE.md docs/ERRORS.md docs/LIBRARY.md"  # a limit is in the page of its kind
-
-
-def page(*names):
-    with open(os.path.join(TOP, *names), encoding="utf-8") as file:
-        return file.read()
 
 
 def help_of(tool):
@@ -28,7 +23,7 @@ def help_of(tool):
 
 def told():
     """What FORMATS says of the command's refusals: each text, or how it begins, with its status."""
-    table = page("docs", "FORMATS.md").split("\n| Line | Status |\n")[1].split("\n\n")[0]
+    table = text_of("docs", "FORMATS.md").split("\n| Line | Status |\n")[1].split("\n\n")[0]
     for texts, status in re.findall(r"(?m)^\| ((?:`[^`]*`(?:, )?)+).*\| (\d) \|$", table):
         for text in re.findall("`([^`]*)`", texts):
             yield text, int(status)
@@ -50,7 +45,7 @@ def test_status(status, fault):
 @pytest.mark.parametrize("text", sorted({text for text, _ in told()}))
 def test_entry_of_fault(text):
     """ERRORS has an entry for each text that FORMATS has, whatever input, fact or line it begins with."""
-    entries = page("docs", "ERRORS.md").split("\n## By message\n")[1].split("\n## ")[0]
+    entries = text_of("docs", "ERRORS.md").split("\n## By message\n")[1].split("\n## ")[0]
     named = {name for line in entries.splitlines() for name in re.findall("`([^`]*)`", line.split(" | ")[0])}
     fault = re.sub(r"^(?:(?:input|fact|line) \w+: )+", "", text)
     assert fault in {"", *named}
@@ -59,7 +54,7 @@ def test_entry_of_fault(text):
 def test_statuses_of_readme():
     found = {name: status for _, status, name in test_statuses.ENDS}
     line = re.search(r"Exit status: 0 [^,]+, (\d) [^,]*refused[^,]*, (\d) [^,]*command line[^,]*, (\d) [^,]*read or write[^,]*, (\d) out of memory",
-                     page("README.md").replace("\n", " "))
+                     text_of("README.md").replace("\n", " "))
     assert [int(digit) for digit in line.groups()] == [found["input 1: not JSON"], found["cells"], found["input 1: read fault"], 4]
     assert statuses("out of memory") == {4}
 
@@ -74,7 +69,7 @@ def test_statuses_of_readme():
 ])
 def test_limit(name, text):
     """The pages have the limits at which the second implementation refuses, which the rows try on both sides: of several, one."""
-    assert any(text in page(each).replace("\n", " ") for each in name.split() if os.path.exists(os.path.join(TOP, each)))
+    assert any(text in text_of(each).replace("\n", " ") for each in name.split() if os.path.exists(os.path.join(TOP, each)))
 
 
 def number(text):
@@ -90,7 +85,7 @@ NUMBER = r"(\d[\d,]*(?:\^\d+)?(?: [MK]iB)?)"
 @pytest.mark.parametrize("tool", TOOLS)
 def test_defaults(tool):
     """The manual page has the defaults that a tool tells."""
-    manual = page("share", "man", "man1", "cadf.1").replace("\\-", "-")
+    manual = text_of("share", "man", "man1", "cadf.1").replace("\\-", "-")
     section = re.split(r"(?m)^\.S[SH] ", manual.split("\n.SS %s\n" % tool)[1])[0]
     for block in re.split(r"\n  (?=-)", help_of(tool))[1:]:
         default = re.search("default(?:: |, and at most: )" + NUMBER, block)
@@ -112,9 +107,9 @@ def test_help(tool):
 def test_figures():
     """What PERFORMANCE, GUIDE and README tell in numbers with units, and the chart, is what RESULTS has; another number there is seen."""
     told = runpy.run_path(os.path.join(TOP, "bench", "figures.py"))
-    results = page("bench", "RESULTS.md")
+    results = text_of("bench", "RESULTS.md")
     for path, said, wanted, untold in told["pages"]():
         assert (path, said, untold) == (path, wanted, [])
     assert list(told["chart"](results.replace("16,689; 28,561", "16,689; 128,561"))) != list(told["chart"](results))
-    said = page("docs", "PERFORMANCE.md")
+    said = text_of("docs", "PERFORMANCE.md")
     assert "A file: 47 s" in told["with_figures"](said, results.replace("| 46 s, 988", "| 47 s, 988"), told["FIGURES"][told["PERFORMANCE"]])[0]

@@ -1,21 +1,15 @@
 """The commands and their words stand in one table, crates/cadf_words/src/table.rt: every other place has just those."""
-import os
 import re
 
 import pytest
 
-from tests import TOP
+from tests import text_of
 from tests.command.commands import COMMANDS
 from tests.library.declarations import declared
 from tests.tables.completions import COMMANDS as NAMES, PARTS, WORDS, operands, options
 
 # How each kind of word is written in a synopsis.
 SHOWN = {"File": "{0}", "Files": "{0}...", "Text": "{0}", "Option": "[--{0} {1}]", "Unit": "--{0} UNIT", "More": "[--{0} FILE]...", "Flag": "[--{0}]"}
-
-
-def page(*names):
-    with open(os.path.join(TOP, *names), encoding="utf-8") as file:
-        return file.read()
 
 
 def shown(words):
@@ -37,7 +31,7 @@ def plain(roff):
 
 def synopses():
     """Those of the manual page."""
-    text = page("share", "man", "man1", "cadf.1").replace("\\-", "-").split(".SH DESCRIPTION")[0]
+    text = text_of("share", "man", "man1", "cadf.1").replace("\\-", "-").split(".SH DESCRIPTION")[0]
     return [plain(each) for each in re.findall(r"(?m)^(\.B cadf [a-z-]+\n(?:(?!\.br|\.SH).*\n)*)", text)]
 
 
@@ -52,12 +46,12 @@ def test_manual():
 
 @pytest.mark.parametrize("name", NAMES)
 def test_formats(name):
-    assert "\n| `%s` | " % synopsis(name) in page("docs", "FORMATS.md")
+    assert "\n| `%s` | " % synopsis(name) in text_of("docs", "FORMATS.md")
 
 
 def test_readme():
     """README has each command, with words that the command has or without any, and no other."""
-    shown = re.findall(r"`cadf ([a-z-]+)((?: [^`]*)?)`", page("README.md"))
+    shown = re.findall(r"`cadf ([a-z-]+)((?: [^`]*)?)`", text_of("README.md"))
     assert set(NAMES) <= {name for name, _ in shown} <= {*NAMES, "help"}
     for name, words in shown:
         known = re.findall(r"--[a-z-]+|[A-Z]+", synopsis(name)) if name in NAMES else []
@@ -78,9 +72,9 @@ def test_operands(name):
 
 def test_worked_flag():
     """CONTRIBUTING shows what a flag adds by lines that are there, in at most 12 files."""
-    diff = page("CONTRIBUTING.md").split("```diff\n")[1].split("```")[0]
+    diff = text_of("CONTRIBUTING.md").split("```diff\n")[1].split("```")[0]
     parts = re.split(r"(?m)^\+\+\+ (.*)\n", diff)[1:]
     assert len(parts) // 2 <= 12
     for name, lines in zip(parts[::2], parts[1::2]):
-        found = page(name).split("\n")
+        found = text_of(name).split("\n")
         assert [line for line in lines.splitlines() if line[1:] not in found] == [], name

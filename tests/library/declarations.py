@@ -3,7 +3,7 @@ import os
 import re
 import sys
 
-from tests import TOP
+from tests import TOP, text_of
 from install import library_files
 
 HEADERS, PYTHON = os.path.join(TOP, "bindings", "c"), os.path.join(TOP, "bindings", "python")
@@ -17,10 +17,6 @@ IN_C = {"Global": [], "bool": ["bool"], "u8": ["uint8_t"], "u64": ["uint64_t"], 
 IN_PYTHON = {"bool": "c_bool", "uint8_t": "c_ubyte", "uint64_t": "c_ulong", "size_t": "c_ulong", "size_t *": "LP_c_ulong",
              "uint8_t *": "c_void_p", "const struct cadf_bytes *": "LP_Bytes"}
 
-
-def text_of(*parts):
-    with open(os.path.join(TOP, *parts), encoding="utf-8") as file:
-        return file.read()
 
 def exported():
     """Each function that the crate exports, with its arguments and its result as C has them."""

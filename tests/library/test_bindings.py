@@ -10,7 +10,7 @@ import sys
 import pytest
 
 from install import library_files, needs
-from tests import TOP
+from tests import TOP, text_of
 from tests.command import vectors
 from tests.generated.compare import alike, answered
 from tests.generated.generate import KINDS_WITH_PROOFS, Case
@@ -77,11 +77,10 @@ def compiled(prefix, folder, name, source, *options):
 
 def test_files(prefix, version):
     """Each is there, or leads to one that is; that of pkg-config has the version of the command."""
-    described = os.path.join(prefix, "lib", "pkgconfig", "cadf.pc")
+    described = "lib/pkgconfig/cadf.pc"
     for name in ("include/cadf.h", "lib/libcadf.so", "lib/" + library_files.SONAME, described):
         assert os.stat(os.path.join(prefix, name)).st_size, name
-    with open(described, encoding="utf-8") as file:
-        assert "Version: %s\n" % version.split()[1] in file.read()
+    assert "Version: %s\n" % version.split()[1] in text_of(prefix, described)
 
 
 def test_symbols(prefix):
@@ -128,8 +127,7 @@ def environment(prefix):
 
 def shown_program(language):
     """The program in a language that docs/LIBRARY.md shows."""
-    with open(os.path.join(TOP, "docs", "LIBRARY.md"), encoding="utf-8") as page:
-        return re.search(r"(?ms)^```%s\n(.*?)^```$" % language, page.read()).group(1)
+    return re.search(r"(?ms)^```%s\n(.*?)^```$" % language, text_of("docs", "LIBRARY.md")).group(1)
 
 
 def test_shown_c(prefix, cadf, tmp_path):
@@ -144,8 +142,7 @@ def test_shown_c(prefix, cadf, tmp_path):
 
 def test_shown_rattle():
     """The Rattle is that of the example, which the gate proves and runs."""
-    with open(os.path.join(TOP, "crates", "two_logs", "src", "main.rt"), encoding="utf-8") as file:
-        assert shown_program("rust") in file.read()
+    assert shown_program("rust") in text_of("crates", "two_logs", "src", "main.rt")
 
 
 def test_python(prefix):

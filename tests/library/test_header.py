@@ -7,8 +7,8 @@ import sys
 import pytest
 
 from install import library_files
-from tests import TOP
-from tests.library.declarations import HEADERS, IN_PYTHON, PYTHON, STRICT, called, declared, exported, text_of
+from tests import TOP, text_of
+from tests.library.declarations import HEADERS, IN_PYTHON, PYTHON, STRICT, called, declared, exported
 
 import cadf  # noqa: E402  by tests.library.declarations
 

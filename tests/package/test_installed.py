@@ -10,7 +10,7 @@ import subprocess
 
 import pytest
 
-from tests import TOP
+from tests import TOP, text_of
 from tests.command.commands import COMMANDS
 from tests.machine import ended
 from tests.package import completions
@@ -62,11 +62,6 @@ def section(page, name):
     return re.sub(r"(?!%s )cadf-[a-z-]+ --[a-z-]+" % name, "", text)
 
 
-def page(name):
-    with open(os.path.join(TOP, "docs", name), encoding="utf-8") as file:
-        return file.read()
-
-
 @pytest.mark.needs("groff")
 def test_manual_has_no_warning(prefix):
     done = ended("groff", ["-man", "-Tascii", "-ww", "-z", str(prefix / "share/man/man1/cadf.1")])
@@ -99,7 +94,7 @@ def test_tool(run, prefix, tool):
     done, manual = run(tool, "--help"), page_of(prefix)
     assert done.status == 0
     assert set(LONG_OPTION.findall(done.output.decode())) - {"--help", "--version"} == set(LONG_OPTION.findall(section(manual, tool)))
-    assert any(tool in page(name) for name in os.listdir(os.path.join(TOP, "docs")) if name.endswith(".md"))
+    assert any(tool in text_of("docs", name) for name in os.listdir(os.path.join(TOP, "docs")) if name.endswith(".md"))
     assert (prefix / "share/man/man1" / (tool + ".1")).read_text() == ".so man1/cadf.1\n"
 
 
@@ -126,8 +121,8 @@ def test_examples_import_what_is_there(prefix):
 def test_examples_find_the_tool(prefix, monkeypatch, name, check):
     """What drives real producers makes a log of their lines by the installed tools."""
     monkeypatch.setenv("PATH", "%s%s%s" % (prefix / "bin", os.pathsep, os.environ["PATH"]))
-    with open(os.path.join(TOP, "examples", "real", "keystonemiddleware.jsonl"), encoding="utf-8") as lines:
-        check(loaded(str(prefix / "share/doc/cadf/examples" / (name + ".py"))), str(prefix / "bin/cadf"), lines.readline())
+    line = text_of("examples", "real", "keystonemiddleware.jsonl").splitlines(True)[0]
+    check(loaded(str(prefix / "share/doc/cadf/examples" / (name + ".py"))), str(prefix / "bin/cadf"), line)
 
 
 def test_take_and_report(run, prefix, tmp_path):

@@ -19,7 +19,7 @@ import itertools
 import os
 import re
 
-from tests import TOP
+from tests import TOP, text_of
 
 FOLDER = os.path.join(TOP, "mutants")
 TRIED = os.path.join(FOLDER, "tried")
@@ -67,6 +67,11 @@ class Row:
         return self.verdict.startswith(PROVES)
 
 
+def files_of(crate, part):
+    """Lists the files of a crate, or of all crates by `*`, in one of its parts: `src`, `specs` or `proofs`."""
+    return sorted(filter(os.path.isfile, glob.glob(os.path.join(TOP, "crates", crate, part, "**", "*"), recursive=True)))
+
+
 def crates():
     """Lists the crates that have a table."""
     return sorted(os.path.basename(path)[:-len(".txt")] for path in glob.glob(os.path.join(FOLDER, "*.txt")))
@@ -74,8 +79,7 @@ def crates():
 
 def read_table(crate):
     """Reads the rows of a crate."""
-    with open(os.path.join(FOLDER, crate + ".txt"), encoding="utf-8") as file:
-        blocks = re.split(r"\n\s*\n", file.read().strip())
+    blocks = re.split(r"\n\s*\n", text_of(FOLDER, crate + ".txt").strip())
     return [Row(crate, block.split("\n")) for block in blocks]
 
 
@@ -96,8 +100,7 @@ def keep_verdict(row, verdict):
 
 def source(row):
     """Reads the row's file."""
-    with open(os.path.join(TOP, "crates", row.crate, row.file), encoding="utf-8") as file:
-        return file.read()
+    return text_of("crates", row.crate, row.file)
 
 
 def bare(name):
@@ -212,23 +215,15 @@ def definitions_of(text):
 def digest_of(crate):
     """Returns the digest of a crate's clauses and definitions, whatever their comments say."""
     hasher = hashlib.sha256()
-    base = os.path.join(TOP, "crates", crate)
-    files = glob.glob(os.path.join(base, "src", "**", "*.rt"), recursive=True)
-    files += glob.glob(os.path.join(base, "specs", "**", "*.antt"), recursive=True)
-    for path in sorted(files):
-        with open(path, encoding="utf-8") as file:
-            text = file.read()
-        parts = clauses_of(text) if path.endswith(".rt") else definitions_of(text)
-        hasher.update("\n".join([os.path.relpath(path, base), *parts, ""]).encode())
+    for path in files_of(crate, "specs") + files_of(crate, "src"):
+        parts = clauses_of(text_of(path)) if path.endswith(".rt") else definitions_of(text_of(path))
+        hasher.update("\n".join([os.path.relpath(path, os.path.join(TOP, "crates", crate)), *parts, ""]).encode())
     return hasher.hexdigest()
 
 
 def read_tried():
     """Reads the digest that each crate had when its rows were last tried."""
-    if not os.path.exists(TRIED):
-        return {}
-    with open(TRIED, encoding="utf-8") as file:
-        return dict(line.split() for line in file)
+    return dict(line.split() for line in text_of(TRIED).splitlines()) if os.path.exists(TRIED) else {}
 
 
 def write_tried(crate):

@@ -3,7 +3,8 @@ import collections
 import os
 import re
 
-from tests import TOP
+from tests import TOP, text_of
+from tests.proofs import corpus
 
 USE = re.compile(r"use Rattle\.[\w.+]+(?:\.\{[^}]*\}|\s+as\s+\w+)")
 COMMENT = re.compile(r"--.*")
@@ -14,13 +15,8 @@ GENERATED = ("Answers.antt", "Goals.antt", "Invariants.antt", "Lib.antt")  # wha
 
 def sources():
     """The text of each source and proof by its path, without imports and comments."""
-    for crate in os.listdir(os.path.join(TOP, "crates")):
-        for part in ("src", "specs", "proofs"):
-            for folder, _, names in os.walk(os.path.join(TOP, "crates", crate, part)):
-                for name in names:
-                    path = os.path.join(folder, name)
-                    with open(path, encoding="utf-8") as file:
-                        yield os.path.relpath(path, TOP), COMMENT.sub("", USE.sub("", file.read()))
+    for path in (path for part in ("src", "specs", "proofs") for path in corpus.files_of("*", part)):
+        yield os.path.relpath(path, TOP), COMMENT.sub("", USE.sub("", text_of(path)))
 
 
 def definition(text, start, name):

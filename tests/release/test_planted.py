@@ -1,10 +1,9 @@
 """Each planted fault can still be placed, and its test is there."""
-import os
 import re
 
 import pytest
 
-from tests import TOP
+from tests import text_of
 from tests.release.planted import ROWS
 
 
@@ -14,8 +13,6 @@ def test_names():
 
 @pytest.mark.parametrize("row", ROWS, ids=[row.name for row in ROWS])
 def test_placed(row):
-    with open(os.path.join(TOP, row.file), encoding="utf-8") as file:
-        assert file.read().count(row.right) == 1
+    assert text_of(row.file).count(row.right) == 1
     place, _, name = row.aim.partition(" -k ")
-    with open(os.path.join(TOP, place), encoding="utf-8") as file:
-        assert row.right != row.wrong and re.search(r"(?m)^def (?=test_)\w*%s" % name, file.read())
+    assert row.right != row.wrong and re.search(r"(?m)^def (?=test_)\w*%s" % name, text_of(place))

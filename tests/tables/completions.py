@@ -3,7 +3,7 @@ import os
 import re
 from typing import NamedTuple
 
-from tests import TOP
+from tests import TOP, text_of
 
 COMMAND = re.compile(r'\(\s*"([a-z-]+)",\s*"([^"]*)",?\s*\)')
 WORD = re.compile(r'\(\s*"([a-z-]+)",\s*"([A-Za-z-]+)",\s*Kind::(\w+)(?:\("(\w+)"\))?,\s*"([^"]*)",?\s*\)')
@@ -22,9 +22,8 @@ class Word(NamedTuple):
         return UNITS if self.kind == "Unit" else " ".join(re.findall(r"\b[A-Z]\b", self.help)) if self.name == "LETTER" else ""
 
 
-with open(os.path.join(TOP, "crates", "cadf_words", "src", "table.rt"), encoding="utf-8") as table:
-    # The text of each part: the commands, their words, and the units.
-    PARTS = [part.split("];\n")[0] for part in re.split(r"\nconst [A-Z]+: ", table.read())[1:]]
+# The text of each part of the table: the commands, their words, and the units.
+PARTS = [part.split("];\n")[0] for part in re.split(r"\nconst [A-Z]+: ", text_of("crates", "cadf_words", "src", "table.rt"))[1:]]
 COMMANDS = dict(COMMAND.findall(PARTS[0]))
 WORDS = {name: [Word(*word) for word in WORD.findall(PARTS[1]) if word[0] == name] for name in COMMANDS}
 UNITS = " ".join(re.findall(r'"(\w+)"', PARTS[2]))

@@ -17,7 +17,7 @@ import os
 import re
 import sys
 
-from tests import TOP
+from tests import TOP, text_of
 from tests.tables import completions
 from tests.tables.fields import line
 
@@ -38,8 +38,7 @@ def headings():
     found = set()
     for path in glob.glob(os.path.join(TOP, "docs", "*.md")):
         page = os.path.basename(path)[:-3]
-        with open(path, encoding="utf-8") as file:
-            named = re.findall(r"(?m)^#+ (.*)$", file.read())
+        named = re.findall(r"(?m)^#+ (.*)$", text_of(path))
         found.update("%s: %s" % (page, heading) for heading in named)
         if page == "FORMATS":
             found.update(named)
