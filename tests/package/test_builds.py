@@ -54,86 +54,89 @@ chmod 755 "$2"
 '''
 
 
-def make(tree):
-    """Makes the tree, with its history."""
-    for name in ("build", "install"):
-        shutil.copytree(os.path.join(TOP, name), os.path.join(tree, name), ignore=shutil.ignore_patterns("__pycache__"))
-    os.makedirs(os.path.join(tree, "kit", "bin"))
-    os.mkdir(os.path.join(tree, "kit", "rlibs"))
+def make(tree, *folders):
+    """Makes the tree, with these folders of this one, and with its history."""
+    for name in folders:
+        shutil.copytree(os.path.join(TOP, name), tree / name, ignore=shutil.ignore_patterns("__pycache__"))
+    (tree / "kit" / "bin").mkdir(parents=True)
+    (tree / "kit" / "rlibs").mkdir()
     for name, text in {"rt": RT, "rattle": RATTLE, "rattle-link": LINK}.items():
-        with open(os.path.join(tree, "kit", "bin", name), "w", encoding="utf-8") as file:
-            file.write(text)
-        os.chmod(file.name, 0o755)
+        (tree / "kit" / "bin" / name).write_text(text)
+        (tree / "kit" / "bin" / name).chmod(0o755)
     for name in CRATES:
-        os.makedirs(os.path.join(tree, "crates", name, "src"))
-        with open(os.path.join(tree, "crates", name, "src", "lib.rt"), "w", encoding="utf-8") as file:
-            file.write("//! The crate %s.\n" % name)
-            file.write("// A line of a long crate.\n" * (700 if name == "low" else 0))
-    with open(os.path.join(tree, "crates.txt"), "w", encoding="utf-8") as file:
-        file.writelines("%s: %s std\n" % (name, " ".join(uses)) for name, uses in CRATES.items())
-    with open(os.path.join(tree, ".gitignore"), "w", encoding="utf-8") as file:
-        file.write("crates/*/out/\n")
-    for words in (["init", "-q"], ["add", "."], ["-c", "user.name=n", "-c", "user.email=n@n", "commit", "-qm", "Begin"]):
+        (tree / "crates" / name / "src").mkdir(parents=True)
+        more = "// A line of a long crate.\n" * (700 if name == "low" else 0)
+        (tree / "crates" / name / "src" / "lib.rt").write_text("//! The crate %s.\n%s" % (name, more))
+    (tree / "crates.txt").write_text("".join("%s: %s std\n" % (name, " ".join(uses)) for name, uses in CRATES.items()))
+    (tree / ".gitignore").write_text("crates/*/out/\n")
+    subprocess.run(["git", "init", "-q"], cwd=tree, check=True)
+    commit(tree)
+
+
+def commit(tree):
+    for words in (["add", "."], ["-c", "user.name=n", "-c", "user.email=n@n", "commit", "-qm", "Change"]):
         subprocess.run(["git", *words], cwd=tree, check=True)
 
 
 class Tree:
     def __init__(self, folder):
-        self.folder, self.told = folder, os.path.join(folder, "told")
+        self.folder, self.told = folder, folder / "told"
 
     def environment(self, more):
-        kit = os.path.join(self.folder, "kit")
-        path = os.path.join(kit, "bin") + os.pathsep + os.environ["PATH"]
-        return {**os.environ, "PATH": path, "KIT": kit, "TOLD": self.told, **more}
+        kit = self.path("kit")
+        path = str(kit / "bin") + os.pathsep + os.environ["PATH"]
+        return {**os.environ, "PATH": path, "KIT": str(kit), "TOLD": str(self.told), **more}
 
-    def start(self, *words, **more):
-        open(self.told, "w", encoding="utf-8").close()
-        return self.start_beside(*words, **more)
+    def start(self, program, *words, **more):
+        """Starts a program of the tree, and forgets what was told before."""
+        self.told.write_text("")
+        return self.start_beside(program, *words, **more)
 
-    def start_beside(self, *words, **more):
-        return subprocess.Popen([os.path.join(self.folder, "build", "command"), *words], env=self.environment(more),
+    def start_beside(self, program, *words, **more):
+        return subprocess.Popen([self.path(program), *words], env=self.environment(more),
                                 stdout=subprocess.PIPE, stderr=subprocess.STDOUT, universal_newlines=True)
 
-    def build(self, *words, **more):
-        """Runs the build to its end, and answers its status and what it said."""
-        child = self.start(*words, **more)
+    def run(self, program, *words, **more):
+        """Runs a program of the tree to its end, and answers its status and what it said."""
+        child = self.start(program, *words, **more)
         said = child.communicate(timeout=60)[0]
         return child.returncode, said
 
+    def build(self, *words, **more):
+        return self.run("build/command", *words, **more)
+
     def events(self):
-        with open(self.told, encoding="utf-8") as file:
-            return [line.split() for line in file]
+        return [line.split() for line in self.told.read_text().splitlines()]
 
     def begun(self):
         return [event[1] for event in self.events() if event[0] == "begins"]
 
     def path(self, *parts):
-        return os.path.join(self.folder, *parts)
+        return self.folder.joinpath(*parts)
 
     def record(self):
-        with open(self.path("crates", "cadf", "out", "cadf.built"), encoding="utf-8") as file:
-            return file.read()
+        return self.path("crates/cadf/out/cadf.built").read_text()
 
-    def add(self, *parts):
+    def add(self, path, line="// More.\n"):
         """Adds a line to a file, which need not be there."""
-        os.makedirs(os.path.dirname(self.path(*parts)), exist_ok=True)
-        with open(self.path(*parts), "a", encoding="utf-8") as file:
-            file.write("// More.\n")
+        self.path(path).parent.mkdir(parents=True, exist_ok=True)
+        with self.path(path).open("a") as file:
+            file.write(line)
 
     def is_quiet(self):
         """Whether no process that a stand-in was is left, nor one that it started."""
         for name in filter(str.isdigit, os.listdir("/proc")):
             with contextlib.suppress(OSError):
                 with open("/proc/%s/environ" % name, "rb") as file:
-                    if os.fsencode(self.told) in file.read():
+                    if bytes(self.told) in file.read():
                         return False
         return True
 
 
 @pytest.fixture
 def tree(tmp_path):
-    make(tmp_path)
-    return Tree(str(tmp_path))
+    make(tmp_path, "build", "install")
+    return Tree(tmp_path)
 
 
 @pytest.fixture
@@ -178,28 +181,25 @@ def test_other_processor(built):
 
 
 @pytest.mark.parametrize("file, again", [
-    (("crates", "left", "src", "lib.rt"), ["cadf", "left"]),
-    (("crates", "left", "specs", "Lib.antt"), ["cadf", "left"]),
-    (("crates", "left", "proofs", "lib", "Answers.antt"), ["cadf", "left"]),
-    (("crates", "low", "specs", "Lib.antt"), ["cadf", "left", "low", "right"]),
+    ("crates/left/src/lib.rt", ["cadf", "left"]),
+    ("crates/left/specs/Lib.antt", ["cadf", "left"]),
+    ("crates/left/proofs/lib/Answers.antt", ["cadf", "left"]),
+    ("crates/low/specs/Lib.antt", ["cadf", "left", "low", "right"]),
 ])
 def test_changed(built, file, again):
     """After a change the command is not taken for built, and what stands on it is proved again, and nothing else."""
-    built.add(*file)
+    built.add(file)
     status, said = built.build("--is-built")
     assert status == 1 and "the sources are others now" in said
-    ran = subprocess.run([built.path("install", "install"), built.path("prefix")], env=built.environment({}), check=False,
-                         stdout=subprocess.DEVNULL, stderr=subprocess.DEVNULL)
-    assert ran.returncode and not os.path.exists(built.path("prefix")), "install/install took a command of other sources"
+    prefix = built.path("prefix")
+    assert built.run("install/install", prefix)[0] and not prefix.exists(), "install/install took a command of other sources"
     assert (built.build()[0], sorted(built.begun())) == (0, again)
 
 
 def test_changed_uses(built):
     """A crate whose line of crates.txt changes is proved again."""
-    with open(built.path("crates.txt"), encoding="utf-8") as file:
-        text = file.read()
-    with open(built.path("crates.txt"), "w", encoding="utf-8") as file:
-        file.write(text.replace("left: low std\n", "left: low std hex\n"))
+    listed = built.path("crates.txt")
+    listed.write_text(listed.read_text().replace("left: low std\n", "left: low std hex\n"))
     assert (built.build()[0], sorted(built.begun())) == (0, ["cadf", "left"])
 
 
@@ -210,16 +210,16 @@ def test_other_kit(built):
 
 def test_no_kit(tree):
     """Without the kit it says so in one line, and so does the first look."""
-    os.mkdir(tree.path("bin"))
-    os.symlink(sys.executable, tree.path("bin", "python3"))
-    assert tree.build(PATH=tree.path("bin")) == (1, "`rt version` answers nothing: the kit isn't on PATH\n")
-    done = ended(tree.path("build", "try"), ["show"], env={"PATH": tree.path("bin")})
+    tree.path("bin").mkdir()
+    tree.path("bin/python3").symlink_to(sys.executable)
+    assert tree.build(PATH=str(tree.path("bin"))) == (1, "`rt version` answers nothing: the kit isn't on PATH\n")
+    done = ended(tree.path("build/try"), ["show"], env={"PATH": str(tree.path("bin"))})
     assert (done.status, done.error) == (1, b"try: the kit isn't on PATH: rt: No such file or directory\n")
 
 
 def test_changed_below(built):
     """What stands on a crate that was proved anew is proved again, also where the build ended between them."""
-    built.add("crates", "low", "src", "lib.rt")
+    built.add("crates/low/src/lib.rt")
     assert built.build("1", FAILS="left")[0] == 1
     assert [event[1] for event in built.events() if event[0] == "ends"] == ["low"]
     assert (built.build()[0], sorted(built.begun())) == (0, ["cadf", "left", "right"])
@@ -228,7 +228,7 @@ def test_changed_below(built):
 @pytest.mark.parametrize("name", ["right", "cadf"])
 def test_changing(built, name):
     """A crate that changes while it or one above it is proved isn't taken for proved."""
-    built.add("crates", "right", "src", "lib.rt")
+    built.add("crates/right/src/lib.rt")
     status, said = built.build(CHANGES=name + " right")
     assert status == 1 and "were changed while they were proved" in said
     assert (built.build()[0], built.begun()) == (0, ["right", "cadf"])
@@ -236,15 +236,15 @@ def test_changing(built, name):
 
 def test_together(tree):
     """A second build waits for the first, and then has nothing to do. What an earlier version left is removed."""
-    os.makedirs(tree.path(".git", "cadf-build", "rooms", "low"))
-    first = tree.start(PAUSE="1")
+    tree.path(".git/cadf-build/rooms/low").mkdir(parents=True)
+    first = tree.start("build/command", PAUSE="1")
     while not tree.begun():
         time.sleep(0.05)
-    second = tree.start_beside()
+    second = tree.start_beside("build/command")
     said = [child.communicate(timeout=60)[0] for child in (first, second)]
     assert (first.returncode, second.returncode) == (0, 0) and "this one waits" in said[1], said
     assert sorted(tree.begun()) == sorted(CRATES)
-    assert not os.path.exists(tree.path(".git", "cadf-build", "rooms"))
+    assert not tree.path(".git/cadf-build/rooms").exists()
 
 
 def test_failing(tree):
@@ -257,7 +257,7 @@ def test_failing(tree):
 @pytest.mark.parametrize("sign", [signal.SIGINT, signal.SIGTERM, signal.SIGKILL])
 def test_cut_off(tree, sign):
     """A build that is ended, or killed, leaves what was proved, and the next goes on."""
-    child = tree.start("4", PAUSE="5")
+    child = tree.start("build/command", "4", PAUSE="5")
     while "left" not in tree.begun():
         time.sleep(0.05)
     child.send_signal(sign)
@@ -265,33 +265,31 @@ def test_cut_off(tree, sign):
     if sign != signal.SIGKILL:
         assert tree.is_quiet()
     assert tree.build()[0] == 0 and "low" not in tree.begun()
-    assert os.path.exists(tree.path("crates", "cadf", "out", "cadf"))
+    assert tree.path("crates/cadf/out/cadf").exists()
     assert tree.is_quiet()
 
 
 def library(tree, *words, **more):
     """Runs build/library. Returns the crates that it has proved, and the archive."""
-    open(tree.told, "w", encoding="utf-8").close()
-    subprocess.run([tree.path("build", "library"), *words], env=tree.environment(more), check=True, stdout=subprocess.DEVNULL)
-    with open(tree.path("crates", "cadf_c", "out", "libcadf_c.a"), encoding="utf-8") as file:
-        return tree.begun(), file.read()
+    status, said = tree.run("build/library", *words, **more)
+    assert status == 0, said
+    return tree.begun(), tree.path("crates/cadf_c/out/libcadf_c.a").read_text()
 
 
 def test_library(tree):
     """The archive that `rt ci` has removed is put back, and nothing is proved, until a crate below, the processor or the kit is another."""
-    tree.add("crates", "cadf_c", "src", "lib.rt")
-    with open(tree.path("crates.txt"), "a", encoding="utf-8") as file:
-        file.write("cadf_c staticlib: left low\n")
+    tree.add("crates/cadf_c/src/lib.rt")
+    tree.add("crates.txt", "cadf_c staticlib: left low\n")
     proved, archive = library(tree)
     assert proved == ["low", "left", "cadf_c"]
     for words in ((), ("--over-ci",), ()):
-        shutil.rmtree(tree.path("crates", "cadf_c", "out"))
+        shutil.rmtree(tree.path("crates/cadf_c/out"))
         assert library(tree, *words) == ([], archive)
     assert library(tree, "--cpu", "x86-64-v3")[0] == ["cadf_c"]
-    tree.add("crates", "left", "specs", "Lib.antt")
+    tree.add("crates/left/specs/Lib.antt")
     assert library(tree)[0] == ["left", "cadf_c"]
-    tree.add("crates", "left", "specs", "Lib.antt")
+    tree.add("crates/left/specs/Lib.antt")
     for name in ("low", "left"):
-        os.makedirs(tree.path("crates", name, "out", "rlib"))
+        tree.path("crates", name, "out/rlib").mkdir(parents=True)
     assert library(tree, "--over-ci")[0] == ["cadf_c"]
     assert library(tree, VERSION="another")[0] == ["low", "left", "cadf_c"]
