@@ -1,6 +1,21 @@
 """Fresh Debians in folders, and what went well of the trials in one."""
+import argparse
 import os
 import subprocess
+
+
+def options(about):
+    """The parser of the options that each script has which makes a Debian."""
+    parser = argparse.ArgumentParser(description=about, formatter_class=argparse.RawDescriptionHelpFormatter)
+    parser.add_argument("--suite", default="bookworm")
+    parser.add_argument("--root", metavar="ROOT.tar")
+    return parser
+
+
+def run(*words, **options):
+    """The status of a command, and what it says."""
+    done = subprocess.run(words, check=False, stdin=subprocess.DEVNULL, stdout=subprocess.PIPE, stderr=subprocess.STDOUT, **options)
+    return done.returncode, done.stdout.decode("utf-8", "replace")
 
 
 def make(suite, programs, archive, folder):

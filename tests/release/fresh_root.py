@@ -11,10 +11,8 @@ if that is given; a ROOT.tar that is there is taken. All else runs without a net
 - man, apropos, and both shells' completions at a terminal.
 - Nothing is left when it is removed, and nothing is known of it when it is purged.
 """
-import argparse
 import os
 import shutil
-import subprocess
 import sys
 import tempfile
 
@@ -47,8 +45,7 @@ class Root(debian.Trials):
                    "--bind", self.folder, "/", "--dev", "/dev", "--proc", "/proc", "--tmpfs", "/tmp", "--chdir", TRIAL]
         for item in ENVIRONMENT.items():
             sandbox += ["--setenv", *item]
-        done = subprocess.run([*sandbox, *words], check=False, stdin=subprocess.DEVNULL, stdout=subprocess.PIPE, stderr=subprocess.STDOUT)
-        return done.returncode, done.stdout.decode("utf-8", "replace")
+        return debian.run(*sandbox, *words)
 
     def tries(self, what, words, shows=""):
         """Expects that the words end with status 0, and show this text."""
@@ -108,9 +105,7 @@ def tries_all(root):
 
 
 def main():
-    parser = argparse.ArgumentParser(description=__doc__, formatter_class=argparse.RawDescriptionHelpFormatter)
-    parser.add_argument("--suite", default="bookworm")
-    parser.add_argument("--root", metavar="ROOT.tar")
+    parser = debian.options(__doc__)
     parser.add_argument("package", metavar="PACKAGE")
     options = parser.parse_args()
     with tempfile.TemporaryDirectory(prefix="cadf-root-") as folder:
