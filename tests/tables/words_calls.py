@@ -1,218 +1,39 @@
 """The command line: which words are taken, and what is told of them.
 
-How help and refusals are worded is clap's, and no page fixes it. Their texts stand here as the command of version 0.1.0
-printed them, so that a change of one is seen.
+How help and refusals are worded is clap's, and no page fixes it. What help says of each word is made of the table of words, as clap
+lays it out; crates/drivers/stdout keeps it, so that a change is seen. Refusals stand here as version 0.1.0 printed them.
 """
+from tests.tables.completions import COMMANDS, UNITS, operands, options
 
 CALLS = {"parse": ["parse"]}
 
 PAGE = "The command line"
+# What help shows behind the name of an option.
+TAKES = {"Option": " <{0.value}>", "Unit": " <UNIT>", "More": " <FILE>", "Flag": ""}
+POSSIBLE = "[possible values: %s]" % ", ".join(UNITS.split())
+
+
+def part(title, pairs):
+    """A part of a help: words, and behind the longest of them what is said of each."""
+    width = max(len(word) for word, _ in pairs)
+    return "\n%s:\n%s" % (title, "".join("  %-*s  %s\n" % (width, *pair) for pair in pairs))
+
+
+def help_of(name):
+    """The help of a command."""
+    shown = [(" " * 4 + "--" + word.name + TAKES[word.kind].format(word), word.help + (" " + POSSIBLE) * (word.kind == "Unit"))
+             for word in options(name)]
+    taken = [("<%s>%s" % (word.name, "..." * (word.kind == "Files")), word.help) for word in operands(name)]
+    usage = ["[OPTIONS]"] * bool(shown) + ["--%s <UNIT>" % word.name for word in options(name) if word.kind == "Unit"]
+    return "%s\n\nUsage: cadf %s\n" % (COMMANDS[name], " ".join([name, *usage, *(word for word, _ in taken)])) \
+        + part("Arguments", taken) + part("Options", [*shown, ("-h, --help", "Print help")])
+
 
 # What is told of the program and of each command, by the command's name.
-HELP = {
-    "": """\
-Keeps replicas of a CADF log and makes them converge
-
-Usage: cadf <COMMAND>
-
-Commands:
-  join               Merges the inputs into one replica file
-  split              Merges the inputs, and writes a replica file for each month, day or hour
-  missing            Writes the facts of FROM that TO lacks, as a replica file
-  missing-by         Writes the facts of FROM that INVENTORY doesn't list, as a replica file
-  inventory          Lists the digests of all facts in the files
-  sketch             Writes a short sketch of the digests of all facts in the files
-  missing-by-sketch  Writes the facts of FROM that the site of SKETCH lacks, as a replica file
-  seal               Writes the number of facts in the files, and one hash of all of them
-  prove              Writes a proof of which FACTS are in the files, and which are not
-  verify             Checks FACTS against SEAL by PROOF, without the files
-  rule               Merges the inputs, and adds a ruling on a conflict
-  rehearse           Simulates a schedule, and counts the facts that each site ends with
-  show               Prints the log in the files as JSON
-  check              Reads the files whole, and counts their facts and their conflicts
-  help               Print this message or the help of the given subcommand(s)
-
-Options:
-  -h, --help     Print help
-  -V, --version  Print version
-""",
-    "join": """\
-Merges the inputs into one replica file
-
-Usage: cadf join [OPTIONS] <FILE>...
-
-Arguments:
-  <FILE>...  Replica files, logs or events
-
-Options:
-      --log <ID>  The log's identifier, else that of the first input that names one
-  -h, --help      Print help
-""",
-    "split": """\
-Merges the inputs, and writes a replica file for each month, day or hour
-
-Usage: cadf split [OPTIONS] --by <UNIT> <FILE>...
-
-Arguments:
-  <FILE>...  Replica files, logs or events
-
-Options:
-      --by <UNIT>  How long a part is, in UTC [possible values: month, day, hour]
-      --log <ID>   The log's identifier, else that of the first input that names one
-  -h, --help       Print help
-""",
-    "missing": """\
-Writes the facts of FROM that TO lacks, as a replica file
-
-Usage: cadf missing [OPTIONS] <FROM> <TO>
-
-Arguments:
-  <FROM>  The sender's file
-  <TO>    The receiver's file, as it is or was
-
-Options:
-      --from <FILE>  A further file of the sender's
-      --to <FILE>    A further file of the receiver's
-  -h, --help         Print help
-""",
-    "missing-by": """\
-Writes the facts of FROM that INVENTORY doesn't list, as a replica file
-
-Usage: cadf missing-by [OPTIONS] <FROM> <INVENTORY>
-
-Arguments:
-  <FROM>       The sender's file
-  <INVENTORY>  The receiver's inventory, as it is or was
-
-Options:
-      --from <FILE>  A further file of the sender's
-  -h, --help         Print help
-""",
-    "inventory": """\
-Lists the digests of all facts in the files
-
-Usage: cadf inventory <FILE>...
-
-Arguments:
-  <FILE>...  Replica files, logs or events
-
-Options:
-  -h, --help  Print help
-""",
-    "sketch": """\
-Writes a short sketch of the digests of all facts in the files
-
-Usage: cadf sketch [OPTIONS] <FILE>...
-
-Arguments:
-  <FILE>...  Replica files, logs or events
-
-Options:
-      --cells <N>  How many cells, a multiple of 3 from 3 to 12582912, else 198
-      --salt <A>   An odd number below 2^64, else one that follows from the digests
-  -h, --help       Print help
-""",
-    "missing-by-sketch": """\
-Writes the facts of FROM that the site of SKETCH lacks, as a replica file
-
-Usage: cadf missing-by-sketch [OPTIONS] <FROM> <SKETCH>
-
-Arguments:
-  <FROM>    The sender's file
-  <SKETCH>  The receiver's sketch, as it is or was
-
-Options:
-      --from <FILE>  A further file of the sender's
-  -h, --help         Print help
-""",
-    "seal": """\
-Writes the number of facts in the files, and one hash of all of them
-
-Usage: cadf seal <FILE>...
-
-Arguments:
-  <FILE>...  Replica files, logs or events
-
-Options:
-  -h, --help  Print help
-""",
-    "prove": """\
-Writes a proof of which FACTS are in the files, and which are not
-
-Usage: cadf prove <FACTS> <FILE>...
-
-Arguments:
-  <FACTS>    What is asked for: a log, an event or a replica file
-  <FILE>...  Replica files, logs or events
-
-Options:
-  -h, --help  Print help
-""",
-    "verify": """\
-Checks FACTS against SEAL by PROOF, without the files
-
-Usage: cadf verify [OPTIONS] <SEAL> <FACTS> <PROOF>
-
-Arguments:
-  <SEAL>   The seal of the files
-  <FACTS>  What is asked for: a log, an event or a replica file
-  <PROOF>  The proof that was made for these facts
-
-Options:
-      --absent  Check that none of the facts is in the sealed files
-  -h, --help    Print help
-""",
-    "rule": """\
-Merges the inputs, and adds a ruling on a conflict
-
-Usage: cadf rule <LETTER> <KEY> <PLACE> <FILE>...
-
-Arguments:
-  <LETTER>   The key's kind: E event, G geolocation, M metric, P property, R resource
-  <KEY>      The identifier or the name that has several values
-  <PLACE>    Which of them is to be shown, from 1 in their order
-  <FILE>...  Replica files, logs or events
-
-Options:
-  -h, --help  Print help
-""",
-    "rehearse": """\
-Simulates a schedule, and counts the facts that each site ends with
-
-Usage: cadf rehearse <LOG> <SITES> <SCRIPT>
-
-Arguments:
-  <LOG>     The identifier of the log that the sites keep
-  <SITES>   How many sites there are, 1 to 64
-  <SCRIPT>  What the sites learn and send each other, a turn a line
-
-Options:
-  -h, --help  Print help
-""",
-    "show": """\
-Prints the log in the files as JSON
-
-Usage: cadf show [OPTIONS] <FILE>...
-
-Arguments:
-  <FILE>...  Replica files, logs or events
-
-Options:
-      --conflicts  Print the keys with several values instead
-  -h, --help       Print help
-""",
-    "check": """\
-Reads the files whole, and counts their facts and their conflicts
-
-Usage: cadf check <FILE>...
-
-Arguments:
-  <FILE>...  Replica files, logs or events
-
-Options:
-  -h, --help  Print help
-""",
-}
+HELP = {"": "Keeps replicas of a CADF log and makes them converge\n\nUsage: cadf <COMMAND>\n"
+        + part("Commands", [*COMMANDS.items(), ("help", "Print this message or the help of the given subcommand(s)")])
+        + part("Options", [("-h, --help", "Print help"), ("-V, --version", "Print version")])}
+HELP.update((name, help_of(name)) for name in COMMANDS)
 HELP_OF_HELP = """\
 Print this message or the help of the given subcommand(s)
 
@@ -269,7 +90,7 @@ TAKEN = [
 # Words that are refused: the fault, with a tip where there is one, and the usage behind it.
 REFUSED = [
     ([], "'cadf' requires a subcommand but one was not provided\n"
-         "  [subcommands: join, split, missing, missing-by, inventory, sketch, missing-by-sketch, seal, prove, verify, rule, rehearse, show, check, help]", "<COMMAND>"),
+         "  [subcommands: %s, help]" % ", ".join(COMMANDS), "<COMMAND>"),
     ([""], "unrecognized subcommand ''", "<COMMAND>"),
     (["nothing"], "unrecognized subcommand 'nothing'\n\n  tip: a similar subcommand exists: 'join'", "<COMMAND>"),
     (["shwo", "a"], "unrecognized subcommand 'shwo'\n\n  tip: a similar subcommand exists: 'show'", "<COMMAND>"),
@@ -341,9 +162,9 @@ ROWS += [row([flag], ["help", "cadf 0.1.0\n"]) for flag in ("--version", "-V")]
 ROWS += [row(words, ["ok", *fields]) for words, fields in TAKEN]
 ROWS += [row(words, ["refused", refusal(fault, usage)]) for words, fault, usage in REFUSED]
 ROWS += [row(["split", "--by", unit, "a"], ["refused", "error: invalid value '%s' for '--by <UNIT>'\n"
-              "  [possible values: month, day, hour]%s\n\nFor more information, try '--help'.\n" % (unit, tip)])
+              "  %s%s\n\nFor more information, try '--help'.\n" % (unit, POSSIBLE, tip)])
          for unit, tip in (("week", ""), ("Day", "\n\n  tip: a similar value exists: 'day'"), ("2024", ""))]
 ROWS += [row(["split", "--by=", "a"], ["refused", "error: a value is required for '--by <UNIT>' but none was supplied\n"
-                                       "  [possible values: month, day, hour]\n\nFor more information, try '--help'.\n"])]
+                                       "  %s\n\nFor more information, try '--help'.\n" % POSSIBLE])]
 ROWS += [row(["join", "--log"], ["refused", "error: a value is required for '--log <ID>' but none was supplied\n\n"
                                  "For more information, try '--help'.\n"])]
