@@ -1,28 +1,15 @@
 """Worked rows of documents: what each is shown as, and why one is refused.
 
-    from document_rows import SHOWN, TOLD, REFUSED
+    from document_rows import WRITTEN, REFUSED
 """
-from tests.tables.texts import EVT, MEMBERS, S1, S2, S3, V1, V2, VF, document, nested
+from tests.tables.texts import EVT, S1, S2, S3, USUAL, V1, V2, VF, conflicts, document, entry, event, log, nested
 from tests.tables.worked_files import R1
 
-LOG_END = '"typeURI":"http://schemas.dmtf.org/cloud/audit/1.0/log"}\n'
-USUAL = (
-    '{"typeURI":"%s","id":"openstack:7f3e","eventType":"activity","eventTime":"2014-02-14T01:20:47.932842+0000",'
-    '"action":"read/list","outcome":"success","observer":{"id":"target"},'
-    '"initiator":{"id":"u1","typeURI":"service/security/account/user"},"target":{"id":"t1"},'
-    '"reporterchain":[{"role":"modifier","reporterTime":"2014-02-14T01:20:47.932842+00:00","reporter":{"id":"target"}}],'
-    '"tags":["correlation_id?value=9"]}' % EVT)
 USUAL_SHOWN = (
     '{"action":"read/list","eventTime":"2014-02-14T01:20:47.932842Z","eventType":"activity","id":"openstack:7f3e",'
     '"initiator":{"id":"u1","typeURI":"service/security/account/user"},"observer":{"id":"target"},"outcome":"success",'
     '"reporterchain":[{"reporter":{"id":"target"},"reporterTime":"2014-02-14T01:20:47.932842Z","role":"modifier"}],'
     '"tags":["correlation_id?value=9"],"target":{"id":"t1"},"typeURI":"%s"}' % EVT)
-
-
-def event(**changed):
-    """The usual event with these members, whose values are JSON, as canonical text; without one whose value is empty."""
-    members = {**MEMBERS, **changed}
-    return "{" + ",".join('"%s":%s' % (name, members[name]) for name in sorted(members) if members[name]) + "}"
 
 
 def at(time, name="e1"):
@@ -33,23 +20,6 @@ def at(time, name="e1"):
 def measured(result):
     """The usual event with a measurement."""
     return event(measurements='[{"metricId":"m1","result":%s}]' % result)
-
-
-def log(*events, more="", resources=""):
-    """The log text of these events."""
-    return '{"events":[%s],"geolocations":[],"id":"g","metrics":[],%s"resources":[%s],%s' % (
-        ",".join(events), more, resources, LOG_END)
-
-
-def conflicts(*entries, rulings=""):
-    """The conflict text of these entries."""
-    return '{"conflicts":[%s],"log":"g","rulings":[%s]}\n' % (",".join(entries), rulings)
-
-
-def entry(kind, key, *values, ruled=""):
-    """The entry of a conflicted key; `ruled` is the digest of the value that is ruled."""
-    member = '"ruled":"%s",' % ruled if ruled else ""
-    return '{"key":"%s","kind":"%s",%s"values":[%s]}' % (key, kind, member, ",".join(values))
 
 ONE, BOTH = event(reporterchain="[%s]" % S1), event(reporterchain="[%s,%s]" % (S1, S2),
                                                      reporterchains="[[%s],[%s,%s]]" % (S1, S1, S2))
@@ -76,7 +46,7 @@ SHOWN = [
     ("the greatest whole number", document(measured(2**64 - 1)), log(measured(2**64 - 1))),
     ("the least whole number", document(measured(-2**63)), log(measured(-2**63))),
     ("a number as text", document(measured('"1.5"')), log(measured('"1.5"'))),
-    ("a property and a resource", NORTH, log(more='"name":"north",', resources=R1)),
+    ("a property and a resource", NORTH, log(name='"north"', resources="[%s]" % R1)),
     ("an outcome with a path", document(event(outcome='"success/partial"')), log(event(outcome='"success/partial"'))),
     ("tags that are null", document(event(tags="null")), log(V1)),
     ("a chain that is empty among others", document(event(reporterchains="[[%s],[],[%s,%s]]" % (S1, S1, S2))), log(BOTH)),
@@ -144,7 +114,7 @@ EVENTS_REFUSED += [
 ]
 
 # Inputs, and why they are refused.
-REFUSED = [(name, document(one), said) for name, one, said in EVENTS_REFUSED] + [
+DOCUMENTS_REFUSED = [(name, document(one), said) for name, one, said in EVENTS_REFUSED] + [
     ("four bytes of a file's first line", "CADF", "not JSON"),
     ("five bytes of a file's first line", "CADF-", "truncated"),
     ("no byte", "", "not JSON"),
@@ -160,3 +130,7 @@ REFUSED = [(name, document(one), said) for name, one, said in EVENTS_REFUSED] + 
     ("127 lists", nested(127), "event 0: not an object"),
     ("128 lists", nested(128), "not JSON"),
 ]
+
+WRITTEN = [(name, "show", [text], output) for name, text, output in SHOWN + AT_LIMITS]
+WRITTEN += [(name, "show --conflicts", [text], output) for name, text, output in TOLD]
+REFUSED = [(name, "show", [text], "input 1: " + said) for name, text, said in DOCUMENTS_REFUSED]

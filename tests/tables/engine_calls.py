@@ -7,10 +7,10 @@ what differs from the one before.
 import re
 
 from tests.tables import rows as worked, sketch_rows as sketched, split_rows, worked_files as made
-from tests.tables.document_rows import BOTH, NORTH, conflicts, log
+from tests.tables.document_rows import BOTH, NORTH
 from tests.tables.exchange_rows import OTHER_LOG
 from tests.tables.seal_rows import proof, seal
-from tests.tables.texts import C1, C2, CF, K1, KF, V1, V2, digits, document, inventory, replica
+from tests.tables.texts import C1, C2, CF, K1, KF, V1, V2, conflicts, data, digits, document, inventory, log, replica
 
 CALLS = {
     "each": [],
@@ -46,10 +46,6 @@ CALLS = {
 COMMANDS, FAULTS, STREAMS = "What the commands write", "Fault lines", "ARCHITECTURE: Inputs and outputs"
 ALL = 4096  # more bytes than any reader here has
 EMPTY_LOG = document()
-
-
-def data(text):
-    return text.encode("utf-8", "surrogateescape")
 
 
 def reader(text, piece=ALL, failing=0):

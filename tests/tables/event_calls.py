@@ -1,5 +1,5 @@
 """Calls of names, words, events and their parts, entities, properties and documents, with what they answer."""
-from tests.tables.texts import B1, S1, S2, V1, V2, body, document, event, nested
+from tests.tables.texts import B1, B3, E3, S0, S1, S2, T3, USUAL, V1, V2, body, document, event, nested
 
 CALLS = {
     "name": ["Name::read", "Name::copy", "Name::as_str"],
@@ -36,24 +36,12 @@ NAMES, EVENTS, DOCUMENTS, CANONICAL, FAULTS = (
     "Names", "Events", "Documents", "Canonical JSON text", "ARCHITECTURE: What faults are shown as")
 NOON = 1709294400 * 10**9
 
-# An event as OpenStack's audit middleware writes it, and its parts.
-USUAL = ('{"typeURI":"http://schemas.dmtf.org/cloud/audit/1.0/event","id":"openstack:7f3e","eventType":"activity",'
-         '"eventTime":"2014-02-14T01:20:47.932842+0000","action":"read/list","outcome":"success","observer":{"id":"target"},'
-         '"initiator":{"id":"u1","typeURI":"service/security/account/user"},"target":{"id":"t1"},'
-         '"reporterchain":[{"role":"modifier","reporterTime":"2014-02-14T01:20:47.932842+00:00","reporter":{"id":"target"}}],'
-         '"tags":["correlation_id?value=9"]}')
-USUAL_BODY = ('{"action":"read/list","eventTime":"2014-02-14T01:20:47.932842Z","eventType":"activity",'
-              '"initiator":{"id":"u1","typeURI":"service/security/account/user"},"observer":{"id":"target"},'
-              '"outcome":"success","target":{"id":"t1"}}')
-USUAL_STEP = '{"reporter":{"id":"target"},"reporterTime":"2014-02-14T01:20:47.932842Z","role":"modifier"}'
-
 
 def seen(text=B1, *came, name="e1", instant=NOON):
     """The parts of an event: its identifier, instant and body, and what came with it."""
     return [name, instant, text, *came]
 
-USUAL_PARTS = seen(USUAL_BODY, "chain", USUAL_STEP, "tag", "correlation_id?value=9", name="openstack:7f3e",
-                   instant=1392340847932842 * 1000)
+USUAL_PARTS = seen(B3, "chain", S0, "tag", T3, name=E3, instant=1392340847932842 * 1000)
 
 # Members of the usual event that are accepted: the body then, and what comes with it.
 ACCEPTED = [
@@ -172,12 +160,12 @@ PARTS = [
     ('{ "events" : [ {"targetId":"t1","outcome":"success","id":"e1","observerId":"s1","initiatorId":"u1",'
      '"eventType":"activity","eventTime":"2024-03-01T12:00:00.000+00:00","action":"read"} ], "id":"g" }',
      ["log", "g", "event", *seen()]),
-    (event("tags", "[]"), ["no log", "event", *seen()]),
-    (event("tags", '["x"]'), ["no log", "event", *seen(B1, "tag", "x")]),
+    (event(tags="[]"), ["no log", "event", *seen()]),
+    (event(tags='["x"]'), ["no log", "event", *seen(B1, "tag", "x")]),
     ('{"id":"g","events":[],"events":[]}', ["log", "g"]),
     # The name `events` within a member, or spelled with an escape.
-    (event("x", '{"events":[]}'), ["no log", "event", *seen(body("x", '{"events":[]}'))]),
-    (event("x", '"\\u0041"'), ["no log", "event", *seen(body("x", '"A"'))]),
+    (event(x='{"events":[]}'), ["no log", "event", *seen(body("x", '{"events":[]}'))]),
+    (event(x='"\\u0041"'), ["no log", "event", *seen(body("x", '"A"'))]),
     ('{"id":"g","\\u0065vents":[%s]}' % V1, ["log", "g", "event", *seen()]),
     # Properties whose names rise, then don't.
     ('{"b":{"d":1,"c":{"z":0,"y":[]}},"id":"g","c":2,"events":[],"a":{"c":0,"b":1},"b":4,"d":[]}',
@@ -204,8 +192,8 @@ NO_DOCUMENTS = [
     ('{"id":"g","events":[],"geolocations":1}', ["NotList", "Geolocations"]),
     ('{"id":"g","events":[{},7],"resources":[{}],"b\\u0001":2}', ["Event", 1, "Id"]),
     ('{"b\\u0001":2,"events":[7,{}],"id":"g"}', ["Event", 1, "NotObject"]),
-    (document(V1, event("action", "")), ["Event", 2, "Action"]),
-    (document(event("reporterchains", "[[%s,7]]" % S1)), ["Event", 1, "Chain", 1, 2]),
+    (document(V1, event(action="")), ["Event", 2, "Action"]),
+    (document(event(reporterchains="[[%s,7]]" % S1)), ["Event", 1, "Chain", 1, 2]),
     ('{"id":"g","events":[],"resources":[{}]}', ["Entity", "Resource", 1, "Id"]),
     ('{"id":"g","events":[],"geolocations":[{"id":"p","a":%s}]}' % nested(100), ["Entity", "Geolocation", 1, "TooDeep"]),
     ('{"id":"g","events":[],"metrics":[{"metricId":"m"},7]}', ["Entity", "Metric", 2, "NotObject"]),
@@ -229,7 +217,7 @@ NO_DOCUMENTS = [
     ("{}", ["Event", 0, "Id"]),
     ('{"typeURI":7,"id":"e1"}', ["Event", 0, "TypeUri"]),
     ('{"id":"e1","eventType":"activity","eventTime":"2024"}', ["Event", 0, "EventTime"]),
-    (event("action", ""), ["Event", 0, "Action"]),
+    (event(action=""), ["Event", 0, "Action"]),
 ]
 
 # Texts that spell no value. What is no JSON is told before a number that is not whole, wherever the two stand.
@@ -273,7 +261,7 @@ TAGGED, ATTACHED = V1[:-1] + ',"tags":[', V1[:-1] + ',"attachments":['
 IN_STEP = '{"reporterId":"s1","role":"relay","a":['
 OF_STEP = '],"a":0,"reporterTime":"2024-03-01T12:00:00.10+0100"}'
 STEP = '{"a":0,"reporterId":"s1","reporterTime":"2024-03-01T12:00:00.1+01:00","role":"relay"}'
-NO_ACTION = event("action", "")
+NO_ACTION = event(action="")
 
 # Documents with such an event that are accepted, and their parts.
 LARGE_PARTS = [
@@ -302,7 +290,7 @@ LARGE_PARTS = [
     # Such an event by itself.
     (large(V1), ["no log", "event", *seen()]),
     ((LISTED, "null,", MOST, "[%s]]}" % S1), ["no log", "event", *seen(B1, "chain", S1)]),
-    (large(event("x", '"\\u0041"')), ["no log", "event", *seen(body("x", '"A"'))]),
+    (large(event(x='"\\u0041"')), ["no log", "event", *seen(body("x", '"A"'))]),
 ]
 
 # Documents with such an event that are refused.
@@ -320,17 +308,17 @@ LARGE_REFUSED = [
     # The first event that is refused is named, whichever is large; what is told before an event is told first.
     (in_log(large(V1), before=V2 + ",", after="," + NO_ACTION), ["Event", 3, "Action"]),
     (in_log(large(V1), after=",7"), ["Event", 2, "NotObject"]),
-    (in_log(large(event("outcome", "")), before=NO_ACTION + ","), ["Event", 1, "Action"]),
+    (in_log(large(event(outcome="")), before=NO_ACTION + ","), ["Event", 1, "Action"]),
     (in_log(large(V1), before=NO_ACTION + ","), ["Event", 1, "Action"]),
-    (in_log(large(event("outcome", "")), after="," + NO_ACTION), ["Event", 1, "Outcome"]),
-    (within('{"events":[', large(event("outcome", "")), "]}"), ["LogId"]),
-    (within('{"events":[', large(event("outcome", "")), '],"id":"g","metrics":{}}'), ["NotList", "Metrics"]),
-    (within('{"resources":[7],"id":"g","events":[', large(event("outcome", "")), "]}"), ["Event", 1, "Outcome"]),
+    (in_log(large(event(outcome="")), after="," + NO_ACTION), ["Event", 1, "Outcome"]),
+    (within('{"events":[', large(event(outcome="")), "]}"), ["LogId"]),
+    (within('{"events":[', large(event(outcome="")), '],"id":"g","metrics":{}}'), ["NotList", "Metrics"]),
+    (within('{"resources":[7],"id":"g","events":[', large(event(outcome="")), "]}"), ["Event", 1, "Outcome"]),
     (within('{"resources":[7],"id":"g","events":[', large(V1), "]}"), ["Entity", "Resource", 1, "NotObject"]),
     (within('{"b\\u0001":2,"id":"g","events":[', large(V1), "]}"), ["Property", 1]),
     # Such an event by itself.
     (large(NO_ACTION), ["Event", 0, "Action"]),
-    (large(event("x", nested(100))), ["Event", 0, "TooDeep"]),
+    (large(event(x=nested(100))), ["Event", 0, "TooDeep"]),
     ((LISTED, "null,", MOST, "7]}"), ["Event", 0, "Chain", MOST + 1, 0]),
     ((TAGGED, '"a",', MOST, '""]}'), ["Event", 0, "Tag", MOST + 1]),
     ((ATTACHED, "{},", MOST, "1]}"), ["Event", 0, "Attachment", MOST + 1]),
@@ -373,20 +361,20 @@ NO_STEP_LISTS = [
 # Documents, and what the fault of each is shown as.
 SHOWN = [
     ("[]", "event 0: not an object"),
-    (event("x", nested(100)), "event 0: too deep"),
-    (event("typeURI", "7"), "event 0: typeURI"),
-    (event("id", ""), "event 0: id"),
-    (event("eventType", ""), "event 0: eventType"),
-    (event("eventTime", ""), "event 0: eventTime"),
-    (event("action", ""), "event 0: action"),
-    (event("outcome", ""), "event 0: outcome"),
-    (event("initiatorId", ""), "event 0: initiator"),
-    (event("targetId", ""), "event 0: target"),
-    (event("observerId", ""), "event 0: observer"),
-    (event("reporterchain", "[%s]" % ",".join([S1] * 257)), "event 0: chain 0 step 257"),
-    (document(V1, event("reporterchains", "[[%s,%s,7]]" % (S1, S2))), "event 2: chain 1 step 3"),
-    (event("tags", '["a",""]'), "event 0: tag 2"),
-    (event("attachments", "[1]"), "event 0: attachment 1"),
+    (event(x=nested(100)), "event 0: too deep"),
+    (event(typeURI="7"), "event 0: typeURI"),
+    (event(id=""), "event 0: id"),
+    (event(eventType=""), "event 0: eventType"),
+    (event(eventTime=""), "event 0: eventTime"),
+    (event(action=""), "event 0: action"),
+    (event(outcome=""), "event 0: outcome"),
+    (event(initiatorId=""), "event 0: initiator"),
+    (event(targetId=""), "event 0: target"),
+    (event(observerId=""), "event 0: observer"),
+    (event(reporterchain="[%s]" % ",".join([S1] * 257)), "event 0: chain 0 step 257"),
+    (document(V1, event(reporterchains="[[%s,%s,7]]" % (S1, S2))), "event 2: chain 1 step 3"),
+    (event(tags='["a",""]'), "event 0: tag 2"),
+    (event(attachments="[1]"), "event 0: attachment 1"),
     ('{"events":[]}', "log id"),
     ('{"id":"g","events":7}', "events is not a list"),
     ('{"id":"g","events":[],"resources":7}', "resources is not a list"),
@@ -431,14 +419,14 @@ def events():
     yield "event", [V1], ["ok", *seen()], EVENTS
     yield "event", [USUAL], ["ok", *USUAL_PARTS], EVENTS
     for name, value, parts in ACCEPTED:
-        yield "event", [event(name, value)], ["ok", *parts], EVENTS
+        yield "event", [event(**{name: value})], ["ok", *parts], EVENTS
     for name, value, fault in REFUSED:
-        yield "event", [event(name, value)], ["err", *fault], EVENTS
+        yield "event", [event(**{name: value})], ["err", *fault], EVENTS
     yield "event", ["[]"], ["err", "NotObject"], EVENTS
     for number in WHOLE:
-        yield "event", [event("measurements", MEASURED % number)], ["ok", *seen(body("measurements", MEASURED % number))], EVENTS
+        yield "event", [event(measurements=MEASURED % number)], ["ok", *seen(body("measurements", MEASURED % number))], EVENTS
     for number in NOT_WHOLE:
-        yield "event", [event("measurements", MEASURED % number)], ["err", "NotWhole"], CANONICAL
+        yield "event", [event(measurements=MEASURED % number)], ["err", "NotWhole"], CANONICAL
 
 
 def parts():
@@ -484,10 +472,10 @@ def documents():
 def large_documents():
     """Documents with an event of more values than a tree has, and such bodies and steps."""
     for name, value, found in ACCEPTED:
-        one = large(event(name, value), "id" if name == "typeURI" else "typeURI")
+        one = large(event(**{name: value}), "id" if name == "typeURI" else "typeURI")
         yield "repeated", ["document_bytes", *in_log(one)], ["ok", "log", "g", "event", *found], EVENTS
     for name, value, fault in REFUSED:
-        one = large(event(name, value), "typeURI" if name == "id" else "id")
+        one = large(event(**{name: value}), "typeURI" if name == "id" else "id")
         yield "repeated", ["document_bytes", *in_log(one)], ["err", "Document", "Event", 1, *fault], EVENTS
     for text, found in LARGE_PARTS:
         yield "repeated", ["document_bytes", *text], ["ok", *found], DOCUMENTS

@@ -1,12 +1,16 @@
 """Worked rows of several inputs: joins, missing parts, inventories, seals and rulings.
 
-    from exchange_rows import JOINED, OF_FILES, FILES_REFUSED
+    from exchange_rows import WRITTEN, REFUSED
 
 Where a command's words have `{}`, the files stand there in turn, else behind the words.
 """
-from tests.tables.document_rows import FAILED, NORTH, ONE, conflicts, entry, event, log
+import itertools
+
+from tests.tables.document_rows import FAILED, NORTH, ONE
 from tests.tables.seal_rows import seal
-from tests.tables.texts import BF, C1, C2, CF, K1, KF, S1, S2, S3, V1, V2, VF, digits, document, inventory, line, replica, tree
+from tests.tables.texts import (
+    BF, C1, C2, CF, K1, KF, S1, S2, S3, V1, V2, VF, conflicts, digits, document, entry, event, inventory, line, log, replica, tree,
+)
 from tests.tables.worked_files import (
     BODY_NODE, CHAINS, CHAINS_TREE, CHAIN_NODES, CHAIN_TREE, CONFLICT, CONFLICT_TREE, EVENT_FILE, EVENT_TREE, FRONT,
     HELD_TREE, NAMED, NAMED_TREE, NAMES, NOTHING, NOTHING_TREE, OTHER_NODE, OTHER_TREE, R1, RULED_TREE, RULING_TREE,
@@ -56,15 +60,11 @@ JOINED = [
     ("a part that comes once more", [ALL, SENDER], ALL),
 ]
 
-# A log, inputs, and the file of their join under it.
-JOINED_AS = [
-    ("events by themselves under a log that is given", "g", [V1, V1], EVENT_TREE),
-    ("an event by itself before a file under a log that is given", "g", [V1, CHAINS], CHAINS_TREE),
-    ("a file before an event by itself under a log that is given", "g", [CHAINS_TREE, V1], CHAINS_TREE),
-]
-
 # A call, its files, and what it writes.
-OF_FILES = [
+WRITTEN = [(name, "join", ordered, output) for name, inputs, output in JOINED for ordered in sorted(set(itertools.permutations(inputs)))] + [
+    ("events by themselves under a log that is given", "join --log g", [V1, V1], EVENT_TREE),
+    ("an event by itself before a file under a log that is given", "join --log g", [V1, CHAINS], CHAINS_TREE),
+    ("a file before an event by itself under a log that is given", "join --log g", [CHAINS_TREE, V1], CHAINS_TREE),
     ("what a site lacks", "missing", [SOUTHERN, NORTHERN], NORTHWARD),
     ("what another site lacks", "missing", [NORTHERN, SOUTHERN], SOUTHWARD),
     ("what a site lacks that moves on", "missing", [SENDER, FIRST_FILE], SENDER),
@@ -110,12 +110,12 @@ OF_FILES = [
     ("a ruling of a property", "rule P name 2", [NAMED], SOUTH_TREE),
     ("a ruling of a property of a file of format 2", "rule P name 2", [NAMED_TREE], SOUTH_TREE),
     ("a ruling of a body without chains again", "rule E e1 1", [HELD_TREE], HELD_TREE),
-    ("the log with a settled property", "show", [SOUTH_TREE], log(more='"name":"south",', resources=R1)),
+    ("the log with a settled property", "show", [SOUTH_TREE], log(name='"south"', resources="[%s]" % R1)),
     ("the conflicts of a settled property", "show --conflicts", [SOUTH_TREE], conflicts(
-        entry("P", "name", '"north"', ruled=digits('"south"')), rulings='["P","name","%s"]' % digits('"south"'))),
+        entry("P", "name", '"north"', ruled=digits('"south"')), rulings=[("P", "name", digits('"south"'))])),
     ("a ruling without a second body", "show", [UNHELD], log(V1)),
     ("the ruling without a second body", "show --conflicts", [UNHELD],
-     conflicts(rulings='["E","e1","%s"]' % digits(BF))),
+     conflicts(rulings=[("E", "e1", digits(BF))])),
     ("the log with a settled event without chains", "show", [HELD_TREE], log(VF)),
     ("the counts of nothing", "check", [NOTHING], 'ok "g" atoms 0 conflicts 0\n'),
     ("the counts of nothing in format 2", "check", [NOTHING_TREE], 'ok "g" atoms 0 conflicts 0\n'),
@@ -155,7 +155,7 @@ TWICE_NOTED = inventory(digits(C1), digits(C1))
 OTHER_LOG = '{"id":"h","events":[]}'
 
 # A call, its files, and why it is refused: each input's own refusal, in turn, then that no log is named, then another log.
-FILES_REFUSED = [
+REFUSED = [
     ("another log", "join", [document(V1), OTHER_LOG], "input 2: other log"),
     ("a second input that isn't ended", "join", [V1, '{"id":"g","events":[%s]' % V1], "input 2: not JSON"),
     ("events by themselves", "join", [V1, V2], "no log named"),

@@ -9,7 +9,8 @@ import json
 
 from tests.tables import log_rows, proof_rows, seal_rows, sketched_rows
 from tests.tables.texts import (
-    B1, B3, BF, C1, C2, CF, E3, K1, KF, S0, S1, S2, T3, digits, inventory, line, nested, quoted, replica, tree,
+    B1, B3, BF, C1, C2, CAUSES, CF, E3, K1, KF, LIMIT, LIMITS, PIECES, S0, S1, S2, SHOWN, SINKS, T3, WHOLE, digits, inventory, line, nested,
+    quoted, refused, replica, said, tree,
 )
 
 CALLS = {
@@ -37,11 +38,6 @@ REFUSAL = "What is refused"
 ONE = "Format 1: a line for each atom"
 TWO = "Format 2: a line for each node"
 DIGESTS = "Inventory file"
-LIMITS = "ARCHITECTURE: Limits, and files in pieces"
-SINKS = "ARCHITECTURE: Sources and sinks"
-PIECES = [1, 7, 4096]
-LIMIT = 1 << 20  # no file here has so many bytes
-WHOLE = (LIMIT, 4096, 0)
 
 HEAD_1, HEAD_2 = 'CADF-REPLICA 1\nL "g"\n', 'CADF-REPLICA 2\nL "g"\n'
 HEAD_OF_DIGESTS = 'CADF-INVENTORY 1\nL "g"\n'
@@ -197,7 +193,9 @@ UNENDED = [
     (two(E, "{"), 3),
     (two(E, '[2, 0,"e1"]'), 3),
     (two(E, C1), 3),
+    (two(E, node(1, 0, "X")), 3),
     (two(E, "[2,0]"), 3),
+    (two(E, '[2,0,"e1"'), 3),
     (two(E, '[-1,0,"e1"]'), 3),
     (two(E).encode() + b"\xff\n", 3),
     (two(E, E1, E2), 4),
@@ -215,9 +213,11 @@ UNENDED = [
 
 # Other files of format 2, and why they are refused.
 REFUSED_2 = [
+    ("CADF-REPLICA 2\nL g\n", "LogLine"),
     (two(node(0, 0, "E")), "Line 3 Order"),
     (two(E1), "Line 3 Order"),
     (two(node(2, 0, "X")), "Line 3 Order"),
+    (two(node(0, 0, "X")), "Line 3 Order"),
     (two(E, BODY), "Line 4 Order"),
     (two(E, node(3, 1, "x")), "Line 4 Order"),
     (two(E, E1, CHAINS), "Line 5 Order"),
@@ -236,10 +236,13 @@ REFUSED_2 = [
     (two('[1,0,"E"'), "Line 3 Json"),
     (two(""), "Line 3 Json"),
     (two('[1, 0,"E"]'), "Line 3 NotCanonical"),
+    (two("{"), "Line 3 Json"),
     (two(E, "[2,7,7]"), "Line 4 Shape"),
+    (two(E, "[3,1,1]"), "Line 4 Shape"),
     (two(E, node(2, 1, "e1")), "Line 4 Shape"),
     (two(E, node(2, 0, "")), "Line 4 Shape"),
     (two(E, E1, node(3, 1, "{}")), "Line 5 Shape"),
+    (two(E, E1, node(3, 2, B1)), "Line 5 Shape"),
     (two(E, E1, node(3, 1, last_byte(B1))), "Line 5 Shape"),
     (two(E, E1, BODY, CHAINS, STEP_1, node(6, 1, last_byte(S2))), "Line 8 Shape"),
     (two(E, E1, BODY, CHAINS, STEP_1, node(6, 1, S2), node(7, 1, "x")), "Line 9 Shape"),
@@ -247,6 +250,7 @@ REFUSED_2 = [
     (two(E, E1, BODY, node(4, 1, "C")), "Line 6 Shape"),
     (two(E, E1, BODY, TAGS, node(5, 1, "x"), node(6, 1, "y")), "Line 8 Shape"),
     (two(P, node(2, 0, "id")), "Line 4 Shape"),
+    (two(P, node(2, 0, "events")), "Line 4 Shape"),
     (two(P, NAME, node(3, 1, "1.5")), "Line 5 Shape"),
     (two(P, NAME, node(3, 0, "1 ")), "Line 5 Shape"),
     (two(E, E2, BODY, E1), "Line 6 Order"),
@@ -273,8 +277,10 @@ REFUSED_2 = [
     (two(U, OF_E, OF_E1, RULED, E), "Line 7 Order"),
     (two(E, E1, BODY, CHAINS, *[node(5 + step, 0, S1) for step in range(257)], "Z"), "Line 263 Shape"),
     (two(E), "Truncated"),
+    (two(E) + "[1", "Truncated"),
     (two(E, E1, BODY), "Truncated"),
     (two(E, E1, BODY, "Z"), "Digest"),
+    (tree(E, E1, BODY).replace("Z ", "Z  "), "Digest"),
     (two("Z"), "Digest"),
     (NOTHING_2[:-1], "Truncated"),
     (NOTHING_2 + "\n", "Trailing"),
@@ -321,29 +327,6 @@ REFUSED_DIGESTS = [
     (NOTHING, "Version"),
     (NOTHING_2, "Version"),
 ]
-
-# Faults, and how they are shown.
-TEXTS = [
-    ("Version", "version"),
-    ("LogLine", "log line"),
-    ("Line 3 NotUtf8", "line 3: not UTF-8"),
-    ("Line 4 Json", "line 4: not JSON"),
-    ("Line 5 NotCanonical", "line 5: not canonical"),
-    ("Line 6 Shape", "line 6: shape"),
-    ("Line 7 Order", "line 7: order"),
-    ("Line 8 Ungrounded", "line 8: ungrounded"),
-    ("Line 9 Unended", "line 9: unended"),
-    ("Digest", "digest"),
-    ("Truncated", "truncated"),
-    ("Trailing", "trailing bytes"),
-    ("TooLarge", "too large"),
-    ("ReadFault", "read fault"),
-]
-
-
-def refused(fault):
-    """The answer of a refusal."""
-    return ["err", *fault.split()]
 
 
 def read(atoms):
@@ -469,7 +452,8 @@ ROWS += [
 # The digest in an inventory's last line.
 for log, held in (("g", []), ("g", [digits(C1)]), ('a"b', [digits(C1), digits(K1), digits(C2)])):
     ROWS.append(("inventory_digest", [log, *held], ["ok", inventory(*sorted(held), log=log)[-65:-1]], DIGESTS))
-ROWS += [("fault_text", fault.split(), ["ok", text], REFUSAL) for fault, text in TEXTS]
+ROWS += [("fault_text", fault.split(), ["ok", said(fault)], REFUSAL)
+         for fault in (*SHOWN, *("Line %d %s" % each for each in enumerate(CAUSES, 3)))]
 ROWS.append(("fault_text", ["Memory"], ["ok", "out of memory"], "Fault lines"))
 ROWS += log_rows.ROWS
 ROWS += seal_rows.ROWS + proof_rows.ROWS

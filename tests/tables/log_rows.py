@@ -6,7 +6,7 @@ the log's identifier and the lines of its atoms, each behind its carrier.
 import json
 
 from tests.tables.texts import (
-    B1, B3, BF, C1, CF, E3, EVT, K1, KF, LOG_TYPE, S0, S1, S2, S3, T3, V1, digits, line, quoted,
+    B1, B3, BF, C1, CF, E3, EVT, K1, KF, S0, S1, S2, S3, SINKS, T3, V1, conflicts, digits, entry, line, log,
 )
 
 CALLS = {
@@ -15,7 +15,6 @@ CALLS = {
 }
 
 LOG, CONFLICTS = "Log text", "Conflict text"
-SINKS = "ARCHITECTURE: Sources and sinks"
 AT_ONCE = "ARCHITECTURE: The way of a document"
 
 
@@ -23,25 +22,6 @@ def shown(key, body, **more):
     """An event as both texts have it; `more` are the members that are made of what came with the body."""
     members = {**json.loads(body), "id": key, "typeURI": EVT, **{name: json.loads(text) for name, text in more.items()}}
     return json.dumps(members, separators=(",", ":"), sort_keys=True, ensure_ascii=False)
-
-
-def log(*events, log="g", **more):
-    """The log text with these events; `more` are its properties, and the lists of its entities."""
-    members = {"geolocations": "[]", "metrics": "[]", "resources": "[]", **more}
-    members.update(events="[%s]" % ",".join(events), id=quoted(log), typeURI=quoted(LOG_TYPE))
-    return "{%s}\n" % ",".join("%s:%s" % (quoted(name), members[name]) for name in sorted(members))
-
-
-def conflicts(*entries, rulings=(), log="g"):
-    """The conflict text with these entries."""
-    listed = ",".join(line(*ruling) for ruling in rulings)
-    return '{"conflicts":[%s],"log":%s,"rulings":[%s]}\n' % (",".join(entries), quoted(log), listed)
-
-
-def entry(letter, key, *values, ruled=""):
-    """The entry of a key; `ruled` is the digest of the value that the log shows."""
-    member = '"ruled":"%s",' % ruled if ruled else ""
-    return '{"key":"%s","kind":"%s",%s"values":[%s]}' % (key, letter, member, ",".join(values))
 
 
 def chain(*steps, key="e1", body=B1):

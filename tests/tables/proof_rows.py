@@ -6,8 +6,8 @@ to be `present` or `absent`, a log, and the facts' lines, each behind its carrie
 """
 import json
 
-from tests.tables.seal_rows import LIMIT, LIMITS, PIECES, closed, proof, seal
-from tests.tables.texts import B1, digits, line
+from tests.tables.seal_rows import closed, proof, seal
+from tests.tables.texts import B1, LIMIT, LIMITS, PIECES, digits, line, refused
 
 CALLS = {"read_proof": ["read_proof", "Proof::log", "Proof::count", "Proof::shown", "Proof::hidden"], "verified": ["verified", "FactLines::write"]}
 
@@ -70,7 +70,7 @@ for text, fault in [
     (closed(SHOWN), "Line 2 Unended"), (lines("Z"), "Line 2 Unended"), (lines("N 9", "Z"), "Digest"), (lines("N 9", "Z " + LOW), "Digest"),
     (lines("N 9", LEAF, "Z" + LOW), "Digest"), (closed(lines("N 9")) + "\n", "Trailing"), (closed(lines("N 9", HASH)) + HASH, "Trailing"),
 ]:
-    ROWS += [("read_proof", [LIMIT, size, 0, text], ["err", *fault.split()], PROOF) for size in (1, 4096)]
+    ROWS += [("read_proof", [LIMIT, size, 0, text], refused(fault), PROOF) for size in (1, 4096)]
 
 
 # ---- What a proof says of facts: "What a proof says to its reader"

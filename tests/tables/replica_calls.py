@@ -166,8 +166,8 @@ for text, name in [('"g"', "g"), ('"openstack:audit"', "openstack:audit"), ('"a\
 # ---- What a replica takes.
 ENTITIES = document(log="g", more=',"geolocations":[{"id":"g1"}],"metrics":[{"metricId":"m1"}],"name":"north",'
                     '"resources":[{"typeURI":"storage","id":"r1"}],"typeURI":7')
-SEEN = event("eventTime", '"2024-03-01T12:00:00+0000"')[:-1] + ',"tags":["x"],"attachments":[{"b":2,"a":1}],"reporterchain":[]}'
-CHAINED = event("reporterchain", "[%s]" % S1)
+SEEN = event(eventTime='"2024-03-01T12:00:00+0000"')[:-1] + ',"tags":["x"],"attachments":[{"b":2,"a":1}],"reporterchain":[]}'
+CHAINED = event(reporterchain="[%s]" % S1)
 FAILED = VF[:-1] + ',"reporterchain":[%s]}' % S2
 for before, text, after in [
         (held(), ENTITIES, held(G1, M1, NORTH, R1)),
@@ -175,23 +175,23 @@ for before, text, after in [
         (held(G1, M1, NORTH, R1), SEEN, held(C1, LA, LT, G1, M1, NORTH, R1)),
         (held(), document(), held()),
         # An event whose time is spelled in two ways is one event.
-        (held(), document(event("eventTime", '"2024-03-01T12:00:00+0000"')), held(C1)),
-        (held(C1), document(event("eventTime", '"2024-03-01T12:00:00.000+00:00"')), held(C1)),
+        (held(), document(event(eventTime='"2024-03-01T12:00:00+0000"')), held(C1)),
+        (held(C1), document(event(eventTime='"2024-03-01T12:00:00.000+00:00"')), held(C1)),
         # A chain that goes on from another one is another one; an empty one adds nothing.
         (held(), document(CHAINED), held(C1, K1)),
-        (held(C1, K1), document(event("reporterchain", "[%s,%s]" % (S1, S2))), held(C1, K1, L12)),
-        (held(), document(event("reporterchains", "[[%s,%s],[],[%s,%s]]" % (S1, S3, S1, S2))), held(C1, L12, line("E", "e1", B1, "C", S1, S3))),
+        (held(C1, K1), document(event(reporterchain="[%s,%s]" % (S1, S2))), held(C1, K1, L12)),
+        (held(), document(event(reporterchains="[[%s,%s],[],[%s,%s]]" % (S1, S3, S1, S2))), held(C1, L12, line("E", "e1", B1, "C", S1, S3))),
         # Two bodies of one event are both kept, each with what came with it.
         (held(C1, K1), document(FAILED), held(CF, KF, C1, K1)),
         (held(CF, KF), document(CHAINED), held(CF, KF, C1, K1)),
         (held(CF, KF, C1, K1), document(CHAINED, FAILED), held(CF, KF, C1, K1)),
-        (held(), document(V1, event("eventTime", '"2024-03-01T13:00:00+01:00"')),
+        (held(), document(V1, event(eventTime='"2024-03-01T13:00:00+01:00"')),
          held(C1, line("E", "e1", B1.replace("12:00:00Z", "13:00:00+01:00")))),
         (held(NORTH), document(more=',"name":"south"'), held(NORTH, SOUTH)),
         (held(SOUTH), ENTITIES, held(G1, M1, NORTH, SOUTH, R1)),
         # A tag of a body that is held, and another event; two chains of it.
-        (held(C1), document(event("tags", '["x"]'), V2), held(C1, LT, C2)),
-        (held(C1), document(event("reporterchains", "[[%s],[%s,%s]]" % (S1, S1, S2))), held(C1, K1, L12)),
+        (held(C1), document(event(tags='["x"]'), V2), held(C1, LT, C2)),
+        (held(C1), document(event(reporterchains="[[%s],[%s,%s]]" % (S1, S1, S2))), held(C1, K1, L12)),
         # An event by itself names no log, and is taken by any.
         (held(log="h"), V1, held(C1, log="h"))]:
     row("Atoms", "document.take", [before, text], "ok", after)

@@ -5,7 +5,7 @@ facts and digests. The roots are worked out here, as section 2.1.1 of RFC 9162 d
 """
 from hashlib import sha256
 
-from tests.tables.texts import C1, C2, CF, K1, KF, T3, digits
+from tests.tables.texts import C1, C2, CF, K1, KF, LIMIT, LIMITS, PIECES, SINKS, T3, digits, refused
 
 CALLS = {
     "seal": ["Seal::of", "Seal::log", "Seal::count", "Seal::root"],
@@ -17,10 +17,6 @@ CALLS = {
 }
 
 SEAL, PROOF, REFUSAL = "Seal file", "Proof file", "What is refused"
-LIMITS = "ARCHITECTURE: Limits, and files in pieces"
-SINKS = "ARCHITECTURE: Sources and sinks"
-PIECES = [1, 7, 4096]
-LIMIT = 1 << 20  # no file here has so many bytes
 HEAD = 'CADF-SEAL 1\nL "g"\n'
 OF_NOTHING = "e3b0c44298fc1c149afbf4c8996fb92427ae41e4649b934ca495991b7852b855"  # SHA-256 of no bytes
 
@@ -166,4 +162,4 @@ for text, fault in [
     (closed(HEAD), "Line 2 Unended"), (closed(HEAD + COUNT), "Line 3 Unended"), (HEAD + "Z\n", "Line 2 Unended"),
     (HEAD + COUNT + ROOT + "Z %s\n" % OF_NOTHING, "Digest"), (HEAD + COUNT + ROOT + "Z\n", "Digest"), (seal() + "\n", "Trailing"),
 ]:
-    ROWS += [("read_seal", [LIMIT, size, 0, text], ["err", *fault.split()], REFUSAL) for size in PIECES]
+    ROWS += [("read_seal", [LIMIT, size, 0, text], refused(fault), REFUSAL) for size in PIECES]

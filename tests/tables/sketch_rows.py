@@ -1,16 +1,13 @@
 """Worked rows of sketches: what `sketch` writes, what `missing-by-sketch` answers, and which sketch files are refused.
 
-    from sketch_rows import SKETCHED, ANSWERED, OPTIONS_REFUSED, SKETCHES_REFUSED, FILES_REFUSED
+    from sketch_rows import WRITTEN, REFUSED
 
 Cells and numbers to ask for are worked out here byte by byte and bit by bit, from docs/FORMATS.md and by hashlib alone.
 """
-import hashlib
-
-from tests.tables.texts import C1, C2, CF, K1, KF, S1, S2, V1, V2, digits, document, inventory, lined, replica, tree
+from tests.tables.texts import C1, C2, CF, K1, KF, S1, S2, V1, V2, digits, document, inventory, lined, said, tree
 from tests.tables.worked_files import (
-    BODY_NODE, CHAINS, CHAINS_TREE, CHAIN_NODES, CONFLICT, CONFLICT_TREE, EVENT_FILE, EVENT_TREE, FRONT, K12, NOTHING,
-    NOTHING_TREE, OTHER_CHAIN_NODES, OTHER_NODE, OTHER_TREE, RULED_TREE, RULING, RULING_TREE, SECOND_TREE, TAGGED,
-    TAGGED_TREE, TWO, TWO_TREE,
+    BODY_NODE, CHAINS_TREE, CONFLICT, CONFLICT_TREE, EVENT_FILE, EVENT_TREE, FRONT, K12, NOTHING, NOTHING_TREE, OTHER_CHAIN_NODES,
+    OTHER_NODE, OTHER_TREE, RULED_TREE, RULING, RULING_TREE, SECOND_TREE, TAGGED, TAGGED_TREE, TWO, TWO_TREE,
 )
 
 
@@ -95,19 +92,22 @@ NONE, ONE = 80 * "0", with_check(EVENT_DIGEST)
 # In a sketch of six cells under the salt 1 that digest belongs to the cells 1, 3 and 4.
 OF_SIX = sketch_with(6, 1, file_digest([EVENT_DIGEST]), counts_of([EVENT_DIGEST]), [NONE, ONE, NONE, ONE, ONE, NONE])
 
-# A call, its file, and what it writes.
+# A call, its files, and what it writes.
 SKETCHED = [
-    ("the sketch that FORMATS shows", "sketch --cells 3 --salt 1", EVENT_FILE, WORKED),
-    ("the same of a file of format 2", "sketch --salt=1 --cells=3", EVENT_TREE, WORKED),
-    ("the same of a document", "sketch --salt 1 --cells=3", document(V1), WORKED),
-    ("a sketch of nothing", "sketch --cells 3", NOTHING, EMPTY),
-    ("a sketch of six cells", "sketch --cells 6 --salt 1", EVENT_TREE, OF_SIX),
-    ("a sketch of nine cells", "sketch --cells 9 --salt 1", CHAINS_TREE, sketch(9, 1, C1, K1, K12)),
-    ("two digests that share their cells", "sketch --cells 3 --salt 18446744073709551615", TWO, sketch(3, 2**64 - 1, C1, C2)),
-    ("a sketch of a ruling", "sketch --cells 33 --salt 77", RULED_TREE, sketch(33, 77, CF, KF, C1, K1, RULING)),
-    ("a sketch without options", "sketch", CONFLICT_TREE, sketch(198, salt_of(CF, KF, C1, K1), CF, KF, C1, K1)),
-    ("a sketch with cells alone", "sketch --cells 300", CONFLICT, sketch(300, salt_of(CF, KF, C1, K1), CF, KF, C1, K1)),
-    ("a sketch with a salt alone", "sketch --salt 5", CONFLICT, sketch(198, 5, CF, KF, C1, K1)),
+    ("the sketch that FORMATS shows", "sketch --cells 3 --salt 1", [EVENT_FILE], WORKED),
+    ("the same of a file of format 2", "sketch --salt=1 --cells=3", [EVENT_TREE], WORKED),
+    ("the same of a document", "sketch --salt 1 --cells=3", [document(V1)], WORKED),
+    ("a sketch of nothing", "sketch --cells 3", [NOTHING], EMPTY),
+    ("a sketch of six cells", "sketch --cells 6 --salt 1", [EVENT_TREE], OF_SIX),
+    ("a sketch of nine cells", "sketch --cells 9 --salt 1", [CHAINS_TREE], sketch(9, 1, C1, K1, K12)),
+    ("two digests that share their cells", "sketch --cells 3 --salt 18446744073709551615", [TWO], sketch(3, 2**64 - 1, C1, C2)),
+    ("a sketch of a ruling", "sketch --cells 33 --salt 77", [RULED_TREE], sketch(33, 77, CF, KF, C1, K1, RULING)),
+    ("a sketch without options", "sketch", [CONFLICT_TREE], sketch(198, salt_of(CF, KF, C1, K1), CF, KF, C1, K1)),
+    ("a sketch with cells alone", "sketch --cells 300", [CONFLICT], sketch(300, salt_of(CF, KF, C1, K1), CF, KF, C1, K1)),
+    ("a sketch with a salt alone", "sketch --salt 5", [CONFLICT], sketch(198, 5, CF, KF, C1, K1)),
+    ("a sketch of two files", "sketch --cells 3 --salt 18446744073709551615", [EVENT_TREE, SECOND_TREE], sketch(3, 2**64 - 1, C1, C2)),
+    ("a sketch of two documents", "sketch", [document(V2), document(V1)], sketch(198, salt_of(C1, C2), C1, C2)),
+    ("a delta of two files", "missing-by-sketch {} --from {} {}", [EVENT_TREE, SECOND_TREE, sketch(6, 1, C1)], SECOND_TREE),
 ]
 
 # How many cells a sender of C1, K1 and K12 asks for by a sketch of C2, CF and KF.
@@ -183,21 +183,6 @@ SKETCHES_REFUSED = [
     ("a sketch as FROM", WORKED, WORKED, "input 1: version"),
 ]
 
-# A call, its files, and the sketch of their union.
-SKETCHED_UNIONS = [
-    ("a sketch of two files", "sketch --cells 3 --salt 18446744073709551615", [EVENT_TREE, SECOND_TREE], sketch(3, 2**64 - 1, C1, C2)),
-    ("a sketch of two documents", "sketch", [document(V2), document(V1)], sketch(198, salt_of(C1, C2), C1, C2)),
-]
-
-# Files of FROM, a sketch, and what is written or refused.
-OF_UNIONS = [
-    ("a delta of two files", [EVENT_TREE, SECOND_TREE], sketch(6, 1, C1), SECOND_TREE, None),
-    ("too few cells for two files", [CHAINS_TREE, EVENT_FILE], sketch(3, 1, C2, CF, KF), None,
-     "input 3: too few cells: ask for %d" % ASKED),
-    ("a sketch of another log than two files", [V1, EVENT_TREE], sketch(3, 1, log="h"), None, "input 3: other log"),
-    ("another log, before a sketch's", [EVENT_TREE, '{"id":"h","events":[]}'], sketch(3, 1, log="h"), None, "input 2: other log"),
-]
-
 # A call, its files, and what is refused: sketches where another file is asked for, and files that can't be sketched.
 OF_FILES_REFUSED = [
     ("a sketch as inventory", "missing-by", [EVENT_TREE, WORKED], "input 2: version"),
@@ -207,6 +192,11 @@ OF_FILES_REFUSED = [
     ("a sketch as a site's file", "missing", [EVENT_TREE, WORKED], "input 2: version"),
     ("a sketch of an event by itself", "sketch", [V1], "no log named"),
     ("a sketch of what is no JSON", "sketch --cells 3 --salt 1", ["{"], "input 1: not JSON"),
+    ("too few cells for two files", "missing-by-sketch {} --from {} {}", [CHAINS_TREE, EVENT_FILE, sketch(3, 1, C2, CF, KF)],
+     "input 3: too few cells: ask for %d" % ASKED),
+    ("a sketch of another log than two files", "missing-by-sketch {} --from {} {}", [V1, EVENT_TREE, sketch(3, 1, log="h")], "input 3: other log"),
+    ("another log, before a sketch's", "missing-by-sketch {} --from {} {}", [EVENT_TREE, '{"id":"h","events":[]}', sketch(3, 1, log="h")],
+     "input 2: other log"),
 ]
 
 S_LINE, C_LINE = WORKED.split("\n")[2:4]
@@ -225,31 +215,31 @@ def with_line(number, text):
 
 # Sketch files, and what is refused of them.
 FILES_REFUSED = [
-    ("another version", WORKED.replace("SKETCH 1", "SKETCH 2"), "version"),
-    ("a carriage return", WORKED.replace("SKETCH 1", "SKETCH 1\r"), "version"),
-    ("a log that is no text", WORKED.replace('L "g"', "L g"), "log line"),
-    ("no log", of_lines(S_LINE, C_LINE, *LEAST_CELLS).replace('L "g"\n', ""), "log line"),
-    ("no line 3", of_lines(), "line 2: unended"),
-    ("no line 4", of_lines(S_LINE), "line 3: unended"),
-    ("no cell", of_lines(S_LINE, C_LINE), "line 4: unended"),
-    ("a missing cell", of_lines(S_LINE, C_LINE, *LEAST_CELLS[1:]), "line 6: unended"),
-    ("a missing cell before a wrong digest", of_lines(S_LINE, C_LINE, *LEAST_CELLS[1:]).replace("Z ", "Z"), "line 6: unended"),
+    ("another version", WORKED.replace("SKETCH 1", "SKETCH 2"), "Version"),
+    ("a carriage return", WORKED.replace("SKETCH 1", "SKETCH 1\r"), "Version"),
+    ("a log that is no text", WORKED.replace('L "g"', "L g"), "LogLine"),
+    ("no log", of_lines(S_LINE, C_LINE, *LEAST_CELLS).replace('L "g"\n', ""), "LogLine"),
+    ("no line 3", of_lines(), "Line 2 Unended"),
+    ("no line 4", of_lines(S_LINE), "Line 3 Unended"),
+    ("no cell", of_lines(S_LINE, C_LINE), "Line 4 Unended"),
+    ("a missing cell", of_lines(S_LINE, C_LINE, *LEAST_CELLS[1:]), "Line 6 Unended"),
+    ("a missing cell before a wrong digest", of_lines(S_LINE, C_LINE, *LEAST_CELLS[1:]).replace("Z ", "Z"), "Line 6 Unended"),
     ("a line that begins with Z in place of a cell", of_lines(S_LINE, C_LINE, *LEAST_CELLS[1:], "Z" + ONE[1:]),
-     "line 6: unended"),
+     "Line 6 Unended"),
     ("the greatest number of cells, and three", of_lines(S_LINE.replace("S 3", "S 12582912"), C_LINE, *LEAST_CELLS),
-     "line 7: unended"),
-    ("one cell too many", of_lines(S_LINE, C_LINE, *LEAST_CELLS, ONE), "line 8: shape"),
-    ("an empty line behind the cells", of_lines(S_LINE, C_LINE, *LEAST_CELLS, ""), "line 8: shape"),
-    ("line 4 before line 3", of_lines(C_LINE, S_LINE, *LEAST_CELLS), "line 3: shape"),
-    ("line 3 twice", of_lines(S_LINE, S_LINE, C_LINE, *LEAST_CELLS), "line 4: shape"),
-    ("a cell in place of line 4", of_lines(S_LINE, *LEAST_CELLS), "line 4: shape"),
-    ("cells left out between the last bytes", WORKED[:-1], "truncated"),
-    ("no digest line", WORKED.split("Z ")[0], "truncated"),
-    ("a piece of a cell at the end", WORKED.split("Z ")[0][:-2], "truncated"),
-    ("a wrong digest", WORKED.replace("Z 9", "Z 8"), "digest"),
-    ("a further byte", WORKED + "\n", "trailing bytes"),
+     "Line 7 Unended"),
+    ("one cell too many", of_lines(S_LINE, C_LINE, *LEAST_CELLS, ONE), "Line 8 Shape"),
+    ("an empty line behind the cells", of_lines(S_LINE, C_LINE, *LEAST_CELLS, ""), "Line 8 Shape"),
+    ("line 4 before line 3", of_lines(C_LINE, S_LINE, *LEAST_CELLS), "Line 3 Shape"),
+    ("line 3 twice", of_lines(S_LINE, S_LINE, C_LINE, *LEAST_CELLS), "Line 4 Shape"),
+    ("a cell in place of line 4", of_lines(S_LINE, *LEAST_CELLS), "Line 4 Shape"),
+    ("cells left out between the last bytes", WORKED[:-1], "Truncated"),
+    ("no digest line", WORKED.split("Z ")[0], "Truncated"),
+    ("a piece of a cell at the end", WORKED.split("Z ")[0][:-2], "Truncated"),
+    ("a wrong digest", WORKED.replace("Z 9", "Z 8"), "Digest"),
+    ("a further byte", WORKED + "\n", "Trailing"),
 ]
-FILES_REFUSED += [("line 3 as %r" % one, with_line(3, one), "line 3: shape") for one in (
+FILES_REFUSED += [("line 3 as %r" % one, with_line(3, one), "Line 3 Shape") for one in (
     "", "S", "S ", "S 3 1", "S 3 1 ", "S 0 1 " + DIGEST, "S 1 1 " + DIGEST, "S 4 1 " + DIGEST, "S 03 1 " + DIGEST,
     "S +3 1 " + DIGEST,
     "S 12582915 1 " + DIGEST, "S 18446744073709551618 1 " + DIGEST, "S 3 0 " + DIGEST, "S 3 2 " + DIGEST, "S 3 01 " + DIGEST,
@@ -257,12 +247,17 @@ FILES_REFUSED += [("line 3 as %r" % one, with_line(3, one), "line 3: shape") for
     "S 3 1 " + DIGEST.upper(),
     "S 3 1 %s0" % DIGEST, "S 3 1 %s " % DIGEST, "S  3 1 " + DIGEST, "S 3  1 " + DIGEST, "S 3 1  " + DIGEST, "s 3 1 " + DIGEST,
     "S 3 1 " + DIGEST + "\r", "S 3 \udcff " + DIGEST, "S 3 \u0661 " + DIGEST, "S -3 1 " + DIGEST, "S 3 -1 " + DIGEST)]
-FILES_REFUSED += [("line 4 as %.40r" % one, with_line(4, one), "line 4: shape") for one in (
+FILES_REFUSED += [("line 4 as %.40r" % one, with_line(4, one), "Line 4 Shape") for one in (
     "", "C", C_LINE[:-2], C_LINE + " 0", C_LINE + " ", C_LINE[2:], "C" + C_LINE, C_LINE.replace("C 1", "C 01"),
     C_LINE.replace("C 1", "C  1"),
     C_LINE.replace("C 1", "C -1"), C_LINE.replace("C 1", "C x"), "C" + " 18446744073709551616" * 65,
     C_LINE[:-1] + "18446744073709551616",
     C_LINE[:-1] + "00", C_LINE.lower())]
-FILES_REFUSED += [("a cell as %.40r" % one, with_line(6, one), "line 6: shape") for one in (
+FILES_REFUSED += [("a cell as %.40r" % one, with_line(6, one), "Line 6 Shape") for one in (
     "", ONE[1:], ONE + "0", ONE.upper(), ONE[:-1] + "g", ONE[:-1] + " ", ONE[:-1] + "\r", " " + ONE,
     ONE[:-1] + "\udcff", "0", EVENT_DIGEST)]
+
+WRITTEN = SKETCHED + [(name, "missing-by-sketch", [source, sketch], output) for name, source, sketch, output in ANSWERED + MISLEADING]
+REFUSED = [("sketch " + options, "sketch " + options, ["{"], what) for options, what in OPTIONS_REFUSED]
+REFUSED += [(name, "missing-by-sketch", [source, sketch], what) for name, source, sketch, what in SKETCHES_REFUSED]
+REFUSED += [(name, "missing-by-sketch", [NOTHING, sketch], "input 2: " + said(fault)) for name, sketch, fault in FILES_REFUSED] + OF_FILES_REFUSED

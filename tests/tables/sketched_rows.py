@@ -4,7 +4,7 @@ Words: those of a reading or a writer; a sketch's own are its number of cells an
 none stands for no salt. The sketches are worked out in tests/tables/sketch_rows.py.
 """
 from tests.tables import sketch_rows as made
-from tests.tables.texts import C1, C2, CF, K1, KF, digits
+from tests.tables.texts import C1, C2, CF, K1, KF, LIMIT, LIMITS, PIECES, SINKS, WHOLE, data, digits, refused
 
 CALLS = {
     "read_sketch": ["read_sketch", "Sketch::log", "Sketch::layout", "Layout::cells", "Layout::salt", "Sketch::digest", "Sketch::tally",
@@ -16,21 +16,7 @@ CALLS = {
 
 SKETCH, READER, REFUSAL = "Sketch file", "What a sketch says to its reader", "What is refused"
 COMMANDS = "What the commands write"
-LIMITS = "ARCHITECTURE: Limits, and files in pieces"
-SINKS = "ARCHITECTURE: Sources and sinks"
-PIECES = [1, 7, 4096]
-LIMIT = 1 << 20  # no file here has so many bytes
-WHOLE = (LIMIT, 4096, 0)
 SALT_OF_NOTHING = 16873295375025541461
-FAULTS = {"version": "Version", "log line": "LogLine", "digest": "Digest", "truncated": "Truncated", "trailing bytes": "Trailing"}
-
-
-def refused(said):
-    """The answer of a refusal that the command says so."""
-    if said in FAULTS:
-        return ["err", FAULTS[said]]
-    _, number, cause = said.replace(":", "").split()
-    return ["err", "Line", number, cause.capitalize()]
 
 
 def read(count, salt, *atoms, log="g"):
@@ -60,8 +46,8 @@ ROWS += [
 ROWS += [("write_sketch", [7, "never", 0, count, 1, "g"], ["no cells"], SKETCH)
          for count in (0, 1, 4, 12582915, 2**32 + 2, 2**64 - 1)]
 ROWS += [("write_sketch", [7, "never", 0, 3, salt, "g"], ["ok", made.EMPTY], COMMANDS) for salt in (0, 2, 2**64 - 2)]
-ROWS += [("read_sketch", [LIMIT, 7, 0, text.encode("utf-8", "surrogateescape")], refused(said), REFUSAL)
-         for _, text, said in made.FILES_REFUSED]
+ROWS += [("read_sketch", [LIMIT, 7, 0, data(text)], refused(fault), REFUSAL)
+         for _, text, fault in made.FILES_REFUSED]
 
 # The own atoms, a sketch, the sketched atoms, and what their site lacks: atoms with their carriers.
 FOUND = [

@@ -1,6 +1,6 @@
 """Worked rows of split files: the vectors of docs/FORMATS.md, the borders of windows, and what the last line is a digest of.
 
-    from split_rows import SPLIT, SPLIT_REFUSED
+    from split_rows import WRITTEN, REFUSED
 """
 from tests.tables.document_rows import FAILED, ONE, at
 from tests.tables.texts import C1, V1, body, digits, document, line, quoted, replica, tree
@@ -57,39 +57,39 @@ def tree_at(place, time):
 TURNED = ["2024-03-02T00:00:00Z", "2024-03-01T00:00:00Z", "1999-12-31T00:00:00Z", "2024-02-29T00:00:00Z"]
 
 # A call, its files, and what it writes.
-SPLIT = [
-    ("nothing", "--by day", [NOTHING], split("day")),
-    ("nothing under a log that is given", "--by hour --log g", [NOTHING_TREE], split("hour")),
-    ("a property and an event with two bodies", "--by day", [PAGE], split(
+WRITTEN = [
+    ("nothing", "split --by day", [NOTHING], split("day")),
+    ("nothing under a log that is given", "split --by hour --log g", [NOTHING_TREE], split("hour")),
+    ("a property and an event with two bodies", "split --by day", [PAGE], split(
         "day", ("shared", NORTH_TREE), ("2024-02-29", EARLIER_TREE), ("2024-03-01", EVENT_TREE))),
-    ("the same by month", "--by month", [PAGE], split(
+    ("the same by month", "split --by month", [PAGE], split(
         "month", ("shared", NORTH_TREE), ("2024-02", EARLIER_TREE), ("2024-03", EVENT_TREE))),
-    ("the same by hour", "--by hour", [PAGE], split(
+    ("the same by hour", "split --by hour", [PAGE], split(
         "hour", ("shared", NORTH_TREE), ("2024-02-29T23", EARLIER_TREE), ("2024-03-01T12", EVENT_TREE))),
-    ("an event", "--by month", [V1, NOTHING], split("month", ("2024-03", EVENT_TREE))),
-    ("two events of one window", "--by day", [TWO], split("day", ("2024-03-01", TWO_TREE))),
-    ("chains", "--by hour", [CHAINS], split("hour", ("2024-03-01T12", CHAINS_TREE))),
-    ("a tag", "--by day", [TAGGED_TREE], split("day", ("2024-03-01", TAGGED_TREE))),
-    ("two bodies of one window", "--by day", [document(ONE), document(FAILED)], split("day", ("2024-03-01", CONFLICT_TREE))),
-    ("facts that are no event's", "--by day", [NAMED], split("day", ("shared", NAMED_TREE))),
-    ("a ruling of an event", "--by day", [UNHELD], split("day", ("shared", RULING_TREE), ("2024-03-01", EVENT_TREE))),
-    ("a settled event", "--by day", [RULED_TREE], split("day", ("shared", RULING_TREE), ("2024-03-01", CONFLICT_TREE))),
-    ("several files", "--by day", [document(more=',"name":"north"'), V1], split("day", ("shared", NORTH_TREE), ("2024-03-01", EVENT_TREE))),
-    ("an event under a log that is given", "--by day --log g", [V1], split("day", ("2024-03-01", EVENT_TREE))),
-    ("windows whose events come in another order", "--by day", [at_times(*TURNED)], split("day", *(
+    ("an event", "split --by month", [V1, NOTHING], split("month", ("2024-03", EVENT_TREE))),
+    ("two events of one window", "split --by day", [TWO], split("day", ("2024-03-01", TWO_TREE))),
+    ("chains", "split --by hour", [CHAINS], split("hour", ("2024-03-01T12", CHAINS_TREE))),
+    ("a tag", "split --by day", [TAGGED_TREE], split("day", ("2024-03-01", TAGGED_TREE))),
+    ("two bodies of one window", "split --by day", [document(ONE), document(FAILED)], split("day", ("2024-03-01", CONFLICT_TREE))),
+    ("facts that are no event's", "split --by day", [NAMED], split("day", ("shared", NAMED_TREE))),
+    ("a ruling of an event", "split --by day", [UNHELD], split("day", ("shared", RULING_TREE), ("2024-03-01", EVENT_TREE))),
+    ("a settled event", "split --by day", [RULED_TREE], split("day", ("shared", RULING_TREE), ("2024-03-01", CONFLICT_TREE))),
+    ("several files", "split --by day", [document(more=',"name":"north"'), V1], split("day", ("shared", NORTH_TREE), ("2024-03-01", EVENT_TREE))),
+    ("an event under a log that is given", "split --by day --log g", [V1], split("day", ("2024-03-01", EVENT_TREE))),
+    ("windows whose events come in another order", "split --by day", [at_times(*TURNED)], split("day", *(
         (time[:10], tree_at(place, time)) for time, place in sorted((time, place) for place, time in enumerate(TURNED))))),
-    *(("a window by %s of %s" % (unit, time), "--by " + unit, [of_one_event(time)[0]], split(unit, (name, of_one_event(time)[1])))
+    *(("a window by %s of %s" % (unit, time), "split --by " + unit, [of_one_event(time)[0]], split(unit, (name, of_one_event(time)[1])))
       for time, *names in WINDOWS for unit, name in zip(("month", "day", "hour"), names)),
 ]
 
 # A call, its files, and why it is refused, as `join` refuses them.
-SPLIT_REFUSED = [
-    ("another log", "--by day", [document(V1), '{"id":"h","events":[]}'], "input 2: other log"),
-    ("events by themselves", "--by day", [V1, V1], "no log named"),
-    ("another log than the one that is given", "--by day --log h", [NOTHING, V1], "input 1: other log"),
-    ("a split file", "--by day", [split("day")], "input 1: version"),
-    ("a second input that isn't ended", "--by day", [V1, "{"], "input 2: not JSON"),
+REFUSED = [
+    ("another log", "split --by day", [document(V1), '{"id":"h","events":[]}'], "input 2: other log"),
+    ("events by themselves", "split --by day", [V1, V1], "no log named"),
+    ("another log than the one that is given", "split --by day --log h", [NOTHING, V1], "input 1: other log"),
+    ("a split file", "split --by day", [split("day")], "input 1: version"),
+    ("a second input that isn't ended", "split --by day", [V1, "{"], "input 2: not JSON"),
 ]
 
 # How many bytes the vectors of docs/FORMATS.md have.
-SIZES = [(split("day"), 92), (SPLIT[2][3], 869)]
+SIZES = [(split("day"), 92), (WRITTEN[2][3], 869)]

@@ -22,8 +22,14 @@ S1 = '{"reporterId":"s1","role":"observer"}'
 S2 = '{"reporterId":"s2","role":"relay"}'
 S3 = '{"reporterId":"s3","role":"relay"}'
 
-# The event of a usual producer: its identifier, its body, the step of its chain and its tag.
+# The event of a usual producer: its identifier, the whole of it, its body, the step of its chain and its tag.
 E3 = "openstack:7f3e"
+USUAL = (
+    '{"typeURI":"%s","id":"openstack:7f3e","eventType":"activity","eventTime":"2014-02-14T01:20:47.932842+0000",'
+    '"action":"read/list","outcome":"success","observer":{"id":"target"},'
+    '"initiator":{"id":"u1","typeURI":"service/security/account/user"},"target":{"id":"t1"},'
+    '"reporterchain":[{"role":"modifier","reporterTime":"2014-02-14T01:20:47.932842+00:00","reporter":{"id":"target"}}],'
+    '"tags":["correlation_id?value=9"]}' % EVT)
 B3 = ('{"action":"read/list","eventTime":"2014-02-14T01:20:47.932842Z","eventType":"activity",'
       '"initiator":{"id":"u1","typeURI":"service/security/account/user"},"observer":{"id":"target"},'
       '"outcome":"success","target":{"id":"t1"}}')
@@ -35,10 +41,10 @@ MEMBERS = {
     "initiatorId": '"u1"', "observerId": '"s1"', "outcome": '"success"', "targetId": '"t1"', "typeURI": '"%s"' % EVT}
 
 
-def event(name, value):
-    """The usual event with that member, whose value is JSON; without it where the value is empty."""
-    members = {**MEMBERS, name: value}
-    return "{" + ",".join('"%s":%s' % (one, members[one]) for one in sorted(members) if members[one]) + "}"
+def event(**changed):
+    """The usual event with these members, whose values are JSON; without one whose value is empty."""
+    members = {**MEMBERS, **changed}
+    return "{" + ",".join('"%s":%s' % (name, members[name]) for name in sorted(members) if members[name]) + "}"
 
 
 def body(name, value):
@@ -67,9 +73,14 @@ def line(*texts):
     return "[" + ",".join(quoted(text) for text in texts) + "]"
 
 
+def data(text):
+    """The bytes of a text, in which a lone half of a pair stands for a byte that is no part of UTF-8; bytes are themselves."""
+    return text if isinstance(text, bytes) else text.encode("utf-8", "surrogateescape")
+
+
 def digits(text):
     """The digits of the text's digest."""
-    return hashlib.sha256(text.encode() if isinstance(text, str) else text).hexdigest()
+    return hashlib.sha256(data(text)).hexdigest()
 
 # Atoms: the usual event, others of its identifier, and chains.
 C1, C2, CF = line("E", "e1", B1), line("E", "e2", B1), line("E", "e1", BF)
@@ -96,3 +107,45 @@ def tree(*nodes, log="g"):
 def inventory(*lines, log="g"):
     """The inventory file with these lines of digits."""
     return lined("CADF-INVENTORY 1", *lines, log=log)
+
+
+def log(*events, log="g", **more):
+    """The log text with these events; `more` are its properties, and the lists of its entities."""
+    members = {"geolocations": "[]", "metrics": "[]", "resources": "[]", **more}
+    members.update(events="[%s]" % ",".join(events), id=quoted(log), typeURI=quoted(LOG_TYPE))
+    return "{%s}\n" % ",".join("%s:%s" % (quoted(name), members[name]) for name in sorted(members))
+
+
+def conflicts(*entries, rulings=(), log="g"):
+    """The conflict text with these entries."""
+    listed = ",".join(line(*ruling) for ruling in rulings)
+    return '{"conflicts":[%s],"log":%s,"rulings":[%s]}\n' % (",".join(entries), quoted(log), listed)
+
+
+def entry(letter, key, *values, ruled=""):
+    """The entry of a key; `ruled` is the digest of the value that the log shows."""
+    member = '"ruled":"%s",' % ruled if ruled else ""
+    return '{"key":"%s","kind":"%s",%s"values":[%s]}' % (key, letter, member, ",".join(values))
+
+# How faults of files and of their lines are shown.
+SHOWN = {"Version": "version", "LogLine": "log line", "Digest": "digest", "Truncated": "truncated", "Trailing": "trailing bytes",
+         "TooLarge": "too large", "ReadFault": "read fault"}
+CAUSES = {"NotUtf8": "not UTF-8", "Json": "not JSON", "NotCanonical": "not canonical", "Shape": "shape", "Order": "order",
+          "Ungrounded": "ungrounded", "Unended": "unended"}
+
+
+def said(fault):
+    """How a fault is shown: that of a line is `Line`, its number and its cause."""
+    name, *line = fault.split()
+    return "line %s: %s" % (line[0], CAUSES[line[1]]) if line else SHOWN[name]
+
+
+def refused(fault):
+    """The answer of a driver that refuses with that fault."""
+    return ["err", *fault.split()]
+
+# What rows of the driver of files share: how many bytes a read or a write has, a limit above all files, and headings.
+PIECES = [1, 7, 4096]
+LIMIT = 1 << 20
+WHOLE = (LIMIT, 4096, 0)
+LIMITS, SINKS = "ARCHITECTURE: Limits, and files in pieces", "ARCHITECTURE: Sources and sinks"

@@ -1,6 +1,6 @@
 """Worked rows of proofs: proofs that are made, facts that are verified by them, and what is refused.
 
-    from verify_rows import PROVED, VERIFIED, PROOFS_REFUSED
+    from verify_rows import WRITTEN, REFUSED
 
 The files stand behind the command's words.
 """
@@ -38,8 +38,8 @@ PROVED = [
     ("facts of a file and an event", [V2, V2, EVENT_TREE], proof([D2], [D1, D2])),
 ]
 
-# Words before the files, a seal, facts and a proof, and what is written.
-VERIFIED = [
+# Words before the files, the files, and what is written.
+WRITTEN = [(name, "prove", files, output) for name, files, output in PROVED] + [
     ("a fact that is there", "verify", [seal(D1), EVENT_TREE, proof([D1], [D1])], 'present E "e1"\n'),
     ("an event by itself", "verify", [seal(D1, D2), V2, proof([D2], [D1, D2])], 'present E "e2"\n'),
     ("an event by itself under another log", "verify", [seal(D1, log='"h"'), V1, OTHER_PROOF], 'present E "e1"\n'),
@@ -56,7 +56,7 @@ VERIFIED = [
 ]
 
 # A call, its files, and what is refused.
-PROOFS_REFUSED = [
+REFUSED = [
     ("FACTS that are damaged, before a file", "prove", ["{", "CADF-REPLICA 3\n"], "input 1: not JSON"),
     ("a file that is damaged", "prove", [V1, "CADF-REPLICA 3\n"], "input 2: version"),
     ("a second file that is damaged, and no log", "prove", [OTHER_LOG, V1, "{"], "input 3: not JSON"),
