@@ -1,4 +1,4 @@
-"""Tests the command before anything is proved: some 280 worked calls, in three minutes.
+"""Tests the command before anything is proved: some 400 worked calls, in three minutes.
 
     python3 -m tests
 

@@ -1,7 +1,5 @@
 """The commands of cadf, an entry each: their words, and the command lines on which the scripts of this folder run them.
 
-    python3 -m tests.command.commands    writes the command lines with too few or too many words, one a line
-
 A further command is an entry here (CONTRIBUTING.md). The script that runs its lines makes the files that they name.
 """
 from typing import NamedTuple, Sequence
@@ -176,7 +174,3 @@ def refused():
             yield " ".join([name] + words[1:])
         if words and not command.operands.endswith("..."):
             yield " ".join([name, "log.json"] + words)
-
-
-if __name__ == "__main__":
-    print("\n".join(refused()))

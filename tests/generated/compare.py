@@ -9,8 +9,7 @@ status, standard output and standard error of `join`, `split`, `missing`, `missi
 are clap's own, beyond that the status is 2 and that they go to standard error alone; words that aren't UTF-8 count as
 no call. Nor is anything reached that takes a large input, a failed write or want of memory.
 
-BINARY is crates/cadf/out/cadf unless given. A case depends on its seed and number alone, and on whether the help of
-BINARY lists `rehearse`, and then `sketch`, `split` and `prove`, whose calls are compared too if it does. The status is 1 where a case
+BINARY is crates/cadf/out/cadf unless given. A case depends on its seed and number alone. The status is 1 where a case
 differs; the first ten that do are kept, made smaller, in folders of their own with the call to run there.
 """
 import argparse
@@ -23,13 +22,11 @@ import subprocess
 import sys
 import tempfile
 
-from tests import TOP
-from tests.generated.generate import KINDS, KINDS_WITH_PROOFS, KINDS_WITH_REHEARSALS, KINDS_WITH_SKETCHES, KINDS_WITH_SPLITS, Case
-from tests.reference.command import DIRECTORY, Answer, answer
+from tests.generated.generate import Case
+from tests.machine import built, ended
+from tests.reference.command import DIRECTORY, answer
 from tests.reference.sealed_files import sealed
 
-BINARY = os.path.join(TOP, "crates", "cadf", "out", "cadf")
-SECONDS = 20
 KEPT = 10
 SHOWN = 200
 
@@ -48,12 +45,7 @@ def answered(binary, words, files):
     """What the binary answers in a folder with these files."""
     with tempfile.TemporaryDirectory(prefix="cadf-case-") as folder:
         put(folder, files)
-        try:
-            done = subprocess.run(
-                [binary, *words], cwd=folder, stdin=subprocess.DEVNULL, capture_output=True, timeout=SECONDS)
-        except subprocess.TimeoutExpired:
-            return Answer(None, b"", b"no answer in %d seconds" % SECONDS)
-    return Answer(done.returncode, done.stdout, done.stderr)
+        return ended(binary, words, cwd=folder, stdin=subprocess.DEVNULL)
 
 
 def alike(wanted, got):
@@ -62,15 +54,9 @@ def alike(wanted, got):
     return got.error != b"" if wanted.error is None else got.error == wanted.error
 
 
-def commands_of(binary):
-    """The words with which lines of the binary's help begin, its commands among them."""
-    told = subprocess.run([binary, "--help"], stdin=subprocess.DEVNULL, capture_output=True).stdout.decode()
-    return {line.split()[0] for line in told.splitlines() if line.strip()}
-
-
-def compared(binary, kinds, seed, number):
+def compared(binary, seed, number):
     """The kind of a case, and whether the two answer it alike."""
-    case = Case(kinds, seed, number)
+    case = Case(seed, number)
     return case.kind, alike(answer(case.words, case.files), answered(binary, case.words, case.files))
 
 
@@ -129,24 +115,19 @@ def main():
     parser = argparse.ArgumentParser(description=__doc__, formatter_class=argparse.RawDescriptionHelpFormatter)
     parser.add_argument("--count", type=int, default=4000)
     parser.add_argument("--seed", type=int, default=1)
-    parser.add_argument("binary", nargs="?", default=BINARY)
+    parser.add_argument("binary", nargs="?", default=built("cadf"))
     options = parser.parse_args()
     binary = os.path.abspath(options.binary)
     if not os.access(binary, os.X_OK):
         sys.exit("%s can't be run" % binary)
     sys.stdout.reconfigure(errors="surrogateescape")  # a word that isn't UTF-8 is printed as it is
-    commands = commands_of(binary)
-    kinds = KINDS_WITH_REHEARSALS if "rehearse" in commands else KINDS
-    kinds = KINDS_WITH_SKETCHES if "sketch" in commands else kinds
-    kinds = KINDS_WITH_SPLITS if "split" in commands else kinds
-    kinds = KINDS_WITH_PROOFS if "prove" in commands else kinds
-    one = functools.partial(compared, binary, kinds, options.seed)
+    one = functools.partial(compared, binary, options.seed)
     with concurrent.futures.ThreadPoolExecutor(len(os.sched_getaffinity(0))) as pool:
         answers = list(pool.map(one, range(options.count)))
     seen = collections.Counter(kind for kind, _ in answers)
     differing = [number for number, (_, same) in enumerate(answers) if not same]
     for place, number in enumerate(differing):
-        case = Case(kinds, options.seed, number)
+        case = Case(options.seed, number)
         print("case %d (%s) differs" % (number, case.kind.replace("_", " ")))
         if place < KEPT:
             difference = Difference(binary, case)

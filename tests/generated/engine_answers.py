@@ -3,7 +3,7 @@ that cut, readers whose bytes can be borrowed, and their answers by the second i
 
 Each of `KINDS` makes a driver's name, a call with its words and the fields of its answer.
 """
-from tests.generated.generate import KINDS_WITH_PROOFS, Case
+from tests.generated.generate import Case
 from tests.reference.command import DIRECTORY, OPTIONS, Call, Usage, answer
 
 LARGEST = 20000  # bytes of a file; a larger one takes too many reads
@@ -54,7 +54,7 @@ def engines(chance):
     pieces = iter(lambda: chance.randint(0, LONGEST_PIECE), -1)
     made = None
     while made is None:
-        made = called(Case(KINDS_WITH_PROOFS, chance.randrange(2 ** 32), 0), pieces)
+        made = called(Case(chance.randrange(2 ** 32), 0), pieces)
     return ("engine", *made)
 
 KINDS = [engines]

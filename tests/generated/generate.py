@@ -714,19 +714,16 @@ KINDS = {
     words: 5, large: 1, inventories: 10,
     damaged_inventories: 18, rules: 12,
     doubled_names: 12, numbers_anywhere: 8, escapes_anywhere: 10, depths_anywhere: 10, near_names: 10, far_members: 10,
-    bare_documents: 12, faults_in_turn: 12, large_events: 6, unions: 14}
-KINDS_WITH_REHEARSALS = {**KINDS, rehearsals: 12}
-KINDS_WITH_SKETCHES = {**KINDS_WITH_REHEARSALS, sketches: 14, damaged_sketches: 16, misleading_sketches: 12, sketch_words: 5}
-KINDS_WITH_SPLITS = {**KINDS_WITH_SKETCHES, splits: 14}
-KINDS_WITH_PROOFS = {**KINDS_WITH_SPLITS, proves: 12, verifies: 14, damaged_proofs: 18, misleading_proofs: 12}
+    bare_documents: 12, faults_in_turn: 12, large_events: 6, unions: 14, rehearsals: 12, sketches: 14, damaged_sketches: 16,
+    misleading_sketches: 12, sketch_words: 5, splits: 14, proves: 12, verifies: 14, damaged_proofs: 18, misleading_proofs: 12}
 
 
 class Case:
     """The kind of a case, the words of its call and the contents of its files, all of whose names are bytes."""
 
-    def __init__(self, kinds, seed, number):
+    def __init__(self, seed, number):
         chance = random.Random("%d/%d" % (seed, number))  # a case depends on nothing but the kinds, its seed and number
-        kind, = chance.choices(list(kinds), list(kinds.values()))
+        kind, = chance.choices(list(KINDS), list(KINDS.values()))
         words, files = kind(chance)
         self.kind = kind.__name__
         self.words = [word if isinstance(word, bytes) else word.encode() for word in words]

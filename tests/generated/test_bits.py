@@ -10,8 +10,8 @@ import tempfile
 import pytest
 
 from tests import TOP
-from tests.generated.compare import SECONDS, alike, put
-from tests.machine import Answer, side_by_side
+from tests.generated.compare import alike, put
+from tests.machine import SECONDS, Answer, side_by_side
 from tests.reference.command import answer
 from tests.reference.sealed_files import sealed
 

@@ -13,7 +13,7 @@ from install import library_files, needs
 from tests import TOP, text_of
 from tests.command import vectors
 from tests.generated.compare import alike, answered
-from tests.generated.generate import KINDS_WITH_PROOFS, Case
+from tests.generated.generate import Case
 from tests.library.declarations import HEADERS, PYTHON, STRICT, declared
 from tests.machine import side_by_side
 from tests.reference.command import DIRECTORY, Answer, Call, Usage
@@ -263,7 +263,7 @@ def cases(count, seed):
     for name, words, files, _ in vectors.calls():
         yield name, words, files
     for place in range(count):
-        case = Case(KINDS_WITH_PROOFS, seed, place)
+        case = Case(seed, place)
         yield "case %d (%s)" % (place, case.kind), case.words, case.files
 
 

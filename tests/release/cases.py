@@ -21,7 +21,7 @@ PLACES = {
     "calls of examples/vectors": vectors.calls(),
     "command lines": [line for command in commands.COMMANDS.values() for lines in command[2:] for line in lines],
     "lines that a shell completes": completions.CASES,
-    "kinds of generated calls": generate.KINDS_WITH_PROOFS,
+    "kinds of generated calls": generate.KINDS,
     "kinds of generated calls of drivers": drivers.KINDS,
     "planted faults": planted.ROWS,
     "mutants of must-fail": glob.glob(os.path.join(TOP, "crates", "*", "must-fail", "*")),
