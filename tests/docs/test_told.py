@@ -9,6 +9,7 @@ import pytest
 from tests import TOP, text_of
 from tests.command import test_statuses
 from tests.reference import events, json_text, sketch_files
+from tests.tables import rows
 
 TOOLS = sorted(name for name in os.listdir(os.path.join(TOP, "tools")) if name.startswith("cadf-"))
 UNITS = {"MiB": 2 ** 20, "KiB": 2 ** 10}
@@ -36,9 +37,14 @@ def statuses(fault):
     return whole or {status for pattern, status, is_begun in patterns if is_begun and pattern.match(fault)}
 
 
-@pytest.mark.parametrize("status, fault", sorted({(status, fault) for _, status, fault in test_statuses.ENDS if status}))
-def test_status(status, fault):
-    """FORMATS has each text that tests/command/test_statuses.py wants of the program, with its status."""
+# What the tests want of the command: each text of a refusal, with its status.
+WANTED = {fault: status for _, status, fault in test_statuses.ENDS if status}
+WANTED.update((wanted.error.decode()[len("cadf: "):-1], wanted.status) for *_, wanted in rows.all_rows() if wanted.status)
+
+
+@pytest.mark.parametrize("fault, status", sorted(WANTED.items()))
+def test_status(fault, status):
+    """FORMATS has it."""
     assert statuses(fault) == {status}
 
 
@@ -52,10 +58,9 @@ def test_entry_of_fault(text):
 
 
 def test_statuses_of_readme():
-    found = {name: status for _, status, name in test_statuses.ENDS}
     line = re.search(r"Exit status: 0 [^,]+, (\d) [^,]*refused[^,]*, (\d) [^,]*command line[^,]*, (\d) [^,]*read or write[^,]*, (\d) out of memory",
                      text_of("README.md").replace("\n", " "))
-    assert [int(digit) for digit in line.groups()] == [found["input 1: not JSON"], found["cells"], found["input 1: read fault"], 4]
+    assert [int(digit) for digit in line.groups()] == [WANTED["input 1: not JSON"], WANTED["cells"], WANTED["input 1: read fault"], 4]
     assert statuses("out of memory") == {4}
 
 

@@ -115,10 +115,10 @@ ASKED = asked([digits(C1), digits(K1), digits(K12)], [digits(C2), digits(CF), di
 
 # The options of a sketch of a file that is refused too, and what is refused.
 OPTIONS_REFUSED = [(options, "cells") for options in (
-    "--cells 0", "--cells=", "--cells 4", "--cells 03", "--cells +3", "--cells=-3", "--cells 3.0", "--cells 12582915",
+    "--cells 0", "--cells=", "--cells 4", "--cells 03", "--cells +3", "--cells=-3", "--cells 3.0", "--cells 2", "--cells 3x", "--cells 12582915",
     "--cells 18446744073709551619", "--cells x --salt 2", "--salt 2 --cells 1")]
 OPTIONS_REFUSED += [(options, "salt") for options in (
-    "--salt 0", "--salt=", "--salt 2", "--salt 01", "--salt=-1", "--salt 0x1", "--salt 18446744073709551616",
+    "--salt 0", "--salt=", "--salt 2", "--salt 01", "--salt=-1", "--salt +1", "--salt 1x", "--salt 0x1", "--salt 18446744073709551616",
     "--salt 18446744073709551617", "--cells 3 --salt 18446744073709551614")]
 
 # Files FROM and SKETCH, and what is written.
