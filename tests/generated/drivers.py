@@ -17,7 +17,8 @@ from tests import TOP
 from tests.generated import odd_documents, odd_events
 from tests.generated.engine_answers import KINDS as ENGINE_KINDS
 from tests.generated.file_answers import KINDS as FILE_KINDS
-from tests.generated.generate import ODD_JSON, damaged
+from tests.generated.generate import ODD_JSON
+from tests.generated.odd_lines import damaged
 from tests.generated.odd_values import any_value, odd_name, time
 from tests.generated.replica_answers import KINDS as REPLICA_KINDS
 from tests.generated.spelling import spelled_oddly

@@ -3,10 +3,9 @@
 A word of a call or a field of an answer is a text, bytes or a number. Each of `KINDS` makes a driver's name, a call with
 its words and the fields of its answer.
 """
-from tests.generated.odd_files import (
-    atoms_of, damaged, documents_told, file_with_odd_lines, odd_atoms_file, some_file, with_odd_end, with_rulings,
-)
+from tests.generated.odd_files import atoms_of, documents_told, file_with_odd_lines, odd_atoms_file, some_file, with_rulings
 from tests.generated.odd_inventories import odd_inventory, some_inventory
+from tests.generated.odd_lines import damaged, with_odd_end
 from tests.generated.odd_nodes import odd_nodes_file
 from tests.generated.odd_sketches import odd_sketch, some_layout, some_sketch
 from tests.generated.odd_values import good_name

@@ -1,4 +1,5 @@
 """Generated cases: the words of a call, and the contents of the files in its folder."""
+import functools
 import glob
 import os
 import random
@@ -7,9 +8,9 @@ from tests import TOP
 from tests.generated import odd_documents, odd_events, odd_files, odd_inventories, odd_nodes, odd_proofs, odd_sketches, schedules
 from tests.generated.odd_events import chain, event
 from tests.generated.odd_files import (
-    atoms_of, damaged, documents_told, file_with, grounded_part, resealed, some_carrier, some_file, some_file_of,
-    some_head, with_rulings,
+    atoms_of, documents_told, file_with, grounded_part, some_carrier, some_file, some_file_of, some_head, with_rulings,
 )
+from tests.generated.odd_lines import damaged, resealed, with_odd_end
 from tests.generated.odd_values import (
     any_value, good_name, good_time, nested, number, number_near_a_border, odd_name, odd_text, time,
 )
@@ -35,6 +36,10 @@ ODD_INPUTS = [
     b'CADF-REPLICA 2\nL "g"\n', b"CADF-REPLICA 2\n", b"CADF-REPLICA 2", b'CADF-REPLICA 2\nL "g"\n[1,0,"E"]\n',
     b'CADF-REPLICA 3\nL "g"\n', b"null", b"0", b'""', b"[]", b"{}"]
 NO_DIGESTS = inventory_of("g", [])
+# The files of a call that asks a site for what another one lacks, mostly in their order.
+FROM_BY = [["from", "by"]] * 20 + [
+    ["by", "from"], ["by", "by"], ["from", "from"], ["from", "folder"], ["from", "nothere"], ["nothere", "by"], ["folder", "by"],
+    ["nothere", "folder"]]
 TOKENS = [b"{", b"}", b"[", b"]", b",", b":", b'"', b'"id"', b'"events"', b'"g"', b"1", b" ", b"null"]
 LIKELY_WORDS = ["a", "b", "c", "g", "e", "i", "nothere", "folder", "-", "--", "--log", "--log=g", "--log="]
 WORDS = LIKELY_WORDS + [
@@ -67,6 +72,14 @@ def telling(chance, data):
         {"a": data, "b": spelled_oddly(chance, odd_events.document(chance))}
 
 
+def read_by(make, call=reading):
+    """The kind of cases whose calls read what this makes."""
+    @functools.wraps(make)
+    def kind(chance):
+        return call(chance, make(chance))
+    return kind
+
+
 def log_with(member):
     return b'{"id":"g","events":[],' + member + b"}"
 
@@ -94,27 +107,6 @@ def texts(chance):
         sealed(some_head(chance) + [line]), sealed(some_head(chance) + [b'[1,0,"P"]', b"[2,0,%s]" % text, b'[3,1,"1"]'])]))
 
 
-def deep_document(chance):
-    deep = nested(chance, chance.choice([98, 99, 100]))
-    made = event(chance)
-    kind = chance.randrange(5)
-    if kind == 0:
-        return {"id": "g", "events": [], "p": nested(chance, chance.choice([99, 100, 101, 125, 126, 127, 128]))}
-    if kind == 1:
-        member, value = odd_events.deep_member(chance, [-1, 0, 1, 2, 22, 23, 24, 25])
-        made[member] = value
-        return chance.choice([made, {"id": "g", "events": [made]}])
-    if kind == 2:
-        member, key = chance.choice(odd_events.ENTITY_MEMBERS)
-        return {"id": "g", "events": [], member: [{key: "a", "d": deep}]}
-    if kind == 3:
-        step = {"role": "relay", "reporterId": "s", "d": deep}
-        made.update(chance.choice([{"reporterchain": [step]}, {"reporterchains": [[step]]}]))
-    else:
-        made.update({"attachments": [{"d": deep}], "x": nested(chance, chance.choice([98, 99, 99]))})
-    return {"id": "g", "events": [made]}
-
-
 def deep_file(chance):
     deep = nested(chance, chance.choice([97, 98, 99, 100])).data.decode()
     carrier = some_carrier(chance, "e")
@@ -133,10 +125,8 @@ def deep_file(chance):
 
 
 def depths(chance):
-    kind = chance.randrange(10)
-    if kind == 0:
-        return reading(chance, nested(chance, chance.choice([99, 100, 126, 127, 128, 129, 200])).data)
-    return reading(chance, spelled_oddly(chance, deep_document(chance)) if kind < 6 else deep_file(chance))
+    """A value by itself, or a file with a part that nests about as deep as it may; odd_documents.deep makes such documents."""
+    return nested(chance, chance.choice([99, 100, 126, 127, 128, 129, 200])).data if chance.random() < 0.2 else deep_file(chance)
 
 
 def times(chance):
@@ -207,22 +197,18 @@ def events(chance):
     whole = chance.choice([
         made, {"id": "g", "events": [made]}, {"id": "g", "events": [event(chance), made]},
         {"id": "g", "events": [event(chance), made, odd_events.broken(chance, event(chance))]}])
-    if chance.random() < 0.1:
-        whole = odd_events.repeated(chance, whole)
-    return reading(chance, spelled_oddly(chance, whole, chance.choice([0, 0, 0.05, 0.3])))
+    return spelled_oddly(chance, whole, chance.choice([0, 0, 0.05, 0.3]))
 
 
 def documents(chance):
     made = chance.choice([odd_events.odd_document, odd_events.document])(chance)
     kind = chance.random()
-    if kind < 0.15:
-        made = odd_events.repeated(chance, made)
-    elif kind < 0.25:
+    if kind < 0.1:
         made = chance.choice([[], [made], None, True, 7, "x", {}, {"events": []}, {"event": made}, {"id": "g"},
                               {"events": None, "id": "g"}, {"Events": []}])
     before = chance.choice([b""] * 8 + [b"\xef\xbb\xbf", b" ", b"\n\r\t "])
     behind = chance.choice([b""] * 8 + [b"\n", b" \r\n\t", b"\x00", b"x", b",", b"\x0b", b"\xc2\xa0", b"{}"])
-    return reading(chance, before + spelled_oddly(chance, made, chance.choice([0, 0, 0.05, 0.3])) + behind)
+    return before + spelled_oddly(chance, made, chance.choice([0, 0, 0.05, 0.3])) + behind
 
 
 def as_input(chance, document):
@@ -374,21 +360,25 @@ def inventories(chance):
         return [chance.choice(["inventory", "seal"]), "from" if chance.random() < 0.95 else chance.choice(["folder", "nothere"])], files
     log = "g" if chance.random() < 0.94 else chance.choice(["h", "g ", "G"])
     files["by"] = inventory_with(log, some_digests(chance, atoms))
-    operands = chance.choice([["from", "by"]] * 20 + [
-        ["by", "from"], ["by", "by"], ["from", "from"], ["from", "folder"], ["from", "nothere"], ["nothere", "by"],
-        ["folder", "by"], ["nothere", "folder"]])
-    return ["missing-by"] + operands, files
+    return ["missing-by", *chance.choice(FROM_BY)], files
 
 
-def damaged_inventories(chance):
-    """An inventory with something odd in it, mostly where one is asked for."""
-    made = odd_inventories.odd_inventory(chance)
+def sent_beside(chance, command, made):
+    """A call of a command that reads a file of a site and what another site sends, where one is expected; now and then elsewhere."""
     source = chance.choice([lambda: some_file(chance)] * 8 + [
         lambda: some_file(chance, "h"), lambda: damaged(chance, some_file(chance), 1), lambda: made,
         lambda: spelled_oddly(chance, event(chance))])()
-    return chance.choice([["missing-by", "a", "i"]] * 12 + [
-        ["missing-by", "i", "i"], ["inventory", "i"], ["check", "i"], ["join", "a", "i"], ["missing", "a", "i"]]), \
-        {"a": source, "i": made}
+    return chance.choice([[command, "a", "i"]] * 15 + [
+        [command, "i", "i"], ["inventory", "i"], ["sketch", "i"], ["check", "i"], ["join", "a", "i"], ["missing", "a", "i"],
+        ["missing-by", "a", "i"]]), {"a": source, "i": made}
+
+
+def damaged_inventories(chance):
+    return sent_beside(chance, "missing-by", odd_inventories.odd_inventory(chance))
+
+
+def damaged_sketches(chance):
+    return sent_beside(chance, "missing-by-sketch", odd_sketches.odd_sketch(chance))
 
 
 def of_nearly(chance, told):
@@ -417,21 +407,7 @@ def sketches(chance):
     layout = odd_sketches.some_layout(chance, len(atoms ^ there))
     log = "g" if chance.random() < 0.94 else chance.choice(["h", "g ", "G"])
     files["by"] = sketch_file(log, sketch_with(log, digests, *layout))
-    operands = chance.choice([["from", "by"]] * 20 + [
-        ["by", "from"], ["by", "by"], ["from", "from"], ["from", "folder"], ["from", "nothere"], ["nothere", "by"],
-        ["folder", "by"], ["nothere", "folder"]])
-    return ["missing-by-sketch"] + operands, files
-
-
-def damaged_sketches(chance):
-    """A sketch with something odd in it, mostly where one is asked for."""
-    made = odd_sketches.odd_sketch(chance)
-    source = chance.choice([lambda: some_file(chance)] * 8 + [
-        lambda: some_file(chance, "h"), lambda: damaged(chance, some_file(chance), 1), lambda: made,
-        lambda: spelled_oddly(chance, event(chance))])()
-    return chance.choice([["missing-by-sketch", "a", "i"]] * 12 + [
-        ["missing-by-sketch", "i", "i"], ["sketch", "i"], ["check", "i"], ["join", "a", "i"], ["missing", "a", "i"],
-        ["missing-by", "a", "i"]]), {"a": source, "i": made}
+    return ["missing-by-sketch", *chance.choice(FROM_BY)], files
 
 
 def misleading_sketches(chance):
@@ -528,26 +504,7 @@ def shows(chance):
 
 
 def damages(chance):
-    if chance.random() < 0.5:
-        return reading(chance, odd_files.file_with_odd_lines(chance))
-    return reading(chance, odd_files.with_odd_end(chance, some_file(chance)))
-
-
-def atoms(chance):
-    return reading(chance, odd_files.odd_atoms_file(chance))
-
-
-def nodes(chance):
-    return reading(chance, odd_nodes.odd_nodes_file(chance))
-
-
-def bits(chance):
-    """A small file with one bit changed, its digest line made right again or not."""
-    documents = documents_told(chance, 1, 1)
-    whole = some_file_of(chance, "g", atoms_of(documents))
-    place = chance.randrange(len(whole))
-    changed = whole[:place] + bytes([whole[place] ^ 1 << chance.randrange(8)]) + whole[place + 1:]
-    return reading(chance, changed if chance.random() < 0.3 else resealed(changed))
+    return chance.choice([odd_files.file_with_odd_lines(chance), with_odd_end(chance, some_file(chance))])
 
 
 def formats(chance):
@@ -639,42 +596,6 @@ def large(chance):
          {"a": some_file_of(chance, "g", mine | theirs)})])
 
 
-def doubled_names(chance):
-    return telling(chance, odd_documents.doubled(chance))
-
-
-def numbers_anywhere(chance):
-    return telling(chance, odd_documents.numbered(chance))
-
-
-def escapes_anywhere(chance):
-    return telling(chance, odd_documents.escaped(chance))
-
-
-def depths_anywhere(chance):
-    return telling(chance, odd_documents.deep(chance))
-
-
-def near_names(chance):
-    return telling(chance, odd_documents.near(chance))
-
-
-def far_members(chance):
-    return telling(chance, odd_documents.far(chance))
-
-
-def bare_documents(chance):
-    return telling(chance, odd_documents.bare(chance))
-
-
-def large_events(chance):
-    return telling(chance, odd_documents.large(chance))
-
-
-def faults_in_turn(chance):
-    return telling(chance, odd_documents.odd_in_turn(chance))
-
-
 def rules(chance):
     """A call that rules, of which most name a value that is held."""
     told = atoms_of(documents_told(chance, 2, 5))
@@ -709,13 +630,14 @@ def rehearsals(chance):
 
 # Each kind of case, and how many there are of it beside the others.
 KINDS = {
-    numbers: 8, texts: 8, depths: 8, times: 10, orders: 4, names: 8, events: 12, documents: 10, joins: 12, missings: 10,
-    shows: 10, damages: 12, atoms: 14, nodes: 20, bits: 8, formats: 8, example_documents: 8, example_joins: 2, chains: 3, json_texts: 8, byte_texts: 4,
-    words: 5, large: 1, inventories: 10,
-    damaged_inventories: 18, rules: 12,
-    doubled_names: 12, numbers_anywhere: 8, escapes_anywhere: 10, depths_anywhere: 10, near_names: 10, far_members: 10,
-    bare_documents: 12, faults_in_turn: 12, large_events: 6, unions: 14, rehearsals: 12, sketches: 14, damaged_sketches: 16,
-    misleading_sketches: 12, sketch_words: 5, splits: 14, proves: 12, verifies: 14, damaged_proofs: 18, misleading_proofs: 12}
+    numbers: 8, texts: 8, read_by(depths): 6, times: 10, orders: 4, names: 8, read_by(events): 12, read_by(documents): 10, joins: 12,
+    missings: 10, shows: 10, read_by(damages): 12, read_by(odd_files.odd_atoms_file): 16, read_by(odd_nodes.odd_nodes_file): 22, formats: 8,
+    example_documents: 8, example_joins: 2, chains: 3, json_texts: 8, byte_texts: 4, words: 5, large: 1, inventories: 10,
+    damaged_inventories: 18, rules: 12, read_by(odd_documents.doubled, telling): 16, read_by(odd_documents.numbered, telling): 8,
+    read_by(odd_documents.escaped, telling): 10, read_by(odd_documents.deep, telling): 14, read_by(odd_documents.near, telling): 10,
+    read_by(odd_documents.far, telling): 10, read_by(odd_documents.bare, telling): 12, read_by(odd_documents.odd_in_turn, telling): 12,
+    read_by(odd_documents.large, telling): 6, unions: 14, rehearsals: 12, sketches: 14, damaged_sketches: 16, misleading_sketches: 12,
+    sketch_words: 5, splits: 14, proves: 12, verifies: 14, damaged_proofs: 18, misleading_proofs: 12}
 
 
 class Case:

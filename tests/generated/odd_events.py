@@ -1,6 +1,6 @@
 """Generated steps, events, entities and documents, as they should be and with something odd in them."""
 from tests.generated.odd_values import any_value, good_name, good_time, nested, number, odd_name, odd_text, scalar, time
-from tests.generated.spelling import Members, Raw
+from tests.generated.spelling import Raw
 from tests.reference.events import EVENT_URI
 from tests.reference.shown_texts import LOG_URI
 
@@ -237,15 +237,3 @@ def odd_document(chance):
     else:
         made[chance.choice(["p", "q", ""])] = nested(chance, chance.choice([99, 100, 101, 102, 120, 125, 126, 127, 128]))
     return made
-
-
-def repeated(chance, value):
-    """The object with a name or two given twice, in some order."""
-    members = list(value.items())
-    chance.shuffle(members)
-    for _ in range(chance.randint(1, 2)):
-        name = chance.choice(list(value) + ["events", "id", "x"])
-        other = chance.choice([None, 7, "g", [], {}, Raw(number(chance).encode()),
-                               nested(chance, chance.choice([3, 100, 125, 126])), value.get(name, 1)])
-        members.insert(chance.randint(0, len(members)), (name, other))
-    return Members(members)

@@ -1,6 +1,7 @@
 """Generated sets of atoms and replica files of both formats, and files with something odd in them."""
 from tests.generated.odd_events import attachment, event, odd_step, step
-from tests.generated.odd_values import PIECES, good_name, number, odd_name, time
+from tests.generated.odd_lines import damaged, drop_some, insert_one, repeat_one, resealed, swap, turn, with_odd_lines
+from tests.generated.odd_values import good_name, number, odd_name, time
 from tests.generated.spelling import spelled_oddly
 from tests.reference import events
 from tests.reference.atoms import with_carriers
@@ -11,7 +12,6 @@ from tests.reference.rulings import digest_of_value
 from tests.reference.sealed_files import head, sealed
 
 STEP = spelled({"reporterId": "s1", "role": "observer"})
-ODD_BYTES = b'"\\[]{},:0123456789-+.eEtfn \n\r\t/uZ\x00\x7f\xff\xc3'
 PROPERTY_VALUES = [
     "1", "null", '"x"', "[]", "{}", "", "nul", "1.5", " 1", "1 ", '{"b":1,"a":2}', '"\\u0041"', '"\\u0001"', '"\\u001F"',
     '"\\/"', "1e2", "-0", "18446744073709551615", "18446744073709551616", "-9223372036854775809", '{"a":1,"a":1}']
@@ -120,48 +120,12 @@ def file_with(chance, *values):
     return sealed(head(FIRST_LINES[version], "g") + [spelled(line).encode() for line in lines])
 
 
-def resealed(data):
-    """The file with the digest line that its lines ask for."""
-    return sealed(data.split(b"\n")[:-2])
-
-
 def grounded_part(chance, atoms):
     return with_carriers({atom for atom in sorted(atoms) if chance.random() < 0.6})
 
 
 def some_carrier(chance, name="e1"):
     return next(list(atom) for atom in atoms_of([{"id": "g", "events": [event(chance, name)]}]) if len(atom) == 3)
-
-
-def damaged_once(chance, data):
-    place, kind = chance.randrange(len(data)), chance.randrange(9)
-    end = place + chance.randint(1, 20)
-    front, byte, back = data[:place], data[place], data[place + 1:]
-    if kind == 0:
-        return front + bytes([byte ^ 1 << chance.randrange(8)]) + back
-    if kind == 1:
-        return front + bytes([chance.randrange(256)]) + back
-    if kind == 2:
-        return front + back
-    if kind == 3:
-        return front + bytes([chance.choice(ODD_BYTES)]) + data[place:]
-    if kind == 4:
-        return front + data[end:]
-    if kind == 5:
-        return front + data[place:end] + data[place:]
-    if kind == 6:
-        return front + bytes([chance.choice(ODD_BYTES)]) + back
-    if kind == 7:
-        return front + chance.choice(PIECES) + data[place:]
-    swapped, other = bytearray(data), chance.randrange(len(data))
-    swapped[place], swapped[other] = data[other], data[place]
-    return bytes(swapped)
-
-
-def damaged(chance, data, times=None):
-    for _ in range(times or chance.choice([1, 1, 1, 2, 3])):
-        data = damaged_once(chance, data) if data else data
-    return data
 
 
 def odd_body_text(chance, body):
@@ -254,25 +218,6 @@ def odd_atoms_file(chance):
         made = resealed(b"\n".join(lines))
     return made
 
-ODD_FIRST_LINES = [
-    b"CADF-REPLICA 1", b"CADF-REPLICA 2", b"CADF-REPLICA 3", b"CADF-REPLICA 2 ", b"CADF-REPLICA 02", b"CADF-REPLICA 1 ",
-    b"CADF-REPLICA 1\r", b"CADF-REPLICA 2\r", b"CADF-INVENTORY 1", b"CADF-INVENTORY 2", b"CADF-REPLICA  1", b"CADF-",
-    b"CADF-replica 1", b"CADF-REPLICA 01", b"CADF-REPLICA 1\x00"]
-ODD_LOG_LINES = [
-    b"", b"L", b"L ", b"L g", b'L  "g"', b'L "g" ', b'L "g"\r', b'L ""', b'L "\\u0067"', b'L "\\/"', b'L "/"', b'l "g"',
-    b'"g"', b"L 7", b"L null", b'L ["g"]', b'L "\x7f"', b'L "\xff"', b'L "\\n"', b'L "h"', b'L "\xc3\xa9"',
-    b'L "\\u00e9"', b'L "' + b"x" * 1024 + b'"', b'L "' + b"x" * 1025 + b'"']
-ODD_LINES = [
-    b"", b" ", b"\r", b"[]", b"{}", b"null", b"1.5", b"-0", b"1e999", b"\xff", b"{", b'["P"]', b'["P","n"]',
-    b'["P","n","1","2"]', b'["X","a","1"]', b'["U","E","e1","' + b"a" * 64 + b'"]', b"z", b"Y", b"[", b'["E","e1"]',
-    b'["",""]', b'"Z"', b" Z x", b"Z", b"Z ", b"Z x", b"ZZ", b"Z " + b"0" * 64, b"Z\r", b"Z\xff"]
-
-
-def swap(chance, lines):
-    if len(lines) > 1:
-        first, second = chance.sample(range(len(lines)), 2)
-        lines[first], lines[second] = lines[second], lines[first]
-
 
 def change_one(chance, lines):
     if lines:
@@ -282,55 +227,11 @@ def change_one(chance, lines):
             damaged(chance, line, 1), line.replace(b'","', b'", "', 1), line.replace(b"e", b"\\u0065", 1),
             line + chance.choice([b"\r", b" ", b"\t", b",", b"]", b"\x00"])])
 
-
-def repeat_one(chance, lines):
-    if lines:
-        place = chance.randrange(len(lines))
-        lines.insert(place, lines[place])
-
-
-def drop_some(chance, lines):
-    start = chance.choice([0, chance.randrange(len(lines) + 1)])
-    del lines[start:start + chance.choice([1, chance.randrange(len(lines) + 1)])]
-
 # What may be done to the lines of a file's atoms.
 LINE_DAMAGES = [
-    swap, change_one, change_one, change_one, repeat_one, drop_some, drop_some,
-    lambda chance, lines: lines.insert(chance.randint(0, len(lines)), chance.choice(ODD_LINES)),
-    lambda chance, lines: lines.insert(chance.randint(0, len(lines)), chance.choice(ODD_LINES)),
-    lambda chance, lines: lines.sort(reverse=chance.random() < 0.5),
-    lambda chance, lines: lines.extend(list(lines)),
-]
+    swap, change_one, change_one, change_one, repeat_one, drop_some, drop_some, insert_one, insert_one, turn,
+    lambda chance, lines: lines.extend(list(lines))]
 
 
 def file_with_odd_lines(chance):
-    lines = some_file(chance).split(b"\n")[:-1]
-    head, body, digest = lines[:2], lines[2:-1], lines[-1:]
-    kind = chance.randrange(14)
-    if kind == 0:
-        head[0] = chance.choice(ODD_FIRST_LINES)
-    elif kind == 1:
-        head[1] = chance.choice(ODD_LOG_LINES)
-    elif kind == 2:
-        del head[chance.randrange(2)]
-    else:
-        chance.choice(LINE_DAMAGES)(chance, body)
-    if chance.random() < 0.7:
-        return sealed(head + body)
-    return b"\n".join(head + body + digest) + b"\n"
-
-
-def with_odd_end(chance, whole):
-    """The file cut, or with something odd in its digest line or behind it."""
-    start = whole.rfind(b"Z ")
-    place = chance.randrange(start, len(whole) - 1)
-    flipped = bytes([whole[place] ^ 1 << chance.randrange(8)])
-    return chance.choice([
-        whole[:chance.randrange(len(whole))],
-        whole + chance.choice([b"\n", b" ", b"x", b"Z", whole, b"\x00", whole.split(b"\n")[0] + b"\n"]),
-        whole[:place] + flipped + whole[place + 1:],
-        whole[:start] + whole[start:].upper(),
-        whole.replace(b"\n", b"\r\n"),
-        whole[:-1] + chance.choice([b"\r\n", b" \n", b"", b"\n\n", b"0\n"]),
-        damaged(chance, whole),
-        whole[:start] + chance.choice([b"Z  ", b"Z", b"Z\t", b"z "]) + whole[start + 2:]])
+    return with_odd_lines(chance, some_file(chance), 2, LINE_DAMAGES)

@@ -1,5 +1,6 @@
 """Generated replica files of format 2 with something odd in their nodes."""
-from tests.generated.odd_files import DIGITS, ODD_LINES, atoms_of, damaged, documents_told, with_rulings
+from tests.generated.odd_files import DIGITS, atoms_of, documents_told, with_rulings
+from tests.generated.odd_lines import ODD_LINES, damaged
 from tests.generated.odd_values import PIECES, odd_name
 from tests.reference.json_text import spelled
 from tests.reference.replica_files import FIRST_LINES, nodes_of

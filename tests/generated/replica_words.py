@@ -5,10 +5,8 @@ function makes the words of one call or of several that take the same.
 """
 from tests.generated.file_answers import line_of
 from tests.generated.generate import nearly, some_digests
-from tests.generated.odd_files import (
-    DIGITS, ODD_LISTS, ODD_LOG_LINES, STEP, atoms_of, damaged, documents_told, grounded_part, some_carrier,
-    with_rulings,
-)
+from tests.generated.odd_files import DIGITS, ODD_LISTS, STEP, atoms_of, documents_told, grounded_part, some_carrier, with_rulings
+from tests.generated.odd_lines import ODD_LOG_LINES, damaged
 from tests.generated.odd_nodes import ELEMENTS
 from tests.generated.odd_values import any_value, good_name, nested, odd_name
 from tests.generated.schedules import script
