@@ -14,7 +14,7 @@ import os
 import sys
 import tempfile
 
-from measure import asked, atoms_of, best_of, check_same_bytes, run_apart, tell, two_sites, write_replica
+from measure import Trial, asked, atoms_of, best_of, check_same_bytes, run_apart, tell, two_sites, write_replica
 from peer import SQLITE, found, has, rust
 
 HASHES = {"sha256sum": "sha256sum", "openssl": "openssl dgst -sha256"}
@@ -37,23 +37,15 @@ def plain(script):
     return ["sh", "-c", "export LC_ALL=C; " + script]
 
 
-class Trial:
-    """The command and the files of two sites by format, in a folder."""
+class TwoSites(Trial):
+    """The command and the files of two sites by format."""
 
     def __init__(self, options, folder):
-        self.binary, self.runs, self.atoms, self.folder = options.binary, options.runs, options.atoms, folder
+        super().__init__(options, folder)
+        self.atoms = options.atoms
         self.files, self.lines = two_sites(folder, options.atoms), [self.path("lines"), self.path("lines.2")]
         for path, lines in zip(self.files[1], self.lines):
             run_apart(plain("sort " + path), lines)
-
-    def path(self, name):
-        return os.path.join(self.folder, name)
-
-    def written(self, *words):
-        """A file of what the command writes."""
-        path = self.path("-".join(map(os.path.basename, words)))
-        run_apart([self.binary, *words], path)
-        return path
 
     def tell(self, command, files, others, aims=None):
         """Times the command on these files of each format beside the others."""
@@ -121,7 +113,7 @@ class Trial:
 def main():
     options = asked(__doc__, atoms=100000, runs=5, only="join,missing,inventory,missing-by,seal,verify")
     with tempfile.TemporaryDirectory() as folder:
-        trial = Trial(options, folder)
+        trial = TwoSites(options, folder)
         for version, paths in trial.files.items():
             print("two files of format %d: %s bytes" % (version, format(sum(map(os.path.getsize, paths)), ",")))
         for command in options.only.split(","):

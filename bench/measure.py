@@ -35,6 +35,24 @@ def asked(about, **defaults):
     return options
 
 
+class Trial:
+    """The command, how many runs are measured, and a folder in which files are made."""
+
+    def __init__(self, options, folder):
+        self.binary, self.runs, self.folder, self.made = options.binary, options.runs, folder, 0
+
+    def path(self, name=None):
+        """The path of a file of that name, or of a further one."""
+        self.made += name is None
+        return os.path.join(self.folder, name or str(self.made))
+
+    def written(self, *words):
+        """A file of what the command writes, which it must."""
+        path = self.path()
+        run_apart([self.binary, *words], path)
+        return path
+
+
 class Run(NamedTuple):
     """What a run of a command took, or the best of several runs."""
     wall: float  # seconds

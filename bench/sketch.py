@@ -21,7 +21,7 @@ import subprocess
 import sys
 import tempfile
 
-from measure import asked, atoms_of, check_same_bytes, rdiff, run_apart, tell, write_replica, written_apart
+from measure import Trial, asked, atoms_of, check_same_bytes, rdiff, run_apart, tell, write_replica, written_apart
 
 from tests.generated.odd_sketches import path
 from tests.reference.sketch_files import (
@@ -37,16 +37,12 @@ SHARED = 1000  # events of sites of which it doesn't matter how large they are
 BYTES_A_FACT = 100  # of memory, beside the cells
 
 
-class Trial:
-    """The command, a folder, and the chance by which facts and salts are chosen."""
+class Sketches(Trial):
+    """The command, and the chance by which facts and salts are chosen."""
 
     def __init__(self, options, folder):
-        self.binary, self.runs, self.salts, self.folder = options.binary, options.runs, options.salts, folder
-        self.chance, self.files = random.Random(52), 0
-
-    def path(self):
-        self.files += 1
-        return os.path.join(self.folder, str(self.files))
+        super().__init__(options, folder)
+        self.salts, self.chance = options.salts, random.Random(52)
 
     def keep(self, content):
         path = self.path()
@@ -60,12 +56,6 @@ class Trial:
         if done.returncode and not done.stderr.startswith(TOO_FEW):
             sys.exit("missing-by-sketch: %r" % done.stderr)
         return (None, int(done.stderr[len(TOO_FEW):])) if done.returncode else (done.stdout, 0)
-
-    def written(self, *words):
-        """A file of what the command writes, which it must."""
-        path = self.path()
-        run_apart([self.binary, *words], output=path)
-        return path
 
     def site(self, atoms):
         path = self.path()
@@ -217,7 +207,7 @@ def main():
     for part in options.only.split(","):
         for facts in map(int, options.atoms.split(",")) if part in sized else [None]:
             with tempfile.TemporaryDirectory() as folder:
-                trial = Trial(options, folder)
+                trial = Sketches(options, folder)
                 sized[part](trial, facts) if part in sized else others[part](trial)
 
 
