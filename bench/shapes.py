@@ -2,7 +2,6 @@
 """What inputs of many shapes cost: each command's time and memory for a byte, and how both grow.
 
     bench/shapes.py [--size 4] [--runs 3] [--shapes tags,names] [--forms file] [--commands check,join] [BINARY]
-    bench/shapes.py --instructions --size 0.2 [..]
     bench/shapes.py --table [--jobs 4] [--shapes ..] [--commands ..] [BINARY]
     bench/shapes.py --gate [BINARY]
 
@@ -19,9 +18,9 @@ The aims: a doubling of the bytes takes 2.3 times as much; a byte 8 times an ord
 255 steps; 256 steps 1.3 times 64. Memory a byte is what inputs.py says, and for other files of at least 50 MB it is 3,
 and 80 an atom more for the commands that note atoms or keys. What is above its aim says so, and the status is then 1.
 
---instructions counts these in millions in place of seconds, whatever else the machine does; it needs valgrind. --table
-does both, with small sizes for the counts, and prints the twenty dearest shapes in Markdown: by instructions, by
-seconds and by memory. Lines of the measurements go to standard error. --gate tries the shapes of GATE.
+--table measures seconds and counts instructions, in millions and by valgrind, with small sizes for the counts. It prints the
+twenty dearest shapes in Markdown: by instructions, by seconds and by memory. Lines of the measurements go to standard
+error. --gate counts those of the shapes of GATE, whatever else the machine does.
 """
 import concurrent.futures
 import contextlib
@@ -267,10 +266,10 @@ def check_counts():
 
 def main():
     options = asked(__doc__, size=4.0, runs=3, jobs=1, shapes=",".join(SHAPES), forms="document,file,file of format 1",
-                    commands=",".join(COMMANDS), instructions=False, table=False, gate=False)
+                    commands=",".join(COMMANDS), table=False, gate=False)
     commands, forms = options.commands.split(","), options.forms.split(",")
     cases = {(name, form): commands for name in options.shapes.split(",") for form in SHAPES[name].forms if form in forms}
-    if (options.instructions or options.table or options.gate) and not can_count():
+    if (options.table or options.gate) and not can_count():
         return 0
     if options.table:
         with contextlib.redirect_stdout(sys.stderr):
@@ -284,8 +283,8 @@ def main():
         missed += compared(rows)
     else:
         sizes = [int(options.size * MEGABYTE) * times for times in (1, 2, 4)]
-        rows, missed = measured(cases, sizes, options.instructions, options)
-        missed += 0 if options.instructions else compared(rows)
+        rows, missed = measured(cases, sizes, False, options)
+        missed += compared(rows)
     print("%d above their aims" % missed, file=sys.stderr if options.table else sys.stdout)
     return 1 if missed else 0
 
