@@ -6,7 +6,7 @@ scratch and its library has statements alone, as in `rt ci`: that takes less tim
 import os
 
 from build import record
-from build.plan import static_libraries, uses_of
+from build.plan import listed, static_libraries
 
 PROCESSORS = ["x86-64", "x86-64-v2", "x86-64-v3"]
 TARGET = "x86_64-unknown-linux-gnu"
@@ -22,7 +22,7 @@ class Compiler:
     def proof(self, name, libraries, jobs, made):
         """The call that proves the crate and builds it. `libraries` has each crate below with its library."""
         words = [os.path.join(self.kit, "bin", "rattle"), "build", "--crate-name", name, self.root(name)]
-        for used in ["std", *uses_of(self.top, name)]:
+        for used in ["std", *listed(self.top)[name]]:
             words += ["--extern", "%s=%s" % (used, libraries.get(used) or self.library_of_kit(used))]
         folders = {os.path.dirname(library) for library in libraries.values()}
         for folder in [os.path.join(self.kit, "rlibs"), *sorted(folders)]:

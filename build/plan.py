@@ -29,11 +29,6 @@ def static_libraries(top):
         return {line.split()[0] for line in file if line.split(":")[0].split()[1:] == ["staticlib"]}
 
 
-def uses_of(top, name):
-    """All that the crate's line says it depends on, of the repository and of the kit."""
-    return listed(top)[name]
-
-
 def crates_of(top):
     """The crates of crates.txt by name, each with those of the repository that it depends on, in the order of the file."""
     found = listed(top)
@@ -111,29 +106,6 @@ class Plan:
         longest = max((self.chains[other] for other in others), default=0) / speed
         return 1 if with_one <= longest else most
 
-    def speeds(self, jobs, waiting, lanes):
-        """How much sooner each crate that runs with so many jobs ends than by itself with one."""
-        urgent, speeds, idle = self.urgent(jobs, waiting), {}, lanes
-        for name in sorted(jobs, key=lambda name: (name not in urgent, -self.chains[name], name)):
-            busy = max(0.1, min(idle, BUSY[jobs[name]]))
-            idle -= busy
-            speeds[name] = busy / (SEVERAL if jobs[name] > 1 else 1)
-        return speeds
-
-    def left(self, running, done, lanes):
-        """The seconds until all is proved. `running` has the jobs of each crate that runs, and the seconds since it was begun."""
-        jobs, waiting, now = {name: jobs for name, (jobs, _) in running.items()}, self.names - set(done) - set(running), 0
-        speeds = self.speeds(jobs, waiting, lanes) if jobs else {}
-        todo = {name: max(0, self.costs[name] - since * speeds[name]) for name, (_, since) in running.items()}
-        done = set(done)
-        while waiting or todo:
-            for name in list(self.next(waiting, done, todo, lanes)):
-                waiting.discard(name)
-                todo[name], jobs[name] = self.costs[name], self.jobs(name, {*waiting, *todo}, lanes)
-            speeds = self.speeds({name: jobs[name] for name in todo}, waiting, lanes)
-            ends = min(todo, key=lambda name: todo[name] / speeds[name])
-            step = todo[ends] / speeds[ends]
-            todo = {name: left - step * speeds[name] for name, left in todo.items() if name != ends}
-            now += step
-            done.add(ends)
-        return now
+    def left(self, done, lanes):
+        """The seconds until all is proved where these are, as if every processor were busy until then."""
+        return sum(self.costs[name] for name in self.names.difference(done)) * SEVERAL / BUSY[min(lanes, max(BUSY))]

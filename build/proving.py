@@ -89,15 +89,12 @@ class Proof:
     """A call of the compiler that proves a crate."""
 
     def __init__(self, name, folder, jobs, words, mark, sources):
-        self.name, self.jobs, self.mark, self.sources, self.begun = name, jobs, mark, sources, time.monotonic()
+        self.name, self.jobs, self.mark, self.sources = name, jobs, mark, sources
         self.log = os.path.join(folder, "out", "build.log")
         os.makedirs(os.path.dirname(self.log), exist_ok=True)
         with open(self.log, "wb") as log:
             self.child = subprocess.Popen(words, cwd=folder, env={**os.environ, MARK: mark}, stdin=subprocess.DEVNULL, stdout=log,
                                           stderr=subprocess.STDOUT, preexec_fn=os.setpgrp)
-
-    def seconds(self):
-        return time.monotonic() - self.begun
 
     def verdict(self):
         with open(self.log, encoding="utf-8", errors="replace") as log:
@@ -185,9 +182,8 @@ class Build:
 
     def left(self):
         """The seconds that are left, by the plan and by the pace so far."""
-        proofs = {name: (proof.jobs, proof.seconds()) for name, proof in self.running.items()}
-        left, since = self.plan.left(proofs, set(self.verdicts), self.lanes), time.monotonic() - self.begun
-        planned = self.plan.left({}, self.kept_before, self.lanes) - left
+        left, since = self.plan.left(self.verdicts, self.lanes), time.monotonic() - self.begun
+        planned = self.plan.left(self.kept_before, self.lanes) - left
         return left * since / planned if since > PACED and planned > PACED else left
 
     def say(self, text, end_of_line):
