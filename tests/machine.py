@@ -62,6 +62,12 @@ def ended(binary, words, **options):
     return Answer(done.returncode, done.stdout, done.stderr)
 
 
+def said(*words, **options):
+    """The status of a program, and all that it says."""
+    done = subprocess.run(words, check=False, stdin=subprocess.DEVNULL, stdout=subprocess.PIPE, stderr=subprocess.STDOUT, **options)
+    return done.returncode, done.stdout.decode("utf-8", "replace")
+
+
 def untold(right, status):
     """The status, where standard error can't be written and this one is right: that one for each that is let through."""
     return right if right == REFUSED and status in REFUSED_UNTOLD else status

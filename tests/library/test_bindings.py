@@ -15,7 +15,7 @@ from tests.command import vectors
 from tests.generated.compare import alike, answered
 from tests.generated.generate import Case
 from tests.library.declarations import HEADERS, PYTHON, STRICT, declared
-from tests.machine import side_by_side
+from tests.machine import said, side_by_side
 from tests.reference.command import DIRECTORY, Answer, Call, Usage
 
 pytestmark = [pytest.mark.xdist_group("bindings"), pytest.mark.timeout(3600), pytest.mark.needs("gcc")]
@@ -28,10 +28,9 @@ SANITIZED = ["-fsanitize=address,undefined", "-fno-sanitize-recover=all"]
 
 def ran(*words, seconds=SECONDS, **options):
     """Runs a program that has to end well. Returns what it said."""
-    done = subprocess.run(words, stdin=subprocess.DEVNULL, stdout=subprocess.PIPE, stderr=subprocess.STDOUT, timeout=seconds, **options)
-    said = done.stdout.decode(errors="replace")
-    assert done.returncode == 0, said
-    return said
+    status, told = said(*words, timeout=seconds, **options)
+    assert status == 0, told
+    return told
 
 
 @pytest.fixture(scope="module")
@@ -147,8 +146,8 @@ def test_shown_rattle():
 
 def test_python(prefix):
     """The tests in Python, of which none may be left out."""
-    said = ran(sys.executable, "-m", "unittest", "discover", "-s", "tests", "-t", ".", cwd=PYTHON, env=environment(prefix))
-    assert "skipped" not in said
+    told = ran(sys.executable, "-m", "unittest", "discover", "-s", "tests", "-t", ".", cwd=PYTHON, env=environment(prefix))
+    assert "skipped" not in told
 
 
 @pytest.fixture(scope="module")
@@ -176,8 +175,8 @@ def test_installed_by_pip(prefix, venv, tmp_path, kind):
 def test_example(prefix):
     """examples/in-process.py runs, where pycadf is."""
     for python in dict.fromkeys((sys.executable, "/usr/bin/python3")):
-        said = ran(python, os.path.join(TOP, "examples", "in-process.py"), env=environment(prefix)) if os.path.exists(python) else ""
-    if "is not here" in said:
+        told = ran(python, os.path.join(TOP, "examples", "in-process.py"), env=environment(prefix)) if os.path.exists(python) else ""
+    if "is not here" in told:
         pytest.skip("pycadf isn't there (Debian: python3-pycadf)")
 
 

@@ -1,10 +1,10 @@
 """What a checker of types says of the package for Python, and of programs that use it."""
 import os
-import subprocess
 
 import pytest
 
 from tests import TOP
+from tests.machine import said
 
 PACKAGE = os.path.join(TOP, "bindings", "python")
 RIGHT = """import cadf
@@ -21,9 +21,8 @@ pytestmark = pytest.mark.needs("mypy")
 
 def judged(tmp_path, *words):
     """The status of mypy, and what it says."""
-    done = subprocess.run(["mypy", "--strict", "--python-version", "3.8", "--cache-dir", str(tmp_path / "cache"), *words], cwd=tmp_path, check=False,
-                          env={**os.environ, "MYPYPATH": PACKAGE}, stdout=subprocess.PIPE, stderr=subprocess.STDOUT)
-    return done.returncode, done.stdout.decode()
+    return said("mypy", "--strict", "--python-version", "3.8", "--cache-dir", tmp_path / "cache", *words, cwd=tmp_path,
+                env={**os.environ, "MYPYPATH": PACKAGE})
 
 
 def test_the_package_has_the_types_that_it_says(tmp_path):
@@ -35,6 +34,6 @@ def test_programs_are_judged_by_them(tmp_path):
     path.write_text(RIGHT)
     assert judged(tmp_path, str(path))[0] == 0
     path.write_text("import cadf\n" + "".join(line + "\n" for line in WRONG))
-    said = judged(tmp_path, str(path))[1]
-    errors = [line.split(":")[1] for line in said.splitlines() if ": error: " in line]
-    assert errors == [str(number) for number in range(2, 2 + len(WRONG))], said
+    told = judged(tmp_path, str(path))[1]
+    errors = [line.split(":")[1] for line in told.splitlines() if ": error: " in line]
+    assert errors == [str(number) for number in range(2, 2 + len(WRONG))], told

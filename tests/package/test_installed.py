@@ -6,20 +6,19 @@ import fcntl
 import os
 import re
 import shutil
-import subprocess
 
 import pytest
 
 from tests import TOP, text_of
 from tests.command.commands import COMMANDS
-from tests.machine import ended
+from tests.command.vectors import read
+from tests.machine import ended, said
 from tests.package import completions
 from tests.tools.programs import loaded
 
 INSTALL = os.path.join(TOP, "install", "install")
 TOOLS = sorted(name for name in os.listdir(os.path.join(TOP, "tools")) if os.path.isfile(os.path.join(TOP, "tools", name)))
 GUIDES = ("TUTORIAL", "GUIDE", "ERRORS", "GLOSSARY", "OPENSTACK", "REPORT", "OPERATING", "SECURITY", "LIBRARY", "PERFORMANCE", "SYNC", "SEALS")
-VECTORS = os.path.join(TOP, "examples", "vectors")
 LONG_OPTION = re.compile(r"(?<![\w-])--[a-z][a-z-]*")
 # What is installed beside the tools, the pages of docs/ and the examples that have a folder.
 PLACES = """
@@ -35,11 +34,18 @@ UNITS = {".service": "lib/systemd/system/%s.service", ".timer": "lib/systemd/sys
          ".sysusers": "lib/sysusers.d/%s.conf", ".tmpfiles": "lib/tmpfiles.d/%s.conf"}
 
 
+def install(*words, **options):
+    """What a run of install/install says, which has to end well."""
+    status, told = said(INSTALL, *words, **options)
+    assert status == 0, told
+    return told
+
+
 @pytest.fixture(scope="module")
 def prefix(cadf, tmp_path_factory):
     """A folder under which all is installed; the gate has built the command, and leaves no record of it."""
     folder = tmp_path_factory.mktemp("installed")
-    subprocess.run([INSTALL, "--any", folder], check=True, stdout=subprocess.DEVNULL)
+    install("--any", folder)
     return folder
 
 
@@ -128,8 +134,7 @@ def test_examples_find_the_tool(prefix, monkeypatch, name, check):
 def test_take_and_report(run, prefix, tmp_path):
     site = tmp_path / "site.cadf"
     assert run("cadf-take", str(site), str(prefix / "share/doc/cadf/examples/vectors/north.json")).status == 0
-    with open(os.path.join(VECTORS, "north.cadf"), "rb") as file:
-        assert site.read_bytes() == file.read()
+    assert site.read_bytes() == read("north.cadf")
     beside = ended(os.path.join(TOP, "tools", "cadf-report"), [str(site)], env={**os.environ, "CADF": str(prefix / "bin" / "cadf")})
     assert beside.status == 0 and run("cadf-report", str(site)) == beside
 
@@ -158,33 +163,33 @@ def test_places(prefix):
 
 def test_install_over(cadf, tmp_path):
     """Over an earlier one, files are put in place whole, and what is no longer installed goes."""
-    subprocess.run([INSTALL, "--any", tmp_path], check=True, stdout=subprocess.DEVNULL)
+    install("--any", tmp_path)
     command, listed, old = tmp_path / "bin" / "cadf", tmp_path / "share/doc/cadf/installed", tmp_path / "bin" / "cadf-old"
     old.write_text("x")
     listed.write_text(listed.read_text() + "bin/cadf-old\n")
     with open(command, "rb") as running:
-        subprocess.run([INSTALL, "--any", tmp_path], check=True, stdout=subprocess.DEVNULL)
+        install("--any", tmp_path)
         assert os.fstat(running.fileno()).st_nlink == 0 and not old.exists()
 
 
 def test_uninstall(cadf, tmp_path):
     """What was installed is removed, and what somebody else put beside it stays."""
-    subprocess.run([INSTALL, "--any", tmp_path], check=True, stdout=subprocess.DEVNULL)
+    install("--any", tmp_path)
     others = [tmp_path / place / "of-another" for place in ("", "bin", "share/doc/cadf", "share/doc/cadf/docs", "share/cadf/report")]
     for other in others:
         other.write_text("x")
-    subprocess.run([INSTALL, "--uninstall", tmp_path], check=True, stdout=subprocess.DEVNULL)
+    install("--uninstall", tmp_path)
     assert sorted(path for path in tmp_path.rglob("*") if not path.is_dir()) == sorted(others)
 
 
 def test_uninstall_ended(cadf, tmp_path):
     """An --uninstall that ends before it is done leaves the list, and the next one removes the rest."""
-    subprocess.run([INSTALL, "--any", tmp_path], check=True, stdout=subprocess.DEVNULL)
+    install("--any", tmp_path)
     (tmp_path / "bin" / "cadf").unlink()
     (tmp_path / "bin" / "cadf" / "of-another").mkdir(parents=True)
     assert ended(INSTALL, ["--uninstall", tmp_path]).status == 1
     shutil.rmtree(tmp_path / "bin" / "cadf")
-    subprocess.run([INSTALL, "--uninstall", tmp_path], check=True, stdout=subprocess.DEVNULL)
+    install("--uninstall", tmp_path)
     assert list(tmp_path.iterdir()) == []
 
 
@@ -195,14 +200,14 @@ def test_install_ended(cadf, tmp_path):
     assert ended(INSTALL, ["--any", tmp_path]).status == 1
     in_the_way.rmdir()
     count = sum(path.is_file() for path in tmp_path.rglob("*"))
-    assert ended(INSTALL, ["--uninstall", tmp_path]).output.decode() == "removed %d files under %s\n" % (count, tmp_path)
+    assert install("--uninstall", tmp_path) == "removed %d files under %s\n" % (count, tmp_path)
     assert sorted(tmp_path.rglob("*")) == sorted(list(in_the_way.parents)[:3])
 
 
 @pytest.mark.parametrize("word", ["--any", "--uninstall"])
 def test_two_at_once(cadf, tmp_path, word):
     """While a run is at work under a prefix another one is refused there, and changes nothing: they would write into one another's files."""
-    subprocess.run([INSTALL, "--any", tmp_path], check=True, stdout=subprocess.DEVNULL)
+    install("--any", tmp_path)
     before = sorted((path, path.stat().st_ino) for path in tmp_path.rglob("*"))
     folder = os.open(tmp_path, os.O_RDONLY)
     fcntl.flock(folder, fcntl.LOCK_EX)
@@ -210,7 +215,7 @@ def test_two_at_once(cadf, tmp_path, word):
     os.close(folder)
     assert (done.status, done.error.decode()) == (1, "install: another run is at work under %s: try again once it has ended\n" % tmp_path)
     assert sorted((path, path.stat().st_ino) for path in tmp_path.rglob("*")) == before
-    assert ended(INSTALL, [word, tmp_path]).status == 0
+    install(word, tmp_path)
 
 
 def test_no_prefix(tmp_path):
@@ -224,10 +229,10 @@ def test_no_prefix(tmp_path):
 def test_uninstall_of_links(cadf, tmp_path):
     """A folder that somebody made a link stays, and all files go."""
     folder, elsewhere = tmp_path / "prefix", tmp_path / "elsewhere"
-    subprocess.run([INSTALL, "--any", folder], check=True, stdout=subprocess.DEVNULL)
+    install("--any", folder)
     (folder / "share" / "man").rename(elsewhere)
     (folder / "share" / "man").symlink_to(elsewhere)
-    subprocess.run([INSTALL, "--uninstall", folder], check=True, stdout=subprocess.DEVNULL)
+    install("--uninstall", folder)
     assert [path for path in tmp_path.rglob("*") if path.is_file()] == [] and elsewhere.is_dir()
 
 
@@ -237,7 +242,7 @@ def test_umask(cadf, tmp_path, mask):
     there = tmp_path / "there"
     there.mkdir(mode=0o700)
     for folder, first in ((tmp_path / "new" / "prefix", "new"), (there, "there/bin")):
-        subprocess.run([INSTALL, "--any", folder], check=True, stdout=subprocess.DEVNULL, preexec_fn=lambda: os.umask(mask))
+        install("--any", folder, preexec_fn=lambda: os.umask(mask))
         made = [tmp_path / first, *(tmp_path / first).rglob("*")]
         assert {path.stat().st_mode & 0o777 for path in made} <= {0o755, 0o644}
     assert there.stat().st_mode & 0o777 == 0o700
@@ -245,15 +250,14 @@ def test_umask(cadf, tmp_path, mask):
 
 def test_advice(cadf, tmp_path):
     """What install/install says is to be done can be pasted into a shell, also where the prefix has a blank."""
-    said = subprocess.run([INSTALL, "--any", tmp_path / "a $(b)'"], check=True, stdout=subprocess.PIPE).stdout.decode()
-    line = re.search(r"(?m)^put it on the path: (.*)$", said)[1]
+    line = re.search(r"(?m)^put it on the path: (.*)$", install("--any", tmp_path / "a $(b)'"))[1]
     assert ended("sh", ["-c", line + "; command -v cadf"]).output.decode() == "%s\n" % (tmp_path / "a $(b)'" / "bin" / "cadf")
 
 
 def test_staged(cadf, prefix, tmp_path):
     """With DESTDIR all is done below that folder, as it is done under a prefix."""
     def run(*words):
-        subprocess.run([INSTALL, *words, "/opt/cadf"], check=True, stdout=subprocess.DEVNULL, env={**os.environ, "DESTDIR": str(tmp_path)})
+        install(*words, "/opt/cadf", env={**os.environ, "DESTDIR": str(tmp_path)})
 
     def places(folder):
         return {str(path.relative_to(folder)) for path in folder.rglob("*") if not path.is_dir()}

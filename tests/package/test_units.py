@@ -12,8 +12,9 @@ import subprocess
 
 import pytest
 
-from tests import TOP
-from tests.machine import ended
+from tests import TOP, text_of
+from tests.command.vectors import read
+from tests.machine import ended, said
 
 UNITS = os.path.join(TOP, "examples", "systemd")
 VECTORS = os.path.join(TOP, "examples", "vectors")
@@ -43,17 +44,15 @@ SAID = [
 
 def analyzed(*words):
     """The status of systemd-analyze, and what it says."""
-    command = ["systemd-analyze", "--no-pager", *words]
-    done = subprocess.run(command, check=False, stdin=subprocess.DEVNULL, stdout=subprocess.PIPE, stderr=subprocess.STDOUT)
-    return done.returncode, done.stdout.decode("utf-8", "replace")
+    return said("systemd-analyze", "--no-pager", *words)
 
 
 def settings(name):
     """The settings of a unit, of which the last counts."""
-    read = configparser.ConfigParser(interpolation=None, strict=False)
-    read.optionxform = str
-    read.read(os.path.join(UNITS, name), encoding="utf-8")
-    return read
+    found = configparser.ConfigParser(interpolation=None, strict=False)
+    found.optionxform = str
+    found.read(os.path.join(UNITS, name), encoding="utf-8")
+    return found
 
 
 @pytest.fixture(scope="module")
@@ -87,8 +86,8 @@ def test_understood(root):
 @pytest.mark.parametrize("name", MOST_EXPOSED)
 def test_exposure(root, name):
     most = round(10 * MOST_EXPOSED[name])
-    status, said = analyzed("security", "--offline=yes", "--root=%s" % root, "--threshold=%d" % most, instance(name))
-    assert status == 0, "\n".join(line for line in said.splitlines() if line[:1] in "✗→")
+    status, told = analyzed("security", "--offline=yes", "--root=%s" % root, "--threshold=%d" % most, instance(name))
+    assert status == 0, "\n".join(line for line in told.splitlines() if line[:1] in "✗→")
 
 
 @pytest.mark.parametrize("unit, section, key, value", SAID)
@@ -98,9 +97,7 @@ def test_setting(unit, section, key, value):
 
 def makes_folders(top, capabilities):
     """The status of the line of the unit that makes a spool's folders, with these capabilities alone, in a folder of the test's own."""
-    with open(os.path.join(UNITS, FOLDERS), encoding="utf-8") as unit:
-        lines = [line[len("StandardInputText="):] for line in unit if line.startswith("StandardInputText=")]
-    text = "".join(lines).replace("%i", INSTANCE).replace("/var/spool/cadf", str(top)).replace(" cadf-in ", " 2003 ")
+    text = "".join(re.findall(r"(?m)^StandardInputText=(.*\n)", text_of(UNITS, FOLDERS))).replace("%i", INSTANCE).replace("/var/spool/cadf", str(top)).replace(" cadf-in ", " 2003 ")
     text = re.sub("(?<= )cadf(?= )", "2002", text)
     bounded = ["setpriv", "--no-new-privs", "--bounding-set=" + ",".join(["-all", *("+" + name for name in capabilities)])]
     done = subprocess.run([*bounded, *shlex.split(settings(FOLDERS)["Service"]["ExecStart"])], input=text.encode(), capture_output=True)
@@ -150,5 +147,4 @@ def test_words(cadf, tmp_path):
 def test_words_of_the_exchange(cadf, tmp_path):
     """cadf-sync takes the words of its unit, over sites of its own, on this machine."""
     runs_line(SYNC, {"$OPTIONS": "--pull", "/var/lib/cadf/%i/site": str(tmp_path / "site.cadf"), "${PEER}": os.path.join(VECTORS, "north.cadf")}, cadf)
-    with open(os.path.join(VECTORS, "north.cadf"), "rb") as file:
-        assert (tmp_path / "site.cadf").read_bytes() == file.read()
+    assert (tmp_path / "site.cadf").read_bytes() == read("north.cadf")

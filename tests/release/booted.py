@@ -27,8 +27,8 @@ import time
 from pathlib import Path
 
 from tests import TOP, text_of
+from tests.machine import said as run
 from tests.release import debian
-from tests.release.debian import run
 
 TRIAL = "/trial"  # what is brought into the container, and what it says
 PROGRAMS = "systemd-sysv,dbus,python3"

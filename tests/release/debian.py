@@ -12,12 +12,6 @@ def options(about):
     return parser
 
 
-def run(*words, **options):
-    """The status of a command, and what it says."""
-    done = subprocess.run(words, check=False, stdin=subprocess.DEVNULL, stdout=subprocess.PIPE, stderr=subprocess.STDOUT, **options)
-    return done.returncode, done.stdout.decode("utf-8", "replace")
-
-
 def make(suite, programs, archive, folder):
     """Makes a minimal Debian with these programs in the folder, from the archive, which is made first if it isn't there."""
     if not os.path.exists(archive):

@@ -18,6 +18,7 @@ import tempfile
 
 from tests import TOP
 from tests.docs.shown import pages
+from tests.machine import said
 from tests.release import debian
 
 PROGRAMS = "man-db,bash-completion,zsh,python3,jq,openssh-client"  # beside what a minimal Debian has
@@ -45,7 +46,7 @@ class Root(debian.Trials):
                    "--bind", self.folder, "/", "--dev", "/dev", "--proc", "/proc", "--tmpfs", "/tmp", "--chdir", TRIAL]
         for item in ENVIRONMENT.items():
             sandbox += ["--setenv", *item]
-        return debian.run(*sandbox, *words)
+        return said(*sandbox, *words)
 
     def tries(self, what, words, shows=""):
         """Expects that the words end with status 0, and show this text."""
