@@ -26,6 +26,7 @@ DOC = "/usr/share/doc/cadf"
 MODULE = ["python3", "-m"]
 TRIAL = "/trial"  # the tests of this tree, and the installed pages, as they are beside each other in the tree
 PAGES = ("README.md", "docs", "examples", "bench")
+WORDS = "crates/cadf_words/src/table.rt"  # of which the completions are made
 ENVIRONMENT = {"PATH": "/usr/sbin:/usr/bin:/sbin:/bin", "HOME": "/root", "TERM": "vt100", "LC_ALL": "C.UTF-8",
                "DEBIAN_FRONTEND": "noninteractive", "PYTHONDONTWRITEBYTECODE": "1"}
 NOBODY = ["setpriv", "--reuid=65534", "--regid=65534", "--clear-groups", "--no-new-privs", "--bounding-set=-all"]
@@ -67,6 +68,8 @@ def bring(package, folder):
     os.makedirs(trial)
     shutil.copy(package, os.path.join(trial, "cadf.deb"))
     shutil.copytree(os.path.join(TOP, "tests"), os.path.join(trial, "tests"))
+    os.makedirs(os.path.join(trial, os.path.dirname(WORDS)))
+    shutil.copy(os.path.join(TOP, WORDS), os.path.join(trial, WORDS))
     for name in PAGES:
         os.symlink(os.path.join(DOC, name), os.path.join(trial, name))
 
