@@ -12,23 +12,16 @@ from tests import text_of
 from tests.command.vectors import read
 from tests.reference.events import Fault
 from tests.reference.seal_files import proof_of, read_proof, read_seal, seal_of, verified
+from tests.tables.seal_rows import root as tree_hash
 
 SIZES = range(9)
 PROGRAM = re.search(r"```python\n(.*?hash_of\(0, count\).*?)```", text_of("docs", "FORMATS.md"), re.DOTALL)[1]
 
 
-# ---- RFC 9162 by itself: sections 2.1.1 and 2.1.3.2
+# ---- RFC 9162 by itself: section 2.1.3.2; section 2.1.1 is tree_hash
 
 def sha256(data):
     return hashlib.sha256(data).digest()
-
-
-def tree_hash(entries):
-    """MTH of section 2.1.1."""
-    if len(entries) < 2:
-        return sha256(b"\0" + entries[0]) if entries else sha256(b"")
-    k = max(2 ** i for i in range(64) if 2 ** i < len(entries))
-    return sha256(b"\1" + tree_hash(entries[:k]) + tree_hash(entries[k:]))
 
 
 def accepts(entry, leaf_index, tree_size, path, root):

@@ -2,7 +2,9 @@
 
     from document_rows import WRITTEN, REFUSED
 """
-from tests.tables.texts import EVT, S1, S2, S3, USUAL, V1, V2, VF, conflicts, document, entry, event, log, nested
+from tests.tables.event_calls import MEASURED, NOT_WHOLE, REFUSED as MEMBERS_REFUSED, WHOLE
+from tests.tables.json_calls import NO_TIMES, SPELLED_TIMES
+from tests.tables.texts import EVT, S1, S2, S3, USUAL, V1, V2, VF, conflicts, document, entry, event, log, nested, quoted
 from tests.tables.worked_files import R1
 
 USUAL_SHOWN = (
@@ -16,10 +18,6 @@ def at(time, name="e1"):
     """The usual event at that time, with that identifier."""
     return event(eventTime='"%s"' % time, id='"%s"' % name)
 
-
-def measured(result):
-    """The usual event with a measurement."""
-    return event(measurements='[{"metricId":"m1","result":%s}]' % result)
 
 ONE, BOTH = event(reporterchain="[%s]" % S1), event(reporterchain="[%s,%s]" % (S1, S2),
                                                      reporterchains="[[%s],[%s,%s]]" % (S1, S1, S2))
@@ -43,9 +41,6 @@ SHOWN = [
     ("events in the order of instants", document(LATER, V2, EARLIER), log(EARLIER, LATER, V2)),
     ("the same from another order", document(V2, EARLIER, LATER), log(EARLIER, LATER, V2)),
     ("one instant at two offsets", document(LATER, V1), log()),
-    ("the greatest whole number", document(measured(2**64 - 1)), log(measured(2**64 - 1))),
-    ("the least whole number", document(measured(-2**63)), log(measured(-2**63))),
-    ("a number as text", document(measured('"1.5"')), log(measured('"1.5"'))),
     ("a property and a resource", NORTH, log(name='"north"', resources="[%s]" % R1)),
     ("an outcome with a path", document(event(outcome='"success/partial"')), log(event(outcome='"success/partial"'))),
     ("tags that are null", document(event(tags="null")), log(V1)),
@@ -58,16 +53,10 @@ SHOWN = [
     ("chains in both members",
      document(event(reporterchain="[%s,%s]" % (S1, S3), reporterchains="[[%s,%s]]" % (S1, S2))), log(FORKED)),
     ("two bodies with their chains", document(ONE, FAILED), log()),
-    ("a time", document(V1), log(V1)),
-] + [
-    (name, document(at(time)), log(at(shown))) for name, time, shown in [
-        ("the first instant", "0001-01-01T00:00:00+14:00", "0001-01-01T00:00:00+14:00"),
-        ("the last instant", "9998-12-31T23:59:59.999999999-14:00", "9998-12-31T23:59:59.999999999-14:00"),
-        ("a fraction with zeros behind", "2024-03-01T12:00:00.500-00:00", "2024-03-01T12:00:00.5Z"),
-        ("a leap day", "2024-02-29T00:00:00Z", "2024-02-29T00:00:00Z"),
-        ("an offset without a colon", "2024-03-01T12:00:00.120000000+0530", "2024-03-01T12:00:00.12+05:30"),
-    ]
 ]
+SHOWN += [("the time " + time, document(at(time)), log(at(shown))) for time, _, _, shown in SPELLED_TIMES]
+SHOWN += [("the number " + number, document(event(measurements=MEASURED % number)), log(event(measurements=MEASURED % number)))
+          for number in WHOLE]
 
 # Documents, and their conflicts.
 TOLD = [
@@ -81,37 +70,16 @@ TOLD = [
 AT_LIMITS = [(name, document(one), log(one)) for name, one in [
     ("a name of 1,024 bytes", event(id='"%s"' % ("n" * 1024))),
     ("a name of 512 characters of two bytes", event(id='"%s"' % ("\u00e9" * 512))),
-    ("a member that nests 99 deep", event(x=nested(99))),
-    ("a chain of 256 steps", event(reporterchain="[%s]" % ",".join([S1] * 256))),
 ]]
 
 # Events of a document, and why it is refused.
-EVENTS_REFUSED = [(name, measured(number), "a number is not whole") for name, number in [
-    ("a fraction", "1.5"), ("an exponent", "1e3"), ("a number above the greatest", 2**64),
-    ("a number below the least", -2**63 - 1)]]
-EVENTS_REFUSED += [(name, at(time), "event 1: eventTime") for name, time in [
-    ("second 60", "2024-03-01T12:00:60Z"), ("no leap day", "2023-02-29T00:00:00Z"), ("year 0", "0000-01-01T00:00:00Z"),
-    ("year 9999", "9999-01-01T00:00:00Z"), ("an offset above 14:00", "2024-03-01T00:00:00+14:01"),
-    ("ten digits of a fraction", "2024-03-01T00:00:00.1234567890Z"), ("a fraction of no digit", "2024-03-01T00:00:00.Z"),
-    ("a small t", "2024-03-01t00:00:00Z"), ("an offset of hours alone", "2024-03-01T00:00:00+01"),
-    ("month 13", "2024-13-01T00:00:00+15:00"), ("an offset of 15 hours", "2024-03-01T00:00:00+15:00"),
-    ("60 minutes of an offset", "2024-03-01T00:00:00+13:60")]]
-EVENTS_REFUSED += [(name, event(id='"%s"' % text), "event 1: id") for name, text in [
-    ("no byte of a name", ""), ("a name of 1,025 bytes", "n" * 1025), ("a name of 1,025 bytes, of two each", "\u00e9" * 512 + "n"),
-    ("U+007F in a name", "a\x7fb")]]
-EVENTS_REFUSED += [
-    ("another type", event(typeURI='"x"'), "event 1: typeURI"),
-    ("a capital letter", event(eventType='"Activity"'), "event 1: eventType"),
-    ("letters behind an outcome", event(outcome='"successes"'), "event 1: outcome"),
-    ("no initiator", event(initiatorId=""), "event 1: initiator"),
-    ("a number for a target", event(targetId="7"), "event 1: target"),
-    ("an observer without an identifier beside one", event(observer="{}"), "event 1: observer"),
-    ("a role that is none", event(reporterchain='[{"reporterId":"s1","role":"sender"}]'), "event 1: chain 0 step 1"),
-    ("257 steps", event(reporterchain="[%s]" % ",".join([S1] * 257)), "event 1: chain 0 step 257"),
-    ("an empty tag", event(tags='["a",""]'), "event 1: tag 2"),
-    ("an attachment that is a number", event(attachments="[1]"), "event 1: attachment 1"),
-    ("a member that nests 100 deep", event(x=nested(100)), "event 1: too deep"),
-]
+FAULTS = {"TooDeep": "too deep", "TypeUri": "typeURI", "Id": "id", "EventType": "eventType", "EventTime": "eventTime", "Action": "action",
+          "Outcome": "outcome", "Initiator": "initiator", "Target": "target", "Observer": "observer", "Chain": "chain %d step %d",
+          "Tag": "tag %d", "Attachment": "attachment %d"}
+EVENTS_REFUSED = [("the number " + number, event(measurements=MEASURED % number), "a number is not whole") for number in NOT_WHOLE]
+EVENTS_REFUSED += [("the time " + time, event(eventTime=quoted(time)), "event 1: eventTime") for time, _ in NO_TIMES]
+EVENTS_REFUSED += [("%s as %.40s" % (name, value), event(**{name: value}), "event 1: " + FAULTS[fault] % tuple(places))
+                   for name, value, (fault, *places) in MEMBERS_REFUSED]
 
 # Inputs, and why they are refused.
 DOCUMENTS_REFUSED = [(name, document(one), said) for name, one, said in EVENTS_REFUSED] + [

@@ -308,18 +308,6 @@ IN_ORDER = [
     ("missing-by-sketch", [GOOD, OTHER_SKETCHED], ["OtherLog", 2]),
     ("missing-by-sketch", [reader(made.CHAINS), reader(sketched.sketch(3, 1, C2, CF, KF))], ["TooFewCells", 2, sketched.ASKED]),
     ("missing-by-sketch", [GOOD, reader(sketched.EMPTY)], ["WriteFault"]),
-    ("sketch", [FAILING], ["ReadFault", 1]),
-    ("sketch", [BAD], NOT_JSON_1),
-    ("sketch", [EVENT], ["NoLog"]),
-    ("sketch", [GOOD], ["WriteFault"]),
-    ("inventory", [FAILING], ["ReadFault", 1]),
-    ("inventory", [BAD], NOT_JSON_1),
-    ("inventory", [EVENT], ["NoLog"]),
-    ("inventory", [GOOD], ["WriteFault"]),
-    ("seal", [FAILING], ["ReadFault", 1]),
-    ("seal", [BAD], NOT_JSON_1),
-    ("seal", [EVENT], ["NoLog"]),
-    ("seal", [GOOD], ["WriteFault"]),
     ("prove", [FAILING, BAD], ["ReadFault", 1]),
     ("prove", [BAD, FAILING], NOT_JSON_1),
     ("prove", [OTHER, EVENT, FAILING], ["ReadFault", 3]),
@@ -344,16 +332,6 @@ IN_ORDER = [
     ("verify", [SEALED_NONE, EVENT, reader(proof([], []))], ["Unverified", "Absent", 1]),
     ("verify --absent", [ONE_SEALED, EVENT, ONE_PROVED], ["Unverified", "Present", 1]),
     ("verify", [ONE_SEALED, EVENT, ONE_PROVED], ["WriteFault"]),
-    ("show", [FAILING], ["ReadFault", 1]),
-    ("show", [BAD], NOT_JSON_1),
-    ("show", [EVENT], ["NoLog"]),
-    ("show", [GOOD], ["WriteFault"]),
-    ("show --conflicts", [EVENT], ["NoLog"]),
-    ("show --conflicts", [GOOD], ["WriteFault"]),
-    ("check", [FAILING], ["ReadFault", 1]),
-    ("check", [BAD], NOT_JSON_1),
-    ("check", [EVENT], ["NoLog"]),
-    ("check", [GOOD], ["WriteFault"]),
     ("rule X e1 0", [FAILING], ["ReadFault", 1]),
     ("rule X e1 0", [BAD], NOT_JSON_1),
     ("rule X e1 1", [EVENT], ["NoLog"]),
@@ -394,6 +372,8 @@ IN_ORDER = [
     ("missing-by-sketch --from", [reader(made.CHAINS), EVENT, reader(sketched.sketch(3, 1, C2, CF, KF))],
      ["TooFewCells", 3, sketched.ASKED]),
 ]
+IN_ORDER += [(command, [one], fault) for command in ("sketch", "inventory", "seal", "show", "show --conflicts", "check") for one, fault in (
+    (FAILING, ["ReadFault", 1]), (BAD, NOT_JSON_1), (EVENT, ["NoLog"]), (GOOD, ["WriteFault"]))]
 for command, readers, fields in IN_ORDER:
     row(*engine(command, readers, writer(ALL, "refuses", 1)), ["err", *fields], FAULTS)
 

@@ -94,6 +94,8 @@ REFUSED = [
     ("id", "", ["Id"]),
     ("id", '""', ["Id"]),
     ("id", '"%s"' % ("a" * 1025), ["Id"]),
+    ("id", '"%s"' % ("\u00e9" * 512 + "n"), ["Id"]),
+    ("id", '"a\x7fb"', ["Id"]),
     ("eventType", '"Activity"', ["EventType"]),
     ("eventTime", '"now"', ["EventTime"]),
     ("action", "", ["Action"]),

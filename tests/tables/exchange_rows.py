@@ -39,7 +39,7 @@ JOINED = [
     ("two bodies with their chains", [document(ONE), document(FAILED)], CONFLICT_TREE),
     ("a property with two values", [NORTH, '{"events":[],"id":"g","name":"south"}'], NAMED_TREE),
     ("one file twice", [CHAINS, CHAINS], CHAINS_TREE),
-    ("one file of format 2 twice", [CHAINS_TREE, CHAINS_TREE], CHAINS_TREE),
+    ("one file in both formats", [CHAINS_TREE, CHAINS], CHAINS_TREE),
     ("a file and one of nothing", [CHAINS_TREE, NOTHING], CHAINS_TREE),
     ("two bodies in both formats", [CONFLICT_TREE, CONFLICT], CONFLICT_TREE),
     ("properties in both formats", [NAMED, NAMED_TREE], NAMED_TREE),
