@@ -1,7 +1,6 @@
 """Generated cases: the words of a call, and the contents of the files in its folder."""
 import functools
-import glob
-import os
+import pathlib
 import random
 
 from tests import TOP
@@ -47,14 +46,7 @@ WORDS = LIKELY_WORDS + [
     "-x", "--log=h", b"--log=\xff", "--log=-", "--log=-x", "--log=a=b", "--log=\u00e9", "--log=\n"]
 
 
-def example_contents():
-    contents = []
-    for path in sorted(glob.glob(os.path.join(TOP, "examples", "*.json"))):
-        with open(path, "rb") as file:
-            contents.append(file.read())
-    return contents
-
-EXAMPLES = example_contents()
+EXAMPLES = [path.read_bytes() for path in sorted(pathlib.Path(TOP, "examples").glob("*.json"))]
 
 
 def reading(chance, data):
@@ -507,20 +499,6 @@ def damages(chance):
     return chance.choice([odd_files.file_with_odd_lines(chance), with_odd_end(chance, some_file(chance))])
 
 
-def formats(chance):
-    """The same few facts as files of both formats: the answer is that of one file of all of them."""
-    told = documents_told(chance, 2, 5)
-    parts = [atoms_of([document]) for document in told]
-    whole = set().union(*parts)
-    parts += [whole, grounded_part(chance, whole), set()]
-    files = {"f%d" % place: some_file_of(chance, "g", chance.choice(parts)) for place in range(chance.randint(2, 5))}
-    first, second = chance.sample(sorted(files), 2)
-    files["i"] = inventory_with("g", some_digests(chance, whole))
-    return chance.choice([
-        ["join", *files][:-1], ["join", *files][:-1], ["join", first], ["missing", first, second], ["missing", first, second],
-        ["missing-by", first, "i"], ["inventory", first], ["seal", first], ["show", first], ["check", second]]), files
-
-
 def example_documents(chance):
     data = chance.choice(EXAMPLES)
     return reading(chance, data if chance.random() < 0.08 else damaged(chance, data))
@@ -630,8 +608,8 @@ def rehearsals(chance):
 
 # Each kind of case, and how many there are of it beside the others.
 KINDS = {
-    numbers: 8, texts: 8, read_by(depths): 6, times: 10, orders: 4, names: 8, read_by(events): 12, read_by(documents): 10, joins: 12,
-    missings: 10, shows: 10, read_by(damages): 12, read_by(odd_files.odd_atoms_file): 16, read_by(odd_nodes.odd_nodes_file): 22, formats: 8,
+    numbers: 8, texts: 8, read_by(depths): 6, times: 10, orders: 4, names: 8, read_by(events): 12, read_by(documents): 10, joins: 16,
+    missings: 14, shows: 10, read_by(damages): 12, read_by(odd_files.odd_atoms_file): 16, read_by(odd_nodes.odd_nodes_file): 22,
     example_documents: 8, example_joins: 2, chains: 3, json_texts: 8, byte_texts: 4, words: 5, large: 1, inventories: 10,
     damaged_inventories: 18, rules: 12, read_by(odd_documents.doubled, telling): 16, read_by(odd_documents.numbered, telling): 8,
     read_by(odd_documents.escaped, telling): 10, read_by(odd_documents.deep, telling): 14, read_by(odd_documents.near, telling): 10,

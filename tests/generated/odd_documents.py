@@ -262,23 +262,28 @@ def spelled_in_some_way(chance, document):
     return spelled_oddly(chance, document, chance.choice([0, 0, 0, 0.05, 0.3]))
 
 
-def doubled(chance):
+def changed_somewhere(chance, change, times=1):
+    """A document of which the log, events or objects in them are changed so."""
     document = full_document(chance)
-    way = some_way(chance, document)
-    return spelled_in_some_way(chance, changed_at(document, way, lambda value: with_doubled(chance, value)))
-
-
-def numbered(chance):
-    document = full_document(chance)
-    for _ in range(chance.choice([1, 1, 2])):
-        document = changed_at(document, some_way(chance, document), lambda value: with_number(chance, value))
+    for _ in range(times):
+        document = changed_at(document, some_way(chance, document), lambda value: change(chance, value))
     return spelled_in_some_way(chance, document)
 
 
+def doubled(chance):
+    return changed_somewhere(chance, with_doubled)
+
+
+def numbered(chance):
+    return changed_somewhere(chance, with_number, chance.choice([1, 1, 2]))
+
+
 def escaped(chance):
-    document = full_document(chance)
-    way = some_way(chance, document)
-    return spelled_in_some_way(chance, changed_at(document, way, lambda value: with_text(chance, value)))
+    return changed_somewhere(chance, with_text)
+
+
+def far(chance):
+    return changed_somewhere(chance, with_far_members)
 
 
 def deep(chance):
@@ -296,12 +301,6 @@ def near(chance):
     way = some_way(chance, document)
     names = LOG_NAMES if not way else EVENT_NAMES if len(way) == 2 else LOOKED_FOR
     return spelled_in_some_way(chance, changed_at(document, way, lambda value: with_near_names(chance, value, names)))
-
-
-def far(chance):
-    document = full_document(chance)
-    way = some_way(chance, document)
-    return spelled_in_some_way(chance, changed_at(document, way, lambda value: with_far_members(chance, value)))
 
 
 def large(chance):
