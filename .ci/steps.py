@@ -30,6 +30,7 @@ TOP = os.path.dirname(os.path.dirname(os.path.abspath(__file__)))
 sys.path.insert(0, TOP)
 
 from build.proving import JOB_MEMORY, PROOF_MEMORY, free_memory
+from tests import text_of
 
 CADF = "crates/cadf/out/cadf"
 # What the system says of a group of processes that may use all processors and all memory.
@@ -95,8 +96,7 @@ def programs():
 
 def about(place):
     """What a program says of itself first: the first paragraph of its docstring, or of a shell script's comments."""
-    with open(os.path.join(TOP, place), encoding="utf-8") as file:
-        text = file.read()
+    text = text_of(place)
     if text.startswith("#!/bin/sh"):
         said = re.match(r"#!.*\n((?:# \S.*\n)+)", text).group(1).replace("# ", "")
     else:

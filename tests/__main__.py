@@ -22,17 +22,11 @@ from tests import TOP
 from tests.command import vectors
 from tests.command.commands import COMMANDS
 from tests.generated.compare import alike
+from tests.machine import put
 from tests.reference.command import Answer, answer
 from tests.tables import rows
 
 SHOWN = 60
-
-
-def put(folder, name, content):
-    path = os.path.join(folder, name)
-    with open(path, "wb") as file:
-        file.write(content)
-    return path
 
 
 def case(folder, name, words, files):

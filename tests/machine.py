@@ -53,6 +53,14 @@ def compiled(folder, name):
     return library
 
 
+def put(folder, name, content):
+    """Writes a file in the folder. Returns its path."""
+    path = os.path.join(folder, name)
+    with open(path, "wb") as file:
+        file.write(content)
+    return path
+
+
 def ended(binary, words, **options):
     """What the binary answers."""
     try:

@@ -1,9 +1,8 @@
 """Inputs for the command under limits: of about 1 MB, as deep as can be read, and small ones beside them."""
 import json
-import os
 
 from tests.formats import in_format
-from tests.machine import ended
+from tests.machine import ended, put
 
 MADE = {"one.cadf": "join log.json", "two.cadf": "join other.json", "both.cadf": "join one.cadf two.cadf",
         "deep.cadf": "join deep.json", "two.inventory": "inventory two.cadf", "no.cadf": "join small.json",
@@ -37,14 +36,10 @@ def documents():
 
 def prepare(binary, folder):
     """Puts the inputs into the folder, with what the command makes of them, also in format 1."""
-    def put(name, content):
-        with open(os.path.join(folder, name), "wb") as file:
-            file.write(content)
-        return content
-
     for name, content in documents().items():
-        put(name, content.encode())
+        put(folder, name, content.encode())
     for name, words in MADE.items():
-        content = put(name, ended(binary, words.split(), cwd=folder).output)
+        content = ended(binary, words.split(), cwd=folder).output
+        put(folder, name, content)
         if name in ("one.cadf", "two.cadf", "deep.cadf"):
-            put(name.replace(".cadf", ".1.cadf"), in_format(1, content))
+            put(folder, name.replace(".cadf", ".1.cadf"), in_format(1, content))

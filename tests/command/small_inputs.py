@@ -1,9 +1,8 @@
 """Inputs for the command: small ones of each kind, those of the worked calls, damaged ones, and one of some 60 events."""
 import json
-import os
 
 from tests.formats import in_format, of_lines
-from tests.machine import ended
+from tests.machine import ended, put
 
 MADE = {"log.cadf": "join log.json", "other.cadf": "join other.json", "both.cadf": "join log.json other.json",
         "many.cadf": "join many.json", "log.inventory": "inventory log.json", "one.cadf": "join one.json",
@@ -57,11 +56,6 @@ def script():
     turns = ["learn 0 " + json.dumps(event(1)), "ask 1", "learn 1 " + json.dumps(event(2)), "answer 0 1", "send 0", "deliver 3 1",
              "deliver 2 1", "deliver 2 1", "send 1", "deliver 4 0", "deliver 4 2"]
     return "".join(turn + "\n" for turn in turns)
-
-
-def put(folder, name, content):
-    with open(os.path.join(folder, name), "wb") as file:
-        file.write(content)
 
 
 def changed(whole):

@@ -19,8 +19,8 @@ Replica files are in the format that commands write; those named *.1.cadf hold t
 import pytest
 
 from tests.command.commands import COMMANDS, PIECES, lines
-from tests.command.small_inputs import prepare, put, script
-from tests.machine import Answer, Fault, Machine, ended, side_by_side, untold
+from tests.command.small_inputs import prepare, script
+from tests.machine import Answer, Fault, Machine, ended, put, side_by_side, untold
 
 pytestmark = pytest.mark.needs("gcc")
 SAMPLE = 40  # places of a fault in a large run

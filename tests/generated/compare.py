@@ -23,7 +23,7 @@ import sys
 import tempfile
 
 from tests.generated.generate import Case
-from tests.machine import built, ended
+from tests.machine import built, ended, put
 from tests.reference.command import DIRECTORY, answer
 from tests.reference.sealed_files import sealed
 
@@ -31,20 +31,18 @@ KEPT = 10
 SHOWN = 200
 
 
-def put(folder, files):
+def put_all(folder, files):
     for name, content in files.items():
-        path = os.path.join(os.fsencode(folder), name)
         if content is DIRECTORY:
-            os.mkdir(path)
+            os.mkdir(os.path.join(os.fsencode(folder), name))
         else:
-            with open(path, "wb") as out:
-                out.write(content)
+            put(os.fsencode(folder), name, content)
 
 
 def answered(binary, words, files):
     """What the binary answers in a folder with these files."""
     with tempfile.TemporaryDirectory(prefix="cadf-case-") as folder:
-        put(folder, files)
+        put_all(folder, files)
         return ended(binary, words, cwd=folder, stdin=subprocess.DEVNULL)
 
 
@@ -103,7 +101,7 @@ class Difference:
     def keep(self):
         """Prints the two answers and the call, which can be run in a folder that stays."""
         folder = tempfile.mkdtemp(prefix="cadf-differs-")
-        put(folder, self.files)
+        put_all(folder, self.files)
         for title, told in (("wanted", self.wanted), ("got", self.got)):
             error = "a text of clap's" if told.error is None else repr(told.error[:SHOWN])
             print("  %s status %s, output %r, error %s" % (title, told.status, told.output[:SHOWN], error))

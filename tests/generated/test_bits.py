@@ -10,7 +10,7 @@ import tempfile
 import pytest
 
 from tests import TOP
-from tests.generated.compare import alike, put
+from tests.generated.compare import alike, put_all
 from tests.machine import SECONDS, Answer, side_by_side
 from tests.reference.command import answer
 from tests.reference.sealed_files import sealed
@@ -38,7 +38,7 @@ def read(path):
 def answered(binary, files):
     """What the binary answers to each file, which a name leads to."""
     with tempfile.TemporaryDirectory(prefix="cadf-case-") as folder:
-        put(folder, files)
+        put_all(folder, files)
         statuses = subprocess.run(["/bin/sh", "-c", EACH, binary, *files], cwd=folder, stdin=subprocess.DEVNULL, check=True,
                                   stdout=subprocess.PIPE, timeout=SECONDS).stdout.split()
         for name, status in zip(files, statuses):

@@ -18,7 +18,7 @@ import sys
 import tempfile
 import time
 
-from tests import TOP
+from tests import TOP, text_of
 from tests.machine import built
 from tests.release.planted import NOT_PLANTED, ROWS
 
@@ -98,8 +98,7 @@ class Planter:
     def planted(self, row, top, begun):
         """Whether the row's test sees its fault in a tree, since when it ran, and what it said of it."""
         path = os.path.join(top, row.file)
-        with open(path, encoding="utf-8") as file:
-            text = file.read()
+        text = text_of(path)
         if text.count(row.right) != 1:
             return False, begun, "%s: the text is there %d times" % (row.file, text.count(row.right))
         write(path, text.replace(row.right, row.wrong))
