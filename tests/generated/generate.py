@@ -40,7 +40,7 @@ FROM_BY = [["from", "by"]] * 20 + [
     ["by", "from"], ["by", "by"], ["from", "from"], ["from", "folder"], ["from", "nothere"], ["nothere", "by"], ["folder", "by"],
     ["nothere", "folder"]]
 TOKENS = [b"{", b"}", b"[", b"]", b",", b":", b'"', b'"id"', b'"events"', b'"g"', b"1", b" ", b"null"]
-LIKELY_WORDS = ["a", "b", "c", "g", "e", "i", "nothere", "folder", "-", "--", "--log", "--log=g", "--log="]
+LIKELY_WORDS = ["a", "a", "b", "c", "g", "e", "i", "s", "nothere", "folder", "-", "--", "--log", "--log=g", "--log="]
 WORDS = LIKELY_WORDS + [
     "--log=\x7f", "--log=" + "x" * 1024, "--log=" + "x" * 1025, "--conflicts", "--conflicts=1", "--nope", "-l", b"\xff", "",
     "-x", "--log=h", b"--log=\xff", "--log=-", "--log=-x", "--log=a=b", "--log=\u00e9", "--log=\n"]
@@ -412,18 +412,6 @@ def misleading_sketches(chance):
     return ["missing-by-sketch", "a", "i"], files
 
 
-def sketch_words(chance):
-    """Words of the two commands, of which some are no call."""
-    files = {"a": some_file(chance), "i": odd_sketches.some_sketch(chance), "g": NO_DIGESTS, "folder": DIRECTORY,
-             "e": spelled_oddly(chance, event(chance))}
-    command = chance.choice(["sketch"] * 6 + ["missing-by-sketch"] * 4 + ["sketc", "missing-by-", "inventory", "missing-by"])
-    options = odd_sketches.option_words(chance) if command == "sketch" or chance.random() < 0.1 else []
-    wanted = WORDS_WANTED.get(command.encode(), 1)
-    count = wanted if chance.random() < 0.8 else chance.randint(0, 3)
-    likely = ["a", "a", "a", "i", "i", "g", "e", "nothere", "folder", "-", "--"]
-    return [command, *options, *(chance.choice(likely) for _ in range(count))], files
-
-
 def facts_and_files(chance):
     """What is asked for, as a file of its own, and one or two files of what is held: the files by their names."""
     told = documents_told(chance, 1, 4)
@@ -546,13 +534,16 @@ def byte_texts(chance):
 
 
 def words(chance):
+    """Words of which many are no call: another command, too few or too many files, options that it hasn't or that are no numbers."""
     files = {"a": spelled_oddly(chance, odd_events.document(chance)), "b": some_file(chance), "c": b"{", "-": b"{}",
              "-x": some_file(chance), "g": some_file(chance, "h"), "folder": DIRECTORY,
-             "e": spelled_oddly(chance, event(chance)), "i": NO_DIGESTS}
+             "e": spelled_oddly(chance, event(chance)), "i": NO_DIGESTS, "s": odd_sketches.some_sketch(chance)}
     command = chance.choice([
-        "join", "join", "missing", "missing-by", "inventory", "seal", "show", "check", "rule", "Join", "", "joi", "missing-", "--log"])
-    behind = [chance.choice(LIKELY_WORDS if chance.random() < 0.6 else WORDS) for _ in range(chance.randint(0, 4))]
-    return [command] + behind, files
+        "join", "join", "missing", "missing-by", "inventory", "seal", "show", "check", "rule", "split", "prove", "verify", "Join", "", "joi",
+        "missing-", "sketc", "--log"] + ["sketch"] * 6 + ["missing-by-sketch"] * 4)
+    options = odd_sketches.option_words(chance) if command == "sketch" or chance.random() < 0.1 else []
+    count = WORDS_WANTED.get(command.encode(), 1) if chance.random() < 0.5 else chance.randint(0, 4)
+    return [command, *options, *(chance.choice(LIKELY_WORDS if chance.random() < 0.6 else WORDS) for _ in range(count))], files
 
 
 def large(chance):
@@ -610,12 +601,12 @@ def rehearsals(chance):
 KINDS = {
     numbers: 8, texts: 8, read_by(depths): 6, times: 10, orders: 4, names: 8, read_by(events): 12, read_by(documents): 10, joins: 16,
     missings: 14, shows: 10, read_by(damages): 12, read_by(odd_files.odd_atoms_file): 16, read_by(odd_nodes.odd_nodes_file): 22,
-    example_documents: 8, example_joins: 2, chains: 3, json_texts: 8, byte_texts: 4, words: 5, large: 1, inventories: 10,
+    example_documents: 8, example_joins: 2, chains: 3, json_texts: 8, byte_texts: 4, words: 10, large: 1, inventories: 10,
     damaged_inventories: 18, rules: 12, read_by(odd_documents.doubled, telling): 16, read_by(odd_documents.numbered, telling): 8,
     read_by(odd_documents.escaped, telling): 10, read_by(odd_documents.deep, telling): 14, read_by(odd_documents.near, telling): 10,
     read_by(odd_documents.far, telling): 10, read_by(odd_documents.bare, telling): 12, read_by(odd_documents.odd_in_turn, telling): 12,
     read_by(odd_documents.large, telling): 6, unions: 14, rehearsals: 12, sketches: 14, damaged_sketches: 16, misleading_sketches: 12,
-    sketch_words: 5, splits: 14, proves: 12, verifies: 14, damaged_proofs: 18, misleading_proofs: 12}
+    splits: 14, proves: 12, verifies: 14, damaged_proofs: 18, misleading_proofs: 12}
 
 
 class Case:
