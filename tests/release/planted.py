@@ -169,7 +169,7 @@ ROWS = [
 # Faults that are not planted, and why.
 NOT_PLANTED = {
     "build: without the kit's built logic": "the proof is as good, and takes longer",
-    "the help has another word": "its texts are rows of tests/tables/words_calls.py, which the drivers answer once they are built",
+    "the help has another word": "crates/drivers/stdout has its texts, which `python3 -m tests.tables.make --check` makes of the table",
     "`sketch --help` ends with 2": "it is in the built command: test_help of tests/command/test_statuses.py sees it",
     "one call in a hundred is slow": "no test measures time; bench/ does before a release",
     "report: digests sorted as texts": "code points come in the same order as their bytes in UTF-8",
