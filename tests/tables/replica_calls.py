@@ -398,8 +398,10 @@ for text, turns in [
         (script("learn 3 " + document(V1, V2)), ["learn 3 g 2"]), (script("learn 0  " + V1 + " \r"), ["learn 0 1"]),
         (script("learn 0 " + document(log="h")), ["learn 0 h 0"])]:
     row(SCRIPT, "schedule.read_script", [text], "ok", *turns)
-for text in ["ask 00", "ask  0", "learn 0 [", "\n", "ask", "ask ", "ask 0 ", "ask 0\r", " ask 0", "ask 0 1", "Ask 0", "ask -1", "ask +1", "ask 1000000000",
-             "answer 0", "deliver 0", "send", "learn 0", "learn x " + V1, "learn 0 {}", "learn 0 1.5", "hello", "ask\t0", b"ask 0\xff", b"\xff"]:
+NO_SCRIPTS = [
+    "ask 00", "ask  0", "learn 0 [", "\n", "ask", "ask ", "ask 0 ", "ask 0\r", " ask 0", "ask 0 1", "Ask 0", "ask -1", "ask +1", "ask 1000000000",
+    "answer 0", "answer 0 1 2", "deliver 0", "send", "learn 0", "learn x " + V1, "learn 0 {}", "learn 0 1.5", "hello", "ask\t0", b"ask 0\xff", b"\xff"]
+for text in NO_SCRIPTS:
     row(SCRIPT, "schedule.read_script", [text], "err", "Line", 1)
 row(SCRIPT, "schedule.read_script", [script(*EXCHANGE, "hello", "hello")], "err", "Line", 11)
 row(SCRIPT, "schedule.read_script", [script("ask 0", "", "ask 0")], "err", "Line", 2)
@@ -416,12 +418,13 @@ row(SCRIPT, "schedule.rehearse", ["g", 2, script("send 0", "learn 0 " + V1, "del
 # An answer leaves out what the asker held when it asked.
 row(SCRIPT, "schedule.rehearse", ["g", 3, script("learn 0 " + V1, "learn 1 " + V1, "ask 1", "learn 0 " + V2, "answer 0 1", "send 1", "deliver 2 1")],
     "ok", held(C1, C2), held(C1, C2), held())
-for last, fault in [
-        ("deliver 2 2", "WrongAddressee"), ("deliver 2 0", "WrongAddressee"), ("ask 3", "NoSite"), ("learn 3 " + V1, "NoSite"), ("send 3", "NoSite"),
-        ("answer 3 1", "NoSite"), ("deliver 3 3", "NoSite"), ("deliver 9 0", "NoMessage"), ("deliver 0 0", "NoMessage"), ("answer 0 5", "NoMessage"),
-        ("answer 0 2", "NotInventory"), ("answer 0 3", "NotInventory"), ("learn 0 " + document(log="h"), "OtherLog"),
-        # The first of the checks is answered.
-        ("answer 3 9", "NoSite"), ("deliver 9 3", "NoSite"), ("learn 3 " + document(log="h"), "NoSite")]:
+# Turns that are refused behind the exchange. The first of the checks is answered.
+STOPPED = [
+    ("deliver 2 2", "WrongAddressee"), ("deliver 2 0", "WrongAddressee"), ("ask 3", "NoSite"), ("learn 3 " + V1, "NoSite"), ("send 3", "NoSite"),
+    ("answer 3 1", "NoSite"), ("deliver 3 3", "NoSite"), ("deliver 9 0", "NoMessage"), ("deliver 0 0", "NoMessage"), ("answer 0 5", "NoMessage"),
+    ("answer 0 2", "NotInventory"), ("answer 0 3", "NotInventory"), ("learn 0 " + document(log="h"), "OtherLog"),
+    ("answer 3 9", "NoSite"), ("deliver 9 3", "NoSite"), ("learn 3 " + document(log="h"), "NoSite")]
+for last, fault in STOPPED:
     row(SCRIPT, "schedule.rehearse", ["g", 3, script(*EXCHANGE, last, "ask 3")], "err", fault, 11)
 row(SCRIPT, "schedule.rehearse", ["g", 2, "answer 5 9"], "err", "NoSite", 1)
 row(SCRIPT, "schedule.rehearse", ["g", 2, script("ask 3", "hello")], "err", "Line", 2)
@@ -434,7 +437,8 @@ for kind, name, shown in [
         ("atom", "Memory", "out of memory"), ("replica", "Memory", "out of memory"), ("ruling", "Memory", "out of memory"),
         ("schedule", "Memory", "out of memory"), ("script", "Memory", "out of memory")]:
     row("ARCHITECTURE: What faults are shown as", "fault." + kind, [name], shown)
-for kind, name, shown in [
-        ("schedule", "NoSite", "no such site"), ("schedule", "NoMessage", "no such message"), ("schedule", "NotInventory", "not an inventory"),
-        ("schedule", "WrongAddressee", "wrong addressee"), ("schedule", "OtherLog", "other log"), ("script", "Line", "script")]:
-    row(SCRIPT, "fault." + kind, [name, 11], "line 11: " + shown)
+TURN_FAULTS = {"NoSite": "no such site", "NoMessage": "no such message", "NotInventory": "not an inventory", "WrongAddressee": "wrong addressee",
+               "OtherLog": "other log"}
+for name, shown in TURN_FAULTS.items():
+    row(SCRIPT, "fault.schedule", [name, 11], "line 11: " + shown)
+row(SCRIPT, "fault.script", ["Line", 11], "line 11: script")

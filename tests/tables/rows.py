@@ -13,6 +13,7 @@ import sys
 from tests.generated.compare import alike, answered
 from tests.reference.command import Answer, answer
 from tests.tables import document_rows, exchange_rows, file_calls, sketch_rows, split_rows, verify_rows
+from tests.tables.replica_calls import ASKING, EXCHANGE, NO_SCRIPTS, STOPPED, TURN_FAULTS
 from tests.tables.texts import B1, BF, C1, CF, K1, KF, S1, S2, conflicts, data, digits, entry, inventory, line, log, replica, said, tree
 from tests.tables.worked_files import (
     BODY_NODE, CHAINS, CHAINS_TREE, CHAIN_NODES, CONFLICT, CONFLICT_TREE, EVENT_TREE, FRONT, K12, NOTHING_TREE,
@@ -96,43 +97,20 @@ OF_FILES = [
      inventory(*sorted(digits(one) for one in (CF, KF, C1, K1))), tree(*RULING_NODES, (4, 1, digits(BF)))),
 ]
 
-FIRST = '{"id":"e1",' + B1[1:]
-SECOND = FIRST.replace('"e1"', '"e2"')
-SCHEDULE = ["learn 0 " + FIRST, "ask 1", "learn 1 " + SECOND, "answer 0 1", "send 0", "deliver 3 1", "deliver 2 1",
-            "deliver 2 1", "send 1", "deliver 4 0"]
-BOTH_WAYS = ["learn 0 " + FIRST, "ask 1", "learn 1 " + FIRST.replace("success", "failure"), "answer 0 1", "deliver 2 1",
-             "ask 0", "answer 1 3", "deliver 4 0"]
-
 # The number of sites, a script's lines, and what is written.
 REHEARSED = [
-    (3, SCHEDULE, "site 0 atoms 2 as 0\nsite 1 atoms 2 as 0\nsite 2 atoms 0 as 2\n"),
-    (2, BOTH_WAYS, "site 0 atoms 2 as 0\nsite 1 atoms 2 as 0\n"),
+    (3, EXCHANGE, "site 0 atoms 2 as 0\nsite 1 atoms 2 as 0\nsite 2 atoms 0 as 2\n"),
+    (2, ASKING, "site 0 atoms 2 as 0\nsite 1 atoms 2 as 0\n"),
     (2, [], "site 0 atoms 0 as 0\nsite 1 atoms 0 as 0\n"),
 ]
-
-# The number of sites, a script's lines, and what is refused.
-STOPPED = [
-    (3, SCHEDULE + ["deliver 2 2"], "line 11: wrong addressee"),
-    (3, SCHEDULE + ["ask 3"], "line 11: no such site"),
-    (3, SCHEDULE + ["deliver 9 0"], "line 11: no such message"),
-    (3, SCHEDULE + ["answer 0 2"], "line 11: not an inventory"),
-    (3, SCHEDULE + ['learn 0 {"id":"h","events":[]}'], "line 11: other log"),
-    (3, SCHEDULE + ["hello"], "line 11: script"),
-    (2, ["ask 00"], "line 1: script"),
-    (2, ["ask  0"], "line 1: script"),
-    (2, ["learn 0 ["], "line 1: script"),
-    (2, ["", ""], "line 1: script"),
-    (2, ["answer 5 9"], "line 1: no such site"),
-    (2, ["answer 5 9", "hello"], "line 2: script"),
-    (2, ["ask 0", "ask \udcff"], "line 2: script"),
-    (2, ["ask 0\r", ""], "line 1: script"),
-] + [(2, [line], "line 1: script") for line in (
-    "ask", "ask ", "ask +1", "ask 0 ", "ask 1234567890", "answer 0", "answer 0 1 2", "Ask 0", "learn 0 {}")]
 
 WRITTEN = [(name, command, [file for file in (source, by) if file], output) for name, command, source, by, output in OF_FILES]
 WRITTEN += [(name, command, [file], output) for name, command, file, output in RULED]
 WRITTEN += [("a rehearsal of %d turns" % len(lines), "rehearse g %d" % sites, ["\n".join(lines)], output) for sites, lines, output in REHEARSED]
-REFUSED += [("a rehearsal of " + "; ".join(lines), "rehearse g %d" % sites, ["\n".join(lines)], said) for sites, lines, said in STOPPED]
+REFUSED += [("an exchange, then " + last, "rehearse g 3", ["\n".join([*EXCHANGE, last])], "line 11: " + TURN_FAULTS[fault]) for last, fault in STOPPED]
+REFUSED += [("the script %r" % text, "rehearse g 2", [text], "line 1: script") for text in NO_SCRIPTS]
+REFUSED += [("the script %r" % text, "rehearse g 2", [text], what) for text, what in (
+    ("answer 5 9", "line 1: no such site"), ("answer 5 9\nhello", "line 2: script"), ("ask 0\nask \udcff", "line 2: script"))]
 STATUSES = dict.fromkeys(["letter", "place", "cells", "salt"], 2)  # of what is refused, if it isn't 1
 
 
@@ -155,11 +133,6 @@ def rows_of(module):
         yield called(name, command, files, refusal(said))
 
 
-def file_rows():
-    """The rows of this file."""
-    return rows_of(sys.modules[__name__])
-
-
 def all_rows():
     """The rows of this file, and those of documents, of several inputs, of sketches, of split files and of proofs."""
     for module in (sys.modules[__name__], document_rows, exchange_rows, sketch_rows, split_rows, verify_rows):
@@ -174,7 +147,7 @@ def with_bytes(rows):
 
 def calls():
     """The rows of this file: few enough for a command that isn't proved yet, which takes a while to start."""
-    return with_bytes(file_rows())
+    return with_bytes(rows_of(sys.modules[__name__]))
 
 
 def wrong_sizes():
