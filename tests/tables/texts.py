@@ -1,4 +1,4 @@
-"""Texts that the tables of calls share, and what makes others of them.
+"""Texts that the tables of calls share, and what makes others of them: documents, files, the two texts that are shown, faults.
 
     from texts import B1, V1, event
 """
