@@ -1,4 +1,5 @@
 """What the pages say in numbers: exit statuses, limits and defaults are those that the tests and the programs have."""
+import functools
 import os
 import re
 import runpy
@@ -16,6 +17,7 @@ UNITS = {"MiB": 2 ** 20, "KiB": 2 ** 10}
 USERS = "README.md docs/SECURITY.md docs/GUIDE.md docs/ERRORS.md docs/LIBRARY.md"  # a limit is in the page of its kind
 
 
+@functools.lru_cache(None)
 def help_of(tool):
     """The help of a tool, on a terminal that is wider than a page."""
     words, environment = [os.path.join(TOP, "tools", tool), "--help"], dict(os.environ, COLUMNS="150")

@@ -35,7 +35,7 @@ for word in words:
         sys.exit("there is no " + word)
 if "cadf-build" in made:
     os.makedirs(made, exist_ok=True)
-child = subprocess.Popen(["sleep", os.environ.get("PAUSE", "0.2")], start_new_session=True)
+child = subprocess.Popen(["sleep", os.environ.get("PAUSE", "0.05")], start_new_session=True)
 child.wait()
 if name == os.environ.get("FAILS"):
     sys.exit("not proved")

@@ -1,5 +1,6 @@
 """That each lemma of the proofs is cited, but for those inside of a module: an abandoned one costs its reader and the gate time."""
 import collections
+import functools
 import os
 import re
 
@@ -13,10 +14,11 @@ DECLARED = re.compile(r"(?m)^(?:abbrev |unfoldable )?(?:pub )?([^\s(){}\[\],;:.]
 GENERATED = ("Answers.antt", "Goals.antt", "Invariants.antt", "Lib.antt")  # what the prover looks up by its place
 
 
+@functools.lru_cache(None)
 def sources():
     """The text of each source and proof by its path, without imports and comments."""
-    for path in (path for part in ("src", "specs", "proofs") for path in corpus.files_of("*", part)):
-        yield os.path.relpath(path, TOP), COMMENT.sub("", USE.sub("", text_of(path)))
+    paths = [path for part in ("src", "specs", "proofs") for path in corpus.files_of("*", part)]
+    return {os.path.relpath(path, TOP): COMMENT.sub("", USE.sub("", text_of(path))) for path in paths}
 
 
 def definition(text, start, name):
@@ -42,11 +44,11 @@ def uncited(texts):
 
 
 def test_each_lemma_is_cited():
-    assert not list(uncited(dict(sources())))
+    assert not list(uncited(sources()))
 
 
 def test_one_that_is_not_is_named():
-    texts = dict(sources())
+    texts = {**sources()}
     path = next(path for path in sorted(texts) if path.endswith("/proofs/HashStates.antt"))
     texts[path] += "\nabandoned : (n : ℕ) → n ≡ n\nabandoned zero = refl\nabandoned (suc n) = ap suc (abandoned n)\n"
     assert (path, "abandoned") in uncited(texts)
