@@ -14,7 +14,8 @@ import pytest
 from build import record
 from build.plan import Plan
 from install import contents, needs, sbom
-from tests import TOP
+from tests import TOP, tracked
+from tests.machine import said
 
 pytestmark = [pytest.mark.xdist_group("packages"), pytest.mark.needs("git", "dpkg-deb"), pytest.mark.timeout(600)]
 
@@ -83,30 +84,27 @@ class Tree:
         shutil.rmtree(self.out, ignore_errors=True)
         path = os.path.join(os.path.dirname(self.folder), "bin") + os.pathsep + os.environ["PATH"]
         command = [os.path.join(self.folder, "install", "package"), "--cpu", self.processor, *words, self.out]
-        done = subprocess.run(command, env={**os.environ, "PATH": path, **environment}, check=False,
-                              stdin=subprocess.DEVNULL, stdout=subprocess.PIPE, stderr=subprocess.STDOUT)
+        done = said(*command, env={**os.environ, "PATH": path, **environment})
         made = sorted(os.listdir(self.out)) if os.path.isdir(self.out) else []
-        return done.returncode, done.stdout.decode(), [os.path.join(self.out, name) for name in made]
+        return (*done, [os.path.join(self.out, name) for name in made])
 
     def packed(self, *words, **environment):
         """The files that install/package makes."""
-        status, said, made = self.pack(*words, **environment)
-        assert status == 0 and made, said
+        status, told, made = self.pack(*words, **environment)
+        assert status == 0 and made, told
         return made
 
     def refuses(self, why):
         """Expects that nothing is made, for that reason."""
-        status, said, made = self.pack()
-        assert (status, made) == (1, []) and why in said, said
+        status, told, made = self.pack()
+        assert (status, made) == (1, []) and why in told, told
 
 
 def first_tree(folder, binary):
     """The files of this tree as they are now, committed in a copy."""
     tree = os.path.join(folder, "first")
-    names = subprocess.run(["git", "ls-files", "-coz", "--exclude-standard"], cwd=TOP, check=True, stdout=subprocess.PIPE).stdout
-    for name in filter(None, names.decode().split("\0")):
-        if os.path.exists(os.path.join(TOP, name)):
-            put(os.path.join(tree, name), read(os.path.join(TOP, name)), os.stat(os.path.join(TOP, name)).st_mode & 0o777)
+    for name in tracked():
+        put(os.path.join(tree, name), read(os.path.join(TOP, name)), os.stat(os.path.join(TOP, name)).st_mode & 0o777)
     for words in (["init", "-q"], ["add", "."], ["commit", "-qm", "Begin"]):
         git(tree, *words)
     return Tree(tree, binary)
@@ -217,9 +215,9 @@ def linked_libraries(folder):
 
 def test_copyright(package, first):
     """The copyright file names each library of the kit that the command needs."""
-    said = archived(package, "fsys")["usr/share/doc/cadf/copyright"][1].decode()
-    assert linked_libraries(first.folder) - set(said.replace(",", " ").replace(":", " ").split()) == set()
-    assert "@" not in said
+    told = archived(package, "fsys")["usr/share/doc/cadf/copyright"][1].decode()
+    assert linked_libraries(first.folder) - set(told.replace(",", " ").replace(":", " ").split()) == set()
+    assert "@" not in told
 
 
 def check_materials(data, binary, folder, linked, needed):
@@ -248,17 +246,15 @@ def test_versions_of_materials():
     for name, of in sbom.FOLLOWED.items():
         bringing = [library for library, brought in sbom.WITH.items() if name in brought]
         pages = [os.path.join(record.kit_folder(TOP), "rattle", library, "README.md") for library in (name, *bringing)]
-        said = "".join(read(page).decode() for page in pages if os.path.exists(page))
-        assert re.search(r"\b%s`? %s\b" % (re.escape(of.crate), re.escape(of.version)), said), name
+        told = "".join(read(page).decode() for page in pages if os.path.exists(page))
+        assert re.search(r"\b%s`? %s\b" % (re.escape(of.crate), re.escape(of.version)), told), name
 
 
 @pytest.mark.needs("lintian")
 def test_lintian(package):
     """lintian has no remark."""
-    words = ["lintian", "-I", "-E", "--pedantic", "--suppress-tags", NO_TEXT, package]
-    done = subprocess.run(words, check=False, stdout=subprocess.PIPE, stderr=subprocess.STDOUT)
-    remarks = [line for line in done.stdout.decode().splitlines() if line[1:2] == ":" and line[0] != "N"]
-    assert (remarks, done.returncode) == ([], 0), done.stdout.decode()
+    status, told = said("lintian", "-I", "-E", "--pedantic", "--suppress-tags", NO_TEXT, package)
+    assert ([line for line in told.splitlines() if line[1:2] == ":" and line[0] != "N"], status) == ([], 0), told
 
 
 def test_stray_file(copy):
@@ -326,15 +322,13 @@ def static(made_static):
 
 def tells_version(static, *words):
     """Expects that a call ends well with the version."""
-    done = subprocess.run(words, check=False, stdin=subprocess.DEVNULL, stdout=subprocess.PIPE, stderr=subprocess.STDOUT)
-    version = "cadf %s\n" % os.path.basename(static)[len("cadf-"):].split("~")[0]
-    assert done.returncode == 0 and done.stdout.decode().endswith(version), done.stdout.decode()
+    status, told = said(*words)
+    assert status == 0 and told.endswith("cadf %s\n" % os.path.basename(static)[len("cadf-"):].split("~")[0]), told
 
 
 def skip_unless(*words):
     """Skips a test where the program may not do what the words say."""
-    done = subprocess.run(words, check=False, stdin=subprocess.DEVNULL, stdout=subprocess.DEVNULL, stderr=subprocess.DEVNULL)
-    if done.returncode:
+    if said(*words)[0]:
         pytest.skip("%s isn't allowed" % words[0])
 
 
