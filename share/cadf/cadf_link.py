@@ -15,6 +15,7 @@ from typing import NamedTuple
 from cadf_toolkit import FAILED, REFUSED, Fault, Input, is_log_name, printable
 
 VERSION = 1
+FIRST_WORD = b"CADF-SYNC "
 FIRST = re.compile(rb"CADF-SYNC ([1-9][0-9]{0,5}) (\{.*\})")
 HEAD = re.compile(rb"([a-z]{1,16}) (0|[1-9][0-9]{0,9})")
 PART = r"shared|all|\d{4}-\d\d(?:-\d\d(?:T\d\d)?)?"
@@ -352,7 +353,9 @@ class Link:
         """The version and the members of the other end's first line. None at the end of the connection, bytes if it is no such line."""
         try:
             line = self.line(LONGEST_FIRST)
-        except Wrong:
+        except Fault as fault:
+            if not isinstance(fault, Wrong) and FIRST_WORD.startswith(self.ahead[:len(FIRST_WORD)]):
+                raise
             return self.ahead
         if line is None:
             return None

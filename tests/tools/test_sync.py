@@ -301,6 +301,7 @@ def answered(*found):
 SKETCHED = (b"all", b"inventory", inventory_of("g", []))
 LIES = {
     "a greeting": (b"Welcome to h!\n", 1, 'the far shell prints "Welcome to h!"'),
+    "a greeting without a line feed": (b"Welcome " + FIRST, 1, 'the far shell prints "Welcome ": what runs at its start'),
     "a greeting first": (b"Last login\r\n" + FIRST, 1, "the far shell prints"),
     "colours": (b"\x1b[31mred\n", 1, 'the far shell prints "\\u001b[31mred"'),
     "zeros": (b"\0" * 40000, 1, "the far shell prints"),
@@ -377,6 +378,7 @@ def test_a_far_side_that_lies(sites, kind):
     ("endless", FIRST + b"list 1000000000\nW all\n", ("--most=5000000",), "more than 5000000 bytes in one session"),
     ("endless", FIRST + LIST + b"answer 1000000\nall facts 0\n", (), "no items that may answer"),
     ("drips", FIRST, (), "silent for 1 seconds"),
+    ("mute", b"Press a key: ", (), 'the far shell prints "Press a key: "'),
 ])
 def test_a_far_side_without_an_end(sites, mode, data, words, part):
     sites.put("here.cadf", facts(1))
@@ -404,6 +406,7 @@ def test_a_fault_is_heard_while_much_is_written(sites):
     ("true", 3, "it ended with status 0 before its first line"), ("false", 3, "it ended with status 1 before its first line"),
     ("./none", 3, "./none: No such file or directory"), ("sh -c 'echo \x1b[2Jno key >&2; exit 255'", 3, "no key"),
     ("sh -c 'printf \"no route\\r\\n\" >&2'", 3, "h:there.cadf: no route\n"), ("sh -c 'printf CADF-SY'", 3, ': "CADF-SY": make the call again\n'),
+    ("sh -c 'printf Welcome'", 1, ': the far shell prints "Welcome": what runs at its start'),
 ])
 def test_a_far_side_that_is_not_there(sites, rsh, status, part):
     sites.put("here.cadf", facts(1))
