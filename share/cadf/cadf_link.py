@@ -3,6 +3,7 @@
 docs/FORMATS.md has the form. Nothing that is read is trusted: each number has a limit, each wait an end.
 """
 import contextlib
+import errno
 import json
 import os
 import re
@@ -30,6 +31,13 @@ MOST_WAITS = 1000  # of an end that works, one after another
 BEAT = 10  # seconds between two signs of life of an end that works
 BLOCK, PIECE = 2 ** 16, 4096  # bytes that are read at once; that have to come in time, and go without blocking
 LOOK = 100  # milliseconds between two looks whether a wait goes on
+
+
+def check_room(file, length):
+    """Raises that a file can't have so many bytes more, where the system knows it: before they are waited for, or fill the disk."""
+    found = os.fstatvfs(file.fileno())
+    if found.f_blocks and length > found.f_bfree * found.f_frsize:
+        raise OSError(errno.ENOSPC, "%s for %d bytes" % (os.strerror(errno.ENOSPC), length))
 
 
 class Item(NamedTuple):
@@ -60,6 +68,7 @@ class Item(NamedTuple):
     def opened(self, name):
         """The bytes as an input of their own."""
         with tempfile.TemporaryFile() as copy:
+            check_room(copy, self.length)
             for block in self.blocks():
                 copy.write(block)
             copy.flush()
@@ -92,8 +101,9 @@ class Store:
 
     def copied(self, part, kind, source):
         """Writes an item of a file's bytes."""
-        file = self.begin()
-        for block in Item(part, kind, source, 0, os.fstat(source.fileno()).st_size).blocks():
+        file, size = self.begin(), os.fstat(source.fileno()).st_size
+        check_room(self.file, size)
+        for block in Item(part, kind, source, 0, size).blocks():
             while block:
                 block = block[os.write(file, block):]
         return self.item(part, kind)
@@ -223,6 +233,7 @@ class Link:
     def receive(self, length):
         """A private file of the next bytes. Of each piece all has to come in time."""
         file = tempfile.TemporaryFile()
+        check_room(file, length)
         while length:
             ending = self.ending()
             while len(self.ahead) < min(length, PIECE):

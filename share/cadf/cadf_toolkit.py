@@ -30,6 +30,7 @@ PAUSE = 0.05  # seconds between two looks at a lock
 BEGUN, QUIET, BETWEEN_LINES = time.monotonic(), 2, 0.2  # seconds before progress is worth a line, and between two
 CLEARED = "\r\x1b[K"  # what empties the line of a terminal
 NOT_REGULAR = "not a regular file; what a pipe brings is taken from standard input, as `-`"
+NO_ROOM = ": make room there, or name another folder by TMPDIR"
 OUT_OF_MEMORY = "out of memory"  # made once: no text is made while memory is out
 
 # What else a file may be, by its first bytes, and what reads it.
@@ -140,19 +141,19 @@ def why(fault):
 
 
 @contextlib.contextmanager
-def naming(name, numbers=None):
+def naming(name, numbers=None, advice=""):
     """A context in which an OSError, or one of these numbers, without the name of a file is given this one."""
     try:
         yield
     except OSError as fault:
         if not isinstance(fault.filename, str) and (numbers is None or fault.errno in numbers):
-            fault.filename = name
+            fault.filename, fault.strerror = name, "%s%s" % (fault.strerror, advice)
         raise
 
 
 def naming_temporary():
     """A context in which a write that finds no room is told of the folder of temporary files, unless its file has a name."""
-    return naming(tempfile.gettempdir(), (errno.ENOSPC, errno.EDQUOT, errno.EFBIG))
+    return naming(tempfile.gettempdir(), (errno.ENOSPC, errno.EDQUOT, errno.EFBIG), NO_ROOM)
 
 
 class Progress:
@@ -445,7 +446,7 @@ def cadf(words, inputs, output=subprocess.DEVNULL, keep=(), where=None, union=1)
     with started_cadf(words, inputs, output, keep, union) as child:
         written, said = child.communicate()
         if output >= 0 and said.strip() == b"cadf: write fault":
-            raise Fault("%s: write fault%s" % (name_shown(where or tempfile.gettempdir()), write_fault(output)))
+            raise Fault("%s: write fault%s%s" % (name_shown(where or tempfile.gettempdir()), write_fault(output), "" if where else NO_ROOM))
         check_end(child, said, inputs)
     return written
 

@@ -392,7 +392,41 @@ def test_no_room_for_what_is_temporary(sites, here, part):
     sites.put("here.cadf", facts(1))
     (sites.path / "here.json").write_text(json.dumps({"id": "g", "events": [], "name": "x"}))
     answer = sites.runs("cadf-sync", here, "there.cadf", preexec_fn=lambda: resource.setrlimit(resource.RLIMIT_FSIZE, (60, 60)))
-    assert answer.status == 3 and "cadf-sync: %s%sFile too large\n" % (tempfile.gettempdir(), part) in said(answer)
+    assert answer.status == 3 and "cadf-sync: %s%sFile too large: make room there, or name another folder by TMPDIR\n" % (tempfile.gettempdir(), part) in said(answer)
+
+
+LARGE = 2 ** 21  # bytes for which there is no room
+
+
+def test_no_room_after_a_part_was_taken(folders):
+    """The line has the folder that is full, what to do, and what was taken, which stays."""
+    parts = {part.encode(): file_of("g", own) for part, own in parts_of(facts(1, 2), "day").items()}
+    days = sorted(set(parts) - {b"shared"})
+    folders.put("here/", facts())
+    listed = b"".join(b"W %s %s\n" % (part, parts[part][-65:-1] if part == b"shared" else DIGEST) for part in [b"shared", *days])
+    (folders.path / "lie").write_bytes(
+        first(unit="day") + message(b"list", listed) + message(b"answer", items((days[0], b"facts", parts[days[0]])))
+        + message(b"answer", items((days[1], b"facts", b"0" * LARGE))))
+    answer = folders.runs("cadf-sync", "--pull", folders.far("says", folders.path / "lie"), "here/", "h:there/",
+                          preexec_fn=lambda: resource.setrlimit(resource.RLIMIT_FSIZE, (LARGE, LARGE)))
+    assert (answer.status, said(answer)) == (3, "cadf-sync: %s: File too large: make room there, or name another folder by TMPDIR; "
+                                             "taken before that: at least 2 facts here, 0 there\n" % tempfile.gettempdir())
+    assert folders.holds("here/") == facts() | read_file(parts[days[0]])[1]
+
+
+@pytest.mark.needs("unshare")
+def test_room_is_asked_for_before_a_message_is_read(sites, tmp_path):
+    """A message larger than the free room of TMPDIR ends the call before its bytes are waited for."""
+    sites.put("here.cadf", facts(1))
+    (sites.path / "lie").write_bytes(FIRST + b"list 1000000000\n")
+    (sites.path / "small").mkdir()
+    words = [sys.executable, os.path.join(sites.tools, "cadf-sync"), sites.far("mute", "lie"), "here.cadf", "h:there.cadf"]
+    answer = ended("unshare", ["-rm", "sh", "-c", "mount -t tmpfs -o size=1m none small && TMPDIR=$PWD/small exec \"$@\"", "-", *words],
+                   env=sites.environment(), cwd=sites.path)
+    if b"unshare:" in answer.error or b"mount:" in answer.error:
+        pytest.skip("no file system of one's own can be mounted")
+    assert (answer.status, said(answer)) == (3, "cadf-sync: %s/small: No space left on device for 1000000000 bytes: "
+                                             "make room there, or name another folder by TMPDIR\n" % tmp_path)
 
 
 def test_a_fault_is_heard_while_much_is_written(sites):
