@@ -160,10 +160,11 @@ class Message(NamedTuple):
 
 
 class Limits(NamedTuple):
-    """Bytes of a message, seconds of silence, bytes of a session."""
-    limit: int = LARGEST
-    timeout: float = 60
-    most: int = 2 ** 63
+    """Bytes of a message, seconds of silence, bytes and seconds of a session."""
+    limit: int
+    timeout: int
+    most: int
+    session: int
 
 
 class Told(Fault):
@@ -184,7 +185,7 @@ class Link:
         self.reading, self.writing, self.peer, self.limits = reading, writing, peer, limits
         self.ahead, self.received, self.sent, self.is_stopped, self.faults = b"", 0, 0, False, []
         self.limit, self.beat = LARGEST, BEAT  # for the other end: bytes of a message, seconds between two signs of life
-        self.progress = lambda: None
+        self.progress, self.begun = lambda: None, time.monotonic()
 
     # ---- Bytes
 
@@ -199,9 +200,11 @@ class Link:
             if time.monotonic() >= ending:
                 raise Fault("%s: silent for %g seconds: try again, or wait longer by --timeout" % (self.peer, self.limits.timeout))
 
-    def check_most(self):
+    def check_session(self):
         if self.received + self.sent > self.limits.most:
             raise Wrong("%s: more than %d bytes in one session: if that is meant, raise --most" % (self.peer, self.limits.most))
+        if time.monotonic() > self.begun + self.limits.session:
+            raise Fault("%s: the session has lasted %d seconds: make the call again, or raise --session at both ends" % (self.peer, self.limits.session))
 
     def ending(self):
         return time.monotonic() + self.limits.timeout
@@ -211,7 +214,7 @@ class Link:
         self.ready(self.reading, select.POLLIN, ending)
         block = os.read(self.reading, BLOCK)
         self.received += len(block)
-        self.check_most()
+        self.check_session()
         self.ahead += block
         return bool(block)
 
@@ -256,7 +259,7 @@ class Link:
                 except BrokenPipeError:
                     raise Fault("%s: it ended: make the call again" % self.peer) from None
                 self.sent += count
-                self.check_most()
+                self.check_session()
                 piece = piece[count:]
 
     # ---- Messages

@@ -378,12 +378,24 @@ def test_a_far_side_that_lies(sites, kind):
     ("endless", FIRST + b"list 1000000000\nW all\n", ("--most=5000000",), "more than 5000000 bytes in one session"),
     ("endless", FIRST + LIST + b"answer 1000000\nall facts 0\n", (), "no items that may answer"),
     ("drips", FIRST, (), "silent for 1 seconds"),
+    ("drips", FIRST, ("--timeout=20", "--session=2"), "h:there.cadf: the session has lasted 2 seconds: make the call again, or raise --session"),
+    ("endless", FIRST + b"list 1000000000\nW all\n", ("--session=2",), "the session has lasted 2 seconds"),
     ("mute", b"Press a key: ", (), 'the far shell prints "Press a key: "'),
 ])
 def test_a_far_side_without_an_end(sites, mode, data, words, part):
     sites.put("here.cadf", facts(1))
     answer = sites.lied_to(data, *words, mode=mode, timeout=20 if mode == "endless" else 1)
     assert answer.status in (1, 3) and part in said(answer), answer
+
+
+def test_limits_of_the_far_end(sites):
+    """What the caller allows holds there too, unless a key fixes the command there."""
+    sites.put("here.cadf", facts(1))
+    (sites.path / "shell").write_text('#!/bin/sh\nshift\necho "$@" >words\n')
+    (sites.path / "shell").chmod(0o755)
+    for words, told in ((), ""), (("--windows=7", "--session=100000"), " --windows=7 --session=100000"):
+        sites.sync(*words, "--rsh=./shell", "here.cadf", "h:there.cadf")
+        assert (sites.path / "words").read_text() == "h cadf-sync --serve%s -- there.cadf\n" % told
 
 
 @pytest.mark.parametrize("here, part", [("here.cadf", ": "), ("here.json", ": write fault: ")])
@@ -546,6 +558,16 @@ def test_a_silent_caller(sites):
     os.close(writing)
     os.close(reading)
     assert answer.status == 3 and b"silent for 1 seconds" in answer.output
+
+
+def test_a_caller_without_an_end(sites):
+    """Whoever asks again and again, never silent, has the serving end for as long as a session may last."""
+    sites.put("here.cadf", facts(1))
+    (sites.path / "shell").write_text('#!/bin/sh\n(cat hello; while printf "wait 0\\nlist 0\\n"; do sleep 0.2; done) | %s\n' % shlex.join(
+        [sys.executable, os.path.join(sites.tools, "cadf-sync"), "--serve", "--session=3", "here.cadf"]))
+    (sites.path / "hello").write_bytes(hello())
+    answer = ended("sh", ["shell"], env=sites.environment(), cwd=sites.path)
+    assert answer.status == 3 and b"\nfault " in answer.output and b"the peer: the session has lasted 3 seconds" in answer.output
 
 
 # ---- Folders, by the built command
