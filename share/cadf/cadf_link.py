@@ -61,8 +61,8 @@ class Item(NamedTuple):
             at += len(block)
             yield block
 
-    def content(self):
-        return b"".join(self.blocks())
+    def content(self, most=LARGEST):
+        return b"".join(self._replace(length=min(most, self.length)).blocks())
 
     @contextlib.contextmanager
     def opened(self, name):
@@ -345,7 +345,7 @@ class Link:
         if found is None:
             raise Fault("%s: the connection ended: make the call again" % self.peer)
         if found.word == "fault":
-            raise fault_of(self.peer, found.content(4 * LONGEST_TEXT))
+            raise fault_of(self.peer, found)
         return found
 
     # ---- First lines
@@ -401,9 +401,14 @@ def shown(data):
     return printable(json.dumps(data[:200].decode("utf-8", "backslashreplace"), ensure_ascii=False))
 
 
-def fault_of(peer, content):
-    """The fault that the other end tells: a digit, the status, and a text."""
-    text = content.decode("utf-8", "backslashreplace")
+def told_fault(fault):
+    """A fault as the other end is told it."""
+    return b"%d %s" % (fault.status, str(fault).encode("utf-8", "backslashreplace"))
+
+
+def fault_of(peer, told):
+    """The fault that the other end tells by a text, a message or an item: a digit, the status, and a text."""
+    text = told if isinstance(told, str) else told.content(4 * LONGEST_TEXT).decode("utf-8", "backslashreplace")
     status = int(text[0]) if text[:1] in ("1", "3", "4") else FAILED
     said = printable(text[2:LONGEST_TEXT])
     return Told(said if said.startswith(peer + ": ") else "%s: %s" % (peer, said), status)

@@ -53,6 +53,13 @@ def last_digest(file):
     return found[1].decode() if found else None
 
 
+def check_digest(input, digest):
+    """Raises that the last line of a window's file isn't of its name. A file without such a line is left to cadf, which has more words."""
+    with contextlib.suppress(OSError):
+        if last_digest(input.file) not in (digest, None):
+            raise Fault("%s: %s" % (input.name, cadf_site.OTHER_CONTENT))
+
+
 def union_digest(inputs):
     """The digits of the last line of the union's replica file, which may be larger than one that is read, and isn't kept."""
     if len(inputs) == 1:
@@ -124,6 +131,10 @@ class FileSite:
                 yield [input]
 
 
+class Damaged(Fault):
+    """Why a file of one part can't be read or is refused, which says nothing of other parts."""
+
+
 class FolderSite:
     """A site that is a folder. Each part is as it is when it is opened."""
 
@@ -141,19 +152,27 @@ class FolderSite:
             if not is_wanted(part, since):
                 continue
             if len(files) > 1 and key not in known:
-                with self.opened(part) as inputs:
+                with contextlib.suppress(Damaged), self.opened(part) as inputs:
                     key = key_of(part, [digest for _, digest in inputs])
                     known[key] = union_digest(list(inputs.values()))
-            found[part] = known[key] if len(files) > 1 else files[0]
+            # A damaged part is equal to none, so it is asked for, and found to be damaged.
+            found[part] = files[0] if len(files) == 1 else known.get(key, secrets.token_hex(32))
         if known != kept:
             keep_unions(self.folder, known)
         return found
 
     @contextlib.contextmanager
     def opened(self, part):
-        """The files of a part as inputs, by part and digest."""
-        with cadf_site.opened_parts(self.folder, [part]) as (_, inputs):
-            yield inputs
+        """The files of a part as inputs, by part and digest. Damaged: the fault of one of them, which is found here or in the context."""
+        try:
+            with cadf_site.opened_parts(self.folder, [part]) as (_, inputs):
+                for (_, digest), each in inputs.items():
+                    check_digest(each, digest)
+                yield inputs
+        except Fault as fault:
+            if not str(fault).startswith(self.folder.shown(part + ".").rstrip('"')):
+                raise
+            raise Damaged(str(fault), fault.status) from None
 
     @contextlib.contextmanager
     def files(self, part):
@@ -238,10 +257,13 @@ def sketch(store, part, inputs, cells):
 
 
 def is_small(inputs, cells):
-    """Whether files have so few lines that their inventory is no longer than a sketch, which it may be all the same."""
+    """Whether files have so few lines that their inventory is no longer than a sketch, which it may be all the same.
+
+    What can't be read is left to cadf to refuse.
+    """
     most, count = cells * CELL_BYTES // DIGEST_BYTES, 0
     for each in inputs:
-        with open(each.path(), "rb") as file:
+        with contextlib.suppress(OSError), open(each.path(), "rb") as file:
             for block in iter(lambda: file.read(BLOCK), b""):
                 count += block.count(b"\n")
                 if count > most:
@@ -262,11 +284,13 @@ def has_facts(item):
 
 
 def is_intact(input):
-    """Whether the last line of a replica file has the digest of the others."""
+    """Whether the last line of a replica file has the digest of the others, all of which can be read."""
     hash_all, length = hashlib.sha256(), os.fstat(input.file.fileno()).st_size - LAST_LINE
-    for block in Item(input.name, "facts", input.file, 0, length).blocks():
-        hash_all.update(block)
-    return hash_all.hexdigest() == last_digest(input.file)
+    with contextlib.suppress(OSError):
+        for block in Item(input.name, "facts", input.file, 0, length).blocks():
+            hash_all.update(block)
+        return hash_all.hexdigest() == last_digest(input.file)
+    return False
 
 
 def whole(store, part, inputs):

@@ -322,6 +322,7 @@ LIES = {
     "read only": (first(writes=False), 1, "use --pull"),
     "a fault at first": (first(fault="1 \x1b]0;title\x07no"), 1, "\\x1b]0;title\\x07no"),
     "a fault of no status": (first(fault="no"), 3, "h:there.cadf: "),
+    "a fault that is no text": (first(fault="1 \ud800"), 1, "h:there.cadf: \\ud800"),
     "another word": (FIRST + message(b"answer"), 1, "no message that it may send"),
     "a shell's word": (FIRST + b"rm -rf\n", 1, "no message that it may send"),
     "a length of 20 digits": (FIRST + b"list 10000000000000000000\n", 1, "no message that it may send"),
@@ -356,6 +357,8 @@ LIES = {
     "an inventory that is none": (answered((b"all", b"none", b""), (b"all", b"inventory", b"x\n")), 1, "version"),
     "an inventory of another log": (answered((b"all", b"none", b""), (b"all", b"inventory", inventory_of("h", []))), 1, "other log"),
     "a sketch that is none": (answered((b"all", b"none", b""), (b"all", b"sketch", b"x\n")), 1, "version"),
+    "damage": (answered((b"all", b"fault", b"3 \x1b[2Jbroken"), SKETCHED), 1, "left out all: h:there.cadf: \\x1b[2Jbroken\n"),
+    "damage of no status": (answered((b"all", b"fault", b""), (b"all", b"fault", b"1 " + b"x" * 9000)), 1, "left out all: h:there.cadf: \n"),
     "a number that is none": (answered((b"all", b"none", b""), SKETCHED) + message(b"taken", b"-1\n"), 1, "no number of facts"),
 }
 
@@ -366,7 +369,7 @@ def test_a_far_side_that_lies(sites, kind):
     data, status, part = LIES[kind]
     answer = sites.lied_to(data)
     assert answer.status == status and part in said(answer), answer
-    assert said(answer).startswith("cadf-sync: ") and said(answer).count("\n") == 1 and said(answer)[:-1].isprintable()
+    assert all(line.startswith("cadf-sync: ") and line.isprintable() for line in said(answer).splitlines()) and said(answer).count("\n") == 1 + ("left out all" in part)
 
 
 @pytest.mark.parametrize("mode, data, words, part", [
@@ -696,18 +699,78 @@ def test_a_folder_whose_first_take_ended_early_is_made(folders):
     assert answer.status == 1 and "no site in it" in said(answer)
 
 
-@pytest.mark.parametrize("way, here, there", [("--push", "here/", "there/"), ("--pull", "there/", "here/"), ("--push", "here.cadf", "new.cadf")])
-def test_what_is_damaged_is_named_where_it_is(folders, way, here, there):
+DAMAGED = "digest: the file is damaged: fetch it again, or restore it as the guide says under `A damaged site`\n"
+
+
+def test_a_damaged_file_is_named_where_it_is(folders):
     """Though the other end lacks all of it, which is then sent as it is, and would be refused there."""
-    folders.put("here/", facts(1, 2))
-    folders.put("there/", facts(1))
     folders.put("here.cadf", facts(1, 2))
-    path = next((folders.path / "here").glob("2024-03-03.*")) if "here/" in (here, there) else folders.path / "here.cadf"
+    path = folders.path / "here.cadf"
     path.write_bytes(path.read_bytes().replace(b"read", b"reap"))
-    peer = "here/: " if way == "--pull" else ""
-    assert folders.sync(way, here, there) == (1, b"", (
-        "cadf-sync: %s%s: digest: the file is damaged: fetch it again, or restore it as the guide says under `A damaged site`\n"
-        % (peer, path.relative_to(folders.path))).encode())
+    assert folders.sync("--push", "here.cadf", "new.cadf") == (1, b"", b"cadf-sync: here.cadf: " + DAMAGED.encode())
+
+
+def changed(path):
+    path.write_bytes(path.read_bytes().replace(b"read", b"reap"))
+
+
+def linked(path):
+    path.rename(path.parent.with_suffix(".moved"))
+    path.symlink_to(path.parent.with_suffix(".moved"))
+
+
+def replaced(path):
+    shutil.copyfile(next(path.parent.glob("2024-03-02.*")), path)
+
+
+DAMAGES = {"changed": (changed, DAMAGED), "gone": (os.unlink, "not there: the site is damaged: "), "another": (replaced, "it holds something else than its name says: "),
+           "a link": (linked, "a symbolic link, ")}
+
+
+@pytest.mark.parametrize("way, damaged, kind", [
+    *(((), name, kind) for name in ("here/", "there/") for kind in DAMAGES),
+    *((way, name, "changed") for way in (("--push",), ("--pull",)) for name in ("here/", "there/"))])
+def test_a_damaged_window_is_left_out(folders, way, damaged, kind):
+    """The others are exchanged; the call says where the damage is, and ends with 1. Once the window is restored the call completes."""
+    old = {"here/": facts(1, 29, 2, 3, 59), "there/": facts(1, 57, 2, 3, 31)}
+    union, window = old["here/"] | old["there/"], "2024-03-04"
+    new = {"here/": old["here/"] if way == ("--push",) else union, "there/": old["there/"] if way == ("--pull",) else union}
+    for name, atoms in old.items():
+        folders.put(name, atoms)
+    before = {name: {each: data for each, data in folders.files(name).items() if each.startswith(window)} for name in old}
+    [(each, data)] = before[damaged].items()
+    damage, part = DAMAGES[kind]
+    damage(folders.path / damaged / each)
+    answer = folders.sync("--metrics=m.prom", *way, "here/", "there/")
+    assert answer.status == 1 and b"; 2 of 4 windows differed; 1 were left out; " in answer.output, answer
+    lines = said(answer).splitlines(True)
+    assert lines[0].startswith("cadf-sync: left out %s: %s%s%s: %s" % (window, "there/: " if damaged == "there/" else "", damaged, each, part)), answer
+    assert lines[1:] == ["cadf-sync: left out 1 of 2 windows that differ: mend them, or restore them as the guide says under `A damaged site`, and make the call again\n"]
+    (folders.path / damaged / each).unlink(missing_ok=True)
+    (folders.path / damaged / each).write_bytes(data)
+    for name in old:
+        assert folders.holds(name) == new[name] - (parts_of(union, "day")[window] - old[name])
+        assert before[name].items() <= folders.files(name).items()
+    assert not (folders.path / "m.prom").exists()
+    folders.equal(*way, "here/", "there/")
+    assert {name: folders.holds(name) for name in old} == new
+
+
+@pytest.mark.parametrize("way, damaged", [("--push", "here/"), ("--push", "there/"), ("--pull", "here/"), ("--pull", "there/")])
+def test_a_damaged_window_of_several_files_is_left_out(folders, way, damaged):
+    """Its digest can't be made, so it is looked for whatever the other end has, also where nothing would be lacked."""
+    for name in ("here/", "there/"):
+        folders.put(name, facts(1, 29))
+        folders.put("more.cadf", facts(57))
+        folders.takes(name, ["more.cadf"])
+    folders.put("more.cadf", facts(2))
+    folders.takes("here/" if way == "--push" else "there/", ["more.cadf"])
+    path = max((folders.path / damaged).glob("2024-03-02.*"), key=os.path.getsize)
+    changed(path)
+    answer = folders.sync(way, "here/", "there/")
+    peer = "there/: " if damaged == "there/" else ""
+    assert answer.status == 1 and said(answer).startswith("cadf-sync: left out 2024-03-02: %s%s: %s" % (peer, path.relative_to(folders.path), DAMAGED)), answer
+    assert folders.files("here/").keys() >= {each for each in folders.files("there/") if each.startswith("2024-03-03")} != set()
 
 
 @pytest.mark.parametrize("there", ["there/", "h:there/"])
