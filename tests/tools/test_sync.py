@@ -141,6 +141,14 @@ def test_a_site_that_is_not_there_is_made(sites, words, name):
     assert (sites.path / name).read_bytes() == file_of("g", facts(1, 2))
 
 
+@pytest.mark.parametrize("words, name", [(("--push", "none/", "there.cadf"), "none/"), (("--pull", "there.cadf", "none.cadf"), "none.cadf")])
+def test_a_site_to_take_from_that_is_not_there(sites, words, name):
+    """A name that is mistyped, or a disk that isn't mounted, is no success that brings nothing."""
+    sites.put("there.cadf", facts(1, 2))
+    assert sites.sync(*words) == (1, b"", ("cadf-sync: %s: it is not there, so it has nothing to send: is that its name?\n" % name).encode())
+    assert os.listdir(sites.path) == ["there.cadf"]
+
+
 def test_since_leaves_older_windows(sites):
     sites.put("here.cadf", facts(1, 10))
     sites.put("there.cadf", facts(2, 11))
@@ -453,7 +461,8 @@ def test_a_fault_is_heard_while_much_is_written(sites):
 
 @pytest.mark.parametrize("rsh, status, part", [
     ("true", 3, "it ended with status 0 before its first line"), ("false", 3, "it ended with status 1 before its first line"),
-    ("./none", 3, "./none: No such file or directory"), ("sh -c 'echo \x1b[2Jno key >&2; exit 255'", 3, "no key"),
+    ("./none", 3, "./none: No such file or directory"),
+    ("sh -c 'exit 127'", 3, "status 127 before its first line: is cadf-sync installed"), ("sh -c 'exit 255'", 3, "status 255 before its first line: ssh could not connect"), ("sh -c 'echo \x1b[2Jno key >&2; exit 255'", 3, "no key"),
     ("sh -c 'printf \"no route\\r\\n\" >&2'", 3, "h:there.cadf: no route\n"), ("sh -c 'printf CADF-SY'", 3, ': "CADF-SY": make the call again\n'),
     ("sh -c 'printf Welcome'", 1, ': the far shell prints "Welcome": what runs at its start'),
 ])
