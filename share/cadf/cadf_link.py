@@ -197,6 +197,7 @@ class Link:
             self.progress()
             if self.is_stopped:
                 raise Fault("%s: stopped" % self.peer)
+            self.check_session()  # which what is sent meanwhile may end
             if time.monotonic() >= ending:
                 raise Fault("%s: silent for %g seconds: try again, or wait longer by --timeout" % (self.peer, self.limits.timeout))
 

@@ -391,7 +391,7 @@ def test_a_far_side_that_lies(sites, kind):
     ("drips", FIRST, (), "silent for 1 seconds"),
     ("drips", FIRST, ("--timeout=20", "--session=2"), "h:there.cadf: the session has lasted 2 seconds: make the call again, or raise --session"),
     ("endless", FIRST + b"list 1000000000\nW all\n", ("--session=2",), "the session has lasted 2 seconds"),
-    ("mute", b"Press a key: ", (), 'the far shell prints "Press a key: "'),
+    ("mute", b"Press a key: ", ("--timeout=5",), 'the far shell prints "Press a key: "'),
 ])
 def test_a_far_side_without_an_end(sites, mode, data, words, part):
     sites.put("here.cadf", facts(1))
@@ -457,6 +457,13 @@ def test_a_fault_is_heard_while_much_is_written(sites):
     sites.put("here.cadf", facts(*range(3000)))
     answer = sites.lied_to(FIRST + message(b"list") + message(b"fault", b"1 enough"), "--push", mode="mute")
     assert (answer.status, said(answer)) == (1, "cadf-sync: h:there.cadf: enough\n")
+
+
+def test_a_session_ends_while_much_is_written(sites):
+    """The limit that a request comes to is named, and not that no answer comes."""
+    sites.put("here.cadf", facts(*range(3000)))
+    answer = sites.lied_to(FIRST + message(b"list"), "--push", "--most=20000", mode="mute", timeout=3)
+    assert answer.status == 1 and "more than 20000 bytes in one session: if that is meant, raise --most\n" in said(answer)
 
 
 @pytest.mark.parametrize("rsh, status, part", [
