@@ -3,6 +3,7 @@ import contextlib
 import fcntl
 import json
 import os
+import select
 import signal
 import subprocess
 import time
@@ -64,6 +65,22 @@ def test_take_after_another(cadf, tmp_path):
         os.rename(tmp_path / "other", site)
     assert child.wait(60) == 0 and site.read_bytes() == joined(cadf, one, two, three)
     child.stderr.close()
+
+
+@pytest.mark.parametrize("held", ["here.cadf", "there.cadf"])
+def test_sync_says_for_what_it_waits(cadf, tmp_path, held):
+    """While another call has the lock of a site, here or there, and not once it is over."""
+    for name, key in (("here.cadf", "e1"), ("there.cadf", "e2")):
+        (tmp_path / name).write_bytes(joined(cadf, document(tmp_path, key)))
+    with open(put(tmp_path, held + ".lock", "", 0o600), "r+") as lock:
+        fcntl.flock(lock, fcntl.LOCK_EX)
+        child = subprocess.Popen([tool("cadf-sync"), "here.cadf", "there.cadf"], cwd=tmp_path, env={**os.environ, "CADF": cadf}, stdout=subprocess.DEVNULL, stderr=subprocess.PIPE)
+        assert select.select([child.stderr], [], [], 30)[0], "nothing is said"
+        peer = b"there.cadf: cadf-sync: " if held == "there.cadf" else b""
+        assert child.stderr.readline() == b"cadf-sync: %swaits for %s.lock, which another call holds\n" % (peer, held.encode())
+    assert (child.wait(60), child.stderr.read()) == (0, b"")
+    child.stderr.close()
+    assert (tmp_path / "here.cadf").read_bytes() == (tmp_path / "there.cadf").read_bytes()
 
 
 def test_take_behind_a_link(cadf, tmp_path):
