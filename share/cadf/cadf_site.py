@@ -653,8 +653,8 @@ class Taking:
     def settle(self):
         """Joins the files of each part into one, or into as few as can be read. Returns how many files of which parts are left."""
         done, large = 0, {}
-        for part, digests in self.index.parts().items():
-            sizes = self.sizes(part) if len(digests) > 1 else {}
+        found = {part: self.sizes(part) for part in self.index.parts()}  # each file of them has to be there
+        for part, sizes in found.items():
             for pile in piles(sizes):
                 if len(pile) > 1:
                     self.join(part, pile)

@@ -660,6 +660,17 @@ def test_what_a_site_names_and_lacks_is_named(site):
     assert answer.status == 3 and b"%s: not there: the site is damaged" % os.fsencode(path) in answer.error
 
 
+def test_settling_names_the_lost_file_of_a_window_that_has_one(site):
+    """As a take into that window does. All windows are looked at before the files of any are joined."""
+    site.takes(contents(0), contents(2), contents(5))
+    path = next(site.folder.glob("2024-02-29.*"))
+    path.unlink()
+    before = site.listed()
+    line = "cadf-take: %s: not there: the site is damaged: restore it as the guide says under `A damaged site`\n" % path
+    assert site.take("--settle") == (3, b"", line.encode())
+    assert site.listed() == before
+
+
 # ---- Wrong versions
 
 REMOVES_ALL = ("now = self.folder.index()\n                for name in self.made - {INDEX}:",
