@@ -156,9 +156,19 @@ def check(binary):
     print("real-keystone: %d events; %s" % (len(LINES), said.strip().rpartition("; ")[2]))
 
 
+def command():
+    """The command that is tried. It has to be there, and so has the tool."""
+    binary = os.path.abspath(sys.argv[1] if len(sys.argv) > 1 else os.path.join(TOP, "crates", "cadf", "out", "cadf"))
+    if shutil.which(binary) is None:
+        sys.exit("real-keystone: %s: no such program: name the command: examples/real-keystone.py CADF" % binary)
+    if TOOL is None:
+        sys.exit("real-keystone: cadf-from-openstack: no such program: put it on PATH")
+    return binary
+
+
 def main():
     warnings.simplefilter("ignore")
-    binary = os.path.abspath(sys.argv[1] if len(sys.argv) > 1 else os.path.join(TOP, "crates", "cadf", "out", "cadf"))
+    binary = command()
     sys.argv = ["keystone-wsgi-public"]
     with tempfile.TemporaryDirectory() as folder:
         name = configured(folder)

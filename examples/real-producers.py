@@ -143,10 +143,20 @@ def checked(binary, producer, lines, wanted):
     print("real-producers: %s: %d events by each of %d ways" % (producer, wanted, len(lines)))
 
 
+def command():
+    """The command that is tried. It has to be there, and so has the tool."""
+    binary = os.path.abspath(sys.argv[1] if len(sys.argv) > 1 else os.path.join(TOP, "crates", "cadf", "out", "cadf"))
+    if shutil.which(binary) is None:
+        sys.exit("real-producers: %s: no such program: name the command: examples/real-producers.py CADF" % binary)
+    if TOOL is None:
+        sys.exit("real-producers: cadf-from-openstack: no such program: put it on PATH")
+    return binary
+
+
 def main():
     warnings.simplefilter("ignore")
     logging.getLogger().setLevel(logging.CRITICAL)
-    binary = os.path.abspath(sys.argv[1] if len(sys.argv) > 1 else os.path.join(TOP, "crates", "cadf", "out", "cadf"))
+    binary = command()
     for made in (keystonemiddleware_lines, ceilometermiddleware_lines):
         producer = made.__name__.partition("_")[0]
         try:

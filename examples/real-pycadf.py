@@ -9,6 +9,7 @@ script says so, and ends with status 0.
 """
 import json
 import os
+import shutil
 import subprocess
 import sys
 import tempfile
@@ -56,6 +57,8 @@ def without_times(value):
 
 def check(binary, events):
     """Shows a log of the events, and compares."""
+    if shutil.which(binary) is None:
+        sys.exit("real-pycadf: %s: no such program: name the command: examples/real-pycadf.py CADF" % binary)
     with tempfile.NamedTemporaryFile("w", suffix=".json") as document:
         json.dump({"id": "openstack:audit", "events": events}, document)
         document.flush()

@@ -131,6 +131,20 @@ def test_examples_find_the_tool(prefix, monkeypatch, name, check):
     check(loaded(str(prefix / "share/doc/cadf/examples" / (name + ".py"))), str(prefix / "bin/cadf"), line)
 
 
+@pytest.mark.parametrize("name, words, lacks", [
+    ("real-producers", ["/absent/cadf"], "/absent/cadf"), ("real-producers", ["/bin/sh"], "cadf-from-openstack"),
+    ("real-keystone", ["/absent/cadf"], "/absent/cadf"), ("real-keystone", ["/bin/sh"], "cadf-from-openstack"),
+    ("real-pycadf", ["/absent/cadf"], "/absent/cadf")])
+def test_examples_name_what_they_lack(tmp_path, monkeypatch, name, words, lacks):
+    """What drives real producers says which program isn't there, before it drives any."""
+    (tmp_path / "examples").mkdir()
+    monkeypatch.setenv("PATH", str(tmp_path))
+    example = loaded(shutil.copy(os.path.join(TOP, "examples", name + ".py"), tmp_path / "examples"))
+    monkeypatch.setattr("sys.argv", [name, *words])
+    with pytest.raises(SystemExit, match="^%s: %s: no such program: " % (name, lacks)):
+        example.check(*words, []) if name == "real-pycadf" else example.main()
+
+
 def test_take_and_report(run, prefix, tmp_path):
     site = tmp_path / "site.cadf"
     assert run("cadf-take", str(site), str(prefix / "share/doc/cadf/examples/vectors/north.json")).status == 0
