@@ -25,7 +25,7 @@ def peeled(agree, data, cells):
     """What cadf-agree finds in a sketch's cells, in which there is nothing of its own."""
     sketch = agree.Sketch(types.SimpleNamespace(whole=lambda: data))
     sketch.cells = list(cells)
-    return {line.rstrip(b"\n") for line in sketch.apart(types.SimpleNamespace(cells=[0] * len(cells)))}
+    return {line.rstrip(b"\n") for line in sketch.apart([0] * len(cells))}
 
 
 @pytest.mark.timeout(60)

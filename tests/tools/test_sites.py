@@ -393,8 +393,11 @@ def test_agree_by_sketches(sites):
     sites.cadf("asked.sketch", "sketch", "--cells", said[0].rpartition(" ")[2], "--salt", "7", "a")
     wanted = [replaced(line, ("a lacks", "asked.sketch lacks"), ("of a", "of asked.sketch")) for line in files[::-1]]
     assert sites.tool("agree", "b.json", "asked.sketch")[2] == wanted
-    two = [("a.sketch", "b.sketch"), ("a.sketch", "site.inventory"), ("b.sketch", "site.inventory")]
-    assert sites.tool("agree", "a.sketch", "b.sketch", "site.inventory") == (5, b"", ["%s differs from %s" % each for each in two])
+    assert sites.tool("agree", "a.sketch", "b.sketch") == (5, b"", ["a.sketch differs from b.sketch"])
+    sites.cadf("b.inventory", "inventory", "b.json")
+    for other in ("a.sketch", "asked.sketch"):
+        status, output, by_file = sites.tool("agree", "b.json", other)
+        assert sites.tool("agree", "b.inventory", other) == (status, output, [line.replace("b.json", "b.inventory") for line in by_file])
     assert sites.tool("agree", "a", "other.sketch") == (1, b"", ['other.sketch: other log: "h \\u202e"'])
     put("bad.sketch", held("b.sketch").replace(b"S 120 ", b"S 123 "))
     put("cut.sketch", held("b.sketch")[:-70])

@@ -163,6 +163,18 @@ def test_agree_of_a_folder_and_others_has_the_files_of_one_window_open_at_a_time
     assert sites.run("agree", "north", "south", **FEW) == (5, "", ["north lacks 2 facts of south", "south lacks 3 facts of north"])
 
 
+def test_agree_of_a_folder_and_a_sketch_has_the_files_of_one_window_open_at_a_time(sites):
+    """Nor are its files joined, which together may be more than is read. As many cells are asked for as by a file of the same facts."""
+    sites.north.takes(contents(*range(99), name="n"))
+    file = sites.file("file.cadf", contents(*range(99), name="n"))
+    for cells, keys in ((33, range(3, 99)), (33, range(99)), (3, range(60)), (198, range(30, 120))):
+        sketch = ended(Site.command, ["sketch", "--cells", str(cells), sites.file("other.cadf", contents(*keys))], cwd=sites.path).output
+        (sites.path / "sketch").write_bytes(sketch)
+        status, output, said = sites.run("agree", file, "sketch")
+        assert status in (1, 5) and sites.run("agree", "north", "sketch", **FEW) == (status, output, [line.replace(file, "north") for line in said])
+        assert sites.run("agree", "sketch", "north", **FEW) == (status, output, [line.replace(file, "north") for line in said[::-1]])
+
+
 @pytest.mark.parametrize("words", [["conflicts", "--values"], ["events"], ["events", "--from", DAYS[0][:10]], ["report"], ["report", "--from", DAYS[0][:10]]])
 def test_lists_have_the_files_of_one_window_open_at_a_time(sites, words):
     """So a site of more windows than files may be open is listed, also where a key is in several windows."""
