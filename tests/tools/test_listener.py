@@ -12,6 +12,7 @@ import socket
 import stat
 import struct
 import sys
+import threading
 import types
 
 import pytest
@@ -106,12 +107,69 @@ def test_heartbeats(program, monkeypatch):
     def drain(timeout):
         raise socket.timeout
 
-    channel = types.SimpleNamespace(basic_qos=lambda *_: None, basic_consume=lambda _: None)
+    channel = types.SimpleNamespace(basic_qos=lambda *_: None, basic_consume=lambda _: None, close=lambda: None,
+                                    queue_declare=lambda name, passive: calls.update(["asked"]))
     connection = types.SimpleNamespace(channel=lambda: channel, blocking_read=drain, heartbeat_tick=lambda: calls.update(["tick"]))
     monkeypatch.setattr(program, "find_queue", lambda *_: None)
     options = types.SimpleNamespace(queue="q", bind=[], prefetch=1, until_empty=0)
     program.listen(connection, program.Deliveries(), types.SimpleNamespace(finish_if_old=lambda: None), options)
-    assert calls["tick"] == 1
+    assert calls == {"tick": 1, "asked": 1}
+
+
+def frame(*numbers, words=b"", channel=0):
+    """A frame of a method: its class, its number, and its words."""
+    payload = struct.pack(">HH", *numbers) + words
+    return struct.pack(">BHI", 1, channel, len(payload)) + payload + b"\xce"
+
+
+GREETING = [frame(10, 10, words=b"\0\x09" + b"\0" * 4 + b"\0\0\0\5PLAIN" + b"\0\0\0\5en_US"), frame(10, 30, words=struct.pack(">HIH", 9, 4096, 60)),
+            frame(10, 41, words=b"\0")]
+DELIVERY = frame(60, 60, words=b"\1t" + b"\0" * 8 + b"\0\0\1q", channel=1)
+
+
+@pytest.mark.timeout(60)
+@pytest.mark.parametrize("last", [b"", frame(20, 11, words=b"\0" * 4, channel=1)[:9], DELIVERY[:-5]])
+def test_a_link_that_is_cut_in_silence(program, monkeypatch, last):
+    """What the broker doesn't answer is a fault in the end, also if a part of a frame came before the link was cut."""
+    if program.amqp is None:
+        pytest.skip("python3-kombu isn't there")
+    monkeypatch.setattr(program, "ANSWER", 1)
+    with socket.create_server(("127.0.0.1", 0)) as server:
+        def speak():
+            link, _ = server.accept()
+            with link:
+                for text in [*GREETING, last]:
+                    link.recv(4096)
+                    link.sendall(text)
+                over.wait()
+
+        over, broker = threading.Event(), threading.Thread(target=speak)
+        broker.start()
+        try:
+            deliveries = program.Deliveries()
+            connection = program.Host("127.0.0.1:%d" % server.getsockname()[1], "/", False).connect(deliveries, None)
+            with pytest.raises(OSError), program.channel_of(connection):
+                pass
+            connection.collect()
+        finally:
+            over.set()
+            broker.join()
+
+
+def test_nothing_of_a_link_that_was_cut_is_no_empty_queue(program, monkeypatch):
+    """With --until-empty the broker has to answer once more. So the end is that of a broker that is away."""
+    def read(timeout):
+        raise socket.timeout
+
+    def declare(name, passive):
+        raise socket.timeout("timed out")
+
+    channel = types.SimpleNamespace(basic_qos=lambda *_: None, basic_consume=lambda _: None, close=lambda: None, queue_declare=declare)
+    connection = types.SimpleNamespace(channel=lambda: channel, blocking_read=read, heartbeat_tick=lambda: None)
+    monkeypatch.setattr(program, "find_queue", lambda *_: None)
+    options = types.SimpleNamespace(queue="q", bind=[], prefetch=1, until_empty=0)
+    with pytest.raises(socket.timeout):
+        program.listen(connection, program.Deliveries(), types.SimpleNamespace(finish_if_old=lambda: None), options)
 
 
 @pytest.mark.parametrize("seconds, ends_at", [(0, 60), (300, 300), (None, None)])
@@ -455,7 +513,8 @@ def test_slow_message(program, monkeypatch):
             raise socket.timeout
         handle(frame)
 
-    channel = types.SimpleNamespace(basic_qos=lambda *_: None, basic_consume=lambda _: None, basic_ack=lambda tag, multiple: acknowledged.append(tag))
+    channel = types.SimpleNamespace(basic_qos=lambda *_: None, basic_consume=lambda _: None, basic_ack=lambda tag, multiple: acknowledged.append(tag),
+                                    queue_declare=lambda name, passive: None, close=lambda: None)
     connection = types.SimpleNamespace(channel=lambda: channel, blocking_read=read, heartbeat_tick=lambda: None)
     spool = types.SimpleNamespace(write=lines.extend, finish_if_old=lambda: None)
     program.listen(connection, deliveries, spool, types.SimpleNamespace(queue="q", bind=[], prefetch=1, until_empty=1))
