@@ -14,6 +14,7 @@ from tests.command.commands import COMMANDS
 from tests.command.vectors import read
 from tests.machine import ended, said
 from tests.package import completions
+from tests.tools.faulty import calls_of
 from tests.tools.programs import loaded
 
 INSTALL = os.path.join(TOP, "install", "install")
@@ -216,6 +217,22 @@ def test_install_ended(cadf, tmp_path):
     count = sum(path.is_file() for path in tmp_path.rglob("*"))
     assert install("--uninstall", tmp_path) == "removed %d files under %s\n" % (count, tmp_path)
     assert sorted(tmp_path.rglob("*")) == sorted(list(in_the_way.parents)[:3])
+
+
+@pytest.mark.parametrize("place", [10, 100, None])
+def test_install_killed(cadf, tmp_path, place):
+    """What a run leaves that is killed at a file or at its list is used or taken away by the next one, and by an --uninstall: folders and `.new` files too."""
+    def calls(name, *words):
+        (tmp_path / name).mkdir()
+        return calls_of("os.mkdir os.replace", INSTALL, ["--any", "."], *words, told="../calls", cwd=tmp_path / name)[1]
+
+    place = place or len(calls("whole"))
+    for name, runs in (("again", ["--any", "--uninstall"]), ("removed", ["--uninstall"])):
+        calls(name, "killed", place)
+        for word in runs:
+            done = ended(INSTALL, [word, "."], cwd=tmp_path / name)
+            assert (done.status, done.error) == (0, b"")
+            assert [path for path in (tmp_path / name).rglob("*") if path.suffix == ".new" or word == "--uninstall"] == []
 
 
 @pytest.mark.parametrize("word", ["--any", "--uninstall"])
