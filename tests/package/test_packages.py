@@ -16,6 +16,7 @@ from build.plan import Plan
 from install import contents, needs, sbom
 from tests import TOP, tracked
 from tests.machine import said
+from tests.tools.programs import loaded
 
 pytestmark = [pytest.mark.xdist_group("packages"), pytest.mark.needs("git", "dpkg-deb"), pytest.mark.timeout(600)]
 
@@ -255,6 +256,25 @@ def test_lintian(package):
     """lintian has no remark."""
     status, told = said("lintian", "-I", "-E", "--pedantic", "--suppress-tags", NO_TEXT, package)
     assert ([line for line in told.splitlines() if line[1:2] == ":" and line[0] != "N"], status) == ([], 0), told
+
+
+def test_what_is_made_is_no_change(tmp_path, monkeypatch):
+    """Nor what a killed run leaves, which the next one takes away: the folder may be the top, and a tree with changes isn't packed."""
+    def killed(*_):
+        raise KeyboardInterrupt
+
+    program, folder = loaded(os.path.join(TOP, "install", "package")), str(tmp_path)
+    git(folder, "init", "-q")
+    put(os.path.join(folder, ".gitignore"), read(os.path.join(TOP, ".gitignore")))
+    program.put(folder, "cadf-0.1-amd64-static", b"x", 0o755)
+    program.put(folder, "cadf-0.1-amd64-static.spdx.json", b"x", 0o644)
+    with monkeypatch.context() as patched, pytest.raises(KeyboardInterrupt):
+        patched.setattr(os, "replace", killed)
+        program.put(folder, "cadf_0.1_amd64.deb", b"x", 0o644)
+    assert len(os.listdir(folder)) == 5 and git(folder, "status", "--porcelain") == "?? .gitignore"
+    program.put(folder, "cadf_0.2_amd64.deb", b"x", 0o644)
+    made = ["cadf-0.1-amd64-static", "cadf-0.1-amd64-static.spdx.json", "cadf_0.2_amd64.deb"]
+    assert sorted(os.listdir(folder)) == [".git", ".gitignore", *made] and git(folder, "status", "--porcelain") == "?? .gitignore"
 
 
 def test_stray_file(copy):
