@@ -138,6 +138,15 @@ def test_which_names_all_that_is_damaged(sites):
         assert line.startswith("north/%s: %s" % (file.name, part))
 
 
+def test_which_without_a_command_names_no_file(sites):
+    """Nor does any other tool that reads a folder: what can't be started is no damage."""
+    sites.north.takes(contents(0, 2, name="n"))
+    sites.environment["CADF"] = "/absent/cadf"
+    for words in (["which"], ["conflicts"], ["events"], ["seal"], ["agree", sites.north.put(contents(0))]):
+        said = "/absent/cadf: No such file or directory: name the command by CADF, or put it on PATH"
+        assert sites.run(*words, "north") == (3, "", ["cadf-%s: %s" % (words[0], said)])
+
+
 FEW = {"preexec_fn": lambda: resource.setrlimit(resource.RLIMIT_NOFILE, (67, 67))}  # to open a file, and not two
 
 
