@@ -2,6 +2,7 @@
 import functools
 import json
 import os
+import re
 import resource
 import shlex
 import sys
@@ -145,6 +146,21 @@ def test_which_without_a_command_names_no_file(sites):
     for words in (["which"], ["conflicts"], ["events"], ["seal"], ["agree", sites.north.put(contents(0))]):
         said = "/absent/cadf: No such file or directory: name the command by CADF, or put it on PATH"
         assert sites.run(*words, "north") == (3, "", ["cadf-%s: %s" % (words[0], said)])
+
+
+@pytest.mark.parametrize("words", [["conflicts"], ["events"], ["agree", "file.cadf"], ["agree", "inventory"], ["seal", "--prove", "file.cadf"]])
+def test_no_room_for_temporary_files_is_told_of_their_folder(sites, words):
+    sites.north.takes(contents(0, 2, name="n"))
+    (sites.path / "inventory").write_bytes(ended(Site.command, ["inventory", sites.file("file.cadf", contents(0, 3))], cwd=sites.path).output)
+    sites.environment.update(CADF=Site.command, TMPDIR=str(sites.path))
+    status, output, said = sites.run(*words, "north", preexec_fn=lambda: resource.setrlimit(resource.RLIMIT_FSIZE, (1, 1)))
+    assert (status, output, len(said)) == (3, "", 1) and re.match(r"(cadf-\w+: )?%s.*: File too large$" % re.escape(str(sites.path)), said[0]), said
+
+
+def test_events_that_cannot_be_written_are_no_fault_of_temporary_files(sites):
+    sites.north.takes(contents(0, 2))
+    answer = ended("sh", ["-c", 'exec "$0" north >/dev/full', os.path.join(TOOLS, "cadf-events")], env=sites.environment, cwd=sites.path)
+    assert answer == (3, b"", b"cadf-events: standard output: write fault: No space left on device\n")
 
 
 FEW = {"preexec_fn": lambda: resource.setrlimit(resource.RLIMIT_NOFILE, (67, 67))}  # to open a file, and not two
