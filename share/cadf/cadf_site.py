@@ -52,6 +52,7 @@ MOST_JOINED = 2 ** 24  # bytes that a take joins; more is left to --settle
 MOST_SETTLED = 2 ** 28  # bytes that are joined before `site` is replaced, so that a settling that is killed goes on from there
 NO_SITE = "no site in it: `cadf-take --by day SITE/ FILE..` makes one"
 DAMAGED = "the site is damaged: restore it as the guide says under `A damaged site`"
+NO_FILE = "not a regular file: " + DAMAGED
 OTHER_CONTENT = "it holds something else than its name says: " + DAMAGED
 
 
@@ -192,7 +193,7 @@ class Folder:
         except FileNotFoundError:
             raise
         except OSError as fault:
-            said = "a symbolic link, which no file of a site is" if fault.errno == errno.ELOOP else fault.strerror
+            said = {errno.ELOOP: "a symbolic link, which no file of a site is", errno.EINVAL: NO_FILE, errno.EISDIR: NO_FILE}.get(fault.errno, fault.strerror)
             raise Fault("%s: %s" % (self.shown(name), said)) from None
 
     def index(self):
@@ -561,7 +562,7 @@ class Taking:
         except FileNotFoundError:
             raise Fault("%s: not there: %s" % (self.folder.shown(name), DAMAGED)) from None
         if not stat.S_ISREG(found.st_mode):
-            raise Fault("%s: not a regular file: %s" % (self.folder.shown(name), DAMAGED))
+            raise Fault("%s: %s" % (self.folder.shown(name), NO_FILE))
         return found.st_size
 
     def sizes(self, part):

@@ -139,6 +139,20 @@ def test_which_names_all_that_is_damaged(sites):
         assert line.startswith("north/%s: %s" % (file.name, part))
 
 
+@pytest.mark.parametrize("make", [os.mkfifo, os.mkdir])
+@pytest.mark.parametrize("name", ["site", "2024-02-29.*"])
+def test_what_is_in_the_place_of_a_file_of_a_folder_is_damage(sites, make, name):
+    """It is waited for by no tool that reads the folder, and none has it brought as standard input."""
+    sites.north.takes(contents(0))
+    path = next(sites.north.folder.glob(name))
+    path.unlink()
+    make(path)
+    line = "north/%s: not a regular file: the site is damaged: restore it as the guide says under `A damaged site`" % path.name
+    for tool in ("which", "conflicts", "events", "seal"):
+        status, output, said = sites.run(tool, "north")
+        assert (status, output, said[0]) == (3, "", line if tool == "which" else "cadf-%s: %s" % (tool, line))
+
+
 def test_which_without_a_command_names_no_file(sites):
     """Nor does any other tool that reads a folder: what can't be started is no damage."""
     sites.north.takes(contents(0, 2, name="n"))
