@@ -93,6 +93,7 @@ NO_EVENTS = [
     ("a request in quotes", LOG % "nova" + '1.2.3.4 "GET /%s HTTP/1.1"' % json.dumps(notification(EVENT)), ["not JSON, and .."]),
     ("a header in quotes", LOG % "nova" + "agent 'Payload: %s'" % EVENT, ["not JSON, and .."]),
     ("no value of Python", middleware_line("{'id': <object>}"), ["no value of Python .."]),
+    ("two numbers of Python", middleware_line(str(EVENT)[:-1] + ", 'n': 1 2}"), ["not JSON at .."]),
     ("a broken text of Python", middleware_line("{'id': '\\x1'}"), ["no text of Python"]),
     ("garbage", "garbage", ["not JSON, and .."]),
     ("a text", '"text"', ["not JSON, and .."]),
@@ -557,15 +558,26 @@ def test_two_runs_set_aside_at_once(monkeypatch):
     assert [json.loads(line)["file"] for line in lines if "torn" not in line] == ["a", "b", "b"]
 
 
-@pytest.mark.parametrize("name", ["event", "document", "text", "base64"])
+SET_ASIDE = {"event": {}, "document": {"events": [{}]}, "text": "{}", "base64": "e30="}
+
+
+@pytest.mark.parametrize("name", SET_ASIDE)
 def test_entry_names_no_file(name):
     """A message of a bus that looks like an entry is set aside under the file and the line where it is, whatever it names."""
-    value = {"event": {}, "document": {"events": [{}]}, "text": "{}", "base64": "e30="}[name]
-    lines = lines_of([event(id="a"), {"file": "another.jsonl", "line": 7, "faults": [], name: value}])
+    lines = lines_of([event(id="a"), {"file": "another.jsonl", "line": 7, "faults": [], name: SET_ASIDE[name]}])
     put("bus.jsonl", lines.encode())
     ended(TOOL, ["--log", "g", "--set-aside", "of-bus", "bus.jsonl"])
     entries = [json.loads(line) for line in open("of-bus", "rb")]
     assert [(entry["file"], entry["line"], entry["event"]) for entry in entries] == [("bus.jsonl", 2, {})]
+
+
+def test_odd_entries():
+    """A line that looks like an entry, with a member that no entry has beside one that it has, costs itself alone."""
+    odd = [{"faults": [], other: value, name: right} for name, right in SET_ASIDE.items() for other in SET_ASIDE if other != name
+           for value in (None, 5, 1.5, "x", [], {}, {"events": {}})]
+    done = read("".join(lines_of([each, event(id=str(number))]) for number, each in enumerate(odd)))
+    assert (done.status, done.counts) == (1, counts(len(odd), len(odd)))
+    assert [entry["line"] for entry in done.entries] == list(range(1, 2 * len(odd), 2))
 
 
 NOWHERE = "cadf-from-openstack: what was set aside is written nowhere: --set-aside FILE keeps it, to be mended"
