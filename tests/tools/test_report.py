@@ -310,6 +310,8 @@ def test_set_aside(reports):
     plain_page = Data(reports.page("both"))
     assert plain_page.data["aside"] is None
     assert {**page.data, "aside": None} == plain_page.data
+    put("long", '{"file":"a","line":1,"faults":[],"event":{"n":%s}}\n' % ("-" + "9" * 5000))
+    assert Data(reports.page("--set-aside", "long", "both")).data["aside"] == [["a", "1", [], '{"n":"-' + "9" * 1993]]
     for line in ("{", "[]", '{"file":"a","line":1}', '{"file":"a","line":1,"faults":"x"}'):
         put("broken", json.dumps(ENTRIES[0]) + "\n" + line + "\n")
         assert reports.answer("--set-aside", "broken", "both") == (1, b"", ["cadf-report: broken: line 2: nothing that was set aside"]), line
