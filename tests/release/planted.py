@@ -86,7 +86,7 @@ ROWS = [
     Row("openstack: set aside, not synced", "tools/cadf-from-openstack", "                os.fsync(self.descriptor)\n", "                pass\n", CRASH + "test_from_openstack"),
     Row("openstack: ends before the sync", "tools/cadf-from-openstack", "        counts = self.counts\n        if self.aside", "        counts = self.counts\n        self.documents.close()\n        self.documents.close = lambda: None\n        if self.aside", CRASH + "test_from_openstack"),
     Row("openstack: each 500th line is lost", "tools/cadf-from-openstack", "self.is_whole):\n                    kind =", "self.is_whole):\n                    if place % 500 == 0:\n                        continue\n                    kind =", OPENSTACK + "test_many_lines"),
-    Row("openstack: documents of 2^31 bytes", "tools/cadf-from-openstack", "LARGEST = 2 ** 30", "LARGEST = 2 ** 31", OPENSTACK + "test_files"),
+    Row("openstack: documents of 2^31 bytes", "tools/cadf-from-openstack", "whole_number(4096, LARGEST)", "whole_number(4096, 2 * LARGEST)", OPENSTACK + "test_files"),
     # ---- The listener
     Row("listener: queue not durable", "tools/cadf-listen", "durable=True, auto_delete=False", "durable=False, auto_delete=False", LISTENER + "test_makes_queue"),
     Row("listener: queue deleted", "tools/cadf-listen", "durable=True, auto_delete=False", "durable=True, auto_delete=True", LISTENER + "test_makes_queue"),
