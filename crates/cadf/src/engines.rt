@@ -37,9 +37,7 @@ fn open_all<R: Files>(
     let mut files = Vec::new(alloc);
     for path in paths {
         let file = open(rt, *path, before + files.len() + 1)?;
-        if files.push(file).is_err() {
-            return Err(ToolFault::Memory);
-        }
+        files.push(file)?;
     }
     Ok(files)
 }

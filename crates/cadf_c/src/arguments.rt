@@ -41,10 +41,7 @@ pub(crate) fn log_if_any(alloc: Global, bytes: &[u8]) -> Result<Option<Name>, Ar
     if bytes.is_empty() {
         return Ok(None);
     }
-    match log_of_bytes(alloc, bytes) {
-        Ok(log) => Ok(Some(log)),
-        Err(fault) => Err(fault),
-    }
+    Ok(Some(log_of_bytes(alloc, bytes)?))
 }
 
 /// Returns the unit and the log of a split; they are checked in this order.
@@ -102,10 +99,7 @@ fn cells_if_any(cells: u64) -> Result<Option<Cells>, ArgumentFault>
     if cells == 0 {
         return Ok(None);
     }
-    match check_cells(cells) {
-        Ok(cells) => Ok(Some(cells)),
-        Err(fault) => Err(fault),
-    }
+    Ok(Some(check_cells(cells)?))
 }
 
 /// Returns the salt of a sketch. 0 is none.
@@ -116,10 +110,7 @@ fn salt_if_any(salt: u64) -> Result<Option<Salt>, ArgumentFault>
     if salt == 0 {
         return Ok(None);
     }
-    match check_salt(salt) {
-        Ok(salt) => Ok(Some(salt)),
-        Err(fault) => Err(fault),
-    }
+    Ok(Some(check_salt(salt)?))
 }
 
 /// Returns the number of cells and the salt of a sketch; they are checked in this order.

@@ -44,10 +44,8 @@ pub(crate) fn join_inputs(
     ensures err { IfErr result (λ fault. IsFirstOfAll (join_of log) (bytes_in inputs.now) fault) }
     ensures only { IfErr result (λ fault. is_of_memory fault ≡ true) }
 {
-    match slices(alloc, inputs) {
-        Ok(slices) => join(alloc, log, slices.as_slice(), output),
-        Err(_) => Err(ToolFault::Memory),
-    }
+    let slices = slices(alloc, inputs)?;
+    join(alloc, log, slices.as_slice(), output)
 }
 
 /// Writes the split file by that unit of what all of them contribute, and returns its length.
@@ -63,10 +61,8 @@ pub(crate) fn split_inputs(
     ensures err { IfErr result (λ fault. IsFirstOfAll (join_of log) (bytes_in inputs.now) fault) }
     ensures only { IfErr result (λ fault. is_of_memory fault ≡ true) }
 {
-    match slices(alloc, inputs) {
-        Ok(slices) => split(alloc, unit, log, slices.as_slice(), output),
-        Err(_) => Err(ToolFault::Memory),
-    }
+    let slices = slices(alloc, inputs)?;
+    split(alloc, unit, log, slices.as_slice(), output)
 }
 
 /// Writes the proof file, under the seal of all of them, for the facts of `facts`, and returns its length.
@@ -81,8 +77,6 @@ pub(crate) fn prove_inputs<'b>(
     ensures err { IfErr result (λ fault. IsFirstOfOneAndAll input_spec proof_of_union facts.now (bytes_in inputs.now) fault) }
     ensures only { IfErr result (λ fault. is_of_memory fault ≡ true) }
 {
-    match slices(alloc, inputs) {
-        Ok(slices) => prove(alloc, facts, slices.as_slice(), output),
-        Err(_) => Err(ToolFault::Memory),
-    }
+    let slices = slices(alloc, inputs)?;
+    prove(alloc, facts, slices.as_slice(), output)
 }

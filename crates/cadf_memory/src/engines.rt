@@ -268,9 +268,7 @@ pub fn join(
     ensures err { IfErr result (λ fault. IsFirstOfAll (join_of log) (bytes_of_slices inputs.now) fault) }
     ensures only { IfErr result (λ fault. is_of_memory fault ≡ true) }
 {
-    let Ok(mut sources) = sources(alloc, inputs) else {
-        return Err(ToolFault::Memory);
-    };
+    let mut sources = sources(alloc, inputs)?;
     let mut buffer = Buffer::new(output);
     match run_join(alloc, log, sources.as_mut_slice(), &mut buffer) {
         Ok(()) => Ok(buffer.length()),
@@ -291,9 +289,7 @@ pub fn split(
     ensures err { IfErr result (λ fault. IsFirstOfAll (join_of log) (bytes_of_slices inputs.now) fault) }
     ensures only { IfErr result (λ fault. is_of_memory fault ≡ true) }
 {
-    let Ok(mut sources) = sources(alloc, inputs) else {
-        return Err(ToolFault::Memory);
-    };
+    let mut sources = sources(alloc, inputs)?;
     let mut buffer = Buffer::new(output);
     match run_split(alloc, unit, log, sources.as_mut_slice(), &mut buffer) {
         Ok(()) => Ok(buffer.length()),
@@ -312,9 +308,7 @@ pub fn prove<'b>(
     ensures err { IfErr result (λ fault. IsFirstOfOneAndAll input_spec proof_of_union facts.now (bytes_of_slices inputs.now) fault) }
     ensures only { IfErr result (λ fault. is_of_memory fault ≡ true) }
 {
-    let Ok(mut sources) = sources(alloc, inputs) else {
-        return Err(ToolFault::Memory);
-    };
+    let mut sources = sources(alloc, inputs)?;
     let mut first = SliceSource::new(facts);
     let mut buffer = Buffer::new(output);
     match run_prove(alloc, &mut first, sources.as_mut_slice(), &mut buffer) {

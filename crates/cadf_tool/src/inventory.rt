@@ -26,10 +26,7 @@ impl Engine for InventoryEngine {
     ghost of_replica = { λ _. of_inventory };
 
     fn make(&self, _alloc: Global, replica: Replica) -> Result<Inventory, ToolFault> {
-        match replica.inventory() {
-            Ok(inventory) => Ok(inventory),
-            Err(_) => Err(ToolFault::Memory),
-        }
+        Ok(replica.inventory()?)
     }
 
     fn write<W: Sink>(

@@ -35,10 +35,8 @@ fn part(number: usize, from: JoinState, inventory: &Inventory) -> Result<Replica
     ensures { (froms : List Loaded) → number ≡ length froms + 1 → IsJoinState 1 None froms from
         → IsWorked (part_by_union (froms, inventory.now)) result }
 {
-    match from.end() {
-        Ok(from) => beyond(number, &from, inventory),
-        Err(fault) => Err(fault),
-    }
+    let from = from.end()?;
+    beyond(number, &from, inventory)
 }
 
 /// Loads both inputs, the second as an inventory file, and returns the delta of the first for the second.

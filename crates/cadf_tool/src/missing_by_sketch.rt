@@ -45,10 +45,8 @@ fn part(
     ensures { (froms : List Loaded) → number ≡ length froms + 1 → IsJoinState 1 None froms from
         → IsWorkedBy (IsPartOfUnionBySketch (froms, sketch.now)) result }
 {
-    match from.end() {
-        Ok(held) => beyond(alloc, number, &held, sketch),
-        Err(fault) => Err(fault),
-    }
+    let held = from.end()?;
+    beyond(alloc, number, &held, sketch)
 }
 
 /// Loads both inputs, the second as a sketch file, and returns the delta of the first for the second.

@@ -32,16 +32,8 @@ fn proof_of(alloc: Global, facts: &Replica, held: &Replica) -> Result<Proof, Mem
 fn proof_for(alloc: Global, held: &Replica, facts: Loaded) -> Result<Proof, ToolFault>
     ensures { IsWorked (proof_for held.now facts) result }
 {
-    let Ok(log) = held.log().copy(alloc) else {
-        return Err(ToolFault::Memory);
-    };
-    match facts_under(alloc, 1, log, facts) {
-        Ok(facts) => match proof_of(alloc, &facts, held) {
-            Ok(proof) => Ok(proof),
-            Err(_) => Err(ToolFault::Memory),
-        },
-        Err(fault) => Err(fault),
-    }
+    let facts = facts_under(alloc, 1, held.log().copy(alloc)?, facts)?;
+    Ok(proof_of(alloc, &facts, held)?)
 }
 
 /// Makes the same proof, by the inventory of the union. `NoLog`: no input of the union names a log. `OtherLog`: one
@@ -49,10 +41,8 @@ fn proof_for(alloc: Global, held: &Replica, facts: Loaded) -> Result<Proof, Tool
 fn proof_by(alloc: Global, union: JoinState, facts: Loaded) -> Result<Proof, ToolFault>
     ensures { (ls : List Loaded) → IsJoinState 2 None ls union → IsWorked (proof_of_union (facts, ls)) result }
 {
-    match union.end() {
-        Ok(held) => proof_for(alloc, &held, facts),
-        Err(fault) => Err(fault),
-    }
+    let held = union.end()?;
+    proof_for(alloc, &held, facts)
 }
 
 /// Loads all inputs, and makes the proof for the first by the union of the others.

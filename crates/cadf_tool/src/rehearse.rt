@@ -73,10 +73,8 @@ fn final_sites<R: Source>(
     ensures ok { IfOk result (λ v. IsExpected (one script_spec (transition_of R.Source script.old script.new)) (played_of log.now sites) (Ok v.items)) }
     ensures err { IfErr result (λ f. IsExpected (one script_spec (transition_of R.Source script.old script.new)) (played_of log.now sites) (Err f)) }
 {
-    match turns(alloc, script) {
-        Ok(turns) => left(alloc, log, sites, turns.as_slice()),
-        Err(fault) => Err(fault),
-    }
+    let turns = turns(alloc, script)?;
+    left(alloc, log, sites, turns.as_slice())
 }
 
 /// Returns whether both have the same log and the same atoms.
@@ -124,9 +122,7 @@ fn write_lines<W: Sink>(alloc: Global, sites: &[Replica], output: &mut W) -> Res
     ensures written { IsWritten W.Sink output.old output.new (text_of_sites sites.now) result }
     ensures memory { result ≡ Err ToolFault.Memory → output.new ≡ output.old }
 {
-    let Ok(text) = lines(alloc, sites) else {
-        return Err(ToolFault::Memory);
-    };
+    let text = lines(alloc, sites)?;
     match write_all(output, text.as_bytes()) {
         Ok(()) => Ok(()),
         Err(_) => Err(ToolFault::WriteFault),
@@ -147,8 +143,6 @@ pub fn run_rehearse<R: Source, W: Sink>(
     // All lines are in memory before they are written.
     ensures memory { result ≡ Err ToolFault.Memory → output.new ≡ output.old }
 {
-    match final_sites(alloc, log, sites, script) {
-        Ok(left) => write_lines(alloc, left.as_slice(), output),
-        Err(fault) => Err(fault),
-    }
+    let left = final_sites(alloc, log, sites, script)?;
+    write_lines(alloc, left.as_slice(), output)
 }

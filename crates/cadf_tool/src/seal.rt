@@ -36,10 +36,7 @@ impl Engine for SealEngine {
     ghost of_replica = { λ _. of_seal };
 
     fn make(&self, alloc: Global, replica: Replica) -> Result<Seal, ToolFault> {
-        match seal_of(alloc, &replica) {
-            Ok(seal) => Ok(seal),
-            Err(_) => Err(ToolFault::Memory),
-        }
+        Ok(seal_of(alloc, &replica)?)
     }
 
     fn write<W: Sink>(&self, alloc: Global, made: &Seal, output: &mut W) -> Result<(), ToolFault> {

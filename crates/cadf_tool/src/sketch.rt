@@ -57,10 +57,7 @@ impl Engine for SketchEngine {
     ghost of_replica = { λ e. of_sketch e.cells e.salt };
 
     fn make(&self, alloc: Global, replica: Replica) -> Result<Sketch, ToolFault> {
-        match sketch_of(alloc, self.cells, self.salt, &replica) {
-            Ok(sketch) => Ok(sketch),
-            Err(_) => Err(ToolFault::Memory),
-        }
+        Ok(sketch_of(alloc, self.cells, self.salt, &replica)?)
     }
 
     fn write<W: Sink>(

@@ -53,13 +53,8 @@ fn verdict(
     ensures ok { IfOk result (λ text. IsWorked (verdict_of absent (seal.now, (facts, proof.now))) (Ok text)) }
     ensures err { IfErr result (λ fault. IsWorked (verdict_of absent (seal.now, (facts, proof.now))) (Err fault)) }
 {
-    let Ok(log) = seal.log().copy(alloc) else {
-        return Err(ToolFault::Memory);
-    };
-    match facts_under(alloc, 2, log, facts) {
-        Ok(facts) => lines(alloc, absent, seal, &facts, proof),
-        Err(fault) => Err(fault),
-    }
+    let facts = facts_under(alloc, 2, seal.log().copy(alloc)?, facts)?;
+    lines(alloc, absent, seal, &facts, proof)
 }
 
 /// Loads all inputs, and makes the lines of the facts.
@@ -108,8 +103,6 @@ pub fn run_verify<R: Source, W: Sink>(
     // All lines are made before they are written.
     ensures memory { result ≡ Err ToolFault.Memory → output.new ≡ output.old }
 {
-    match verify(alloc, seal, facts, proof, absent) {
-        Ok(lines) => write_lines(&lines, output),
-        Err(fault) => Err(fault),
-    }
+    let lines = verify(alloc, seal, facts, proof, absent)?;
+    write_lines(&lines, output)
 }

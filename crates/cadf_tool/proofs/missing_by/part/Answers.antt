@@ -1,10 +1,13 @@
 use Rattle.std.proofs.Common.{None}
 use Rattle.cadf_tool.proofs.UnionDeltas.{by_inventory, by_no_inventory}
+use Rattle.std.proofs.lemmas.Result.{err_from_is_err_and}
 use Rattle.cadf_tool.proofs.missing_by.part.Goals as goal
 
-pub returns-in-Ok : goal.returns-in-Ok
-returns-in-Ok c froms count from =
-    by_inventory froms c.args.number c.args.inventory.now count c.in-Ok.from c.beyond.result (c.in-Ok.ensures 1 None froms from) c.beyond.ensures
+pub returns : goal.returns
+returns c froms count from =
+    by_inventory froms c.args.number c.args.inventory.now count c.in_ok-from.from c.beyond.result (c.in_ok-from.ensures 1 None froms from) c.beyond.ensures
 
-pub returns-in-Err : goal.returns-in-Err
-returns-in-Err c froms count from = by_no_inventory froms c.args.inventory.now c.in-Err.fault (c.in-Err.ensures 1 None froms from)
+pub returns-in_err-from : goal.returns-in_err-from
+returns-in_err-from c froms count from =
+    let p = err_from_is_err_and c.from_residual.result c.from_residual.ensures.1 in
+    rw (p.1, p.2) (by_no_inventory froms c.args.inventory.now c.in_err-from.field-0.0 (c.in_err-from.ensures 1 None froms from))

@@ -1,11 +1,13 @@
 use Rattle.std.proofs.Common.{None}
 use Rattle.cadf_tool.proofs.UnionDeltas.{by_sketch, by_no_sketch}
+use Rattle.std.proofs.lemmas.Result.{err_from_is_err_and}
 use Rattle.cadf_tool.proofs.missing_by_sketch.part.Goals as goal
 
-pub returns-in-Ok : goal.returns-in-Ok
-returns-in-Ok c froms count from =
-    by_sketch froms c.args.number c.args.sketch.now count c.in-Ok.held c.beyond.result (c.in-Ok.ensures 1 None froms from) c.beyond.ensures
+pub returns : goal.returns
+returns c froms count from =
+    by_sketch froms c.args.number c.args.sketch.now count c.in_ok-held.held c.beyond.result (c.in_ok-held.ensures 1 None froms from) c.beyond.ensures
 
-pub returns-in-Err : goal.returns-in-Err
-returns-in-Err c froms count from =
-    by_no_sketch froms c.args.number c.args.sketch.now count c.in-Err.fault (c.in-Err.ensures 1 None froms from)
+pub returns-in_err-held : goal.returns-in_err-held
+returns-in_err-held c froms count from =
+    let p = err_from_is_err_and c.from_residual.result c.from_residual.ensures.1 in
+    rw (p.1, p.2) (by_no_sketch froms c.args.number c.args.sketch.now count c.in_err-held.field-0.0 (c.in_err-held.ensures 1 None froms from))

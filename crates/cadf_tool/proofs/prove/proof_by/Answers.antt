@@ -2,12 +2,14 @@ use Rattle.std.proofs.Common.{None}
 use Rattle.cadf_tool.specs.Join.{join_from}
 use Rattle.cadf_tool.specs.Prove.{proof_for}
 use Rattle.cadf_tool.proofs.Unions.{on_value, on_fault}
+use Rattle.std.proofs.lemmas.Result.{err_from_is_err_and}
 use Rattle.cadf_tool.proofs.prove.proof_by.Goals as goal
 
-pub returns-in-Ok : goal.returns-in-Ok
-returns-in-Ok c ls union =
-    on_value (λ h. proof_for h c.args.facts) (join_from 2 None ls) c.in-Ok.held c.proof_for.result (c.in-Ok.ensures 2 None ls union) c.proof_for.ensures
+pub returns : goal.returns
+returns c ls union =
+    on_value (λ h. proof_for h c.args.facts) (join_from 2 None ls) c.in_ok-held.held c.proof_for.result (c.in_ok-held.ensures 2 None ls union) c.proof_for.ensures
 
-pub returns-in-Err : goal.returns-in-Err
-returns-in-Err c ls union =
-    on_fault (λ h. proof_for h c.args.facts) (join_from 2 None ls) c.in-Err.fault (c.in-Err.ensures 2 None ls union)
+pub returns-in_err-held : goal.returns-in_err-held
+returns-in_err-held c ls union =
+    let p = err_from_is_err_and c.from_residual.result c.from_residual.ensures.1 in
+    rw (p.1, p.2) (on_fault (λ h. proof_for h c.args.facts) (join_from 2 None ls) c.in_err-held.field-0.0 (c.in_err-held.ensures 2 None ls union))
