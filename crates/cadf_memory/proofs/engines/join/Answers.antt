@@ -5,23 +5,26 @@ use Rattle.cadf_memory.specs.Memory.{slice_left}
 use Rattle.cadf_memory.proofs.Lists.{lefts, refused_unread}
 use Rattle.cadf_memory.proofs.Made.{run_made_all}
 use Rattle.cadf_memory.proofs.Refused.{run_refused_all}
+use Rattle.std.proofs.lemmas.Result.{err_from_is_err_and}
 use Rattle.cadf_memory.proofs.engines.join.Goals as goal
 
-pub returns-in_default-clause-err : goal.returns-in_default-clause-err
-returns-in_default-clause-err c = refused_unread (join_of _) _
+pub returns-in_err-sources-clause-err : goal.returns-in_err-sources-clause-err
+returns-in_err-sources-clause-err c =
+    let p = err_from_is_err_and c.from_residual.result c.from_residual.ensures.1 in
+    rw (p.1, p.2) (refused_unread (join_of _) _)
 
-pub returns-in-Ok-run_join-clause-ok : goal.returns-in-Ok-run_join-clause-ok
-returns-in-Ok-run_join-clause-ok c =
+pub returns-in-Ok-clause-ok : goal.returns-in-Ok-clause-ok
+returns-in-Ok-clause-ok c =
     run_made_all written_file _ _ _ _ c.new-buffer.result c.run_join.new.output refl refl _ _ _ c.new-buffer.ensures.before c.new-buffer.ensures.text
     c.length.ensures (λ same. search rules) _ (join_of _)
     c.as_mut_slice.result.now c.run_join.new.inputs _
     (lefts _ slice_left (λ s. refl) c.as_mut_slice.result.now
-    ∙ ap (map Some) (ap (map slice_left) c.as_mut_slice.ensures.value ∙ c.in-Ok.ensures)) c.in-Ok-run_join.ensures
+    ∙ ap (map Some) (ap (map slice_left) c.as_mut_slice.ensures.value ∙ c.in_ok-sources.ensures)) c.in-Ok.ensures
 
 pub returns-clause-err : goal.returns-clause-err
 returns-clause-err c =
     run_refused_all written_file _ _ _ c.in-Err.fault c.fault_in_memory.result c.fault_in_memory.ensures.same _ (join_of _)
     c.as_mut_slice.result.now c.run_join.new.inputs _
     (lefts _ slice_left (λ s. refl) c.as_mut_slice.result.now
-    ∙ ap (map Some) (ap (map slice_left) c.as_mut_slice.ensures.value ∙ c.in-Ok.ensures))
+    ∙ ap (map Some) (ap (map slice_left) c.as_mut_slice.ensures.value ∙ c.in_ok-sources.ensures))
     (λ s. refl) c.in-Err.ensures
