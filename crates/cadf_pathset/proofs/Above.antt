@@ -43,7 +43,3 @@ above_all [] q h = refl
 above_all (l ∷ ls) q h =
     ap is_lt (h (last_of l ls)
     (contains-from_list texts_total (l ∷ ls) (last_of l ls) ∙ any_listed texts_total texts_same (l ∷ ls) (last_of l ls) (last_listed l ls)))
-
-pub is_above_last-last : (ls : List Texts) (q : Texts) → (ls ≡ [] → ⊥) → is_above_last ls q ≡ is_lt (texts_cmp (last_of [] ls) q)
-is_above_last-last [] q h = absurd (h refl)
-is_above_last-last (l ∷ ls) q h = refl

@@ -1,7 +1,6 @@
 -- Lists that share their first texts.
-use Rattle.std.proofs.Common.{◌≡◌, ℕ, ◌+◌, ◌<◌, ◌≤◌, min, [], ◌∷◌, ◌++◌, refl, sym, ap, ◌∙◌, subst, suc, zero, length, take, drop, get_or, arith}
-use Rattle.std.proofs.Math.Seq.{take-append_seam}
-use Rattle.std.proofs.lemmas.List.{length-append, length-take-le, take_more_same, take-take}
+use Rattle.std.proofs.Common.{◌≡◌, ℕ, ◌+◌, ◌<◌, ◌≤◌, min, [], ◌∷◌, refl, sym, ap, ◌∙◌, subst, suc, zero, length, take, drop, get_or, arith}
+use Rattle.std.proofs.lemmas.List.{length-take-le, take_more_same, take-take}
 use Rattle.std.specs.declared.cmp.Ordering.{Ordering}
 use Rattle.std.specs.declared.cmp.Ordering.TheVariants.{Less, Equal, Greater}
 use Rattle.std.specs.Ordering.{ordering_then, match_ordering, nat_cmp}
@@ -43,14 +42,6 @@ agree_through i j a b c h k =
     let x = agree_less i (min i j) a b (omega arith) h in
     let y = agree_less j (min i j) b c (omega arith) k in
     record { ours = x.ours; theirs = y.theirs; same = x.same ∙ y.same }
-
--- two lists that begin with the same list
-pub agree_front : (n : ℕ) (f a b r s : Texts) → n ≡ length f → a ≡ f ++ r → b ≡ f ++ s → Agree n a b
-agree_front n f a b r s e h k =
-    let x = ap length h ∙ length-append f r in
-    let y = ap length k ∙ length-append f s in
-    let cut : (z t : Texts) → z ≡ f ++ t → take n z ≡ f = λ z t is. (λ i. take (e i) (is i)) ∙ take-append_seam f t in
-    record { ours = omega (arith, e, x); theirs = omega (arith, e, y); same = cut a r h ∙ sym (cut b s k) }
 
 -- the first texts of a list
 pub agree_cut : (n k count : ℕ) (a b : Texts) → Agree n a b → count ≤ length b → k ≡ min n count → Agree k a (take count b)

@@ -141,15 +141,6 @@ module _ (t : Text) where
       by Equal k j = refl
       by Greater k j = absurd (true≢false (sym j))
 
--- the least first text is that of the first list, or of the second
-pub least_first : (ls : List Texts) (t : Text) → first_text (get_or ls 0 []) ≡ Some t → find (is_after text_cmp None) (firsts ls) ≡ Some t
-least_first [] t e = e
-least_first ([] ∷ ls) t e = absurd (never e)
-  where
-    never : None ≡ Some t → ⊥
-    never q = cc
-least_first ((u ∷ c) ∷ ls) t e = e
-
 pub least_second : (ls : List Texts) → IsStrictlySortedBy texts_cmp ls → first_text (get_or ls 0 []) ≡ None
     → find (is_after text_cmp None) (firsts ls) ≡ first_text (get_or ls 1 [])
 unfolding IsStrictlySortedBy

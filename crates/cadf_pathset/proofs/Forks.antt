@@ -68,13 +68,3 @@ fork_at ls a b p q t u r ours theirs same is =
     let f : Fork = record { a = a; b = b; order = r } in
     let e = ap (list_at ls) same in
     fork_found ls f p q e (λ n x y. here ls f f a b p q t u r ours theirs (ap length e) is n n x y)
-
--- lists that extend those of a fork
-pub fork_decides : (ls : List Texts) (f : Fork) (m n : ℕ) (x y : Texts) → IsFork ls f → (f.order ≡ Equal → ⊥) → list_at ls m ≡ list_at ls f.a ++ x
-    → list_at ls n ≡ list_at ls f.b ++ y → f.order ≡ texts_cmp (list_at ls m) (list_at ls n)
-fork_decides ls f m n x y k some ours theirs = sym (k some x y) ∙ (λ i. texts_cmp (sym ours i) (sym theirs i))
-
--- one step of the climb to an ancestor
-pub goes_further : (ls : List Texts) (n a p : ℕ) (t : Text) → list_at ls a ≡ list_at ls p ++ t ∷ []
-    → (rest : Texts) × (list_at ls n ≡ list_at ls a ++ rest) → (rest : Texts) × (list_at ls n ≡ list_at ls p ++ rest)
-goes_further ls n a p t e (rest, is) = (t ∷ rest, is ∙ ap (λ z. z ++ rest) e ∙ append_assoc (list_at ls p) (t ∷ []) rest)

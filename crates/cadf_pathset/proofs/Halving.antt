@@ -47,14 +47,6 @@ before_below (t ∷ p) more (u ∷ a) (v ∷ b) less h = by (text_cmp u v) refl 
         never : Greater ≡ Less → ⊥
         never q = cc
 
-pub before_still : (p l : Texts) → is_before p false l ≡ true → is_before p true l ≡ true
-before_still p l h = by (prefix_cmp l p) h
-  where
-    by : (r : Ordering) → match_ordering r true false false ≡ true → match_ordering r true true false ≡ true
-    by Less k = refl
-    by Equal k = refl
-    by Greater k = k
-
 rising_from : (x : Texts) (xs : List Texts) (j : ℕ) → AllByRecursion (λ y. texts_cmp x y ≡ Less) xs → j < length xs → texts_cmp x (get_or xs j []) ≡ Less
 rising_from x [] j h l = absurd (omega (arith, l))
 rising_from x (y ∷ xs) zero h l = h.0
@@ -89,12 +81,6 @@ pub all_taken : (P : Texts → Type 0) (xs : List Texts) (n : ℕ) → n ≤ len
 all_taken P xs zero l h = tt
 all_taken P [] (suc n) l h = tt
 all_taken P (x ∷ xs) (suc n) l h = (h 0 (omega arith), all_taken P xs n (omega (arith, l)) (λ i b. h (suc i) (omega (arith, b))))
-
-pub at_taken : (P : Texts → Type 0) (xs : List Texts) (n k : ℕ) → n ≤ length xs → AllByRecursion P (take n xs) → k < n → P (get_or xs k [])
-at_taken P xs zero k l h b = absurd (omega (arith, b))
-at_taken P [] (suc n) k l h b = absurd (omega (arith, l))
-at_taken P (x ∷ xs) (suc n) zero l h b = h.0
-at_taken P (x ∷ xs) (suc n) (suc k) l h b = at_taken P xs n k (omega (arith, l)) h.1 (omega (arith, b))
 
 pub all_dropped : (P : Texts → Type 0) (xs : List Texts) (n : ℕ) → ((i : ℕ) → n ≤ i → i < length xs → P (get_or xs i [])) → AllByRecursion P (drop n xs)
 all_dropped P [] zero h = tt

@@ -1,6 +1,5 @@
 -- The members at some indices, of lists that are numbered.
-use Rattle.std.proofs.Common.{◌≡◌, ℕ, ◌+◌, ◌<◌, zero, suc, List, [], ◌∷◌, ◌++◌, drop, length, get_or, map, refl, ap, ◌∙◌, sym, append_assoc}
-use Rattle.std.proofs.lemmas.List.{drop_more}
+use Rattle.std.proofs.Common.{◌≡◌, ℕ, zero, suc, List, [], ◌∷◌, ◌++◌, map, refl, ◌∙◌, sym}
 use Rattle.std.specs.Prelude.{Option, Some, None, slice_get, option_map}
 use Rattle.std.specs.List.{AllByRecursion, cons_option}
 use Rattle.std.proofs.lemmas.Option.{slice_get-map}
@@ -31,11 +30,3 @@ placed_all P (i ∷ is) xs h = held_at P xs i (at_places is xs) h (placed_all P 
 front_of : {A : Type 0} (o : Option A) (rest : List A) → cons_option o [] ++ rest ≡ cons_option o rest
 front_of None rest = refl
 front_of (Some x) rest = refl
-
-pub placed_more : {A : Type 0} (old new : List A) (is : List ℕ) (n d : ℕ) (xs all : List A) → n < length is
-    → new ≡ old ++ cons_option (slice_get xs (get_or is n d)) [] → old ++ at_places (drop n is) xs ≡ all → new ++ at_places (drop (n + 1) is) xs ≡ all
-placed_more old new is n d xs all below e h =
-    let rest = at_places (drop (n + 1) is) xs in
-    let o = slice_get xs (get_or is n d) in
-    ap (λ z. z ++ rest) e ∙ append_assoc old (cons_option o []) rest ∙ ap (λ z. old ++ z) (front_of o rest)
-    ∙ ap (λ js. old ++ at_places js xs) (sym (drop_more is n d below)) ∙ h

@@ -1,7 +1,7 @@
 -- The suffixes of lists, by their first texts.
-use Rattle.std.proofs.Common.{◌≡◌, ℕ, ◌+◌, ◌<◌, ◌≤◌, [], ◌∷◌, Some, None, refl, sym, ap, ◌∙◌, suc, zero}
+use Rattle.std.proofs.Common.{◌≡◌, ℕ, ◌+◌, ◌≤◌, [], ◌∷◌, None, refl, sym, ap, ◌∙◌, suc, zero}
 use Rattle.std.proofs.Common.{length, take, drop, get_or, arith}
-use Rattle.std.proofs.lemmas.List.{drop-drop, drop_more}
+use Rattle.std.proofs.lemmas.List.{drop-drop}
 use Rattle.std.specs.declared.cmp.Ordering.{Ordering}
 use Rattle.std.specs.declared.cmp.Ordering.TheVariants.{Less, Equal, Greater}
 use Rattle.std.specs.Ordering.{match_ordering, ordering_then}
@@ -20,9 +20,6 @@ prefix_by_cmp (u ∷ l) (t ∷ p) = by (text_cmp u t) (prefix_by_cmp l p)
     by Equal e = e
     by Greater e = refl
 
-pub first_after : (l : Texts) (n : ℕ) → n < length l → first_text (drop n l) ≡ Some (get_or l n [])
-first_after l n h = ap first_text (drop_more l n [] h)
-
 pub dropped_all : (l : Texts) (n : ℕ) → length l ≤ n → drop n l ≡ []
 dropped_all [] zero h = refl
 dropped_all [] (suc n) h = refl
@@ -37,12 +34,6 @@ drop_one_more l n = sym (drop-drop 1 n l)
 
 pub drop_past : (l : Texts) (n : ℕ) → length l ≤ n → drop n l ≡ drop 1 (drop n l)
 drop_past l n h = dropped_all l n h ∙ sym (ap (drop 1) (dropped_all l n h))
-
-pub place_after : (l : Texts) (n i k : ℕ) → k ≡ n + i → get_or l k [] ≡ get_or (drop n l) i []
-place_after l zero i k is = let same : k ≡ i = omega (arith, is) in ap (λ m. get_or l m []) same
-place_after [] (suc n) i k is = refl
-place_after (t ∷ l) (suc n) i zero is = absurd (omega (arith, is))
-place_after (t ∷ l) (suc n) i (suc k) is = place_after l n i k (omega (arith, is))
 
 pub none_at : (l : Texts) (n i : ℕ) → length l ≤ n + i → [] ≡ get_or (drop n l) i []
 none_at [] zero i h = refl

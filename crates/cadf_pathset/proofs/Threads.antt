@@ -196,24 +196,5 @@ module _ (ls us : List Texts) (kept : take (length ls) us ≡ ls) (ns ms : List 
   pub put_lists : lists_at us ms ≡ lists_at ls ns ++ list_at us n ∷ []
   put_lists = ap (lists_at us) more ∙ map_more (list_at us) ns n ∙ ap (λ z. z ++ list_at us n ∷ []) (lists_kept ls us kept ns there)
 
--- a line truncated to what its list shares with a path
-pub line_agreed : (ls : List Texts) (ns ms : List ℕ) (p : Texts) (k : ℕ) → IsLine ls ns (place ls ns) → Agree k (place ls ns) p → ms ≡ take k ns
-    → IsLine ls ms (take (length ms) p)
-line_agreed ls ns ms p k h a cut =
-    let m = h.long in
-    let x = a.ours in
-    let n = ap length cut in
-    let t = length-take k ns in
-    let e : length ms ≡ k = omega (arith, m, x, n, t) in
-    subst (λ z. IsLine ls z (take (length ms) p)) (sym cut)
-    (subst (IsLine ls (take k ns)) (a.same ∙ ap (λ j. take j p) (sym e)) (line_cut ls ns (place ls ns) h k))
-
 pub root_line : (ls : List Texts) (ns : List ℕ) → ns ≡ [] → IsLine ls ns (place ls ns)
 root_line ls ns e = subst (λ z. IsLine ls z (place ls z)) (sym e) (no_line ls)
-
--- a line of a path, by its last node
-pub end_list : (ls : List Texts) (ns : List ℕ) (n : ℕ) (p : Texts) → place ls ns ≡ p → n ≡ last_node ns → list_at ls n ≡ p
-end_list ls ns n p e is = ap (list_at ls) is ∙ e
-
-pub end_there : (ls : List Texts) (ns : List ℕ) (n : ℕ) → IsLine ls ns (place ls ns) → n ≡ last_node ns → n ≤ length ls
-end_there ls ns n h is = let l = last_there ls ns (place ls ns) h in omega (arith, is, l)

@@ -217,7 +217,7 @@ pub(crate) fn merge_into(
     ensures err { OnErr result (nodes.new ≡ nodes.old) }
 {
     let count = nodes.count();
-    let mut all = Vec::new(alloc);
+    let mut all = Vec::with_capacity(alloc, numbers.len().saturating_add(other.count()))?;
     let mut line = Vec::new(alloc);
     let mut up = Vec::new(alloc);
     let mut out = Vec::new(alloc);

@@ -1,7 +1,7 @@
 use Rattle.std.proofs.Common.{◌≡◌, length, take, sym, ap, subst, ◌∙◌}
 use Rattle.cadf_join.specs.Contents.{Texts}
 use Rattle.cadf_join.specs.Prefixes.{texts_at}
-use Rattle.cadf_pathset.specs.Nodes.{Agree, list_at, place, shared}
+use Rattle.cadf_pathset.specs.Nodes.{Agree, list_at, place}
 use Rattle.cadf_pathset.proofs.Threads.{place_of}
 use Rattle.cadf_pathset.proofs.Compared.{cut_path}
 use Rattle.cadf_pathset.proofs.cursor.advance.Goals as goal
@@ -15,10 +15,3 @@ spell-requires-clause-front c =
     cut_path c.args.path.now.items c.truncate.new.self.items c.in_ok-common.common l c.truncate.ensures.items
     (subst (λ z. Agree c.in_ok-common.common z l) before c.in_ok-common.ensures.common)
     ∙ ap (take (length c.truncate.new.self.items)) (sym here)
-
-pub returns-clause-shared : goal.returns-clause-shared
-returns-clause-shared c =
-    let ls = c.args.nodes.now in
-    let l : Texts = list_at c.args.nodes.now c.args.number in
-    let here : place ls c.as_slice.result.now ≡ l = ap (place ls) c.as_slice.ensures.value ∙ place_of ls c.follow.new.line.items l c.in_ok-common.ensures.line in
-    c.cmp_from-shared.ensures.most ∙ (λ i. shared (here i) (texts_at (c.as_slice-2.ensures.value i)))

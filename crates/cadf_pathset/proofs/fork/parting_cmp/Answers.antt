@@ -1,22 +1,13 @@
 use Rattle.std.proofs.Common.{◌≡◌, length, take, arith, ap, sym, ◌∙◌}
-use mathlib.Core.Bool.{true≢false}
 use Rattle.std.specs.Cmp.{Equal-is}
 use Rattle.std.specs.Ordering.{is_eq, ordering_then}
 use Rattle.std.proofs.lemmas.List.{length-take}
 use Rattle.cadf_join.specs.Contents.{Texts, text_cmp}
 use Rattle.cadf_pathset.specs.Nodes.{list_at, last_text}
 use Rattle.cadf_pathset.proofs.Arena.{one_longer}
-use Rattle.cadf_pathset.proofs.Forks.{fork_decides, fork_found, fork_up, no_fork}
+use Rattle.cadf_pathset.proofs.Forks.{fork_found, fork_up, no_fork}
 use Rattle.cadf_pathset.proofs.Orders.{cmp_lengths, cmp_up, cmp_same}
 use Rattle.cadf_pathset.proofs.fork.parting_cmp.Goals as goal
-
-pub returns-then-not-is_eq-clause-order : goal.returns-then-not-is_eq-clause-order
-returns-then-not-is_eq-clause-order c =
-    let ls = c.args.nodes.now in
-    let near = c.sibling_fork-near.result in
-    let known = c.sibling_fork-near.ensures in
-    fork_decides ls near c.args.node c.args.other known.ours.0 known.theirs.0 known.known
-    (λ e. true≢false (sym (ap is_eq e) ∙ sym c.is_eq.ensures ∙ c.if-not-is_eq.true)) known.ours.1 known.theirs.1
 
 pub loop-a-init : goal.loop-a-init
 loop-a-init c =

@@ -1,26 +1,8 @@
-use Rattle.std.proofs.Common.{[], ◌++◌, sym, ap, refl, arith, ◌∙◌}
-use Rattle.std.proofs.lemmas.List.{append-nil}
+use Rattle.std.proofs.Common.{◌++◌, sym, ap, ◌∙◌}
 use Rattle.cadf_join.specs.Contents.{text_cmp}
 use Rattle.cadf_pathset.specs.Nodes.{last_text, list_at}
 use Rattle.cadf_pathset.proofs.Forks.{fork_at}
 use Rattle.cadf_pathset.proofs.fork.sibling_fork.Goals as goal
-
-pub loop-a-init : goal.loop-a-init
-loop-a-init c =
-    let l = list_at c.args.nodes.now c.args.node in
-    let m = list_at c.args.nodes.now c.args.other in
-    record {
-      here = c.requires.ours;
-      there = c.requires.theirs;
-      held = omega arith;
-      known = omega arith;
-      child = λ h. absurd (omega (arith, h));
-      sibling = λ h. absurd (omega (arith, h));
-      ours = (l, refl);
-      theirs = (m, refl);
-      above = ([], sym (append-nil l));
-      beside = ([], sym (append-nil m));
-    }
 
 pub returns-then-theirs-gt0-clause-known : goal.returns-then-theirs-gt0-clause-known
 returns-then-theirs-gt0-clause-known c =

@@ -6,26 +6,7 @@ use Rattle.cadf_pathset.specs.Merge.{sorted_without}
 use Rattle.cadf_pathset.specs.Walks.{Steps}
 use Rattle.cadf_pathset.proofs.Agreement.{agree_turned}
 use Rattle.cadf_pathset.proofs.Copies.{agree_at, order_at, left_less, left_equal, left_greater, stepped_agrees, stepped_ahead}
-use Rattle.cadf_pathset.proofs.Threads.{agree_none}
 use Rattle.cadf_pathset.proofs.merge.copy_lacking.Goals as goal
-
-pub loop-more-init : goal.loop-more-init
-loop-more-init c =
-    let a = c.args.ours.now.0 in
-    let b = c.args.theirs.now in
-    let d = c.step.new.self.0 in
-    let e = c.step-2.new.self in
-    let ours = c.in_ok-more.ensures.place in
-    let theirs = c.in_ok-others.ensures in
-    let first = stepped_ahead c.in_ok-more.more a d 0 c.step.new.agreed ours in
-    let second = stepped_ahead c.in_ok-others.others b e c.step.new.agreed c.step-2.new.agreed theirs in
-    record {
-      left = λ i. c.step.ensures.same i ++ sorted_without texts_cmp (first i) (second i);
-      agrees = agree_turned c.step-2.new.agreed e.0 d.0
-          (stepped_agrees c.in_ok-others.others b e c.step.new.agreed c.step-2.new.agreed d.0 theirs
-          (agree_turned c.step.new.agreed d.0 b.0
-          (stepped_agrees c.in_ok-more.more a d 0 c.step.new.agreed b.0 ours (agree_none a.0 b.0))));
-    }
 
 pub loop-more-preserved-in-Less : goal.loop-more-preserved-in-Less
 loop-more-preserved-in-Less c =

@@ -1,12 +1,7 @@
 use Rattle.std.proofs.Common.{take, ap, ◌++◌, ◌∙◌}
 use Rattle.cadf_join.specs.Prefixes.{texts_at}
-use Rattle.cadf_pathset.proofs.Replaced.{front_stays, path_replaced}
+use Rattle.cadf_pathset.proofs.Replaced.{path_replaced}
 use Rattle.cadf_pathset.proofs.walk.replace_after.Goals as goal
-
-pub returns-clause-kept : goal.returns-clause-kept
-returns-clause-kept c =
-    ap (take c.args.before) (c.in_ok-extend_from_slice.ensures.items ∙ ap (λ z. z ++ c.split_at.result.1.now) c.truncate.ensures.items)
-    ∙ front_stays c.args.path.now.items c.split_at.result.1.now c.args.before c.args.shared c.requires.there
 
 pub returns-clause-list : goal.returns-clause-list
 returns-clause-list c =

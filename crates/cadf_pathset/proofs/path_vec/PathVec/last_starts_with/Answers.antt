@@ -1,13 +1,9 @@
-use Rattle.std.proofs.Common.{◌-◌, [], ◌∙◌, sym, ap, get_or, map}
+use Rattle.std.proofs.Common.{[], ◌-◌, ◌∙◌, sym, ap, get_or, map}
 use Rattle.std.specs.Ordering.{is_eq}
-use Rattle.cadf_pathset.specs.Lists.{last_starts_with, prefix_cmp}
+use Rattle.cadf_pathset.specs.Lists.{prefix_cmp}
 use Rattle.cadf_pathset.proofs.Halving.{ends_behind_at}
 use mathlib.Core.Bool.{true≢false}
 use Rattle.cadf_pathset.proofs.path_vec.PathVec.last_starts_with.Goals as goal
-
-pub returns-then-is_empty : goal.returns-then-is_empty
-returns-then-is_empty g c =
-    sym (ap (λ ls. last_starts_with ls (map g.W.AsText.bytes c.args.prefix.now)) (c.is_empty.ensures.0 c.if-is_empty.true))
 
 pub returns : goal.returns
 returns g c =
