@@ -3,7 +3,6 @@ pub mod Determined
 pub mod Facts
 pub mod HiddenLemmas
 pub mod Honest
-pub mod ModelLemmas
 pub mod Needed
 pub mod Neighbouring
 pub mod ProofLineLemmas

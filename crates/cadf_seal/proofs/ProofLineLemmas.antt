@@ -31,7 +31,7 @@ use Rattle.cadf_seal.specs.ProofVerdict.{leaf_of, leaf_in_words, shown_in, hidde
 use Rattle.cadf_seal.specs.ProofLines.{proof_values, with_shown, with_hidden, IsPut}
 use Rattle.cadf_seal.specs.declared.leaf.Leaf.{Leaf}
 use Rattle.cadf_seal.proofs.SealLemmas.{count-again, count-only}
-use Rattle.cadf_seal.proofs.ModelLemmas.{Plain, lines_of, Follows, Ends, IsModelKind, accepts-models, models-tell, name_is}
+use Rattle.cadf_linefile.proofs.ModelLemmas.{Plain, lines_of, Follows, Ends, IsModelKind, accepts-models, models-tell, name_is}
 
 -- ---- one line
 
@@ -352,10 +352,10 @@ proof_is_kind = record {
 }
 
 pub accepts-proofs : AcceptsProofs
-accepts-proofs = accepts-models proof_kind IsProof (λ p. p.log) plains proof_is_kind
+accepts-proofs = accepts-models proof_is_kind
 
 pub proof-file-tells : ProofFileIsInjective
-proof-file-tells = models-tell proof_kind IsProof (λ p. p.log) plains proof_is_kind
+proof-file-tells = models-tell proof_is_kind
 
 -- the invariants of a proof's log and parts
 pub proof_is : (p : ProofModel) → IsNameText p.log → HasProofParts p → IsProof p

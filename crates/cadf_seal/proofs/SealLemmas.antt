@@ -21,7 +21,7 @@ use Rattle.cadf_sketch.proofs.LineLemmas.{chosen, begins_with}
 use Rattle.cadf_sketch.proofs.SketchFileLemmas.{decimal_unbroken, there, shape_none}
 use Rattle.cadf_seal.specs.SealFile.{SealModel, seal_header, count_line, root_line, seal_body, HasParts, IsSeal, SealFileIsInjective}
 use Rattle.cadf_seal.specs.SealVerdict.{sealed_count, root_in, cause_after, seal_kind, seal_model_in, AcceptsSeals}
-use Rattle.cadf_seal.proofs.ModelLemmas.{Plain, lines_of, Follows, Ends, IsModelKind, accepts-models, models-tell, name_is}
+use Rattle.cadf_linefile.proofs.ModelLemmas.{Plain, lines_of, Follows, Ends, IsModelKind, accepts-models, models-tell, name_is}
 
 -- ---- one line
 
@@ -104,10 +104,10 @@ seal_is_kind = record {
 }
 
 pub accepts-seals : AcceptsSeals
-accepts-seals = accepts-models seal_kind IsSeal (λ s. s.log) plains seal_is_kind
+accepts-seals = accepts-models seal_is_kind
 
 pub seal-file-tells : SealFileIsInjective
-seal-file-tells = models-tell seal_kind IsSeal (λ s. s.log) plains seal_is_kind
+seal-file-tells = models-tell seal_is_kind
 
 -- the invariants of a seal's log and parts
 pub seal_is : (s : SealModel) → IsNameText s.log → HasParts s → IsSeal s

@@ -1,6 +1,4 @@
 pub mod Facts
-pub mod ModelKind
-pub mod ModelReads
 pub mod Neighbours
 pub mod ProofFile
 pub mod ProofLines

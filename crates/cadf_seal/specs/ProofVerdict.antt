@@ -16,7 +16,7 @@ use Rattle.cadf_linefile.specs.LineGrammar.{LineGrammar}
 use Rattle.cadf_linefile.specs.Verdict.{log_in_line}
 use Rattle.cadf_inventory.specs.InventoryVerdict.{digest_of}
 use Rattle.cadf_sketch.specs.SketchVerdict.{number_in, first_word, words_after, shape_unless}
-use Rattle.cadf_seal.specs.ModelKind.{ModelKind, grammar_of, verdict_of, AcceptsModels}
+use Rattle.cadf_linefile.specs.ModelKind.{ModelKind, grammar_of, verdict_of, AcceptsModels}
 use Rattle.cadf_seal.specs.SealVerdict.{sealed_count}
 use Rattle.cadf_seal.specs.ProofFile.{ProofModel, IsProof, proof_header, proof_body}
 use Rattle.cadf_seal.specs.declared.leaf.Leaf.{Leaf}

@@ -13,7 +13,7 @@ use Rattle.cadf_linefile.specs.LineGrammar.{LineGrammar}
 use Rattle.cadf_linefile.specs.Verdict.{log_in_line}
 use Rattle.cadf_inventory.specs.InventoryVerdict.{digest_of}
 use Rattle.cadf_sketch.specs.SketchVerdict.{number_in, shape_unless}
-use Rattle.cadf_seal.specs.ModelKind.{ModelKind, grammar_of, verdict_of, AcceptsModels}
+use Rattle.cadf_linefile.specs.ModelKind.{ModelKind, grammar_of, verdict_of, AcceptsModels}
 use Rattle.cadf_seal.specs.SealFile.{SealModel, IsSeal, seal_header, seal_body}
 
 abbrev pub sealed_count : List ℕ → Option ℕ

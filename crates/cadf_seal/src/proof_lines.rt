@@ -3,7 +3,7 @@
 ghost use Rattle.std.specs.Prelude.{◌≡◌, ◌∷◌, [], IfOk, IfErr, OnOk, true, drop};
 ghost use Rattle.std.specs.List.{last_or};
 ghost use Rattle.cadf_linefile.specs.Answers.{CauseIs};
-ghost use Rattle.cadf_seal.specs.ModelReads.{IsModelOfLines};
+ghost use Rattle.cadf_linefile.specs.ModelReads.{IsModelOfLines};
 ghost use Rattle.cadf_seal.specs.ProofFile.{proof_header, HasProofParts, IsProof};
 ghost use Rattle.cadf_seal.specs.ProofVerdict.{proof_grammar, proof_kind, has_count, cause_after, cause_of_line, cause_of_leaf, is_next, leaf_in_words, shown_in, hidden_in};
 ghost use Rattle.cadf_seal.specs.ProofLines.{told_lines, AreTold, IsMore, IsPut, proof_values};
@@ -194,7 +194,7 @@ impl ProofLines {
     /// Returns the proof.
     pub(crate) fn into_proof(self) -> Proof
         requires { has_count (drop 2 self) ≡ true }
-        ensures { IsModelOfLines proof_kind IsProof self result }
+        ensures { IsModelOfLines proof_kind (λ ls. ls) IsProof self result }
     {
         let ProofLines { log, told } = self;
         match told {

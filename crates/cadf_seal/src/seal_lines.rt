@@ -2,7 +2,7 @@
 
 ghost use Rattle.std.specs.Prelude.{◌≡◌, ◌<◌, ◌^◌, ◌∷◌, [], IfOk, IfErr, true, drop};
 ghost use Rattle.cadf_linefile.specs.Answers.{CauseIs};
-ghost use Rattle.cadf_seal.specs.ModelReads.{IsModelOfLines};
+ghost use Rattle.cadf_linefile.specs.ModelReads.{IsModelOfLines};
 ghost use Rattle.cadf_seal.specs.SealFile.{seal_header, count_line, IsSeal};
 ghost use Rattle.cadf_seal.specs.SealVerdict.{seal_kind, seal_grammar, is_whole, cause_after, sealed_count, root_in};
 ghost use Rattle.cadf_seal.specs.SealLines.{told_lines, AreTold, IsMore};
@@ -120,7 +120,7 @@ impl SealLines {
     /// Returns the seal.
     pub(crate) fn into_seal(self) -> Seal
         requires { is_whole (drop 2 self) ≡ true }
-        ensures { IsModelOfLines seal_kind IsSeal self result }
+        ensures { IsModelOfLines seal_kind (λ ls. ls) IsSeal self result }
     {
         let SealLines { log, told } = self;
         match told {

@@ -1,107 +1,26 @@
 -- The verdict on a sketch's file accepts exactly the files of sketches, and a file determines its sketch.
-use Rattle.std.proofs.Common.{
-  ◌≡◌,
-  ℕ,
-  suc,
-  ◌+◌,
-  ◌*◌,
-  ◌<◌,
-  ◌≤◌,
-  List,
-  [],
-  ◌∷◌,
-  ◌++◌,
-  length,
-  map,
-  Bool,
-  true,
-  false,
-  cond,
-  Option,
-  Some,
-  None,
-  Result,
-  Ok,
-  Err,
-  refl,
-  sym,
-  ap,
-  ◌∙◌,
-  subst,
-  arith,
-  true≢false,
-}
+use Rattle.std.proofs.Common.{◌≡◌, ℕ, suc, ◌+◌, ◌*◌, ◌<◌, List, [], ◌∷◌, ◌++◌, length, map, Bool, true, false, Option, Some, None, refl, sym, ap, ◌∙◌, arith, true≢false}
 use Rattle.std.specs.Prelude.{◌==◌, ◌&&◌, ◌^◌, not, nat_lt, is_some, unwrap_or, decimal, flat_map}
 use Rattle.std.specs.List.{filter_map}
 use Rattle.std.specs.Int.{IsInRange, w64, to_be_bytes}
-use Rattle.std.specs.Str.{bytes_eq}
 use Rattle.std.specs.Str.Parse.{AllDigits}
-use Rattle.std.proofs.lemmas.Slice.Eq.{bytes_eq-Decides}
-use Rattle.std.proofs.lemmas.Str.{is_utf8-from_IsUtf8}
 use Rattle.std.proofs.lemmas.Str.Parse.{tells_digits}
 use Rattle.std.proofs.lemmas.Fmt.{digits_decimal}
 use Rattle.std.proofs.lemmas.Bool.{eqb-true, eq-eqb, lt-ltb}
-use Rattle.cadf_event.specs.Names.{is_name}
+use Rattle.cadf_join.specs.Contents.{Text}
 use Rattle.cadf_event.specs.Known.{IsNameText}
-use Rattle.cadf_event.specs.LogName.{is_unbroken}
+use Rattle.cadf_event.specs.LogName.{is_name_text, is_unbroken}
 use Rattle.cadf_event.proofs.LogNameLemmas.{unbroken_quoted, both_unbroken}
-use Rattle.cadf_linefile.specs.declared.fault.Cause.{Cause}
-use Rattle.cadf_linefile.specs.declared.fault.FileFault.{FileFault}
-use Rattle.cadf_linefile.specs.declared.fault.FileFault.TheVariants.{Digest}
-use Rattle.cadf_linefile.specs.Lines.{text_of_lines, cut}
-use Rattle.cadf_linefile.specs.Verdict as frame
-use Rattle.cadf_linefile.specs.Verdict.{
-  log_line,
-  digest_line,
-  log_in_line,
-  with_digest_line,
-  begins_digest,
-  first_of,
-  at_line,
-  fault_unless,
-  fault_of,
-}
-use Rattle.cadf_linefile.proofs.BodyLines.{IsKind, AreAfter, body_of, same_bytes, items_are_file, file_is_items}
-use Rattle.cadf_linefile.proofs.JudgeLemmas.{later_body, later_digest}
-use Rattle.cadf_linefile.proofs.LinesLemmas.{are_unbroken, cut-lines, and_true}
-use Rattle.cadf_linefile.proofs.VerdictLemmas.{good_log, unless_none}
-use Rattle.cadf_inventory.proofs.DigestLines.{plain_digest, unbroken_digest_of}
+use Rattle.cadf_linefile.specs.Verdict.{log_line, digest_line, log_in_line, with_digest_line, begins_digest}
+use Rattle.cadf_linefile.proofs.BodyLines.{AreAfter}
+use Rattle.cadf_linefile.proofs.LinesLemmas.{are_unbroken, both, and_true}
+use Rattle.cadf_linefile.proofs.ModelLemmas.{Plain, lines_of, Follows, Ends, IsModelKind, accepts-models, models-tell, name_is}
 use Rattle.cadf_linefile.proofs.UnbrokenLines.{unbroken_digest}
+use Rattle.cadf_linefile.proofs.VerdictLemmas.{good_log}
+use Rattle.cadf_inventory.proofs.DigestLines.{plain_digest, unbroken_digest_of}
 use Rattle.cadf_sketch.specs.Sketches.{SketchModel}
-use Rattle.cadf_sketch.specs.SketchFile.{
-  sketch_header,
-  head_of,
-  head_line,
-  counts_line,
-  cell_line,
-  cell_lines,
-  sketch_body,
-  sketch_file,
-  AreWords64,
-  IsHead,
-  IsTally,
-  HasParts,
-  IsSketch,
-  SketchFileIsInjective,
-}
-use Rattle.cadf_sketch.specs.SketchVerdict.{
-  head_in,
-  tally_in,
-  cell_in,
-  shape_unless,
-  cells_of_head,
-  cause_after,
-  is_whole,
-  cause_of_end,
-  sketch_grammar,
-  no_head,
-  no_tally,
-  sketch_of_parts,
-  sketch_model_in,
-  sketch_model_or_fault,
-  sketch_verdict,
-  AcceptsSketches,
-}
+use Rattle.cadf_sketch.specs.SketchFile.{sketch_header, head_of, head_line, counts_line, cell_line, cell_lines, sketch_body, AreWords64, IsHead, IsTally, HasParts, IsSketch, SketchFileIsInjective}
+use Rattle.cadf_sketch.specs.SketchVerdict.{head_in, tally_in, cell_in, shape_unless, cells_of_head, no_head, no_tally, sketch_of_parts, sketch_model_in, sketch_kind, AcceptsSketches}
 use Rattle.cadf_sketch.specs.declared.cell.Cell.{Cell}
 use Rattle.cadf_sketch.specs.declared.head.Head.{Head}
 use Rattle.cadf_sketch.specs.declared.tally.Tally.{Tally}
@@ -109,76 +28,14 @@ use Rattle.cadf_sketch.proofs.NumberLemmas.{own}
 use Rattle.cadf_sketch.proofs.LineLemmas.{head-again, head-only, tally-again, tally-only, cell-again, cell-only}
 use Rattle.cadf_sketch.proofs.WholeLemmas.{AreCells}
 
--- ---- lines that are no digest line are a kind of items
-
-abbrev Plain : Type 0
-Plain = (l : List ℕ) × (begins_digest l ≡ false)
-
-abbrev lines_of : List Plain → List (List ℕ)
-lines_of xs = map (λ x. x.0) xs
-
-abbrev Follows : List Plain → Plain → Type 0
-Follows before x = cause_after (lines_of before) x.0 ≡ None
-
-abbrev Ends : List Plain → Type 0
-Ends before = is_whole (lines_of before) ≡ true
-
-abbrev Told : List Plain → Type 0
-Told before = Unit {0}
-
-abbrev body : List ℕ → List Plain → List (List ℕ)
-body log before = body_of sketch_header (λ (x : Plain). x.0) log before
-
-at_body : (log : List ℕ) (before : List Plain) (l : List ℕ) → begins_digest l ≡ false
-    → fault_of sketch_grammar (body log before) l ≡ at_line (length (body log before) + 1) (cause_after (lines_of before) l)
-at_body log before l is =
-    later_body sketch_grammar (body log before) l is
-    ∙ ap (λ b. first_of (at_line (length (body log before)) (cond b (cause_of_end (is_whole (lines_of before))) None))
-    (at_line (length (body log before) + 1) (cause_after (lines_of before) l))) is
-
-at_digest : (log : List ℕ) (before : List Plain) (l : List ℕ) → begins_digest l ≡ true
-    → fault_of sketch_grammar (body log before) l
-    ≡ first_of (at_line (length (body log before)) (cause_of_end (is_whole (lines_of before)))) (fault_unless (bytes_eq l (digest_line (body log before))) Digest)
-at_digest log before l is =
-    later_digest sketch_grammar (body log before) l is
-    ∙ ap (λ b. first_of (at_line (length (body log before)) (cond b (cause_of_end (is_whole (lines_of before))) None))
-    (fault_unless (bytes_eq l (digest_line (body log before))) Digest)) is
-
-pub ended_whole : (whole : Bool) (n : ℕ) (o : Option FileFault) → first_of (at_line n (cause_of_end whole)) o ≡ None → (whole ≡ true) × (o ≡ None)
-ended_whole true n o e = (refl, e)
-ended_whole false n o e = absurd (cc)
-
-pub no_cause : (n : ℕ) (o : Option Cause) → at_line n o ≡ None → o ≡ None
-no_cause n None e = refl
-no_cause n (Some c) e = absurd (cc)
-
-kind : IsKind sketch_grammar sketch_header (λ (x : Plain). x.0) Told Follows Ends
-kind = record {
-  first = λ l. refl;
-  plain = λ x. x.1;
-  none = tt;
-  more = λ before x told follows. tt;
-  right = λ log before x told follows. at_body log before x.0 x.1 ∙ ap (at_line (length (body log before) + 1)) follows;
-  ends = λ log before told whole.
-      at_digest log before (digest_line (body log before)) refl
-      ∙ (λ i. first_of (at_line (length (body log before)) (cause_of_end (whole i)))
-      (fault_unless (same_bytes (digest_line (body log before)) i) Digest));
-  only = λ log before l told is e. ((l, is), refl, no_cause (length (body log before) + 1) _ (sym (at_body log before l is) ∙ e));
-  ended = λ log before l told is e.
-      let p = ended_whole (is_whole (lines_of before)) _ _ (sym (at_digest log before l is) ∙ e) in
-      ((bytes_eq-Decides l (digest_line (body log before))).0 (unless_none _ Digest p.1), p.0);
-}
+abbrev After : List Plain → List Plain → Type 0
+After before xs = AreAfter (Follows sketch_kind) (Ends sketch_kind) before xs
 
 -- ---- such lines are those of a sketch
 
 pub shape_none : (b : Bool) → shape_unless b ≡ None → b ≡ true
 shape_none true e = refl
 shape_none false e = absurd (cc)
-
-both_true : (a b : Bool) → (a && b) ≡ true → (a ≡ true) × (b ≡ true)
-both_true true true e = (refl, refl)
-both_true true false e = absurd (true≢false (sym e))
-both_true false b e = absurd (true≢false (sym e))
 
 pub there : {A : Type 0} (o : Option A) → is_some o ≡ true → (a : A) × (o ≡ Some a)
 there None e = absurd (true≢false (sym e))
@@ -194,7 +51,7 @@ pub record AreRest (lines : List (List ℕ)) (before all : ℕ) : Type 0 where
   pub each : AreCells cells
   pub count : before + length cells ≡ all
 
-rest_cells : (x y : Plain) (cs xs : List Plain) → AreAfter Follows Ends (x ∷ y ∷ cs) xs
+rest_cells : (x y : Plain) (cs xs : List Plain) → After (x ∷ y ∷ cs) xs
     → AreRest (lines_of xs) (length (lines_of cs)) (cells_of_head (head_in x.0))
 rest_cells x y cs [] h = record {
   cells = [];
@@ -206,7 +63,7 @@ rest_cells x y cs [] h = record {
     plus_none : (n : ℕ) → n + 0 ≡ n
     plus_none n = omega arith
 rest_cells x y cs (z ∷ zs) h =
-    let p = both_true _ _ (shape_none _ h.0) in
+    let p = both _ _ (shape_none _ h.0) in
     let c = there (cell_in z.0) p.1 in
     let o = cell-only z.0 c.0 c.1 in
     let r = rest_cells x y (cs ++ z ∷ []) zs h.1 in
@@ -230,7 +87,7 @@ pub record AreOfSketch (lines : List (List ℕ)) : Type 0 where
   pub each : AreCells cells
   pub count : length cells ≡ 3 * head.layout.size
 
-sketch_lines : (xs : List Plain) → AreAfter Follows Ends [] xs → AreOfSketch (lines_of xs)
+sketch_lines : (xs : List Plain) → After [] xs → AreOfSketch (lines_of xs)
 sketch_lines [] h = absurd (true≢false (sym h))
 sketch_lines (x ∷ []) h = absurd (true≢false (sym h.1))
 sketch_lines (x ∷ y ∷ zs) h =
@@ -262,7 +119,7 @@ abbrev plain_cells : List Cell → List Plain
 plain_cells [] = []
 plain_cells (c ∷ cs) = plain_cell c ∷ plain_cells cs
 
-abbrev plains : SketchModel → List Plain
+abbrev pub plains : SketchModel → List Plain
 plains s = (head_line (head_of s), refl) ∷ (counts_line s.tally, refl) ∷ plain_cells s.cells
 
 plain_lines : (cs : List Cell) → lines_of (plain_cells cs) ≡ map cell_line cs
@@ -273,7 +130,7 @@ plains_are : (s : SketchModel) → lines_of (plains s) ≡ cell_lines s
 plains_are s = ap (λ ls. head_line (head_of s) ∷ counts_line s.tally ∷ ls) (plain_lines s.cells)
 
 cells_follow : (x y : Plain) (cs : List Plain) (cells : List Cell) (all : ℕ) → AreCells cells → cells_of_head (head_in x.0) ≡ all
-    → length (lines_of cs) + length cells ≡ all → AreAfter Follows Ends (x ∷ y ∷ cs) (plain_cells cells)
+    → length (lines_of cs) + length cells ≡ all → After (x ∷ y ∷ cs) (plain_cells cells)
 cells_follow x y cs [] all each count is =
     eq-eqb (length (lines_of cs)) (cells_of_head (head_in x.0)) (sum (length (lines_of cs)) is ∙ sym count)
   where
@@ -292,7 +149,7 @@ cells_follow x y cs (c ∷ cells) all each count is = (
     more : (n k m : ℕ) → m ≡ suc n → n + suc k ≡ all → m + k ≡ all
     more n k m e f = omega (arith, e, f)
 
-plains_follow : (s : SketchModel) → IsSketch s → AreAfter Follows Ends [] (plains s)
+plains_follow : (s : SketchModel) → IsSketch s → After [] (plains s)
 plains_follow s is =
     let p = is.parts in
     let head = head-again (head_of s) p.head in (
@@ -371,64 +228,31 @@ sketch_again s is =
 
 -- ---- accepted bytes are the file of a sketch
 
-complete : (limit : ℕ) (s : SketchModel) → length (sketch_file s) ≤ limit → IsSketch s → sketch_verdict limit false (sketch_file s) ≡ Ok s
-complete limit s short is =
-    let lines : body s.log (plains s) ≡ sketch_body s = ap (λ ls. sketch_header ∷ log_line s.log ∷ ls) (plains_are s) in
-    let file = items_are_file sketch_grammar sketch_header (λ (x : Plain). x.0) Told Follows Ends kind limit s.log (plains s) is.log
-    (subst (λ ls. are_unbroken (with_digest_line ls) ≡ true) (sym lines) (unbroken_sketch s is.parts)) (plains_follow s is)
-    (subst (λ ls. length (text_of_lines (with_digest_line ls)) ≤ limit) (sym lines) short) in
-    ap sketch_model_or_fault
-    (subst (λ ls. frame.verdict sketch_grammar limit false (text_of_lines (with_digest_line ls)) ≡ Ok (with_digest_line ls)) lines file)
-    ∙ ap Ok (sketch_again s is)
+sketch_found : (name : Text) (xs : List Plain) → is_name_text name ≡ true → After [] xs
+    → (s : SketchModel) × (sketch_header ∷ log_line name ∷ lines_of xs ≡ sketch_body s) × IsSketch s
+sketch_found name xs named h =
+    let o = sketch_lines xs h in (
+      sketch_of_parts name o.head o.tally o.cells,
+      ap (λ ls. sketch_header ∷ log_line name ∷ ls) o.is,
+      record { log = named; parts = record { head = o.is_head; tally = o.is_tally; cells = o.each; count = o.count } },
+    )
 
--- lines that were accepted are those of a sketch
-pub record AreAccepted (limit : ℕ) (bytes : List ℕ) (lines : List (List ℕ)) : Type 0 where
-  pub sketch : SketchModel
-  pub is_sketch : IsSketch sketch
-  pub lines_are : lines ≡ with_digest_line (sketch_body sketch)
-  pub text : bytes ≡ text_of_lines lines
-  pub short : length bytes ≤ limit
-
-pub accepted : (limit : ℕ) (bytes : List ℕ) (lines : List (List ℕ)) → frame.verdict sketch_grammar limit false bytes ≡ Ok lines → AreAccepted limit bytes lines
-accepted limit bytes lines v =
-    let p = file_is_items sketch_grammar sketch_header (λ (x : Plain). x.0) Told Follows Ends kind limit bytes lines v in
-    let f = p.2 in
-    let o = sketch_lines f.1 f.4 in
-    record {
-      sketch = sketch_of_parts f.0 o.head o.tally o.cells;
-      is_sketch = record { log = f.3; parts = record { head = o.is_head; tally = o.is_tally; cells = o.each; count = o.count } };
-      lines_are = f.2 ∙ ap (λ ls. with_digest_line (sketch_header ∷ log_line f.0 ∷ ls)) o.is;
-      text = p.0;
-      short = p.1;
-    }
-
-sound : (limit : ℕ) (bytes : List ℕ) (s : SketchModel) → sketch_verdict limit false bytes ≡ Ok s
-    → (bytes ≡ sketch_file s) × (length bytes ≤ limit) × IsSketch s
-sound limit bytes s h = by (frame.verdict sketch_grammar limit false bytes) refl h
-  where
-    by : (r : Result (List (List ℕ)) FileFault) → frame.verdict sketch_grammar limit false bytes ≡ r → sketch_model_or_fault r ≡ Ok s
-        → (bytes ≡ sketch_file s) × (length bytes ≤ limit) × IsSketch s
-    by (Err e) v k = absurd (cc)
-    by (Ok lines) v k =
-        let a = accepted limit bytes lines v in
-        let told : sketch_model_in lines ≡ s = cc in
-        let same : a.sketch ≡ s = sym (sketch_again a.sketch a.is_sketch) ∙ ap sketch_model_in (sym a.lines_are) ∙ told in
-        (a.text ∙ ap text_of_lines a.lines_are ∙ ap sketch_file same, a.short, subst IsSketch same a.is_sketch)
+pub sketch_is_kind : IsModelKind sketch_kind IsSketch (λ s. s.log) plains
+sketch_is_kind = record {
+  named = λ s is. is.log;
+  lines = λ s. ap (λ ls. sketch_header ∷ log_line s.log ∷ ls) (plains_are s);
+  unbroken = λ s is. unbroken_sketch s is.parts;
+  follow = plains_follow;
+  again = sketch_again;
+  found = sketch_found;
+}
 
 pub accepts-sketches : AcceptsSketches
-accepts-sketches limit bytes s = (
-  sound limit bytes s,
-  λ h. subst (λ b. sketch_verdict limit false b ≡ Ok s) (sym h.0) (complete limit s (subst (λ b. length b ≤ limit) h.0 h.1) h.2),
-)
+accepts-sketches = accepts-models sketch_is_kind
 
 pub sketch-file-tells : SketchFileIsInjective
-sketch-file-tells s t p q e =
-    let lines : with_digest_line (sketch_body s) ≡ with_digest_line (sketch_body t) =
-    sym (ap (λ k. k.lines) (cut-lines (with_digest_line (sketch_body s)) (unbroken_sketch s p.parts)))
-    ∙ ap (λ bytes. (cut bytes).lines) e
-    ∙ ap (λ k. k.lines) (cut-lines (with_digest_line (sketch_body t)) (unbroken_sketch t q.parts)) in
-    sym (sketch_again s p) ∙ ap sketch_model_in lines ∙ sketch_again t q
+sketch-file-tells = models-tell sketch_is_kind
 
 -- the invariants of a sketch's log and parts
 pub sketch_is : (s : SketchModel) → IsNameText s.log → HasParts s → IsSketch s
-sketch_is s name parts = record { log = ap (λ b. b && is_name s.log) (is_utf8-from_IsUtf8 s.log name.utf8) ∙ name.a_name; parts = parts }
+sketch_is s name parts = record { log = name_is s.log name; parts = parts }

@@ -1,44 +1,20 @@
--- Three parts that were written one after another, and the hash of them.
-use Rattle.std.proofs.Common.{◌≡◌, ◌∙◌, ◌+◌, ◌<◌, ◌≤◌, ℕ, List, [], ◌∷◌, ◌++◌, length, drop, get_or, Option, sym, subst, ap, append_assoc, append-nil}
+-- The lines of a sketch, by their places, and the line of its counts.
+use Rattle.std.proofs.Common.{◌≡◌, ◌∙◌, ◌+◌, ◌-◌, ◌<◌, ◌≤◌, ℕ, suc, List, [], ◌∷◌, ◌++◌, length, map, drop, get_or, sym, ap, arith, append_assoc, append-nil}
 use Rattle.std.specs.Prelude.{decimal, flat_map}
-use Rattle.std.proofs.lemmas.List.{drop_more}
+use Rattle.std.proofs.lemmas.List.{drop_more, get_or-map, length-map}
 use Rattle.std.proofs.Math.ListN.{drop_of_length-le}
-use Rattle.std.specs.Io.KnownBytes.{Appends}
-use Rattle.std.proofs.KnownBytes.{Appends-trans}
-use Rattle.sha2.specs.Hashers.{Holds256}
-use Rattle.sha2.specs.declared.Sha256.{Sha256}
-use Rattle.cadf_json.specs.Streams.{AppendsPrefix}
-use Rattle.cadf_linefile.specs.Lines.{with_line_feed, text_of_lines}
-use Rattle.cadf_linefile.specs.laws.Prefixes.{front_more, front_after}
+use Rattle.cadf_sketch.specs.SketchFile.{cell_line, cell_lines}
+use Rattle.cadf_sketch.specs.Sketches.{SketchModel}
+use Rattle.cadf_sketch.specs.declared.cell.Cell.{Cell}
 
--- two lines, and the text of those after them
-module _ (x y : List ℕ) (ls : List (List ℕ)) where
-  abbrev pub whole : List ℕ
-  whole = text_of_lines (x ∷ y ∷ ls)
-
-  pub all_of : (a b c d : Option (List ℕ)) → Appends a b (with_line_feed x) → Appends b c (with_line_feed y) → Appends c d (text_of_lines ls) → Appends a d whole
-  all_of a b c d p q r =
-      Appends-trans a b d (with_line_feed x) (with_line_feed y ++ text_of_lines ls) p (Appends-trans b c d (with_line_feed y) (text_of_lines ls) q r)
-
-  pub front_one : (a b : Option (List ℕ)) → AppendsPrefix a b (with_line_feed x) → AppendsPrefix a b whole
-  front_one a b p = front_more a b (with_line_feed x) (with_line_feed y ++ text_of_lines ls) p
-
-  pub front_two : (a b c : Option (List ℕ)) → Appends a b (with_line_feed x) → AppendsPrefix b c (with_line_feed y) → AppendsPrefix a c whole
-  front_two a b c p q =
-      front_after a b c (with_line_feed x) (with_line_feed y ++ text_of_lines ls) p (front_more b c (with_line_feed y) (text_of_lines ls) q)
-
-  pub front_three : (a b c d : Option (List ℕ)) → Appends a b (with_line_feed x) → Appends b c (with_line_feed y) → AppendsPrefix c d (text_of_lines ls)
-      → AppendsPrefix a d whole
-  front_three a b c d p q r =
-      front_after a b d (with_line_feed x) (with_line_feed y ++ text_of_lines ls) p (front_after b c d (with_line_feed y) (text_of_lines ls) q r)
-
-  pub all_hashed : (f g h k : Sha256) → ((m : List ℕ) → Holds256 f m → Holds256 g (m ++ with_line_feed x))
-      → ((m : List ℕ) → Holds256 g m → Holds256 h (m ++ with_line_feed y))
-      → ((m : List ℕ) → Holds256 h m → Holds256 k (m ++ text_of_lines ls)) → (m : List ℕ) → Holds256 f m → Holds256 k (m ++ whole)
-  all_hashed f g h k p q r m holds =
-      subst (Holds256 k)
-      (append_assoc (m ++ with_line_feed x) (with_line_feed y) (text_of_lines ls) ∙ append_assoc m (with_line_feed x) (with_line_feed y ++ text_of_lines ls))
-      (r ((m ++ with_line_feed x) ++ with_line_feed y) (q (m ++ with_line_feed x) (p m holds)))
+-- the lines of cells come after two others
+pub cell_there : (s : SketchModel) (place : ℕ) (none : Cell) → 2 ≤ place → place < length (cell_lines s)
+    → cell_line (get_or s.cells (place - 2) none) ≡ get_or (cell_lines s) place []
+cell_there s place none after there =
+    let at : suc (suc (place - 2)) ≡ place = omega arith in
+    let all : place < suc (suc (length (map cell_line s.cells))) = there in
+    let within : place - 2 < length s.cells = omega (arith, after, all, length-map s.cells cell_line) in
+    sym (get_or-map cell_line s.cells (place - 2) none [] within) ∙ ap (λ i. get_or (cell_lines s) i []) at
 
 -- ---- the line of the counts
 

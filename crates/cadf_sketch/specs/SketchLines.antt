@@ -1,20 +1,18 @@
 -- The lines of a sketch's file that have been read so far, and the values decoded from them.
 --     told_lines told          the lines after the log line that have these values
---     lines_so_far log told    all lines so far
+--     lines_so_far l           all lines so far
 --     AreTold told             the invariant of the values so far
 --     IsMore told l more       the line l is allowed next, and `more` has its value too
---     IsSketchOfLines ls s     the lines are those of the sketch's file before its digest line
 use Rattle.std.specs.Prelude.{◌≡◌, ◌≤◌, ◌<◌, ◌*◌, ℕ, List, [], ◌∷◌, ◌++◌, length, map, true, Some, None}
 use Rattle.std.specs.List.{AllByRecursion}
-use Rattle.cadf_join.specs.Contents.{Text}
 use Rattle.cadf_event.specs.LogName.{is_name_text}
 use Rattle.cadf_linefile.specs.Verdict.{log_line}
-use Rattle.cadf_sketch.specs.Sketches.{SketchModel}
-use Rattle.cadf_sketch.specs.SketchFile.{sketch_header, head_line, counts_line, cell_line, sketch_body, IsHead, IsTally, IsCell, IsSketch}
+use Rattle.cadf_sketch.specs.SketchFile.{sketch_header, head_line, counts_line, cell_line, IsHead, IsTally, IsCell}
 use Rattle.cadf_sketch.specs.SketchVerdict.{cell_in, cause_after}
 use Rattle.cadf_sketch.specs.declared.head.Head.{Head}
 use Rattle.cadf_sketch.specs.declared.tally.Tally.{Tally}
 use Rattle.cadf_sketch.specs.declared.cell.Cell.{Cell}
+use Rattle.cadf_sketch.specs.declared.sketch_lines.SketchLines.{SketchLines}
 use Rattle.cadf_sketch.specs.declared.sketch_lines.Told.{Told}
 use Rattle.cadf_sketch.specs.declared.sketch_lines.Told.TheVariants.{Nothing, Beginning, Cells}
 
@@ -23,8 +21,8 @@ told_lines Nothing = []
 told_lines (Beginning head) = head_line head ∷ []
 told_lines (Cells head tally cells) = head_line head ∷ counts_line tally ∷ map cell_line cells.items
 
-abbrev pub lines_so_far : Text → Told → List (List ℕ)
-lines_so_far log told = sketch_header ∷ log_line log ∷ told_lines told
+abbrev pub lines_so_far : SketchLines → List (List ℕ)
+lines_so_far l = sketch_header ∷ log_line l.log ∷ told_lines l.told
 
 -- the parts satisfy their invariants, and there are at most as many cells as the layout has
 pub record AreCellsOf (h : Head) (t : Tally) (cs : List Cell) : Type 0 where
@@ -49,8 +47,5 @@ pub record IsCellPut (head : Head) (old new : List Cell) (line : List ℕ) : Typ
   pub read : cell_in line ≡ Some cell
   pub put : new ≡ old ++ cell ∷ []
 
-abbrev pub AreSoFar : Text → Told → Type 0
-AreSoFar log told = (is_name_text log ≡ true) × AreTold told
-
-abbrev pub IsSketchOfLines : List (List ℕ) → SketchModel → Type 0
-IsSketchOfLines lines s = (lines ≡ sketch_body s) × IsSketch s
+abbrev pub AreSoFar : SketchLines → Type 0
+AreSoFar l = (is_name_text l.log ≡ true) × AreTold l.told

@@ -6,8 +6,8 @@
 --     is_whole lines            these lines, which follow the log line, include all cells
 --     sketch_decided            the fault that the bytes decide by themselves, before the source ends
 --     sketch_verdict            the sketch whose file the bytes are, or the first fault
-use Rattle.std.specs.Prelude.{◌≡◌, ◌↔◌, ◌≤◌, ◌+◌, ◌*◌, ◌^◌, ◌==◌, ℕ, zero, suc, nat_eq, nat_lt, List, [], ◌∷◌, length, take, drop, codes, decimal}
-use Rattle.std.specs.Prelude.{Bool, false, ◌&&◌, is_some, if◌then◌else◌, Option, Some, None, option_map, unwrap_or, Result, Ok, Err}
+use Rattle.std.specs.Prelude.{◌+◌, ◌*◌, ◌^◌, ◌==◌, ℕ, zero, suc, nat_eq, nat_lt, List, [], ◌∷◌, length, take, drop, codes, decimal}
+use Rattle.std.specs.Prelude.{Bool, false, ◌&&◌, is_some, if◌then◌else◌, Option, Some, None, option_map, unwrap_or, Result}
 use Rattle.std.specs.Int.{w64, from_be_bytes}
 use Rattle.std.specs.List.{filter_map, starts_with, position_or_len}
 use Rattle.std.specs.Str.{bytes_eq}
@@ -15,15 +15,15 @@ use Rattle.std.specs.Str.Parse.{digits_value}
 use Rattle.hex.specs.Hex.{decode_sized}
 use Rattle.cadf_join.specs.Contents.{Text}
 use Rattle.cadf_linefile.specs.declared.fault.Cause.{Cause}
-use Rattle.cadf_linefile.specs.declared.fault.Cause.TheVariants.{Shape, Unended}
+use Rattle.cadf_linefile.specs.declared.fault.Cause.TheVariants.{Shape}
 use Rattle.cadf_linefile.specs.declared.fault.FileFault.{FileFault}
 use Rattle.cadf_linefile.specs.LineGrammar.{LineGrammar}
-use Rattle.cadf_linefile.specs.Verdict as frame
-use Rattle.cadf_linefile.specs.Verdict.{log_in_line, begins_digest}
+use Rattle.cadf_linefile.specs.ModelKind.{ModelKind, grammar_of, decided_of, verdict_of, AcceptsModels}
+use Rattle.cadf_linefile.specs.Verdict.{log_in_line}
 use Rattle.cadf_inventory.specs.InventoryVerdict.{if_spelled, digest_of}
 use Rattle.cadf_sketch.specs.Layouts.{LayoutModel, layout_of}
 use Rattle.cadf_sketch.specs.Sketches.{SketchModel}
-use Rattle.cadf_sketch.specs.SketchFile.{sketch_header, sketch_file, IsSketch}
+use Rattle.cadf_sketch.specs.SketchFile.{sketch_header, sketch_body, IsSketch}
 use Rattle.cadf_sketch.specs.declared.cell.Cell.{Cell}
 use Rattle.cadf_sketch.specs.declared.head.Head.{Head}
 use Rattle.cadf_sketch.specs.declared.tally.Tally.{Tally}
@@ -111,17 +111,6 @@ is_whole [] = false
 is_whole (head ∷ []) = false
 is_whole (head ∷ counts ∷ cells) = nat_eq (length cells) (cells_of_head (head_in head))
 
-abbrev pub cause_of_end : Bool → Option Cause
-cause_of_end whole = if whole then None else Some Unended
-
--- the digest line follows the last cell
-abbrev pub sketch_grammar : LineGrammar
-sketch_grammar = record {
-  is_first = λ line. bytes_eq line sketch_header;
-  cause_of_previous = λ before line. if begins_digest line then cause_of_end (is_whole (drop 2 before)) else None;
-  cause_of = λ before line. cause_after (drop 2 before) line;
-}
-
 -- ---- the sketch of a file's lines
 
 abbrev pub no_head : Head
@@ -134,26 +123,26 @@ abbrev pub sketch_of_parts : Text → Head → Tally → List Cell → SketchMod
 sketch_of_parts log head tally cells = record { log = log; layout = head.layout; digest = head.digest; tally = tally; cells = cells }
 
 abbrev pub sketch_model_in : List (List ℕ) → SketchModel
-sketch_model_in [] = sketch_of_parts [] no_head no_tally []
-sketch_model_in (first ∷ []) = sketch_of_parts [] no_head no_tally []
-sketch_model_in (first ∷ second ∷ []) = sketch_of_parts [] no_head no_tally []
-sketch_model_in (first ∷ second ∷ head ∷ []) = sketch_of_parts [] no_head no_tally []
-sketch_model_in (first ∷ second ∷ head ∷ counts ∷ cells) =
-    sketch_of_parts (unwrap_or (log_in_line second) []) (unwrap_or (head_in head) no_head) (unwrap_or (tally_in counts) no_tally) (filter_map cell_in cells)
+sketch_model_in (first ∷ log ∷ head ∷ counts ∷ cells) =
+    sketch_of_parts (unwrap_or (log_in_line log) []) (unwrap_or (head_in head) no_head) (unwrap_or (tally_in counts) no_tally) (filter_map cell_in cells)
+sketch_model_in lines = sketch_of_parts [] no_head no_tally []
 
 -- ---- the verdict
 
-abbrev pub sketch_decided : ℕ → List ℕ → Option FileFault
-sketch_decided limit bytes = frame.decided sketch_grammar limit bytes
+-- the digest line follows the last cell
+abbrev pub sketch_kind : ModelKind SketchModel
+sketch_kind =
+    record { header = sketch_header; cause_after = cause_after; is_whole = is_whole; body = sketch_body; model_in = sketch_model_in }
 
-abbrev pub sketch_model_or_fault : Result (List (List ℕ)) FileFault → Result SketchModel FileFault
-sketch_model_or_fault (Ok lines) = Ok (sketch_model_in lines)
-sketch_model_or_fault (Err fault) = Err fault
+abbrev pub sketch_grammar : LineGrammar
+sketch_grammar = grammar_of sketch_kind
+
+abbrev pub sketch_decided : ℕ → List ℕ → Option FileFault
+sketch_decided = decided_of sketch_kind
 
 abbrev pub sketch_verdict : ℕ → Bool → List ℕ → Result SketchModel FileFault
-sketch_verdict limit failed bytes = sketch_model_or_fault (frame.verdict sketch_grammar limit failed bytes)
+sketch_verdict = verdict_of sketch_kind
 
 -- bytes are accepted if and only if they are the file of a sketch, within the limit
 abbrev pub AcceptsSketches : Type 0
-AcceptsSketches = (limit : ℕ) (bytes : List ℕ) (s : SketchModel) →
-    (sketch_verdict limit false bytes ≡ Ok s) ↔ ((bytes ≡ sketch_file s) × (length bytes ≤ limit) × IsSketch s)
+AcceptsSketches = AcceptsModels sketch_kind IsSketch

@@ -1,11 +1,11 @@
 //! The lines of a sketch's file up to its digest line.
 
-ghost use Rattle.std.specs.Prelude.{◌≡◌, ◌≤◌, ◌*◌, ◌++◌, ◌∷◌, [], None, IfOk, IfErr, OnOk, true, drop, length};
+ghost use Rattle.std.specs.Prelude.{◌≡◌, ◌≤◌, ◌*◌, IfErr, OnOk, true, length};
 ghost use Rattle.cadf_linefile.specs.Answers.{CauseIs};
-ghost use Rattle.cadf_sketch.specs.SketchFile.{sketch_header, head_line, IsHead};
-ghost use Rattle.cadf_sketch.specs.SketchVerdict.{sketch_grammar, is_whole, cause_after, cause_of_cell};
-ghost use Rattle.cadf_sketch.specs.SketchLines.{told_lines, AreTold, AreCellsOf, IsMore, IsCellPut, IsSketchOfLines};
-ghost use Rattle.cadf_sketch.specs.declared.sketch_lines.Told.TheVariants as told;
+ghost use Rattle.cadf_linefile.specs.ModelReads.{IsModelOfLines};
+ghost use Rattle.cadf_sketch.specs.SketchFile.{sketch_header, IsSketch};
+ghost use Rattle.cadf_sketch.specs.SketchVerdict.{sketch_kind, sketch_grammar, is_whole, cause_after, cause_of_cell};
+ghost use Rattle.cadf_sketch.specs.SketchLines.{told_lines, lines_so_far, AreTold, AreSoFar, IsMore, IsCellPut};
 
 use crate::cell::Cell;
 use crate::head::Head;
@@ -15,14 +15,8 @@ use crate::tally::Tally;
 use cadf_event::Name;
 use cadf_linefile::{Cause, LineDecoder, LineFault};
 use std::alloc::Global;
-use std::marker::Model;
-use std::mem;
 
 const HEADER: &[u8; 13] = b"CADF-SKETCH 1";
-
-/// The first line, which is the same in every sketch's file.
-#[derive(Drop)]
-pub struct SketchStart;
 
 /// The values decoded from the lines after the log line, so far.
 #[derive(Drop)]
@@ -39,66 +33,29 @@ pub struct SketchLines {
     told: Told,
 }
 
-impl Model for SketchLines {
-    ghost use Rattle.std.specs.Prelude.{List, ℕ};
-    ghost use Rattle.std.specs.Coded.{coded_ℕ, coded_list};
-    ghost use Rattle.cadf_sketch.specs.SketchLines.{lines_so_far, AreSoFar};
-
-    ghost Value = { List (List ℕ) };
-
-    ghost coded = { coded_list (coded_list coded_ℕ) };
-
-    ghost view = { λ l. lines_so_far l.log l.told };
-
-    ghost invariant = { λ l. AreSoFar l.log l.told };
-}
-
-/// Decodes the next line after the log line.
-fn told_more(alloc: Global, told: Told, line: &[u8]) -> Result<Told, LineFault>
-    requires { AreTold told }
-    ensures ok { IfOk result (IsMore told line.now) }
-    ensures err { IfErr result (λ e. CauseIs e (cause_after (told_lines told) line.now)) }
+/// Decodes the next line after the log line. After an `Err` the values are of no use.
+fn put_more(alloc: Global, told: &mut Told, line: &[u8]) -> Result<(), LineFault>
+    requires { AreTold told.old }
+    ensures ok { OnOk result (IsMore told.old line.now told.new) }
+    ensures err { IfErr result (λ e. CauseIs e (cause_after (told_lines told.old) line.now)) }
 {
     match told {
-        Told::Nothing => after_log(line),
-        Told::Beginning(head) => after_head(alloc, head, line),
-        Told::Cells(head, tally, cells) => after_counts(head, tally, cells, line),
-    }
-}
-
-/// Decodes the line after the log line.
-fn after_log(line: &[u8]) -> Result<Told, LineFault>
-    ensures ok { IfOk result (IsMore told.Nothing line.now) }
-    ensures err { IfErr result (λ e. CauseIs e (cause_after [] line.now)) }
-{
-    match head_in(line) {
-        Some(head) => Ok(Told::Beginning(head)),
-        None => Err(LineFault::Here(Cause::Shape)),
-    }
-}
-
-/// Decodes the line of the counts.
-fn after_head(alloc: Global, head: Head, line: &[u8]) -> Result<Told, LineFault>
-    requires { IsHead head }
-    ensures ok { IfOk result (IsMore (told.Beginning head) line.now) }
-    ensures err { IfErr result (λ e. CauseIs e (cause_after (head_line head ∷ []) line.now)) }
-{
-    match tally_in(alloc, line)? {
-        Some(tally) => Ok(Told::Cells(head, tally, Vec::new(alloc))),
-        None => Err(LineFault::Here(Cause::Shape)),
-    }
-}
-
-/// Decodes the line of a cell.
-fn after_counts(head: Head, tally: Tally, cells: Vec<Cell>, line: &[u8]) -> Result<Told, LineFault>
-    requires { AreCellsOf head tally cells.items }
-    ensures ok { IfOk result (IsMore (told.Cells head tally cells) line.now) }
-    ensures err { IfErr result (λ e. CauseIs e (cause_after (told_lines (told.Cells head tally cells)) line.now)) }
-{
-    let mut cells = cells;
-    match put_cell(&mut cells, &head, line) {
-        Ok(()) => Ok(Told::Cells(head, tally, cells)),
-        Err(fault) => Err(fault),
+        Told::Nothing => {
+            let Some(head) = head_in(line) else {
+                return Err(LineFault::Here(Cause::Shape));
+            };
+            *told = Told::Beginning(head);
+            Ok(())
+        }
+        Told::Beginning(head) => {
+            let head = *head;
+            let Some(tally) = tally_in(alloc, line)? else {
+                return Err(LineFault::Here(Cause::Shape));
+            };
+            *told = Told::Cells(head, tally, Vec::new(alloc));
+            Ok(())
+        }
+        Told::Cells(head, _, cells) => put_cell(cells, head, line),
     }
 }
 
@@ -132,8 +89,9 @@ fn is_whole(told: &Told) -> bool
 impl SketchLines {
     /// Returns the sketch.
     pub(crate) fn into_sketch(self) -> Sketch
-        requires { is_whole (drop 2 self) ≡ true }
-        ensures { IsSketchOfLines self result }
+        requires so_far { AreSoFar self }
+        requires whole { is_whole (told_lines self.told) ≡ true }
+        ensures { IsModelOfLines sketch_kind lines_so_far IsSketch self result }
     {
         let SketchLines { log, told } = self;
         match told {
@@ -146,25 +104,25 @@ impl SketchLines {
 impl LineDecoder for SketchLines {
     ghost form = { sketch_grammar };
 
-    ghost lines = { λ lines. lines };
+    ghost lines = { lines_so_far };
 
-    ghost sound = { λ _. Unit {0} };
+    ghost sound = { AreSoFar };
 
-    type Start = SketchStart;
+    type Start = ();
 
     type Held = ();
 
     ghost start_line = { λ _. sketch_header };
 
-    fn start(line: &[u8]) -> Option<SketchStart> {
+    fn start(line: &[u8]) -> Option<()> {
         if line == HEADER.as_slice() {
-            Some(SketchStart)
+            Some(())
         } else {
             None
         }
     }
 
-    fn new(_alloc: Global, _start: SketchStart, log: Name) -> SketchLines {
+    fn new(_alloc: Global, _start: (), log: Name) -> SketchLines {
         SketchLines {
             log,
             told: Told::Nothing,
@@ -172,9 +130,7 @@ impl LineDecoder for SketchLines {
     }
 
     fn accept(&mut self, alloc: Global, _held: Option<&()>, line: &[u8]) -> Result<(), LineFault> {
-        let told = mem::replace(&mut self.told, Told::Nothing);
-        self.told = told_more(alloc, told, line)?;
-        Ok(())
+        put_more(alloc, &mut self.told, line)
     }
 
     fn cause_of_previous(&self, _line: &[u8]) -> Option<Cause> {

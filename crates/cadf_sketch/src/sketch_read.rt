@@ -1,7 +1,8 @@
 //! Reads a source as a sketch file.
 
-ghost use Rattle.std.specs.Prelude.{◌≡◌, ◌≤◌, ◌+◌, ◌<◌, ◌^◌, ℕ, List, min, false, Some};
+ghost use Rattle.std.specs.Prelude.{◌≡◌, ◌≤◌, ◌+◌, ◌<◌, ◌^◌, ℕ, List, min, false, Some, IfOk};
 ghost use Rattle.cadf_linefile.specs.Verdict.{verdict};
+ghost use Rattle.cadf_sketch.specs.SketchLines.{AreSoFar};
 ghost use Rattle.cadf_sketch.specs.SketchReads.{ReadsSketch, AnswersSketch, AreAcceptedCells, IsSketchOfRead};
 ghost use Rattle.cadf_sketch.specs.SketchVerdict.{sketch_verdict};
 
@@ -31,7 +32,8 @@ pub fn read_sketch<S: Source>(
 
 /// Returns the sketch that the lines encode.
 fn sketch_of(read: Result<SketchLines, FileFault>) -> Result<Sketch, FileFault>
-    requires { AreAcceptedCells read }
+    requires so_far { IfOk read AreSoFar }
+    requires whole { AreAcceptedCells read }
     ensures { IsSketchOfRead read result }
 {
     match read {

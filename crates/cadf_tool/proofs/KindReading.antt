@@ -3,17 +3,17 @@ use Rattle.std.proofs.Common.{◌≡◌, ◌⊎◌, Bool, true, false, ℕ, List
 use Rattle.std.specs.Io.KnownBytes.{Consumes, IsAtEnd}
 use Rattle.cadf_json.specs.Streams.{counted}
 use Rattle.cadf_inventory.specs.InventoryReads.{ReadsInventory}
-use Rattle.cadf_inventory.specs.InventoryVerdict.{inventory_grammar, inventory_model_or_fault}
+use Rattle.cadf_inventory.specs.InventoryVerdict as inventories
 use Rattle.cadf_inventory.proofs.InventoryVerdictLemmas.{accepts-inventories}
 use Rattle.cadf_linefile.specs.declared.fault.FileFault.{FileFault}
 use Rattle.cadf_linefile.specs.declared.fault.FileFault.TheVariants.{Trailing, ReadFault, Memory}
 use Rattle.cadf_linefile.specs.declared.file_feed.TheConstants.{FILE_LIMIT}
 use Rattle.cadf_linefile.proofs.ReadingLemmas.{refused_verdict}
-use Rattle.cadf_seal.specs.ModelKind.{ModelKind, grammar_of, model_or_fault, AcceptsModels}
-use Rattle.cadf_seal.specs.ModelReads.{ReadsModel}
+use Rattle.cadf_linefile.specs.ModelKind.{ModelKind, grammar_of, model_or_fault, AcceptsModels}
+use Rattle.cadf_linefile.specs.ModelReads.{ReadsModel}
 use Rattle.cadf_set.specs.Inventory.{InventoryModel}
 use Rattle.cadf_sketch.specs.SketchReads.{ReadsSketch}
-use Rattle.cadf_sketch.specs.SketchVerdict.{sketch_grammar, sketch_model_or_fault}
+use Rattle.cadf_sketch.specs.SketchVerdict as sketches
 use Rattle.cadf_sketch.specs.Sketches.{SketchModel}
 use Rattle.cadf_sketch.proofs.SketchFileLemmas.{accepts-sketches}
 use Rattle.cadf_tool.specs.FileKind.{FileKind, kind_spec}
@@ -62,7 +62,7 @@ pub inventory_read : (t : SourceTransition) (n : InventoryModel)
     → ReadsInventory FILE_LIMIT t.old.left t.new.left t.old.failures t.new.failures (Ok n) → IsReadAs inventory_spec t n
 inventory_read t n h =
     kind_read inventory_kind (IsInventoryInput FILE_LIMIT) t n
-    (λ failed bytes f d. ap inventory_model_or_fault (refused_verdict inventory_grammar FILE_LIMIT failed bytes f d))
+    (λ failed bytes f d. ap (model_or_fault inventories.inventory_kind) (refused_verdict inventories.inventory_grammar FILE_LIMIT failed bytes f d))
     (λ b e. let is = (accepts-inventories FILE_LIMIT b n).0 e in record { is = is.0; within = is.1; inventory = is.2 })
     h.failed h.bytes h.failures h.consumed h.verdict h.failure h.end
 
@@ -70,7 +70,7 @@ pub sketch_read : (t : SourceTransition) (s : SketchModel)
     → ReadsSketch FILE_LIMIT t.old.left t.new.left t.old.failures t.new.failures (Ok s) → IsReadAs sketch_spec t s
 sketch_read t s h =
     kind_read sketch_kind (IsSketchInput FILE_LIMIT) t s
-    (λ failed bytes f d. ap sketch_model_or_fault (refused_verdict sketch_grammar FILE_LIMIT failed bytes f d))
+    (λ failed bytes f d. ap (model_or_fault sketches.sketch_kind) (refused_verdict sketches.sketch_grammar FILE_LIMIT failed bytes f d))
     (λ b e. let is = (accepts-sketches FILE_LIMIT b s).0 e in record { is = is.0; within = is.1; holds = is.2 })
     h.failed h.bytes h.failures h.consumed h.verdict h.failure h.end
 

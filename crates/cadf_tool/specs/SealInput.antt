@@ -4,7 +4,7 @@
 --     seal_spec, proof_spec         how it is read as a seal file, and as a proof file
 use Rattle.std.specs.Prelude.{◌≡◌, ◌≤◌, ℕ, List, length}
 use Rattle.cadf_linefile.specs.declared.file_feed.TheConstants.{FILE_LIMIT}
-use Rattle.cadf_seal.specs.ModelKind.{ModelKind, file_of, decided_of, verdict_of}
+use Rattle.cadf_linefile.specs.ModelKind.{ModelKind, file_of, decided_of, verdict_of}
 use Rattle.cadf_seal.specs.ProofFile.{ProofModel, IsProof}
 use Rattle.cadf_seal.specs.ProofVerdict.{proof_kind}
 use Rattle.cadf_seal.specs.SealFile.{SealModel, IsSeal}

@@ -5,15 +5,15 @@
 --     verdict_of k            the model whose file the bytes are, or the first fault
 --     AcceptsModels k Is      bytes are accepted if and only if they are the file of a model, within the limit
 --     IsInjective k Is        models with equal files are equal
-use Rattle.std.specs.Prelude.{◌≡◌, ◌↔◌, ◌≤◌, ℕ, List, length, drop, Bool, false, if◌then◌else◌, Option, None, Result, Ok, Err}
+use Rattle.std.specs.Prelude.{◌≡◌, ◌↔◌, ◌≤◌, ℕ, List, length, drop, Bool, false, if◌then◌else◌, Option, Some, None, Result, Ok, Err}
 use Rattle.std.specs.Str.{bytes_eq}
 use Rattle.cadf_linefile.specs.declared.fault.Cause.{Cause}
+use Rattle.cadf_linefile.specs.declared.fault.Cause.TheVariants.{Unended}
 use Rattle.cadf_linefile.specs.declared.fault.FileFault.{FileFault}
 use Rattle.cadf_linefile.specs.LineGrammar.{LineGrammar}
 use Rattle.cadf_linefile.specs.Lines.{text_of_lines}
 use Rattle.cadf_linefile.specs.Verdict as frame
 use Rattle.cadf_linefile.specs.Verdict.{begins_digest, with_digest_line}
-use Rattle.cadf_sketch.specs.SketchVerdict.{cause_of_end}
 
 --     header                    the first line
 --     cause_after before line   what is wrong with the line, if `before` are the lines between it and the log line
@@ -26,6 +26,9 @@ pub record ModelKind (M : Type 0) : Type 0 where
   pub is_whole : List (List ℕ) → Bool
   pub body : M → List (List ℕ)
   pub model_in : List (List ℕ) → M
+
+abbrev pub cause_of_end : Bool → Option Cause
+cause_of_end whole = if whole then None else Some Unended
 
 module _ {M : Type 0} (k : ModelKind M) where
   abbrev pub grammar_of : LineGrammar

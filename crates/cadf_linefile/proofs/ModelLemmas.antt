@@ -12,6 +12,7 @@ use Rattle.cadf_join.specs.Contents.{Text}
 use Rattle.cadf_event.specs.Names.{is_name}
 use Rattle.cadf_event.specs.Known.{IsNameText}
 use Rattle.cadf_event.specs.LogName.{is_name_text}
+use Rattle.cadf_linefile.specs.declared.fault.Cause.{Cause}
 use Rattle.cadf_linefile.specs.declared.fault.FileFault.{FileFault}
 use Rattle.cadf_linefile.specs.declared.fault.FileFault.TheVariants.{Digest, Trailing, ReadFault}
 use Rattle.cadf_linefile.specs.Answers as frame_answers
@@ -26,10 +27,8 @@ use Rattle.cadf_linefile.proofs.LinesLemmas.{are_unbroken, cut-lines}
 use Rattle.cadf_linefile.proofs.ReadingLemmas.{unless_map}
 use Rattle.cadf_linefile.proofs.UnbrokenLines.{last_apart}
 use Rattle.cadf_linefile.proofs.VerdictLemmas.{unless_none}
-use Rattle.cadf_sketch.specs.SketchVerdict.{cause_of_end}
-use Rattle.cadf_sketch.proofs.SketchFileLemmas.{no_cause, ended_whole}
-use Rattle.cadf_seal.specs.ModelKind.{ModelKind, grammar_of, file_of, model_or_fault, verdict_of, AcceptsModels, IsInjective}
-use Rattle.cadf_seal.specs.ModelReads.{AnswersModel, ReadsModel, AreWhole, IsModelOfRead}
+use Rattle.cadf_linefile.specs.ModelKind.{ModelKind, cause_of_end, grammar_of, file_of, model_or_fault, verdict_of, AcceptsModels, IsInjective}
+use Rattle.cadf_linefile.specs.ModelReads.{AnswersModel, ReadsModel, AreWhole, IsModelOfRead}
 
 -- ---- lines that are no digest line are a kind of items
 
@@ -41,6 +40,14 @@ lines_of xs = map (λ x. x.0) xs
 
 abbrev Told : List Plain → Type 0
 Told before = Unit {0}
+
+ended_whole : (whole : Bool) (n : ℕ) (o : Option FileFault) → first_of (at_line n (cause_of_end whole)) o ≡ None → (whole ≡ true) × (o ≡ None)
+ended_whole true n o e = (refl, e)
+ended_whole false n o e = absurd (cc)
+
+no_cause : (n : ℕ) (o : Option Cause) → at_line n o ≡ None → o ≡ None
+no_cause n None e = refl
+no_cause n (Some c) e = absurd (cc)
 
 module _ {M : Type 0} (k : ModelKind M) where
   abbrev pub Follows : List Plain → Plain → Type 0
@@ -125,7 +132,7 @@ record AreOfModel {M : Type 0} (k : ModelKind M) (Is : M → Type 0) (limit : �
   pub text : bytes ≡ text_of_lines lines
   pub short : length bytes ≤ limit
 
-module _ {M : Type 0} (k : ModelKind M) (Is : M → Type 0) (log : M → Text) (plains : M → List Plain) (is : IsModelKind k Is log plains) where
+module _ {M : Type 0} {k : ModelKind M} {Is : M → Type 0} {log : M → Text} {plains : M → List Plain} (is : IsModelKind k Is log plains) where
   complete : (limit : ℕ) (m : M) → length (file_of k m) ≤ limit → Is m → verdict_of k limit false (file_of k m) ≡ Ok m
   complete limit m short whole =
       let lines = is.lines m in
@@ -180,43 +187,44 @@ module _ {M : Type 0} (k : ModelKind M) (Is : M → Type 0) (log : M → Text) (
       let same : lines ≡ k.body a.model = last_apart lines (k.body a.model) (digest_line lines) (digest_line (k.body a.model)) a.lines_are in
       ap (λ ls. k.is_whole (drop 2 ls)) (same ∙ sym (is.lines a.model)) ∙ whole_after k [] (plains a.model) (is.follow a.model a.is_model)
 
-  pub are_whole : (r : Result (List (List ℕ)) FileFault) (limit : ℕ) (failed : Bool) (bytes : List ℕ)
-      → frame_answers.Answers (λ ls. ls) r (frame.verdict (grammar_of k) limit failed bytes) → AreWhole k r
-  are_whole (Ok lines) limit failed bytes v = accepted_whole limit failed bytes lines v
-  are_whole (Err e) limit failed bytes v = tt
+  module _ {B : Type 0} (lines : B → List (List ℕ)) where
+    pub are_whole : (r : Result B FileFault) (limit : ℕ) (failed : Bool) (bytes : List ℕ)
+        → frame_answers.Answers lines r (frame.verdict (grammar_of k) limit failed bytes) → AreWhole k lines r
+    are_whole (Ok body) limit failed bytes v = accepted_whole limit failed bytes (lines body) v
+    are_whole (Err e) limit failed bytes v = tt
 
-  pub answered : (r : Result (List (List ℕ)) FileFault) (s : Result M FileFault) (v : Result (List (List ℕ)) FileFault)
-      → IsModelOfRead k Is r s → frame_answers.Answers (λ ls. ls) r v → AnswersModel s (model_or_fault k v)
-  answered (Ok lines) (Ok m) v h e = ap (model_or_fault k) (e ∙ ap (λ ls. Ok (with_digest_line ls)) h.0) ∙ ap Ok (is.again m h.1)
-  answered (Ok lines) (Err f) v h e = absurd h
-  answered (Err f) (Ok m) v h e = absurd h
-  answered (Err f) (Err g) v h e =
-      subst (λ x. frame_answers.UnlessMemory (λ y. model_or_fault k v ≡ Err y) x) (sym h)
-      (unless_map (λ x. v ≡ Err x) (λ x. model_or_fault k v ≡ Err x) (λ x q. ap (model_or_fault k) q) f e)
+    pub answered : (r : Result B FileFault) (s : Result M FileFault) (v : Result (List (List ℕ)) FileFault)
+        → IsModelOfRead k lines Is r s → frame_answers.Answers lines r v → AnswersModel s (model_or_fault k v)
+    answered (Ok body) (Ok m) v h e = ap (model_or_fault k) (e ∙ ap (λ ls. Ok (with_digest_line ls)) h.0) ∙ ap Ok (is.again m h.1)
+    answered (Ok body) (Err f) v h e = absurd h
+    answered (Err f) (Ok m) v h e = absurd h
+    answered (Err f) (Err g) v h e =
+        subst (λ x. frame_answers.UnlessMemory (λ y. model_or_fault k v ≡ Err y) x) (sym h)
+        (unless_map (λ x. v ≡ Err x) (λ x. model_or_fault k v ≡ Err x) (λ x q. ap (model_or_fault k) q) f e)
 
-  same_fault : (r : Result (List (List ℕ)) FileFault) (s : Result M FileFault) (f : FileFault) → IsModelOfRead k Is r s → r ≡ Err f → s ≡ Err f
-  same_fault (Ok lines) s f h e = absurd (cc)
-  same_fault (Err g) (Ok m) f h e = absurd h
-  same_fault (Err g) (Err x) f h e = let q : g ≡ f = cc in ap Err (h ∙ q)
+    same_fault : (r : Result B FileFault) (s : Result M FileFault) (f : FileFault) → IsModelOfRead k lines Is r s → r ≡ Err f → s ≡ Err f
+    same_fault (Ok body) s f h e = absurd (cc)
+    same_fault (Err g) (Ok m) f h e = absurd h
+    same_fault (Err g) (Err x) f h e = let q : g ≡ f = cc in ap Err (h ∙ q)
 
-  pub reads : (r : Result (List (List ℕ)) FileFault) (s : Result M FileFault) → IsModelOfRead k Is r s
-      → (limit : ℕ) (old new : Option (List ℕ)) (before after : ℕ)
-      → frame_reads.ReadsFile (grammar_of k) (λ ls. ls) limit [] old new before after r → ReadsModel k limit old new before after s
-  reads r s h limit old new before after x = record {
-    failed = x.failed;
-    bytes = x.bytes;
-    failures = x.failures;
-    consumed = x.consumed;
-    verdict = answered r s _ h x.verdict;
-    failure = λ f. elim (x.failure f) [
-      | inl e ↦ inl (same_fault r s _ h e)
-      | inr e ↦ inr (same_fault r s _ h e)
-    ];
-    end = λ f d. elim (x.end f d) [
-      | inl e ↦ inl (same_fault r s _ h e)
-      | inr e ↦ inr e
-    ];
-  }
+    pub reads : (r : Result B FileFault) (s : Result M FileFault) → IsModelOfRead k lines Is r s
+        → (limit : ℕ) (old new : Option (List ℕ)) (before after : ℕ)
+        → frame_reads.ReadsFile (grammar_of k) lines limit [] old new before after r → ReadsModel k limit old new before after s
+    reads r s h limit old new before after x = record {
+      failed = x.failed;
+      bytes = x.bytes;
+      failures = x.failures;
+      consumed = x.consumed;
+      verdict = answered r s _ h x.verdict;
+      failure = λ f. elim (x.failure f) [
+        | inl e ↦ inl (same_fault r s _ h e)
+        | inr e ↦ inr (same_fault r s _ h e)
+      ];
+      end = λ f d. elim (x.end f d) [
+        | inl e ↦ inl (same_fault r s _ h e)
+        | inr e ↦ inr e
+      ];
+    }
 
 -- the name of a log, as text
 pub name_is : (log : Text) → IsNameText log → is_name_text log ≡ true

@@ -1,16 +1,16 @@
 -- How a source is read as a file of a kind each of which is the file of one model.
 --     AnswersModel r verdict    the result is the verdict
 --     ReadsModel k              what was read, and what it is
---     AreWhole k r              lines that were accepted are whole
---     IsModelOfLines k Is       the lines are those of the model
---     IsModelOfRead k Is        the model is that of the lines that were read
+--     AreWhole k lines r        lines that were accepted are whole
+--     IsModelOfLines k lines    the lines are those of the model
+--     IsModelOfRead k lines     the model is that of the lines that were read
 use Rattle.std.specs.Prelude.{◌≡◌, ◌⊎◌, ℕ, List, drop, Bool, true, false, Option, None, Result, Ok, Err}
 use Rattle.std.specs.Io.KnownBytes.{Consumes, IsAtEnd}
 use Rattle.cadf_json.specs.Streams.{counted}
 use Rattle.cadf_linefile.specs.Answers.{UnlessMemory}
 use Rattle.cadf_linefile.specs.declared.fault.FileFault.{FileFault}
 use Rattle.cadf_linefile.specs.declared.fault.FileFault.TheVariants.{Trailing, ReadFault, Memory}
-use Rattle.cadf_seal.specs.ModelKind.{ModelKind, decided_of, verdict_of}
+use Rattle.cadf_linefile.specs.ModelKind.{ModelKind, decided_of, verdict_of}
 
 -- the result is the verdict
 abbrev pub AnswersModel : {M : Type 0} → Result M FileFault → Result M FileFault → Type 0
@@ -30,18 +30,20 @@ pub record ReadsModel {M : Type 0} (k : ModelKind M) (limit : ℕ) (old new : Op
   pub failure : failed ≡ true → (answer ≡ Err ReadFault) ⊎ (answer ≡ Err Trailing)
   pub end : failed ≡ false → decided_of k limit bytes ≡ None → (answer ≡ Err Memory) ⊎ IsAtEnd new
 
--- lines that were accepted up to their digest line are whole
-abbrev pub AreWhole : {M : Type 0} → ModelKind M → Result (List (List ℕ)) FileFault → Type 0
-AreWhole k (Ok lines) = k.is_whole (drop 2 lines) ≡ true
-AreWhole k (Err fault) = Unit {0}
+-- what decoders of lines hold, by the lines that it encodes
+module _ {M B : Type 0} (k : ModelKind M) (lines : B → List (List ℕ)) where
+  -- lines that were accepted up to their digest line are whole
+  abbrev pub AreWhole : Result B FileFault → Type 0
+  AreWhole (Ok body) = k.is_whole (drop 2 (lines body)) ≡ true
+  AreWhole (Err fault) = Unit {0}
 
--- the lines are those of the model's file before its digest line
-abbrev pub IsModelOfLines : {M : Type 0} → ModelKind M → (M → Type 0) → List (List ℕ) → M → Type 0
-IsModelOfLines k Is lines model = (lines ≡ k.body model) × Is model
+  -- the lines are those of the model's file before its digest line
+  abbrev pub IsModelOfLines : (M → Type 0) → B → M → Type 0
+  IsModelOfLines Is body model = (lines body ≡ k.body model) × Is model
 
--- the model is that of the lines; a fault is returned unchanged
-abbrev pub IsModelOfRead : {M : Type 0} → ModelKind M → (M → Type 0) → Result (List (List ℕ)) FileFault → Result M FileFault → Type 0
-IsModelOfRead k Is (Ok lines) (Ok model) = IsModelOfLines k Is lines model
-IsModelOfRead k Is (Ok lines) (Err fault) = ⊥
-IsModelOfRead k Is (Err fault) (Ok model) = ⊥
-IsModelOfRead k Is (Err fault) (Err same) = same ≡ fault
+  -- the model is that of the lines; a fault is returned unchanged
+  abbrev pub IsModelOfRead : (M → Type 0) → Result B FileFault → Result M FileFault → Type 0
+  IsModelOfRead Is (Ok body) (Ok model) = IsModelOfLines Is body model
+  IsModelOfRead Is (Ok body) (Err fault) = ⊥
+  IsModelOfRead Is (Err fault) (Ok model) = ⊥
+  IsModelOfRead Is (Err fault) (Err same) = same ≡ fault
