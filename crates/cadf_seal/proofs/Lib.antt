@@ -7,7 +7,6 @@ pub mod Needed
 pub mod Neighbouring
 pub mod ProofLineLemmas
 pub mod ProofParts
-pub mod ProofWriting
 pub mod Rebuilding
 pub mod Repeating
 pub mod SealLemmas

@@ -119,9 +119,3 @@ pub count_told : (l : List ℕ) (n : ℕ) → Some n ≡ sealed_count l → (cau
 count_told l n e =
     let p = count-only l n (sym e) in
     (ap (λ o. shape_unless (is_some o)) (sym e), ap (λ x. x ∷ []) (sym p.0), p.1)
-
-pub root_told : (n : ℕ) (l : List ℕ) (r : Text) → n < 2 ^ 64 → Some r ≡ root_in l
-    → (cause_after (count_line n ∷ []) l ≡ None) × (count_line n ∷ root_line r ∷ [] ≡ count_line n ∷ l ∷ []) × ((n < 2 ^ 64) × IsDigest r)
-root_told n l r small e =
-    let p = root-only l r (sym e) in
-    (ap (λ o. shape_unless (is_some o)) (sym e), ap (λ x. count_line n ∷ x ∷ []) (sym p.0), (small, p.1))

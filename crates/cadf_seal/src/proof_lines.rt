@@ -1,13 +1,12 @@
 //! The lines of a proof's file up to its digest line.
 
-ghost use Rattle.std.specs.Prelude.{◌≡◌, ◌∷◌, [], IfOk, IfErr, OnOk, true, drop};
+ghost use Rattle.std.specs.Prelude.{◌≡◌, IfErr, OnOk, true};
 ghost use Rattle.std.specs.List.{last_or};
 ghost use Rattle.cadf_linefile.specs.Answers.{CauseIs};
 ghost use Rattle.cadf_linefile.specs.ModelReads.{IsModelOfLines};
-ghost use Rattle.cadf_seal.specs.ProofFile.{proof_header, HasProofParts, IsProof};
+ghost use Rattle.cadf_seal.specs.ProofFile.{proof_header, IsProof};
 ghost use Rattle.cadf_seal.specs.ProofVerdict.{proof_grammar, proof_kind, has_count, cause_after, cause_of_line, cause_of_leaf, is_next, leaf_in_words, shown_in, hidden_in};
-ghost use Rattle.cadf_seal.specs.ProofLines.{told_lines, AreTold, IsMore, IsPut, proof_values};
-ghost use Rattle.cadf_seal.specs.declared.proof_lines.Told.TheVariants as told;
+ghost use Rattle.cadf_seal.specs.ProofLines.{told_lines, lines_so_far, AreTold, AreSoFar, IsMore, IsPut};
 
 use crate::leaf::Leaf;
 use crate::proof::Proof;
@@ -18,14 +17,8 @@ use cadf_linefile::{Cause, LineDecoder, LineFault};
 use cadf_sketch::number_in;
 use memchr::memchr;
 use std::alloc::Global;
-use std::marker::Model;
-use std::mem;
 
 const HEADER: &[u8; 12] = b"CADF-PROOF 1";
-
-/// The first line, which is the same in every proof's file.
-#[derive(Drop)]
-pub struct ProofStart;
 
 /// The values decoded from the lines after the log line, so far.
 #[derive(Drop)]
@@ -39,20 +32,6 @@ pub(crate) enum Told {
 pub struct ProofLines {
     log: Name,
     told: Told,
-}
-
-impl Model for ProofLines {
-    ghost use Rattle.std.specs.Prelude.{List, ℕ};
-    ghost use Rattle.std.specs.Coded.{coded_ℕ, coded_list};
-    ghost use Rattle.cadf_seal.specs.ProofLines.{lines_so_far, AreSoFar};
-
-    ghost Value = { List (List ℕ) };
-
-    ghost coded = { coded_list (coded_list coded_ℕ) };
-
-    ghost view = { λ l. lines_so_far l.log l.told };
-
-    ghost invariant = { λ l. AreSoFar l.log l.told };
 }
 
 /// Decodes a place and a digest. `None` for any other words.
@@ -93,45 +72,21 @@ fn hidden_in(line: &[u8]) -> Option<[u8; 32]>
     }
 }
 
-/// Decodes the next line after the log line.
-fn told_more(alloc: Global, told: Told, line: &[u8]) -> Result<Told, LineFault>
-    requires { AreTold told }
-    ensures ok { IfOk result (IsMore told line.now) }
-    ensures err { IfErr result (λ e. CauseIs e (cause_after (told_lines told) line.now)) }
+/// Decodes the next line after the log line. After an `Err` the values are of no use.
+fn put_more(alloc: Global, told: &mut Told, line: &[u8]) -> Result<(), LineFault>
+    requires { AreTold told.old }
+    ensures ok { OnOk result (IsMore told.old line.now told.new) }
+    ensures err { IfErr result (λ e. CauseIs e (cause_after (told_lines told.old) line.now)) }
 {
     match told {
-        Told::Nothing => after_log(alloc, line),
-        Told::Values(count, shown, hidden) => after_count(count, shown, hidden, line),
-    }
-}
-
-/// Decodes the line after the log line.
-fn after_log(alloc: Global, line: &[u8]) -> Result<Told, LineFault>
-    ensures ok { IfOk result (IsMore told.Nothing line.now) }
-    ensures err { IfErr result (λ e. CauseIs e (cause_after [] line.now)) }
-{
-    match count_in(line) {
-        Some(count) => Ok(Told::Values(count, Vec::new(alloc), Vec::new(alloc))),
-        None => Err(LineFault::Here(Cause::Shape)),
-    }
-}
-
-/// Decodes a line after that of the count.
-fn after_count(
-    count: u64,
-    shown: Vec<Leaf>,
-    hidden: Vec<[u8; 32]>,
-    line: &[u8],
-) -> Result<Told, LineFault>
-    requires { HasProofParts (proof_values count shown.items hidden.items) }
-    ensures ok { IfOk result (IsMore (told.Values count shown hidden) line.now) }
-    ensures err { IfErr result (λ e. CauseIs e (cause_after (told_lines (told.Values count shown hidden)) line.now)) }
-{
-    let mut shown = shown;
-    let mut hidden = hidden;
-    match put_line(count, &mut shown, &mut hidden, line) {
-        Ok(()) => Ok(Told::Values(count, shown, hidden)),
-        Err(fault) => Err(fault),
+        Told::Nothing => {
+            let Some(count) = count_in(line) else {
+                return Err(LineFault::Here(Cause::Shape));
+            };
+            *told = Told::Values(count, Vec::new(alloc), Vec::new(alloc));
+            Ok(())
+        }
+        Told::Values(count, shown, hidden) => put_line(*count, shown, hidden, line),
     }
 }
 
@@ -193,8 +148,9 @@ fn has_count(told: &Told) -> bool
 impl ProofLines {
     /// Returns the proof.
     pub(crate) fn into_proof(self) -> Proof
-        requires { has_count (drop 2 self) ≡ true }
-        ensures { IsModelOfLines proof_kind (λ ls. ls) IsProof self result }
+        requires so_far { AreSoFar self }
+        requires whole { has_count (told_lines self.told) ≡ true }
+        ensures { IsModelOfLines proof_kind lines_so_far IsProof self result }
     {
         let ProofLines { log, told } = self;
         match told {
@@ -207,25 +163,25 @@ impl ProofLines {
 impl LineDecoder for ProofLines {
     ghost form = { proof_grammar };
 
-    ghost lines = { λ lines. lines };
+    ghost lines = { lines_so_far };
 
-    ghost sound = { λ _. Unit {0} };
+    ghost sound = { AreSoFar };
 
-    type Start = ProofStart;
+    type Start = ();
 
     type Held = ();
 
     ghost start_line = { λ _. proof_header };
 
-    fn start(line: &[u8]) -> Option<ProofStart> {
+    fn start(line: &[u8]) -> Option<()> {
         if line == HEADER.as_slice() {
-            Some(ProofStart)
+            Some(())
         } else {
             None
         }
     }
 
-    fn new(_alloc: Global, _start: ProofStart, log: Name) -> ProofLines {
+    fn new(_alloc: Global, _start: (), log: Name) -> ProofLines {
         ProofLines {
             log,
             told: Told::Nothing,
@@ -233,9 +189,7 @@ impl LineDecoder for ProofLines {
     }
 
     fn accept(&mut self, alloc: Global, _held: Option<&()>, line: &[u8]) -> Result<(), LineFault> {
-        let told = mem::replace(&mut self.told, Told::Nothing);
-        self.told = told_more(alloc, told, line)?;
-        Ok(())
+        put_more(alloc, &mut self.told, line)
     }
 
     fn cause_of_previous(&self, _line: &[u8]) -> Option<Cause> {

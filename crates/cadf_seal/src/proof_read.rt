@@ -1,6 +1,7 @@
 //! Reads a source as a proof file.
 
-ghost use Rattle.std.specs.Prelude.{◌≡◌, ◌≤◌, ◌+◌, ◌<◌, ◌^◌, ℕ, List, min, false, Some};
+ghost use Rattle.std.specs.Prelude.{◌≡◌, ◌≤◌, ◌+◌, ◌<◌, ◌^◌, ℕ, List, min, false, Some, IfOk};
+ghost use Rattle.cadf_seal.specs.ProofLines.{AreSoFar};
 ghost use Rattle.cadf_seal.specs.ProofReads.{ReadsProof, AnswersProof, IsAcceptedProof, IsProofOfRead};
 ghost use Rattle.cadf_seal.specs.ProofVerdict.{proof_verdict};
 
@@ -26,7 +27,8 @@ pub fn read_proof<S: Source>(alloc: Global, source: &mut S, limit: u64) -> Resul
 
 /// Returns the proof that the lines encode.
 fn proof_of(read: Result<ProofLines, FileFault>) -> Result<Proof, FileFault>
-    requires { IsAcceptedProof read }
+    requires so_far { IfOk read AreSoFar }
+    requires whole { IsAcceptedProof read }
     ensures { IsProofOfRead read result }
 {
     match read {

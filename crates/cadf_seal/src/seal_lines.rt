@@ -1,12 +1,11 @@
 //! The lines of a seal's file up to its digest line.
 
-ghost use Rattle.std.specs.Prelude.{◌≡◌, ◌<◌, ◌^◌, ◌∷◌, [], IfOk, IfErr, true, drop};
+ghost use Rattle.std.specs.Prelude.{◌≡◌, true, IfOk, IfErr};
 ghost use Rattle.cadf_linefile.specs.Answers.{CauseIs};
 ghost use Rattle.cadf_linefile.specs.ModelReads.{IsModelOfLines};
-ghost use Rattle.cadf_seal.specs.SealFile.{seal_header, count_line, IsSeal};
+ghost use Rattle.cadf_seal.specs.SealFile.{seal_header, IsSeal};
 ghost use Rattle.cadf_seal.specs.SealVerdict.{seal_kind, seal_grammar, is_whole, cause_after, sealed_count, root_in};
-ghost use Rattle.cadf_seal.specs.SealLines.{told_lines, AreTold, IsMore};
-ghost use Rattle.cadf_seal.specs.declared.seal_lines.Told.TheVariants as told;
+ghost use Rattle.cadf_seal.specs.SealLines.{told_lines, lines_so_far, AreTold, AreSoFar, IsMore};
 
 use crate::seal::Seal;
 use cadf_event::Name;
@@ -14,14 +13,8 @@ use cadf_inventory::digest_of;
 use cadf_linefile::{Cause, LineDecoder, LineFault};
 use cadf_sketch::number_in;
 use std::alloc::Global;
-use std::marker::Model;
-use std::mem;
 
 const HEADER: &[u8; 11] = b"CADF-SEAL 1";
-
-/// The first line, which is the same in every seal's file.
-#[derive(Drop)]
-pub struct SealStart;
 
 /// The values decoded from the lines after the log line, so far.
 #[derive(Drop)]
@@ -36,20 +29,6 @@ pub(crate) enum Told {
 pub struct SealLines {
     log: Name,
     told: Told,
-}
-
-impl Model for SealLines {
-    ghost use Rattle.std.specs.Prelude.{List, ℕ};
-    ghost use Rattle.std.specs.Coded.{coded_ℕ, coded_list};
-    ghost use Rattle.cadf_seal.specs.SealLines.{lines_so_far, AreSoFar};
-
-    ghost Value = { List (List ℕ) };
-
-    ghost coded = { coded_list (coded_list coded_ℕ) };
-
-    ghost view = { λ l. lines_so_far l.log l.told };
-
-    ghost invariant = { λ l. AreSoFar l.log l.told };
 }
 
 /// Decodes the line of the count. `None` if it is no such line.
@@ -75,37 +54,21 @@ fn root_in(line: &[u8]) -> Option<[u8; 32]>
 }
 
 /// Decodes the next line after the log line.
-fn told_more(told: Told, line: &[u8]) -> Result<Told, LineFault>
-    requires { AreTold told }
-    ensures ok { IfOk result (IsMore told line.now) }
-    ensures err { IfErr result (λ e. CauseIs e (cause_after (told_lines told) line.now)) }
+fn told_more(told: &Told, line: &[u8]) -> Result<Told, LineFault>
+    requires { AreTold told.now }
+    ensures ok { IfOk result (IsMore told.now line.now) }
+    ensures err { IfErr result (λ e. CauseIs e (cause_after (told_lines told.now) line.now)) }
 {
     match told {
-        Told::Nothing => after_log(line),
-        Told::Count(count) => after_count(count, line),
+        Told::Nothing => match count_in(line) {
+            Some(count) => Ok(Told::Count(count)),
+            None => Err(LineFault::Here(Cause::Shape)),
+        },
+        Told::Count(count) => match root_in(line) {
+            Some(root) => Ok(Told::Whole(*count, root)),
+            None => Err(LineFault::Here(Cause::Shape)),
+        },
         Told::Whole(_, _) => Err(LineFault::Here(Cause::Shape)),
-    }
-}
-
-/// Decodes the line after the log line.
-fn after_log(line: &[u8]) -> Result<Told, LineFault>
-    ensures ok { IfOk result (IsMore told.Nothing line.now) }
-    ensures err { IfErr result (λ e. CauseIs e (cause_after [] line.now)) }
-{
-    match count_in(line) {
-        Some(count) => Ok(Told::Count(count)),
-        None => Err(LineFault::Here(Cause::Shape)),
-    }
-}
-
-/// Decodes the line after that of the count.
-fn after_count(count: u64, line: &[u8]) -> Result<Told, LineFault>
-    ensures ok { IfOk result (IsMore (told.Count count) line.now) }
-    ensures err { IfErr result (λ e. CauseIs e (cause_after (count_line count ∷ []) line.now)) }
-{
-    match root_in(line) {
-        Some(root) => Ok(Told::Whole(count, root)),
-        None => Err(LineFault::Here(Cause::Shape)),
     }
 }
 
@@ -119,8 +82,9 @@ fn is_whole(told: &Told) -> bool
 impl SealLines {
     /// Returns the seal.
     pub(crate) fn into_seal(self) -> Seal
-        requires { is_whole (drop 2 self) ≡ true }
-        ensures { IsModelOfLines seal_kind (λ ls. ls) IsSeal self result }
+        requires so_far { AreSoFar self }
+        requires whole { is_whole (told_lines self.told) ≡ true }
+        ensures { IsModelOfLines seal_kind lines_so_far IsSeal self result }
     {
         let SealLines { log, told } = self;
         match told {
@@ -133,25 +97,25 @@ impl SealLines {
 impl LineDecoder for SealLines {
     ghost form = { seal_grammar };
 
-    ghost lines = { λ lines. lines };
+    ghost lines = { lines_so_far };
 
-    ghost sound = { λ _. Unit {0} };
+    ghost sound = { AreSoFar };
 
-    type Start = SealStart;
+    type Start = ();
 
     type Held = ();
 
     ghost start_line = { λ _. seal_header };
 
-    fn start(line: &[u8]) -> Option<SealStart> {
+    fn start(line: &[u8]) -> Option<()> {
         if line == HEADER.as_slice() {
-            Some(SealStart)
+            Some(())
         } else {
             None
         }
     }
 
-    fn new(_alloc: Global, _start: SealStart, log: Name) -> SealLines {
+    fn new(_alloc: Global, _start: (), log: Name) -> SealLines {
         SealLines {
             log,
             told: Told::Nothing,
@@ -159,8 +123,7 @@ impl LineDecoder for SealLines {
     }
 
     fn accept(&mut self, _alloc: Global, _held: Option<&()>, line: &[u8]) -> Result<(), LineFault> {
-        let told = mem::replace(&mut self.told, Told::Nothing);
-        self.told = told_more(told, line)?;
+        self.told = told_more(&self.told, line)?;
         Ok(())
     }
 

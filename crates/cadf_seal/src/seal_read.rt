@@ -1,7 +1,8 @@
 //! Reads a source as a seal file.
 
-ghost use Rattle.std.specs.Prelude.{◌≡◌, ◌≤◌, ◌+◌, ◌<◌, ◌^◌, ℕ, List, min, false, Some};
+ghost use Rattle.std.specs.Prelude.{◌≡◌, ◌≤◌, ◌+◌, ◌<◌, ◌^◌, ℕ, List, min, false, Some, IfOk};
 ghost use Rattle.cadf_linefile.specs.Verdict.{verdict};
+ghost use Rattle.cadf_seal.specs.SealLines.{AreSoFar};
 ghost use Rattle.cadf_seal.specs.SealReads.{ReadsSeal, AnswersSeal, AreAcceptedSealLines, IsSealOfRead};
 ghost use Rattle.cadf_seal.specs.SealVerdict.{seal_verdict};
 
@@ -27,7 +28,8 @@ pub fn read_seal<S: Source>(alloc: Global, source: &mut S, limit: u64) -> Result
 
 /// Returns the seal that the lines encode.
 fn seal_of(read: Result<SealLines, FileFault>) -> Result<Seal, FileFault>
-    requires { AreAcceptedSealLines read }
+    requires so_far { IfOk read AreSoFar }
+    requires whole { AreAcceptedSealLines read }
     ensures { IsSealOfRead read result }
 {
     match read {

@@ -1,5 +1,0 @@
-use Rattle.cadf_seal.proofs.SealLemmas.{count_told}
-use Rattle.cadf_seal.proofs.seal_lines.after_log.Goals as goal
-
-pub returns-in-Some-clause-ok : goal.returns-in-Some-clause-ok
-returns-in-Some-clause-ok c = count_told c.args.line.now c.in-Some.count c.in-Some.ensures
