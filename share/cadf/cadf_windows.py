@@ -4,6 +4,7 @@ A site is a file, which is one window `all` or is split by a unit, or a folder. 
 that go with the call, but a folder's `.unions`, which keeps the digests of windows of several files.
 """
 import contextlib
+import datetime
 import hashlib
 import itertools
 import os
@@ -34,6 +35,17 @@ ABOVE = b"g"  # all digests
 def unit_of(window):
     """The unit of a window of that name, or None."""
     return UNITS.get(len(window)) if WINDOW.fullmatch(window) else None
+
+
+def is_time(window):
+    """Whether a window of that name is of the calendar.
+
+    It may be of the year 0000, which `datetime` doesn't have, and whose months are as long as those of 0400.
+    """
+    try:
+        return unit_of(window) is not None and bool(datetime.datetime.strptime(window.replace("0000-", "0400-"), "%Y-%m-%dT%H"[:len(window) - 2]))
+    except ValueError:
+        return False
 
 
 def is_part(name, unit):

@@ -171,7 +171,7 @@ def test_windows(seals):
     assert seals.writes("--window", "2024-03-02", seal) == seals.command("seal", seals.put("none", '{"id":"g","events":[]}')) == seal_of("g", set())
 
 
-@pytest.mark.parametrize("part", ["2024-03", "2024-03-01T12", "2024-3-01", "all", "2024-03-01\n", "\u0662024-03-01", "x" * 1000, "\x1b[m"])
+@pytest.mark.parametrize("part", ["2024-03", "2024-02-30", "2024-03-01T12", "2024-3-01", "all", "2024-03-01\n", "\u0662024-03-01", "x" * 1000, "\x1b[m"])
 def test_no_window_of_the_unit(seals, part):
     seals.put("seal", site_seal_of("g", set(), "day"))
     status, output, said = seals.run("--window", part, "seal")
