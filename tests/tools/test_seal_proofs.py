@@ -315,7 +315,7 @@ def test_no_room_for_what_is_temporary(proofs):
     proofs.put("proof", proofs.proves(ASKED))
     for words in (["--prove", "facts", "site"], ["--verify", "seal", "facts", "proof"], ["--verify", "-", "facts", "proof"]):
         answer = proofs.run(*words, input=bytes(2 ** 13), preexec_fn=lambda: resource.setrlimit(resource.RLIMIT_FSIZE, (100, 100)))
-        assert answer == (3, b"", ["cadf-seal: %s: File too large" % tempfile.gettempdir()])
+        assert answer == (3, b"", ["cadf-seal: %s: File too large: make room there, or name another folder by TMPDIR" % tempfile.gettempdir()])
 
 
 @pytest.mark.parametrize("words", [["--verify"], ["--verify", "seal"], ["--verify", "seal", "facts"], ["--verify", "seal", "facts", "proof", "more"], ["--absent", "site"],
