@@ -220,7 +220,6 @@ fail_reads("missing-by", [made.EVENT_TREE, inventory(*sorted([digits(C1), digits
 
 # A command, its inputs, what is written, and what goes out at once, as a pattern: each write fails in turn.
 LINES, WHOLE, PARTS = ".*\n", "(?s).+", "CADF-SPLIT.*\n.*\n.*\n|CADF-REPLICA.*\n.*\n|.*\n"
-SEALED = "N.*\nR.*\n|.*\n"
 WRITTEN = [
     ("show", [made.CHAINS_TREE], log(BOTH), WHOLE),
     ("show --conflicts", [EMPTY_LOG], conflicts(), WHOLE),
@@ -235,7 +234,7 @@ WRITTEN = [
     ("missing-by", [made.NOTHING_TREE, inventory()], made.NOTHING_TREE, LINES),
     ("sketch --cells 3 --salt 1", [made.EVENT_TREE], sketched.WORKED, LINES),
     ("missing-by-sketch", [made.TWO, sketched.WORKED], made.SECOND_TREE, LINES),
-    ("seal", [made.EVENT_TREE], seal(digits(C1)), SEALED),
+    ("seal", [made.EVENT_TREE], seal(digits(C1)), LINES),
     ("prove", [V1, made.TWO], proof([digits(C1)], [digits(C1), digits(C2)]), LINES),
     ("verify", [seal(digits(C1), digits(C2)), made.TWO, proof([digits(C1), digits(C2)], [digits(C1), digits(C2)])],
      'present E "e1"\npresent E "e2"\n', LINES),
