@@ -14,7 +14,7 @@ from tests.tables.texts import C1, C2, CF, K1, KF, V1, V2, conflicts, data, digi
 
 CALLS = {
     "each": [],
-    "load": ["load", "Loaded::log", "ReplicaFeed::after_magic", "Source::borrow_next", "MemorySource::borrowable"],
+    "load": ["load", "Loaded::log", "ReplicaFeed::after_magic", "Source::borrow_next"],
     "load_within": ["load_within"],
     "run_join": ["run_join"],
     "run_split": ["run_split"],

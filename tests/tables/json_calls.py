@@ -26,11 +26,11 @@ CALLS = {
     "apart": ["Json::read_apart", "ItemVisitor::begin", "ItemVisitor::take", "Json::read_next"],
     "is_canonical": ["is_canonical"],
     "spells_value": ["spells_value"],
-    "read_to_limit": ["read_to_limit", "MemorySource::new", "Source::read"],
+    "read_to_limit": ["read_to_limit", "Source::read"],
     "read_rest": ["cadf_json::read_rest"],
-    "borrow_next": ["Source::borrow_next", "MemorySource::borrowable"],
+    "borrow_next": ["Source::borrow_next"],
     "read_by_std": ["FromStd::new", "FromStd::into_inner"],
-    "write_all": ["write_all", "MemorySink::new", "MemorySink::bytes", "Sink::write"],
+    "write_all": ["write_all", "Sink::write"],
     "write_by_std": ["FromStd::new", "FromStd::into_inner"],
     "time": ["Stamp::read", "Stamp::instant", "Stamp::offset", "Stamp::text"],
 }
@@ -224,7 +224,7 @@ def writes():
     """Writings of these bytes: the size of a piece, what fails and at which write, and the answer with what was written."""
     for piece, count in ((1, 22), (7, 4), (22, 1)):
         for failing in range(1, count + 1):
-            for how in ("refuses", "takes nothing"):
+            for how in ("refuses", "takes-nothing"):
                 yield piece, how, failing, ["err", "WriteFault", BYTES[:(failing - 1) * piece]]
         yield piece, "never", 0, ["ok", BYTES]
         yield piece, "refuses", count + 1, ["ok", BYTES]

@@ -8,7 +8,6 @@ mod depth;
 mod items;
 mod laws;
 mod members;
-mod memory;
 mod node;
 mod number;
 mod order;
@@ -34,7 +33,6 @@ pub use crate::laws::{
     text_spells_its_value,
 };
 pub use crate::members::{Member, Members};
-pub use crate::memory::{FailingWrite, MemorySink, MemorySource};
 pub use crate::plain_run::plain_length;
 pub use crate::spelling::push_quoted;
 pub use crate::spells::spells_value;

@@ -3,7 +3,6 @@
 use crate::answers::Answer;
 use crate::words::Words;
 use cadf_event::Name;
-use cadf_json::{MemorySink, MemorySource};
 use cadf_tool::{
     Cells, CountingSink, Salt, ToolFault, Unit, run_check, run_check_union, run_inventory,
     run_inventory_union, run_join, run_missing, run_missing_by, run_missing_by_sketch,
@@ -11,7 +10,7 @@ use cadf_tool::{
     run_rule, run_rule_union, run_seal, run_seal_union, run_show, run_show_union, run_sketch,
     run_sketch_union, run_split, run_verify, status,
 };
-use calls::{push, push_number, refused};
+use calls::{MemorySink, MemorySource, push, push_number, refused};
 use std::alloc::{AllocError as Memory, Global};
 
 /// The result of an engine: `None` if the words don't say what to run.

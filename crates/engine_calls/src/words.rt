@@ -1,7 +1,6 @@
 //! The words of a call: texts, numbers, readers and writers.
 
-use cadf_json::{FailingWrite, MemorySink, MemorySource};
-use calls::Call;
+use calls::{Call, MemorySink, MemorySource};
 use std::alloc::Global;
 
 /// A call whose name is one of the words of a line.
@@ -50,21 +49,20 @@ impl<'a> Words<'a> {
     /// Makes the reader of the three words from that place on. Its bytes can be borrowed if its pieces have none.
     pub(crate) fn source(self, place: usize) -> MemorySource<'a> {
         let bytes = self.call.bytes(self.first.saturating_add(place));
-        let failing = self.number(place.saturating_add(2));
-        match self.number(place.saturating_add(1)) {
-            0 => MemorySource::borrowable(bytes),
-            piece => MemorySource::new(bytes, piece, failing as u64),
-        }
+        MemorySource::new(
+            bytes,
+            self.number(place.saturating_add(1)),
+            self.number(place.saturating_add(2)),
+        )
     }
 
     /// Makes the writer of the three words from that place on.
     pub(crate) fn sink(self, alloc: Global, place: usize) -> MemorySink {
-        let number = self.number(place.saturating_add(2)) as u64;
-        let failing = match self.text(place.saturating_add(1)) {
-            "refuses" => FailingWrite::Refuses(number),
-            "takes-nothing" => FailingWrite::TakesNothing(number),
-            _ => FailingWrite::Never,
-        };
-        MemorySink::new(alloc, self.number(place).max(1), failing)
+        MemorySink::new(
+            alloc,
+            self.number(place),
+            self.text(place.saturating_add(1)),
+            self.number(place.saturating_add(2)),
+        )
     }
 }

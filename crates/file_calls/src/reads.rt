@@ -2,9 +2,9 @@
 
 use crate::replicas::shown;
 use cadf_file::{FileFault, read_replica, read_replica_beside};
-use cadf_json::{Memory, MemorySource};
+use cadf_json::Memory;
 use cadf_replica::Replica;
-use calls::{Call, refused};
+use calls::{Call, MemorySource, refused};
 use std::alloc::Global;
 
 /// How a file is read.
@@ -15,7 +15,7 @@ pub(crate) struct Reading {
     /// The greatest number of bytes that one read returns.
     pub(crate) piece: usize,
     /// The number of the read that fails; with 0 none fails.
-    pub(crate) failing: u64,
+    pub(crate) failing: usize,
 }
 
 impl Reading {
@@ -24,7 +24,7 @@ impl Reading {
         Reading {
             limit: call.number(1) as u64,
             piece: call.number(2),
-            failing: call.number(3) as u64,
+            failing: call.number(3),
         }
     }
 

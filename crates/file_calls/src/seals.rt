@@ -5,12 +5,12 @@ use crate::reads::Reading;
 use crate::replicas::replica_of;
 use crate::streams::{sink_of, written};
 use cadf_file::FileFault;
-use cadf_json::{FailingWrite, Memory, MemorySink};
+use cadf_json::Memory;
 use cadf_replica::Inventory;
 use cadf_seal::{
     FactLines, Leaf, Proof, Seal, read_proof, read_seal, root_of, verified, write_proof, write_seal,
 };
-use calls::{Call, answer, push, push_number, refused};
+use calls::{Call, MemorySink, answer, push, push_number, refused};
 use std::alloc::{AllocError, Global};
 
 /// Answers `ok` with the seal's log, count and root.
@@ -154,7 +154,7 @@ pub(crate) fn verified_of(alloc: Global, call: &Call) -> Result<String, Memory> 
 
 /// Answers `ok` with the lines, written `piece` bytes at a time.
 fn told(alloc: Global, piece: usize, lines: &FactLines) -> Result<String, Memory> {
-    let mut sink = MemorySink::new(alloc, piece.max(1), FailingWrite::Never);
+    let mut sink = MemorySink::new(alloc, piece, "never", 0);
     match lines.write(&mut sink) {
         Ok(()) => written(alloc, Ok(()), &sink),
         Err(_) => Err(AllocError),

@@ -1,19 +1,18 @@
 //! Readers and writers as words.
 
-use cadf_json::{FailingWrite, Memory, MemorySink, OutFault};
-use calls::{Call, answer, push_bytes, refused};
+use cadf_json::{Memory, OutFault};
+use calls::{Call, MemorySink, answer, push_bytes, refused};
 use std::alloc::Global;
 
 /// Makes the writer of the three words from that place on: how many bytes it takes at once, what it does at a write
 /// (`never`, `refuses` or `takes-nothing`), and the number of that write.
 pub(crate) fn sink_of(alloc: Global, call: &Call, place: usize) -> MemorySink {
-    let number = call.number(place.saturating_add(2)) as u64;
-    let failing = match call.text(place.saturating_add(1)) {
-        "refuses" => FailingWrite::Refuses(number),
-        "takes-nothing" => FailingWrite::TakesNothing(number),
-        _ => FailingWrite::Never,
-    };
-    MemorySink::new(alloc, call.number(place).max(1), failing)
+    MemorySink::new(
+        alloc,
+        call.number(place),
+        call.text(place.saturating_add(1)),
+        call.number(place.saturating_add(2)),
+    )
 }
 
 /// Answers a call that writes: how it ended, and all that was written.

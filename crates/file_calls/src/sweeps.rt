@@ -27,7 +27,7 @@ pub(crate) fn each_failing_read(alloc: Global, call: &Call) -> Result<String, Me
     let (mut reading, file) = (Reading::of(call), call.bytes(4));
     let first = fault_of(alloc, reading, file);
     let mut count = 0u64;
-    for failing in reading.failing..=call.number(5) as u64 {
+    for failing in reading.failing..=call.number(5) {
         reading.failing = failing;
         count = count.saturating_add(u64::from(fault_of(alloc, reading, file) == first));
     }

@@ -2,8 +2,8 @@
 
 ghost use Rattle.std.specs.Prelude.{◌<◌, ◌^◌};
 
-use cadf_json::{FromStd, MemorySource, ReadLimitFault, Source, read_rest, read_to_limit};
-use calls::Call;
+use cadf_json::{FromStd, ReadLimitFault, Source, read_rest, read_to_limit};
+use calls::{Call, MemorySource};
 use std::alloc::{AllocError as Memory, Global};
 use std::io;
 
@@ -28,8 +28,7 @@ fn limit(call: &Call, place: usize) -> usize
 
 /// Answers the source of these bytes, in pieces of a size of at least 1, of which a read fails.
 fn source<'b>(bytes: &'b [u8], call: &Call) -> MemorySource<'b> {
-    let failing = u64::try_from(call.number(3)).unwrap_or(0);
-    MemorySource::new(bytes, call.number(2).max(1), failing)
+    MemorySource::new(bytes, call.number(2).max(1), call.number(3))
 }
 
 /// Answers the whole of the first word's bytes, read in pieces up to a limit; a read may fail.
@@ -47,17 +46,10 @@ pub(crate) fn rest(alloc: Global, call: &Call) -> Result<String, Memory> {
     told(alloc, bytes)
 }
 
-/// Makes the source of the first word's bytes: in pieces of that size, or of bytes that can be borrowed if it is 0.
-fn borrowable_or_not<'b>(call: &'b Call) -> MemorySource<'b> {
-    match call.number(2) {
-        0 => MemorySource::borrowable(call.bytes(1)),
-        piece => MemorySource::new(call.bytes(1), piece, 0),
-    }
-}
-
-/// Answers what is borrowed of the source, at most as many bytes as the third word says, and what is left to read then.
+/// Answers what is borrowed of the first word's bytes, at most as many as the third word says, and what is left to read
+/// then. They can be borrowed if the second word, the size of the pieces, is 0.
 pub(crate) fn borrowed(alloc: Global, call: &Call) -> Result<String, Memory> {
-    let mut source = borrowable_or_not(call);
+    let mut source = MemorySource::new(call.bytes(1), call.number(2), 0);
     let mut line = match source.borrow_next(call.number(3)) {
         Some(bytes) => {
             let mut line = calls::answer(alloc, "some", &[])?;

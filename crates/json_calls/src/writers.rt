@@ -1,7 +1,7 @@
 //! Sinks that accept bytes in pieces, and fail when asked to.
 
-use cadf_json::{Failed, FailingWrite, FromStd, MemorySink, OutFault, write_all};
-use calls::Call;
+use cadf_json::{Failed, FromStd, OutFault, write_all};
+use calls::{Call, MemorySink};
 use std::alloc::{AllocError as Memory, Global};
 use std::io;
 
@@ -15,19 +15,9 @@ fn told(alloc: Global, done: Result<(), Failed>, written: &[u8]) -> Result<Strin
     Ok(line)
 }
 
-/// Answers what the third and the fourth word say of a failing write.
-fn failing(call: &Call) -> FailingWrite {
-    let number = u64::try_from(call.number(4)).unwrap_or(0);
-    match call.text(3) {
-        "refuses" => FailingWrite::Refuses(number),
-        "takes nothing" => FailingWrite::TakesNothing(number),
-        _ => FailingWrite::Never,
-    }
-}
-
 /// Writes the first word's bytes in pieces; a write may fail.
 pub(crate) fn whole(alloc: Global, call: &Call) -> Result<String, Memory> {
-    let mut sink = MemorySink::new(alloc, call.number(2).max(1), failing(call));
+    let mut sink = MemorySink::new(alloc, call.number(2), call.text(3), call.number(4));
     let done = write_all(&mut sink, call.bytes(1));
     told(alloc, done, sink.bytes())
 }
