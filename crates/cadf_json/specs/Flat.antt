@@ -7,7 +7,7 @@ use Rattle.std.specs.Prelude.{◌≡◌, ◌⊎◌, ℕ, zero, suc, ◌≤◌, L
 use Rattle.serde_json.specs.Data.{Num, Data, null, boolean, number, string, array, object, Items, no_items, item, Members, no_members, member, put}
 use Rattle.serde_json.specs.Find.{is_float}
 use Rattle.serde_json.specs.Written.{number_text}
-use Rattle.cadf_json.specs.Value.{IsWholeNumber, IsWhole, IsValue}
+use Rattle.cadf_json.specs.Value.{IsWholeNumber, IsValue}
 use Rattle.cadf_json.specs.Tree.{number_in}
 use Rattle.cadf_json.specs.declared.node.Place.{Place}
 use Rattle.cadf_json.specs.declared.node.Extent.{Extent}
@@ -164,10 +164,6 @@ have_fraction (x ∷ xs) = is_fraction x || have_fraction xs
 
 -- ---- a value whose numbers are whole
 
--- the nodes are those of a value whose numbers are whole
-abbrev pub IsFlat : List ℕ → List Node → Type 0
-IsFlat t xs = Stands t (decode t xs) xs × IsWhole (decode t xs)
-
--- or there are none yet: `null`
+-- the nodes are those of a value whose numbers are whole, or there are none yet: `null`
 abbrev pub IsFlatValue : List ℕ → List Node → Type 0
 IsFlatValue t xs = ((xs ≡ []) ⊎ Stands t (decode t xs) xs) × IsValue (decode t xs)

@@ -1,6 +1,6 @@
 //! Checks whether a text is canonical, without building a tree.
 
-ghost use Rattle.std.specs.Prelude.{◌≡◌, ◌≢◌, ◌<◌, [], length, true, false, IfOk, option_map, string_bytes};
+ghost use Rattle.std.specs.Prelude.{◌≡◌, ◌≢◌, ◌<◌, ◌&&◌, [], length, true, false, IfOk, option_map, string_bytes};
 ghost use Rattle.json.specs.Lex.{tokens};
 ghost use Rattle.json.specs.Print.{print, ArePrintable};
 ghost use Rattle.cadf_json.specs.Canonical.{IsCanonicalWithin, IsOrdered, IsUnordered, AreItemsOrdered, AreItemsUnordered};
@@ -88,7 +88,7 @@ fn are_members_ordered<'a>(reader: &mut Reader<'a>, depth: usize) -> bool
 }
 
 /// Returns whether the name is above the last one, if there is one.
-pub(crate) fn is_above(last: Option<&str>, name: &str) -> bool
+fn is_above(last: Option<&str>, name: &str) -> bool
     ensures { result ≡ is_name_above (option_map (λ s. s.now) last.entry) name.now }
 {
     match last {
@@ -99,6 +99,13 @@ pub(crate) fn is_above(last: Option<&str>, name: &str) -> bool
         },
         None => true,
     }
+}
+
+/// Returns whether the names rise, if they did up to the last one.
+pub(crate) fn rises_to(rising: bool, last: Option<&str>, name: &str) -> bool
+    ensures { result ≡ rising && is_name_above (option_map (λ s. s.now) last.entry) name.now }
+{
+    rising && is_above(last, name)
 }
 
 /// Returns all the text that was written.

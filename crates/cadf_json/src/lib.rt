@@ -15,7 +15,6 @@ mod plain_run;
 mod push;
 mod read;
 mod rewrite;
-mod rising;
 mod spelling;
 mod spells;
 mod stream;

@@ -2,9 +2,9 @@
 ghost use Rattle.std.specs.Prelude.{◌≡◌, ◌<◌, length, IfOk, OnOk};
 ghost use Rattle.cadf_json.specs.Reading.{ReadsValue, IsNoValue, AreItemsRead, AreNoItems, AreMembersRead, AreNoMembers};
 
+use crate::canonical::rises_to;
 use crate::node::Node;
 use crate::push::{ReadFault, extent_from, push_number, push_string};
-use crate::rising::rises_to;
 use json::{Reader, Token};
 
 /// How deep lists and objects may nest.

@@ -13,7 +13,7 @@ use crate::items::Items;
 use crate::members::Members;
 use crate::node::Node;
 use crate::rewrite::rewritten_text;
-use crate::write::{text_at, write_value};
+use crate::write::{as_text, bytes_of, write_value};
 use std::alloc::Global;
 use std::marker::Model;
 
@@ -53,7 +53,7 @@ impl<'v> View<'v> {
         ensures { option_map (λ s. s.now) result ≡ as_str self.now }
     {
         match self.nodes[0] {
-            Node::Text(place) => Some(text_at(self.texts, place)),
+            Node::Text(place) => Some(as_text(bytes_of(self.texts, place))),
             _ => None,
         }
     }

@@ -35,7 +35,7 @@ fn write_scalar(alloc: Global, view: &View<'_>, out: &mut Vec<u8>) -> Result<(),
         Node::Null => out.extend_from_slice(b"null"),
         Node::Bool(b) => push_bool(b, out),
         Node::Whole(place) => out.extend_from_slice(bytes_of(view.texts, place)),
-        Node::Text(place) => push_quoted(alloc, text_at(view.texts, place), out),
+        Node::Text(place) => push_quoted(alloc, as_text(bytes_of(view.texts, place)), out),
         Node::Fraction | Node::Array(_) | Node::Object(_) => Ok(()),
     }
 }
@@ -46,15 +46,6 @@ pub(crate) fn bytes_of(texts: &[u8], place: Place) -> &[u8]
     ensures { result.now ≡ bytes_at texts.now place }
 {
     &texts[place.start as usize..place.end as usize]
-}
-
-/// Borrows the decoded text at the place.
-pub(crate) fn text_at(texts: &[u8], place: Place) -> &str
-    requires place { (place.start ≤ place.end) × (place.end ≤ length texts.now) }
-    requires utf8 { IsUtf8 (bytes_at texts.now place) }
-    ensures { result.now ≡ bytes_at texts.now place }
-{
-    unsafe { std::str::from_utf8_unchecked(bytes_of(texts, place)) }
 }
 
 /// Borrows the bytes as text.
