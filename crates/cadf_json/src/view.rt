@@ -12,7 +12,7 @@ use crate::depth::depth_of;
 use crate::items::Items;
 use crate::members::Members;
 use crate::node::Node;
-use crate::rewrite::rewritten_text;
+use crate::rewrite::push_members;
 use crate::write::{as_text, bytes_of, write_value};
 use std::alloc::Global;
 use std::marker::Model;
@@ -190,7 +190,12 @@ impl<'v> View<'v> {
             ≡ text_of (object_of (replaced name.now (text_value text.now) (without (texts_of left_out.now) (members_in self.now))))) }
     {
         self.type_invariant();
-        rewritten_text(alloc, self.room(), self.members(), left_out, name, text)
+        let mut out = Vec::with_capacity(alloc, self.room())?;
+        out.push(b'{')?;
+        push_members(alloc, &mut out, self.members(), left_out, name, text)?;
+        let mut text = unsafe { String::from_utf8_unchecked(out) };
+        text.shrink_to_fit();
+        Ok(text)
     }
 
     /// Estimates how many bytes the text has, up to a kilobyte: a short text is then encoded without growing.
