@@ -31,6 +31,7 @@ MOST_WAITS = 1000  # of an end that works, one after another
 BEAT = 10  # seconds between two signs of life of an end that works
 BLOCK, PIECE = 2 ** 16, 4096  # bytes that are read at once; that have to come in time, and go without blocking
 LOOK = 100  # milliseconds between two looks whether a wait goes on
+CAME_SO = "it came so, and no file here is at fault: tell the operator of the end that sent it"
 
 
 def check_room(file, length):
@@ -64,15 +65,19 @@ class Item(NamedTuple):
     def content(self, most=LARGEST):
         return b"".join(self._replace(length=min(most, self.length)).blocks())
 
+    def opened_from(self, peer):
+        """The bytes that a peer sent, as an input of their own."""
+        return self.opened("%s%s from %s" % ("" if self.kind in ("facts", "some") else "the %s of " % self.kind, self.part, peer), CAME_SO)
+
     @contextlib.contextmanager
-    def opened(self, name):
+    def opened(self, name, advice=None):
         """The bytes as an input of their own."""
         with tempfile.TemporaryFile() as copy:
             check_room(copy, self.length)
             for block in self.blocks():
                 copy.write(block)
             copy.flush()
-            yield Input(name, copy)
+            yield Input(name, copy, advice)
 
 
 class Store:

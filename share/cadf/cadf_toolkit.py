@@ -88,7 +88,7 @@ class Refusal(Fault):
         which = inputs[place - 1] if place else inputs[-1] if inputs and said == "no log named" else None
         if which and said == "read fault":
             which.first(1)
-        text = explained(said, which)
+        text = "%s: %s" % (said, which.advice) if which and which.advice else explained(said, which)
         super().__init__("%s: %s" % (which.name, text) if which else text, status)
 
 
@@ -269,10 +269,13 @@ def site_name(text):
 # ---- Inputs
 
 class Input:
-    """A regular file that is open for reading, and its name. `cadf` is given its descriptor, so it reads the file that was judged."""
+    """A regular file that is open for reading, and its name. `cadf` is given its descriptor, so it reads the file that was judged.
 
-    def __init__(self, name, file):
-        self.name, self.file = name_shown(name), file
+    `advice` is what to do if it is refused, if it is no file of the caller's.
+    """
+
+    def __init__(self, name, file, advice=None):
+        self.name, self.file, self.advice = name_shown(name), file, advice
 
     def path(self):
         return "/dev/fd/%d" % self.file.fileno()

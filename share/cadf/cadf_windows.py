@@ -316,16 +316,19 @@ def whole(store, part, inputs):
 
 
 def beyond(store, part, inputs, item, name):
-    """An item of what a window has beyond a sketch or an inventory, `facts`; or `more` with the cells to ask for."""
-    with item.opened("the %s of %s from %s" % (item.kind, part, name)) as asked:
+    """An item of what a window has beyond a sketch or an inventory, `facts`; or `more` with the cells to ask for.
+
+    Damaged: a file of the window, or what was sent.
+    """
+    with item.opened_from(name) as asked:
         command = "missing-by-sketch" if item.kind == "sketch" else "missing-by"
         try:
             cadf([command], [*inputs, asked], store.begin(), union=len(inputs))
             return store.item(part, "facts")
         except Refusal as fault:
-            if not fault.said.startswith(TOO_FEW):
-                raise
-            return store.put(part, "more", fault.said[len(TOO_FEW):].encode())
+            if fault.said.startswith(TOO_FEW):
+                return store.put(part, "more", fault.said[len(TOO_FEW):].encode())
+            raise Damaged(str(fault), fault.status) if fault.place == len(inputs) + 1 else fault from None
 
 
 class Piece:

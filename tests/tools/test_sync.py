@@ -307,6 +307,8 @@ def answered(*found):
 
 
 SKETCHED = (b"all", b"inventory", inventory_of("g", []))
+CAME_SO = ": it came so, and no file here is at fault: tell the operator of the end that sent it\n"
+LEFT_OUT = "left out all: the %s of all from h:there.cadf: %s" + CAME_SO
 LIES = {
     "a greeting": (b"Welcome to h!\n", 1, 'the far shell prints "Welcome to h!"'),
     "a greeting without a line feed": (b"Welcome " + FIRST, 1, 'the far shell prints "Welcome ": what runs at its start'),
@@ -360,11 +362,12 @@ LIES = {
     "facts that are none": (answered((b"all", b"facts", b"\x7fELF"), SKETCHED), 1, "all from h:there.cadf: not JSON"),
     "facts of another log": (answered((b"all", b"facts", OTHER), SKETCHED), 1, 'other log: "h"'),
     "facts that are held, and more to come": (answered((b"all", b"some", file_of("g", facts(1))), SKETCHED), 1, "it sends again what is held"),
-    "facts that are cut": (answered((b"all", b"facts", GOOD[:-9]), SKETCHED), 1, "truncated"),
-    "facts that were changed": (answered((b"all", b"facts", GOOD.replace(b"u1", b"u2")), SKETCHED), 1, "digest"),
-    "an inventory that is none": (answered((b"all", b"none", b""), (b"all", b"inventory", b"x\n")), 1, "version"),
-    "an inventory of another log": (answered((b"all", b"none", b""), (b"all", b"inventory", inventory_of("h", []))), 1, "other log"),
-    "a sketch that is none": (answered((b"all", b"none", b""), (b"all", b"sketch", b"x\n")), 1, "version"),
+    "facts that are cut": (answered((b"all", b"facts", GOOD[:-9]), SKETCHED), 1, "all from h:there.cadf: truncated" + CAME_SO),
+    "facts that were changed": (answered((b"all", b"facts", GOOD.replace(b"u1", b"u2")), SKETCHED), 1, "all from h:there.cadf: digest" + CAME_SO),
+    "an inventory that is none": (answered((b"all", b"none", b""), (b"all", b"inventory", b"x\n")), 1, LEFT_OUT % ("inventory", "version")),
+    "an inventory that is damaged": (answered((b"all", b"none", b""), (b"all", b"inventory", inventory_of("g", [])[:-2] + b"x\n")), 1, LEFT_OUT % ("inventory", "digest")),
+    "an inventory of another log": (answered((b"all", b"none", b""), (b"all", b"inventory", inventory_of("h", []))), 1, LEFT_OUT % ("inventory", "other log")),
+    "a sketch that is none": (answered((b"all", b"none", b""), (b"all", b"sketch", b"x\n")), 1, LEFT_OUT % ("sketch", "version")),
     "damage": (answered((b"all", b"fault", b"3 \x1b[2Jbroken"), SKETCHED), 1, "left out all: h:there.cadf: \\x1b[2Jbroken\n"),
     "damage of no status": (answered((b"all", b"fault", b""), (b"all", b"fault", b"1 " + b"x" * 9000)), 1, "left out all: h:there.cadf: \n"),
     "a number that is none": (answered((b"all", b"none", b""), SKETCHED) + message(b"taken", b"-1\n"), 1, "no number of facts"),
@@ -519,7 +522,6 @@ CALLS = {
     "facts that are asked": (hello() + message(b"ask", items((b"all", b"facts", GOOD))), 1, "no items"),
     "no number of cells": (hello() + message(b"ask", items((b"all", b"tell", b"7"))), 1, "no number of cells"),
     "too many cells": (hello() + message(b"ask", items((b"all", b"tell", b"999999999"))), 1, "no number of cells"),
-    "no sketch": (hello() + message(b"ask", items((b"all", b"sketch", b"x\n"))), 1, "version"),
     "no facts": (hello() + message(b"take", items((b"all", b"facts", b"x"))), 1, "all from the caller: not JSON"),
     "facts of another log": (hello() + message(b"take", items((b"all", b"facts", OTHER))), 1, 'other log: "h"'),
     "facts and none": (hello() + message(b"take", items((b"all", b"facts", GOOD), (b"all", b"facts", b"{"))), 1, "not JSON"),
@@ -536,6 +538,13 @@ def test_a_caller_that_lies(sites, kind):
     assert answer.status == status and part in answer.output.decode(), answer
     assert answer.error == b"" and (b"fault" in answer.output.splitlines()[0] or b"\nfault " in answer.output)
     assert sorted((each.name, each.read_bytes()) for each in sites.path.iterdir()) == before
+
+
+def test_a_caller_that_sends_no_sketch(sites):
+    """It is told so of this part, as of one that is damaged here."""
+    sites.put("here.cadf", facts(1))
+    told = "1 the sketch of all from the caller: version" + CAME_SO.rstrip()
+    assert sites.served(hello() + message(b"ask", items((b"all", b"sketch", b"x\n")))) == (0, FIRST.replace(b"60", b"20") + message(b"answer", items((b"all", b"fault", told.encode()))), b"")
 
 
 @pytest.mark.parametrize("log", ["\0", "\ud800", "", "x" * 1025])
@@ -761,7 +770,7 @@ def test_a_damaged_window_is_left_out(folders, way, damaged, kind):
     assert answer.status == 1 and b"; 2 of 4 windows differed; 1 were left out; " in answer.output, answer
     lines = said(answer).splitlines(True)
     assert lines[0].startswith("cadf-sync: left out %s: %s%s%s: %s" % (window, "there/: " if damaged == "there/" else "", damaged, each, part)), answer
-    assert lines[1:] == ["cadf-sync: left out 1 of 2 windows that differ: mend them, or restore them as the guide says under `A damaged site`, and make the call again\n"]
+    assert lines[1:] == ["cadf-sync: left out 1 of 2 windows that differ: mend each at the end that its line names, or restore it as the guide says under `A damaged site`, and make the call again\n"]
     (folders.path / damaged / each).unlink(missing_ok=True)
     (folders.path / damaged / each).write_bytes(data)
     for name in old:
@@ -787,6 +796,19 @@ def test_a_damaged_window_of_several_files_is_left_out(folders, way, damaged):
     peer = "there/: " if damaged == "there/" else ""
     assert answer.status == 1 and said(answer).startswith("cadf-sync: left out 2024-03-02: %s%s: %s" % (peer, path.relative_to(folders.path), DAMAGED)), answer
     assert folders.files("here/").keys() >= {each for each in folders.files("there/") if each.startswith("2024-03-03")} != set()
+
+
+def test_a_bad_inventory_leaves_out_its_window(folders):
+    """What the peer sends of the others is taken."""
+    parts = {part.encode(): file_of("g", own) for part, own in parts_of(facts(1, 2), "day").items()}
+    shared, bad, good = sorted(parts, key=lambda part: (part != b"shared", part))
+    folders.put("here/", facts(1))
+    listed = b"".join(b"W %s %s\n" % (part, DIGEST if part == bad else parts[part][-65:-1]) for part in (shared, bad, good))
+    (folders.path / "lie").write_bytes(first(unit="day") + message(b"list", listed) + message(b"answer", items(
+        (good, b"facts", parts[good]), (bad, b"none", b""), (bad, b"inventory", inventory_of("g", [])[:-2] + b"x\n"))))
+    answer = folders.sync(folders.far("says", folders.path / "lie"), "here/", "h:there/")
+    assert answer.status == 1 and folders.holds("here/") == facts(1, 2)
+    assert said(answer).splitlines()[0] + "\n" == "cadf-sync: left out 2024-03-02: the inventory of 2024-03-02 from h:there/: digest" + CAME_SO
 
 
 @pytest.mark.parametrize("there", ["there/", "h:there/"])
