@@ -11,7 +11,7 @@ from install import sbom
 
 # The pages keep the places that they name each other by, so TOP=PREFIX/share/doc/cadf serves the commands that they show.
 DOC = "share/doc/cadf"
-PAGES = ("README.md", "CHANGELOG.md", "bench/RESULTS.md")
+PAGES = ("README.md", "CHANGELOG.md", "CONTRIBUTING.md", "bench/RESULTS.md")
 # These examples need tests/, which is not installed.
 NOT_INSTALLED = ("examples/bus-settings.py", "examples/bus-week.py", "examples/many-sites.py", "examples/parcelled.py")
 ZSH = "share/zsh/site-functions"

@@ -28,7 +28,7 @@ share/cadf/cadf_keys.py share/cadf/cadf_link.py share/cadf/cadf_logs.py share/ca
 share/cadf/report/conflicts.js share/cadf/report/events.js share/cadf/report/filters.js share/cadf/report/guard.js
 share/cadf/report/page.css share/cadf/report/page.html share/cadf/report/page.js share/cadf/report/pairs.js
 share/cadf/report/sites.js share/cadf/report/timeline.js share/cadf/report/values.js
-share/doc/cadf/installed share/doc/cadf/README.md share/doc/cadf/CHANGELOG.md share/doc/cadf/bench/RESULTS.md
+share/doc/cadf/installed share/doc/cadf/README.md share/doc/cadf/CHANGELOG.md share/doc/cadf/CONTRIBUTING.md share/doc/cadf/bench/RESULTS.md
 share/doc/cadf/sbom.spdx.json
 """
 UNITS = {".service": "lib/systemd/system/%s.service", ".timer": "lib/systemd/system/%s.timer",
@@ -105,13 +105,18 @@ def test_tool(run, prefix, tool):
     assert (prefix / "share/man/man1" / (tool + ".1")).read_text() == ".so man1/cadf.1\n"
 
 
+def test_links(prefix):
+    """What an installed page links to is there beside it."""
+    dead = [(path.name, link) for path in (prefix / "share/doc/cadf").rglob("*.md")
+            for link in re.findall(r"\]\(([^):#]+)[)#]", path.read_text(encoding="utf-8")) if not (path.parent / link).exists()]
+    assert dead == []
+
+
 @pytest.mark.parametrize("name", GUIDES)
 def test_guide(prefix, name):
-    """What a guide links to, and the examples that it names, are there beside it."""
+    """The examples that a guide names are there beside it."""
     doc = prefix / "share" / "doc" / "cadf"
     text = (doc / "docs" / (name + ".md")).read_text(encoding="utf-8")
-    for link in re.findall(r"\]\(([^):#]+)", text):
-        assert (doc / "docs" / link).exists()
     for example in re.findall(r"(?:\$TOP\"?/|`(?=examples/))([A-Za-z0-9./-]*)", text):
         assert (doc / example).exists(), example
 
