@@ -23,7 +23,7 @@ import stat
 import subprocess
 import tempfile
 
-from cadf_toolkit import (CADF, FAILED, LARGEST, REFUSED, Fault, Input, Refusal, cadf, check_end, check_lock, log_name, name_shown,
+from cadf_toolkit import (CADF, FAILED, IN_THE_WAY, LARGEST, REFUSED, Fault, Input, Refusal, cadf, check_end, check_lock, log_name, name_shown,
                           open_descriptor, opened_file, other_log, say, started_cadf, sync, wait_for_lock)
 
 UNITS = {"month": len("2024-03"), "day": len("2024-03-01"), "hour": len("2024-03-01T12")}  # with the length of a window's name
@@ -506,6 +506,8 @@ class Taking:
         if left:
             os.fsync(self.folder.descriptor)  # a call that was killed may have put the `site` there that no longer names them
         strangers += [name for name in left if not self.is_removed(name)]
+        if WORKING in strangers:
+            raise Fault("%s: %s" % (self.folder.shown(WORKING), IN_THE_WAY))
         for name in sorted(strangers)[:MOST_STRANGERS]:
             say("%s: no file of the site: it is passed over" % self.folder.shown(name))
         if len(strangers) > MOST_STRANGERS:

@@ -31,6 +31,7 @@ BEGUN, QUIET, BETWEEN_LINES = time.monotonic(), 2, 0.2  # seconds before progres
 CLEARED = "\r\x1b[K"  # what empties the line of a terminal
 NOT_REGULAR = "not a regular file; what a pipe brings is taken from standard input, as `-`"
 NO_ROOM = ": make room there, or name another folder by TMPDIR"
+IN_THE_WAY = "in the way of a new file: move it away, and make the call again"
 OUT_OF_MEMORY = "out of memory"  # made once: no text is made while memory is out
 
 # What else a file may be, by its first bytes, and what reads it.
@@ -527,13 +528,17 @@ def check_lock(file, path, name=None, folder=None):
 def new_file(name, inputs):
     """A new private file. What a killed call left there goes first; unless it was renamed, the file goes at the end.
 
-    Fault: it is one of the inputs. OSError: it can't be made.
+    Fault: it is one of the inputs, or a folder. OSError: it can't be made.
     """
-    with contextlib.suppress(FileNotFoundError):
+    try:
         for each in inputs:
             if os.path.samestat(os.lstat(name), os.fstat(each.file.fileno())):
                 raise Fault("%s: the union is written there; rename it first" % each.name, USAGE)
         os.unlink(name)
+    except FileNotFoundError:
+        pass
+    except IsADirectoryError:
+        raise Fault("%s: %s" % (name_shown(name), IN_THE_WAY)) from None
     with open_descriptor(os.open(name, os.O_WRONLY | os.O_CREAT | os.O_EXCL, 0o600)) as file:
         try:
             yield file

@@ -351,6 +351,17 @@ def test_words(site):
     assert os.listdir(site.folder) == []
 
 
+def test_a_folder_in_the_way_of_new_files(site):
+    """It is no stranger that a take could pass over, and nothing changes."""
+    site.takes(contents(1))
+    (site.folder / ".new").mkdir()
+    before = site.listed()
+    for options, files in ([], [site.put(contents(2))]), (["--settle"], []):
+        answer = site.take(*options, files=files)
+        assert answer == (3, b"", ("cadf-take: %s/.new: in the way of a new file: move it away, and make the call again\n" % site.folder).encode())
+    assert site.listed() == before
+
+
 def test_strangers_are_named_and_passed_over(site):
     site.takes(contents(1))
     strangers = ["stranger", "2024-03-01.txt", "\u0662024-03-01.%064d.cadf" % 0, "site.before"]

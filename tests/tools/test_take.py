@@ -124,6 +124,14 @@ def test_behind_a_killed_run(folder):
     leaves(folder.both, folder.one)
 
 
+def test_a_folder_in_the_way(folder):
+    folder.site(site=folder.one)
+    os.mkdir("s.cadf.new")
+    ends(folder.take("s.cadf", "two.json"), 3, "cadf-take: s.cadf.new: in the way of a new file: move it away, and make the call again\n")
+    os.rmdir("s.cadf.new")
+    leaves(folder.one)
+
+
 def test_event_by_itself(folder):
     ends(folder.take("--log", "g", "s.cadf", "event.json"), 0)
     leaves(folder.one)
