@@ -23,7 +23,7 @@ def agree():
 
 def peeled(agree, data, cells):
     """What cadf-agree finds in a sketch's cells, in which there is nothing of its own."""
-    sketch = agree.Sketch(types.SimpleNamespace(whole=lambda: data))
+    sketch = agree.Sketch(types.SimpleNamespace(first=lambda _: data))
     sketch.cells = list(cells)
     return {line.rstrip(b"\n") for line in sketch.apart([0] * len(cells))}
 

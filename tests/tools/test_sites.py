@@ -404,6 +404,19 @@ def test_agree_by_sketches(sites):
     assert sites.tool("agree", "a", "bad.sketch", "cut.sketch") == (1, b"", ["bad.sketch: line 124: unended", "cut.sketch: truncated"])
 
 
+def test_agree_by_a_large_sketch(sites):
+    """One of more than 30,000 cells isn't read, so none is asked for."""
+    for cells in (30000, 60000):
+        sites.cadf("%d.sketch" % cells, "sketch", "--cells", str(cells), "site")
+    said = ["60000.sketch: a sketch of more than 30000 cells: ask for its site's inventory"]
+    assert sites.tool("agree", "site", "30000.sketch", "60000.sketch") == (1, b"", said)
+    put("many.json", document([dict(id="e%d" % number) for number in range(30000)]))
+    sites.cadf("few.sketch", "sketch", "--cells", "3", "many.json")
+    sites.cadf("a.inventory", "inventory", "a")
+    for name in ("a", "a.inventory"):
+        assert sites.tool("agree", name, "few.sketch") == (1, b"", ["few.sketch: too few cells: ask for its inventory"])
+
+
 def put_many():
     """Puts two documents that differ in more than the first sketch of them shows."""
     for name, numbers in (("many", range(900)), ("more", range(80, 950))):
