@@ -149,6 +149,24 @@ def test_a_site_to_take_from_that_is_not_there(sites, words, name):
     assert os.listdir(sites.path) == ["there.cadf"]
 
 
+@pytest.mark.needs("unshare")
+@pytest.mark.parametrize("here", ["still/here.cadf", "still/"])
+def test_a_site_here_that_cannot_be_written_to(folders, here):
+    """The other one gets what it lacks all the same."""
+    if here != "still/":
+        (folders.path / "still").mkdir()
+    folders.put(here, facts(1, 2))
+    folders.put("there.cadf", facts(2, 3))
+    words = [sys.executable, os.path.join(folders.tools, "cadf-sync"), here, "there.cadf"]
+    answer = ended("unshare", ["-rm", "sh", "-c", "mount --bind still still && mount -o remount,bind,ro still && exec \"$@\"", "-", *words],
+                   env=folders.environment(), cwd=folders.path)
+    if b"unshare:" in answer.error or b"mount:" in answer.error:
+        pytest.skip("no file system of one's own can be mounted")
+    assert answer.status == 1 and answer.output.startswith(b"took 0 facts here, 2 there; ")
+    assert said(answer).startswith("cadf-sync: %s: it can't be written to, so nothing was brought here; the other site got what it lacked: " % here)
+    assert folders.holds(here) == facts(1, 2) and folders.holds("there.cadf") == facts(1, 2, 3)
+
+
 def test_since_leaves_older_windows(sites):
     sites.put("here.cadf", facts(1, 10))
     sites.put("there.cadf", facts(2, 11))
