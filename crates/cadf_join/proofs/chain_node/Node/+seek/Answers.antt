@@ -1,4 +1,5 @@
-use Rattle.std.proofs.Common.{◌≡◌, true, refl, ap, sym, subst, ◌∙◌, string_bytes, ◌∷◌, []}
+use Rattle.std.proofs.lemmas.Grind.{common_steps}
+use Rattle.std.proofs.Common.{◌≡◌, true, refl, ap, sym, subst, ◌∙◌, string_bytes, ◌∷◌, [], arith}
 use Rattle.std.specs.Prelude.{◌&&◌, map, Some, IfOk}
 use Rattle.std.specs.declared.cmp.Ordering.TheVariants.{Less, Equal, Greater}
 use Rattle.std.specs.List.{find}
@@ -54,9 +55,7 @@ seek-returns-then-branch t c =
     let all : find p (set.rising c.args.self.now) ≡ seeks.or_else (find p (map (λ x. k ∷ x) cs)) (find p (behind c.next.new.self)) =
     sym (sym (seeks.find_behind p (c.in-Some.text.now, c.in-Some.child.now) c.next.new.self) ∙ ap (λ es. find p (behind es)) (sym c.in-Some.ensures.steps)
     ∙ c.loop-text.invariant.to_come) in
-    subst (λ old. Follows (find p (set.rising c.args.self.now)) true old c.seek_behind.new.path.items) c.loop-text.invariant.path
-    (seeks.follows_as _ _ true _ _ (sym all) (seeks.found_here _ (find p (behind c.next.new.self)) c.in_ok-seek_behind.field-0 _ _
-    (seeks.follows_as _ _ c.in_ok-seek_behind.field-0 _ _ here c.in_ok-seek_behind.ensures) c.if-branch.true))
+    grind (arith, common_steps)
 
 pub seek-loop-text-preserved : goal.seek-loop-text-preserved
 seek-loop-text-preserved t c =
