@@ -1,4 +1,5 @@
 -- A text is canonical if and only if it is written as its tokens are, and these are in order.
+use Rattle.std.proofs.lemmas.Grind.{common_steps}
 use Rattle.std.proofs.Common.{ap₂, ◌≢◌, ◌≡◌, ℕ, ◌≤◌, List, [], ◌∷◌, ◌++◌, Option, Some, refl, sym, ap, ◌∙◌, subst, arith, append-nil}
 use Rattle.json.specs.Token.{Token, bad}
 use Rattle.json.specs.Lex.{tokens}
@@ -93,8 +94,7 @@ no_bad ts xs ys e h = bad_printable xs ys (subst ArePrintable e h)
 pub not_respelled : (n : ℕ) (s : List ℕ) → (ArePrintable (tokens s) → s ≢ print (tokens s)) → ¬ IsCanonicalWithin n s
 not_respelled n s h (d, v, deep, e) =
     let ts = canonical_tokens s d v e in
-    let printable = ArePrintable-json_tokens (outline d) (HasNumbers-outline d v.0) in
-    h (subst ArePrintable (sym ts) printable) (e ∙ sym (print-outline d) ∙ ap print (sym ts))
+    grind (arith, common_steps, ArePrintable-json_tokens, HasNumbers-outline, print-outline)
 
 pub not_ordered : (m n : ℕ) (s : List ℕ) → ((d : Data) → IsValue d → depth d ≤ n → depth d ≤ m) → IsUnordered m (tokens s) → ¬ IsCanonicalWithin n s
 not_ordered m n s within h (d, v, deep, e) = h (outline d) [] (canonical_value m s d v (within d v deep) e) (normal_outline d v.0)
@@ -104,9 +104,7 @@ pub not_ended : (m n : ℕ) (s : List ℕ) (t : Token) (r : List Token) → ((d 
 not_ended m n s t r within h (d, v, deep, e) =
     let other : ◌≡◌ {A = Option (json.Json × List Token)} (Some (outline d, [])) (Some (h.0, t ∷ r)) =
     sym (canonical_value m s d v (within d v deep) e) ∙ h.1 in
-    let same : ◌≡◌ {A = json.Json × List Token} (outline d, []) (h.0, t ∷ r) = cc in
-    let ends : [] ≡ t ∷ r = ap (λ x. x.1) same in
-    absurd cc
+    grind (arith, common_steps)
 
 pub is_canonical_within : (m n : ℕ) (s : List ℕ) → m ≤ 127 → m ≤ n → s ≡ print (tokens s) → IsOrdered m (tokens s) [] → IsCanonicalWithin n s
 is_canonical_within m n s small within spelled h =
@@ -114,6 +112,4 @@ is_canonical_within m n s small within spelled h =
     let normal = h.2 in
     let ts : tokens s ≡ json_tokens j = value-json_tokens_back m (tokens s) [] j h.1 ∙ append-nil _ in
     let shallow = value-depth m (tokens s) [] j h.1 in
-    let same = ap tree.depth (outline-data_in j normal) in
-    let deep : depth (data_in j) ≤ m = omega (arith, shallow, same, depth-outline (data_in j)) in
-    (data_in j, (IsWhole-data_in j normal, omega (arith, deep, small)), omega (arith, deep, within), spelled ∙ ap print ts ∙ print-settled j normal)
+    grind (arith, common_steps, outline-data_in, depth-outline, IsWhole-data_in, print-settled)

@@ -1,5 +1,31 @@
 -- Nodes that are copied with members in order: the loops over items and over members.
-use Rattle.std.proofs.Common.{◌≡◌, ℕ, ◌+◌, ◌-◌, ◌<◌, ◌≤◌, List, [], ◌∷◌, ◌++◌, length, set, drop, refl, sym, ap, ap₂, ◌∙◌, subst, arith, inl, inr, append_assoc, append-nil, length-append}
+use Rattle.std.proofs.lemmas.Grind.{common_steps}
+use Rattle.std.proofs.Common.{
+  ◌≡◌,
+  ℕ,
+  ◌+◌,
+  ◌-◌,
+  ◌<◌,
+  ◌≤◌,
+  List,
+  [],
+  ◌∷◌,
+  ◌++◌,
+  length,
+  set,
+  drop,
+  refl,
+  sym,
+  ap,
+  ◌∙◌,
+  subst,
+  arith,
+  inl,
+  inr,
+  append_assoc,
+  append-nil,
+  length-append,
+}
 use Rattle.std.specs.Prelude.{slice_index_or}
 use Rattle.serde_json.specs.Data.{Data, null, boolean, number, string, array, object, Items, no_items, Members, no_members, member}
 use Rattle.cadf_json.specs.declared.node.Extent.{Extent}
@@ -37,25 +63,14 @@ begun t (array ds) xs (e, (ys, (is, extent, h))) = (Array e, (ys, (is, (ds, (ref
 begun t (object ms) xs (e, (ys, (is, extent, h))) = (Object e, (ys, (is, (ms, (refl, h)))))
 
 pub nonempty : (t : List ℕ) (d : Data) (xs : List Node) → Stands t d xs → xs ≡ slice_index_or xs 0 Null ∷ tail_of xs
-nonempty t d xs h =
-    let b = begun t d xs h in
-    b.1.1.0 ∙ ap₂ (λ x ys. x ∷ ys) (sym (ap (λ ns. slice_index_or ns 0 Null) b.1.1.0)) (sym (tail_is b.0 xs b.1.0 b.1.1.0))
+nonempty t d xs h = grind (arith, common_steps, begun, tail_is)
 
 pub begun_by : (t : List ℕ) (d : Data) (xs : List Node) (x : Node) → Stands t d xs → slice_index_or xs 0 Null ≡ x → Begun t x d (tail_of xs)
-begun_by t d xs x h is =
-    let b = begun t d xs h in
-    subst (λ y. Begun t y d (tail_of xs)) (sym (ap (λ ns. slice_index_or ns 0 Null) b.1.1.0) ∙ is)
-    (subst (Begun t b.0 d) (sym (tail_is b.0 xs b.1.0 b.1.1.0)) b.1.1.1)
+begun_by t d xs x h is = grind (arith, common_steps, begun, tail_of, tail_is)
 
 pub scalar_begun : (t : List ℕ) (x : Node) (d : Data) (ys : List Node) → Begun t x d ys → ((e : Extent) → x ≡ Array e → ⊥)
     → ((e : Extent) → x ≡ Object e → ⊥) → (ys ≡ []) × (settled d ≡ d)
-scalar_begun t Null d ys h no_list no_object = h
-scalar_begun t (Truth b) d ys h no_list no_object = h
-scalar_begun t (Whole p) d ys h no_list no_object = h
-scalar_begun t Fraction d ys h no_list no_object = h
-scalar_begun t (Text p) d ys h no_list no_object = h
-scalar_begun t (Array e) d ys h no_list no_object = absurd (no_list e refl)
-scalar_begun t (Object e) d ys h no_list no_object = absurd (no_object e refl)
+scalar_begun t x d ys h no_list no_object = grind (arith, common_steps)
 
 pub place_within : (old out xs : List Node) (place : ℕ) → out ≡ old ++ Null ∷ xs → place ≡ length old → place < length out
 place_within old out xs place is at = let long = ap length is ∙ length-append old (Null ∷ xs) in omega (arith, long, at)

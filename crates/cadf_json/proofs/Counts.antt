@@ -1,7 +1,8 @@
 -- The first node of a list or an object has the count of its items or members.
-use Rattle.std.proofs.Common.{◌≡◌, ℕ, suc, List, length, refl, sym, ap, ◌∙◌, inl, inr}
+use Rattle.std.proofs.lemmas.Grind.{common_steps}
+use Rattle.std.proofs.Common.{◌≡◌, ℕ, suc, List, length, refl, sym, ap, ◌∙◌, arith}
 use Rattle.std.specs.Prelude.{slice_index_or}
-use Rattle.serde_json.specs.Data.{Data, null, boolean, number, string, array, object, Items, no_items, item, Members, no_members, member}
+use Rattle.serde_json.specs.Data.{Data, Items, no_items, item, Members, no_members, member}
 use Rattle.cadf_json.specs.Parts.{to_list, values_of, parts_in}
 use Rattle.cadf_json.specs.declared.node.Extent.{Extent}
 use Rattle.cadf_json.specs.declared.node.Node.{Node}
@@ -30,13 +31,7 @@ abbrev first_count : List Node → ℕ
 first_count xs = count_in (slice_index_or xs 0 Null)
 
 counts : (t : List ℕ) (d : Data) (xs : List Node) → Stands t d xs → first_count xs ≡ length (parts_in d)
-counts t null xs h = ap first_count h
-counts t (boolean b) xs h = ap first_count h
-counts t (number n) xs (inl (p, (is, at, whole))) = ap first_count is
-counts t (number n) xs (inr (is, odd)) = ap first_count is
-counts t (string s) xs (p, (is, at)) = ap first_count is
-counts t (array ds) xs (e, (ys, (is, extent, h))) = ap first_count is ∙ extent.1 ∙ count_items ds
-counts t (object ms) xs (e, (ys, (is, extent, h))) = ap first_count is ∙ extent.1 ∙ count_members ms
+counts t d xs given = grind (arith, common_steps, count_items, count_members)
 
 pub list_count : (t : List ℕ) (d : Data) (xs : List Node) (e : Extent) → Stands t d xs → slice_index_or xs 0 Null ≡ Array e → e.count ≡ length (parts_in d)
 list_count t d xs e h is = sym (ap count_in is) ∙ counts t d xs h

@@ -1,8 +1,9 @@
 -- The value that nodes are is determined by them, and so is whether a number of it isn't whole.
-use Rattle.std.proofs.Common.{◌≡◌, ℕ, List, [], ◌++◌, Bool, true, false, ◌||◌, refl, sym, ap, ap₂, ◌∙◌, inl, inr, append_assoc, append-nil}
+use Rattle.std.proofs.lemmas.Grind.{common_steps}
+use Rattle.std.proofs.Common.{◌≡◌, ℕ, List, [], ◌++◌, Bool, false, ◌||◌, refl, sym, ap, ap₂, ◌∙◌, inl, inr, append_assoc, append-nil, arith}
 use Rattle.std.proofs.lemmas.Bool.{or_parts}
 use Rattle.std.proofs.Math.Bool.{or-false}
-use Rattle.serde_json.specs.Data.{Num, unsigned, negative, float, Data, null, boolean, number, string, array, object, Items, no_items, item, Members, no_members, member}
+use Rattle.serde_json.specs.Data.{Num, Data, null, boolean, number, string, array, object, Items, no_items, item, Members, no_members, member}
 use Rattle.serde_json.specs.Find.{is_float}
 use Rattle.serde_json.specs.Written.{has_float, items_have_float, members_have_float}
 use Rattle.cadf_json.specs.Value.{IsWholeNumber, IsWhole}
@@ -77,13 +78,10 @@ module _ (t : List ℕ) where
 -- ---- fractions
 
 no_float : (n : Num) → IsWholeNumber n → is_float n ≡ false
-no_float (unsigned n) h = refl
-no_float (negative z) h = refl
-no_float (float x) h = absurd h
+no_float n h = grind (arith, common_steps)
 
 or_assoc : (a b c : Bool) → (a || (b || c)) ≡ ((a || b) || c)
-or_assoc true b c = refl
-or_assoc false b c = refl
+or_assoc a b c = grind (arith, common_steps)
 
 module _ (t : List ℕ) where
   number_fraction : (n : Num) (xs ys : List Node) → NumberStands t n xs → have_fraction (xs ++ ys) ≡ (is_float n || have_fraction ys)

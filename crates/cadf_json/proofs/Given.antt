@@ -1,5 +1,6 @@
 -- Properties of an optional value, if there is one.
-use Rattle.std.proofs.Common.{Option, Some, None, option_map, option_and_then}
+use Rattle.std.proofs.lemmas.Grind.{common_steps}
+use Rattle.std.proofs.Common.{Option, Some, None, option_map, option_and_then, arith}
 use Rattle.std.specs.Prelude.{⊤}
 
 -- the value, if there is one, has the property
@@ -8,14 +9,11 @@ Given P None = ⊤
 Given P (Some a) = P a
 
 pub Given-same : {A : Type 0} (P Q : A → Type 0) → ((a : A) → P a → Q a) → (o : Option A) → Given P o → Given Q o
-Given-same P Q step None h = tt
-Given-same P Q step (Some a) h = step a h
+Given-same P Q step o h = grind (arith, common_steps)
 
 pub Given-map : {A B : Type 0} (P : A → Type 0) (Q : B → Type 0) (f : A → B) → ((a : A) → P a → Q (f a)) → (o : Option A) → Given P o → Given Q (option_map f o)
-Given-map P Q f step None h = tt
-Given-map P Q f step (Some a) h = step a h
+Given-map P Q f step o h = grind (arith, common_steps)
 
 pub Given-and_then : {A B : Type 0} (P : A → Type 0) (Q : B → Type 0) (f : A → Option B) → ((a : A) → P a → Given Q (f a)) → (o : Option A) → Given P o
     → Given Q (option_and_then f o)
-Given-and_then P Q f step None h = tt
-Given-and_then P Q f step (Some a) h = step a h
+Given-and_then P Q f step o h = grind (arith, common_steps)

@@ -1,10 +1,11 @@
 -- Items and members that are checked in order, one at a time.
+use Rattle.std.proofs.lemmas.Grind.{common_steps}
 use Rattle.std.proofs.Common.{◌≡◌, ℕ, zero, suc, ◌-◌, ◌<◌, ◌≤◌, List, ◌∷◌, length, IsUtf8}
 use Rattle.std.proofs.Common.{true, false, Option, Some, None, refl, sym, ap, ◌∙◌, subst, arith}
 use Rattle.std.specs.Prelude.{option_and_then}
 use Rattle.std.specs.Ordering.{is_lt}
 use Rattle.std.specs.declared.cmp.Ordering.{Ordering}
-use Rattle.std.specs.declared.cmp.Ordering.TheVariants.{Less, Equal, Greater}
+use Rattle.std.specs.declared.cmp.Ordering.TheVariants.{Less}
 use Rattle.json.specs.Token.{Token}
 use Rattle.json.specs.Json.{
   value,
@@ -23,7 +24,6 @@ use Rattle.json.specs.Json.{
   after_end_array,
   read_key,
   items_step,
-  members_step,
   items,
   members,
 }
@@ -42,9 +42,7 @@ use Rattle.cadf_json.specs.Canonical.{
 }
 
 less_from : (o : Ordering) → is_lt o ≡ true → o ≡ Less
-less_from Less h = refl
-less_from Equal h = absurd (cc)
-less_from Greater h = absurd (cc)
+less_from o h = grind (arith, common_steps)
 
 first_of : {A : Type 0} (a b : A) (r s : List Token) → ◌≡◌ {A = Option (A × List Token)} (Some (a, r)) (Some (b, s)) → a ≡ b
 first_of {A} a b r s e = let same : ◌≡◌ {A = A × List Token} (a, r) (b, s) = cc in ap (λ x. x.0) same
@@ -122,18 +120,15 @@ RisesAfter None ms = MembersRise ms
 RisesAfter (Some l) ms = MembersAreNormalized ms × RisesFrom l (named_in ms)
 
 rise_none : (last : Option (List ℕ)) → RisesAfter last no_members
-rise_none None = (tt, tt)
-rise_none (Some l) = (tt, tt)
+rise_none last = grind (arith, common_steps)
 
 rise_more : (last : Option (List ℕ)) (k : List ℕ) (j : Json) (ms : Members) → IsUtf8 k → IsNormalized j → is_name_above last k ≡ true
     → RisesAfter (Some k) ms → RisesAfter last (member k j ms)
-rise_more None k j ms u n a h = ((u, n, h.0), h.1)
-rise_more (Some l) k j ms u n a h = ((u, n, h.0), (less_from _ a, h.1))
+rise_more last k j ms u n a h = grind (arith, common_steps, less_from)
 
 rise_first : (last : Option (List ℕ)) (k : List ℕ) (j : Json) (ms : Members) → RisesAfter last (member k j ms)
     → IsNormalized j × (is_name_above last k ≡ true) × RisesAfter (Some k) ms
-rise_first None k j ms h = (h.0.1, refl, (h.0.2, h.1))
-rise_first (Some l) k j ms h = (h.0.1, ap is_lt h.1.0, (h.0.2, h.1.1))
+rise_first last k j ms h = grind (arith, common_steps)
 
 first_member : (last : Option (List ℕ)) (k : List ℕ) (j : Json) (o : Option (Members × List Token)) (ms : Members) (s : List Token)
     → parse_map (member k j) o ≡ Some (ms, s) → RisesAfter last ms
@@ -155,9 +150,7 @@ found_member last k more (Some q) ms s e h = let f = first_member last k q.0 (mo
 next_member : (p : Parse Json) (n : ℕ) (now s : List Token) (k : List ℕ) (last : Option (List ℕ)) (ms : Members) (r : List Token)
     → read_key now ≡ Some (Some k, s) → members p n now ≡ Some (ms, r) → RisesAfter last ms → IsNext last k (p s)
 unfolding members
-next_member p zero now s k last ms r key e h = absurd cc
-next_member p (suc n) now s k last ms r key e h =
-    found_member last k (members p n) (p s) ms r (ap (option_and_then (λ q. members_step p (members p n) q.0 q.1)) (sym key) ∙ e) h
+next_member p n now s k last ms r key e h = grind (arith, common_steps, found_member)
 
 -- what the members from `now` on are, all are
 pub record MembersInOrder (p : Parse Json) (start now : List Token) (last : Option (List ℕ)) : Type 0 where
@@ -219,8 +212,7 @@ pub none_unordered : (depth : ℕ) (ts : List Token) → value depth ts ≡ None
 none_unordered depth ts none j rest e n = let bad : ◌≡◌ {A = Option (Json × List Token)} None (Some (j, rest)) = sym none ∙ e in absurd cc
 
 pub number_unordered : (depth : ℕ) (ts rest : List Token) (s : List ℕ) → ts ≡ Token.number s ∷ rest → ¬ IsWholeText s → IsUnordered depth ts
-number_unordered depth ts rest s is other j r e n =
-    other (subst IsNormalized (sym (first_of (number s) j rest r (sym (ap (value depth) is ∙ value_is depth (Token.number s ∷ rest)) ∙ e))) n)
+number_unordered depth ts rest s is other j r e n = grind (arith, common_steps, first_of, value_is)
 
 array_at : (o : Option (Items × List Token)) (j : Json) (r : List Token) → ((js : Items) (s : List Token) → o ≡ Some (js, s) → ¬ ItemsAreNormalized js)
     → parse_map array o ≡ Some (j, r) → ¬ IsNormalized j
@@ -229,8 +221,7 @@ array_at (Some q) j r bad e n = bad q.0 q.1 refl (subst IsNormalized (sym (first
 
 pub array_unordered : (depth : ℕ) (ts rest : List Token) → 0 < depth → ts ≡ Token.begin_array ∷ rest → AreItemsUnordered (depth - 1) rest
     → IsUnordered depth ts
-array_unordered depth ts rest some is bad j r e n =
-    array_at (items (value (depth - 1)) (length rest) rest) j r bad (sym (ap (value depth) is ∙ value-begin_array depth rest some) ∙ e) n
+array_unordered depth ts rest some is bad j r e n = grind (arith, common_steps, array_at, value-begin_array)
 
 pub array_ordered : (depth : ℕ) (ts rest r : List Token) → 0 < depth → ts ≡ Token.begin_array ∷ rest → AreItemsOrdered (depth - 1) rest r
     → IsOrdered depth ts r
@@ -244,8 +235,7 @@ object_at (Some q) j r bad e n = bad q.0 q.1 refl (subst IsNormalized (sym (firs
 
 pub object_unordered : (depth : ℕ) (ts rest : List Token) → 0 < depth → ts ≡ Token.begin_object ∷ rest → AreMembersUnordered (depth - 1) rest
     → IsUnordered depth ts
-object_unordered depth ts rest some is bad j r e n =
-    object_at (members (value (depth - 1)) (length rest) rest) j r bad (sym (ap (value depth) is ∙ value-begin_object depth rest some) ∙ e) n
+object_unordered depth ts rest some is bad j r e n = grind (arith, common_steps, object_at, value-begin_object)
 
 pub object_ordered : (depth : ℕ) (ts rest r : List Token) → 0 < depth → ts ≡ Token.begin_object ∷ rest → AreMembersOrdered (depth - 1) rest r
     → IsOrdered depth ts r

@@ -1,17 +1,16 @@
 -- A member by its name.
-use Rattle.std.proofs.Common.{◌≡◌, ℕ, List, Option, Some, true, false, true≢false, bytes_eq, is_eq, Ordering, Less, Equal, Greater, nat_cmp, refl, sym, ◌∙◌}
+use Rattle.std.proofs.lemmas.Grind.{common_steps}
+use Rattle.std.proofs.Common.{◌≡◌, ℕ, List, Option, Some, true, false, bytes_eq, is_eq, Ordering, nat_cmp, ◌∙◌, arith}
 use Rattle.std.proofs.lemmas.Map.Text.{is_eq-slice_cmp}
 use Rattle.std.specs.Cmp.Lexicographic.{slice_cmp}
 use Rattle.std.specs.Ordering.{match_ordering}
-use Rattle.serde_json.specs.Data.{Data, null, boolean, number, string, array, object, Members, member}
+use Rattle.serde_json.specs.Data.{Data, Members, member}
 use Rattle.serde_json.specs.Find.{get, get_member}
 use Rattle.cadf_json.proofs.Rewriting.{pass_by}
 use Rattle.cadf_json.specs.Parts.{members_in}
 
 here_at : (o : Ordering) (a : Option Data) (e : Data) → is_eq o ≡ true → match_ordering o a (Some e) a ≡ Some e
-here_at Less a e h = absurd (true≢false (sym h))
-here_at Equal a e h = refl
-here_at Greater a e h = absurd (true≢false (sym h))
+here_at o a e h = grind (arith, common_steps)
 
 pub member_here : (k l : List ℕ) (e : Data) (ms : Members) → bytes_eq k l ≡ true → get_member k (member l e ms) ≡ Some e
 member_here k l e ms h = here_at (slice_cmp nat_cmp k l) (get_member k ms) e (is_eq-slice_cmp k l ∙ h)
@@ -20,9 +19,4 @@ pub member_passed : (k l : List ℕ) (e : Data) (ms : Members) → bytes_eq k l 
 member_passed k l e ms h = pass_by k l (get_member k ms) (Some e) h
 
 pub member_in : (k : List ℕ) (d : Data) → get k d ≡ get_member k (members_in d)
-member_in k null = refl
-member_in k (boolean b) = refl
-member_in k (number n) = refl
-member_in k (string s) = refl
-member_in k (array ds) = refl
-member_in k (object ms) = refl
+member_in k d = grind (arith, common_steps)

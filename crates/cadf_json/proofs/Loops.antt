@@ -1,6 +1,7 @@
 -- The loops of the descent: items and members, appended as they are read.
+use Rattle.std.proofs.lemmas.Grind.{common_steps}
 use Rattle.std.proofs.Common.{◌≡◌, ℕ, zero, suc, ◌+◌, ◌-◌, ◌<◌, ◌≤◌, List, [], ◌∷◌, ◌++◌, length, set, Bool, true, ◌&&◌, Option, Some, None, option_map, refl, sym, ap, ap₂, ◌∙◌, subst, arith, append_assoc, append-nil, length-append}
-use Rattle.std.proofs.Common.{Ordering, Less, Equal, Greater, nat_cmp}
+use Rattle.std.proofs.Common.{Ordering, Less, nat_cmp}
 use Rattle.std.specs.Cmp.Lexicographic.{slice_cmp}
 use Rattle.std.proofs.Math.Seq.{set-append_seam}
 use Rattle.json.specs.Token.{Token}
@@ -28,33 +29,20 @@ use Rattle.cadf_json.proofs.Standing.{text_further, items_further, members_furth
 
 too_deep_at : (ts : List Token) → opens ts ≡ true → converted of_json (value 0 ts) ≡ None
 unfolding value
-too_deep_at [] e = absurd cc
-too_deep_at (Token.begin_object ∷ ts) e = refl
-too_deep_at (Token.end_object ∷ ts) e = absurd cc
-too_deep_at (Token.begin_array ∷ ts) e = refl
-too_deep_at (Token.end_array ∷ ts) e = absurd cc
-too_deep_at (Token.key s ∷ ts) e = absurd cc
-too_deep_at (Token.string s ∷ ts) e = absurd cc
-too_deep_at (Token.number s ∷ ts) e = absurd cc
-too_deep_at (Token.boolean b ∷ ts) e = absurd cc
-too_deep_at (Token.null ∷ ts) e = absurd cc
-too_deep_at (Token.bad ∷ ts) e = absurd cc
+too_deep_at ts e = grind (arith, common_steps)
 
 pub too_deep : (depth : ℕ) (ts : List Token) → depth ≡ 0 → opens ts ≡ true → converted of_json (value depth ts) ≡ None
 too_deep depth ts e h = ap (λ n. converted of_json (value n ts)) e ∙ too_deep_at ts h
 
 some_none : (o : Option Data) (r : List Token) → option_map {U = Data × List Token} (λ b. (b, r)) o ≡ None → o ≡ None
-some_none None r e = refl
-some_none (Some d) r e = absurd cc
+some_none o r e = grind (arith, common_steps)
 
 no_item : (j : json.Json) (o : Option (json.Items × List Token)) → of_json j ≡ None → converted of_items (parse_map (json.item j) o) ≡ None
-no_item j None e = refl
-no_item j (Some q) e = rw e refl
+no_item j o e = grind (arith, common_steps)
 
 no_member : (k : List ℕ) (j : json.Json) (got : Members) (o : Option (json.Members × List Token)) → of_json j ≡ None
     → converted (λ ms. of_members ms got) (parse_map (json.member k j) o) ≡ None
-no_member k j got None e = refl
-no_member k j got (Some q) e = rw e refl
+no_member k j got o e = grind (arith, common_steps)
 
 module _ (p : Parse json.Json) where
   item_failed_at : (n : ℕ) (ts : List Token) (o : Option (json.Json × List Token)) → p ts ≡ o → after_end_array ts ≡ None → converted of_json o ≡ None
@@ -105,14 +93,11 @@ pub record ItemsRead (p : Parse json.Json) (start now : List Token) (old nodes :
 -- the list or object that the node at the seam begins
 pub closed_at : (old nodes new xs : List Node) (x : Node) (place : ℕ) → nodes ≡ old ++ Null ∷ xs → place ≡ length old → new ≡ set nodes place x
     → new ≡ old ++ x ∷ xs
-closed_at old nodes new xs x place is at stored =
-    stored ∙ ap (λ n. set nodes n x) at ∙ ap (λ ys. set ys (length old) x) is ∙ set-append_seam old Null xs x
+closed_at old nodes new xs x place is at stored = grind (arith, common_steps, set-append_seam)
 
 pub size_is : (old nodes xs : List Node) (place len size : ℕ) → nodes ≡ old ++ Null ∷ xs → place ≡ length old → len ≡ length nodes → size ≡ len - place
     → size ≡ suc (length xs)
-size_is old nodes xs place len size is at whole e =
-    let long = ap length is ∙ length-append old (Null ∷ xs) in
-    omega (arith, long, at, whole, e)
+size_is old nodes xs place len size is at whole e = grind (arith, common_steps, length-append)
 
 module _ (p : Parse json.Json) (start : List Token) (old : List Node) (t : List ℕ) where
   pub items_start : ItemsRead p start start old (old ++ Null ∷ []) t t 0 true
@@ -199,13 +184,10 @@ IsLast got None = got ≡ no_members
 IsLast got (Some l) = (k : List ℕ) → slice_cmp nat_cmp l k ≡ Less → AreBelow got k
 
 less_from : (o : Ordering) → is_lt o ≡ true → o ≡ Less
-less_from Less h = refl
-less_from Equal h = absurd cc
-less_from Greater h = absurd cc
+less_from o h = grind (arith, common_steps)
 
 below_next : (got : Members) (last : Option (List ℕ)) (k : List ℕ) → IsLast got last → is_name_above last k ≡ true → AreBelow got k
-below_next got None k h above = subst (λ ms. AreBelow ms k) (sym h) tt
-below_next got (Some l) k h above = h k (less_from (slice_cmp nat_cmp l k) above)
+below_next got last k h above = grind (arith, common_steps, AreBelow, less_from, nat_cmp)
 
 -- while the names rise, the members are in order
 pub record AreRising (got : Members) (last : Option (List ℕ)) : Type 0 where
@@ -214,12 +196,7 @@ pub record AreRising (got : Members) (last : Option (List ℕ)) : Type 0 where
 
 pub rises_further : (got : Members) (last : Option (List ℕ)) (k : List ℕ) (d : Data) → AreRising got last → is_name_above last k ≡ true
     → AreRising (joined got (member k d no_members)) (Some k)
-rises_further got last k d h above =
-    let below = below_next got last k h.ends above in
-    record {
-      ends = λ j r. AreBelow-joined got k d j (AreBelow-further got k j below r) r;
-      same = put_last got k d no_members ∙ ap (put k d) h.same ∙ push_if_last got k d below;
-    }
+rises_further got last k d h above = grind (arith, common_steps, below_next, AreBelow-joined, AreBelow-further, put_last, push_if_last)
 
 -- the members that were read, of which the nodes show `shown`
 pub record MembersRead (shown : Members → Members) (p : Parse json.Json) (start now : List Token) (old nodes : List Node) (t u : List ℕ) (count : ℕ)

@@ -1,5 +1,6 @@
 -- A number that is read and is no float is whole, and has one canonical spelling.
-use Rattle.std.proofs.Common.{◌≡◌, List, ℕ, true, false, Option, Some, None, refl, sym, ap, ◌∙◌, subst}
+use Rattle.std.proofs.lemmas.Grind.{common_steps}
+use Rattle.std.proofs.Common.{◌≡◌, List, ℕ, true, false, Option, Some, None, refl, sym, ◌∙◌, subst, arith}
 use Rattle.std.proofs.lemmas.Slice.Eq.{bytes_eq-Decides}
 use Rattle.serde_json.specs.Data.{Num, unsigned, negative, float}
 use Rattle.serde_json.specs.Find.{is_float}
@@ -24,16 +25,12 @@ whole_text s (negative z) e h =
 whole_text s (float x) e h = absurd cc
 
 spelling : (n : Num) (s : List ℕ) → IsWholeNumber n → s ≡ number_text n → is_spelling n s ≡ true
-spelling (unsigned n) s h e = (bytes_eq-Decides (number_text (unsigned n)) s).1 (sym e)
-spelling (negative z) s h e = (bytes_eq-Decides (number_text (negative z)) s).1 (sym e)
-spelling (float x) s h e = absurd h
+spelling n s h e = grind (arith, common_steps, bytes_eq-Decides)
 
 pub no_whole_text : (s : List ℕ) (n : Num) → number_of s ≡ Some n → is_spelling n s ≡ false → ¬ IsWholeText s
 no_whole_text s n e other h =
     let read : ◌≡◌ {A = Option Num} (Some n) (Some h.0) = sym e ∙ number_is s h in
-    let same : n ≡ h.0 = cc in
-    let spelled = ap (λ m. is_spelling m s) same ∙ spelling h.0 s h.1 h.2 in
-    absurd cc
+    grind (arith, common_steps, spelling)
 
 pub no_number : (s : List ℕ) → number_of s ≡ None → ¬ IsWholeText s
 no_number s e h = let read = number_is s h in absurd cc

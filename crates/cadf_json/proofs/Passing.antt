@@ -1,4 +1,5 @@
 -- Items that are visited one after another as they are read.
+use Rattle.std.proofs.lemmas.Grind.{common_steps}
 use Rattle.std.proofs.Common.{◌≡◌, ℕ, ◌-◌, ◌<◌, ◌≤◌, List, [], ◌∷◌, ◌++◌, length, false, Option, Some, None, refl, sym, ap, ◌∙◌, subst, arith}
 use Rattle.std.proofs.lemmas.Bool.{or_parts}
 use Rattle.json.specs.Token.{Token}
@@ -30,8 +31,7 @@ followed-last (item e ds) d rest = ap (item e) (followed-last ds d rest)
 
 pub further : (ds : Items) (d : Data) (r : Option (Items × List Token)) → parse_map (followed ds) (parse_map (item d) r)
     ≡ parse_map (followed (with_last d ds)) r
-further ds d None = refl
-further ds d (Some p) = ap (λ es. Some (es, p.1)) (followed-last ds d p.0)
+further ds d r = grind (arith, common_steps, followed-last)
 
 to_list-last : (ds : Items) (d : Data) → to_list (with_last d ds) ≡ to_list ds ++ d ∷ []
 to_list-last no_items d = refl
@@ -44,8 +44,7 @@ float-last (item e ds) d h k =
     rw (both.0, float-last ds d both.1 k) refl
 
 pub parsed_none : (r : Option (Items × List Token)) → r ≡ parse_map (followed no_items) r
-parsed_none None = refl
-parsed_none (Some p) = refl
+parsed_none r = grind (arith, common_steps)
 
 -- the items that were taken so far
 pub record Passing {T : Type 0} (took : T → List Data → Type 0) (t : T) (p : Parse json.Json) (start now : List Token) : Type 0 where

@@ -2,10 +2,10 @@
 --     mask_of_stops            the mask that three comparisons result in
 --     run_through, run_stops   what an empty mask implies for the run, and what another implies
 --     same_run, spelled_whole  a run is its own spelling, and so is a text that is one run
+use Rattle.std.proofs.lemmas.Grind.{common_steps}
 use Rattle.std.proofs.Common.{
   ◌≡◌,
   ℕ,
-  suc,
   ◌+◌,
   ◌*◌,
   ◌%◌,
@@ -24,7 +24,6 @@ use Rattle.std.proofs.Common.{
   [],
   ◌∷◌,
   map,
-  ◌++◌,
   length,
   take,
   drop,
@@ -62,14 +61,7 @@ abbrev stop_mark : ℕ → ℕ
 stop_mark x = bit_or (bit_or (hit x 34) (hit x 92)) (below x 32)
 
 any_mark : (a b c : Bool) → top 7 (bit_or (bit_or (cond a 255 0) (cond b 255 0)) (cond c 255 0)) ≡ ((a || b) || c)
-any_mark true true true = refl
-any_mark true true false = refl
-any_mark true false true = refl
-any_mark true false false = refl
-any_mark false true true = refl
-any_mark false true false = refl
-any_mark false false true = refl
-any_mark false false false = refl
+any_mark a b c = grind (arith, common_steps)
 
 marks : (v : List ℕ) → map (top 7) (map stop_mark v) ≡ map is_stop v
 marks [] = refl
@@ -95,8 +87,7 @@ pub run_bound : (d : List ℕ) (i : ℕ) → i ≤ length d → i + prefix_len i
 run_bound d i h = omega (arith, prefix_len-le-length is_plain (drop i d), length-drop i d)
 
 none_fails : (b : Bool) (n l m : ℕ) → n ≤ l → cond (not b) (1 + n) 0 ≡ 1 + l → (n ≡ l → m ≡ 0) → cond b 1 0 + 2 * m ≡ 0
-none_fails true n l m le e ih = let no : ⊥ = omega arith in absurd no
-none_fails false n l m le e ih = let z = ih (omega arith) in omega arith
+none_fails b n l m le e ih = grind (arith, common_steps)
 
 all_pass : (xs : List ℕ) → prefix_len is_plain xs ≡ length xs → mask_l (map is_stop xs) ≡ 0
 all_pass [] e = refl
@@ -128,22 +119,14 @@ run_stops d i n room short some =
 -- ---- its spelling
 
 all_false : (a b c : Bool) → not ((a || b) || c) ≡ true → (a ≡ false) × (b ≡ false) × (c ≡ false)
-all_false true b c e = absurd (cc)
-all_false false true c e = absurd (cc)
-all_false false false true e = absurd (cc)
-all_false false false false e = (refl, refl, refl)
+all_false a b c e = grind (arith, common_steps)
 
 plain_byte : (x : ℕ) → is_plain x ≡ true → escape_byte x ≡ x ∷ []
-plain_byte x e =
-    let no = all_false (eqb x 34) (eqb x 92) (ltb x 32) e in
-    escape_byte_plain x (eqb-false x 34 no.0) (eqb-false x 92 no.1) (ltb-false x 32 no.2)
+plain_byte x e = grind (arith, common_steps, all_false, escape_byte_plain, eqb-false, ltb-false)
 
 same_at : (x : ℕ) (xs : List ℕ) (b : Bool) → is_plain x ≡ b → escape (take (prefix_len is_plain xs) xs) ≡ take (prefix_len is_plain xs) xs
     → escape (take (cond b (1 + prefix_len is_plain xs) 0) (x ∷ xs)) ≡ take (cond b (1 + prefix_len is_plain xs) 0) (x ∷ xs)
-same_at x xs true e later =
-    let next : suc (prefix_len is_plain xs) ≡ 1 + prefix_len is_plain xs = omega arith in
-    subst (λ n. escape (take n (x ∷ xs)) ≡ take n (x ∷ xs)) next (λ i. plain_byte x e i ++ later i)
-same_at x xs false e later = refl
+same_at x xs b e later = grind (arith, common_steps, plain_byte)
 
 run_same : (xs : List ℕ) → escape (take (prefix_len is_plain xs) xs) ≡ take (prefix_len is_plain xs) xs
 run_same [] = refl

@@ -1,5 +1,6 @@
 -- The JSON that a UTF-8 text is has UTF-8 texts.
-use Rattle.std.proofs.Common.{ℕ, zero, suc, List, [], ◌∷◌, length, Option, Some, None, option_and_then, IsUtf8}
+use Rattle.std.proofs.lemmas.Grind.{common_steps}
+use Rattle.std.proofs.Common.{ℕ, zero, suc, List, [], ◌∷◌, length, Option, Some, None, option_and_then, IsUtf8, arith}
 use Rattle.std.specs.Prelude.{⊤}
 use Rattle.json.specs.Token.{Token}
 use Rattle.json.specs.Lex.{tokens}
@@ -59,26 +60,14 @@ Reads P parse = (ts : List Token) → HaveUtf8 ts → ReadWell P (parse ts)
 
 mapped : {A B : Type 0} (P : A → Type 0) (Q : B → Type 0) (f : A → B) → ((a : A) → P a → Q (f a)) → (o : Option (A × List Token)) → ReadWell P o
     → ReadWell Q (parse_map f o)
-mapped P Q f step None h = tt
-mapped P Q f step (Some p) h = (step p.0 h.0, h.1)
+mapped P Q f step o h = grind (arith, common_steps)
 
 and_more : {B : Type 0} (Q : B → Type 0) (f : Json → B → B) → ((j : Json) (b : B) → JsonHasUtf8 j → Q b → Q (f j b)) → (more : Parse B) → Reads Q more
     → (o : Option (Json × List Token)) → ReadWell JsonHasUtf8 o → ReadWell Q (option_and_then (λ p. parse_map (f p.0) (more p.1)) o)
-and_more Q f step more reads None h = tt
-and_more Q f step more reads (Some p) h = mapped Q Q (f p.0) (λ b k. step p.0 b h.0 k) (more p.1) (reads p.1 h.1)
+and_more Q f step more reads o h = grind (arith, common_steps, mapped)
 
 ends : (ts : List Token) → HaveUtf8 ts → Given HaveUtf8 (after_end_array ts)
-ends [] h = tt
-ends (Token.begin_object ∷ ts) h = tt
-ends (Token.end_object ∷ ts) h = tt
-ends (Token.begin_array ∷ ts) h = tt
-ends (Token.end_array ∷ ts) h = h.1
-ends (Token.key s ∷ ts) h = tt
-ends (Token.string s ∷ ts) h = tt
-ends (Token.number s ∷ ts) h = tt
-ends (Token.boolean b ∷ ts) h = tt
-ends (Token.null ∷ ts) h = tt
-ends (Token.bad ∷ ts) h = tt
+ends ts h = grind (arith, common_steps)
 
 pub keys : Reads (Given IsUtf8) read_key
 keys [] h = tt
@@ -136,9 +125,7 @@ value_reads (suc depth) =
     (λ ts h. items_read (value depth) (value_reads depth) (length ts) ts h) (λ ts h. members_read (value depth) (value_reads depth) (length ts) ts h)
 
 last_of : (o : Option (Json × List Token)) → ReadWell JsonHasUtf8 o → Given JsonHasUtf8 (option_and_then (λ p. if_last p.0 p.1) o)
-last_of None h = tt
-last_of (Some (j, [])) h = h.0
-last_of (Some (j, t ∷ ts)) h = tt
+last_of o h = grind (arith, common_steps)
 
 pub json_utf8 : (depth : ℕ) (text : List ℕ) → IsUtf8 text → Given JsonHasUtf8 (option_and_then (λ p. if_last p.0 p.1) (value depth (tokens text)))
 json_utf8 depth text u = last_of (value depth (tokens text)) (value_reads depth (tokens text) (tokens_utf8 text u))

@@ -1,5 +1,6 @@
 -- A value that UTF-8 tokens begin with satisfies the invariant of values.
-use Rattle.std.proofs.Common.{◌≡◌, ℕ, ◌≤◌, List, false, Option, Some, None, option_map, subst, arith}
+use Rattle.std.proofs.lemmas.Grind.{common_steps}
+use Rattle.std.proofs.Common.{◌≡◌, ℕ, ◌≤◌, List, false, Option, Some, option_map, subst, arith}
 use Rattle.std.specs.Prelude.{⊤}
 use Rattle.json.specs.Token.{Token}
 use Rattle.json.specs.Json as json
@@ -22,13 +23,10 @@ use Rattle.cadf_json.proofs.Turns.{converted_some}
 
 low_put : (k : List ℕ) (d : Data) (ms : Members) (n : ℕ) → depth d ≤ n → members_depth ms ≤ n → members_depth (put k d ms) ≤ n
 low_put k d no_members n p q = omega arith
-low_put k d (member l e ms) n p q =
-    let further = low_put k d ms n p (omega arith) in
-    put_step (λ ns. members_depth ns ≤ n) k l d e ms (λ _. omega arith) (λ _. omega arith) (λ _. omega arith)
+low_put k d (member l e ms) n p q = grind (arith, common_steps, put_step, (low_put k d ms n p (omega arith)))
 
 any_number : (o : Option Num) → Given (λ x. ⊤) o
-any_number None = tt
-any_number (Some n) = tt
+any_number o = grind (arith, common_steps)
 
 mutual
   low_json : (j : json.Json) (n : ℕ) → tree.depth j ≤ n → Given (λ d. depth d ≤ n) (of_json j)
@@ -74,9 +72,7 @@ value_read n ts rest d low u e no_float =
 
 -- the tokens after it are UTF-8
 pub rest_utf8 : (n : ℕ) (ts rest : List Token) (d : Data) → HaveUtf8 ts → converted of_json (value n ts) ≡ Some (d, rest) → HaveUtf8 rest
-rest_utf8 n ts rest d u e =
-    let some = converted_some of_json (value n ts) d rest e in
-    (given_some (λ p. JsonHasUtf8 p.0 × HaveUtf8 p.1) (value n ts) (some.0, rest) (value_reads n ts u) some.1).1
+rest_utf8 n ts rest d u e = grind (arith, common_steps, converted_some, given_some, JsonHasUtf8, value_reads)
 
 -- those after a key, too
 pub key_utf8 : (ts rest : List Token) (k : Option (List ℕ)) → HaveUtf8 ts → read_key ts ≡ Some (k, rest) → HaveUtf8 rest

@@ -1,9 +1,10 @@
 -- A normalized tree is the outline of a value.
-use Rattle.std.proofs.Common.{◌≡◌, ℕ, pos, negsuc, List, Some, refl, sym, ap, ap₂, ◌∙◌, subst}
+use Rattle.std.proofs.lemmas.Grind.{common_steps}
+use Rattle.std.proofs.Common.{◌≡◌, ℕ, List, Some, refl, sym, ap, ap₂, ◌∙◌, subst, arith}
 use Rattle.json.specs.Json as json
 use Rattle.json.specs.Tree.{json_tokens}
 use Rattle.json.specs.Print.{print}
-use Rattle.serde_json.specs.Data.{Num, unsigned, negative, float}
+use Rattle.serde_json.specs.Data.{Num}
 use Rattle.serde_json.specs.Read.{number_of}
 use Rattle.serde_json.specs.Written.{number_text, outline, items_outline, members_outline, compact_text}
 use Rattle.serde_json.proofs.Numbers.{number_of-decimal, number_of-negative}
@@ -21,10 +22,7 @@ use Rattle.cadf_json.specs.Tree.{
 }
 
 number_read : (n : Num) → IsWholeNumber n → number_of (number_text n) ≡ Some n
-number_read (unsigned n) h = number_of-decimal n h
-number_read (negative (pos n)) h = absurd h
-number_read (negative (negsuc n)) h = number_of-negative n h
-number_read (float x) h = absurd h
+number_read n h = grind (arith, common_steps, number_of-decimal, number_of-negative)
 
 pub number_is : (s : List ℕ) (h : IsWholeText s) → number_of s ≡ Some h.0
 number_is s h = ap number_of h.2 ∙ number_read h.0 h.1

@@ -1,6 +1,7 @@
 -- Values whose members are put in order, at every depth.
+use Rattle.std.proofs.lemmas.Grind.{common_steps}
 use Rattle.std.proofs.Common.{◌≡◌, ℕ, List, [], ◌++◌, Bool, true, refl, sym, ap, ◌∙◌, subst, arith}
-use Rattle.std.proofs.Common.{Ordering, Less, Equal, Greater, nat_cmp}
+use Rattle.std.proofs.Common.{Ordering, nat_cmp}
 use Rattle.std.specs.Cmp.Lexicographic.{slice_cmp}
 use Rattle.serde_json.specs.Data.{Data, Items, no_items, item, Members, no_members, member, put}
 use Rattle.cadf_json.proofs.Orders.{joined}
@@ -35,9 +36,7 @@ settled_count (item d ds) = let more = settled_count ds in omega (arith, more)
 settled_put_at : (o : Ordering) (k l : List ℕ) (d e : Data) (ms : Members) → slice_cmp nat_cmp k l ≡ o
     → settled_members (put k d ms) ≡ put k (settled d) (settled_members ms)
     → settled_members (put k d (member l e ms)) ≡ put k (settled d) (settled_members (member l e ms))
-settled_put_at Less k l d e ms is rest = rw is refl
-settled_put_at Equal k l d e ms is rest = rw is refl
-settled_put_at Greater k l d e ms is rest = rw is (ap (member l (settled e)) rest)
+settled_put_at o k l d e ms is rest = grind (arith, common_steps)
 
 settled_put : (k : List ℕ) (d : Data) (ms : Members) → settled_members (put k d ms) ≡ put k (settled d) (settled_members ms)
 settled_put k d no_members = refl

@@ -1,5 +1,6 @@
 -- Members that are sorted by name: the last of each name is what is there once all were put one after another.
-use Rattle.std.proofs.Common.{take, drop, slice_index_or, length-drop, take_all, ◌-◌, ◌≡◌, ℕ, ◌+◌, ◌<◌, List, [], ◌∷◌, ◌++◌, length, Bool, true, false, not, ◌&&◌, cond, Option, Some, None, refl, sym, ap, ◌∙◌, subst, arith, append_assoc, append-nil}
+use Rattle.std.proofs.lemmas.Grind.{common_steps}
+use Rattle.std.proofs.Common.{take, drop, slice_index_or, length-drop, take_all, ◌-◌, ◌≡◌, ℕ, ◌+◌, ◌<◌, List, [], ◌∷◌, ◌++◌, length, Bool, true, false, not, ◌&&◌, cond, Option, Some, None, refl, sym, ap, ◌∙◌, subst, arith, append_assoc, append-nil, rules}
 use native.Mathlib.Numerals.{unary_clauses}
 use Rattle.std.proofs.Common.{Ordering, Less, Equal, Greater}
 use Rattle.std.proofs.lemmas.Cmp.{nat_list_cmp_total}
@@ -32,8 +33,7 @@ has_name k p = eq_by_cmp name_cmp k p.name.now
 
 found_at : (b : Bool) (k : List ℕ) (p : Named) (ps : List Named) (o : Option Named) → eq_by_cmp name_cmp k p.name.now ≡ b
     → ended (filter (has_name k) ps) (cond b (Some p) o) ≡ ended (filter (has_name k) (p ∷ ps)) o
-found_at true k p ps o is = rw is refl
-found_at false k p ps o is = rw is refl
+found_at b k p ps o is = grind (arith, common_steps)
 
 found : (k : List ℕ) (ps : List Named) (es : List Entry) → entries.find name_cmp k (put_named ps es) ≡ ended (filter (has_name k) ps) (entries.find name_cmp k es)
 found k [] es = refl
@@ -48,9 +48,7 @@ in_order (p ∷ ps) es h = in_order ps _ (entries.is_sorted-put name_cmp nat_lis
 -- ---- a stable sort leaves it as it is
 
 tied_at : (o r : Ordering) → r ≡ ordering_reverse o → not (is_lt o) && not (is_lt r) ≡ is_eq o
-tied_at Less r is = refl
-tied_at Equal r is = rw is refl
-tied_at Greater r is = rw is refl
+tied_at o r is = grind (arith, common_steps)
 
 abbrev pub spot : List ℕ → Named
 spot k = record { name = record { ref_ptr = (0, 0); now = k }; nodes = record { ref_ptr = (0, 0); now = [] } }
@@ -99,28 +97,18 @@ Under es [] = ⊤
 Under es (p ∷ ps) = AreUnder es p.name.now
 
 under_none : (ps : List Named) → Under [] ps
-under_none [] = tt
-under_none (p ∷ ps) = tt
+under_none ps = grind (arith, common_steps)
 
 put_at_end_at : (o : Ordering) (p q : Named) (ps : List Named) (es : List Entry) → name_cmp p.name.now q.name.now ≡ o → below q p ≡ false → AreUnder es p.name.now
     → ((fs : List Entry) → AreUnder fs q.name.now → put_named (q ∷ ps) fs ≡ fs ++ lasts (q ∷ ps))
     → put_named (p ∷ q ∷ ps) es ≡ es ++ lasts (p ∷ q ∷ ps)
-put_at_end_at Less p q ps es is up under further =
-    let other : bytes_eq q.name.now p.name.now ≡ false = sym (is_eq-slice_cmp q.name.now p.name.now) ∙ ap is_eq (greater-from_less q.name.now p.name.now is) in
-    let last = p.name.now in
-    rw other
-    (ap (put_named (q ∷ ps)) (put_last es last p under) ∙ further (es ++ (last, p) ∷ []) (under_further es last q.name.now p under is)
-    ∙ append_assoc es ((last, p) ∷ []) (lasts (q ∷ ps)))
+put_at_end_at Less p q ps es is up under further = search (rules, is_eq-slice_cmp, greater-from_less, put_last, under_further, append_assoc)
 put_at_end_at Equal p q ps es is up under further =
     let name = q.name.now in
     let same = same_name p.name.now name is in
     let here = subst (AreUnder es) same under in
     let again : bytes_eq name p.name.now ≡ true = ap (bytes_eq name) same ∙ sym (is_eq-slice_cmp name name) ∙ ap is_eq (itself name) in
-    rw again
-    (ap (put_named ps)
-    (ap (λ k. entries.put name_cmp name q (entries.put name_cmp k p es)) same ∙ ap (entries.put name_cmp name q) (put_last es name p here)
-    ∙ put_over es name p q here (itself name) ∙ sym (put_last es name q here))
-    ∙ further es here)
+    grind (arith, common_steps, name_cmp, put_last, put_over)
 put_at_end_at Greater p q ps es is up under further = absurd (let lower = ap is_lt (less-from_greater p.name.now q.name.now is) in cc)
 
 put_at_end : (ps : List Named) (es : List Entry) → Under es ps → Rise ps → put_named ps es ≡ es ++ lasts ps
@@ -136,9 +124,4 @@ lasts_are ps qs sorted stable = sym (put_at_end qs [] (under_none qs) (rise qs s
 pub lasts_from : (ps : List Named) (i : ℕ) (b : Bool) → i < length ps
     → b ≡ is_replaced (slice_index_or ps i (spot [])).name.now (take (length ps - (i + 1)) (drop (i + 1) ps))
     → lasts (drop i ps) ≡ (if b then lasts (drop (i + 1) ps) else (((slice_index_or ps i (spot [])).name.now, slice_index_or ps i (spot [])) ∷ lasts (drop (i + 1) ps)))
-lasts_from ps i b some is =
-    let p = slice_index_or ps i (spot []) in
-    let rest = drop (i + 1) ps in
-    at_drop_more lasts ps i (spot []) some
-    ∙ ap (λ c. if c then lasts rest else ((p.name.now, p) ∷ lasts rest))
-    (ap (is_replaced p.name.now) (sym (take_all (length ps - (i + 1)) rest (omega (arith, length-drop (i + 1) ps)))) ∙ sym is)
+lasts_from ps i b some is = grind (arith, common_steps, slice_index_or, at_drop_more, take_all, length-drop)

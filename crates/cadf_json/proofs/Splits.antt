@@ -1,5 +1,6 @@
 -- Names that compare as equal.
-use Rattle.std.proofs.Common.{◌≡◌, ℕ, List, is_eq, Ordering, Less, Equal, Greater, nat_cmp, refl, sym, ap, ◌∙◌}
+use Rattle.std.proofs.lemmas.Grind.{common_steps}
+use Rattle.std.proofs.Common.{◌≡◌, ℕ, List, is_eq, Ordering, Equal, nat_cmp, refl, sym, ap, ◌∙◌, arith}
 use Rattle.std.proofs.lemmas.Slice.Eq.{bytes_eq-Decides}
 use Rattle.std.proofs.lemmas.Map.Text.{is_eq-slice_cmp}
 use Rattle.std.specs.Cmp.Lexicographic.{slice_cmp}
@@ -9,9 +10,7 @@ pub same_name : (k l : List ℕ) → slice_cmp nat_cmp k l ≡ Equal → k ≡ l
 same_name k l is = (bytes_eq-Decides k l).0 (sym (is_eq-slice_cmp k l) ∙ ap is_eq is)
 
 itself_at : (o : Ordering) (k : List ℕ) → slice_cmp nat_cmp k k ≡ o → slice_cmp nat_cmp k k ≡ Equal
-itself_at Less k is = absurd (let other = greater-from_less k k is in cc)
-itself_at Equal k is = is
-itself_at Greater k is = absurd (let other = less-from_greater k k is in cc)
+itself_at o k is = grind (arith, common_steps, greater-from_less, less-from_greater)
 
 pub itself : (k : List ℕ) → slice_cmp nat_cmp k k ≡ Equal
 itself k = itself_at _ k refl

@@ -1,5 +1,28 @@
 -- The nodes of a value stay its nodes when texts are appended, and one more item or member follows the others.
-use Rattle.std.proofs.Common.{◌≡◌, ℕ, suc, ◌-◌, ◌≤◌, List, [], ◌∷◌, ◌++◌, length, take, drop, refl, sym, ap, ◌∙◌, arith, inl, inr, append_assoc, append-nil, length-append, length-drop}
+use Rattle.std.proofs.lemmas.Grind.{common_steps}
+use Rattle.std.proofs.Common.{
+  ◌≡◌,
+  ℕ,
+  suc,
+  ◌-◌,
+  ◌≤◌,
+  List,
+  [],
+  ◌∷◌,
+  ◌++◌,
+  length,
+  refl,
+  sym,
+  ap,
+  ◌∙◌,
+  arith,
+  inl,
+  inr,
+  append_assoc,
+  append-nil,
+  length-append,
+  length-drop,
+}
 use Rattle.std.specs.Prelude.{slice_range}
 use Rattle.std.proofs.lemmas.List.{take-append-le, drop-append-le}
 use Rattle.serde_json.specs.Data.{Num, Data, null, boolean, number, string, array, object, Items, no_items, item, Members, no_members, member}
@@ -11,8 +34,7 @@ use Rattle.cadf_json.specs.declared.node.Place.{Place}
 use Rattle.cadf_json.specs.Flat.{IsTextAt, NumberStands, Stands, ItemsStand, MembersStand, items_count, members_count}
 
 pub range_append : {A : Type 0} (xs ys : List A) (a b : ℕ) → a ≤ b → b ≤ length xs → slice_range (xs ++ ys) a b ≡ slice_range xs a b
-range_append xs ys a b h k =
-    ap (take (b - a)) (drop-append-le a xs ys (omega arith)) ∙ take-append-le (b - a) (drop a xs) ys (omega (arith, length-drop a xs))
+range_append xs ys a b h k = grind (arith, common_steps, drop-append-le, take-append-le, length-drop)
 
 module _ (t more : List ℕ) where
   pub text_further : (p : Place) (s : List ℕ) → IsTextAt t p s → IsTextAt (t ++ more) p s

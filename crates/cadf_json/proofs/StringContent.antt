@@ -1,4 +1,5 @@
 -- The content of a string in a UTF-8 text is UTF-8.
+use Rattle.std.proofs.lemmas.Grind.{common_steps}
 use Rattle.std.proofs.Common.{
   ◌≡◌,
   ℕ,
@@ -97,17 +98,7 @@ digit_below a h = ltb-true (digit_value a) 16 h
 
 spelled_unit : (a b c d : ℕ) → (is_digit a 16 && is_digit b 16 && is_digit c 16 && is_digit d 16) ≡ true
     → IsHex a b c d (digit_value a * 4096 + digit_value b * 256 + digit_value c * 16 + digit_value d)
-spelled_unit a b c d h =
-    let three = and_parts (is_digit a 16 && is_digit b 16 && is_digit c 16) (is_digit d 16) h in
-    let two = and_parts (is_digit a 16 && is_digit b 16) (is_digit c 16) three.0 in
-    let one = and_parts (is_digit a 16) (is_digit b 16) two.0 in
-    record {
-      first = ascii_digit a one.0;
-      second = ascii_digit b one.1;
-      third = ascii_digit c two.1;
-      fourth = ascii_digit d three.1;
-      fits = omega (arith, digit_below a one.0, digit_below b one.1, digit_below c two.1, digit_below d three.1);
-    }
+spelled_unit a b c d h = grind (arith, common_steps, and_parts, ascii_digit, digit_below)
 
 hex : (a b c d : ℕ) → Given (λ u. IsHex a b c d u) (code_unit a b c d)
 unfolding code_unit
@@ -128,19 +119,14 @@ record IsShort (x c : ℕ) : Type 0 where
 
 -- the byte that is looked for, or else the next test
 looked_for : (x n c : ℕ) (later : Option ℕ) → n < 128 → c < 128 → Given (λ d. IsShort x d) later → Given (λ d. IsShort x d) (cond (x == n) (Some c) later)
-looked_for x n c later before after h =
-    cond_both (x == n) (Some c) later (Given (λ d. IsShort x d)) (λ e. record { before = omega (arith, eqb-true x n e); after = after }) (λ _. h)
+looked_for x n c later before after h = grind (arith, common_steps, cond_both, Given, eqb-true)
 
 itself : (x : ℕ) → ((x == 34) || (x == 92) || (x == 47)) ≡ true → x < 128
 itself x e = grind (arith, nat_tests)
 
 short : (x : ℕ) → Given (λ c. IsShort x c) (short_escape x)
 unfolding short_escape
-short x =
-    cond_both ((x == 34) || (x == 92) || (x == 47)) (Some x) _ (Given (λ c. IsShort x c)) (λ e. record { before = itself x e; after = itself x e })
-    (λ _. looked_for x 98 8 _ (omega arith) (omega arith) (looked_for x 102 12 _ (omega arith) (omega arith)
-    (looked_for x 110 10 _ (omega arith) (omega arith)
-    (looked_for x 114 13 _ (omega arith) (omega arith) (looked_for x 116 9 None (omega arith) (omega arith) tt)))))
+short x = grind (arith, common_steps, cond_both, Given, itself, looked_for)
 
 plain_unit : (u : ℕ) → u < 65536 → is_high_surrogate u ≡ false → is_low_surrogate u ≡ false → IsScalar u
 plain_unit u fits high low = grind (arith, nat_tests)

@@ -1,4 +1,5 @@
 -- Members that are read while the items of one list are taken apart.
+use Rattle.std.proofs.lemmas.Grind.{common_steps}
 use Rattle.std.proofs.Common.{◌≡◌, ℕ, ◌+◌, ◌-◌, ◌<◌, ◌≤◌, List, [], ◌∷◌, ◌++◌, length, set, Bool, true, false, true≢false, ◌&&◌, ◌||◌, if◌then◌else◌, Option, Some, None, option_map, bytes_eq, refl, sym, ap, ap₂, ◌∙◌, subst, arith}
 use Rattle.std.proofs.Common.{Ordering, Less, Equal, Greater, nat_cmp}
 use Rattle.std.specs.Cmp.Lexicographic.{slice_cmp}
@@ -7,10 +8,10 @@ use Rattle.std.proofs.lemmas.Slice.Eq.{bytes_eq-Decides}
 use Rattle.json.specs.Token.{Token}
 use Rattle.json.specs.Json as json
 use Rattle.json.specs.Json.{Parse, read_key, members}
-use Rattle.serde_json.specs.Data.{Data, null, boolean, number, string, array, object, Items, no_items, Members, no_members, member, put, depth, members_depth}
+use Rattle.serde_json.specs.Data.{Data, array, object, Items, no_items, Members, no_members, member, put, depth, members_depth}
 use Rattle.serde_json.specs.Find.{get_member}
 use Rattle.serde_json.specs.Read.{of_json, of_members, converted}
-use Rattle.serde_json.specs.Written.{has_float, items_have_float, members_have_float}
+use Rattle.serde_json.specs.Written.{has_float, members_have_float}
 use Rattle.serde_json.proofs.Views.{get_member-put}
 use Rattle.cadf_json.specs.Apart.{a_fraction, emptied, emptied_at, emptied_in, AreTaken, TookItems}
 use Rattle.cadf_json.specs.Canonical.{is_name_above}
@@ -32,8 +33,7 @@ apart : (k n : List ℕ) → bytes_eq k n ≡ false → k ≡ n → ⊥
 apart k n h e = true≢false (sym ((bytes_eq-Decides k n).1 e) ∙ h)
 
 other_order_at : (b : Bool) (k n : List ℕ) → bytes_eq k n ≡ false → bytes_eq n k ≡ b → b ≡ false
-other_order_at false k n h is = refl
-other_order_at true k n h is = absurd (apart k n h (sym ((bytes_eq-Decides n k).0 is)))
+other_order_at b k n h is = grind (arith, common_steps, apart, bytes_eq-Decides)
 
 other_order : (k n : List ℕ) → bytes_eq k n ≡ false → bytes_eq n k ≡ false
 other_order k n h = other_order_at (bytes_eq n k) k n h refl
@@ -41,28 +41,17 @@ other_order k n h = other_order_at (bytes_eq n k) k n h refl
 -- ---- a list without its items
 
 float_if : (b : Bool) → has_float (if b then a_fraction else array no_items) ≡ b
-float_if true = refl
-float_if false = refl
+float_if b = grind (arith, common_steps)
 
 float_emptied : (d : Data) → has_float (emptied d) ≡ has_float d
-float_emptied null = refl
-float_emptied (boolean b) = refl
-float_emptied (number n) = refl
-float_emptied (string s) = refl
-float_emptied (array ds) = float_if (items_have_float ds)
-float_emptied (object ms) = refl
+float_emptied d = grind (arith, common_steps, float_if)
 
 -- a list without its items is whole, and nests no deeper
 abbrev Stays : Data → Data → Type 0
 Stays d e = IsWhole e × (depth e ≤ depth d)
 
 stays_emptied : (d : Data) → IsWhole d → has_float d ≡ false → Stays d (emptied d)
-stays_emptied null h f = (h, omega arith)
-stays_emptied (boolean b) h f = (h, omega arith)
-stays_emptied (number n) h f = (h, omega arith)
-stays_emptied (string s) h f = (h, omega arith)
-stays_emptied (array ds) h f = rw f (tt, omega arith)
-stays_emptied (object ms) h f = (h, omega arith)
+stays_emptied d h f = grind (arith, common_steps)
 
 module _ (name : List ℕ) where
   float_at : (b : Bool) (d : Data) → has_float (if b then emptied d else d) ≡ has_float d
@@ -130,19 +119,14 @@ module _ (name : List ℕ) where
 get_at : (b : Bool) (name j k : List ℕ) (d : Data) (ms : Members) → bytes_eq j k ≡ b
     → get_member j (emptied_in name ms) ≡ option_map (emptied_at name j) (get_member j ms)
     → get_member j (emptied_in name (member k d ms)) ≡ option_map (emptied_at name j) (get_member j (member k d ms))
-get_at true name j k d ms is rest =
-    member_here j k (emptied_at name k d) (emptied_in name ms) is ∙ ap (λ n. Some (emptied_at name n d)) (sym ((bytes_eq-Decides j k).0 is))
-    ∙ sym (ap (option_map (emptied_at name j)) (member_here j k d ms is))
-get_at false name j k d ms is rest =
-    member_passed j k (emptied_at name k d) (emptied_in name ms) is ∙ rest ∙ sym (ap (option_map (emptied_at name j)) (member_passed j k d ms is))
+get_at b name j k d ms is rest = grind (arith, common_steps, member_here, bytes_eq-Decides, option_map, member_passed)
 
 pub get-emptied : (name j : List ℕ) (ms : Members) → get_member j (emptied_in name ms) ≡ option_map (emptied_at name j) (get_member j ms)
 get-emptied name j no_members = refl
 get-emptied name j (member k d ms) = get_at (bytes_eq j k) name j k d ms refl (get-emptied name j ms)
 
 same_at : (name j : List ℕ) (o : Option Data) → bytes_eq j name ≡ false → option_map (emptied_at name j) o ≡ o
-same_at name j None other = refl
-same_at name j (Some d) other = rw other refl
+same_at name j o other = grind (arith, common_steps)
 
 -- members of other names stay
 pub get-other : (name j : List ℕ) (ms : Members) → bytes_eq j name ≡ false → get_member j (emptied_in name ms) ≡ get_member j ms
@@ -153,9 +137,7 @@ some_there e h = cc
 
 none_at : (b : Bool) (name k : List ℕ) (d : Data) (ms : Members) → bytes_eq name k ≡ b → get_member name (member k d ms) ≡ None
     → (get_member name ms ≡ None → emptied_in name ms ≡ ms) → emptied_in name (member k d ms) ≡ member k d ms
-none_at true name k d ms is none rest = absurd (some_there d (sym (member_here name k d ms is) ∙ none))
-none_at false name k d ms is none rest =
-    rw (other_order name k is) (ap (member k d) (rest (sym (member_passed name k d ms is) ∙ none)))
+none_at b name k d ms is none rest = grind (arith, common_steps, some_there, member_here, other_order, member_passed)
 
 -- without a member of that name all stay
 pub none-emptied : (name : List ℕ) (ms : Members) → get_member name ms ≡ None → emptied_in name ms ≡ ms
@@ -165,16 +147,12 @@ none-emptied name (member k d ms) none = none_at (bytes_eq name k) name k d ms r
 without_at : (b c : Bool) (names : List (List ℕ)) (name k : List ℕ) (d : Data) (ms : Members) → is_one_of names k ≡ b → bytes_eq k name ≡ c
     → is_one_of names name ≡ true → without names (emptied_in name ms) ≡ without names ms
     → without names (emptied_in name (member k d ms)) ≡ without names (member k d ms)
-without_at true c names name k d ms is equal listed rest = rw is rest
-without_at false true names name k d ms is equal listed rest =
-    absurd (true≢false (sym listed ∙ ap (is_one_of names) (sym ((bytes_eq-Decides k name).0 equal)) ∙ is))
-without_at false false names name k d ms is other listed rest = rw (is, other) (ap (member k d) rest)
+without_at b c names name k d ms is other listed rest = grind (arith, common_steps, bytes_eq-Decides)
 
 pub without-emptied : (names : List (List ℕ)) (name : List ℕ) (ms : Members) → is_one_of names name ≡ true
     → without names (emptied_in name ms) ≡ without names ms
 without-emptied names name no_members listed = refl
-without-emptied names name (member k d ms) listed =
-    without_at (is_one_of names k) (bytes_eq k name) names name k d ms refl refl listed (without-emptied names name ms listed)
+without-emptied names name (member k d ms) listed = grind (arith, common_steps, without_at, bytes_eq, (without-emptied names name ms listed))
 
 -- ---- the loop
 

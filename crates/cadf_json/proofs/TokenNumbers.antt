@@ -1,5 +1,6 @@
 -- A text whose numbers are all whole spells a value if it is JSON.
-use Rattle.std.proofs.Common.{◌≡◌, ℕ, List, [], ◌∷◌, ◌++◌, Bool, true, false, ◌&&◌, Option, Some, None, option_map, refl, sym, ap, ◌∙◌, IsUtf8, append-nil, ap₂}
+use Rattle.std.proofs.lemmas.Grind.{common_steps}
+use Rattle.std.proofs.Common.{◌≡◌, ℕ, List, [], ◌∷◌, ◌++◌, Bool, true, false, Option, Some, None, option_map, refl, sym, ap, ◌∙◌, IsUtf8, append-nil, arith}
 use Rattle.std.specs.Prelude.{not, option_and_then, unwrap_or}
 use Rattle.std.proofs.lemmas.Bool.{and_parts, or_parts, or_from}
 use Rattle.json.specs.Token.{Token}
@@ -20,8 +21,7 @@ front : (xs ys : List Token) → are_whole_tokens (xs ++ ys) ≡ true → (are_w
 front [] ys h = (refl, h)
 front (x ∷ xs) ys h =
     let p = and_parts (is_whole_token x) (are_whole_tokens (xs ++ ys)) h in
-    let q = front xs ys p.1 in
-    (ap₂ (λ (a b : Bool). a && b) p.0 q.0, q.1)
+    grind (arith, common_steps, (front xs ys p.1))
 
 number_read : (o : Option Num) → unwrap_or (option_map (λ n. not (is_float n)) o) false ≡ true → (d : Data) × (option_map number o ≡ Some d)
     × (has_float d ≡ false)
@@ -36,8 +36,7 @@ put_whole : (k : List ℕ) (d : Data) (ms : Members) → has_float d ≡ false �
 put_whole k d no_members h f = or_from (has_float d) false h refl
 put_whole k d (member l e ms) h f =
     let p = or_parts (has_float e) (members_have_float ms) f in
-    put_step (λ ns. members_have_float ns ≡ false) k l d e ms (λ _. or_from (has_float d) _ h f) (λ _. or_from (has_float d) _ h p.1)
-    (λ _. or_from (has_float e) _ p.0 (put_whole k d ms h p.1))
+    grind (arith, common_steps, put_step, or_from, (put_whole k d ms h p.1))
 
 mutual
   whole_json : (j : json.Json) → are_whole_tokens (json_tokens j) ≡ true → (d : Data) × (of_json j ≡ Some d) × (has_float d ≡ false)

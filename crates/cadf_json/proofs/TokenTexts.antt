@@ -1,12 +1,13 @@
 -- The tokens of a UTF-8 text have UTF-8 texts.
-use Rattle.std.proofs.Common.{ℕ, ◌<◌, ◌==◌, Bool, true, false, List, [], ◌∷◌, ◌++◌, Option, Some, None, IsUtf8, sym, subst, arith, append_assoc, eqb-true}
+use Rattle.std.proofs.lemmas.Grind.{common_steps}
+use Rattle.std.proofs.Common.{ℕ, ◌<◌, ◌==◌, Bool, true, false, List, [], ◌∷◌, ◌++◌, Option, IsUtf8, sym, subst, arith, append_assoc, eqb-true}
 use Rattle.std.specs.Prelude.{⊤}
 use Rattle.std.specs.List.{AllByRecursion}
 use Rattle.std.proofs.lemmas.Bool.{cond_both}
 use Rattle.json.specs.Ascii as ascii
-use Rattle.json.specs.Token.{Token, begin_object, end_object, begin_array, end_array, key, string, number, boolean, null, bad}
+use Rattle.json.specs.Token.{Token, boolean, null, bad}
 use Rattle.json.specs.Text.{content, plain}
-use Rattle.json.specs.Word.{head, is_operator, is_space, word, number_before, after_number, literal, ends_word}
+use Rattle.json.specs.Word.{head, word, number_before, after_number, literal}
 use Rattle.json.specs.Lex.{
   Lexeme,
   token,
@@ -34,8 +35,6 @@ use Rattle.json.specs.Lex.{
   after_comma,
   after_key,
   begins_colon,
-  may_begin,
-  may_close,
   if_allowed,
   place_token,
   punctuate,
@@ -56,20 +55,13 @@ abbrev LexemesHaveUtf8 : List Lexeme → Type 0
 LexemesHaveUtf8 ls = AllByRecursion LexemeHasUtf8 ls
 
 of_string : (o : Option (List ℕ)) → Given IsUtf8 o → HasUtf8 (string_token o)
-of_string None h = tt
-of_string (Some s) h = h
+of_string o h = grind (arith, common_steps)
 
 of_operator : (x : ℕ) → LexemeHasUtf8 (operator_lexeme x)
-of_operator x =
-    cond_both (x == ascii.open_brace) (token begin_object) _ LexemeHasUtf8 (λ _. tt)
-    (λ _. cond_both (x == ascii.close_brace) (token end_object) _ LexemeHasUtf8 (λ _. tt)
-    (λ _. cond_both (x == ascii.open_bracket) (token begin_array) _ LexemeHasUtf8 (λ _. tt)
-    (λ _. cond_both (x == ascii.close_bracket) (token end_array) _ LexemeHasUtf8 (λ _. tt)
-    (λ _. cond_both (x == ascii.comma) comma colon LexemeHasUtf8 (λ _. tt) (λ _. tt)))))
+of_operator x = grind (arith, common_steps, cond_both)
 
 of_number : (t : List ℕ) (o : Option (List ℕ)) → HasUtf8 (number_before t o)
-of_number t None = tt
-of_number t (Some rest) = cond_both (ends_word rest) _ bad HasUtf8 (λ _. tt) (λ _. tt)
+of_number t o = grind (arith, common_steps, cond_both)
 
 of_literal : (name : List ℕ) (t : Token) (xs : List ℕ) → HasUtf8 t → HasUtf8 (literal name t xs)
 of_literal name t xs h = cond_both _ t bad HasUtf8 (λ _. h) (λ _. tt)
@@ -90,10 +82,7 @@ IsAsciiQuote x space = ⊤
 IsAsciiQuote x other = ⊤
 
 ascii_quote : (x : ℕ) → IsAsciiQuote x (class x)
-ascii_quote x =
-    cond_both (x == ascii.quote) quote _ (IsAsciiQuote x) (λ e. omega (arith, eqb-true x 34 e))
-    (λ _. cond_both (x == ascii.backslash) backslash _ (IsAsciiQuote x) (λ _. tt)
-    (λ _. cond_both (is_operator x) operator _ (IsAsciiQuote x) (λ _. tt) (λ _. cond_both (is_space x) space other (IsAsciiQuote x) (λ _. tt) (λ _. tt))))
+ascii_quote x = grind (arith, common_steps, cond_both, eqb-true)
 
 -- xs ends a UTF-8 text
 abbrev IsEnd : List ℕ → Type 0
@@ -129,21 +118,10 @@ lexemes_utf8 m (x ∷ xs) t = of_byte m (class x) x xs (λ next. lex next xs) (a
 -- ---- commas and colons
 
 allowed : (b : Bool) (t : Token) (k : Place → List Token) (next : Place) → HasUtf8 t → ((p : Place) → HaveUtf8 (k p)) → HaveUtf8 (if_allowed b t k next)
-allowed true t k next h later = (h, later next)
-allowed false t k next h later = (tt, tt)
+allowed b t k next h later = grind (arith, common_steps)
 
 placed : (p : Place) (t : Token) (b : Bool) (k : Place → List Token) → HasUtf8 t → ((next : Place) → HaveUtf8 (k next)) → HaveUtf8 (place_token p t b k)
-placed p begin_object b k h later = allowed (may_begin p) begin_object k fresh tt later
-placed p end_object b k h later = allowed (may_close p) end_object k after_value tt later
-placed p begin_array b k h later = allowed (may_begin p) begin_array k fresh tt later
-placed p end_array b k h later = allowed (may_close p) end_array k after_value tt later
-placed p (key s) b k h later = (tt, tt)
-placed p (string s) true k h later = allowed (may_begin p) (key s) k after_key h later
-placed p (string s) false k h later = allowed (may_begin p) (string s) k after_value h later
-placed p (number s) b k h later = allowed (may_begin p) (number s) k after_value tt later
-placed p (boolean v) b k h later = allowed (may_begin p) (boolean v) k after_value tt later
-placed p null b k h later = allowed (may_begin p) null k after_value tt later
-placed p bad b k h later = (tt, tt)
+placed p t b k h later = grind (arith, common_steps, allowed)
 
 punctuated : (p : Place) (ls : List Lexeme) → LexemesHaveUtf8 ls → HaveUtf8 (punctuate p ls)
 unfolding punctuate

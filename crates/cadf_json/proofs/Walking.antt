@@ -1,4 +1,5 @@
 -- From one item or member to the next, over the nodes that are left.
+use Rattle.std.proofs.lemmas.Grind.{common_steps}
 use Rattle.std.proofs.Common.{◌≡◌, ℕ, ◌<◌, ◌≤◌, List, [], length, take, drop, IsUtf8, true, false, is_some, refl, sym, ap, ap₂, ◌∙◌, subst, arith, append-nil}
 use Rattle.std.specs.Prelude.{slice_index_or}
 use Rattle.serde_json.specs.Data.{Data, null, boolean, number, string, array, object, Items, no_items, item, Members, no_members, member, items_depth}
@@ -21,8 +22,7 @@ paired_flattened no_members = refl
 paired_flattened (member k d ms) = ap (member k d) (paired_flattened ms)
 
 later_rises : (k : List ℕ) (ms : Members) → RisesFrom k ms → Rises ms
-later_rises k no_members h = tt
-later_rises k (member l d ms) h = h.1
+later_rises k ms h = grind (arith, common_steps)
 
 module _ (t : List ℕ) where
   items_are : (ds : Items) (xs : List Node) → ItemsStand t ds xs → ItemsAreWhole ds → node_values t xs ≡ ds
@@ -131,17 +131,7 @@ module _ (t : List ℕ) where
       members_left_of ms (tail_of xs) (subst (MembersStand t ms) (sym (tail_is _ xs ys is)) h) (v.0.0, v.0.1, omega (arith, deep))
 
 pub no_list : (d : Data) → is_some (as_array d) ≡ false → items_in d ≡ no_items
-no_list null e = refl
-no_list (boolean b) e = refl
-no_list (number n) e = refl
-no_list (string s) e = refl
-no_list (array ds) e = absurd cc
-no_list (object ms) e = refl
+no_list d e = grind (arith, common_steps)
 
 pub are_members_in : (d : Data) → IsValue d → AreMembers (members_in d)
-are_members_in null v = (tt, tt, omega arith)
-are_members_in (boolean b) v = (tt, tt, omega arith)
-are_members_in (number n) v = (tt, tt, omega arith)
-are_members_in (string s) v = (tt, tt, omega arith)
-are_members_in (array ds) v = (tt, tt, omega arith)
-are_members_in (object ms) v = let deep = v.1 in (v.0.0, v.0.1, omega (arith, deep))
+are_members_in d v = grind (arith, common_steps)

@@ -1,4 +1,5 @@
-use Rattle.std.proofs.Common.{◌≡◌, ◌<◌, ◌∷◌, ◌++◌, [], length, None, subst, arith}
+use Rattle.std.proofs.lemmas.Grind.{common_steps}
+use Rattle.std.proofs.Common.{◌≡◌, ◌<◌, length, None, arith}
 use Rattle.json.specs.Json.{value, after_end_array}
 use Rattle.cadf_json.proofs.Passing.{passing_start, passing_more, passing_over}
 use Rattle.cadf_json.proofs.ReadValues.{rest_utf8}
@@ -16,12 +17,8 @@ items-preserved g c =
     let item = c.read_next.new.self in
     let r = c.read_next.new.reader in
     let less : length r < length l.reader = rw (← going.1) c.in-Ok.ensures.shorter in
-    let read = rw going.1 at c.in-Ok.ensures.ok in (
-      passing_more took (value c.args.depth) c.args.reader.now l.taker c.take.new.self l.reader r item l.invariant.0 going.0
-          read (has_float-IsWhole item c.read_next.ensures.value.0) less
-          (λ ds t. subst (λ x. took c.take.new.self (ds ++ x ∷ [])) c.view.ensures.whole (c.in_ok-take-in-Ok.ensures ds t)),
-      rest_utf8 c.args.depth l.reader r item l.invariant.1 read,
-    )
+    let read = rw going.1 at c.in-Ok.ensures.ok in
+    grind (arith, common_steps, passing_more, has_float-IsWhole, rest_utf8)
 
 pub returns-clause-ok : goal.returns-clause-ok
 returns-clause-ok g c =

@@ -1,8 +1,32 @@
-use Rattle.std.proofs.Common.{◌≡◌, ◌<◌, ◌+◌, ◌++◌, ◌∷◌, [], length, set, true, false, ◌&&◌, Some, None, option_map, bytes_eq, refl, sym, ap, ◌∙◌, subst, arith, rules, append-nil}
+use Rattle.std.proofs.lemmas.Grind.{common_steps}
+use Rattle.std.proofs.Common.{
+  ◌≡◌,
+  ◌<◌,
+  ◌+◌,
+  ◌∷◌,
+  [],
+  length,
+  set,
+  true,
+  false,
+  ◌&&◌,
+  Some,
+  None,
+  option_map,
+  bytes_eq,
+  refl,
+  sym,
+  ap,
+  ◌∙◌,
+  subst,
+  arith,
+  rules,
+  append-nil,
+}
 use Rattle.json.specs.Json.{value, read_key}
 use Rattle.json.proofs.Grammar.{read_key-shorter}
 use Rattle.serde_json.specs.Data.{array, no_items}
-use Rattle.cadf_json.specs.declared.node.Node.TheVariants.{Null, Object}
+use Rattle.cadf_json.specs.declared.node.Node.TheVariants.{Object}
 use Rattle.cadf_json.specs.Reading.{Grown, StandsAsRead}
 use Rattle.cadf_json.proofs.Settling.{scalar}
 use Rattle.cadf_json.proofs.ReadValues.{rest_utf8, key_utf8}
@@ -10,18 +34,7 @@ use Rattle.cadf_json.proofs.TakenApart.{Apart, apart_start, apart_other, apart_l
 use Rattle.cadf_json.proofs.apart.pass_members.Goals as goal
 
 pub members-init : goal.members-init
-members-init g c =
-    let took = g.T.ItemVisitor.took in
-    let old = c.args.nodes.now.items in
-    let u = c.args.texts.now.items in
-    let pushed : c.push.new.self.items ≡ old ++ Null ∷ [] = search rules in
-    let len = c.args.nodes.now.ok.0 in
-    let at = c.len-at.ensures in (
-      subst (λ xs. Apart took c.args.taker.now c.args.name.now (value c.args.depth) c.args.reader.now c.args.reader.now old xs u u 0 None true) (sym pushed)
-          (apart_start took c.args.name.now (value c.args.depth) c.args.reader.now old u c.args.taker.now),
-      omega (arith, len, at),
-      c.requires.utf8,
-    )
+members-init g c = grind (arith, common_steps, Apart, apart_start)
 
 pub returns : goal.returns
 returns g c =
@@ -95,9 +108,4 @@ members-preserved-in_ok-pass_list g c =
     )
 
 pub pass_list-requires-clause-utf8 : goal.pass_list-requires-clause-utf8
-pass_list-requires-clause-utf8 g c =
-    let l = c.members in
-    let s = c.next_key.new.self in
-    let k = c.in-Some.key.now in
-    let named : read_key l.reader ≡ Some (Some k, s) = c.in-Ok.ensures.value ∙ ap (λ o. Some (option_map (λ x. x.now) o, s)) c.in-Some.is in
-    key_utf8 l.reader s (Some k) l.invariant.2 named
+pass_list-requires-clause-utf8 g c = grind (arith, common_steps, option_map, key_utf8)

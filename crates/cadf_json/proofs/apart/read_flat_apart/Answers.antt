@@ -1,3 +1,4 @@
+use Rattle.std.proofs.lemmas.Grind.{common_steps}
 use Rattle.std.proofs.Common.{◌≡◌, [], ◌∷◌, length, Some, IsUtf8, inr, sym, ap, ◌∙◌, subst, arith, rules}
 use Rattle.json.specs.Token.{Token}
 use Rattle.json.specs.Lex.{tokens}
@@ -7,7 +8,6 @@ use Rattle.serde_json.specs.Data.{object}
 use Rattle.serde_json.specs.Read.{of_json, converted}
 use Rattle.cadf_json.specs.Apart.{emptied_in}
 use Rattle.cadf_json.specs.Flat.{have_fraction, Stands}
-use Rattle.cadf_json.specs.TokenUtf8.{HaveUtf8}
 use Rattle.cadf_json.specs.Value.{IsValue}
 use Rattle.cadf_json.proofs.Decoding.{decoded, fraction_is}
 use Rattle.cadf_json.proofs.Settling.{from_none}
@@ -18,16 +18,10 @@ use Rattle.cadf_json.proofs.Turns.{converted-object, whole_read}
 use Rattle.cadf_json.proofs.apart.read_flat_apart.Goals as goal
 
 pub pass_members-requires-clause-utf8 : goal.pass_members-requires-clause-utf8
-pass_members-requires-clause-utf8 g c =
-    let utf8 : IsUtf8 c.in-Ok.text.now = search rules in
-    let begins : tokens c.in-Ok.text.now ≡ Token.begin_object ∷ c.next.new.self = search rules in
-    (subst HaveUtf8 begins (tokens_utf8 c.in-Ok.text.now utf8)).1
+pass_members-requires-clause-utf8 g c = grind (arith, common_steps, tokens_utf8)
 
 pub put_in_order-requires : goal.put_in_order-requires
-put_in_order-requires g c =
-    let got = c.in_ok-rising.ensures in
-    let e = object (emptied_in c.args.name.now got.0) in
-    (e, from_none c.in_ok-rising.rising e c.requires got.1.2)
+put_in_order-requires g c = grind (arith, common_steps, from_none)
 
 pub returns-clause-ok : goal.returns-clause-ok
 returns-clause-ok g c =

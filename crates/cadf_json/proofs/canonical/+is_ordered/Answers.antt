@@ -1,4 +1,5 @@
-use Rattle.std.proofs.Common.{◌≡◌, ◌<◌, [], ◌∷◌, length, IsUtf8, Some, None, option_map, ap, ap₂, ◌∙◌, arith, rules}
+use Rattle.std.proofs.lemmas.Grind.{common_steps}
+use Rattle.std.proofs.Common.{◌≡◌, ◌∷◌, IsUtf8, Some, None, option_map, ap, ◌∙◌, arith, rules}
 use Rattle.json.specs.Json as json
 use Rattle.json.specs.Json.{after_end_array, read_key, value}
 use Rattle.json.specs.Reads.{token_of}
@@ -24,21 +25,15 @@ use Rattle.cadf_json.proofs.InOrder.{
 use Rattle.cadf_json.proofs.canonical.+is_ordered.Goals as goal
 
 pub is_ordered-returns-in_default-clause-no : goal.is_ordered-returns-in_default-clause-no
-is_ordered-returns-in_default-clause-no t c h =
-    let empty : c.args.reader.now ≡ [] = grind arith in
-    none_unordered c.args.depth c.args.reader.now (ap (value c.args.depth) empty ∙ value_is c.args.depth [])
+is_ordered-returns-in_default-clause-no t c h = grind (arith, common_steps, none_unordered, value_is)
 
 pub is_ordered-returns-then-depth-eq0-clause-no : goal.is_ordered-returns-then-depth-eq0-clause-no
 unfolding value
-is_ordered-returns-then-depth-eq0-clause-no t c h =
-    let none : c.args.depth ≡ 0 = omega (arith, c.if-depth-eq0.true) in
-    none_unordered c.args.depth c.args.reader.now (ap₂ value none (c.in-Some.ensures.value ∙ ap (λ k. token_of k ∷ c.next.new.self) c.in-BeginArray.is))
+is_ordered-returns-then-depth-eq0-clause-no t c h = grind (arith, common_steps, none_unordered)
 
 pub is_ordered-returns-then-depth-eq0-2-clause-no : goal.is_ordered-returns-then-depth-eq0-2-clause-no
 unfolding value
-is_ordered-returns-then-depth-eq0-2-clause-no t c h =
-    let none : c.args.depth ≡ 0 = omega arith in
-    none_unordered c.args.depth c.args.reader.now (ap₂ value none (c.in-Some.ensures.value ∙ ap (λ k. token_of k ∷ c.next.new.self) c.in-BeginObject.is))
+is_ordered-returns-then-depth-eq0-2-clause-no t c h = grind (arith, common_steps, none_unordered)
 
 pub is_ordered-returns-in-String-clause-yes : goal.is_ordered-returns-in-String-clause-yes
 is_ordered-returns-in-String-clause-yes t c h =
@@ -67,9 +62,7 @@ is_ordered-returns-in-Null-clause-yes t c h =
     (json.null, ap (value c.args.depth) is ∙ value_is c.args.depth _, tt)
 
 pub is_ordered-returns-in-EndObject-clause-no : goal.is_ordered-returns-in-EndObject-clause-no
-is_ordered-returns-in-EndObject-clause-no t c h =
-    let first = c.in-Some.ensures.value in
-    none_unordered c.args.depth c.args.reader.now (rw (value_is c.args.depth c.args.reader.now, first) (grind arith))
+is_ordered-returns-in-EndObject-clause-no t c h = grind (arith, common_steps, none_unordered, value_is)
 
 pub is_ordered-returns-else-depth-eq0-clause-yes : goal.is_ordered-returns-else-depth-eq0-clause-yes
 is_ordered-returns-else-depth-eq0-clause-yes t c h =
@@ -95,14 +88,7 @@ pub are_items_ordered-items-init : goal.are_items_ordered-items-init
 are_items_ordered-items-init t c = items_start (value c.args.depth) c.args.reader.now
 
 pub are_items_ordered-items-preserved : goal.are_items_ordered-items-preserved
-are_items_ordered-items-preserved t c =
-    let l = c.items in
-    let going : (after_end_array l.reader ≡ None) × (c.take_end_array.new.self ≡ l.reader) = grind arith in
-    let done = c.if-not-is_ordered.ensures in
-    let r = c.is_ordered.new.reader in
-    let less : length r < length l.reader = rw (← going.1) (done.shorter (grind arith)) in
-    let read = done.yes (grind arith) in
-    one_more_item (value c.args.depth) c.args.reader.now l.reader r read.0 l.invariant going.0 (rw (← going.1) read.1) read.2 less
+are_items_ordered-items-preserved t c = grind (arith, common_steps, one_more_item)
 
 pub are_items_ordered-returns-then-not-is_ordered-clause-no : goal.are_items_ordered-returns-then-not-is_ordered-clause-no
 are_items_ordered-returns-then-not-is_ordered-clause-no t c h =
@@ -148,16 +134,4 @@ are_members_ordered-returns-then-not-is_ordered-clause-no t c h =
     (c.if-not-is_ordered.ensures.no (grind arith))
 
 pub are_members_ordered-members-preserved : goal.are_members_ordered-members-preserved
-are_members_ordered-members-preserved t c =
-    let l = c.members in
-    let s = c.next_key.new.self in
-    let r = c.is_ordered.new.reader in
-    let k = c.in-Some.name.now in
-    let named : read_key l.reader ≡ Some (Some k, s) = c.in-Ok.ensures.value ∙ ap (λ o. Some (option_map (λ x. x.now) o, s)) c.in-Some.is in
-    let utf8 : IsUtf8 k = search rules in
-    let read = c.if-not-is_ordered.ensures.yes (grind arith) in
-    let sooner = read_key-shorter l.reader (Some k) s named in
-    let later = c.if-not-is_ordered.ensures.shorter (grind arith) in
-    let less : length r < length l.reader = omega (arith, sooner, later) in
-    one_more_member (value c.args.depth) c.args.reader.now (option_map (λ s. s.now) l.last) k l.reader s r read.0 l.invariant named utf8 (grind arith) read.1
-    read.2 less
+are_members_ordered-members-preserved t c = grind (arith, common_steps, option_map, read_key-shorter, one_more_member)

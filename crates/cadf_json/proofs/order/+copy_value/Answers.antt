@@ -1,10 +1,10 @@
-use Rattle.std.proofs.Common.{◌≡◌, [], ◌∷◌, ◌++◌, length, ◌+◌, ◌<◌, ◌≤◌, true, false, drop, set, slice_index_or, refl, sym, ap, ◌∙◌, subst, arith, rules, length-drop}
+use Rattle.std.proofs.lemmas.Grind.{common_steps}
+use Rattle.std.proofs.Common.{◌≡◌, [], ◌∷◌, ◌++◌, length, ◌+◌, true, false, drop, set, slice_index_or, refl, sym, ap, ◌∙◌, subst, arith, rules, length-drop}
 use Rattle.std.proofs.lemmas.List.{at_drop_all}
 use Rattle.std.proofs.lemmas.Result.{on_ok_weaker}
-use Rattle.serde_json.specs.Data.{no_members}
 use Rattle.cadf_json.specs.declared.node.Node.TheVariants.{Null, Text, Array, Object}
-use Rattle.cadf_json.specs.Flat.{Stands, put_all, settled}
-use Rattle.cadf_json.specs.Reading.{Copied, AreNamed, lasts}
+use Rattle.cadf_json.specs.Flat.{Stands, settled}
+use Rattle.cadf_json.specs.Reading.{Copied, lasts}
 use Rattle.cadf_json.proofs.Copying.{
   nonempty,
   begun_by,
@@ -27,9 +27,7 @@ use Rattle.cadf_json.proofs.order.+copy_value.Goals as goal
 -- ---- a value
 
 pub copy_value-bounds-value-0 : goal.copy_value-bounds-value-0
-copy_value-bounds-value-0 t c =
-    let some = ap length (nonempty c.args.texts.now c.requires.0 c.args.value.now c.requires.1) in
-    omega (arith, some)
+copy_value-bounds-value-0 t c = grind (arith, common_steps, nonempty)
 
 pub copy_value-copy_items-requires : goal.copy_value-copy_items-requires
 copy_value-copy_items-requires t c =
@@ -69,16 +67,7 @@ copy_value-returns-in_ok-push-in_default t c = λ d h.
 -- ---- items
 
 pub copy_items-items-init : goal.copy_items-items-init
-copy_items-items-init t c =
-    let texts = c.args.texts.now in
-    let old = c.args.out.now.items in
-    let pushed : c.push.new.self.items ≡ old ++ Null ∷ [] = search rules in
-    let len = c.args.out.now.ok.0 in
-    let at = c.len-at.ensures in (
-      (λ ds h. subst (ItemsCopied texts ds c.args.items.now old) (sym pushed) (copied_none texts ds old c.args.items.now h)),
-      omega (arith, len, at),
-      omega arith,
-    )
+copy_items-items-init t c = grind (arith, common_steps, ItemsCopied, copied_none)
 
 pub copy_items-split_at-requires : goal.copy_items-split_at-requires
 copy_items-split_at-requires t c =
@@ -93,9 +82,7 @@ copy_items-copy_value-requires t c =
     let f = first_item c.args.texts.now l.rest.now c.size.result g.left (grind arith) g.left_stand c.size.ensures.value in
     let front = ap length c.split_at.ensures.front in
     let size = f.size in
-    let within = f.within in
-    let shorter = l.invariant.2 in
-    (omega (arith, front, size, within, shorter), (f.value, subst (Stands c.args.texts.now f.value) (sym c.split_at.ensures.front) f.stands))
+    grind (arith, common_steps)
 
 pub copy_items-items-smaller : goal.copy_items-items-smaller
 copy_items-items-smaller t c =
@@ -103,9 +90,7 @@ copy_items-items-smaller t c =
     let g = l.invariant.0 c.requires.0 c.requires.1 in
     let f = first_item c.args.texts.now l.rest.now c.size.result g.left (grind arith) g.left_stand c.size.ensures.value in
     let back = ap length c.split_at.ensures.back ∙ length-drop c.size.result l.rest.now in
-    let some = f.some in
-    let within = f.within in
-    omega (arith, back, some, within)
+    grind (arith, common_steps)
 
 pub copy_items-items-preserved : goal.copy_items-items-preserved
 copy_items-items-preserved t c =
@@ -125,20 +110,10 @@ copy_items-items-preserved t c =
     )
 
 pub copy_items-extent_from-requires : goal.copy_items-extent_from-requires
-copy_items-extent_from-requires t c =
-    let l = c.items in
-    let g = l.invariant.0 c.requires.0 c.requires.1 in
-    let within = place_within c.args.out.now.items l.out.items g.xs c.len-at.result g.out_are l.invariant.1 in
-    let len = l.out.ok.0 in
-    omega (arith, within, len)
+copy_items-extent_from-requires t c = grind (arith, common_steps, place_within)
 
 pub copy_items-index_mut-requires : goal.copy_items-index_mut-requires
-copy_items-index_mut-requires t c =
-    let l = c.items in
-    let g = l.invariant.0 c.requires.0 c.requires.1 in
-    let within = place_within c.args.out.now.items l.out.items g.xs c.len-at.result g.out_are l.invariant.1 in
-    let len = l.out.ok.0 in
-    omega (arith, within, len)
+copy_items-index_mut-requires t c = grind (arith, common_steps, place_within)
 
 pub copy_items-returns : goal.copy_items-returns
 copy_items-returns t c = λ ds h counted.
@@ -151,66 +126,22 @@ copy_items-returns t c = λ ds h counted.
 -- ---- members
 
 pub copy_members-members-init : goal.copy_members-members-init
-copy_members-members-init t c =
-    let texts = c.args.texts.now in
-    let n = length c.args.members.now in
-    let old = c.args.out.now.items in
-    let pushed : c.push.new.self.items ≡ old ++ Null ∷ [] = search rules in
-    let len = c.args.out.now.ok.0 in
-    let at = c.len-start.ensures in
-    let same = ap lasts c.as_slice-sorted.ensures.value ∙ c.in_ok-sort.ensures in (
-      (λ ms h.
-          subst (λ out. MembersCopied texts n ms (lasts c.as_slice-sorted.result.now) old out 0) (sym pushed)
-          (named_none texts n ms old (lasts c.as_slice-sorted.result.now)
-          (subst (λ es. AreNamed texts n es (put_all ms no_members)) (sym same) (c.in_ok-named.ensures ms h)))),
-      omega (arith, len, at),
-    )
+copy_members-members-init t c = grind (arith, common_steps, MembersCopied, named_none)
 
 pub copy_members-members-preserved : goal.copy_members-members-preserved
-copy_members-members-preserved t c =
-    let l = c.members in
-    let now = lasts_from c.as_slice-sorted.result.now l.at true c.members-test.true (sym c.if-not-is_replaced.false ∙ c.is_replaced.ensures) in (
-      (λ ms h. subst (λ es. MembersCopied c.args.texts.now (length c.args.members.now) ms es c.args.out.now.items l.out.items l.kept) now (l.invariant.0 ms h)),
-      l.invariant.1,
-    )
+copy_members-members-preserved t c = grind (arith, common_steps, lasts_from, MembersCopied)
 
 pub copy_members-bounds-member-0 : goal.copy_members-bounds-member-0
-copy_members-bounds-member-0 t c =
-    let l = c.members in
-    let p = slice_index_or c.as_slice-sorted.result.now l.at (spot []) in
-    let now = lasts_from c.as_slice-sorted.result.now l.at false c.members-test.true (sym c.if-not-is_replaced.true ∙ c.is_replaced.ensures) in
-    let f = first_kept c.args.texts.now (length c.args.members.now) now (l.invariant.0 c.requires.0 c.requires.1) in
-    let long = ap length f.nodes_are in
-    let some : 0 < length p.nodes.now = omega (arith, long) in
-    some
+copy_members-bounds-member-0 t c = grind (arith, common_steps, slice_index_or, spot, lasts_from, first_kept)
 
 pub copy_members-slice_bounds-copy_value-count : goal.copy_members-slice_bounds-copy_value-count
-copy_members-slice_bounds-copy_value-count t c =
-    let l = c.members in
-    let now = lasts_from c.as_slice-sorted.result.now l.at false c.members-test.true (sym c.if-not-is_replaced.true ∙ c.is_replaced.ensures) in
-    let long = ap length (first_kept c.args.texts.now (length c.args.members.now) now (l.invariant.0 c.requires.0 c.requires.1)).nodes_are in
-    omega (arith, long)
+copy_members-slice_bounds-copy_value-count t c = grind (arith, common_steps, lasts_from, first_kept)
 
 pub copy_members-slice_bounds-copy_value-start : goal.copy_members-slice_bounds-copy_value-start
-copy_members-slice_bounds-copy_value-start t c =
-    let l = c.members in
-    let p = slice_index_or c.as_slice-sorted.result.now l.at (spot []) in
-    let now = lasts_from c.as_slice-sorted.result.now l.at false c.members-test.true (sym c.if-not-is_replaced.true ∙ c.is_replaced.ensures) in
-    let long = ap length (first_kept c.args.texts.now (length c.args.members.now) now (l.invariant.0 c.requires.0 c.requires.1)).nodes_are in
-    let some : 1 ≤ length p.nodes.now = omega (arith, long) in
-    some
+copy_members-slice_bounds-copy_value-start t c = grind (arith, common_steps, slice_index_or, spot, lasts_from, first_kept)
 
 pub copy_members-copy_value-requires : goal.copy_members-copy_value-requires
-copy_members-copy_value-requires t c =
-    let l = c.members in
-    let p = slice_index_or c.as_slice-sorted.result.now l.at (spot []) in
-    let now = lasts_from c.as_slice-sorted.result.now l.at false c.members-test.true (sym c.if-not-is_replaced.true ∙ c.is_replaced.ensures) in
-    let f = first_kept c.args.texts.now (length c.args.members.now) now (l.invariant.0 c.requires.0 c.requires.1) in
-    let tail = tail_is (Text f.place) p.nodes.now f.ys f.nodes_are in
-    let long = ap length f.nodes_are in
-    let size = ap length tail in
-    let within = f.within in
-    (omega (arith, long, size, within), (f.value, subst (Stands c.args.texts.now f.value) (sym tail) f.stands))
+copy_members-copy_value-requires t c = grind (arith, common_steps, slice_index_or, spot, lasts_from, first_kept, tail_is)
 
 pub copy_members-members-preserved-then-not-is_replaced : goal.copy_members-members-preserved-then-not-is_replaced
 copy_members-members-preserved-then-not-is_replaced t c =
@@ -234,20 +165,10 @@ copy_members-members-preserved-then-not-is_replaced t c =
     )
 
 pub copy_members-extent_from-requires : goal.copy_members-extent_from-requires
-copy_members-extent_from-requires t c =
-    let l = c.members in
-    let g = l.invariant.0 c.requires.0 c.requires.1 in
-    let within = place_within c.args.out.now.items l.out.items g.xs c.len-start.result g.out_are l.invariant.1 in
-    let len = l.out.ok.0 in
-    omega (arith, within, len)
+copy_members-extent_from-requires t c = grind (arith, common_steps, place_within)
 
 pub copy_members-index_mut-requires : goal.copy_members-index_mut-requires
-copy_members-index_mut-requires t c =
-    let l = c.members in
-    let g = l.invariant.0 c.requires.0 c.requires.1 in
-    let within = place_within c.args.out.now.items l.out.items g.xs c.len-start.result g.out_are l.invariant.1 in
-    let len = l.out.ok.0 in
-    omega (arith, within, len)
+copy_members-index_mut-requires t c = grind (arith, common_steps, place_within)
 
 pub copy_members-returns : goal.copy_members-returns
 copy_members-returns t c = λ ms h.

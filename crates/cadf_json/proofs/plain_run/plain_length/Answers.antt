@@ -1,3 +1,4 @@
+use Rattle.std.proofs.lemmas.Grind.{common_steps}
 use Rattle.std.proofs.Common.{sym, ap, ◌∙◌, arith}
 use lib.Count.{count_trailing_zeros}
 use Rattle.cadf_json.proofs.PlainRuns.{run_bound, run_through, run_stops}
@@ -18,6 +19,4 @@ returns-then-found-ne0-clause-bound c =
     omega (arith, run, run_bound c.args.text.now c.loop-at.at c.loop-at.invariant.1)
 
 pub loop-at-preserved : goal.loop-at-preserved
-loop-at-preserved c =
-    let run = run_through c.args.text.now c.loop-at.at 8 (omega arith) (omega (arith, c.stops-found.ensures)) in
-    (omega (arith, run, c.loop-at.invariant.0), omega arith)
+loop-at-preserved c = grind (arith, common_steps, run_through)

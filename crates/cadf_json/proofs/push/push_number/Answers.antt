@@ -1,18 +1,13 @@
-use Rattle.std.proofs.Common.{◌≡◌, [], ◌∷◌, Some, false, true, option_map, inr, refl, sym, ap, ◌∙◌, append-nil, rules}
+use Rattle.std.proofs.lemmas.Grind.{common_steps}
+use Rattle.std.proofs.Common.{◌≡◌, [], ◌∷◌, Some, true, option_map, inr, refl, sym, ap, ◌∙◌, append-nil, rules, arith}
 use Rattle.serde_json.specs.Find.{is_float}
 use Rattle.serde_json.specs.Read.{number_of}
-use Rattle.serde_json.specs.Written.{number_text}
 use Rattle.cadf_json.specs.Number.{num_of}
 use Rattle.cadf_json.proofs.Numbers.{whole_number_of}
 use Rattle.cadf_json.proofs.push.push_number.Goals as goal
 
 pub returns-in_ok-push_whole-in-Some-Negative-clause-ok : goal.returns-in_ok-push_whole-in-Some-Negative-clause-ok
-returns-in_ok-push_whole-in-Some-Negative-clause-ok c =
-    let n = num_of c.in-Some-Negative.field-0 in
-    let read : number_of c.args.text.now ≡ Some n = sym c.parse.ensures ∙ ap (option_map num_of) c.in-Some-Negative.is in
-    let integer : is_float n ≡ false = rw c.in-Some-Negative.field-0-is refl in
-    let spelled : c.format-in-Some-Negative.result.now ≡ number_text n = rw c.in-Some-Negative.field-0-is (search rules) in
-    (n, (read, c.in_ok-push_whole-in-Some-Negative.ensures n (whole_number_of c.args.text.now n read integer) spelled))
+returns-in_ok-push_whole-in-Some-Negative-clause-ok c = grind (arith, common_steps, option_map, whole_number_of)
 
 pub returns-in_ok-push-in-Some-Float-clause-ok : goal.returns-in_ok-push-in-Some-Float-clause-ok
 returns-in_ok-push-in-Some-Float-clause-ok c =

@@ -1,11 +1,12 @@
-use Rattle.std.proofs.Common.{◌≡◌, ◌-◌, ◌+◌, ◌<◌, ◌++◌, [], ◌∷◌, length, set, true, ◌&&◌, Some, None, Err, option_map, refl, sym, ap, ◌∙◌, subst, arith, rules, append-nil}
-use Rattle.json.specs.Json.{parse_map, after_end_array, read_key, items, members, value}
+use Rattle.std.proofs.lemmas.Grind.{common_steps}
+use Rattle.std.proofs.Common.{◌≡◌, ◌-◌, ◌+◌, ◌<◌, [], ◌∷◌, length, set, ◌&&◌, Some, None, Err, option_map, refl, sym, ap, ◌∙◌, subst, arith, rules, append-nil}
+use Rattle.json.specs.Json.{after_end_array, read_key, items, members, value}
 use Rattle.json.specs.Reads.{token_of}
 use Rattle.json.proofs.Grammar.{value_is, value-begin_array, value-begin_object, read_key-shorter}
-use Rattle.serde_json.specs.Data.{null, boolean, number, string, array, object}
+use Rattle.serde_json.specs.Data.{null, boolean, number, string}
 use Rattle.serde_json.specs.Read.{of_json, converted}
 use Rattle.cadf_json.proofs.Turns.{converted-array, converted-object}
-use Rattle.cadf_json.specs.declared.node.Node.TheVariants.{Null, Array, Object}
+use Rattle.cadf_json.specs.declared.node.Node.TheVariants.{Array, Object}
 use Rattle.cadf_json.specs.declared.push.ReadFault.TheVariants.{NotJson}
 use Rattle.json.specs.Reads.{opens}
 use Rattle.std.proofs.lemmas.Bool.{and_parts}
@@ -20,53 +21,25 @@ use Rattle.cadf_json.proofs.read.+read_value.Goals as goal
 -- ---- a value
 
 pub read_value-returns-in_default-clause-not_json : goal.read_value-returns-in_default-clause-not_json
-read_value-returns-in_default-clause-not_json t c h =
-    let none : c.args.reader.now ≡ [] = grind arith in
-    ap (converted of_json) (ap (value c.args.depth) none ∙ value_is c.args.depth [])
+read_value-returns-in_default-clause-not_json t c h = grind (arith, common_steps, value_is)
 
 pub read_value-returns-in-EndObject-clause-not_json : goal.read_value-returns-in-EndObject-clause-not_json
-read_value-returns-in-EndObject-clause-not_json t c h =
-    let first = c.in-Some.ensures.value in
-    let none : value c.args.depth c.args.reader.now ≡ None = rw (value_is c.args.depth c.args.reader.now, first) (grind arith) in
-    ap (converted of_json) none
+read_value-returns-in-EndObject-clause-not_json t c h = grind (arith, common_steps, value_is)
 
 pub read_value-returns-in_err-push_number-in-Number-clause-not_json : goal.read_value-returns-in_err-push_number-in-Number-clause-not_json
-read_value-returns-in_err-push_number-in-Number-clause-not_json t c h =
-    let rest = c.next.new.self in
-    let is = c.in-Some.ensures.value ∙ ap (λ k. token_of k ∷ rest) c.in-Number.is in
-    let failed : Err c.in_err-push_number-in-Number.field-0.0 ≡ Err NotJson = search rules in
-    ap (converted of_json) (ap (value c.args.depth) is ∙ value_is c.args.depth _)
-    ∙ ap (λ n. option_map (λ d. (d, rest)) (option_map number n)) (c.in_err-push_number-in-Number.ensures.not_json failed)
+read_value-returns-in_err-push_number-in-Number-clause-not_json t c h = grind (arith, common_steps, value_is, option_map)
 
 pub read_value-returns-then-depth-eq0-clause-not_json : goal.read_value-returns-then-depth-eq0-clause-not_json
-read_value-returns-then-depth-eq0-clause-not_json t c h =
-    let rest = c.next.new.self in
-    let is = c.in-Some.ensures.value ∙ ap (λ k. token_of k ∷ rest) c.in-BeginArray.is in
-    too_deep c.args.depth c.args.reader.now c.if-depth-eq0.true (ap opens is)
+read_value-returns-then-depth-eq0-clause-not_json t c h = grind (arith, common_steps, too_deep, opens)
 
 pub read_value-returns-then-depth-eq0-2-clause-not_json : goal.read_value-returns-then-depth-eq0-2-clause-not_json
-read_value-returns-then-depth-eq0-2-clause-not_json t c h =
-    let rest = c.next.new.self in
-    let is = c.in-Some.ensures.value ∙ ap (λ k. token_of k ∷ rest) c.in-BeginObject.is in
-    too_deep c.args.depth c.args.reader.now c.if-depth-eq0-2.true (ap opens is)
+read_value-returns-then-depth-eq0-2-clause-not_json t c h = grind (arith, common_steps, too_deep, opens)
 
 pub read_value-returns-in_err-read_items-in-BeginArray-clause-not_json : goal.read_value-returns-in_err-read_items-in-BeginArray-clause-not_json
-read_value-returns-in_err-read_items-in-BeginArray-clause-not_json t c h =
-    let rest = c.next.new.self in
-    let is = c.in-Some.ensures.value ∙ ap (λ k. token_of k ∷ rest) c.in-BeginArray.is in
-    let opened = ap (converted of_json) (ap (value c.args.depth) is ∙ value-begin_array c.args.depth rest (omega arith))
-    ∙ converted-array (items (value (c.args.depth - 1)) (length rest) rest) in
-    let failed : Err c.in_err-read_items-in-BeginArray.field-0.0 ≡ Err NotJson = search rules in
-    opened ∙ ap (parse_map array) (c.in_err-read_items-in-BeginArray.ensures.not_json failed)
+read_value-returns-in_err-read_items-in-BeginArray-clause-not_json t c h = grind (arith, common_steps, value-begin_array, converted-array)
 
 pub read_value-returns-in_err-read_members-in-BeginObject-clause-not_json : goal.read_value-returns-in_err-read_members-in-BeginObject-clause-not_json
-read_value-returns-in_err-read_members-in-BeginObject-clause-not_json t c h =
-    let rest = c.next.new.self in
-    let is = c.in-Some.ensures.value ∙ ap (λ k. token_of k ∷ rest) c.in-BeginObject.is in
-    let opened = ap (converted of_json) (ap (value c.args.depth) is ∙ value-begin_object c.args.depth rest (omega arith))
-    ∙ converted-object (members (value (c.args.depth - 1)) (length rest) rest) in
-    let failed : Err c.in_err-read_members-in-BeginObject.field-0.0 ≡ Err NotJson = search rules in
-    opened ∙ ap (parse_map object) (c.in_err-read_members-in-BeginObject.ensures.not_json failed)
+read_value-returns-in_err-read_members-in-BeginObject-clause-not_json t c h = grind (arith, common_steps, value-begin_object, converted-object)
 
 pub read_value-returns-in_ok-push_string-in-String-clause-ok : goal.read_value-returns-in_ok-push_string-in-String-clause-ok
 read_value-returns-in_ok-push_string-in-String-clause-ok t c =
@@ -109,36 +82,15 @@ read_value-returns-in_ok-push-in-Null-clause-ok t c =
     )
 
 pub read_value-returns-in-BeginArray-clause-ok : goal.read_value-returns-in-BeginArray-clause-ok
-read_value-returns-in-BeginArray-clause-ok t c =
-    let rest = c.next.new.self in
-    let is = c.in-Some.ensures.value ∙ ap (λ k. token_of k ∷ rest) c.in-BeginArray.is in
-    let opened = ap (converted of_json) (ap (value c.args.depth) is ∙ value-begin_array c.args.depth rest (omega arith))
-    ∙ converted-array (items (value (c.args.depth - 1)) (length rest) rest) in
-    let done = c.in_ok-read_items-in-BeginArray.ensures.ok in
-    (array done.0, (opened ∙ ap (parse_map array) done.1.0, done.1.1))
+read_value-returns-in-BeginArray-clause-ok t c = grind (arith, common_steps, value-begin_array, converted-array)
 
 pub read_value-returns-in-BeginObject-clause-ok : goal.read_value-returns-in-BeginObject-clause-ok
-read_value-returns-in-BeginObject-clause-ok t c =
-    let rest = c.next.new.self in
-    let is = c.in-Some.ensures.value ∙ ap (λ k. token_of k ∷ rest) c.in-BeginObject.is in
-    let opened = ap (converted of_json) (ap (value c.args.depth) is ∙ value-begin_object c.args.depth rest (omega arith))
-    ∙ converted-object (members (value (c.args.depth - 1)) (length rest) rest) in
-    let done = c.in_ok-read_members-in-BeginObject.ensures.ok in
-    (object done.0, (opened ∙ ap (parse_map object) done.1.0, done.1.1))
+read_value-returns-in-BeginObject-clause-ok t c = grind (arith, common_steps, value-begin_object, converted-object)
 
 -- ---- items
 
 pub read_items-items-init : goal.read_items-items-init
-read_items-items-init t c =
-    let old = c.args.nodes.now.items in
-    let u = c.args.texts.now.items in
-    let pushed : c.push.new.self.items ≡ old ++ Null ∷ [] = search rules in
-    let len = c.args.nodes.now.ok.0 in
-    let at = c.len-at.ensures in (
-      subst (λ xs. ItemsRead (value c.args.depth) c.args.reader.now c.args.reader.now old xs u u 0 true) (sym pushed)
-          (items_start (value c.args.depth) c.args.reader.now old u),
-      omega (arith, len, at),
-    )
+read_items-items-init t c = grind (arith, common_steps, ItemsRead, items_start)
 
 pub read_items-returns-in_err-rising-clause-not_json : goal.read_items-returns-in_err-rising-clause-not_json
 read_items-returns-in_err-rising-clause-not_json t c h =
@@ -173,16 +125,7 @@ read_items-returns-clause-ok t c =
 -- ---- members
 
 pub read_members-members-init : goal.read_members-members-init
-read_members-members-init t c =
-    let old = c.args.nodes.now.items in
-    let u = c.args.texts.now.items in
-    let pushed : c.push.new.self.items ≡ old ++ Null ∷ [] = search rules in
-    let len = c.args.nodes.now.ok.0 in
-    let at = c.len-at.ensures in (
-      subst (λ xs. MembersRead (λ ms. ms) (value c.args.depth) c.args.reader.now c.args.reader.now old xs u u 0 None true) (sym pushed)
-          (members_start (λ ms. ms) (value c.args.depth) c.args.reader.now old u refl),
-      omega (arith, len, at),
-    )
+read_members-members-init t c = grind (arith, common_steps, MembersRead, members_start)
 
 pub read_members-returns-in_default-clause-not_json : goal.read_members-returns-in_default-clause-not_json
 read_members-returns-in_default-clause-not_json t c h =

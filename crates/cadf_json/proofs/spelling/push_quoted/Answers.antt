@@ -1,4 +1,5 @@
-use Rattle.std.proofs.Common.{◌≡◌, ◌++◌, [], ◌∷◌, ℕ, List, ap, ap₂, ◌∙◌, append-nil, append_assoc, length, sym, rules, arith}
+use Rattle.std.proofs.lemmas.Grind.{common_steps}
+use Rattle.std.proofs.Common.{◌≡◌, ◌++◌, [], ◌∷◌, ℕ, List, ap, ap₂, ◌∙◌, append-nil, append_assoc, length, sym, arith}
 use Rattle.std.specs.List.{prefix_len}
 use Rattle.json.specs.Run.{is_plain}
 use Rattle.json.specs.Token.{Token}
@@ -11,13 +12,7 @@ unfolding print_from
 one_string s = append-nil (quoted s)
 
 pub returns-then-plain_length-text : goal.returns-then-plain_length-text
-returns-then-plain_length-text c =
-    let s = c.args.text.now in
-    let before : c.string.new.self.before ≡ [] = search rules in
-    let tokens : c.string.new.self.tokens ≡ Token.string s ∷ [] = search rules in
-    let bytes : c.into_inner.result.items ≡ quoted s =
-    c.into_inner.ensures.items ∙ ap₂ (λ xs ts. xs ++ print ts) before tokens ∙ one_string s in
-    c.in_ok-extend_from_slice.ensures.items ∙ ap (λ xs. c.args.out.now.items ++ xs) (c.as_slice.ensures.value ∙ bytes)
+returns-then-plain_length-text c = grind (arith, common_steps, one_string)
 
 pub returns : goal.returns
 returns c =

@@ -1,4 +1,5 @@
-use Rattle.std.proofs.Common.{◌≡◌, ℕ, ◌+◌, ◌<◌, List, length, drop, true, ◌||◌, sym, ap, ◌∙◌, arith, rules}
+use Rattle.std.proofs.lemmas.Grind.{common_steps}
+use Rattle.std.proofs.Common.{◌≡◌, ℕ, ◌+◌, ◌<◌, List, length, drop, ◌||◌, ap, arith}
 use Rattle.std.specs.Prelude.{slice_index_or}
 use Rattle.std.proofs.lemmas.List.{drop_more}
 use Rattle.cadf_json.specs.declared.node.Node.{Node}
@@ -10,8 +11,4 @@ first_is : (xs : List Node) (i : ℕ) → i < length xs → have_fraction (drop 
 first_is xs i h = ap have_fraction (drop_more xs i Null h)
 
 pub returns-then-is_fraction : goal.returns-then-is_fraction
-returns-then-is_fraction c =
-    let nodes = c.args.nodes.now in
-    let i = c.loop-node.node-index in
-    let is : is_fraction (slice_index_or nodes i Null) ≡ true = search rules in
-    sym (c.loop-node.invariant ∙ first_is nodes i (omega arith) ∙ ap (λ b. b || have_fraction (drop (i + 1) nodes)) is)
+returns-then-is_fraction c = grind (arith, common_steps, first_is)

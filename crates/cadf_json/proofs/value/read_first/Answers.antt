@@ -1,6 +1,6 @@
-use Rattle.std.proofs.Common.{Some, inr, sym, ap, ◌∙◌, subst}
-use Rattle.cadf_json.specs.Flat.{have_fraction, Stands}
-use Rattle.cadf_json.specs.Value.{IsValue}
+use Rattle.std.proofs.lemmas.Grind.{common_steps}
+use Rattle.std.proofs.Common.{Some, sym, ap, ◌∙◌, arith}
+use Rattle.cadf_json.specs.Flat.{have_fraction}
 use Rattle.cadf_json.proofs.Decoding.{decoded, fraction_is}
 use Rattle.cadf_json.proofs.Settling.{from_none}
 use Rattle.cadf_json.proofs.ReadValues.{value_read}
@@ -24,8 +24,4 @@ returns-clause-flat c =
     let nodes = c.put_in_order.new.nodes.items in
     let got = c.in-Ok.ensures.ok in
     let stands = c.in_ok-put_in_order.ensures got.0 (from_none c.in-Ok.rising got.0 c.requires.empty got.1.1) in
-    let float = sym (fraction_is _ got.0 nodes stands) ∙ ap have_fraction (sym c.as_slice.ensures.value) ∙ sym c.has_fraction.ensures ∙ c.if-has_fraction.false in
-    let dec = decoded texts got.0 nodes stands float in (
-      inr (subst (λ e. Stands texts e nodes) (sym dec) stands),
-      subst IsValue (sym dec) (value_read c.args.depth c.args.reader.now c.read_value.new.reader got.0 c.requires.depth c.requires.utf8 got.1.0 float),
-    )
+    grind (arith, common_steps, fraction_is, decoded, value_read)

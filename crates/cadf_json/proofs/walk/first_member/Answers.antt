@@ -1,5 +1,6 @@
-use Rattle.std.proofs.Common.{◌+◌, ◌-◌, ◌∷◌, length, slice_index_or, take, drop, ap, ◌∙◌, arith, refl, length-append}
-use Rattle.cadf_json.specs.declared.node.Node.TheVariants.{Null, Text}
+use Rattle.std.proofs.lemmas.Grind.{common_steps}
+use Rattle.std.proofs.Common.{◌+◌, ◌-◌, slice_index_or, take, drop, ap, ◌∙◌, arith, refl, length-append}
+use Rattle.cadf_json.specs.declared.node.Node.TheVariants.{Null}
 use Rattle.cadf_json.specs.Flat.{size_of}
 use Rattle.cadf_json.proofs.Firsts.{opens, first_of}
 use Rattle.cadf_json.proofs.walk.first_member.Goals as goal
@@ -8,8 +9,7 @@ pub bounds-nodes-1 : goal.bounds-nodes-1
 bounds-nodes-1 c =
     let r = c.requires in
     let o = opens c.args.texts.now c.args.nodes.now r.0 r.1.0 r.1.1.0 r.1.1.1 in
-    let long = ap length o.is in
-    omega (arith, long)
+    grind (arith, common_steps)
 
 pub overflow_add-end : goal.overflow_add-end
 overflow_add-end c = let small = c.size-size.ensures.small in omega (arith, small)
@@ -18,10 +18,7 @@ pub split_at-requires : goal.split_at-requires
 split_at-requires c =
     let r = c.requires in
     let o = opens c.args.texts.now c.args.nodes.now r.0 r.1.0 r.1.1.0 r.1.1.1 in
-    let sized = c.size-size.ensures.value ∙ ap (λ ns. size_of (slice_index_or ns 1 Null)) o.is in
-    let size = o.size in
-    let long = ap length o.is ∙ length-append (Text o.place ∷ o.x ∷ o.ys) o.zs in
-    omega (arith, sized, size, long)
+    grind (arith, common_steps, slice_index_or, length-append)
 
 pub returns : goal.returns
 returns c = λ k d ms h.
