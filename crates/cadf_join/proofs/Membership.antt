@@ -4,16 +4,8 @@ use Rattle.std.specs.Prelude.{◌↔◌, ◌≢◌, ◌&&◌}
 use mathlib.Core.Bool.{true≢false}
 use Rattle.std.specs.FinMap as fin
 use Rattle.cadf_join.specs.Contents.{Text, Texts, TextSetValue, Contents, Has, under, suffixes_of, singles}
-use Rattle.cadf_join.specs.laws.Contents.{
-  text_total,
-  text_same,
-  contains-under,
-  empty_list-under,
-  contains-section,
-  contains-singles,
-  empty_list-singles,
-  longer-singles,
-}
+use Rattle.cadf_join.specs.laws.Contents.{text_total, text_same, contains-under, empty_list-under, contains-section, contains-singles}
+use Rattle.cadf_join.specs.laws.Contents.{empty_list-singles, longer-singles}
 use Rattle.cadf_join.specs.Maps.{MapValue, heads, held, contents_at}
 use Rattle.cadf_join.specs.Prefixes.{chains}
 use Rattle.cadf_join.specs.laws.Chains.{empty_list-chains, contains-chains}

@@ -12,22 +12,7 @@ use Rattle.json.proofs.Nesting.{value-depth}
 use Rattle.json.proofs.Printed.Trees.{ArePrintable-json_tokens, value-json_tokens}
 use Rattle.json.proofs.Printed.Tokens.{tokens-print}
 use Rattle.json.proofs.Unique.Spelling.{value-json_tokens_back}
-use Rattle.serde_json.specs.Data.{
-  Data,
-  null,
-  boolean,
-  number,
-  string,
-  array,
-  object,
-  Items,
-  no_items,
-  item,
-  Members,
-  no_members,
-  member,
-  depth,
-}
+use Rattle.serde_json.specs.Data.{Data, null, boolean, number, string, array, object, Items, no_items, item, Members, no_members, member, depth}
 use Rattle.serde_json.specs.Written.{number_text, outline, items_outline, members_outline}
 use Rattle.serde_json.proofs.Texts.{print-outline}
 use Rattle.cadf_json.specs.Value.{IsWhole, ItemsAreWhole, MembersAreWhole, Rises, IsValue, text}

@@ -10,16 +10,7 @@ use Rattle.serde_json.specs.Written.{number_text, outline, items_outline, member
 use Rattle.serde_json.proofs.Numbers.{number_of-decimal, number_of-negative}
 use Rattle.serde_json.proofs.Texts.{print-outline}
 use Rattle.cadf_json.specs.Value.{IsWholeNumber, IsWhole, ItemsAreWhole, MembersAreWhole}
-use Rattle.cadf_json.specs.Tree.{
-  IsWholeText,
-  number_in,
-  data_in,
-  listed_in,
-  named_in,
-  IsNormalized,
-  ItemsAreNormalized,
-  MembersAreNormalized,
-}
+use Rattle.cadf_json.specs.Tree.{IsWholeText, number_in, data_in, listed_in, named_in, IsNormalized, ItemsAreNormalized, MembersAreNormalized}
 
 number_read : (n : Num) → IsWholeNumber n → number_of (number_text n) ≡ Some n
 number_read n h = grind (arith, common_steps, number_of-decimal, number_of-negative)

@@ -8,38 +8,9 @@ use Rattle.json.specs.Ascii as ascii
 use Rattle.json.specs.Token.{Token, boolean, null, bad}
 use Rattle.json.specs.Text.{content, plain}
 use Rattle.json.specs.Word.{head, word, number_before, after_number, literal}
-use Rattle.json.specs.Lex.{
-  Lexeme,
-  token,
-  comma,
-  colon,
-  Class,
-  quote,
-  backslash,
-  operator,
-  space,
-  other,
-  class,
-  operator_lexeme,
-  string_token,
-  Mode,
-  between,
-  in_word,
-  in_string,
-  in_escape,
-  lex_byte,
-  lex,
-  Place,
-  fresh,
-  after_value,
-  after_comma,
-  after_key,
-  begins_colon,
-  if_allowed,
-  place_token,
-  punctuate,
-  tokens,
-}
+use Rattle.json.specs.Lex.{Lexeme, token, comma, colon, Class, quote, backslash, operator, space, other, class, operator_lexeme, string_token, Mode}
+use Rattle.json.specs.Lex.{between, in_word, in_string, in_escape, lex_byte, lex, Place, fresh, after_value, after_comma, after_key, begins_colon}
+use Rattle.json.specs.Lex.{if_allowed, place_token, punctuate, tokens}
 use Rattle.cadf_json.specs.TokenUtf8.{HasUtf8, HaveUtf8}
 use Rattle.cadf_json.proofs.Given.{Given}
 use Rattle.cadf_json.proofs.StringContent.{behind_ascii, content_utf8}

@@ -1,23 +1,8 @@
 -- JSON that is in order, and the value that it represents.
 use Rattle.std.specs.Prelude.{◌≡◌, ℕ, List, IsUtf8, unwrap_or, ⊤}
 use Rattle.json.specs.Json as json
-use Rattle.serde_json.specs.Data.{
-  Num,
-  unsigned,
-  Data,
-  null,
-  boolean,
-  number,
-  string,
-  array,
-  object,
-  Items,
-  no_items,
-  item,
-  Members,
-  no_members,
-  member,
-}
+use Rattle.serde_json.specs.Data.{Num, unsigned, Data, null, boolean, number, string, array, object, Items, no_items, item, Members, no_members}
+use Rattle.serde_json.specs.Data.{member}
 use Rattle.serde_json.specs.Read.{number_of}
 use Rattle.serde_json.specs.Written.{number_text}
 use Rattle.cadf_json.specs.Value.{IsWholeNumber, Rises}

@@ -13,23 +13,8 @@ use Rattle.std.specs.List.Sorted.{IsStrictlySortedBy}
 use Rattle.std.specs.Ordering.{eq_by_cmp, is_eq, match_ordering, ordering_reverse}
 use Rattle.std.specs.Cmp.{IsTotalOrder, Equal-is, tied_itself, alike_right}
 use Rattle.std.specs.BTreeSet.{insert_key}
-use Rattle.cadf_join.specs.Sets.{
-  FinSet,
-  IsAntisymmetric,
-  empty,
-  contains,
-  from_list,
-  is_subset,
-  items,
-  contains-from_list,
-  contains-items,
-  contains_tied,
-  contains-is_subset,
-  same_set,
-  Listed,
-  sorted_keys,
-  rising,
-}
+use Rattle.cadf_join.specs.Sets.{FinSet, IsAntisymmetric, empty, contains, from_list, is_subset, items, contains-from_list, contains-items}
+use Rattle.cadf_join.specs.Sets.{contains_tied, contains-is_subset, same_set, Listed, sorted_keys, rising}
 
 or_swap : (a b c : Bool) → (a || (b || c)) ≡ (b || (a || c))
 or_swap true true c = refl

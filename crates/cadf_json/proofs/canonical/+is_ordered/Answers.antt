@@ -4,24 +4,9 @@ use Rattle.json.specs.Json as json
 use Rattle.json.specs.Json.{after_end_array, read_key, value}
 use Rattle.json.specs.Reads.{token_of}
 use Rattle.json.proofs.Grammar.{value_is, read_key-shorter}
-use Rattle.cadf_json.proofs.InOrder.{
-  items_start,
-  one_more_item,
-  all_items,
-  no_items_here,
-  members_start,
-  one_more_member,
-  all_members,
-  no_key_here,
-  no_name_here,
-  no_value_here,
-  none_unordered,
-  number_unordered,
-  array_unordered,
-  array_ordered,
-  object_unordered,
-  object_ordered,
-}
+use Rattle.cadf_json.proofs.InOrder.{items_start, one_more_item, all_items, no_items_here, members_start, one_more_member, all_members, no_key_here}
+use Rattle.cadf_json.proofs.InOrder.{no_name_here, no_value_here, none_unordered, number_unordered, array_unordered, array_ordered, object_unordered}
+use Rattle.cadf_json.proofs.InOrder.{object_ordered}
 use Rattle.cadf_json.proofs.canonical.+is_ordered.Goals as goal
 
 pub is_ordered-returns-in_default-clause-no : goal.is_ordered-returns-in_default-clause-no

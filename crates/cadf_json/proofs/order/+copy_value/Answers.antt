@@ -5,21 +5,8 @@ use Rattle.std.proofs.lemmas.Result.{on_ok_weaker}
 use Rattle.cadf_json.specs.declared.node.Node.TheVariants.{Null, Text, Array, Object}
 use Rattle.cadf_json.specs.Flat.{Stands, settled}
 use Rattle.cadf_json.specs.Reading.{Copied, lasts}
-use Rattle.cadf_json.proofs.Copying.{
-  nonempty,
-  begun_by,
-  scalar_begun,
-  place_within,
-  ItemsCopied,
-  copied_none,
-  copied_more,
-  copied_all,
-  MembersCopied,
-  first_kept,
-  named_none,
-  named_more,
-  named_all,
-}
+use Rattle.cadf_json.proofs.Copying.{nonempty, begun_by, scalar_begun, place_within, ItemsCopied, copied_none, copied_more, copied_all, MembersCopied}
+use Rattle.cadf_json.proofs.Copying.{first_kept, named_none, named_more, named_all}
 use Rattle.cadf_json.proofs.Firsts.{first_item, tail_of, tail_is}
 use Rattle.cadf_json.proofs.Sorted.{lasts_from, spot}
 use Rattle.cadf_json.proofs.order.+copy_value.Goals as goal
