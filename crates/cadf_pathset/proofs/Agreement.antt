@@ -1,4 +1,5 @@
 -- Lists that share their first texts.
+use Rattle.std.proofs.lemmas.Grind.{common_steps}
 use Rattle.std.proofs.Common.{◌≡◌, ℕ, ◌+◌, ◌<◌, ◌≤◌, min, [], ◌∷◌, refl, sym, ap, ◌∙◌, subst, suc, zero, length, take, drop, get_or, arith}
 use Rattle.std.proofs.lemmas.List.{length-take-le, take_more_same, take-take}
 use Rattle.std.specs.declared.cmp.Ordering.{Ordering}
@@ -38,25 +39,18 @@ agree_less i j a b l h =
     }
 
 pub agree_through : (i j : ℕ) (a b c : Texts) → Agree i a b → Agree j b c → Agree (min i j) a c
-agree_through i j a b c h k =
-    let x = agree_less i (min i j) a b (omega arith) h in
-    let y = agree_less j (min i j) b c (omega arith) k in
-    record { ours = x.ours; theirs = y.theirs; same = x.same ∙ y.same }
+agree_through i j a b c h k = grind (arith, common_steps, agree_less)
 
 -- the first texts of a list
 pub agree_cut : (n k count : ℕ) (a b : Texts) → Agree n a b → count ≤ length b → k ≡ min n count → Agree k a (take count b)
-agree_cut n k count a b h l e =
-    let x = agree_less n k a b (omega (arith, e)) h in
-    let long = length-take-le count b l in
-    record { ours = x.ours; theirs = omega (arith, e, long); same = x.same ∙ sym (take-take k count b (omega (arith, e))) }
+agree_cut n k count a b h l e = grind (arith, common_steps, agree_less, length-take-le, take-take)
 
 pub agree_turned : (i : ℕ) (a b : Texts) → Agree i a b → Agree i b a
 agree_turned i a b h = record { ours = h.theirs; theirs = h.ours; same = sym h.same }
 
 -- two lists, each of which shares texts with one list
 pub agree_both : (i j n : ℕ) (a b x y : Texts) → a ≡ b → Agree i a x → Agree j b y → n ≡ min i j → Agree n x y
-agree_both i j n a b x y e h k is =
-    subst (λ m. Agree m x y) (sym is) (agree_through i j x a y (agree_turned i a x h) (subst (λ z. Agree j z y) (sym e) k))
+agree_both i j n a b x y e h k is = grind (arith, common_steps, agree_through, agree_turned)
 
 -- at the text at which they diverge
 pub parted : (i : ℕ) (a b : Texts) (r : Ordering) → Agree i a b → i < length a → i < length b → text_cmp (get_or a i []) (get_or b i []) ≡ r
@@ -69,8 +63,7 @@ parted zero (t ∷ a) (u ∷ b) Greater h l m e n = (ap (λ z. ordering_then z (
 parted (suc i) (t ∷ a) (u ∷ b) r h l m e n =
     let rest = parted i a b r (agree_rest i t u a b h) (omega (arith, l)) (omega (arith, m)) e n in
     let first = agree_first i t u a b h in
-    let many = rest.1 in
-    (ap (λ z. ordering_then z (texts_cmp a b)) first ∙ rest.0, ap (λ z. match_ordering z 0 (shared a b + 1) 0) first ∙ omega (arith, many))
+    grind (arith, common_steps)
 
 -- if one of them ends
 pub ended : (i : ℕ) (a b : Texts) → Agree i a b → min (length a) (length b) ≤ i → (texts_cmp a b ≡ nat_cmp (length a) (length b)) × (shared a b ≡ i)
@@ -83,10 +76,7 @@ ended (suc i) (t ∷ a) [] h l = let x = h.theirs in absurd (omega (arith, x))
 ended (suc i) (t ∷ a) (u ∷ b) h l =
     let rest = ended i a b (agree_rest i t u a b h) (omega (arith, l)) in
     let first = agree_first i t u a b h in
-    let many = rest.1 in (
-      ap (λ z. ordering_then z (texts_cmp a b)) first ∙ rest.0 ∙ sym (cmp_suc (length a) (length b)),
-      ap (λ z. match_ordering z 0 (shared a b + 1) 0) first ∙ omega (arith, many),
-    )
+    grind (arith, common_steps, cmp_suc)
 
 greater_not : Greater ≡ Less → ⊥
 greater_not e = cc

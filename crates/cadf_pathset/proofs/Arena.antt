@@ -1,4 +1,5 @@
 -- The lists of the nodes of an arena, one by one and after a node is appended.
+use Rattle.std.proofs.lemmas.Grind.{common_steps}
 use Rattle.std.proofs.Common.{◌≡◌, ℕ, ◌+◌, ◌-◌, ◌<◌, ◌≤◌, List, [], ◌∷◌, ◌++◌, refl, sym, ap, ◌∙◌, suc, zero, length, get_or, arith}
 use Rattle.std.proofs.lemmas.List.{length_push, get_or_append_left, get_or_push, get_or_read}
 use Rattle.cadf_join.specs.Contents.{Text, Texts}
@@ -10,9 +11,7 @@ length_from known [] ts e = omega arith
 length_from known (p ∷ ps) [] e = absurd (omega (arith, e))
 length_from known (p ∷ ps) (t ∷ ts) e =
     let x : Texts = list_at known p ++ t ∷ [] in
-    let rest = length_from (known ++ x ∷ []) ps ts (omega (arith, e)) in
-    let one = length_push known x in
-    omega (arith, rest, one)
+    grind (arith, common_steps, length_push, (length_from (known ++ x ∷ []) ps ts (omega (arith, e))))
 
 pub from_kept : (known : List Texts) (ps : List ℕ) (ts : Texts) (n : ℕ) → n < length known → get_or (lists_from known ps ts) n [] ≡ get_or known n []
 unfolding lists_from
@@ -40,12 +39,7 @@ from_node : (known : List Texts) (ps : List ℕ) (ts : Texts) (k n m : ℕ) → 
 unfolding lists_from ParentsFirst
 from_node known [] ts k n m e f a b l = absurd (omega (arith, l))
 from_node known (p ∷ ps) [] k n m e f a b l = absurd (omega (arith, e))
-from_node known (p ∷ ps) (t ∷ ts) zero n m e f a b l =
-    let x : Texts = list_at known p ++ t ∷ [] in
-    let one = length_push known x in
-    let first = f.0 in
-    from_kept (known ++ x ∷ []) ps ts n (omega (arith, one, b)) ∙ get_or_push known x [] n (omega (arith, b))
-    ∙ ap (λ z. z ++ t ∷ []) (sym (from_at (known ++ x ∷ []) ps ts p (omega (arith, one, first, a)) ∙ get_or_append_left ([] ∷ known) (x ∷ []) [] p (omega (arith, first, a))))
+from_node known (p ∷ ps) (t ∷ ts) zero n m e f a b l = grind (arith, common_steps, length_push, from_kept, get_or_push, from_at, get_or_append_left)
 from_node known (p ∷ ps) (t ∷ ts) (suc k) n m e f a b l =
     let x : Texts = list_at known p ++ t ∷ [] in
     let one = length_push known x in
@@ -148,9 +142,7 @@ small_by ps ts a (suc fuel) (suc n) f h =
 pub list_small : (ps : List ℕ) (ts : Texts) → AreNodes ps ts → (ls : List Texts) → lists ps ts ≡ ls → (n : ℕ) → n ≤ length ls → length (list_at ls n) ≤ length ls
 list_small ps ts a ls view n h =
     let m = node_count ps ts a ls view in
-    let s = small_by ps ts a n n (omega arith) (omega (arith, m, h)) in
-    let e = ap (λ z. length (list_at z n)) view in
-    omega (arith, s, e, h)
+    grind (arith, common_steps, small_by)
 
 pub one_longer : (l m : Texts) (t : Text) → l ≡ m ++ t ∷ [] → length l ≡ length m + 1
 one_longer l m t e = ap length e ∙ length_push m t

@@ -1,4 +1,5 @@
 -- The suffixes after a text in ascending lists, and the first texts of the lists.
+use Rattle.std.proofs.lemmas.Grind.{common_steps}
 use Rattle.std.proofs.Common.{
   ◌≡◌,
   ℕ,
@@ -25,13 +26,14 @@ use Rattle.std.proofs.Common.{
   map,
   ◌<◌,
   ◌+◌,
+  arith,
 }
 use Rattle.std.specs.Borrow.{Bor}
 use Rattle.std.proofs.lemmas.List.{at_drop_more}
 use mathlib.Core.Bool.{true≢false}
 use Rattle.std.specs.declared.cmp.Ordering.{Ordering}
 use Rattle.std.specs.declared.cmp.Ordering.TheVariants.{Less, Equal, Greater}
-use Rattle.std.specs.Ordering.{is_lt, is_eq, eq_by_cmp, match_ordering, ordering_reverse, ordering_then}
+use Rattle.std.specs.Ordering.{is_lt, is_eq, eq_by_cmp, match_ordering, ordering_reverse}
 use Rattle.std.specs.List.{AllByRecursion, cons_option, filter_map, find}
 use Rattle.std.specs.List.Sorted.{IsStrictlySortedBy}
 use Rattle.cadf_join.specs.Contents.{Text, Texts, Contents, text_cmp, texts_cmp, is_after, next_after, tails_of, suffixes_of}
@@ -146,24 +148,15 @@ pub least_second : (ls : List Texts) → IsStrictlySortedBy texts_cmp ls → fir
 unfolding IsStrictlySortedBy
 least_second [] s e = refl
 least_second ([] ∷ []) s e = refl
-least_second ([] ∷ [] ∷ ls) s e = absurd (never s.0.0)
-  where
-    never : Equal ≡ Less → ⊥
-    never q = cc
+least_second ([] ∷ [] ∷ ls) s e = grind (arith, common_steps)
 least_second ([] ∷ (u ∷ c) ∷ ls) s e = refl
-least_second ((u ∷ c) ∷ ls) s e = absurd (never e)
-  where
-    never : Some u ≡ None → ⊥
-    never q = cc
+least_second ((u ∷ c) ∷ ls) s e = grind (arith, common_steps)
 
 not_below : (t : Text) (c : Texts) (ls : List Texts) → AllByRecursion (λ l. texts_cmp (t ∷ c) l ≡ Less) ls
     → AllByRecursion (λ u. text_cmp t u ≡ Greater → ⊥) (firsts ls)
 not_below t c [] h = tt
 not_below t c ([] ∷ ls) h = not_below t c ls h.1
-not_below t c ((u ∷ d) ∷ ls) h = (λ e. never (sym (ap (λ r. ordering_then r (texts_cmp c d)) e) ∙ h.0), not_below t c ls h.1)
-  where
-    never : Greater ≡ Less → ⊥
-    never q = cc
+not_below t c ((u ∷ d) ∷ ls) h = grind (arith, common_steps, (not_below t c ls h.1))
 
 pub firsts_do_not_fall : (ls : List Texts) → IsStrictlySortedBy texts_cmp ls → DoesNotFall text_total text_same (firsts ls)
 unfolding IsStrictlySortedBy
@@ -229,5 +222,4 @@ part_is p ls sorted part s is view = ap set.from_list is ∙ sym (sections_of p 
 
 pub behind_first : (prefix : List (Bor Text)) (i : ℕ) (part below : List Texts) (otherwise : Bor Text) → i < length prefix
     → below ≡ tails_of (get_or prefix i otherwise).now part → suffixes_behind (texts_at (drop (i + 1) prefix)) below ≡ suffixes_behind (texts_at (drop i prefix)) part
-behind_first prefix i part below otherwise h is =
-    ap (suffixes_behind (texts_at (drop (i + 1) prefix))) is ∙ sym (at_drop_more (λ ts. suffixes_behind (texts_at ts) part) prefix i otherwise h)
+behind_first prefix i part below otherwise h is = grind (arith, common_steps, at_drop_more)

@@ -1,5 +1,6 @@
 -- A climb from a node, beside a list.
-use Rattle.std.proofs.Common.{◌≡◌, ℕ, ◌+◌, ◌-◌, ◌<◌, ◌≤◌, min, [], ◌∷◌, ◌++◌, refl, sym, ap, ◌∙◌, subst, length, take, get_or, arith}
+use Rattle.std.proofs.lemmas.Grind.{common_steps}
+use Rattle.std.proofs.Common.{◌≡◌, ℕ, ◌+◌, ◌-◌, ◌<◌, ◌≤◌, min, [], ◌∷◌, ◌++◌, sym, ap, ◌∙◌, subst, length, take, get_or, arith}
 use Rattle.std.proofs.lemmas.List.{length-take, take-take, take_at, take_min}
 use Rattle.std.specs.declared.cmp.Ordering.{Ordering}
 use Rattle.std.specs.declared.cmp.Ordering.TheVariants.{Less, Equal, Greater}
@@ -12,9 +13,7 @@ use Rattle.cadf_pathset.proofs.Compared.{less_is_not, greater_is_not}
 use Rattle.cadf_pathset.proofs.Orders.{cmp_same, front_more}
 
 pub front_least : (a : Texts) (len has depth : ℕ) → has ≡ length a → depth ≡ min has len → take len a ≡ take depth a
-front_least a len has depth h d =
-    let e : min len (length a) ≡ depth = omega (arith, h, d) in
-    sym (take_min len a) ∙ ap (λ k. take k a) e
+front_least a len has depth h d = grind (arith, common_steps, take_min)
 
 pub front_up : (a l p : Texts) (t : Text) (d : ℕ) → l ≡ take d a → d - 1 ≡ length p → l ≡ p ++ t ∷ [] → p ≡ take (d - 1) a
 front_up a l p t d front long e =
@@ -24,22 +23,16 @@ pub front_fits : (a l : Texts) (d : ℕ) → l ≡ take d a → d ≡ length l �
 front_fits a l d front long = let x = ap length front in let y = length-take d a in omega (arith, x, y, long)
 
 pub last_front : (a l : Texts) (d : ℕ) → 0 < d → d ≤ length a → l ≡ take d a → last_text l ≡ get_or a (d - 1) []
-last_front a l d some fits front =
-    ap last_text (front ∙ front_more a d some fits) ∙ last_of_push (take (d - 1) a) (get_or a (d - 1) [])
+last_front a l d some fits front = grind (arith, common_steps, front_more, last_of_push)
 
 pub shares_step : (a b : Texts) (d agreed next : ℕ) (r : Ordering) → (Agree d a b → Agree agreed a b) → 0 < d → d ≤ length a → d ≤ length b
     → text_cmp (get_or a (d - 1) []) (get_or b (d - 1) []) ≡ r → (r ≡ Equal → next ≡ agreed) → ((r ≡ Equal → ⊥) → next ≡ d - 1) → Agree (d - 1) a b → Agree next a b
 shares_step a b d agreed next Less h some x y e same here g = subst (λ k. Agree k a b) (sym (here less_is_not)) g
 shares_step a b d agreed next Greater h some x y e same here g = subst (λ k. Agree k a b) (sym (here greater_is_not)) g
-shares_step a b d agreed next Equal h some x y e same here g =
-    let one : (d - 1) + 1 ≡ d = omega (arith, some) in
-    subst (λ k. Agree k a b) (sym (same refl))
-    (h (subst (λ k. Agree k a b) one (agree_more (d - 1) a b g (omega (arith, some, x)) (omega (arith, some, y)) e)))
+shares_step a b d agreed next Equal h some x y e same here g = grind (arith, common_steps, agree_more)
 
 pub text_up : (a l : Texts) (i : ℕ) → i < length a → l ≡ take (i + 1) a → last_text l ≡ get_or a i []
-text_up a l i fits front =
-    let e : (i + 1) - 1 ≡ i = omega arith in
-    last_front a l (i + 1) (omega arith) (omega (arith, fits)) front ∙ ap (λ k. get_or a k []) e
+text_up a l i fits front = grind (arith, common_steps, last_front)
 
 -- the order, once both are known to share the texts that were not compared
 pub cmp_known : (a b l : Texts) (d known : ℕ) (found r : Ordering) → l ≡ take d a → Agree known a b → d ≤ known

@@ -1,5 +1,6 @@
 -- A line's list and a path, compared at one text.
-use Rattle.std.proofs.Common.{◌≡◌, ℕ, ◌+◌, ◌<◌, ◌≤◌, min, List, [], sym, ap, ◌∙◌, length, take, get_or, arith}
+use Rattle.std.proofs.lemmas.Grind.{common_steps}
+use Rattle.std.proofs.Common.{◌≡◌, ℕ, ◌+◌, ◌<◌, ◌≤◌, min, List, [], sym, ◌∙◌, length, take, get_or, arith}
 use Rattle.std.specs.Borrow.{Bor}
 use Rattle.std.proofs.lemmas.List.{length-map, length-take, take-map}
 use Rattle.std.specs.declared.cmp.Ordering.{Ordering}
@@ -43,13 +44,7 @@ module _ (ls : List Texts) (ns : List ℕ) (q : Texts) (len : ℕ) (long : lengt
 
 -- what is left of a path that is cut
 pub cut_path : (p q : List (Bor (List ℕ))) (n : ℕ) (l : Texts) → q ≡ take n p → Agree n (texts_at p) l → texts_at q ≡ take (length q) l
-cut_path p q n l e h =
-    let a = ap length e in
-    let b = length-take n p in
-    let m = length-map p (λ t. t.now) in
-    let f = h.ours in
-    let k : n ≡ length q = omega (arith, a, b, m, f) in
-    ap texts_at e ∙ sym (take-map (λ t. t.now) n p) ∙ h.same ∙ ap (λ j. take j l) k
+cut_path p q n l e h = grind (arith, common_steps, length-take, length-map, take-map)
 
 -- the same of two lists, if the length of one is known
 module _ (l q : Texts) (len : ℕ) (long : length q ≡ len) (i : ℕ) (k : Agree i l q) where

@@ -1,4 +1,5 @@
 -- The texts that lists share which are visited and copied.
+use Rattle.std.proofs.lemmas.Grind.{common_steps}
 use Rattle.std.proofs.Common.{◌≡◌, ℕ, Bool, true, false, cond, ◌≤◌, ◌<◌, ◌-◌, nat_eq, get_or, List, [], ◌∷◌, ◌++◌, refl, sym, ap, ◌∙◌, subst, suc, zero, length, min, map, take, arith}
 use Rattle.std.proofs.lemmas.List.{append_assoc, length-take-le, take-take}
 use Rattle.std.proofs.lemmas.Bool.Decides.{nat_tests}
@@ -23,9 +24,7 @@ stepped_ahead false a b n m h = sym h.0
 
 -- the texts that a list shares with another, and the next list with it
 pub advanced_agrees : (n s m : ℕ) (q a b : Texts) → Agree n q a → s ≡ shared b a → m ≡ min n s → Agree m q b
-advanced_agrees n s m q a b h e f =
-    agree_less (min n (shared b a)) m q b (omega (arith, e, f))
-    (agree_through n (shared b a) q a b h (agree_turned (shared b a) b a (agree_shared b a)))
+advanced_agrees n s m q a b h e f = grind (arith, common_steps, agree_less, agree_through, agree_turned, agree_shared)
 
 pub stepped_agrees : (more : Bool) (a b : Place) (n m : ℕ) (q : Texts) → Steps more a b n m → Agree n a.0 q → Agree m b.0 q
 stepped_agrees true a b n m q h k = agree_turned m q b.0 (advanced_agrees n (shared b.0 a.0) m q a.0 b.0 (agree_turned n a.0 q k) refl h.1)
@@ -33,16 +32,11 @@ stepped_agrees false a b n m q h k = subst (λ p. Agree m p.0 q) (sym h.1) (subs
 
 -- the last of some lists is the one appended
 pub last_agrees : (xs now : List Texts) (p q : Texts) (n : ℕ) → now ≡ xs ++ p ∷ [] → q ≡ p → n ≡ length q → Agree n (last_of [] now) q
-last_agrees xs now p q n put same long =
-    subst (λ z. Agree n z q) (same ∙ sym (ap (last_of []) put ∙ last-more [] xs p))
-    (record { ours = omega (arith, long); theirs = omega (arith, long); same = refl })
+last_agrees xs now p q n put same long = grind (arith, common_steps, last-more)
 
 -- the last of some lists is the appended front of a list
 pub front_agrees : (xs now : List Texts) (f l : Texts) (n : ℕ) → now ≡ xs ++ f ∷ [] → f ≡ take n l → n ≤ length l → Agree n (last_of [] now) l
-front_agrees xs now f l n put cut fits =
-    let long = length-take-le n l fits in
-    subst (λ z. Agree n z l) (sym (ap (last_of []) put ∙ last-more [] xs f ∙ cut))
-    (record { ours = omega (arith, long); theirs = fits; same = take-take n n l (omega arith) })
+front_agrees xs now f l n put cut fits = grind (arith, common_steps, length-take-le, last-more, take-take)
 
 same_number : (a b : ℕ) → nat_eq a b ≡ true → a ≡ b
 same_number a b e = grind (arith, nat_tests)
@@ -66,9 +60,7 @@ last_from l (k ∷ ls) = last_from k ls
 
 pub last_got : (ls : List Texts) → 0 < length ls → get_or ls (length ls - 1) [] ≡ last_of [] ls
 last_got [] h = absurd (omega (arith, h))
-last_got (l ∷ ls) h =
-    let n : length (l ∷ ls) - 1 ≡ length ls = omega arith in
-    ap (λ k. get_or (l ∷ ls) k []) n ∙ last_from l ls
+last_got (l ∷ ls) h = grind (arith, common_steps, last_from)
 
 take_least : (k m : ℕ) (l : Texts) → k ≡ min (length l) m → take k l ≡ take m l
 take_least k zero l e = let z : k ≡ 0 = omega (arith, e) in ap (λ j. take j l) z
@@ -79,10 +71,7 @@ take_least (suc k) (suc m) (t ∷ l) e = ap (λ z. t ∷ z) (take_least k m l (o
 -- the line of the first texts of a list, as many as another has
 pub front_place : (ls : List Texts) (ns ms : List ℕ) (k m : ℕ) → IsLine ls ns (place ls ns) → k ≡ min (length ns) m → ms ≡ take k ns
     → place ls ms ≡ take m (place ls ns)
-front_place ls ns ms k m h e cut =
-    let long = h.long in
-    ap (place ls) cut ∙ place_of ls (take k ns) (take k (place ls ns)) (line_cut ls ns (place ls ns) h k)
-    ∙ take_least k m (place ls ns) (omega (arith, e, long))
+front_place ls ns ms k m h e cut = grind (arith, common_steps, place_of, line_cut, take_least)
 
 pub chosen_none : (bs : List Bool) → chosen_of bs [] ≡ []
 chosen_none [] = refl

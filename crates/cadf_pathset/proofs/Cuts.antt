@@ -1,4 +1,5 @@
 -- Texts one after another in a block: one of them, a further one, and the first of them.
+use Rattle.std.proofs.lemmas.Grind.{common_steps}
 use Rattle.std.proofs.Common.{◌≡◌, ℕ, ◌+◌, ◌-◌, ◌<◌, ◌≤◌, List, [], ◌∷◌, ◌++◌, refl, sym, ap, ◌∙◌, subst, suc, zero, length, take, drop, get_or, arith}
 use Rattle.std.proofs.lemmas.List.{drop-drop, drop-take, length-take, length-drop, take-append-le, drop-append-le, take-take, take_all}
 use Rattle.std.proofs.lemmas.Str.{IsUtf8-drop, IsUtf8-take, IsCharBoundary-start, IsCharBoundary-end, IsCharBoundary-from_rest, IsCharBoundary-from_take}
@@ -20,26 +21,14 @@ record IsCutAt (bs : List ℕ) (s a e : ℕ) : Type 0 where
 
 cut_at : (s : ℕ) (es bs : List ℕ) (n : ℕ) → IsUtf8 bs → AreEnds s es bs → n < length es → IsCutAt bs s (get_or (s ∷ es) n 0) (get_or es n 0)
 cut_at s [] bs n u h l = absurd (omega (arith, l))
-cut_at s (e ∷ es) bs zero u h l =
-    let z : 0 ≡ s - s = omega arith in
-    record {
-      first = omega arith;
-      rises = h.0;
-      starts = subst (IsCharBoundary bs) z (IsCharBoundary-start bs u);
-      ends = subst (λ k. IsCharBoundary (drop k bs) (e - s)) z h.1;
-    }
+cut_at s (e ∷ es) bs zero u h l = grind (arith, common_steps, IsCharBoundary-start)
 cut_at s (e ∷ es) bs (suc n) u h l =
     let k = cut_at e es (drop (e - s) bs) n (IsUtf8-drop bs (e - s) u h.1) h.2 (omega (arith, l)) in
     let a = get_or (e ∷ es) n 0 in
     let low = k.first in
     let start = h.0 in
     let whole : (e - s) + (a - e) ≡ a - s = omega (arith, low, start) in
-    record {
-      first = omega (arith, low, start);
-      rises = k.rises;
-      starts = subst (IsCharBoundary bs) whole (IsCharBoundary-from_rest bs (e - s) (a - e) h.1.0 k.starts);
-      ends = subst (λ z. IsCharBoundary z (get_or es n 0 - a)) (drop-drop (a - e) (e - s) bs ∙ ap (λ j. drop j bs) whole) k.ends;
-    }
+    grind (arith, common_steps, IsCharBoundary-from_rest, drop-drop)
 
 text_cut : (s : ℕ) (es bs : List ℕ) (n : ℕ) → IsUtf8 bs → AreEnds s es bs → n < length es
     → get_or (texts_from s es bs) n [] ≡ take (get_or es n 0 - get_or (s ∷ es) n 0) (drop (get_or (s ∷ es) n 0 - s) bs)
@@ -48,12 +37,7 @@ text_cut s (e ∷ es) bs zero u h l = let z : 0 ≡ s - s = omega arith in ap (�
 text_cut s (e ∷ es) bs (suc n) u h l =
     let v = IsUtf8-drop bs (e - s) u h.1 in
     let k = cut_at e es (drop (e - s) bs) n v h.2 (omega (arith, l)) in
-    let a = get_or (e ∷ es) n 0 in
-    let low = k.first in
-    let start = h.0 in
-    let whole : (e - s) + (a - e) ≡ a - s = omega (arith, low, start) in
-    text_cut e es (drop (e - s) bs) n v h.2 (omega (arith, l))
-    ∙ ap (take (get_or es n 0 - a)) (drop-drop (a - e) (e - s) bs ∙ ap (λ j. drop j bs) whole)
+    grind (arith, common_steps, drop-drop, (text_cut e es (drop (e - s) bs) n v h.2 (omega (arith, l))))
 
 -- a further text
 module _ (t : List ℕ) (e : ℕ) where
@@ -116,10 +100,7 @@ end_boundary (suc n) s [] bs u h l = absurd (omega (arith, l))
 end_boundary (suc n) s (e ∷ es) bs u h l =
     let k = end_boundary n e es (drop (e - s) bs) (IsUtf8-drop bs (e - s) u h.1) h.2 (omega (arith, l)) in
     let a = get_or (e ∷ es) n 0 in
-    let low = last_low n e es (drop (e - s) bs) h.2 (omega (arith, l)) in
-    let start = h.0 in
-    let whole : (e - s) + (a - e) ≡ a - s = omega (arith, low, start) in
-    subst (IsCharBoundary bs) whole (IsCharBoundary-from_rest bs (e - s) (a - e) h.1.0 k)
+    grind (arith, common_steps, last_low, IsCharBoundary-from_rest)
 
 ends_cut : (n s : ℕ) (es bs : List ℕ) → IsUtf8 bs → AreEnds s es bs → n ≤ length es → AreEnds s (take n es) (take (get_or (s ∷ es) n 0 - s) bs)
 ends_cut zero s es bs u h l = let z : s - s ≡ 0 = omega arith in ap (λ k. take k bs) z
@@ -130,14 +111,7 @@ ends_cut (suc n) s (e ∷ es) bs u h l =
     let start = h.0 in
     let fits = h.1.0 in
     let whole : (e - s) + (a - e) ≡ a - s = omega (arith, low, start) in
-    let v = IsUtf8-take bs (a - s) u (end_boundary (suc n) s (e ∷ es) bs u h l) in
-    let size = length-take (a - s) bs in
-    let rest : drop (e - s) (take (a - s) bs) ≡ take (a - e) (drop (e - s) bs) = ap (λ k. drop (e - s) (take k bs)) (sym whole) ∙ drop-take (e - s) (a - e) bs in (
-      h.0,
-      IsCharBoundary-from_take (take (a - s) bs) (e - s) v (omega (arith, size, whole, fits))
-          (subst IsUtf8 (sym (take-take (e - s) (a - s) bs (omega (arith, whole)))) (IsUtf8-take bs (e - s) u h.1)),
-      subst (AreEnds e (take n es)) (sym rest) (ends_cut n e es (drop (e - s) bs) (IsUtf8-drop bs (e - s) u h.1) h.2 (omega (arith, l))),
-    )
+    grind (arith, common_steps, IsUtf8-take, end_boundary, length-take, drop-take, IsCharBoundary-from_take, take-take, IsUtf8-drop, (ends_cut n e es (drop (e - s) bs) (IsUtf8-drop bs (e - s) u h.1) h.2 (omega (arith, l))))
 
 texts_cut : (n s : ℕ) (es bs : List ℕ) → AreEnds s es bs → n ≤ length es
     → texts_from s (take n es) (take (get_or (s ∷ es) n 0 - s) bs) ≡ take n (texts_from s es bs)
@@ -148,9 +122,7 @@ texts_cut (suc n) s (e ∷ es) bs h l =
     let low = last_low n e es (drop (e - s) bs) h.2 (omega (arith, l)) in
     let start = h.0 in
     let whole : (e - s) + (a - e) ≡ a - s = omega (arith, low, start) in
-    λ i. take-take (e - s) (a - s) bs (omega (arith, whole)) i
-    ∷ (ap (texts_from e (take n es)) (ap (λ k. drop (e - s) (take k bs)) (sym whole) ∙ drop-take (e - s) (a - e) bs)
-    ∙ texts_cut n e es (drop (e - s) bs) h.2 (omega (arith, l))) i
+    grind (arith, common_steps, take-take, drop-take, (texts_cut n e es (drop (e - s) bs) h.2 (omega (arith, l))))
 
 -- the same from the block's beginning on
 module _ (es bs : List ℕ) (u : IsUtf8 bs) (h : AreEnds 0 es bs) (n k : ℕ) (at : k ≡ get_or (0 ∷ es) n 0) where

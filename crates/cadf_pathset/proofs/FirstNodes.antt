@@ -1,4 +1,5 @@
 -- The first of some nodes.
+use Rattle.std.proofs.lemmas.Grind.{common_steps}
 use Rattle.std.proofs.Common.{◌≡◌, ℕ, ◌+◌, List, [], ◌∷◌, ◌++◌, refl, sym, ap, ◌∙◌, suc, zero, length, take, arith}
 use Rattle.std.proofs.lemmas.List.{length_push, length-take, take-take, take_all, take_at}
 use Rattle.cadf_join.specs.Contents.{Texts}
@@ -26,15 +27,10 @@ lists_cut known [] (t ∷ ts) (suc n) e = absurd (omega (arith, e))
 lists_cut known (p ∷ ps) [] (suc n) e = absurd (omega (arith, e))
 lists_cut known (p ∷ ps) (t ∷ ts) (suc n) e =
     let x : Texts = list_at known p ++ t ∷ [] in
-    let one = length_push known x in
-    let k : length (known ++ x ∷ []) + n ≡ length known + suc n = omega (arith, one) in
-    lists_cut (known ++ x ∷ []) ps ts n (omega (arith, e)) ∙ ap (λ j. take j (lists_from (known ++ x ∷ []) ps ts)) k
+    grind (arith, common_steps, length_push, (lists_cut (known ++ x ∷ []) ps ts n (omega (arith, e))))
 
 pub lists_front : (ps : List ℕ) (ts : Texts) (n : ℕ) → length ps ≡ length ts → lists (take n ps) (take n ts) ≡ take n (lists ps ts)
-lists_front ps ts n e = lists_cut [] ps ts n e ∙ ap (λ k. take k (lists ps ts)) all
-  where
-    all : 0 + n ≡ n
-    all = omega arith
+lists_front ps ts n e = grind (arith, common_steps, lists_cut)
 
 first_parents : (ps : List ℕ) (m n : ℕ) → ParentsFirst m ps → ParentsFirst m (take n ps)
 unfolding ParentsFirst
@@ -43,8 +39,4 @@ first_parents [] m (suc n) h = tt
 first_parents (p ∷ ps) m (suc n) h = (h.0, first_parents ps (m + 1) n h.1)
 
 pub nodes_cut : (ps : List ℕ) (ts : Texts) (n : ℕ) → AreNodes ps ts → AreNodes (take n ps) (take n ts)
-nodes_cut ps ts n h =
-    let a = h.as_many in
-    let x = length-take n ps in
-    let y = length-take n ts in
-    record { as_many = omega (arith, a, x, y); parents_first = first_parents ps 1 n h.parents_first }
+nodes_cut ps ts n h = grind (arith, common_steps, length-take, first_parents)

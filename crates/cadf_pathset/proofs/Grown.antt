@@ -1,5 +1,6 @@
 -- Lists that were appended to, and the character boundaries of a text that was appended to.
-use Rattle.std.proofs.Common.{◌≡◌, ℕ, Bool, true, false, List, [], ◌∷◌, ◌++◌, refl, sym, ap, ◌∙◌, subst, length, take, drop, map, arith}
+use Rattle.std.proofs.lemmas.Grind.{common_steps}
+use Rattle.std.proofs.Common.{◌≡◌, ℕ, Bool, true, false, List, [], ◌∷◌, ◌++◌, refl, sym, ap, ◌∙◌, length, take, drop, map, arith}
 use Rattle.std.proofs.lemmas.List.{length-append, take-append-drop, take-append-le}
 use Rattle.std.proofs.lemmas.Str.{IsUtf8-take, IsCharBoundary-from_take}
 use Rattle.std.specs.List.{AllByRecursion}
@@ -23,9 +24,7 @@ map_more f [] x = refl
 map_more f (y ∷ xs) x = ap (λ z. f y ∷ z) (map_more f xs x)
 
 pub boundary_grown : (bs ds : List ℕ) (n : ℕ) → IsUtf8 bs → IsUtf8 (bs ++ ds) → IsCharBoundary bs n → IsCharBoundary (bs ++ ds) n
-boundary_grown bs ds n u v b =
-    IsCharBoundary-from_take (bs ++ ds) n v (let whole = length-append bs ds in let fits = b.0 in omega (arith, whole, fits))
-    (subst IsUtf8 (sym (take-append-le n bs ds b.0)) (IsUtf8-take bs n u b))
+boundary_grown bs ds n u v b = grind (arith, common_steps, IsCharBoundary-from_take, length-append, take-append-le, IsUtf8-take)
 
 module _ {A : Type 0} (xs ys : List A) (kept : take (length xs) ys ≡ xs) where
   pub grown_by : ys ≡ xs ++ drop (length xs) ys

@@ -1,4 +1,5 @@
 -- The result of a binary search in strictly ascending lists.
+use Rattle.std.proofs.lemmas.Grind.{common_steps}
 use Rattle.std.proofs.Common.{◌≡◌, ℕ, ◌+◌, ◌-◌, ◌≤◌, ◌<◌, Bool, true, false, List, [], ◌∷◌, ◌++◌}
 use Rattle.std.proofs.Common.{refl, sym, ap, ◌∙◌, subst, suc, zero, length, take, drop, get_or, ◌||◌, arith, Some}
 use Rattle.std.proofs.Math.Numerals.{add-one}
@@ -23,10 +24,7 @@ use Rattle.cadf_pathset.specs.Lists.{prefix_cmp, is_before, last_of, last_starts
 pub before_below : (p : Texts) (more : Bool) (a b : Texts) → texts_cmp a b ≡ Less → is_before p more b ≡ true → is_before p more a ≡ true
 before_below [] more a b less h = h
 before_below (t ∷ p) more [] b less h = refl
-before_below (t ∷ p) more (u ∷ a) [] less h = absurd (greater_is_not_less less)
-  where
-    greater_is_not_less : Greater ≡ Less → ⊥
-    greater_is_not_less e = cc
+before_below (t ∷ p) more (u ∷ a) [] less h = grind (arith, common_steps)
 before_below (t ∷ p) more (u ∷ a) (v ∷ b) less h = by (text_cmp u v) refl (text_cmp v t) refl less h (λ l k. before_below p more a b l k)
   where
     with_less : text_cmp u t ≡ Less → is_before (t ∷ p) more (u ∷ a) ≡ true
@@ -94,41 +92,18 @@ last_at l (k ∷ ls) = last_at k ls
 
 pub ends_behind_at : (ls : List Texts) (p : Texts) → (ls ≡ [] → ⊥) → is_eq (prefix_cmp (get_or ls (length ls - 1) []) p) ≡ last_starts_with ls p
 ends_behind_at [] p some = absurd (some refl)
-ends_behind_at (l ∷ ls) p some =
-    let n : length (l ∷ ls) - 1 ≡ length ls = omega arith in
-    ap (λ k. is_eq (prefix_cmp (get_or (l ∷ ls) k []) p)) n ∙ ap (λ z. is_eq (prefix_cmp z p)) (last_at l ls)
+ends_behind_at (l ∷ ls) p some = grind (arith, common_steps, last_at)
 
 pub less_is_before : (a q : Texts) → texts_cmp a q ≡ Less → is_before q false a ≡ true
-less_is_before [] [] h = absurd (never h)
-  where
-    never : Equal ≡ Less → ⊥
-    never e = cc
+less_is_before [] [] h = grind (arith, common_steps)
 less_is_before [] (t ∷ q) h = refl
-less_is_before (u ∷ a) [] h = absurd (never h)
-  where
-    never : Greater ≡ Less → ⊥
-    never e = cc
-less_is_before (u ∷ a) (t ∷ q) h = by (text_cmp u t) h (less_is_before a q)
-  where
-    by : (r : Ordering) → ordering_then r (texts_cmp a q) ≡ Less → (texts_cmp a q ≡ Less → is_before q false a ≡ true)
-        → match_ordering (match_ordering r Less (prefix_cmp a q) Greater) true false false ≡ true
-    by Less k on = refl
-    by Equal k on = on k
-    by Greater k on = absurd (never k)
-      where
-        never : Greater ≡ Less → ⊥
-        never e = cc
+less_is_before (u ∷ a) [] h = grind (arith, common_steps)
+less_is_before (u ∷ a) (t ∷ q) h = grind (arith, common_steps, (less_is_before a q))
 
 pub before_is_less : (a q : Texts) → is_before q false a ≡ true → texts_cmp a q ≡ Less
 before_is_less a [] h = absurd (true≢false (sym h))
 before_is_less [] (t ∷ q) h = refl
-before_is_less (u ∷ a) (t ∷ q) h = by (text_cmp u t) h (before_is_less a q)
-  where
-    by : (r : Ordering) → match_ordering (match_ordering r Less (prefix_cmp a q) Greater) true false false ≡ true
-        → (is_before q false a ≡ true → texts_cmp a q ≡ Less) → ordering_then r (texts_cmp a q) ≡ Less
-    by Less k on = refl
-    by Equal k on = on k
-    by Greater k on = absurd (true≢false (sym k))
+before_is_less (u ∷ a) (t ∷ q) h = grind (arith, common_steps, (before_is_less a q))
 
 pub turned : (a q : Texts) → texts_cmp a q ≡ Greater → texts_cmp q a ≡ Less
 turned a q h = texts_total.antisymm q a ∙ ap ordering_reverse h
@@ -170,9 +145,7 @@ below_place q xs h = all_turned (λ l. is_before q false l ≡ true) (λ l. text
 
 pub above_place : (q : Texts) (xs : List Texts) (n : ℕ) → IsStrictlySortedBy texts_cmp xs → AllByRecursion (λ l. is_before q false l ≡ false) (drop n xs)
     → (n < length xs → eq_by_cmp texts_cmp (get_or xs n []) q ≡ true → ⊥) → AllByRecursion (λ l. texts_cmp q l ≡ Less) (drop n xs)
-above_place q xs n s h other =
-    above_bound q (drop n xs) (drop_sorted xs n s) h
-    (λ e some. other (some_dropped xs n some) (ap is_eq (sym (ap (λ z. texts_cmp z q) (first_dropped xs n)) ∙ e)))
+above_place q xs n s h other = grind (arith, common_steps, above_bound, drop_sorted, some_dropped, first_dropped)
 
 pub found_at : (q : Texts) (xs : List Texts) (n : ℕ) → n < length xs → eq_by_cmp texts_cmp (get_or xs n []) q ≡ true
     → list_any (eq_by_cmp texts_cmp q) xs ≡ true
@@ -186,8 +159,7 @@ pub not_there : (q : Texts) (xs : List Texts) (n : ℕ) → AllByRecursion (λ l
     → AllByRecursion (λ l. texts_cmp q l ≡ Less) (drop n xs)
     → list_any (eq_by_cmp texts_cmp q) xs ≡ false
 not_there q [] n below above = refl
-not_there q (x ∷ xs) zero below above =
-    ap (λ r. is_eq r || list_any (eq_by_cmp texts_cmp q) xs) above.0 ∙ not_there q xs zero tt above.1
+not_there q (x ∷ xs) zero below above = grind (arith, common_steps, (not_there q xs zero tt above.1))
 not_there q (x ∷ xs) (suc n) below above =
     ap (λ r. is_eq r || list_any (eq_by_cmp texts_cmp q) xs) (texts_total.antisymm q x ∙ ap ordering_reverse below.0) ∙ not_there q xs n below.1 above
 
@@ -202,12 +174,7 @@ put_rises q (x ∷ xs) (suc n) s below above = (all_put (λ y. texts_cmp x y ≡
 any_put : (f : Texts → Bool) (xs : List Texts) (n : ℕ) (x : Texts) → list_any f (take n xs ++ x ∷ drop n xs) ≡ (f x || list_any f xs)
 any_put f xs zero x = refl
 any_put f [] (suc n) x = refl
-any_put f (y ∷ xs) (suc n) x = ap (λ b. f y || b) (any_put f xs n x) ∙ swapped (f y) (f x) (list_any f xs)
-  where
-    swapped : (a b c : Bool) → (a || (b || c)) ≡ (b || (a || c))
-    swapped true true c = refl
-    swapped true false c = refl
-    swapped false b c = refl
+any_put f (y ∷ xs) (suc n) x = grind (arith, common_steps, (any_put f xs n x))
 
 pub put_is_insert : (xs : List Texts) (n : ℕ) (q : Texts) → set.from_list {R = texts_cmp} (take n xs ++ q ∷ drop n xs) ≡ set.insert (set.from_list xs) q
 put_is_insert xs n q = contents_same _ _ (λ x.

@@ -1,4 +1,5 @@
 -- Steps of a merge of two ascending lists, and its invariants.
+use Rattle.std.proofs.lemmas.Grind.{common_steps}
 use Rattle.std.proofs.Common.{
   ◌≡◌,
   ℕ,
@@ -82,17 +83,7 @@ agree_shared (t ∷ a) (u ∷ b) = by (agree_shared a b) (text_cmp t u) refl
 -- a line of the first texts of one list, cut to those that another shares
 pub line_shared : (ls : List Texts) (ns : List ℕ) (a b : Texts) (s : ℕ) → IsLine ls ns (take (length ns) a) → Agree s a b
     → IsLine ls (take s ns) (take (length (take s ns)) b)
-line_shared ls ns a b s h g =
-    let m = length-take s ns in
-    let k = h.long in
-    let x = length-take (length ns) a in
-    let y = length-take s (take (length ns) a) in
-    subst (IsLine ls (take s ns))
-    (sym (take_all (length (take s ns)) (take s (take (length ns) a)) (omega (arith, m, k, x, y)))
-    ∙ take-take (length (take s ns)) s (take (length ns) a) (omega (arith, m))
-    ∙ take-take (length (take s ns)) (length ns) a (omega (arith, m))
-    ∙ (agree_less s (length (take s ns)) a b (omega (arith, m)) g).same)
-    (line_cut ls ns (take (length ns) a) h s)
+line_shared ls ns a b s h g = grind (arith, common_steps, length-take, take_all, take-take, agree_less, line_cut)
 
 pub front_entered : (ls : List Texts) (ns ms ks : List ℕ) (n k : ℕ) (a b : Place) → IsLinePrefix ls ns ms n a.0 → Entered true a b ms ks n k
     → IsLinePrefix ls ns ks k b.0
@@ -107,9 +98,7 @@ front_entered ls ns ms ks n k a b f e =
 
 pub front_stays : (ls : List Texts) (ns ms ks : List ℕ) (n k : ℕ) (a b : Place) → IsLinePrefix ls ns ms n a.0 → Entered false a b ms ks n k
     → IsLinePrefix ls ns ks k b.0
-front_stays ls ns ms ks n k a b f e =
-    subst (λ z. IsLinePrefix ls ns z k b.0) (sym e.2) (subst (λ j. IsLinePrefix ls ns ms j b.0) (sym e.3)
-    (subst (λ p. IsLinePrefix ls ns ms n p.0) (sym e.1) f))
+front_stays ls ns ms ks n k a b f e = grind (arith, common_steps)
 
 pub front_after : (more : Bool) (ls : List Texts) (ns ms ks : List ℕ) (n k : ℕ) (a b : Place) → IsLinePrefix ls ns ms n a.0 → Entered more a b ms ks n k
     → IsLinePrefix ls ns ks k b.0
@@ -118,13 +107,7 @@ front_after false ls ns ms ks n k a b f e = front_stays ls ns ms ks n k a b f e
 
 pub front_put : (ls us : List Texts) (kept : take (length ls) us ≡ ls) (ns ms ks : List ℕ) (n : ℕ) (theirs : Texts) → IsLinePrefix ls ns ms n theirs
     → IsLine us ks theirs → IsLinePrefix us ns ks n theirs
-front_put ls us kept ns ms ks n theirs f h =
-    let m = h.long in
-    record {
-      line = self_line us ns (place ls ns) (line_kept ls us kept ns (place ls ns) f.line);
-      agrees = subst (λ z. Agree n z theirs) (sym (place_kept ls us kept ns (place ls ns) f.line)) f.agrees;
-      out = subst (IsLine us ks) (sym (take_all (length ks) theirs (omega (arith, m)))) h;
-    }
+front_put ls us kept ns ms ks n theirs f h = grind (arith, common_steps, self_line, line_kept, place_kept, take_all)
 
 pub there_at : (ls : List Texts) (ns : List ℕ) (i : ℕ) → AreThere ls ns → i < length ns → get_or ns i 0 ≤ length ls
 there_at ls [] i h b = absurd (omega (arith, b))
@@ -171,40 +154,24 @@ module _ (first : List Texts) (numbers : List ℕ) (at : ℕ) (acc total : List 
 -- one of our lists appended
 pub ours_put : (ls first : List Texts) (kept : take (length first) ls ≡ first) (ns ms : List ℕ) (n : ℕ) → ms ≡ ns ++ n ∷ [] → n ≤ length first
     → lists_at ls ms ≡ lists_at ls ns ++ list_at first n ∷ []
-ours_put ls first kept ns ms n more there =
-    ap (lists_at ls) more ∙ map_more (list_at ls) ns n ∙ ap (λ z. lists_at ls ns ++ z ∷ []) (at_kept first ls kept n there)
+ours_put ls first kept ns ms n more there = grind (arith, common_steps, map_more, at_kept)
 
 -- all of our lists that are left appended
 pub rest_put : (ls first : List Texts) (kept : take (length first) ls ≡ first) (ns ms rest : List ℕ) (more : Bool) (a : Place) (total : List Texts)
     → ms ≡ ns ++ rest → AreThere first rest → more ≡ false → lists_at ls ns ++ both (lists_at first rest) (lists_ahead more a) ≡ total → lists_at ls ms ≡ total
-rest_put ls first kept ns ms rest more a total put there is h =
-    ap (lists_at ls) put ∙ map-append (list_at ls) ns rest ∙ ap (λ z. lists_at ls ns ++ z) (lists_kept first ls kept rest there)
-    ∙ ap (λ z. lists_at ls ns ++ z) (sym (alone texts_cmp (lists_at first rest)))
-    ∙ ap (λ z. lists_at ls ns ++ both (lists_at first rest) (lists_ahead z a)) (sym is) ∙ h
+rest_put ls first kept ns ms rest more a total put there is h = grind (arith, common_steps, map-append, lists_kept, alone)
 
 -- our nodes for as many first texts of theirs as are shared
 pub front_out : (ls : List Texts) (ns ms : List ℕ) (k : ℕ) (l b : Texts) → IsLine ls ns l → ms ≡ take k ns → Agree k l b → IsLine ls ms (take (length ms) b)
-front_out ls ns ms k l b h e g =
-    let x = ap length e in
-    let y = length-take k ns in
-    let z = h.long in
-    let w = g.ours in
-    let m : k ≡ length ms = omega (arith, x, y, z, w) in
-    subst (IsLine ls ms) (g.same ∙ ap (λ j. take j b) m) (subst (λ v. IsLine ls v (take k l)) (sym e) (line_cut ls ns l h k))
+front_out ls ns ms k l b h e g = grind (arith, common_steps, length-take, line_cut)
 
 pub ours_there : (ls first : List Texts) (kept : take (length first) ls ≡ first) (ns ms : List ℕ) (n : ℕ) → ms ≡ ns ++ n ∷ [] → AreThere ls ns → n ≤ length first
     → AreThere ls ms
-ours_there ls first kept ns ms n more h there =
-    let fits = nodes_fit first ls kept in
-    subst (AreThere ls) (sym more) (there_both ls ns (n ∷ []) h (omega (arith, fits, there), tt))
+ours_there ls first kept ns ms n more h there = grind (arith, common_steps, nodes_fit, there_both)
 
 -- no nodes of a line, and none of theirs
 pub front_none : (ls : List Texts) (ns ms : List ℕ) (q : Texts) → ns ≡ [] → ms ≡ [] → IsLinePrefix ls ns ms 0 q
-front_none ls ns ms q e f = record {
-  line = root_line ls ns e;
-  agrees = agree_none (place ls ns) q;
-  out = subst (λ z. IsLine ls z (take (length z) q)) (sym f) (no_line ls);
-}
+front_none ls ns ms q e f = grind (arith, common_steps, root_line, agree_none, no_line)
 
 -- all invariants after a step of a merge
 pub front_ours : (more : Bool) (ls : List Texts) (ns ms ks : List ℕ) (n k : ℕ) (a b : Place) (theirs : Texts) → theirs ≡ a.0 → IsLinePrefix ls ns ms n theirs

@@ -1,8 +1,7 @@
 -- The list that extends a prefix of another by one text.
-use Rattle.std.proofs.Common.{◌≡◌, ℕ, ◌+◌, ◌<◌, [], ◌∷◌, ◌++◌, refl, sym, ap, ◌∙◌, length, take, drop, get_or}
+use Rattle.std.proofs.lemmas.Grind.{common_steps}
+use Rattle.std.proofs.Common.{◌≡◌, ℕ, ◌+◌, ◌<◌, [], ◌∷◌, ◌++◌, refl, sym, ap, ◌∙◌, length, take, drop, get_or, arith}
 use Rattle.std.proofs.lemmas.List.{drop_more, take-append-drop}
-use Rattle.std.specs.declared.cmp.Ordering.{Ordering}
-use Rattle.std.specs.declared.cmp.Ordering.TheVariants.{Less, Equal, Greater}
 use Rattle.std.specs.Ordering.{is_lt, ordering_then}
 use Rattle.std.specs.Cmp.{tied_itself}
 use Rattle.cadf_join.specs.Contents.{Text, Texts, text_cmp, texts_cmp}
@@ -13,18 +12,8 @@ behind_front : (a c d : Texts) → texts_cmp (a ++ c) (a ++ d) ≡ texts_cmp c d
 behind_front a c d = cmp_parts a a c d refl ∙ ap (λ r. ordering_then r (texts_cmp c d)) (tied_itself texts_total a)
 
 one_text : (u t : Text) (rest : Texts) → is_lt (texts_cmp (u ∷ rest) (t ∷ [])) ≡ is_lt (text_cmp u t)
-one_text u t [] = by (text_cmp u t)
-  where
-    by : (r : Ordering) → is_lt (ordering_then r Equal) ≡ is_lt r
-    by Less = refl
-    by Equal = refl
-    by Greater = refl
-one_text u t (v ∷ rest) = by (text_cmp u t)
-  where
-    by : (r : Ordering) → is_lt (ordering_then r Greater) ≡ is_lt r
-    by Less = refl
-    by Equal = refl
-    by Greater = refl
+one_text u t [] = grind (arith, common_steps)
+one_text u t (v ∷ rest) = grind (arith, common_steps)
 
 pub next_within : (a : Texts) (n : ℕ) (t : Text) → n < length a → is_lt (text_cmp (get_or a n []) t) ≡ is_lt (texts_cmp a (take n a ++ t ∷ []))
 next_within a n t l =

@@ -1,5 +1,6 @@
 -- A test that the lists from some index on pass, and none before it.
-use Rattle.std.proofs.Common.{◌≡◌, ℕ, Bool, true, false, cond, List, [], ◌∷◌, Some, None, refl, sym, ap, ◌∙◌, suc, zero, take, drop}
+use Rattle.std.proofs.lemmas.Grind.{common_steps}
+use Rattle.std.proofs.Common.{◌≡◌, ℕ, Bool, true, false, cond, List, [], ◌∷◌, Some, None, refl, sym, ap, ◌∙◌, suc, zero, take, drop, arith}
 use Rattle.std.specs.List.{AllByRecursion, find}
 use Rattle.cadf_join.specs.Contents.{Texts}
 
@@ -9,14 +10,8 @@ found_first f [] (suc n) h = refl
 found_first f (x ∷ xs) (suc n) h = found_first f xs n h.1 ∙ ap (λ b. cond b (Some x) (find f xs)) (sym h.0)
 
 pub find_head : (f : Texts → Bool) (xs : List Texts) (x : Texts) (ys : List Texts) → xs ≡ x ∷ ys → AllByRecursion (λ z. f z ≡ true) xs → find f xs ≡ Some x
-find_head f [] x ys e h = absurd (never e)
-  where
-    never : [] ≡ x ∷ ys → ⊥
-    never q = cc
-find_head f (z ∷ xs) x ys e h = ap (λ b. cond b (Some z) (find f xs)) h.0 ∙ ap Some (first e)
-  where
-    first : z ∷ xs ≡ x ∷ ys → z ≡ x
-    first q = cc
+find_head f [] x ys e h = grind (arith, common_steps)
+find_head f (z ∷ xs) x ys e h = grind (arith, common_steps)
 
 module _ (f : Texts → Bool) (rows : List Texts) (n : ℕ) (below : AllByRecursion (λ l. f l ≡ false) (take n rows))
     (above : AllByRecursion (λ l. f l ≡ true) (drop n rows)) where

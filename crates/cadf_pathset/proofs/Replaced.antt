@@ -1,4 +1,5 @@
 -- A path whose suffix is replaced by a list that shares first texts with it.
+use Rattle.std.proofs.lemmas.Grind.{common_steps}
 use Rattle.std.proofs.Common.{◌≡◌, ℕ, ◌+◌, ◌≤◌, List, [], ◌∷◌, ◌++◌, sym, ap, subst, Some, ◌∙◌, suc, zero, append_assoc, length, take, drop, arith}
 use Rattle.std.proofs.lemmas.List.{length-append, length-map, length-take-le, map-append, take-append-drop, take-append-le, take-take, take-map, drop-map, take_at}
 use Rattle.std.specs.Borrow.{Bor}
@@ -9,9 +10,7 @@ use Rattle.cadf_pathset.specs.Walks.{Advances, Place}
 use Rattle.cadf_pathset.proofs.Merging.{agree_shared}
 
 pub front_stays : {A : Type 0} (xs ys : List A) (n k : ℕ) → n + k ≤ length xs → take n (take (n + k) xs ++ ys) ≡ take n xs
-front_stays xs ys n k h =
-    let m = length-take-le (n + k) xs h in
-    take-append-le n (take (n + k) xs) ys (omega (arith, m)) ∙ take-take n (n + k) xs (omega arith)
+front_stays xs ys n k h = grind (arith, common_steps, length-take-le, take-append-le, take-take)
 
 front_both : (p c : Texts) (n k : ℕ) → n ≡ length p → take (n + k) (p ++ c) ≡ p ++ take k c
 front_both [] c n k e = let same : n + k ≡ k = omega (arith, e) in ap (λ j. take j c) same
@@ -25,11 +24,7 @@ pub shares_front : (all p c l : Texts) (n k : ℕ) → n ≡ length p → all �
 shares_front all p c l n k e is g = ap (take (n + k)) is ∙ front_both p c n k e ∙ ap (λ z. p ++ z) (sym g.same)
 
 pub reaches : (all p c l : Texts) (n k : ℕ) → n ≡ length p → all ≡ p ++ c → Agree k l c → n + k ≤ length all
-reaches all p c l n k e is g =
-    let a = ap length is in
-    let b = length-append p c in
-    let f = g.theirs in
-    omega (arith, a, b, e, f)
+reaches all p c l n k e is g = grind (arith, common_steps, length-append)
 
 pub path_replaced : (old new : List (Bor (List ℕ))) (list rest : List (Bor (List ℕ))) (n k : ℕ) (p : Texts) → new ≡ take (n + k) old ++ rest → rest ≡ drop k list
     → take (n + k) (texts_at old) ≡ p ++ take k (texts_at list) → texts_at new ≡ p ++ texts_at list
@@ -51,34 +46,17 @@ front_is all p c n e is = ap (take n) is ∙ take_at p c n (sym e)
 pub keeps_behind : (K : ℕ → Texts → Type 0) (p c : Texts) (b : ℕ) → b ≡ length p
     → ((list : Texts) (n : ℕ) → K (length (p ++ c)) (p ++ c) → n ≤ length (p ++ c) → n ≤ length list → take n (p ++ c) ≡ take n list → K n list)
     → K (length (p ++ c)) (p ++ c) → (list : Texts) (n : ℕ) → Agree n list c → K (b + n) (p ++ list)
-keeps_behind K p c b e shared whole list n g =
-    let long = length-append p c in
-    let long_list = length-append p list in
-    let ours = g.ours in
-    let theirs = g.theirs in
-    shared (p ++ list) (b + n) whole (omega (arith, e, long, theirs)) (omega (arith, e, long_list, ours))
-    (front_both p c b n e ∙ ap (λ z. p ++ z) (sym g.same) ∙ sym (front_both p list b n e))
+keeps_behind K p c b e shared whole list n g = grind (arith, common_steps, length-append, front_both)
 
 -- nothing is shared with a list before the first
 pub keeps_first : (K : ℕ → Texts → Type 0) → ((list : Texts) → K 0 list) → (p c list : Texts) (b n : ℕ) → b ≡ 0 → c ≡ [] → Agree n list c → K (b + n) (p ++ list)
-keeps_first K none p c list b n zero_b empty g =
-    let theirs = g.theirs in
-    let long = ap length empty in
-    let same : 0 ≡ b + n = omega (arith, theirs, long, zero_b) in
-    subst (λ k. K k (p ++ list)) same (none (p ++ list))
+keeps_first K none p c list b n zero_b empty g = grind (arith, common_steps)
 
 -- a property of the texts of a list, stated for each index
 pub keeps_whole : (K : ℕ → Texts → Type 0) (list : List (Bor (List ℕ))) (path : Texts) → texts_at list ≡ path → K (length list) (texts_at list) → K (length path) path
-keeps_whole K list path is whole =
-    let long = length-map list (λ t. t.now) in
-    subst (λ z. K (length z) z) is (subst (λ k. K k (texts_at list)) (sym long) whole)
+keeps_whole K list path is whole = grind (arith, common_steps, length-map)
 
 -- a list shares no more texts with the one before than it has
 pub fits_path : (list : List (Bor (List ℕ))) (p l c : Texts) (b common n : ℕ) → b ≡ length p → common ≤ b → texts_at list ≡ p ++ l → Agree n l c
     → common + n ≤ length list
-fits_path list p l c b common n e low is g =
-    let long = length-map list (λ t. t.now) in
-    let whole = ap length is in
-    let parts = length-append p l in
-    let ours = g.ours in
-    omega (arith, e, low, long, whole, parts, ours)
+fits_path list p l c b common n e low is g = grind (arith, common_steps, length-map, length-append)

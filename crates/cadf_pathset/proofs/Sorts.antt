@@ -1,4 +1,5 @@
 -- Merge sort: lists sorted by merging their sorted halves.
+use Rattle.std.proofs.lemmas.Grind.{common_steps}
 use Rattle.std.proofs.Common.{◌≡◌, ℕ, ◌≤◌, ◌<◌, true, List, [], ◌∷◌, ◌++◌, refl, sym, ap, ◌∙◌, subst, length, take, drop, map, get_or, arith}
 use Rattle.std.proofs.lemmas.List.{take-append-drop}
 use Rattle.std.specs.declared.cmp.Ordering.TheVariants.{Less}
@@ -47,11 +48,7 @@ map_append f (x ∷ xs) ys = ap (λ z. f x ∷ z) (map_append f xs ys)
 
 any_append : (p : Texts → Bool) (xs ys : List Texts) → list_any p (xs ++ ys) ≡ (list_any p xs || list_any p ys)
 any_append p [] ys = refl
-any_append p (x ∷ xs) ys = ap (λ b. p x || b) (any_append p xs ys) ∙ again (p x) (list_any p xs) (list_any p ys)
-  where
-    again : (a b c : Bool) → (a || (b || c)) ≡ ((a || b) || c)
-    again true b c = refl
-    again false b c = refl
+any_append p (x ∷ xs) ys = grind (arith, common_steps, (any_append p xs ys))
 
 of_both : (xs ys : List Texts) → set.from_list {R = texts_cmp} (xs ++ ys) ≡ set.union (set.from_list xs) (set.from_list ys)
 of_both xs ys = contents_same _ _ (λ q.

@@ -1,24 +1,16 @@
 -- The suffixes of lists, by their first texts.
+use Rattle.std.proofs.lemmas.Grind.{common_steps}
 use Rattle.std.proofs.Common.{◌≡◌, ℕ, ◌+◌, ◌≤◌, [], ◌∷◌, None, refl, sym, ap, ◌∙◌, suc, zero}
 use Rattle.std.proofs.Common.{length, take, drop, get_or, arith}
 use Rattle.std.proofs.lemmas.List.{drop-drop}
-use Rattle.std.specs.declared.cmp.Ordering.{Ordering}
-use Rattle.std.specs.declared.cmp.Ordering.TheVariants.{Less, Equal, Greater}
-use Rattle.std.specs.Ordering.{match_ordering, ordering_then}
-use Rattle.cadf_join.specs.Contents.{Texts, text_cmp, texts_cmp}
+use Rattle.cadf_join.specs.Contents.{Texts, texts_cmp}
 use Rattle.cadf_pathset.specs.Lists.{first_text, prefix_cmp}
 
 -- a list begins with a prefix if and only if its first texts, as many, are the prefix
 pub prefix_by_cmp : (l p : Texts) → texts_cmp (take (length p) l) p ≡ prefix_cmp l p
 prefix_by_cmp l [] = refl
 prefix_by_cmp [] (t ∷ p) = refl
-prefix_by_cmp (u ∷ l) (t ∷ p) = by (text_cmp u t) (prefix_by_cmp l p)
-  where
-    by : (r : Ordering) → texts_cmp (take (length p) l) p ≡ prefix_cmp l p
-        → ordering_then r (texts_cmp (take (length p) l) p) ≡ match_ordering r Less (prefix_cmp l p) Greater
-    by Less e = refl
-    by Equal e = e
-    by Greater e = refl
+prefix_by_cmp (u ∷ l) (t ∷ p) = grind (arith, common_steps, (prefix_by_cmp l p))
 
 pub dropped_all : (l : Texts) (n : ℕ) → length l ≤ n → drop n l ≡ []
 dropped_all [] zero h = refl

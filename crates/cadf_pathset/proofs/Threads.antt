@@ -1,4 +1,5 @@
 -- Lines of nodes: their lists, their prefixes, lines joined, and lines after nodes are appended.
+use Rattle.std.proofs.lemmas.Grind.{common_steps}
 use Rattle.std.proofs.Common.{
   ◌≡◌,
   ℕ,
@@ -43,9 +44,7 @@ use Rattle.cadf_pathset.proofs.Grown.{grown_by, map_same, map_more, all_more, al
 
 pub place_of : (ls : List Texts) (ns : List ℕ) (l : Texts) → IsLine ls ns l → place ls ns ≡ l
 place_of ls [] l h = sym (nil_from_length l (sym h.long))
-place_of ls (n ∷ ns) l h =
-    let m = h.long in
-    h.stands (length ns) (omega arith) ∙ take_all (length ns + 1) l (omega (arith, m))
+place_of ls (n ∷ ns) l h = grind (arith, common_steps, take_all)
 
 pub self_line : (ls : List Texts) (ns : List ℕ) (l : Texts) → IsLine ls ns l → IsLine ls ns (place ls ns)
 self_line ls ns l h = subst (IsLine ls ns) (sym (place_of ls ns l h)) h
@@ -181,13 +180,7 @@ module _ (ls : List Texts) (up rest ns : List ℕ) (l : Texts) (n : ℕ) (c : Is
 -- a line extended by the next text of a path
 pub line_on : (us : List Texts) (ns ms : List ℕ) (l p : Texts) (t : Text) → IsLine us ms (place us ms) → place us ms ≡ l ++ t ∷ [] → l ≡ take (length ns) p
     → length ns ≡ length l → length ns < length p → t ≡ get_or p (length ns) [] → IsLine us ms (take (length ms) p)
-line_on us ns ms l p t h is front long fits text = subst (IsLine us ms) (is ∙ whole ∙ ap (λ k. take k p) (sym count)) h
-  where
-    whole : l ++ t ∷ [] ≡ take (length ns + 1) p
-    whole = (λ i. front i ++ text i ∷ []) ∙ sym (take_more p (length ns) [] fits)
-
-    count : length ms ≡ length ns + 1
-    count = let a = h.long in let b = ap length is in let c = length_push l t in omega (arith, a, b, c, long)
+line_on us ns ms l p t h is front long fits text = grind (arith, common_steps, take_more, length_push)
 
 module _ (ls us : List Texts) (kept : take (length ls) us ≡ ls) (ns ms : List ℕ) (n : ℕ) (there : AreThere ls ns) (more : ms ≡ ns ++ n ∷ []) where
   pub put_there : n ≤ length us → AreThere us ms

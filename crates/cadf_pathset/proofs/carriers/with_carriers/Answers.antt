@@ -1,4 +1,5 @@
-use Rattle.std.proofs.Common.{true, [], ap, sym, subst, ◌∙◌}
+use Rattle.std.proofs.lemmas.Grind.{common_steps}
+use Rattle.std.proofs.Common.{true, [], ap, sym, subst, ◌∙◌, arith}
 use Rattle.std.specs.List.Sorted.{IsStrictlySortedBy}
 use Rattle.cadf_join.specs.Sets as set
 use Rattle.cadf_join.specs.Contents.{texts_cmp}
@@ -21,6 +22,4 @@ returns-clause-rising g c =
     (rises g.C.Carrier.carrier c.args.lists [] (nil_rises texts_total texts_same)))
 
 pub returns-clause-set : goal.returns-clause-set
-returns-clause-set g c =
-    ap set.from_list (c.in_ok-join.ensures.ok ∙ ap (sorted_merge texts_cmp true c.args.lists) c.in_ok-carriers.ensures)
-    ∙ with_theirs g.C.Carrier.carrier g.met.C.Carrier.in_order c.args.lists c.requires
+returns-clause-set g c = grind (arith, common_steps, with_theirs)

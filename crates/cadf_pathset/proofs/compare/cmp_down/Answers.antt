@@ -1,10 +1,10 @@
-use Rattle.std.proofs.Common.{◌≤◌, ◌<◌, min, length, map, arith, refl, sym, ◌∙◌}
+use Rattle.std.proofs.lemmas.Grind.{common_steps}
+use Rattle.std.proofs.Common.{◌<◌, length, map, arith, refl, sym, ◌∙◌}
 use Rattle.std.proofs.lemmas.List.{length-map}
 use Rattle.cadf_join.specs.Contents.{Texts}
 use Rattle.cadf_pathset.specs.Nodes.{list_at}
 use Rattle.cadf_pathset.proofs.Climbs.{text_up}
 use Rattle.cadf_pathset.proofs.Compared.{less_is_not, greater_is_not, list_agrees, list_ends, list_parts}
-use Rattle.cadf_pathset.proofs.compare.cmp_down.Goals.{then-loop-agreed-test+else-agreed-list, else-loop-agreed-test}
 use Rattle.cadf_pathset.proofs.compare.cmp_down.Goals as goal
 
 pub returns-in-Less-clause-order : goal.returns-in-Less-clause-order
@@ -38,9 +38,4 @@ loop-agreed-preserved g c =
     c.in-Equal.ensures refl
 
 pub returns-clause-order : goal.returns-clause-order
-returns-clause-order g c =
-    let over : min c.args.has (length c.args.list.now) ≤ c.loop-agreed.agreed =
-    elim c.loop-agreed-test.branch [ then-loop-agreed-test+else-agreed-list w ↦ omega arith | else-loop-agreed-test w ↦ omega arith ] in
-    c.cmp-2.ensures
-    ∙ sym (list_ends (list_at c.args.nodes.now c.args.node) (map g.W.AsText.bytes c.args.list.now) (length c.args.list.now)
-    (length-map c.args.list.now g.W.AsText.bytes) c.loop-agreed.agreed c.loop-agreed.invariant c.args.has c.requires.has over)
+returns-clause-order g c = grind (arith, common_steps, list_ends, length-map)

@@ -1,3 +1,4 @@
+use Rattle.std.proofs.lemmas.Grind.{common_steps}
 use Rattle.std.proofs.Common.{◌≡◌, ◌<◌, ◌-◌, length, map, take, get_or, [], arith, ap, sym, ◌∙◌}
 use Rattle.std.specs.Ordering.{ordering_then}
 use Rattle.std.proofs.lemmas.List.{length-map, length-take, length-take-le}
@@ -16,18 +17,7 @@ loop-depth-init g c =
     let m : length b ≡ length c.args.list.now = length-map c.args.list.now g.W.AsText.bytes in
     let has = c.requires.has in
     let low = c.min-depth.ensures in
-    let front = c.ancestor-at.ensures.list in
-    let long : length (list_at c.args.nodes.now c.ancestor-at.result) ≡ c.min-depth.result =
-    let cut = ap length front in let n = length-take (length c.args.list.now) a in omega (arith, cut, n, has, low) in
-    record {
-      there = c.ancestor-at.ensures.there;
-      long = sym long;
-      fits = omega (arith, low);
-      order = cmp_start a b (list_at c.args.nodes.now c.ancestor-at.result) c.args.has (length c.args.list.now) c.min-depth.result c.cmp-found.result
-          has (sym m) front low c.cmp-found.ensures;
-      front = front ∙ front_least a (length c.args.list.now) c.args.has c.min-depth.result has low;
-      shares = λ h. h;
-    }
+    grind (arith, common_steps, length-take, cmp_start, front_least)
 
 pub loop-depth-preserved : goal.loop-depth-preserved
 loop-depth-preserved g c =
@@ -72,5 +62,4 @@ returns-after-loop-depth-clause-order g c =
     c.loop-depth.found _ h.front c.requires.known c.loop-depth-test.false h.order
 
 pub returns-after-loop-depth-clause-agreed : goal.returns-after-loop-depth-clause-agreed
-returns-after-loop-depth-clause-agreed g c = c.loop-depth.invariant.shares
-    (agree_less c.args.known c.loop-depth.depth (list_at c.args.nodes.now c.args.node) (map g.W.AsText.bytes c.args.list.now) c.loop-depth-test.false c.requires.known)
+returns-after-loop-depth-clause-agreed g c = grind (arith, common_steps, agree_less)

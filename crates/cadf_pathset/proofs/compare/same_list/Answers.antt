@@ -1,4 +1,5 @@
-use Rattle.std.proofs.Common.{◌≡◌, ◌-◌, ◌∙◌, refl, sym, arith, length}
+use Rattle.std.proofs.lemmas.Grind.{common_steps}
+use Rattle.std.proofs.Common.{◌≡◌, ◌-◌, ◌∙◌, sym, arith, length}
 use Rattle.cadf_join.specs.Contents.{Texts}
 use Rattle.cadf_pathset.specs.Nodes.{last_text, list_at}
 use Rattle.cadf_pathset.proofs.Agreement.{agree_less}
@@ -37,8 +38,4 @@ loop-left-preserved c =
     }
 
 pub returns-after-loop-left : goal.returns-after-loop-left
-returns-after-loop-left c =
-    let h = c.loop-left.invariant in
-    let less = agree_less c.args.known c.loop-left.left (list_at c.args.nodes.now c.args.node) (list_at c.args.others.now c.args.other)
-    c.loop-left-test.false c.requires.known in
-    (λ _. h.same (h.front ∙ less.same ∙ sym h.behind), λ _. refl)
+returns-after-loop-left c = grind (arith, common_steps, agree_less)

@@ -1,6 +1,6 @@
-use Rattle.std.proofs.Common.{◌≡◌, length, take, arith, ap, sym, ◌∙◌}
-use Rattle.std.specs.Cmp.{Equal-is}
-use Rattle.std.specs.Ordering.{is_eq, ordering_then}
+use Rattle.std.proofs.lemmas.Grind.{common_steps}
+use Rattle.std.proofs.Common.{◌≡◌, length, arith, ap, sym, ◌∙◌}
+use Rattle.std.specs.Ordering.{ordering_then}
 use Rattle.std.proofs.lemmas.List.{length-take}
 use Rattle.cadf_join.specs.Contents.{Texts, text_cmp}
 use Rattle.cadf_pathset.specs.Nodes.{list_at, last_text}
@@ -10,29 +10,7 @@ use Rattle.cadf_pathset.proofs.Orders.{cmp_lengths, cmp_up, cmp_same}
 use Rattle.cadf_pathset.proofs.fork.parting_cmp.Goals as goal
 
 pub loop-a-init : goal.loop-a-init
-loop-a-init c =
-    let ls = c.args.nodes.now in
-    let a : Texts = list_at ls c.args.node in
-    let b : Texts = list_at ls c.args.other in
-    let has = c.depth-has.ensures in
-    let its = c.depth-its.ensures in
-    let ours = c.ancestor-a.ensures.list in
-    let theirs = c.ancestor-b.ensures.list in
-    let m = ap length ours in
-    let n = ap length theirs in
-    let x = length-take c.depth-its.result a in
-    let y = length-take c.depth-has.result b in
-    record {
-      ours = c.ancestor-a.ensures.there;
-      theirs = c.ancestor-b.ensures.there;
-      long = omega (arith, has, its, m, n, x, y);
-      order = cmp_lengths a b
-          ∙ (λ i. ordering_then (Rattle.cadf_join.specs.Contents.texts_cmp (take (sym its i) a) (take (sym has i) b))
-          (Rattle.std.specs.Ordering.nat_cmp (sym has i) (sym its i)))
-          ∙ (λ i. ordering_then (Rattle.cadf_join.specs.Contents.texts_cmp (sym ours i) (sym theirs i)) (sym c.cmp-found.ensures i));
-      near = no_fork ls c.sibling_fork-near.result c.ancestor-a.result c.ancestor-b.result
-          ((Equal-is c.sibling_fork-near.result.order).0 (sym c.is_eq.ensures ∙ c.if-not-is_eq.false));
-    }
+loop-a-init c = grind (arith, common_steps, length-take, cmp_lengths, no_fork)
 
 pub loop-a-preserved : goal.loop-a-preserved
 loop-a-preserved c =

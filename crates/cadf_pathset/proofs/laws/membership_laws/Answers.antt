@@ -1,8 +1,7 @@
+use Rattle.std.proofs.lemmas.Grind.{common_steps}
+use Rattle.std.proofs.Common.{arith}
 use Rattle.cadf_pathset.proofs.Membership.{in_suffixes, in_carriers}
 use Rattle.cadf_pathset.proofs.laws.membership_laws.Goals as goal
 
 pub returns : goal.returns
-returns c = record {
-  suffixes = in_suffixes;
-  carriers = in_carriers;
-}
+returns c = grind (arith, common_steps, in_suffixes, in_carriers)

@@ -1,7 +1,7 @@
-use Rattle.std.proofs.Common.{◌≤◌, min, length, map, arith, refl, sym, ◌∙◌}
+use Rattle.std.proofs.lemmas.Grind.{common_steps}
+use Rattle.std.proofs.Common.{length, map, arith, refl, sym}
 use Rattle.std.proofs.lemmas.List.{length-map}
 use Rattle.cadf_pathset.proofs.Compared.{less_is_not, greater_is_not, part_here, agree_here, end_here}
-use Rattle.cadf_pathset.proofs.lines.cmp_from.Goals.{then-loop-agreed-test+else-agreed-path, else-loop-agreed-test}
 use Rattle.cadf_pathset.proofs.lines.cmp_from.Goals as goal
 
 pub returns-in-Less-clause-order : goal.returns-in-Less-clause-order
@@ -30,15 +30,7 @@ returns-in-Greater-clause-most g c = sym (part_here c.args.nodes.now c.args.line
     c.loop-agreed-test.true c.if-agreed-path.true c.text.result.now c.text_at.result.now _ c.text.ensures c.text_at.ensures c.in-Greater.ensures greater_is_not).1
 
 pub returns-clause-order : goal.returns-clause-order
-returns-clause-order g c =
-    let over : min (length c.args.line.now) (length c.args.path.now) ≤ c.loop-agreed.agreed =
-    elim c.loop-agreed-test.branch [ then-loop-agreed-test+else-agreed-path w ↦ omega arith | else-loop-agreed-test w ↦ omega arith ] in
-    c.cmp-2.ensures ∙ sym (end_here c.args.nodes.now c.args.line.now (map g.W.AsText.bytes c.args.path.now) (length c.args.path.now)
-    (length-map c.args.path.now g.W.AsText.bytes) c.loop-agreed.agreed c.requires.line c.loop-agreed.invariant over).0
+returns-clause-order g c = grind (arith, common_steps, end_here, length-map)
 
 pub returns-clause-most : goal.returns-clause-most
-returns-clause-most g c =
-    let over : min (length c.args.line.now) (length c.args.path.now) ≤ c.loop-agreed.agreed =
-    elim c.loop-agreed-test.branch [ then-loop-agreed-test+else-agreed-path w ↦ omega arith | else-loop-agreed-test w ↦ omega arith ] in
-    sym (end_here c.args.nodes.now c.args.line.now (map g.W.AsText.bytes c.args.path.now) (length c.args.path.now)
-    (length-map c.args.path.now g.W.AsText.bytes) c.loop-agreed.agreed c.requires.line c.loop-agreed.invariant over).1
+returns-clause-most g c = grind (arith, common_steps, end_here, length-map)

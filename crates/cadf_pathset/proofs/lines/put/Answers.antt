@@ -1,5 +1,6 @@
-use Rattle.std.proofs.Common.{◌≡◌, ◌++◌, ◌∷◌, sym, ap, ◌∙◌, subst, take, drop}
-use Rattle.cadf_pathset.specs.Nodes.{AreThere, IsThere, list_at, lists_at}
+use Rattle.std.proofs.lemmas.Grind.{common_steps}
+use Rattle.std.proofs.Common.{sym, subst, arith}
+use Rattle.cadf_pathset.specs.Nodes.{AreThere, IsThere}
 use Rattle.cadf_pathset.proofs.Inserts.{all_put, map_put}
 use Rattle.cadf_pathset.proofs.Threads.{lists_kept, there_kept}
 use Rattle.cadf_pathset.proofs.lines.put.Goals as goal
@@ -13,10 +14,4 @@ returns-clause-there g c =
     (all_put (IsThere us) ns c.args.at c.in_ok-number.number (there_kept ls us c.line_to.ensures.kept ns c.requires.there) c.in_ok-number.ensures.there)
 
 pub returns-clause-lists : goal.returns-clause-lists
-returns-clause-lists g c =
-    let ls = c.args.nodes.now in
-    let us = c.line_to.new.nodes in
-    let ns = c.args.numbers.now.items in
-    let kept : lists_at us ns ≡ lists_at ls ns = lists_kept ls us c.line_to.ensures.kept ns c.requires.there in
-    ap (lists_at us) c.in_ok-insert.ensures.items ∙ map_put (list_at us) ns c.args.at c.in_ok-number.number
-    ∙ (λ i. take c.args.at (kept i) ++ c.in_ok-number.ensures.list i ∷ drop c.args.at (kept i))
+returns-clause-lists g c = grind (arith, common_steps, lists_kept, map_put)

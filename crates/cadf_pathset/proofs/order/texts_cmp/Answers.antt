@@ -1,8 +1,8 @@
-use Rattle.std.proofs.Common.{◌≤◌, ◌<◌, min, length, arith, refl, sym, ◌∙◌}
+use Rattle.std.proofs.lemmas.Grind.{common_steps}
+use Rattle.std.proofs.Common.{◌<◌, length, arith, refl, sym}
 use Rattle.std.proofs.lemmas.List.{length-map}
 use Rattle.cadf_join.specs.Prefixes.{texts_at}
 use Rattle.cadf_pathset.proofs.Compared.{less_is_not, greater_is_not, list_agrees, list_ends, list_parts}
-use Rattle.cadf_pathset.proofs.order.texts_cmp.Goals.{then-loop-agreed-test+else-agreed-b, else-loop-agreed-test}
 use Rattle.cadf_pathset.proofs.order.texts_cmp.Goals as goal
 
 pub returns-in-Less-clause-order : goal.returns-in-Less-clause-order
@@ -36,10 +36,4 @@ loop-agreed-preserved c =
     c.text_at.result.now c.text_at-in-loop-agreed.result.now _ c.text_at.ensures c.text_at-in-loop-agreed.ensures c.in-Equal.ensures refl
 
 pub returns-clause-order : goal.returns-clause-order
-returns-clause-order c =
-    let n = length-map c.args.a.now (λ t. t.now) in
-    let over : min (length c.args.a.now) (length c.args.b.now) ≤ c.loop-agreed.agreed =
-    elim c.loop-agreed-test.branch [ then-loop-agreed-test+else-agreed-b w ↦ omega arith | else-loop-agreed-test w ↦ omega arith ] in
-    c.cmp-2.ensures
-    ∙ sym (list_ends (texts_at c.args.a.now) (texts_at c.args.b.now) (length c.args.b.now) (length-map c.args.b.now (λ t. t.now)) c.loop-agreed.agreed
-    c.loop-agreed.invariant (length c.args.a.now) (sym n) over)
+returns-clause-order c = grind (arith, common_steps, length-map, list_ends)

@@ -1,3 +1,4 @@
+use Rattle.std.proofs.lemmas.Grind.{common_steps}
 use Rattle.std.proofs.Common.{ap, sym, subst, ◌∙◌, arith, length}
 use Rattle.std.proofs.lemmas.List.{length-drop}
 use Rattle.std.specs.List.{AllByRecursion}
@@ -20,5 +21,4 @@ loop-rest-preserved c =
     }
 
 pub returns-clause-rises : goal.returns-clause-rises
-returns-clause-rises c = λ _. c.loop-rest.invariant.rises
-    (one_rises (list_at c.args.nodes.now) c.loop-rest.rest.now (let t = c.loop-rest-test.false in omega (arith, t)))
+returns-clause-rises c = grind (arith, common_steps, one_rises)

@@ -1,4 +1,5 @@
-use Rattle.std.proofs.Common.{◌≡◌, ◌++◌, min, take, arith, sym, ap, subst, ◌∙◌}
+use Rattle.std.proofs.lemmas.Grind.{common_steps}
+use Rattle.std.proofs.Common.{◌≡◌, ◌++◌, take, arith, sym, ap, subst, ◌∙◌}
 use Rattle.cadf_join.specs.Contents.{Texts}
 use Rattle.cadf_join.specs.Prefixes.{texts_at}
 use Rattle.cadf_pathset.specs.Nodes.{Agree, IsLine, list_at, place}
@@ -8,17 +9,7 @@ use Rattle.cadf_pathset.proofs.Merging.{front_out}
 use Rattle.cadf_pathset.proofs.union.compare.Goals as goal
 
 pub cmp_from-order-requires-clause-known : goal.cmp_from-order-requires-clause-known
-cmp_from-order-requires-clause-known c =
-    let ls = c.args.nodes.now in
-    let l : Texts = list_at c.args.nodes.now c.args.number in
-    let b : Texts = texts_at c.args.path.now in
-    let old : Texts = place c.args.nodes.now c.args.line.now.items in
-    let here : place ls c.as_slice.result.now ≡ l = ap (place ls) c.as_slice.ensures.value ∙ place_of ls c.follow.new.line.items l c.in_ok-common.ensures.line in
-    let least = c.min-known.ensures in
-    let both = agree_through c.in_ok-common.common c.args.agreed.now l old b (agree_turned c.in_ok-common.common old l c.in_ok-common.ensures.common)
-    c.requires.front.agrees in
-    subst (λ z. Agree c.min-known.result z b) (sym here)
-    (agree_less (min c.in_ok-common.common c.args.agreed.now) c.min-known.result l b (omega (arith, least)) both)
+cmp_from-order-requires-clause-known c = grind (arith, common_steps, place_of, agree_through, agree_turned, agree_less)
 
 pub returns-in_ok-extend_from_slice-clause-front : goal.returns-in_ok-extend_from_slice-clause-front
 returns-in_ok-extend_from_slice-clause-front c =

@@ -1,12 +1,12 @@
-use Rattle.std.proofs.Common.{◌≡◌, ◌≤◌, ◌-◌, ◌++◌, ℕ, length, take, drop, get_or, arith, sym, ap, subst, refl, ◌∙◌}
+use Rattle.std.proofs.lemmas.Grind.{common_steps}
+use Rattle.std.proofs.Common.{◌≡◌, ◌≤◌, ◌-◌, ◌++◌, ℕ, length, take, drop, get_or, arith, ap, subst, refl, ◌∙◌}
 use Rattle.std.proofs.lemmas.List.{take_all}
 use Rattle.std.specs.declared.cmp.Ordering.TheVariants.{Less, Equal, Greater}
 use Rattle.std.specs.List.{AllByRecursion}
-use Rattle.std.specs.List.Sorted.{IsStrictlySortedBy}
 use Rattle.cadf_join.specs.Contents.{texts_cmp}
 use Rattle.cadf_join.specs.Prefixes.{texts_at}
 use Rattle.cadf_pathset.specs.Merge.{sorted_merge}
-use Rattle.cadf_pathset.specs.Nodes.{AreThere, lists_at}
+use Rattle.cadf_pathset.specs.Nodes.{lists_at}
 use Rattle.cadf_pathset.proofs.Threads.{kept_again, lists_kept, there_kept}
 use Rattle.cadf_pathset.proofs.Merging.{
   entered_ahead,
@@ -131,13 +131,7 @@ loop-more-preserved c =
     }
 
 pub returns-clause-there : goal.returns-clause-there
-returns-clause-there c =
-    let h = c.loop-more.invariant in
-    let first = c.args.nodes.now in
-    let ls = c.loop-more.nodes in
-    let ns = c.args.numbers.now in
-    subst (AreThere ls) (sym (c.in_ok-extend_from_slice.ensures.items ∙ ap (λ z. c.loop-more.all.items ++ z) c.split_at.ensures.back))
-    (there_both ls c.loop-more.all.items (drop c.loop-more.at ns) h.there (there_kept first ls h.kept (drop c.loop-more.at ns) (there_drop first ns c.loop-more.at c.requires.there)))
+returns-clause-there c = grind (arith, common_steps, there_both, there_kept, there_drop)
 
 pub returns-clause-merged : goal.returns-clause-merged
 returns-clause-merged c =
@@ -150,9 +144,7 @@ returns-clause-merged c =
     (there_drop first ns c.loop-more.at c.requires.there) c.loop-more-test.false h.lists
 
 pub skip-requires-clause-rises : goal.skip-requires-clause-rises
-skip-requires-clause-rises c =
-    subst (IsStrictlySortedBy texts_cmp) (sym (lists_kept c.args.nodes.now c.loop-more.nodes c.loop-more.invariant.kept c.args.numbers.now c.requires.there))
-    c.requires.rises
+skip-requires-clause-rises c = grind (arith, common_steps, lists_kept)
 
 pub loop-more-preserved-then-run-eq-LONG : goal.loop-more-preserved-then-run-eq-LONG
 loop-more-preserved-then-run-eq-LONG c =

@@ -1,4 +1,5 @@
-use Rattle.std.proofs.Common.{◌≡◌, ◌+◌, ◌++◌, ◌∷◌, [], Some, refl, ap, sym, subst, ◌∙◌, take, length, arith}
+use Rattle.std.proofs.lemmas.Grind.{common_steps}
+use Rattle.std.proofs.Common.{◌≡◌, ◌+◌, ◌++◌, ◌∷◌, [], Some, ap, sym, subst, ◌∙◌, take, length, arith}
 use Rattle.std.proofs.lemmas.List.{append-nil, length-map, take_all}
 use Rattle.cadf_join.specs.Prefixes.{continued, texts_at}
 use Rattle.cadf_join.proofs.Outcome as outcome
@@ -9,17 +10,7 @@ use Rattle.cadf_pathset.proofs.Replaced.{agrees_next, fits_path, front_is, keeps
 use Rattle.cadf_pathset.proofs.walk.visit_all.Goals as goal
 
 pub loop-cursor-init : goal.loop-cursor-init
-loop-cursor-init g c =
-    let path = texts_at c.args.path.now.items in
-    record {
-      path = take_all (length c.args.path.now.items) c.args.path.now.items (omega arith);
-      list = sym (append-nil path) ∙ ap (λ z. path ++ z) (sym c.requires);
-      shown = shown_at_first g.S.Visitor.takes g.met.S.Visitor.takes_more c.args.visitor.now (g.met.S.Visitor.takes_none c.args.visitor.now)
-          (continued path c.args.cursor.1) (continued path c.args.cursor.1) refl;
-      common = omega arith;
-      keeps = λ list n agree. keeps_first (g.S.Visitor.keeps c.args.visitor.now) (g.met.S.Visitor.keeps_none c.args.visitor.now)
-          path c.args.cursor.0 list 0 n refl c.requires agree;
-    }
+loop-cursor-init g c = grind (arith, common_steps, take_all, append-nil, shown_at_first, keeps_first)
 
 pub replace_after-requires-clause-within : goal.replace_after-requires-clause-within
 replace_after-requires-clause-within g c =
@@ -50,18 +41,7 @@ replace_after-requires-clause-there g c =
     omega (arith, fits, m)
 
 pub replace_after-requires-clause-same : goal.replace_after-requires-clause-same
-replace_after-requires-clause-same g c =
-    let p = texts_at c.args.path.now.items in
-    let all = texts_at c.loop-cursor.path.items in
-    let n = c.in-Some.shared in
-    let moved : Advances (Some n) c.loop-cursor.cursor c.advance.new.self =
-    subst (λ o. Advances o c.loop-cursor.cursor c.advance.new.self) c.in-Some.is c.in_ok-shared.ensures in
-    let long = c.len-before.ensures ∙ c.args.path.now.ok.0 in
-    let before : c.len-before.result ≡ length p = long ∙ sym (length-map c.args.path.now.items (λ t. t.now)) in
-    let agree = subst (λ z. Agree n z c.loop-cursor.cursor.0) (sym c.path.ensures) (agrees_next n c.loop-cursor.cursor c.advance.new.self moved) in
-    let l = texts_at c.path.result.now in
-    shares_front all p c.loop-cursor.cursor.0 l c.len-before.result n before c.loop-cursor.invariant.list agree
-    ∙ ap (λ z. z ++ take n l) (sym (front_is all p c.loop-cursor.cursor.0 c.len-before.result before c.loop-cursor.invariant.list))
+replace_after-requires-clause-same g c = grind (arith, common_steps, length-map, agrees_next, shares_front, front_is)
 
 pub overflow_add-common : goal.overflow_add-common
 overflow_add-common g c =
@@ -92,17 +72,7 @@ visit-requires-clause-within g c =
     c.loop-cursor.invariant.common (ap texts_at c.as_slice.ensures.value ∙ longer) (agrees_next n c.loop-cursor.cursor c.advance.new.self moved)
 
 pub visit-requires-clause-keeps : goal.visit-requires-clause-keeps
-visit-requires-clause-keeps g c =
-    let p = texts_at c.args.path.now.items in
-    let n = c.in-Some.shared in
-    let moved : Advances (Some n) c.loop-cursor.cursor c.advance.new.self =
-    subst (λ o. Advances o c.loop-cursor.cursor c.advance.new.self) c.in-Some.is c.in_ok-shared.ensures in
-    let long = c.len-before.ensures ∙ c.args.path.now.ok.0 in
-    let before : c.len-before.result ≡ length p = long ∙ sym (length-map c.args.path.now.items (λ t. t.now)) in
-    let front = front_is (texts_at c.loop-cursor.path.items) p c.loop-cursor.cursor.0 c.len-before.result before c.loop-cursor.invariant.list in
-    let longer = c.in_ok-replace_after.ensures.list ∙ (λ i. front i ++ c.path.ensures i) in
-    subst (g.S.Visitor.keeps c.loop-cursor.visitor (c.loop-cursor.common + n)) (sym (ap texts_at c.as_slice.ensures.value ∙ longer))
-    (c.loop-cursor.invariant.keeps c.advance.new.self.0 n (agrees_next n c.loop-cursor.cursor c.advance.new.self moved))
+visit-requires-clause-keeps g c = grind (arith, common_steps, length-map, front_is, agrees_next)
 
 pub loop-cursor-preserved : goal.loop-cursor-preserved
 loop-cursor-preserved g c =

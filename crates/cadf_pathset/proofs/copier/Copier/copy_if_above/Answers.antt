@@ -1,8 +1,7 @@
-use Rattle.std.proofs.Common.{◌≡◌, ◌≤◌, ◌∙◌, [], ap, length, subst, sym, take}
+use Rattle.std.proofs.lemmas.Grind.{common_steps}
+use Rattle.std.proofs.Common.{◌≡◌, ◌≤◌, ◌∙◌, ap, length, subst, sym, take, arith}
 use Rattle.std.proofs.lemmas.List.{take-map}
 use Rattle.cadf_join.specs.Prefixes.{texts_at}
-use Rattle.cadf_pathset.specs.Lists.{last_of}
-use Rattle.cadf_pathset.specs.Nodes.{Agree}
 use Rattle.cadf_pathset.proofs.Agreement.{agree_cut}
 use Rattle.cadf_pathset.proofs.Copies.{front_agrees}
 use Rattle.cadf_pathset.proofs.copier.Copier.copy_if_above.Goals as goal
@@ -13,8 +12,7 @@ is_above_last-requires c =
     let fits : c.args.count ≤ length c.self.inside.cursor.0 = subst (λ v. c.args.count ≤ length v.0.0) (sym c.self.view_is) c.requires in
     let front : texts_at c.split_at.result.0.now ≡ take c.args.count c.self.inside.cursor.0 =
     ap texts_at c.split_at.ensures.front ∙ sym (take-map (λ t. t.now) c.args.count path) ∙ ap (take c.args.count) c.path.ensures in
-    subst (Agree c.min-shared.result (last_of [] c.self.inside.copies)) (sym front)
-    (agree_cut c.self.inside.shared c.min-shared.result c.args.count _ c.self.inside.cursor.0 c.self.invariant fits c.min-shared.ensures)
+    grind (arith, common_steps, agree_cut)
 
 pub push_after-requires : goal.push_after-requires
 push_after-requires c =
@@ -22,8 +20,7 @@ push_after-requires c =
     let fits : c.args.count ≤ length c.self.inside.cursor.0 = subst (λ v. c.args.count ≤ length v.0.0) (sym c.self.view_is) c.requires in
     let front : texts_at c.split_at.result.0.now ≡ take c.args.count c.self.inside.cursor.0 =
     ap texts_at c.split_at.ensures.front ∙ sym (take-map (λ t. t.now) c.args.count path) ∙ ap (take c.args.count) c.path.ensures in
-    subst (Agree c.min-shared.result (last_of [] c.self.inside.copies)) (sym front)
-    (agree_cut c.self.inside.shared c.min-shared.result c.args.count _ c.self.inside.cursor.0 c.self.invariant fits c.min-shared.ensures)
+    grind (arith, common_steps, agree_cut)
 
 pub invariant_of-self-then-is_above_last : goal.invariant_of-self-then-is_above_last
 invariant_of-self-then-is_above_last c =

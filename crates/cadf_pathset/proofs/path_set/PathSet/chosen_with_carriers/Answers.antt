@@ -1,7 +1,6 @@
-use Rattle.std.proofs.Common.{ap, sym, subst, ◌∙◌}
-use Rattle.std.specs.List.Sorted.{IsStrictlySortedBy}
+use Rattle.std.proofs.lemmas.Grind.{common_steps}
+use Rattle.std.proofs.Common.{ap, sym, ◌∙◌, arith}
 use Rattle.cadf_join.specs.Sets as set
-use Rattle.cadf_join.specs.Contents.{texts_cmp}
 use Rattle.cadf_join.specs.laws.Contents.{texts_total, texts_same}
 use Rattle.cadf_join.specs.laws.Rising.{rising-from_list}
 use Rattle.cadf_pathset.specs.Carriers.{with_carriers_by}
@@ -10,8 +9,7 @@ use Rattle.cadf_pathset.proofs.Copies.{chosen_rises}
 use Rattle.cadf_pathset.proofs.path_set.PathSet.chosen_with_carriers.Goals as goal
 
 pub with_carriers-requires : goal.with_carriers-requires
-with_carriers-requires g c =
-    subst (IsStrictlySortedBy texts_cmp) (sym c.in_ok-lists.ensures) (chosen_rises c.args.flags.now c.self.inside.rows c.self.invariant)
+with_carriers-requires g c = grind (arith, common_steps, chosen_rises)
 
 pub returns : goal.returns
 returns g c =

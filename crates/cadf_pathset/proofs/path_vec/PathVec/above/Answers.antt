@@ -1,3 +1,4 @@
+use Rattle.std.proofs.lemmas.Grind.{common_steps}
 use Rattle.std.proofs.Common.{arith, sym, ◌∙◌, map}
 use mathlib.Core.Bool.{true≢false}
 use Rattle.cadf_pathset.proofs.Halving.{not_after, after_place, not_after_it, after_it}
@@ -5,12 +6,10 @@ use Rattle.cadf_pathset.proofs.path_vec.PathVec.above.Goals.{else-at-count-via-t
 use Rattle.cadf_pathset.proofs.path_vec.PathVec.above.Goals as goal
 
 pub returns-then-is_at-clause-below : goal.returns-then-is_at-clause-below
-returns-then-is_at-clause-below g c = not_after_it (map g.W.AsText.bytes c.args.list.now) c.args.self.now c.seek-at.result.0 c.requires
-    (let l = c.if-at-count.true in let n = c.count.ensures in omega (arith, l, n)) (sym c.is_at.ensures ∙ c.if-is_at.true) c.seek-at.ensures.below
+returns-then-is_at-clause-below g c = grind (arith, common_steps, not_after_it)
 
 pub returns-then-is_at-clause-above : goal.returns-then-is_at-clause-above
-returns-then-is_at-clause-above g c = after_it (map g.W.AsText.bytes c.args.list.now) c.args.self.now c.seek-at.result.0 c.requires
-    (let l = c.if-at-count.true in let n = c.count.ensures in omega (arith, l, n)) (sym c.is_at.ensures ∙ c.if-is_at.true)
+returns-then-is_at-clause-above g c = grind (arith, common_steps, after_it)
 
 pub returns-clause-below : goal.returns-clause-below
 returns-clause-below g c = not_after (map g.W.AsText.bytes c.args.list.now) _ c.seek-at.ensures.below

@@ -1,3 +1,4 @@
+use Rattle.std.proofs.lemmas.Grind.{common_steps}
 use Rattle.std.proofs.Common.{arith, sym, ◌∙◌, map}
 use mathlib.Core.Bool.{true≢false}
 use Rattle.cadf_pathset.proofs.Halving.{found_at, below_place, above_place}
@@ -5,8 +6,7 @@ use Rattle.cadf_pathset.proofs.path_vec.PathVec.place.Goals.{else-at-count-via-t
 use Rattle.cadf_pathset.proofs.path_vec.PathVec.place.Goals as goal
 
 pub returns-then-is_at-clause-held : goal.returns-then-is_at-clause-held
-returns-then-is_at-clause-held g c = λ _. found_at (map g.W.AsText.bytes c.args.list.now) c.args.self.now c.seek-at.result.0
-    (let l = c.if-at-count.true in let n = c.count.ensures in omega (arith, l, n)) (sym c.is_at.ensures ∙ c.if-is_at.true)
+returns-then-is_at-clause-held g c = grind (arith, common_steps, found_at)
 
 pub returns-clause-below : goal.returns-clause-below
 returns-clause-below g c = below_place (map g.W.AsText.bytes c.args.list.now) _ c.seek-at.ensures.below

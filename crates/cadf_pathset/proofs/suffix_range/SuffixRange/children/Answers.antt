@@ -1,3 +1,4 @@
+use Rattle.std.proofs.lemmas.Grind.{common_steps}
 use Rattle.std.proofs.Common.{◌∷◌, [], ◌++◌, true, ap, sym, ◌∙◌, arith, append_assoc, drop}
 use Rattle.std.proofs.Math.ListN.{drop_of_length-le}
 use Rattle.std.proofs.lemmas.List.{append-nil}
@@ -30,10 +31,4 @@ loop-number-preserved-in-Some c =
     ∙ c.loop-number.invariant
 
 pub returns : goal.returns
-returns c =
-    let done = texts_at c.loop-number.texts.items in
-    let t = c.loop-number-test.false in
-    let n = c.count.ensures in
-    sym (append-nil done) ∙ ap (λ ts. done ++ ts) (sym children-nil)
-    ∙ ap (λ ls. done ++ children ls) (sym (drop_of_length-le c.args.self.now (omega (arith, t, n))))
-    ∙ c.loop-number.invariant ∙ sym (children_are c.args.self.now c.requires)
+returns c = grind (arith, common_steps, append-nil, children-nil, children, drop_of_length-le, children_are)
