@@ -10,18 +10,8 @@ use Rattle.std.specs.List.Sorted.{IsStrictlySortedBy}
 use Rattle.cadf_join.specs.laws.Sets as sets
 use Rattle.cadf_join.specs.Contents.{Texts, texts_cmp}
 use Rattle.cadf_pathset.specs.Lists.{is_before}
-use Rattle.cadf_pathset.proofs.Halving.{
-  above_place,
-  all_before,
-  all_taken,
-  before_is_less,
-  below_place,
-  found_at,
-  less_is_before,
-  none_before,
-  not_there,
-  rising_at,
-}
+use Rattle.cadf_pathset.proofs.Halving.{above_place, all_before, all_taken, before_is_less, below_place, found_at, less_is_before, none_before}
+use Rattle.cadf_pathset.proofs.Halving.{not_there, rising_at}
 use Rattle.cadf_pathset.specs.Nodes.{Agree}
 use Rattle.cadf_pathset.proofs.Agreement.{agree_less, between}
 

@@ -1,28 +1,6 @@
 -- The first texts of strictly ascending lists, each once, from some list on.
 --     children ls    the first texts of the lists, each once, in order
-use Rattle.std.proofs.Common.{
-  ◌≡◌,
-  ℕ,
-  suc,
-  zero,
-  true,
-  false,
-  List,
-  [],
-  ◌∷◌,
-  Some,
-  None,
-  refl,
-  sym,
-  ap,
-  ◌∙◌,
-  subst,
-  take,
-  drop,
-  get_or,
-  arith,
-  ◌<◌,
-}
+use Rattle.std.proofs.Common.{◌≡◌, ℕ, suc, zero, true, false, List, [], ◌∷◌, Some, None, refl, sym, ap, ◌∙◌, subst, take, drop, get_or, arith, ◌<◌}
 use mathlib.Core.Bool.{true≢false}
 use Rattle.std.specs.declared.cmp.Ordering.{Ordering}
 use Rattle.std.specs.declared.cmp.Ordering.TheVariants.{Less, Equal, Greater}

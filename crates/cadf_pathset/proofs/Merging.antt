@@ -1,32 +1,7 @@
 -- Steps of a merge of two ascending lists, and its invariants.
 use Rattle.std.proofs.lemmas.Grind.{common_steps}
-use Rattle.std.proofs.Common.{
-  ◌≡◌,
-  ℕ,
-  Bool,
-  true,
-  false,
-  ◌+◌,
-  ◌-◌,
-  ◌<◌,
-  ◌≤◌,
-  List,
-  [],
-  ◌∷◌,
-  ◌++◌,
-  refl,
-  sym,
-  ap,
-  ◌∙◌,
-  subst,
-  suc,
-  zero,
-  length,
-  take,
-  drop,
-  get_or,
-  arith,
-}
+use Rattle.std.proofs.Common.{◌≡◌, ℕ, Bool, true, false, ◌+◌, ◌-◌, ◌<◌, ◌≤◌, List, [], ◌∷◌, ◌++◌, refl, sym, ap, ◌∙◌, subst, suc, zero, length, take}
+use Rattle.std.proofs.Common.{drop, get_or, arith}
 use Rattle.std.proofs.lemmas.List.{append_assoc, drop-drop, drop-map, length-take, take-take, take_all, map-append, drop_more, drop_all}
 use Rattle.cadf_pathset.proofs.Merges.{alone, merge_skip}
 use Rattle.cadf_pathset.proofs.Grown.{map_more}

@@ -8,23 +8,8 @@ use Rattle.cadf_join.specs.Prefixes.{texts_at}
 use Rattle.cadf_pathset.specs.Merge.{sorted_merge}
 use Rattle.cadf_pathset.specs.Nodes.{lists_at}
 use Rattle.cadf_pathset.proofs.Threads.{kept_again, lists_kept, there_kept}
-use Rattle.cadf_pathset.proofs.Merging.{
-  entered_ahead,
-  front_ours,
-  front_theirs,
-  order_is,
-  ours_put,
-  ours_there,
-  rest_put,
-  theirs_put,
-  turn_skip,
-  there_at,
-  there_both,
-  there_drop,
-  turn_alone,
-  turn_equal,
-  turn_greater,
-}
+use Rattle.cadf_pathset.proofs.Merging.{entered_ahead, front_ours, front_theirs, order_is, ours_put, ours_there, rest_put, theirs_put, turn_skip}
+use Rattle.cadf_pathset.proofs.Merging.{there_at, there_both, there_drop, turn_alone, turn_equal, turn_greater}
 use Rattle.cadf_pathset.proofs.union.merge.Goals as goal
 
 pub loop-more-init : goal.loop-more-init
