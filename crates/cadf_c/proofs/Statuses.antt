@@ -5,19 +5,8 @@ use Rattle.cadf_arguments.specs.declared.fault.ArgumentFault.{ArgumentFault}
 use Rattle.cadf_arguments.specs.declared.fault.ArgumentFault.TheVariants.{LogName, Sites, Letter, Key, Place, Cells, Salt, Unit as NoUnit, Memory as NoMemory}
 use Rattle.cadf_arguments.specs.Arguments.{argument_status_of, argument_text_of}
 use Rattle.cadf_tool.specs.declared.fault.ToolFault.{ToolFault}
-use Rattle.cadf_tool.specs.declared.fault.ToolFault.TheVariants.{
-  Input,
-  NoLog,
-  OtherLog,
-  TooFewCells,
-  Script,
-  Rehearse,
-  NoValue,
-  Unverified,
-  ReadFault,
-  WriteFault,
-  Memory,
-}
+use Rattle.cadf_tool.specs.declared.fault.ToolFault.TheVariants.{Input, NoLog, OtherLog, TooFewCells, Script, Rehearse, NoValue, Unverified}
+use Rattle.cadf_tool.specs.declared.fault.ToolFault.TheVariants.{ReadFault, WriteFault, Memory}
 use Rattle.cadf_tool.specs.Faults.{status_of}
 use Rattle.cadf_memory.specs.Refused.{is_of_memory}
 use Rattle.cadf_memory.specs.Handed.{IsHandedOut}

@@ -8,25 +8,8 @@ use Rattle.cadf_join.specs.Contents.{Text}
 use Rattle.cadf_tool.specs.declared.input.Loaded.{Loaded}
 use Rattle.cadf_tool.specs.declared.fault.ToolFault.{ToolFault}
 use Rattle.cadf_tool.specs.Inputs.{SourceState, source_state}
-use Rattle.cadf_tool.specs.Run.{
-  SourceTransition,
-  InputSpec,
-  Sources,
-  one,
-  two,
-  both,
-  all,
-  all_from,
-  input_spec,
-  IsReadAs,
-  AreLoaded,
-  IsExpectedOfBy,
-  IsWritten,
-  IsAnswer,
-  IsValueOf,
-  IsRunBy,
-  IsRun,
-}
+use Rattle.cadf_tool.specs.Run.{SourceTransition, InputSpec, Sources, one, two, both, all, all_from, input_spec, IsReadAs, AreLoaded, IsExpectedOfBy}
+use Rattle.cadf_tool.specs.Run.{IsWritten, IsAnswer, IsValueOf, IsRunBy, IsRun}
 use Rattle.cadf_memory.specs.declared.buffer.Buffer.{Buffer}
 use Rattle.cadf_memory.specs.Buffers.{buffer_name, buffer_before, buffer_text}
 use Rattle.cadf_memory.specs.Handed.{handed, IsHandedOut}

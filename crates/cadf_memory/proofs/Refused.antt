@@ -5,50 +5,15 @@ use Rattle.cadf_json.specs.declared.stream.Source.{Ghosts as Source}
 use Rattle.cadf_join.specs.Contents.{Text}
 use Rattle.cadf_tool.specs.declared.input.Loaded.{Loaded}
 use Rattle.cadf_tool.specs.declared.fault.ToolFault.{ToolFault}
-use Rattle.cadf_tool.specs.declared.fault.ToolFault.TheVariants.{
-  Input,
-  NoLog,
-  OtherLog,
-  TooFewCells,
-  Script,
-  Rehearse,
-  NoValue,
-  Unverified,
-  ReadFault,
-  WriteFault,
-  Memory,
-}
+use Rattle.cadf_tool.specs.declared.fault.ToolFault.TheVariants.{Input, NoLog, OtherLog, TooFewCells, Script, Rehearse, NoValue, Unverified}
+use Rattle.cadf_tool.specs.declared.fault.ToolFault.TheVariants.{ReadFault, WriteFault, Memory}
 use Rattle.cadf_tool.specs.Faults.{FaultStage, Reading, Working, Writing, OutOfMemoryStage, fault_stage}
 use Rattle.cadf_tool.specs.Inputs.{SourceState, source_state}
-use Rattle.cadf_tool.specs.Run.{
-  SourceTransition,
-  InputSpec,
-  Sources,
-  one,
-  two,
-  both,
-  all,
-  all_from,
-  IsValueOf,
-  IsFirstFaultBy,
-  IsFirstFault,
-  IsExpectedOfBy,
-  IsAnswer,
-  IsRunBy,
-  IsRun,
-}
+use Rattle.cadf_tool.specs.Run.{SourceTransition, InputSpec, Sources, one, two, both, all, all_from, IsValueOf, IsFirstFaultBy, IsFirstFault}
+use Rattle.cadf_tool.specs.Run.{IsExpectedOfBy, IsAnswer, IsRunBy, IsRun}
 use Rattle.cadf_memory.proofs.Lists.{none_has_failed, none_failed}
-use Rattle.cadf_memory.specs.Refused.{
-  fault_in_memory_of,
-  three_sources,
-  seen_from,
-  IsFirstBy,
-  IsFirstOf,
-  IsFirstOfTwoBy,
-  IsFirstOfThree,
-  IsFirstOfAll,
-  IsFirstOfOneAndAll,
-}
+use Rattle.cadf_memory.specs.Refused.{fault_in_memory_of, three_sources, seen_from, IsFirstBy, IsFirstOf, IsFirstOfTwoBy, IsFirstOfThree}
+use Rattle.cadf_memory.specs.Refused.{IsFirstOfAll, IsFirstOfOneAndAll}
 
 module _ {A M : Type 0} (sources : Sources A) (work : A → Result M ToolFault → Type 0) where
   abbrev IsFirst : ToolFault → Type 0

@@ -10,19 +10,8 @@
 use Rattle.std.specs.Prelude.{◌≡◌, ℕ, Bool, true, false, List, [], ◌∷◌, map, Some, Result}
 use Rattle.cadf_tool.specs.declared.input.Loaded.{Loaded}
 use Rattle.cadf_tool.specs.declared.fault.ToolFault.{ToolFault}
-use Rattle.cadf_tool.specs.declared.fault.ToolFault.TheVariants.{
-  Input,
-  NoLog,
-  OtherLog,
-  TooFewCells,
-  Script,
-  Rehearse,
-  NoValue,
-  Unverified,
-  ReadFault,
-  WriteFault,
-  Memory,
-}
+use Rattle.cadf_tool.specs.declared.fault.ToolFault.TheVariants.{Input, NoLog, OtherLog, TooFewCells, Script, Rehearse, NoValue, Unverified}
+use Rattle.cadf_tool.specs.declared.fault.ToolFault.TheVariants.{ReadFault, WriteFault, Memory}
 use Rattle.cadf_tool.specs.Faults.{fault_stage}
 use Rattle.cadf_tool.specs.Inputs.{SourceState, NoneFailed}
 use Rattle.cadf_tool.specs.Run.{SourceTransition, InputSpec, Sources, with_number, one, two, both, AreLoaded, IsRefusedAt, IsValueOf, IsFirstFaultBy}

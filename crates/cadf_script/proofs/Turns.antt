@@ -1,18 +1,5 @@
 -- A line and its turn.
-use Rattle.std.proofs.Common.{
-  ◌≡◌,
-  ◌≢◌,
-  ℕ,
-  List,
-  false,
-  cond,
-  length,
-  refl,
-  sym,
-  ◌∙◌,
-  subst,
-  eqb,
-}
+use Rattle.std.proofs.Common.{◌≡◌, ◌≢◌, ℕ, List, false, cond, length, refl, sym, ◌∙◌, subst, eqb}
 use Rattle.std.specs.Prelude.{decimal}
 use Rattle.cadf_rehearsal.specs.declared.turn.Turn.{Turn}
 use Rattle.cadf_rehearsal.specs.declared.turn.Turn.TheVariants.{Learn as Learns, Ask as Asks, Answer as Answers, Send as Sends, Deliver as Delivers}
