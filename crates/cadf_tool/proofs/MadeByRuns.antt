@@ -18,20 +18,8 @@ use Rattle.cadf_tool.specs.Sketch.{AreAsked, sketch_model_of, IsPartBySketch}
 use Rattle.cadf_tool.specs.Join.{join_of}
 use Rattle.cadf_tool.specs.Rule.{ruling_on, ruling_for, ruled_of}
 use Rattle.cadf_tool.specs.TwoTexts.{IsTextOfFile}
-use Rattle.cadf_tool.specs.Exchange.{
-  Derivation,
-  Joined,
-  Ruled,
-  Operands,
-  IsFileOf,
-  IsReadOf,
-  IsDerived,
-  IsOutputOf,
-  IsSketchOf,
-  IsPartBySketchOf,
-  GivesFile,
-  AreSources,
-}
+use Rattle.cadf_tool.specs.Exchange.{Derivation, Joined, Ruled, Operands, IsFileOf, IsReadOf, IsDerived, IsOutputOf, IsSketchOf, IsPartBySketchOf}
+use Rattle.cadf_tool.specs.Exchange.{GivesFile, AreSources}
 use Rattle.cadf_tool.proofs.RulingAdded.{ruled_is}
 use Rattle.cadf_tool.proofs.SketchParts.{sketched_is, held_named, answer_read}
 use Rattle.cadf_tool.proofs.ExchangeLaws.{read_of, are_read, written_behind}

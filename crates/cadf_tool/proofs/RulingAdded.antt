@@ -1,42 +1,6 @@
 -- A further ruling: the result of `rule` for a set of atoms.
-use Rattle.std.proofs.Common.{
-  ◌≡◌,
-  ◌≤◌,
-  ◌<◌,
-  ◌-◌,
-  ℕ,
-  zero,
-  suc,
-  Bool,
-  true,
-  false,
-  cond,
-  inl,
-  inr,
-  List,
-  [],
-  ◌∷◌,
-  map,
-  length,
-  get_or,
-  slice_get,
-  String,
-  Global,
-  string_bytes,
-  Option,
-  Some,
-  None,
-  Result,
-  Ok,
-  Err,
-  refl,
-  sym,
-  ap,
-  ◌∙◌,
-  subst,
-  arith,
-  true≢false,
-}
+use Rattle.std.proofs.Common.{◌≡◌, ◌≤◌, ◌<◌, ◌-◌, ℕ, zero, suc, Bool, true, false, cond, inl, inr, List, [], ◌∷◌, map, length, get_or, slice_get}
+use Rattle.std.proofs.Common.{String, Global, string_bytes, Option, Some, None, Result, Ok, Err, refl, sym, ap, ◌∙◌, subst, arith, true≢false}
 use Rattle.std.specs.Prelude.{IsTrue, is_some}
 use Rattle.std.specs.List.{filter, filter_map, cons_option}
 use Rattle.cadf_join.specs.Sets as set

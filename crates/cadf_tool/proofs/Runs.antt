@@ -3,16 +3,7 @@ use Rattle.std.proofs.Common.{◌≡◌, Result, Ok, Err, sym, subst, inl, inr}
 use Rattle.cadf_tool.specs.declared.fault.ToolFault.{ToolFault}
 use Rattle.cadf_tool.specs.declared.fault.ToolFault.TheVariants.{Memory}
 use Rattle.cadf_tool.specs.Faults.{FaultStage, Reading, Working, Writing, OutOfMemoryStage, fault_stage}
-use Rattle.cadf_tool.specs.Run.{
-  Sources,
-  both,
-  IsFirstFault,
-  IsFirstFaultBy,
-  IsUnread,
-  IsExpectedBy,
-  IsWorkFaultBy,
-  IsWorkedBy,
-}
+use Rattle.cadf_tool.specs.Run.{Sources, both, IsFirstFault, IsFirstFaultBy, IsUnread, IsExpectedBy, IsWorkFaultBy, IsWorkedBy}
 
 module _ {A M : Type 0} (sources : Sources A) (work : A → Result M ToolFault → Type 0) where
   not_read_at : (fault : ToolFault) (s : FaultStage) → IsFirstFault sources Ok fault s → IsFirstFaultBy sources work fault s

@@ -1,14 +1,5 @@
 -- The lines that describe each site.
-use Rattle.std.proofs.Common.{
-  ◌≡◌,
-  Bool,
-  true,
-  false,
-  refl,
-  sym,
-  subst,
-  true≢false,
-}
+use Rattle.std.proofs.Common.{◌≡◌, Bool, true, false, refl, sym, subst, true≢false}
 use Rattle.std.specs.Prelude.{◌&&◌, ◌↔◌, IsTrue}
 use Rattle.cadf_join.specs.Contents.{Contents}
 use Rattle.cadf_join.specs.Sets as set

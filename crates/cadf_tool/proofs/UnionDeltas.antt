@@ -1,29 +1,6 @@
 -- Deltas between unions of inputs, and of one input each.
-use Rattle.std.proofs.Common.{
-  ◌≡◌,
-  ◌+◌,
-  ℕ,
-  Bool,
-  true,
-  false,
-  cond,
-  List,
-  [],
-  ◌∷◌,
-  length,
-  Option,
-  None,
-  Some,
-  Result,
-  Ok,
-  Err,
-  refl,
-  sym,
-  ap,
-  ◌∙◌,
-  subst,
-  arith,
-}
+use Rattle.std.proofs.Common.{◌≡◌, ◌+◌, ℕ, Bool, true, false, cond, List, [], ◌∷◌, length, Option, None, Some, Result, Ok, Err, refl, sym, ap, ◌∙◌}
+use Rattle.std.proofs.Common.{subst, arith}
 use Rattle.std.specs.Option.{option_or}
 use Rattle.cadf_join.specs.Contents.{Text, Contents}
 use Rattle.cadf_join.specs.laws.Contents.{texts_total, texts_same}

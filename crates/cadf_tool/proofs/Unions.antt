@@ -1,26 +1,5 @@
 -- Engines over the union of several inputs: their work on the union, and one input in place of several.
-use Rattle.std.proofs.Common.{
-  ◌≡◌,
-  ℕ,
-  cond,
-  List,
-  [],
-  ◌∷◌,
-  ◌+◌,
-  length,
-  arith,
-  Option,
-  None,
-  Some,
-  Result,
-  Ok,
-  Err,
-  refl,
-  sym,
-  ap,
-  ◌∙◌,
-  subst,
-}
+use Rattle.std.proofs.Common.{◌≡◌, ℕ, cond, List, [], ◌∷◌, ◌+◌, length, arith, Option, None, Some, Result, Ok, Err, refl, sym, ap, ◌∙◌, subst}
 use Rattle.std.specs.Option.{option_or}
 use Rattle.cadf_json.specs.declared.stream.Source.{Ghosts as Source}
 use Rattle.cadf_json.specs.declared.stream.Sink.{Ghosts as Sink}
@@ -33,20 +12,8 @@ use Rattle.cadf_tool.specs.declared.input.Loaded.TheVariants.{Replica}
 use Rattle.cadf_tool.specs.declared.fault.ToolFault.{ToolFault}
 use Rattle.cadf_tool.specs.Faults.{FaultStage, Reading, Working, Writing, OutOfMemoryStage, fault_stage}
 use Rattle.cadf_tool.specs.Join.{is_other, join_in, join_from, join_of, on_ok, of_union}
-use Rattle.cadf_tool.specs.Run.{
-  SourceTransition,
-  Sources,
-  one,
-  all,
-  input_spec,
-  IsValueOf,
-  IsFirstFaultBy,
-  IsExpected,
-  IsWorkFaultBy,
-  IsWorked,
-  IsToldBy,
-  IsRun,
-}
+use Rattle.cadf_tool.specs.Run.{SourceTransition, Sources, one, all, input_spec, IsValueOf, IsFirstFaultBy, IsExpected, IsWorkFaultBy, IsWorked}
+use Rattle.cadf_tool.specs.Run.{IsToldBy, IsRun}
 use Rattle.cadf_tool.specs.Told.{log_named, atoms_loaded, under_log, replica_model_of}
 use Rattle.cadf_tool.specs.laws.Engines.{IsOfReplica}
 use Rattle.cadf_tool.proofs.LoadedLists.{none_failed}

@@ -8,19 +8,8 @@ use Rattle.cadf_tool.specs.declared.input.LoadFault.{LoadFault}
 use Rattle.cadf_tool.specs.declared.input.LoadFault.TheVariants.{File, TooLarge, ReadFault, Json, Document, Memory}
 use Rattle.cadf_tool.specs.declared.fault.VerifyRefusal.TheVariants as refusal
 use Rattle.cadf_tool.specs.declared.fault.ToolFault.{ToolFault}
-use Rattle.cadf_tool.specs.declared.fault.ToolFault.TheVariants.{
-  Input,
-  NoLog,
-  OtherLog,
-  TooFewCells,
-  Script,
-  Rehearse,
-  NoValue,
-  Unverified,
-  ReadFault as ReadFailed,
-  WriteFault,
-  Memory as OutOfMemory,
-}
+use Rattle.cadf_tool.specs.declared.fault.ToolFault.TheVariants.{Input, NoLog, OtherLog, TooFewCells, Script, Rehearse, NoValue, Unverified}
+use Rattle.cadf_tool.specs.declared.fault.ToolFault.TheVariants.{ReadFault as ReadFailed, WriteFault, Memory as OutOfMemory}
 
 -- `ReadFault` and `Memory` are the engine's own
 abbrev pub of_load : ℕ → LoadFault → ToolFault
