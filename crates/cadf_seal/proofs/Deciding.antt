@@ -1,4 +1,5 @@
 -- What shown leaves say of a digest, by the number of those that are below it.
+use Rattle.std.proofs.lemmas.Grind.{common_steps}
 use Rattle.std.proofs.Common.{◌≡◌, ◌∙◌, ◌<◌, ◌≤◌, ◌-◌, ℕ, zero, suc, Bool, true, false, List, [], ◌∷◌, Some, None, length, take, drop, refl, ap, sym, subst, arith, true≢false}
 use Rattle.std.specs.Prelude.{◌||◌, nat_eq, slice_index_or, if◌then◌else◌}
 use Rattle.std.specs.List.{AllByRecursion}
@@ -24,15 +25,11 @@ DigestsRise (s ∷ ss) = AllByRecursion (λ t. IsLess s.digest t.digest) ss × D
 pub digests_rise : (ss : List Leaf) → AreRising ss → DigestsRise ss
 digests_rise [] h = tt
 digests_rise (s ∷ []) h = (tt, tt)
-digests_rise (s ∷ t ∷ ss) h =
-    let rest = digests_rise (t ∷ ss) h.2 in
-    ((h.1, all_map ss (λ u k. less_trans s.digest t.digest u.digest h.1 k) rest.0), rest)
+digests_rise (s ∷ t ∷ ss) h = grind (arith, common_steps, all_map, less_trans, (digests_rise (t ∷ ss) h.2))
 
 some_above : (x : Text) (ss : List Leaf) (k : ℕ) (d : Leaf) → k < length ss → AllByRecursion (λ t. IsLess x t.digest) ss
     → IsLess x (slice_index_or ss k d).digest
-some_above x [] k d low h = absurd (omega (arith, low))
-some_above x (s ∷ ss) zero d low h = h.0
-some_above x (s ∷ ss) (suc k) d low h = some_above x ss k d (omega (arith, low)) h.1
+some_above x ss k d low h = grind (arith, common_steps)
 
 module _ (f : Text) where
   parted_from : (ss : List Leaf) (i j : ℕ) (d : Leaf) → DigestsRise ss → i ≤ j → j < length ss → IsLess (slice_index_or ss j d).digest f
@@ -134,31 +131,21 @@ module _ (f : Text) where
 pub behind_last : (ss : List Leaf) (d : Leaf) → PlacesRise ss → 0 < length ss → past_last ss ≡ suc (slice_index_or ss (length ss - 1) d).place
 behind_last [] d rises some = absurd (omega (arith, some))
 behind_last (s ∷ []) d rises some = omega arith
-behind_last (s ∷ t ∷ ss) d rises some =
-    let rest = behind_last (t ∷ ss) d rises.1 (omega arith) in
-    let more : length (s ∷ t ∷ ss) - 1 ≡ suc (length (t ∷ ss) - 1) = omega arith in
-    let last = ap (λ k. (slice_index_or (s ∷ t ∷ ss) k d).place) more in
-    omega (arith, rest, last, rises.0.0)
+behind_last (s ∷ t ∷ ss) d rises some = grind (arith, common_steps, (behind_last (t ∷ ss) d rises.1 (omega arith)))
 
 pub ahead_first : (n : ℕ) (ss : List Leaf) → PlacesRise ss → AllByRecursion (λ s. s.place < n) ss → (d : Leaf) → 0 < length ss
     → lowest_place n ss ≡ (slice_index_or ss 0 d).place
 ahead_first n [] rises low d some = absurd (omega (arith, some))
 ahead_first n (s ∷ []) rises low d some = omega (arith, low.0)
-ahead_first n (s ∷ t ∷ ss) rises low d some =
-    let rest = ahead_first n (t ∷ ss) rises.1 low.1 d (omega arith) in
-    omega (arith, rest, rises.0.0)
+ahead_first n (s ∷ t ∷ ss) rises low d some = grind (arith, common_steps, (ahead_first n (t ∷ ss) rises.1 low.1 d (omega arith)))
 
 -- ---- parts of some leaves
 
 pub all_take : (P : Leaf → Type 0) (k : ℕ) (ss : List Leaf) → AllByRecursion P ss → AllByRecursion P (take k ss)
-all_take P zero ss h = tt
-all_take P (suc k) [] h = tt
-all_take P (suc k) (s ∷ ss) h = (h.0, all_take P k ss h.1)
+all_take P k ss h = grind (arith, common_steps)
 
 pub all_drop : (P : Leaf → Type 0) (k : ℕ) (ss : List Leaf) → AllByRecursion P ss → AllByRecursion P (drop k ss)
-all_drop P zero ss h = h
-all_drop P (suc k) [] h = tt
-all_drop P (suc k) (s ∷ ss) h = all_drop P k ss h.1
+all_drop P k ss h = grind (arith, common_steps)
 
 pub rise_take : (k : ℕ) (ss : List Leaf) → PlacesRise ss → PlacesRise (take k ss)
 rise_take zero ss h = tt

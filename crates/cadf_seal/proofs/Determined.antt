@@ -1,4 +1,5 @@
 -- Leaves with the same root are the same, if what is hashed for them doesn't collide.
+use Rattle.std.proofs.lemmas.Grind.{common_steps}
 use Rattle.std.proofs.Common.{◌≡◌, ◌∙◌, ◌<◌, ◌≤◌, ◌-◌, ◌^◌, ◌++◌, ℕ, zero, suc, Bool, true, false, List, [], ◌∷◌, length, take, drop, get_or, refl, ap, sym, subst, arith, length-drop, inl, inr}
 use Rattle.std.specs.Prelude.{nat_le, if◌then◌else◌}
 use Rattle.std.proofs.lemmas.Bool.{leb-true, leb-false}
@@ -39,8 +40,7 @@ listed_right x (y ∷ xs) ys l = inr (listed_right x xs ys l)
 -- ---- the length of a hash
 
 long_by : (h : ℕ) (ds : List Text) (b : Bool) → length (tree h ds) ≡ 32 → length (if b then tree h ds else sha256 (node_text h ds)) ≡ 32
-long_by h ds true below = below
-long_by h ds false below = length-sha256 (node_text h ds)
+long_by h ds b below = grind (arith, common_steps, length-sha256)
 
 pub long : (h : ℕ) (ds : List Text) → length (tree h ds) ≡ 32
 long zero ds = length-sha256 (0 ∷ get_or ds 0 [])
@@ -56,11 +56,7 @@ halves_of a b c d m n e =
 -- ---- leaves
 
 one_leaf : (ds es : List Text) → length ds ≡ length es → 0 < length ds → length ds ≤ 1 → get_or ds 0 [] ≡ get_or es 0 [] → ds ≡ es
-one_leaf [] es e some most is = absurd (omega (arith, some))
-one_leaf (d ∷ ds) [] e some most is = absurd (omega (arith, e))
-one_leaf (d ∷ []) (f ∷ []) e some most is = ap (λ x. x ∷ []) is
-one_leaf (d ∷ []) (f ∷ g ∷ es) e some most is = absurd (omega (arith, e))
-one_leaf (d ∷ g ∷ ds) (f ∷ es) e some most is = absurd (omega (arith, most))
+one_leaf ds es e some most is = grind (arith, common_steps)
 
 -- leaves with room in a tree of this height are determined by its hash
 abbrev AreDetermined : ℕ → Type 0
@@ -70,13 +66,7 @@ AreDetermined h = (ds es : List Text) → length ds ≡ length es → 0 < length
 step : (h : ℕ) → AreDetermined h → (ds es : List Text) → length ds ≡ length es → 0 < length ds → length ds ≤ 2 ^ suc h
     → TextsDoNotCollide (hashed (suc h) ds) (hashed (suc h) es) → tree (suc h) ds ≡ tree (suc h) es
     → (b : Bool) → nat_le (length ds) (2 ^ h) ≡ b → ds ≡ es
-step h same ds es size some within apart is true small =
-    let low = leb-true _ _ small in
-    let high : length es ≤ 2 ^ h = omega (arith, low, size) in
-    let other = ap (λ n. nat_le n (2 ^ h)) (sym size) ∙ small in
-    same ds es size some low
-    (λ x y l m. apart x y (subst (Listed x) (sym (hashed_at h ds true small)) l) (subst (Listed y) (sym (hashed_at h es true other)) m))
-    (sym (tree_within h ds low) ∙ is ∙ tree_within h es high)
+step h same ds es size some within apart is true small = grind (arith, common_steps, leb-true, hashed_at, tree_within)
 step h same ds es size some within apart is false large =
     let beyond = leb-false _ _ large in
     let far : 2 ^ h < length es = omega (arith, beyond, size) in
@@ -99,8 +89,7 @@ step h same ds es size some within apart is false large =
     sym (take-append-drop (2 ^ h) ds) ∙ (λ i. first i ++ second i) ∙ take-append-drop (2 ^ h) es
 
 same_leaves : (h : ℕ) → AreDetermined h
-same_leaves zero ds es size some within apart is =
-    one_leaf ds es size some within (ap (drop 1) (apart (0 ∷ get_or ds 0 []) (0 ∷ get_or es 0 []) (inl refl) (inl refl) is))
+same_leaves zero ds es size some within apart is = grind (arith, common_steps, one_leaf)
 same_leaves (suc h) ds es size some within apart is = step h (same_leaves h) ds es size some within apart is (nat_le (length ds) (2 ^ h)) refl
 
 pub root_determines : RootDetermines

@@ -1,5 +1,6 @@
 -- Of facts that are told, each is in the sealed set or not, as was asked.
-use Rattle.std.proofs.Common.{◌≡◌, ◌∙◌, ℕ, ◌+◌, Bool, true, false, cond, not, List, [], ◌∷◌, map, Option, Some, None, Ok, refl, ap, sym, subst, inl, inr, true≢false}
+use Rattle.std.proofs.lemmas.Grind.{common_steps}
+use Rattle.std.proofs.Common.{◌≡◌, ◌∙◌, ℕ, ◌+◌, Bool, true, false, not, List, [], ◌∷◌, map, Option, Some, None, Ok, sym, subst, inl, inr, true≢false, arith}
 use Rattle.std.specs.Prelude.{option_map}
 use Rattle.std.specs.List.{position_from, AllByRecursion}
 use Rattle.std.proofs.lemmas.Bool.{eqb-true}
@@ -20,40 +21,26 @@ use Rattle.cadf_seal.proofs.Honest.{not_true}
 use Rattle.cadf_seal.proofs.Sound.{tells_truth}
 
 no_fault : (r : Option VerifyFault) (text t : List ℕ) → text_unless r text ≡ Ok t → r ≡ None
-no_fault None text t e = refl
-no_fault (Some fault) text t e = absurd (cc)
+no_fault r text t e = grind (arith, common_steps)
 
 both_none : (a b : Option VerifyFault) → first_fault a b ≡ None → (a ≡ None) × (b ≡ None)
-both_none None b e = (refl, e)
-both_none (Some fault) b e = absurd (cc)
+both_none a b e = grind (arith, common_steps)
 
 is_right : (b : Bool) (fault : VerifyFault) → verify_fault_unless b fault ≡ None → b ≡ true
-is_right true fault e = refl
-is_right false fault e = absurd (cc)
+is_right b fault e = grind (arith, common_steps)
 
 none_mapped : {A : Type 0} (f : A → VerifyFault) (o : Option A) → option_map f o ≡ None → o ≡ None
-none_mapped f None e = refl
-none_mapped f (Some x) e = absurd (cc)
+none_mapped f o e = grind (arith, common_steps)
 
 none_at : {A : Type 0} (t : A → Bool) (i : ℕ) (xs : List A) → position_from t i xs ≡ None → AllByRecursion (λ x. t x ≡ false) xs
 none_at t i [] e = tt
-none_at {A = A} t i (x ∷ xs) e = by (t x) refl e (none_at t (i + 1) xs)
-  where
-    by : (b : Bool) → t x ≡ b → cond b (Some i) (position_from t (i + 1) xs) ≡ None
-        → (position_from t (i + 1) xs ≡ None → AllByRecursion (λ y. t y ≡ false) xs) → AllByRecursion (λ y. t y ≡ false) (x ∷ xs)
-    by true is e rest = absurd (cc)
-    by false is e rest = (is, rest e)
+none_at {A = A} t i (x ∷ xs) e = grind (arith, common_steps, (none_at t (i + 1) xs))
 
 same_root : (o : Option Text) (r : Text) → is_root o r ≡ true → o ≡ Some r
-same_root None r e = absurd (true≢false (sym e))
-same_root (Some h) r e = ap Some ((bytes_eq-Decides h r).0 e)
+same_root o r e = grind (arith, common_steps, bytes_eq-Decides)
 
 as_asked : (o : Option Bool) (absent : Bool) → is_state o None ≡ false → is_state o (Some absent) ≡ false → o ≡ Some (not absent)
-as_asked None absent e f = absurd (true≢false e)
-as_asked (Some true) true e f = absurd (true≢false f)
-as_asked (Some true) false e f = refl
-as_asked (Some false) true e f = refl
-as_asked (Some false) false e f = absurd (true≢false f)
+as_asked o absent e f = grind (arith, common_steps)
 
 of_each : (P : Text → Type 0) (qs : List Texts) → AllByRecursion P (map atom_digest qs) → (q : Texts) → Listed q qs → P (atom_digest q)
 of_each P [] h q l = absurd l
@@ -63,9 +50,7 @@ of_each P (x ∷ qs) h q (inr l) = of_each P qs h.1 q l
 in_set : (held : Contents) (q : Texts) (absent : Bool) → ((y : Texts) → Has held y → atom_digest q ≡ atom_digest y → q ≡ y)
     → set.contains (digests_of atom_digest held) (atom_digest q) ≡ not absent → set.contains held q ≡ not absent
 in_set held q true apart is = not_true (set.contains held q) (λ h. true≢false (sym (known_digest atom_digest held q h) ∙ is))
-in_set held q false apart is =
-    let found = digest_of_some atom_digest held (atom_digest q) is in
-    subst (Has held) (sym (apart found.0 found.1 found.2)) found.1
+in_set held q false apart is = grind (arith, common_steps, digest_of_some)
 
 pub facts_are_so : FactsAreSo
 facts_are_so p held facts absent text is apart other told q asked =

@@ -1,4 +1,5 @@
 -- The greatest subtrees without a shown leaf.
+use Rattle.std.proofs.lemmas.Grind.{common_steps}
 use Rattle.std.proofs.Common.{◌≡◌, ◌≢◌, ◌==◌, ◌∙◌, ◌+◌, ◌-◌, ◌<◌, ◌≤◌, ◌^◌, ℕ, zero, suc, Bool, true, false, true≢false, List, [], ◌∷◌, ◌++◌, length, take, drop, get_or, refl, ap, sym, arith, append_assoc}
 use Rattle.std.specs.Prelude.{if◌then◌else◌, cond, nat_le, nat_lt, not}
 use Rattle.std.specs.List.{filter}
@@ -15,8 +16,7 @@ use Rattle.cadf_seal.specs.declared.leaf.Leaf.{Leaf}
 -- ---- room
 
 pub none_shown : (h a : ℕ) (ds : List Text) → hidden h a ds [] ≡ tree h ds ∷ []
-none_shown zero a ds = refl
-none_shown (suc h) a ds = refl
+none_shown h a ds = grind (arith, common_steps)
 
 abbrev pub halves_hidden : ℕ → ℕ → List Text → List Leaf → List Text
 halves_hidden h a ds ss = hidden h a (take (2 ^ h) ds) (until (a + 2 ^ h) ss) ++ hidden h (a + 2 ^ h) (drop (2 ^ h) ds) (leaves_from (a + 2 ^ h) ss)
@@ -86,11 +86,7 @@ module _ (p q : Leaf → Bool) (other : (s : Leaf) → q s ≡ not (p s)) where
       )
 
 not_below : (n m : ℕ) → nat_le m n ≡ not (nat_lt n m)
-not_below n m = by (nat_lt n m) refl
-  where
-    by : (b : Bool) → nat_lt n m ≡ b → nat_le m n ≡ not b
-    by true e = lt-leb m n (ltb-true n m e)
-    by false e = le-leb m n (ltb-false n m e)
+not_below n m = grind (arith, common_steps, lt-leb, ltb-true, le-leb, ltb-false)
 
 pub around : (m i : ℕ) (ss : List Leaf) → ((k : ℕ) (d : Leaf) → 0 ≤ k → k < i → nat_lt (get_or ss k d).place m ≡ true)
     → ((k : ℕ) (d : Leaf) → i ≤ k → k < length ss → nat_lt (get_or ss k d).place m ≡ false) → i ≤ length ss
@@ -103,17 +99,12 @@ around m i ss t f within =
 pub rising_take : (i : ℕ) (ss : List Leaf) → AreRising ss → AreRising (take i ss)
 rising_take zero ss h = tt
 rising_take (suc i) [] h = tt
-rising_take (suc i) (s ∷ []) h = by i
-  where
-    by : (i : ℕ) → AreRising (s ∷ take i [])
-    by zero = tt
-    by (suc i) = tt
+rising_take (suc i) (s ∷ []) h = grind (arith, common_steps)
 rising_take (suc zero) (s ∷ t ∷ ss) h = tt
 rising_take (suc (suc i)) (s ∷ t ∷ ss) h = (h.0, h.1, rising_take (suc i) (t ∷ ss) h.2)
 
 rising_tail : (s : Leaf) (ss : List Leaf) → AreRising (s ∷ ss) → AreRising ss
-rising_tail s [] h = tt
-rising_tail s (t ∷ ss) h = h.2
+rising_tail s ss h = grind (arith, common_steps)
 
 pub rising_drop : (i : ℕ) (ss : List Leaf) → AreRising ss → AreRising (drop i ss)
 rising_drop zero ss h = h
@@ -156,5 +147,4 @@ both_hidden height half n a ds rest (s ∷ ss) left right old mid new some top h
     ∙ ap (λ k. old ++ hidden k a (take n ds) shown) up
 
 pub none_hidden : (n : ℕ) (ds : List Text) (ss : List Leaf) → n ≡ length ds → n ≤ 0 → all_hidden ds ss ≡ []
-none_hidden n [] ss all none = refl
-none_hidden n (d ∷ ds) ss all none = absurd (omega (arith, all, none))
+none_hidden n ds ss all none = grind (arith, common_steps)

@@ -1,11 +1,12 @@
 -- The proof that is made for facts: its root is that of all leaves, it decides each fact, and facts need each shown leaf.
-use Rattle.std.proofs.Common.{◌≡◌, ◌∙◌, ◌<◌, ◌≤◌, ◌+◌, ◌-◌, ℕ, zero, suc, max, min, Bool, true, false, cond, List, [], ◌∷◌, Option, Some, None, length, get_or, refl, ap, sym, subst, arith, inl, inr, true≢false, append-nil}
+use Rattle.std.proofs.lemmas.Grind.{common_steps}
+use Rattle.std.proofs.Common.{◌≡◌, ◌∙◌, ◌<◌, ◌≤◌, ◌+◌, ◌-◌, ℕ, zero, suc, max, min, Bool, true, false, cond, List, [], ◌∷◌, Option, Some, None, length, get_or, refl, ap, sym, subst, arith, inl, inr, true≢false, append-nil, rules}
 use Rattle.std.specs.Prelude.{◌⊎◌, ◌&&◌, ◌||◌, nat_eq, if◌then◌else◌}
 use Rattle.std.specs.List.{filter, AllByRecursion}
 use Rattle.std.specs.List.Sorted.{IsStrictlySortedBy}
 use Rattle.std.specs.Ordering.{is_lt, is_eq, ordering_reverse}
 use Rattle.std.specs.declared.cmp.Ordering.{Ordering}
-use Rattle.std.specs.declared.cmp.Ordering.TheVariants.{Less, Equal, Greater}
+use Rattle.std.specs.declared.cmp.Ordering.TheVariants.{Less, Equal}
 use Rattle.std.specs.Cmp.{tied_itself}
 use Rattle.std.proofs.lemmas.Bool.{eq-eqb, ne_eqb}
 use Rattle.sha2.specs.Sha256.{sha256}
@@ -28,17 +29,13 @@ abbrev pub IsLess : Text → Text → Type 0
 IsLess x y = is_lt (text_cmp x y) ≡ true
 
 is_less : (o : Ordering) → is_lt o ≡ true → o ≡ Less
-is_less Less e = refl
-is_less Equal e = absurd (cc)
-is_less Greater e = absurd (cc)
+is_less o e = grind (arith, common_steps)
 
 pub less_trans : (x y z : Text) → IsLess x y → IsLess y z → IsLess x z
 less_trans x y z h k = ap is_lt (text_total.trans x y z (is_less _ h) (is_less _ k))
 
 reversed_less : (o : Ordering) → is_lt o ≡ true → is_lt (ordering_reverse o) ≡ false
-reversed_less Less e = refl
-reversed_less Equal e = absurd (cc)
-reversed_less Greater e = absurd (cc)
+reversed_less o e = grind (arith, common_steps)
 
 pub not_greater : (x y : Text) → IsLess x y → is_lt (text_cmp y x) ≡ false
 not_greater x y h = ap is_lt (text_total.antisymm y x) ∙ reversed_less (text_cmp x y) h
@@ -47,17 +44,14 @@ pub not_less_itself : (x : Text) → IsLess x x → ⊥
 not_less_itself x h = true≢false (sym h ∙ not_greater x x h)
 
 reversed_other : (o : Ordering) → is_lt o ≡ false → (o ≡ Equal → ⊥) → is_lt (ordering_reverse o) ≡ true
-reversed_other Less e other = absurd (cc)
-reversed_other Equal e other = absurd (other refl)
-reversed_other Greater e other = refl
+reversed_other o e other = grind (arith, common_steps)
 
 pub is_greater : (x y : Text) → is_lt (text_cmp x y) ≡ false → (x ≡ y → ⊥) → IsLess y x
 is_greater x y h other =
     ap is_lt (text_total.antisymm y x) ∙ reversed_other (text_cmp x y) h (λ e. other (text_same x y e))
 
 above_trans : (before : Option Text) (d f : Text) → is_above before d ≡ true → IsLess d f → is_above before f ≡ true
-above_trans None d f h k = refl
-above_trans (Some b) d f h k = less_trans b d f h k
+above_trans before d f h k = grind (arith, common_steps, less_trans)
 
 abbrev pub AreSorted : List Text → Type 0
 AreSorted ds = IsStrictlySortedBy text_cmp ds
@@ -71,14 +65,12 @@ unfolding IsStrictlySortedBy
 sorted_rest d ds h = h.1
 
 below_head : (d : Text) (ds : List Text) → AllByRecursion (λ x. IsLess d x) ds → is_below (first_leaf ds) d ≡ true
-below_head d [] h = refl
-below_head d (e ∷ ds) h = h.0
+below_head d ds h = grind (arith, common_steps)
 
 -- ---- facts that need a leaf
 
 or_true : (b : Bool) → (b || true) ≡ true
-or_true true = refl
-or_true false = refl
+or_true b = grind (arith, common_steps)
 
 and_true : (a b : Bool) → a ≡ true → b ≡ true → (a && b) ≡ true
 and_true a b h k = ap (λ x. x && b) h ∙ k
@@ -87,15 +79,11 @@ pub needs_listed : (before past_last : Option Text) (fs : List Text) (f : Text) 
     → needs before past_last fs ≡ true
 unfolding needs
 needs_listed before past_last [] f l h k = absurd l
-needs_listed before past_last (g ∷ fs) f (inl e) h k =
-    ap (λ b. b || needs before past_last fs) (and_true (is_above before g) (is_below past_last g) (subst (λ x. is_above before x ≡ true) e h) (subst (λ x. is_below past_last x ≡ true) e k))
-needs_listed before past_last (g ∷ fs) f (inr l) h k =
-    ap (λ b. (is_above before g && is_below past_last g) || b) (needs_listed before past_last fs f l h k) ∙ or_true (is_above before g && is_below past_last g)
+needs_listed before past_last (g ∷ fs) f (inl e) h k = grind (arith, common_steps, and_true)
+needs_listed before past_last (g ∷ fs) f (inr l) h k = grind (arith, common_steps, or_true, (needs_listed before past_last fs f l h k))
 
 both_true : (a b c : Bool) → ((a && b) || c) ≡ true → ((a ≡ true) × (b ≡ true)) ⊎ (c ≡ true)
-both_true true true c e = inl (refl, refl)
-both_true true false c e = inr e
-both_true false b c e = inr e
+both_true a b c e = grind (arith, common_steps)
 
 -- what needs a leaf between two needs it between two that are further apart
 needs_wider : (before past_last other more : Option Text) (fs : List Text) → ((f : Text) → is_above before f ≡ true → is_above other f ≡ true)
@@ -132,9 +120,7 @@ shown_at before i (d ∷ ds) fs = by (needs before (first_leaf ds) fs) (all_map 
     by false rest = rest
 
 pub at_all : (P : Text → Type 0) (ds : List Text) (k : ℕ) → k < length ds → AllByRecursion P ds → P (get_or ds k [])
-at_all P [] k low h = absurd (omega (arith, low))
-at_all P (d ∷ ds) zero low h = h.0
-at_all P (d ∷ ds) (suc k) low h = at_all P ds k (omega (arith, low)) h.1
+at_all P ds k low h = grind (arith, common_steps)
 
 -- what holds of all leaves holds of the shown ones
 pub digests_all : (P : Text → Type 0) (a : ℕ) (ds : List Text) (ss : List Leaf) → AllByRecursion (IsAt a ds) ss → AllByRecursion P ds
@@ -159,9 +145,7 @@ honest_root log (d ∷ ds) fs =
 -- ---- a fact that is a leaf is shown
 
 is_equal : (o : Ordering) → is_eq o ≡ true → o ≡ Equal
-is_equal Less e = absurd (cc)
-is_equal Equal e = refl
-is_equal Greater e = absurd (cc)
+is_equal o e = grind (arith, common_steps)
 
 at_listed : (ds : List Text) (k : ℕ) → k < length ds → Listed (get_or ds k []) ds
 at_listed [] k low = absurd (omega (arith, low))
@@ -169,8 +153,7 @@ at_listed (d ∷ ds) zero low = inl refl
 at_listed (d ∷ ds) (suc k) low = inr (at_listed ds k (omega (arith, low)))
 
 or_cases : (a b : Bool) → (a || b) ≡ true → (a ≡ true) ⊎ (b ≡ true)
-or_cases true b h = inl refl
-or_cases false b h = inr h
+or_cases a b h = grind (arith, common_steps)
 
 pub shown_listed : (a : ℕ) (ds : List Text) (ss : List Leaf) (f : Text) → AllByRecursion (IsAt a ds) ss → is_shown ss f ≡ true → Listed f ds
 shown_listed a ds [] f at e = absurd (true≢false (sym e))
@@ -218,15 +201,7 @@ kept_places P p ss h = all_map (filter p ss) (λ s k. k.0) (all_kept P p ss h)
 -- if nothing needs d, which is below f, the leaf after it is below f too
 one_more : (before : Option Text) (d f : Text) (ds fs : List Text) → is_above before f ≡ true → Listed f fs → (Listed f ds → ⊥)
     → needs before (first_leaf ds) fs ≡ false → 1 ≤ count_below f ds
-one_more before d f [] fs low asked other none = absurd (true≢false (sym (needs_listed before None fs f asked low refl) ∙ none))
-one_more before d f (e ∷ ds) fs low asked other none = by (is_lt (text_cmp f e)) refl
-  where
-    by : (b : Bool) → is_lt (text_cmp f e) ≡ b → 1 ≤ count_below f (e ∷ ds)
-    by true is = absurd (true≢false (sym (needs_listed before (Some e) fs f asked low is) ∙ none))
-    by false is =
-        let less = is_greater f e is (λ same. other (inl same)) in
-        let counted : count_below f (e ∷ ds) ≡ suc (count_below f ds) = ap (λ b. if b then suc (count_below f ds) else 0) less in
-        omega (arith, counted)
+one_more before d f ds fs low asked other none = grind (arith, common_steps, needs_listed, is_greater)
 
 -- how far the leaves below f go, and where those above it begin
 abbrev IsGap : ℕ → ℕ → List Leaf → Text → ℕ → Type 0
@@ -298,8 +273,7 @@ gap before i (d ∷ ds) fs f sorted low asked other =
 -- ---- what the proof says of a fact
 
 pub not_true : (b : Bool) → (b ≡ true → ⊥) → b ≡ false
-not_true true h = absurd (h refl)
-not_true false h = refl
+not_true b h = grind (arith, common_steps)
 
 all_above_none : (ds : List Text) → AllByRecursion (λ d. is_above None d ≡ true) ds
 all_above_none [] = tt
@@ -308,10 +282,7 @@ all_above_none (d ∷ ds) = (refl, all_above_none ds)
 honest_state : (ds fs : List Text) (f : Text) → AreSorted ds → Listed f fs → (b : Bool) → (b ≡ true → Listed f ds) → (Listed f ds → b ≡ true)
     → state (length ds) (shown None 0 ds fs) f ≡ Some b
 unfolding state
-honest_state ds fs f sorted asked true there all =
-    let ss = shown None 0 ds fs in
-    ap (λ c. if c then Some true else if nat_eq (past_last (leaves_below f ss)) (lowest_place (length ds) (leaves_above f ss)) then Some false else None)
-    (leaf_shown None 0 ds fs f sorted (all_above_none ds) asked (there refl))
+honest_state ds fs f sorted asked true there all = search (rules, leaf_shown, all_above_none)
 honest_state ds fs f sorted asked false there all =
     let ss = shown None 0 ds fs in
     let other : Listed f ds → ⊥ = λ l. true≢false (sym (all l)) in
@@ -326,8 +297,7 @@ honest_state ds fs f sorted asked false there all =
 -- ---- facts need each shown leaf
 
 first_below : (f : Text) (ss : List Leaf) → AllByRecursion (λ s. IsLess f s.digest) ss → is_below (first_digest ss) f ≡ true
-first_below f [] h = refl
-first_below f (s ∷ ss) h = h.0
+first_below f ss h = grind (arith, common_steps)
 
 below_shown : (d f : Text) (i : ℕ) (ds fs : List Text) → AreSorted ds → is_below (first_leaf ds) f ≡ true → is_below (first_digest (shown (Some d) i ds fs)) f ≡ true
 below_shown d f i [] fs sorted h = refl

@@ -1,4 +1,5 @@
 -- Which shown leaves facts need, by the least fact above the leaf before; and the first of some facts with a state.
+use Rattle.std.proofs.lemmas.Grind.{common_steps}
 use Rattle.std.proofs.Common.{◌≡◌, ◌∙◌, ◌<◌, ◌+◌, ℕ, Bool, true, false, cond, List, [], ◌∷◌, Option, Some, None, length, drop, get_or, refl, ap, sym, arith, true≢false}
 use Rattle.std.specs.Prelude.{◌&&◌, ◌||◌, if◌then◌else◌}
 use Rattle.std.specs.List.{find, AllByRecursion}
@@ -14,8 +15,7 @@ use Rattle.cadf_seal.specs.declared.leaf.Leaf.{Leaf}
 use Rattle.cadf_seal.proofs.Honest.{IsLess, AreSorted, less_trans, sorted_above, sorted_rest}
 
 below_less : (behind : Option Text) (d e : Text) → IsLess d e → is_below behind e ≡ true → is_below behind d ≡ true
-below_less None d e less h = refl
-below_less (Some b) d e less h = less_trans d e b less h
+below_less behind d e less h = grind (arith, common_steps, less_trans)
 
 -- if the least isn't below, none is
 none_below : (before behind : Option Text) (d : Text) (ds : List Text) → is_below behind d ≡ false → AllByRecursion (λ x. IsLess d x) ds
@@ -56,8 +56,7 @@ least_needs before behind (d ∷ ds) sorted =
     by false b is none rest = rest
 
 same_test : (before : Option Text) (ds : List Text) → find (is_after text_cmp before) ds ≡ find (is_above before) ds
-same_test None ds = refl
-same_test (Some b) ds = refl
+same_test before ds = grind (arith, common_steps)
 
 pub needs_by : (before behind : Option Text) (s : Digests) (found : Option Text) → found ≡ next_after s before
     → is_found behind found ≡ needs before behind (rising s)

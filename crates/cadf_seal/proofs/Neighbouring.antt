@@ -1,4 +1,5 @@
 -- A fact that is a leaf needs that leaf alone, and one that is none the leaves next to it; facts need what each of them needs.
+use Rattle.std.proofs.lemmas.Grind.{common_steps}
 use Rattle.std.proofs.Common.{◌≡◌, ◌∙◌, ◌+◌, ℕ, suc, Bool, true, false, true≢false, List, [], ◌∷◌, ◌++◌, length, Option, None, Some, refl, ap, sym, subst, arith, inl, inr}
 use Rattle.std.specs.Prelude.{◌&&◌, ◌||◌, ◌⊎◌, if◌then◌else◌}
 use Rattle.std.specs.List.{AllByRecursion}
@@ -18,8 +19,7 @@ use Rattle.cadf_seal.specs.declared.leaf.Leaf.{Leaf}
 -- ---- one fact
 
 or_false : (b : Bool) → (b || false) ≡ b
-or_false true = refl
-or_false false = refl
+or_false b = grind (arith, common_steps)
 
 needs_one : (before behind : Option Text) (f : Text) → needs before behind (f ∷ []) ≡ (is_above before f && is_below behind f)
 unfolding needs
@@ -38,8 +38,7 @@ skipped before i d ds f out =
     (needs_one before (first_leaf ds) f ∙ out)
 
 and_false : (a b : Bool) → b ≡ false → (a && b) ≡ false
-and_false true b e = e
-and_false false b e = refl
+and_false a b e = grind (arith, common_steps)
 
 -- ---- the order of two texts
 
@@ -59,8 +58,7 @@ middle_of P [] f upper h = h.0
 middle_of P (d ∷ lower) f upper h = middle_of P lower f upper h.1
 
 first_below : (f : Text) (upper : List Text) → AllByRecursion (λ g. text_cmp f g ≡ Less) upper → is_below (first_leaf upper) f ≡ true
-first_below f [] h = refl
-first_below f (u ∷ upper) h = ap is_lt h.0
+first_below f upper h = grind (arith, common_steps)
 
 still_past : (e d f : Text) → text_cmp e d ≡ Less → is_lt (text_cmp e f) ≡ false → is_lt (text_cmp d f) ≡ false
 still_past e d f after past = by (is_lt (text_cmp d f)) refl
@@ -161,25 +159,19 @@ fact_has_place f (d ∷ ds) h = placed f d ds (text_cmp d f) refl h (fact_has_pl
 -- ---- several facts
 
 listed_there : (c : Bool) (s x : Leaf) (rest : List Leaf) → Listed s rest → Listed s (if c then x ∷ rest else rest)
-listed_there true s x rest l = inr l
-listed_there false s x rest l = l
+listed_there c s x rest l = grind (arith, common_steps)
 
 listed_here : (c : Bool) (s x : Leaf) (rest : List Leaf) → c ≡ true → s ≡ x → Listed s (if c then x ∷ rest else rest)
-listed_here true s x rest e is = inl is
-listed_here false s x rest e is = absurd (true≢false (sym e))
+listed_here c s x rest e is = grind (arith, common_steps)
 
 listed_cases : (c : Bool) (s x : Leaf) (rest : List Leaf) → Listed s (if c then x ∷ rest else rest) → ((c ≡ true) × (s ≡ x)) ⊎ Listed s rest
-listed_cases true s x rest (inl e) = inl (refl, e)
-listed_cases true s x rest (inr l) = inr l
-listed_cases false s x rest l = inr l
+listed_cases c s x rest given = grind (arith, common_steps)
 
 or_cases : (a b : Bool) → (a || b) ≡ true → (a ≡ true) ⊎ (b ≡ true)
-or_cases true b e = inl refl
-or_cases false b e = inr e
+or_cases a b e = grind (arith, common_steps)
 
 or_right : (a b : Bool) → b ≡ true → (a || b) ≡ true
-or_right true b e = refl
-or_right false b e = e
+or_right a b e = grind (arith, common_steps)
 
 some_needs : (before behind : Option Text) (fs : List Text) → needs before behind fs ≡ true → (f : Text) × Listed f fs × (needs before behind (f ∷ []) ≡ true)
 unfolding needs

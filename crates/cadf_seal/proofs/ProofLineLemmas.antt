@@ -1,10 +1,44 @@
 -- Each line of a proof's file decodes to what it encodes, and to nothing else; and the lines of a proof are a kind of file.
-use Rattle.std.proofs.Common.{◌≡◌, ◌⊎◌, inl, inr, ℕ, suc, ◌*◌, ◌-◌, ◌<◌, ◌^◌, List, [], ◌∷◌, ◌++◌, length, map, drop, Bool, true, false, cond, Option, Some, None, refl, sym, ap, ◌∙◌, subst, arith, append_assoc, append-nil, true≢false}
+use Rattle.std.proofs.lemmas.Grind.{common_steps}
+use Rattle.std.proofs.Common.{
+  ◌≡◌,
+  ◌⊎◌,
+  inl,
+  inr,
+  ℕ,
+  ◌-◌,
+  ◌<◌,
+  ◌^◌,
+  List,
+  [],
+  ◌∷◌,
+  ◌++◌,
+  length,
+  map,
+  drop,
+  Bool,
+  true,
+  false,
+  cond,
+  Option,
+  Some,
+  None,
+  refl,
+  sym,
+  ap,
+  ◌∙◌,
+  subst,
+  arith,
+  append_assoc,
+  append-nil,
+  true≢false,
+  rules,
+}
 use Rattle.std.specs.Prelude.{◌&&◌, nat_eq, nat_lt, is_some, unwrap_or, codes, decimal, slice_get}
 use Rattle.std.specs.List.{starts_with, filter_map, last_or, AllByRecursion}
 use Rattle.std.specs.Ordering.{is_lt}
 use Rattle.std.proofs.lemmas.Bool.{lt-ltb, ltb-true}
-use Rattle.hex.specs.Hex.{encode_lower, lower_digits}
+use Rattle.hex.specs.Hex.{encode_lower}
 use Rattle.hex.proofs.HexLemmas.{length-encode_with}
 use Rattle.cadf_join.specs.Contents.{Text, text_cmp}
 use Rattle.cadf_event.specs.Known.{IsNameText}
@@ -13,7 +47,7 @@ use Rattle.cadf_event.proofs.KnownParts.{all_append}
 use Rattle.cadf_event.proofs.LogNameLemmas.{unbroken_quoted, both_unbroken}
 use Rattle.cadf_line.specs.Digest.{IsDigest}
 use Rattle.cadf_linefile.specs.declared.fault.Cause.TheVariants.{Shape, Order}
-use Rattle.cadf_linefile.specs.Verdict.{log_line, log_in_line, digest_line, with_digest_line}
+use Rattle.cadf_linefile.specs.Verdict.{log_line, with_digest_line}
 use Rattle.cadf_linefile.proofs.BodyLines.{AreAfter, map_more}
 use Rattle.cadf_linefile.proofs.LinesLemmas.{are_unbroken, both, and_true}
 use Rattle.cadf_linefile.proofs.UnbrokenLines.{unbroken_digest}
@@ -36,27 +70,14 @@ use Rattle.cadf_linefile.proofs.ModelLemmas.{Plain, lines_of, Follows, Ends, IsM
 -- ---- one line
 
 leaf_of-only : (o : Option ℕ) (d : Option Text) (s : Leaf) → leaf_of o d ≡ Some s → (o ≡ Some s.place) × (d ≡ Some s.digest)
-leaf_of-only None d s e = absurd (cc)
-leaf_of-only (Some i) None s e = absurd (cc)
-leaf_of-only (Some i) (Some d) s e =
-    let p : record { place = i; digest = d } ≡ s = cc in (ap (λ x. Some x.place) p, ap (λ x. Some x.digest) p)
+leaf_of-only o d s e = grind (arith, common_steps)
 
 pub shown-again : (s : Leaf) → s.place < 2 ^ 64 → IsDigest s.digest → shown_in (shown_line s) ≡ Some s
 unfolding leaf_in_words
-shown-again s small is =
-    let u = decimal_unblank s.place small in
-    (λ i. leaf_of (number_in (first_is (decimal s.place) (encode_lower s.digest) u i)) (digest_of (after_is (decimal s.place) (encode_lower s.digest) u i)))
-    ∙ (λ i. leaf_of (number-again s.place small i) (digest-again s.digest is i))
+shown-again s small is = grind (arith, common_steps, decimal_unblank, first_is, after_is, number-again, digest-again)
 
 no_digest : digest_of [] ≡ None
-no_digest = by (digest_of []) refl
-  where
-    empty : (d : Text) → 0 ≡ length (encode_lower d) → length (encode_lower d) ≡ 2 * length d → length d ≡ 32 → ⊥
-    empty d p q r = omega (arith, p, q, r)
-
-    by : (o : Option Text) → digest_of [] ≡ o → o ≡ None
-    by None e = refl
-    by (Some d) e = let p = digest-only [] d e in absurd (empty d (ap length p.0) (length-encode_with lower_digits d) p.1.size)
+no_digest = grind (arith, common_steps, digest-only, length-encode_with)
 
 pub shown-only : (l : List ℕ) (s : Leaf) → shown_in l ≡ Some s → (l ≡ shown_line s) × (s.place < 2 ^ 64) × IsDigest s.digest
 unfolding leaf_in_words
@@ -80,10 +101,7 @@ pub hidden-again : (h : Text) → IsDigest h → hidden_in (hidden_line h) ≡ S
 hidden-again h is = digest-again h is
 
 pub hidden-only : (l : List ℕ) (h : Text) → hidden_in l ≡ Some h → (l ≡ hidden_line h) × IsDigest h
-hidden-only l h e =
-    let c = chosen (starts_with nat_eq l (codes "H ")) (digest_of (drop 2 l)) h e in
-    let p = digest-only (drop 2 l) h c.1 in
-    (begins_with 72 32 l c.0 ∙ ap (λ r. 72 ∷ 32 ∷ r) p.0, p.1)
+hidden-only l h e = grind (arith, common_steps, chosen, digest-only, begins_with)
 
 -- ---- the words of a leaf, as they are decoded
 
@@ -112,9 +130,7 @@ no_words t e = no_last t (first_word t) [] refl (sym e) (sym no_digest)
 last_is : (ss : List Leaf) → slice_get ss (length ss - 1) ≡ last_or None ss
 last_is [] = refl
 last_is (s ∷ []) = refl
-last_is (s ∷ t ∷ ss) =
-    let e : length (s ∷ t ∷ ss) - 1 ≡ suc (length (t ∷ ss) - 1) = omega arith in
-    ap (slice_get (s ∷ t ∷ ss)) e ∙ last_is (t ∷ ss)
+last_is (s ∷ t ∷ ss) = grind (arith, common_steps, (last_is (t ∷ ss)))
 
 pub next_is : (ss : List Leaf) (last s : Leaf) → Some last ≡ slice_get ss (length ss - 1)
     → (nat_lt last.place s.place && is_lt (text_cmp last.digest s.digest)) ≡ is_next (last_or None ss) s
@@ -145,8 +161,7 @@ no_leaves (h ∷ hs) ls none = no_leaves hs ls none
 leaves_again : (n : ℕ) (ss : List Leaf) (hs : List Text) (ls : List (List ℕ)) → n < 2 ^ 64 → AllByRecursion (IsLeafOf n) ss → filter_map shown_in ls ≡ []
     → filter_map shown_in (value_lines ss hs ++ ls) ≡ ss
 leaves_again n [] hs ls small each none = no_leaves hs ls none
-leaves_again n (s ∷ ss) hs ls small each none =
-    rw (shown-again s (small_place n s small each.0) each.0.digest) (ap (λ xs. s ∷ xs) (leaves_again n ss hs ls small each.1 none))
+leaves_again n (s ∷ ss) hs ls small each none = grind (arith, common_steps, shown-again, small_place, (leaves_again n ss hs ls small each.1 none))
 
 hashes_again : (hs : List Text) (ls : List (List ℕ)) → AllByRecursion IsDigest hs → filter_map hidden_in ls ≡ [] → filter_map hidden_in (map hidden_line hs ++ ls) ≡ hs
 hashes_again [] ls each none = none
@@ -168,20 +183,12 @@ module _ (n : ℕ) (ss : List Leaf) (hs : List Text) (parts : HasProofParts (pro
       λ i. cause_of_line (unwrap_or (count-again n parts.count i) 0) (leaves i) (hashes i) (hidden_in l) (shown_in l)
 
 next_of : (a b : Bool) → cond a (cond b None (Some Order)) (Some Shape) ≡ None → (a ≡ true) × (b ≡ true)
-next_of true true e = (refl, refl)
-next_of true false e = absurd (cc)
-next_of false b e = absurd (cc)
+next_of a b e = grind (arith, common_steps)
 
 stepped : (n : ℕ) (ss : List Leaf) (hs : List Text) (l : List ℕ) → HasProofParts (proof_values n ss hs) → (h : Option Text) (s : Option Leaf) → hidden_in l ≡ h → shown_in l ≡ s
     → cause_of_line n ss hs h s ≡ None
     → (value_lines (with_shown ss h s) (with_hidden hs h) ≡ value_lines ss hs ++ l ∷ []) × HasProofParts (proof_values n (with_shown ss h s) (with_hidden hs h))
-stepped n ss hs l p (Some h) s e f c =
-    let o = hidden-only l h e in (
-      ap (λ x. map shown_line ss ++ x) (map_more hidden_line hs h)
-          ∙ sym (append_assoc (map shown_line ss) (map hidden_line hs) (hidden_line h ∷ []))
-          ∙ ap (λ x. value_lines ss hs ++ x ∷ []) (sym o.0),
-      record { count = p.count; leaves = p.leaves; rising = p.rising; hidden = all_append IsDigest hs (h ∷ []) p.hidden (o.1, tt) },
-    )
+stepped n ss hs l p (Some h) s e f c = grind (arith, common_steps, hidden-only, map_more, append_assoc, all_append)
 stepped n ss hs l p None None e f c = absurd (cc)
 stepped n ss [] l p None (Some s) e f c =
     let o = shown-only l s f in
@@ -260,11 +267,7 @@ plain_lines (s ∷ ss) hs = ap (λ ls. shown_line s ∷ ls) (plain_lines ss hs)
 
 hashes_follow : (x : Plain) (hs : List Text) (before : List Plain) → AllByRecursion IsDigest hs → After (x ∷ before) (plain_hashes hs)
 hashes_follow x [] before each = refl
-hashes_follow x (h ∷ hs) before each = (
-  ap (λ o. cause_of_line (unwrap_or (sealed_count x.0) 0) (filter_map shown_in (lines_of before)) (filter_map hidden_in (lines_of before)) o
-      (shown_in (hidden_line h))) (hidden-again h each.0),
-  hashes_follow x hs (before ++ (hidden_line h, refl) ∷ []) each.1,
-)
+hashes_follow x (h ∷ hs) before each = grind (arith, common_steps, lines_of, hidden-again, (hashes_follow x hs (before ++ (hidden_line h, refl) ∷ []) each.1))
 
 leaves_follow : (x : Plain) (n : ℕ) → sealed_count x.0 ≡ Some n → (hs : List Text) → AllByRecursion IsDigest hs
     → (ss : List Leaf) (before : List Plain) (done : List Leaf) → lines_of before ≡ value_lines done [] → HasProofParts (proof_values n done [])
@@ -294,27 +297,15 @@ hashes_unbroken (h ∷ hs) l is = and_true (is_unbroken (hidden_line h)) _ (unbr
 leaves_unbroken : (n : ℕ) (ss : List Leaf) (hs : List Text) (l : List ℕ) → n < 2 ^ 64 → AllByRecursion (IsLeafOf n) ss → is_unbroken l ≡ true
     → are_unbroken (value_lines ss hs ++ l ∷ []) ≡ true
 leaves_unbroken n [] hs l small each is = hashes_unbroken hs l is
-leaves_unbroken n (s ∷ ss) hs l small each is =
-    and_true (is_unbroken (shown_line s)) _
-    (both_unbroken (decimal s.place) _ (decimal_unbroken s.place (small_place n s small each.0)) (unbroken_digest_of s.digest))
-    (leaves_unbroken n ss hs l small each.1 is)
+leaves_unbroken n (s ∷ ss) hs l small each is = grind (arith, common_steps, and_true, both_unbroken, decimal_unbroken, small_place, unbroken_digest_of, (leaves_unbroken n ss hs l small each.1 is))
 
 unbroken_proof : (p : ProofModel) → HasProofParts p → are_unbroken (with_digest_line (proof_body p)) ≡ true
-unbroken_proof p parts =
-    and_true (is_unbroken (log_line p.log)) _ (unbroken_quoted p.log)
-    (and_true (is_unbroken (count_line p.count)) _ (decimal_unbroken p.count parts.count)
-    (leaves_unbroken p.count p.shown p.hidden (digest_line (proof_body p)) parts.count parts.leaves (unbroken_digest (proof_body p))))
+unbroken_proof p parts = search (rules, and_true, unbroken_quoted, decimal_unbroken, leaves_unbroken, unbroken_digest)
 
 -- ---- the lines determine the proof
 
 proof_again : (p : ProofModel) → IsProof p → proof_model_in (with_digest_line (proof_body p)) ≡ p
-proof_again p is =
-    let closed = digest_line (proof_body p) ∷ [] in
-    let log : unwrap_or (log_in_line (log_line p.log)) [] ≡ p.log = ap (λ o. unwrap_or o []) (good_log p.log is.log) in
-    let count = ap (λ o. unwrap_or o 0) (count-again p.count is.parts.count) in
-    let leaves = leaves_again p.count p.shown p.hidden closed is.parts.count is.parts.leaves refl in
-    let hashes = hashes_after p.shown p.hidden closed is.parts.hidden refl in
-    λ i. record { log = log i; count = count i; shown = leaves i; hidden = hashes i }
+proof_again p is = grind (arith, common_steps, good_log, count-again, leaves_again, hashes_after)
 
 -- these parts, of this log
 pub proof_parts : (log : Text) (n : ℕ) (ss : List Leaf) (hs : List Text) → HasProofParts (proof_values n ss hs)

@@ -1,6 +1,7 @@
 -- The proof of facts meets the invariant of a proof.
-use Rattle.std.proofs.Common.{◌+◌, ◌<◌, ◌≤◌, ◌^◌, ℕ, zero, suc, Bool, true, false, List, [], ◌∷◌, ◌++◌, length, take, drop, Option, None, Some, ap, arith}
-use Rattle.std.specs.Prelude.{if◌then◌else◌, nat_le}
+use Rattle.std.proofs.lemmas.Grind.{common_steps}
+use Rattle.std.proofs.Common.{◌+◌, ◌<◌, ◌≤◌, ◌^◌, ℕ, zero, suc, Bool, true, false, List, [], ◌∷◌, ◌++◌, length, take, drop, Option, Some, ap, arith}
+use Rattle.std.specs.Prelude.{if◌then◌else◌}
 use Rattle.std.specs.List.{AllByRecursion}
 use Rattle.std.specs.List.Sorted.{IsStrictlySortedBy}
 use Rattle.std.specs.Ordering.{is_lt}
@@ -14,7 +15,7 @@ use Rattle.cadf_sketch.proofs.WholeLemmas.{sha_digest}
 use Rattle.cadf_seal.specs.Facts.{AreAscending}
 use Rattle.cadf_seal.specs.ProofFile.{IsLeafOf, AreRising, HasProofParts, proof_of}
 use Rattle.cadf_seal.specs.Shown.{first_leaf, needs, shown, until, leaves_from, hidden, all_hidden}
-use Rattle.cadf_seal.specs.Tree.{tree, node_hash}
+use Rattle.cadf_seal.specs.Tree.{tree}
 use Rattle.cadf_seal.specs.declared.leaf.Leaf.{Leaf}
 
 -- ---- the leaves that are shown
@@ -22,12 +23,7 @@ use Rattle.cadf_seal.specs.declared.leaf.Leaf.{Leaf}
 each_leaf : (n i : ℕ) (before : Option Text) (ds fs : List Text) → i + length ds ≤ n → AllByRecursion IsDigest ds
     → AllByRecursion (IsLeafOf n) (shown before i ds fs)
 each_leaf n i before [] fs within are = tt
-each_leaf n i before (d ∷ ds) fs within are = by (needs before (first_leaf ds) fs) (each_leaf n (suc i) (Some d) ds fs (omega (arith, within)) are.1)
-  where
-    by : (b : Bool) → AllByRecursion (IsLeafOf n) (shown (Some d) (suc i) ds fs)
-        → AllByRecursion (IsLeafOf n) (if b then record { place = i; digest = d } ∷ shown (Some d) (suc i) ds fs else shown (Some d) (suc i) ds fs)
-    by true rest = (record { place = omega (arith, within); digest = are.0 }, rest)
-    by false rest = rest
+each_leaf n i before (d ∷ ds) fs within are = grind (arith, common_steps, (each_leaf n (suc i) (Some d) ds fs (omega (arith, within)) are.1))
 
 rise_after : (s : Leaf) (i : ℕ) (before : Option Text) (ds fs : List Text) → s.place < i → AreAscending (s.digest ∷ ds) → AreRising (s ∷ shown before i ds fs)
 unfolding IsStrictlySortedBy
@@ -57,30 +53,20 @@ shown_rise i before (d ∷ ds) fs h =
 
 tree_digest : (h : ℕ) (ds : List Text) → IsDigest (tree h ds)
 tree_digest zero ds = sha_digest _
-tree_digest (suc h) ds = by (nat_le (length ds) (2 ^ h)) (tree_digest h ds)
-  where
-    by : (b : Bool) → IsDigest (tree h ds) → IsDigest (if b then tree h ds else node_hash (tree h (take (2 ^ h) ds)) (tree h (drop (2 ^ h) ds)))
-    by true below = below
-    by false below = sha_digest _
+tree_digest (suc h) ds = grind (arith, common_steps, sha_digest, (tree_digest h ds))
 
 both_all : (P : Text → Type 0) (xs ys : List Text) → AllByRecursion P xs → AllByRecursion P ys → AllByRecursion P (xs ++ ys)
-both_all P [] ys p q = q
-both_all P (x ∷ xs) ys p q = (p.0, both_all P xs ys p.1 q)
+both_all P xs ys p q = grind (arith, common_steps)
 
 either : (xs ys zs : List Text) (b : Bool) → AllByRecursion IsDigest xs → AllByRecursion IsDigest ys → AllByRecursion IsDigest zs
     → AllByRecursion IsDigest (if b then xs else ys ++ zs)
-either xs ys zs true all left right = all
-either xs ys zs false all left right = both_all IsDigest ys zs left right
+either xs ys zs b all left right = grind (arith, common_steps, both_all)
 
 hidden_digests : (h a : ℕ) (ds : List Text) (ss : List Leaf) → AllByRecursion IsDigest (hidden h a ds ss)
 hidden_digests zero a ds [] = (tree_digest 0 ds, tt)
 hidden_digests zero a ds (s ∷ ss) = tt
 hidden_digests (suc h) a ds [] = (tree_digest (suc h) ds, tt)
-hidden_digests (suc h) a ds (s ∷ ss) =
-    either (hidden h a ds (s ∷ ss)) (hidden h a (take (2 ^ h) ds) (until (a + 2 ^ h) (s ∷ ss)))
-    (hidden h (a + 2 ^ h) (drop (2 ^ h) ds) (leaves_from (a + 2 ^ h) (s ∷ ss))) (nat_le (length ds) (2 ^ h))
-    (hidden_digests h a ds (s ∷ ss)) (hidden_digests h a (take (2 ^ h) ds) (until (a + 2 ^ h) (s ∷ ss)))
-    (hidden_digests h (a + 2 ^ h) (drop (2 ^ h) ds) (leaves_from (a + 2 ^ h) (s ∷ ss)))
+hidden_digests (suc h) a ds (s ∷ ss) = grind (arith, common_steps, either, (hidden_digests h a ds (s ∷ ss)), (hidden_digests h a (take (2 ^ h) ds) (until (a + 2 ^ h) (s ∷ ss))), (hidden_digests h (a + 2 ^ h) (drop (2 ^ h) ds) (leaves_from (a + 2 ^ h) (s ∷ ss))))
 
 all_digests : (ds : List Text) (ss : List Leaf) → AllByRecursion IsDigest (all_hidden ds ss)
 all_digests [] ss = tt
@@ -89,9 +75,4 @@ all_digests (d ∷ ds) ss = hidden_digests (length (d ∷ ds)) 0 (d ∷ ds) ss
 -- ---- both
 
 pub proof_parts : (f n : InventoryModel) → AreDigests n.digests → length (rising n.digests) < 2 ^ 64 → HasProofParts (proof_of f n)
-proof_parts f n are fits = record {
-  count = fits;
-  leaves = each_leaf (length (rising n.digests)) 0 None (rising n.digests) (rising f.digests) (omega arith) (each_digest n.digests are);
-  rising = shown_rise 0 None (rising n.digests) (rising f.digests) (rising_set n.digests);
-  hidden = all_digests (rising n.digests) _;
-}
+proof_parts f n are fits = grind (arith, common_steps, each_leaf, each_digest, shown_rise, rising_set, all_digests)

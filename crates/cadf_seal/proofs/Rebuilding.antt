@@ -1,5 +1,40 @@
 -- The tree that is rebuilt from shown leaves and the hashes of hidden subtrees, and the tree over all leaves.
-use Rattle.std.proofs.Common.{◌≡◌, ◌∙◌, ◌<◌, ◌≤◌, ◌+◌, ◌-◌, ◌^◌, ◌++◌, ℕ, zero, suc, Bool, true, false, cond, List, [], ◌∷◌, Some, None, length, take, drop, get_or, refl, ap, sym, subst, arith, length-drop, append_assoc, inl, inr, true≢false}
+use Rattle.std.proofs.lemmas.Grind.{common_steps}
+use Rattle.std.proofs.Common.{
+  ◌≡◌,
+  ◌∙◌,
+  ◌<◌,
+  ◌≤◌,
+  ◌+◌,
+  ◌-◌,
+  ◌^◌,
+  ◌++◌,
+  ℕ,
+  zero,
+  suc,
+  Bool,
+  true,
+  false,
+  cond,
+  List,
+  [],
+  ◌∷◌,
+  Some,
+  length,
+  take,
+  drop,
+  get_or,
+  refl,
+  ap,
+  sym,
+  subst,
+  arith,
+  length-drop,
+  append_assoc,
+  inl,
+  inr,
+  true≢false,
+}
 use Rattle.std.specs.Prelude.{nat_le, nat_lt, if◌then◌else◌}
 use Rattle.std.specs.List.{filter, AllByRecursion}
 use Rattle.std.proofs.lemmas.Bool.{leb-true, leb-false, le-leb, ltb-true, ltb-false}
@@ -119,12 +154,7 @@ Rebuilds h = (a n : ℕ) (ds : List Text) (ss : List Leaf) (more : List Text) �
 rebuilds_step : (h : ℕ) → Rebuilds h → (a n : ℕ) (ds : List Text) (s : Leaf) (ss : List Leaf) (more : List Text) → n ≡ length ds → n ≤ 2 ^ suc h
     → AllByRecursion (IsAt a ds) (s ∷ ss) → (b : Bool) → nat_le n (2 ^ h) ≡ b
     → rebuilt (suc h) a n (s ∷ ss) (hidden (suc h) a ds (s ∷ ss) ++ more) ≡ Some (tree (suc h) ds, more)
-rebuilds_step h rebuilds a n ds s ss more all room at true small =
-    let low = leb-true _ _ small in
-    rebuilt_at h a n s ss _ true small
-    ∙ ap (λ hs. rebuilt h a n (s ∷ ss) (hs ++ more)) (hidden_at h a ds s ss true (ap (λ k. nat_le k (2 ^ h)) (sym all) ∙ small))
-    ∙ rebuilds a n ds (s ∷ ss) more all low at
-    ∙ ap (λ t. Some (t, more)) (sym (tree_within h ds (omega (arith, low, all))))
+rebuilds_step h rebuilds a n ds s ss more all room at true small = grind (arith, common_steps, leb-true, rebuilt_at, hidden_at, tree_within)
 rebuilds_step h rebuilds a n ds s ss more all room at false large =
     let beyond = leb-false _ _ large in
     let far : 2 ^ h < length ds = omega (arith, beyond, all) in
@@ -148,9 +178,7 @@ rebuilds_step h rebuilds a n ds s ss more all room at false large =
     ∙ ap (λ t. Some (t, more)) (sym (tree_beyond h ds far))
 
 one_leaf_at : (a : ℕ) (ds : List Text) (s : Leaf) → length ds ≤ 1 → IsAt a ds s → leaf_hash s.digest ≡ tree zero ds
-one_leaf_at a ds s most at =
-    let first : s.place - a ≡ 0 = omega (arith, at.from, at.until, most) in
-    ap leaf_hash (sym at.is ∙ ap (λ i. get_or ds i []) first)
+one_leaf_at a ds s most at = grind (arith, common_steps)
 
 pub rebuilds : (h : ℕ) → Rebuilds h
 rebuilds zero a n ds [] more all room at = refl
@@ -172,26 +200,16 @@ record IsNode (left : Rebuilt) (right : List Text → Rebuilt) (y : Text × List
   is : (node_hash one.0 other.0, other.1) ≡ y
 
 node_parts : (left : Rebuilt) (right : List Text → Rebuilt) (y : Text × List Text) → node_of left right ≡ Some y → IsNode left right y
-node_parts None right y e = absurd (cc)
-node_parts (Some l) right y e = by (right l.1) refl e
-  where
-    by : (o : Rebuilt) → right l.1 ≡ o → node_beside l.0 o ≡ Some y → IsNode (Some l) right y
-    by None is k = absurd (cc)
-    by (Some r) is k = record { one = l; other = r; left_is = refl; right_is = is; is = cc }
+node_parts left right y e = grind (arith, common_steps)
 
 abbrev IsLong : Text × List Text → Type 0
 IsLong y = (length y.0 ≡ 32) × AreHashes y.1
 
 next_long : (hs : List Text) (y : Text × List Text) → AreHashes hs → next_hash hs ≡ Some y → IsLong y
-next_long [] y h e = absurd (cc)
-next_long (x ∷ hs) y h e =
-    let same : (x, hs) ≡ y = cc in
-    subst IsLong same (h.0, h.1)
+next_long hs y h e = grind (arith, common_steps)
 
 leaf_long : (s : Leaf) (hs : List Text) (y : Text × List Text) → AreHashes hs → Some (leaf_hash s.digest, hs) ≡ Some y → IsLong y
-leaf_long s hs y h e =
-    let same : (leaf_hash s.digest, hs) ≡ y = cc in
-    subst IsLong same (length-sha256 (0 ∷ s.digest), h)
+leaf_long s hs y h e = grind (arith, common_steps, length-sha256)
 
 abbrev AreLong : ℕ → Type 0
 AreLong h = (a n : ℕ) (ss : List Leaf) (hs : List Text) (y : Text × List Text) → AreHashes hs → rebuilt h a n ss hs ≡ Some y → IsLong y
@@ -250,12 +268,7 @@ Shows h = (a n : ℕ) (ds : List Text) (ss : List Leaf) (hs rest : List Text) �
 shows_step : (h : ℕ) → Shows h → (a n : ℕ) (ds : List Text) (s : Leaf) (ss : List Leaf) (hs rest : List Text) → n ≡ length ds → n ≤ 2 ^ suc h
     → AllByRecursion (IsIn a n) (s ∷ ss) → PlacesRise (s ∷ ss) → AreHashes hs → TextsDoNotCollide (hashed (suc h) ds) (rehashed (suc h) a n (s ∷ ss) hs)
     → rebuilt (suc h) a n (s ∷ ss) hs ≡ Some (tree (suc h) ds, rest) → (b : Bool) → nat_le n (2 ^ h) ≡ b → AllByRecursion (IsAt a ds) (s ∷ ss)
-shows_step h shows a n ds s ss hs rest all room ins rises hashes apart e true small =
-    let low = leb-true _ _ small in
-    let other = ap (λ m. nat_le m (2 ^ h)) (sym all) ∙ small in
-    shows a n ds (s ∷ ss) hs rest all low ins rises hashes
-    (λ x y l m. apart x y (subst (Listed x) (sym (hashed_at h ds true other)) l) (subst (Listed y) (sym (rehashed_at h a n s ss hs true small)) m))
-    (sym (rebuilt_at h a n s ss hs true small) ∙ e ∙ ap (λ t. Some (t, rest)) (tree_within h ds (omega (arith, low, all))))
+shows_step h shows a n ds s ss hs rest all room ins rises hashes apart e true small = grind (arith, common_steps, leb-true, hashed_at, rehashed_at, rebuilt_at, tree_within)
 shows_step h shows a n ds s ss hs rest all room ins rises hashes apart e false large =
     let beyond = leb-false _ _ large in
     let far : 2 ^ h < length ds = omega (arith, beyond, all) in
@@ -295,9 +308,7 @@ shows_step h shows a n ds s ss hs rest all room ins rises hashes apart e false l
 
 one_shown : (a n : ℕ) (ds : List Text) (s : Leaf) (ss : List Leaf) → n ≡ length ds → n ≤ 1 → AllByRecursion (IsIn a n) (s ∷ ss) → PlacesRise (s ∷ ss)
     → get_or ds 0 [] ≡ s.digest → AllByRecursion (IsAt a ds) (s ∷ ss)
-one_shown a n ds s [] all most ins rises is =
-    let first : s.place - a ≡ 0 = omega (arith, ins.0.0, ins.0.1, most) in
-    (record { from = ins.0.0; until = omega (arith, ins.0.1, all); is = ap (λ i. get_or ds i []) first ∙ is }, tt)
+one_shown a n ds s [] all most ins rises is = grind (arith, common_steps)
 one_shown a n ds s (t ∷ ss) all most ins rises is = absurd (omega (arith, ins.0.0, ins.1.0.1, rises.0.0, most))
 
 pub shows : (h : ℕ) → Shows h

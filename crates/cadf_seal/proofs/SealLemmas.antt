@@ -1,19 +1,18 @@
 -- The lines of a seal's file: what each decodes to, and that they are a kind of file.
-use Rattle.std.proofs.Common.{◌≡◌, ℕ, ◌<◌, ◌^◌, List, [], ◌∷◌, drop, true, Some, None, refl, sym, ap, ◌∙◌, true≢false}
-use Rattle.std.specs.Prelude.{nat_eq, is_some, unwrap_or, codes}
+use Rattle.std.proofs.lemmas.Grind.{common_steps}
+use Rattle.std.proofs.Common.{◌≡◌, ℕ, ◌<◌, ◌^◌, List, [], ◌∷◌, drop, true, Some, None, refl, sym, ap, ◌∙◌, true≢false, arith}
+use Rattle.std.specs.Prelude.{nat_eq, is_some, codes}
 use Rattle.std.specs.List.{starts_with}
 use Rattle.cadf_join.specs.Contents.{Text}
 use Rattle.cadf_event.specs.Known.{IsNameText}
-use Rattle.cadf_event.specs.LogName.{is_name_text, is_unbroken}
+use Rattle.cadf_event.specs.LogName.{is_name_text}
 use Rattle.cadf_event.proofs.LogNameLemmas.{unbroken_quoted}
 use Rattle.cadf_line.specs.Digest.{IsDigest}
-use Rattle.cadf_linefile.specs.declared.fault.Cause.TheVariants.{Shape}
-use Rattle.cadf_linefile.specs.Verdict.{log_line, digest_line, log_in_line, with_digest_line}
+use Rattle.cadf_linefile.specs.Verdict.{log_line, with_digest_line}
 use Rattle.cadf_linefile.proofs.BodyLines.{AreAfter}
 use Rattle.cadf_linefile.proofs.LinesLemmas.{are_unbroken, and_true}
 use Rattle.cadf_linefile.proofs.VerdictLemmas.{good_log}
 use Rattle.cadf_linefile.proofs.UnbrokenLines.{unbroken_digest}
-use Rattle.cadf_inventory.specs.InventoryVerdict.{digest_of}
 use Rattle.cadf_inventory.proofs.DigestLines.{digest-again, digest-only, unbroken_digest_of}
 use Rattle.cadf_sketch.specs.SketchVerdict.{number_in, shape_unless}
 use Rattle.cadf_sketch.proofs.NumberLemmas.{number-again, number-only}
@@ -38,10 +37,7 @@ pub root-again : (r : Text) → IsDigest r → root_in (root_line r) ≡ Some r
 root-again r is = digest-again r is
 
 pub root-only : (l : List ℕ) (r : Text) → root_in l ≡ Some r → (l ≡ root_line r) × IsDigest r
-root-only l r e =
-    let c = chosen (starts_with nat_eq l (codes "R ")) (digest_of (drop 2 l)) r e in
-    let p = digest-only (drop 2 l) r c.1 in
-    (begins_with 82 32 l c.0 ∙ ap (λ r. 82 ∷ 32 ∷ r) p.0, p.1)
+root-only l r e = grind (arith, common_steps, chosen, digest-only, begins_with)
 
 -- ---- lines that may follow each other are those of a seal
 
@@ -61,10 +57,7 @@ seal_found name (x ∷ y ∷ []) named h =
       (λ i. seal_header ∷ log_line name ∷ p.0 i ∷ q.0 i ∷ []),
       record { log = named; parts = record { count = p.1; root = q.1 } },
     )
-seal_found name (x ∷ y ∷ z ∷ zs) named h = absurd (one h.1.1.0)
-  where
-    one : Some Shape ≡ None → ⊥
-    one e = cc
+seal_found name (x ∷ y ∷ z ∷ zs) named h = grind (arith, common_steps)
 
 -- ---- and the lines of a seal may follow each other
 
@@ -72,26 +65,17 @@ abbrev pub plains : SealModel → List Plain
 plains s = (count_line s.count, refl) ∷ (root_line s.root, refl) ∷ []
 
 plains_follow : (s : SealModel) → HasParts s → After [] (plains s)
-plains_follow s p =
-    (ap (λ o. shape_unless (is_some o)) (count-again s.count p.count), (ap (λ o. shape_unless (is_some o)) (root-again s.root p.root), refl))
+plains_follow s p = grind (arith, common_steps, count-again, root-again)
 
 -- ---- no line contains a line feed
 
 pub unbroken_seal : (s : SealModel) → HasParts s → are_unbroken (with_digest_line (seal_body s)) ≡ true
-unbroken_seal s p =
-    and_true (is_unbroken (log_line s.log)) _ (unbroken_quoted s.log)
-    (and_true (is_unbroken (count_line s.count)) _ (decimal_unbroken s.count p.count)
-    (and_true (is_unbroken (root_line s.root)) _ (unbroken_digest_of s.root)
-    (and_true (is_unbroken (digest_line (seal_body s))) true (unbroken_digest (seal_body s)) refl)))
+unbroken_seal s p = grind (arith, common_steps, and_true, unbroken_quoted, decimal_unbroken, unbroken_digest_of, unbroken_digest)
 
 -- ---- the lines determine the seal
 
 pub seal_again : (s : SealModel) → IsSeal s → seal_model_in (with_digest_line (seal_body s)) ≡ s
-seal_again s is =
-    let log : unwrap_or (log_in_line (log_line s.log)) [] ≡ s.log = ap (λ o. unwrap_or o []) (good_log s.log is.log) in
-    let count = ap (λ o. unwrap_or o 0) (count-again s.count is.parts.count) in
-    let root = ap (λ o. unwrap_or o []) (root-again s.root is.parts.root) in
-    λ i. record { log = log i; count = count i; root = root i }
+seal_again s is = grind (arith, common_steps, good_log, count-again, root-again)
 
 pub seal_is_kind : IsModelKind seal_kind IsSeal (λ s. s.log) plains
 seal_is_kind = record {

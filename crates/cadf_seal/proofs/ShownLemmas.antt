@@ -1,4 +1,5 @@
 -- The leaves that facts need, found by a walk over both in order.
+use Rattle.std.proofs.lemmas.Grind.{common_steps}
 use Rattle.std.proofs.Common.{◌≡◌, ◌∙◌, ◌+◌, ℕ, suc, Bool, true, false, List, [], ◌∷◌, ◌++◌, drop, Option, None, Some, Bor, refl, ap, sym, subst, arith, append_assoc, true≢false}
 use Rattle.std.specs.Prelude.{◌&&◌, ◌||◌, if◌then◌else◌, cond, MatchOption}
 use Rattle.std.specs.List.{AllByRecursion}
@@ -43,12 +44,7 @@ none_below d f (g ∷ fs) e h = or_none (is_lt (text_cmp g d)) (needs None (Some
 
 pub first_decides : (behind : Option Text) (f : Text) (fs : List Text) → AreAscending (f ∷ fs) → needs None behind (f ∷ fs) ≡ is_below behind f
 unfolding needs IsStrictlySortedBy
-first_decides None f fs h = refl
-first_decides (Some d) f fs h = by (is_lt (text_cmp f d)) refl
-  where
-    by : (b : Bool) → is_lt (text_cmp f d) ≡ b → (is_lt (text_cmp f d) || needs None (Some d) fs) ≡ is_lt (text_cmp f d)
-    by true q = ap (λ x. x || needs None (Some d) fs) q ∙ sym q
-    by false q = or_none (is_lt (text_cmp f d)) (needs None (Some d) fs) q ∙ none_below d f fs q h.0 ∙ sym q
+first_decides behind f fs h = grind (arith, common_steps, or_none, none_below)
 
 -- ---- facts that are not above the leaf before are not needed any more
 
@@ -134,8 +130,7 @@ some_left c f e = ap (λ o. facts_left (record { next = o; rest = c.rest })) e
 
 pub next_left : (rest left : List Text) (r : Option (Bor Text)) → MatchOption r ((rest ≡ []) × (left ≡ [])) (λ x. rest ≡ x.now ∷ left)
     → facts_left (record { next = r; rest = left }) ≡ rest
-next_left rest left None e = sym e.0
-next_left rest left (Some f) e = sym e
+next_left rest left r e = grind (arith, common_steps)
 
 pub no_fact : (behind : Option Text) (fs : List Text) → fs ≡ [] → false ≡ needs None behind fs
 unfolding needs

@@ -1,4 +1,5 @@
 -- What a proof with the root of leaves says of digests is so, if what is hashed doesn't collide.
+use Rattle.std.proofs.lemmas.Grind.{common_steps}
 use Rattle.std.proofs.Common.{◌≡◌, ◌∙◌, ◌<◌, ◌≤◌, ◌+◌, ◌-◌, ◌^◌, ℕ, zero, suc, Bool, true, false, List, [], ◌∷◌, Some, None, length, get_or, refl, ap, sym, subst, arith, inl, inr}
 use Rattle.std.specs.Prelude.{nat_eq, if◌then◌else◌}
 use Rattle.std.specs.List.{AllByRecursion}
@@ -23,22 +24,13 @@ use Rattle.cadf_seal.proofs.Honest.{IsLess, AreSorted, not_less_itself, less_tra
 pub places_rise : (ss : List Leaf) → AreRising ss → PlacesRise ss
 places_rise [] h = tt
 places_rise (s ∷ []) h = (tt, tt)
-places_rise (s ∷ t ∷ ss) h =
-    let rest = places_rise (t ∷ ss) h.2 in
-    ((h.0, all_map ss (λ u k. further u k) rest.0), rest)
-  where
-    further : (u : Leaf) → t.place < u.place → s.place < u.place
-    further u k = omega (arith, h.0, k)
+places_rise (s ∷ t ∷ ss) h = grind (arith, common_steps, all_map, (places_rise (t ∷ ss) h.2))
 
 no_other : (h t : Text) (hs : List Text) → alone h hs ≡ Some t → (h ≡ t) × (hs ≡ [])
-no_other h t [] e = (cc, refl)
-no_other h t (x ∷ hs) e = absurd (cc)
+no_other h t hs e = grind (arith, common_steps)
 
 root_only : (r : Rebuilt) (t : Text) → root_from r ≡ Some t → r ≡ Some (t, [])
-root_only None t e = absurd (cc)
-root_only (Some r) t e =
-    let only = no_other r.0 t r.1 e in
-    λ i. Some (only.0 i, only.1 i)
+root_only r t e = grind (arith, common_steps, no_other)
 
 pub shows_leaves : ShowsLeaves
 unfolding proof_root
@@ -68,9 +60,7 @@ index_less (d ∷ ds) zero zero sorted low high less = absurd (not_less_itself d
 index_less (d ∷ ds) zero (suc k) sorted low high less = omega arith
 index_less (d ∷ ds) (suc i) zero sorted low high less =
     absurd (not_less_itself d (less_trans d (get_or ds i []) d (at_all (IsLess d) ds i (omega (arith, low)) (sorted_above d ds sorted)) less))
-index_less (d ∷ ds) (suc i) (suc k) sorted low high less =
-    let rest = index_less ds i k (sorted_rest d ds sorted) (omega (arith, low)) (omega (arith, high)) less in
-    omega (arith, rest)
+index_less (d ∷ ds) (suc i) (suc k) sorted low high less = grind (arith, common_steps, sorted_rest, (index_less ds i k (sorted_rest d ds sorted) (omega (arith, low)) (omega (arith, high)) less))
 
 record IsIndex (f : Text) (ds : List Text) : Type 0 where
   k : ℕ

@@ -1,4 +1,5 @@
 -- The shown leaves before a place and the others, as the parts of a list; and the hash of a tree, one step at a time.
+use Rattle.std.proofs.lemmas.Grind.{common_steps}
 use Rattle.std.proofs.Common.{◌≡◌, ◌∙◌, ◌<◌, ◌≤◌, ◌+◌, ◌-◌, ◌^◌, ℕ, zero, suc, Bool, true, false, cond, List, [], ◌∷◌, ◌≢◌, length, take, drop, refl, ap, sym, arith, length-drop}
 use Rattle.std.specs.Prelude.{nat_le, nat_lt, slice_index_or, if◌then◌else◌}
 use Rattle.std.specs.List.{filter, AllByRecursion}
@@ -15,9 +16,7 @@ use Rattle.cadf_seal.proofs.Rebuilding.{rebuilt_at, rise_kept}
 use Rattle.cadf_seal.proofs.Trees.{below_power, within_more}
 
 place_at_least : (m : ℕ) (ss : List Leaf) (k : ℕ) (d : Leaf) → k < length ss → AllByRecursion (λ t. m < t.place) ss → m ≤ (slice_index_or ss k d).place
-place_at_least m [] k d low h = absurd (omega (arith, low))
-place_at_least m (s ∷ ss) zero d low h = omega (arith, h.0)
-place_at_least m (s ∷ ss) (suc k) d low h = place_at_least m ss k d (omega (arith, low)) h.1
+place_at_least m ss k d low h = grind (arith, common_steps)
 
 in_order : (ss : List Leaf) (i j : ℕ) (d : Leaf) → PlacesRise ss → i ≤ j → j < length ss → (slice_index_or ss i d).place ≤ (slice_index_or ss j d).place
 in_order [] i j d rises low high = absurd (omega (arith, high))
@@ -27,10 +26,7 @@ in_order (s ∷ ss) (suc i) zero d rises low high = absurd (omega (arith, low))
 in_order (s ∷ ss) (suc i) (suc j) d rises low high = in_order ss i j d rises.1 (omega (arith, low)) (omega (arith, high))
 
 pub parted : (m : ℕ) (ss : List Leaf) → PlacesRise ss → IsPartitionedBy (λ s. nat_lt s.place m) ss
-parted m ss rises i j d low high h =
-    let least = in_order ss i j d rises low high in
-    let most = ltb-true _ _ h in
-    lt-ltb _ _ (omega (arith, least, most))
+parted m ss rises i j d low high h = grind (arith, common_steps, in_order, ltb-true, lt-ltb)
 
 pub not_before : (m : ℕ) (s : Leaf) → nat_lt s.place m ≡ false → nat_le m s.place ≡ true
 not_before m s h = le-leb _ _ (ltb-false _ _ h)
@@ -89,9 +85,7 @@ all_true P (s ∷ ss) h = (h s, all_true P ss h)
 -- ---- a step
 
 pub rebuilt_none : (h a n : ℕ) (ss : List Leaf) (hs : List Text) → length ss ≡ 0 → rebuilt h a n ss hs ≡ next_hash hs
-rebuilt_none zero a n [] hs e = refl
-rebuilt_none (suc h) a n [] hs e = refl
-rebuilt_none h a n (s ∷ ss) hs e = absurd (omega (arith, e))
+rebuilt_none h a n ss hs e = grind (arith, common_steps)
 
 pub until_rises : (m : ℕ) (ss : List Leaf) → PlacesRise ss → PlacesRise (until m ss)
 until_rises m ss h = rise_kept (λ s. nat_lt s.place m) ss h
@@ -106,8 +100,7 @@ last_part k ss = take_all (length ss - k) (drop k ss) (omega (arith, length-drop
 -- ---- any height with enough room
 
 rebuilt_more : (h a n : ℕ) (ss : List Leaf) (hs : List Text) → n ≤ 2 ^ h → rebuilt (suc h) a n ss hs ≡ rebuilt h a n ss hs
-rebuilt_more h a n [] hs small = sym (rebuilt_none h a n [] hs refl)
-rebuilt_more h a n (s ∷ ss) hs small = rebuilt_at h a n s ss hs true (le-leb _ _ small)
+rebuilt_more h a n ss hs small = grind (arith, common_steps, rebuilt_none, rebuilt_at, le-leb)
 
 rebuilt_any : (k h a n : ℕ) (ss : List Leaf) (hs : List Text) → n ≤ 2 ^ h → rebuilt (k + h) a n ss hs ≡ rebuilt h a n ss hs
 rebuilt_any zero h a n ss hs small = ap (λ m. rebuilt m a n ss hs) (omega arith)

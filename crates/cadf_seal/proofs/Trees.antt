@@ -1,4 +1,5 @@
 -- Trees that have more room than they need, and trees of a part of a list.
+use Rattle.std.proofs.lemmas.Grind.{common_steps}
 use Rattle.std.proofs.Common.{◌≡◌, ◌≢◌, ◌∙◌, ◌<◌, ◌≤◌, ◌+◌, ◌*◌, ◌-◌, ◌%◌, ◌^◌, ℕ, zero, suc, List, [], ◌∷◌, length, take, drop, refl, ap, sym, arith, length-drop}
 use Rattle.std.specs.Prelude.{if◌then◌else◌}
 use Rattle.std.proofs.lemmas.Bool.{le-leb, lt-leb}
@@ -101,10 +102,7 @@ module _ (h n : ℕ) (ds : List Text) (there : n ≤ length ds) where
 
 -- a tree that isn't a leaf has two halves of this size
 pub half : (h : ℕ) → h ≤ 64 → 1 * 2 ^ (h - 1) % 18446744073709551616 ≡ 2 ^ (h - 1)
-half h within =
-    let small : 2 ^ (h - 1) < 2 ^ 64 = pow_below (h - 1) 64 (omega (arith, within)) in
-    let once : 1 * 2 ^ (h - 1) ≡ 2 ^ (h - 1) = omega arith in
-    ap (λ k. k % 18446744073709551616) once ∙ mod-eq_of_lt small
+half h within = grind (arith, common_steps, pow_below, mod-eq_of_lt)
 
 -- twice the half is all
 pub halves : (h : ℕ) → h ≢ 0 → 2 ^ h ≡ 2 * 2 ^ (h - 1)
@@ -113,10 +111,8 @@ halves h some =
     ap (λ k. 2 ^ k) next ∙ doubled (h - 1)
 
 pub root_none : (ds : List Text) → 0 ≡ length ds → root ds ≡ sha256 []
-root_none [] none = no_leaf
-root_none (d ∷ ds) none = absurd (omega (arith, none))
+root_none ds none = grind (arith, common_steps, no_leaf)
 
 -- a tree with enough room for a list has the list's root
 pub root_all : (h n : ℕ) (ds : List Text) → n ≡ length ds → n ≢ 0 → n ≤ 2 ^ h → tree h (take n ds) ≡ root ds
-root_all h n ds all some room =
-    ap (tree h) (take_all n ds (omega (arith, all))) ∙ sym (root_tree h ds (omega (arith, all, some)) (omega (arith, all, room)))
+root_all h n ds all some room = grind (arith, common_steps, take_all, root_tree)
