@@ -1,21 +1,19 @@
 -- The sketch that is asked for is a sketch.
-use Rattle.std.proofs.Common.{◌≡◌, ◌<◌, ◌≤◌, ◌+◌, ◌*◌, ◌/◌, ◌%◌, ◌^◌, ℕ, zero, suc, true, arith}
-use Rattle.std.proofs.Common.{List, [], ◌∷◌, take, slice_index, slice_range, Option, None, Some, IfSome}
+use Rattle.std.proofs.lemmas.Grind.{common_steps}
+use Rattle.std.proofs.Common.{◌≡◌, ◌<◌, ◌+◌, ◌*◌, ◌/◌, ◌%◌, ◌^◌, ℕ, true, arith, rules}
+use Rattle.std.proofs.Common.{List, take, slice_index, slice_range, Option, None, Some, IfSome}
 use Rattle.cadf_line.specs.Digest.{IsDigest}
 use Rattle.cadf_set.specs.Inventory.{InventoryModel}
 use Rattle.cadf_inventory.specs.InventoryFile.{IsInventory, inventory_digest, inventory_text}
 use Rattle.cadf_sketch.specs.Cells.{word}
 use Rattle.cadf_sketch.specs.Layouts.{IsLayout, are_cells, is_salt, layout_with}
 use Rattle.cadf_sketch.specs.SketchFile.{IsSketch}
-use Rattle.cadf_sketch.specs.Sketches.{sketch_of, own_salt, asked}
+use Rattle.cadf_sketch.specs.Sketches.{sketch_of, asked}
 use Rattle.cadf_sketch.proofs.LineLemmas.{from_fits}
 use Rattle.cadf_sketch.proofs.WholeLemmas.{sha_digest, sketch_parts}
 
 take_fits : (n : ℕ) (xs : List ℕ) → ((i : ℕ) → slice_index xs i < 256) → (i : ℕ) → slice_index (take n xs) i < 256
-take_fits zero xs f i = omega arith
-take_fits (suc n) [] f i = f i
-take_fits (suc n) (x ∷ xs) f zero = f zero
-take_fits (suc n) (x ∷ xs) f (suc i) = take_fits n xs (λ k. f (suc k)) i
+take_fits n xs f i = grind (arith, common_steps)
 
 first_word_fits : (n : InventoryModel) → word (inventory_digest n) 0 < 2 ^ 64
 unfolding word inventory_digest
@@ -24,10 +22,7 @@ first_word_fits n =
     from_fits (slice_range (inventory_digest n) 0 8) (take_fits 8 (inventory_digest n) digest.bytes)
 
 laid : (cells salt : ℕ) → are_cells cells ≡ true → salt % 2 ≡ 1 → IsLayout (layout_with cells salt)
-laid cells salt h odd = record { some = omega (arith, facts.0); most = omega (arith, facts.1); odd = odd }
-  where
-    facts : (3 ≤ cells) × (cells ≤ 3 * 2 ^ 22)
-    facts = (grind (arith, h), grind (arith, h))
+laid cells salt h odd = grind (arith, common_steps)
 
 with_salt : (n : InventoryModel) (cells salt : ℕ) → IsInventory n → are_cells cells ≡ true → salt % 2 ≡ 1 → salt < 2 ^ 64
     → IsSketch (sketch_of n (layout_with cells salt))
@@ -45,7 +40,5 @@ salt_odd a h = grind (arith, h)
 
 pub asked_is : (n : InventoryModel) (cells : ℕ) (salt : Option ℕ) → IsInventory n → are_cells cells ≡ true
     → IfSome salt (λ a. (is_salt a ≡ true) × (a < 2 ^ 64)) → IsSketch (asked n cells salt)
-asked_is n cells None is h given =
-    let w = word (inventory_digest n) 0 in
-    with_salt n cells (own_salt n) is h (odd_of w) (small_of w (first_word_fits n))
+asked_is n cells None is h given = search (rules, with_salt, odd_of, small_of, first_word_fits)
 asked_is n cells (Some a) is h given = with_salt n cells a is h (salt_odd a given.0) given.1

@@ -1,5 +1,6 @@
 -- XORing digests into cells: equal digests cancel, and the order doesn't matter.
-use Rattle.std.proofs.Common.{◌≡◌, ◌∙◌, ◌<◌, ℕ, suc, Bool, true, false, cond, List, [], ◌∷◌, length, replicate, refl, ap, sym, subst, arith, inl, inr}
+use Rattle.std.proofs.lemmas.Grind.{common_steps}
+use Rattle.std.proofs.Common.{◌≡◌, ◌∙◌, ◌<◌, ℕ, suc, Bool, cond, List, [], ◌∷◌, length, replicate, refl, ap, sym, subst, arith, inl, inr}
 use Rattle.std.specs.Prelude.{bit_xor}
 use Rattle.std.specs.List.{AllByRecursion}
 use Rattle.std.specs.declared.cmp.Ordering.{Ordering}
@@ -58,15 +59,11 @@ mixed_twice cell d h = λ i. record { digest = xor_twice cell.digest d h i; chec
 
 swap_either : (a b : Bool) (cell : Cell) (d e : List ℕ)
     → cond b (mixed (cond a (mixed cell d) cell) e) (cond a (mixed cell d) cell) ≡ cond a (mixed (cond b (mixed cell e) cell) d) (cond b (mixed cell e) cell)
-swap_either true true cell d e = mixed_swap cell d e
-swap_either true false cell d e = refl
-swap_either false true cell d e = refl
-swap_either false false cell d e = refl
+swap_either a b cell d e = grind (arith, common_steps, mixed_swap)
 
 twice_either : (a : Bool) (cell : Cell) (d : List ℕ) → length cell.digest ≡ length d
     → cond a (mixed (cond a (mixed cell d) cell) d) (cond a (mixed cell d) cell) ≡ cell
-twice_either true cell d h = mixed_twice cell d h
-twice_either false cell d h = refl
+twice_either a cell d h = grind (arith, common_steps, mixed_twice)
 
 -- ---- all cells
 
@@ -74,9 +71,7 @@ at_two : (cells : List Cell) (d e : List ℕ) (layout : LayoutModel) (q : ℕ) �
     → cell_at (toggled (toggled cells d layout) e layout) q
     ≡ cond (stands e q layout) (mixed (cond (stands d q layout) (mixed (cell_at cells q) d) (cell_at cells q)) e)
     (cond (stands d q layout) (mixed (cell_at cells q) d) (cell_at cells q))
-at_two cells d e layout q some within =
-    at_turned (toggled cells d layout) e layout q some (subst (λ (n : ℕ). q < n) (sym (length-toggled cells d layout)) within)
-    ∙ ap (λ (c : Cell). cond (stands e q layout) (mixed c e) c) (at_turned cells d layout q some within)
+at_two cells d e layout q some within = grind (arith, common_steps, at_turned, length-toggled)
 
 length_two : (cells : List Cell) (d e : List ℕ) (layout : LayoutModel) → length (toggled (toggled cells d layout) e layout) ≡ length cells
 length_two cells d e layout = length-toggled (toggled cells d layout) e layout ∙ length-toggled cells d layout
@@ -104,30 +99,23 @@ toggled_twice cells d layout some wide long =
     at_two cells d d layout q some within ∙ twice_either (stands d q layout) (cell_at cells q) d (wide q within ∙ sym long))
 
 wide_either : (a : Bool) (cell : Cell) (d : List ℕ) → length cell.digest ≡ 32 → length d ≡ 32 → length (cond a (mixed cell d) cell).digest ≡ 32
-wide_either true cell d h long = length-xor cell.digest d (h ∙ sym long) ∙ h
-wide_either false cell d h long = h
+wide_either a cell d h long = grind (arith, common_steps, length-xor)
 
 wide-toggled : (cells : List Cell) (d : List ℕ) (layout : LayoutModel) → 0 < layout.size → AreWide cells → length d ≡ 32 → AreWide (toggled cells d layout)
-wide-toggled cells d layout some wide long q h =
-    let within : q < length cells = subst (λ (n : ℕ). q < n) (length-toggled cells d layout) h in
-    ap (λ (c : Cell). length c.digest) (at_turned cells d layout q some within) ∙ wide_either (stands d q layout) (cell_at cells q) d (wide q within) long
+wide-toggled cells d layout some wide long q h = grind (arith, common_steps, length-toggled, at_turned, wide_either)
 
 pub wide-toggled_all : (cells : List Cell) (ds : List Text) (layout : LayoutModel) → 0 < layout.size → AreWide cells → AllByRecursion IsDigest ds
     → AreWide (toggled_all cells ds layout)
 wide-toggled_all cells [] layout some wide each = wide
-wide-toggled_all cells (d ∷ ds) layout some wide each =
-    wide-toggled_all (toggled cells d layout) ds layout some (wide-toggled cells d layout some wide each.0.size) each.1
+wide-toggled_all cells (d ∷ ds) layout some wide each = grind (arith, common_steps, wide-toggled, (wide-toggled_all (toggled cells d layout) ds layout some (wide-toggled cells d layout some wide each.0.size) each.1))
 
 pub wide-nothing : (count : ℕ) → AreWide (replicate count nothing)
-wide-nothing count q h =
-    let within : q < count = subst (λ (n : ℕ). q < n) (length-replicate count nothing) h in
-    ap (λ (c : Cell). length c.digest) (get_or-replicate count q nothing (record { digest = []; check = 0 }) within) ∙ length-replicate {A = ℕ} 32 0
+wide-nothing count q h = grind (arith, common_steps, length-replicate, get_or-replicate)
 
 pub toggled_all_push : (cells : List Cell) (d : Text) (ds : List Text) (layout : LayoutModel) → 0 < layout.size
     → toggled_all (toggled cells d layout) ds layout ≡ toggled (toggled_all cells ds layout) d layout
 toggled_all_push cells d [] layout some = refl
-toggled_all_push cells d (e ∷ ds) layout some =
-    ap (λ (l : List Cell). toggled_all l ds layout) (toggled_swap cells d e layout some) ∙ toggled_all_push (toggled cells e layout) d ds layout some
+toggled_all_push cells d (e ∷ ds) layout some = grind (arith, common_steps, toggled_swap, (toggled_all_push (toggled cells e layout) d ds layout some))
 
 -- a digest among others, at its place in their order
 pub toggled_all_insert : (cells : List Cell) (xs : List Text) (d : Text) (layout : LayoutModel) → 0 < layout.size → (Listed d xs → ⊥)

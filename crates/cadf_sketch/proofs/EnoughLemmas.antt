@@ -1,5 +1,6 @@
 -- A sketch with enough cells is decoded.
-use Rattle.std.proofs.Common.{◌≡◌, ◌∙◌, ◌<◌, ◌*◌, ◌+◌, ◌++◌, ℕ, suc, Bool, true, false}
+use Rattle.std.proofs.lemmas.Grind.{common_steps}
+use Rattle.std.proofs.Common.{◌≡◌, ◌∙◌, ◌<◌, ◌*◌, ◌+◌, ◌++◌, ℕ, suc, Bool, true, false, rules}
 use Rattle.std.proofs.Common.{List, [], ◌∷◌, length, replicate, refl, ap, sym, subst, arith, inl, inr, length-append}
 use Rattle.std.specs.Prelude.{◌||◌, ◌&&◌, not}
 use Rattle.std.specs.List.{AllByRecursion}
@@ -47,10 +48,7 @@ use Rattle.cadf_sketch.proofs.Cancelling.{AreWide, toggled_twice, wide-toggled_a
 -- ---- sets
 
 back_again : (a e : Bool) → (e ≡ true → a ≡ true) → (e || either a e) ≡ a
-back_again true true h = refl
-back_again true false h = refl
-back_again false true h = absurd (true≢false (sym (h refl)))
-back_again false false h = refl
+back_again a e h = grind (arith, common_steps)
 
 -- a set that has d is the set without d, with d inserted
 insert-apart : (s : Digests) (d : Text) → set.contains s d ≡ true → set.insert (apart s (one d)) d ≡ s
@@ -63,19 +61,7 @@ gone : (s : Digests) (d : Text) → set.contains s d ≡ true → set.contains (
 gone s d there = in_apart s (one d) d ∙ (λ i. either (there i) ((in_one d d ∙ ap is_eq (tied_itself text_total d)) i))
 
 with_one_more : (a t e : Bool) → (e ≡ true → t ≡ false) → either (either a t) e ≡ either a (e || t)
-with_one_more a true true h = absurd (true≢false (h refl))
-with_one_more true false true h = refl
-with_one_more false false true h = refl
-with_one_more true t false h = by t
-  where
-    by : (t : Bool) → either (either true t) false ≡ either true t
-    by true = refl
-    by false = refl
-with_one_more false t false h = by t
-  where
-    by : (t : Bool) → either (either false t) false ≡ either false t
-    by true = refl
-    by false = refl
+with_one_more a t e h = grind (arith, common_steps, either)
 
 apart_more : (s : Digests) (d : Text) (ds : List Text) → set.contains (set.from_list {R = text_cmp} ds) d ≡ false
     → apart (apart s (set.from_list ds)) (one d) ≡ apart s (set.from_list (d ∷ ds))
@@ -86,12 +72,7 @@ apart_more s d ds new = by_members (apart (apart s (set.from_list ds)) (one d)) 
     ∙ sym (in_apart s (set.from_list (d ∷ ds)) q ∙ ap (either (set.contains s q)) (set.contains-insert text_total (set.from_list ds) d q)))
 
 AreDigests-apart : (s t : Digests) → AreDigests s → AreDigests t → AreDigests (apart s t)
-AreDigests-apart s t f g q h = by (set.contains s q) (set.contains t q) (sym (in_apart s t q) ∙ h) (f q) (g q)
-  where
-    by : (a b : Bool) → either a b ≡ true → (a ≡ true → IsDigest q) → (b ≡ true → IsDigest q) → IsDigest q
-    by true b e x y = x refl
-    by false true e x y = y refl
-    by false false e x y = absurd (true≢false (sym e))
+AreDigests-apart s t f g q h = grind (arith, common_steps, in_apart, either)
 
 -- ---- their cells
 
@@ -114,14 +95,11 @@ not_listed s d new l = true≢false (sym (listed-rising text_total text_same s d
 cells_insert : (s : Digests) (d : Text) (layout : LayoutModel) → 0 < layout.size → set.contains s d ≡ false
     → cells_of (set.insert s d) layout ≡ toggled (cells_of s layout) d layout
 unfolding cells_of
-cells_insert s d layout some new =
-    ap (λ (l : List Text). toggled_all (replicate (3 * layout.size) nothing) l layout) (rising-insert s d)
-    ∙ toggled_all_insert (replicate (3 * layout.size) nothing) (rising s) d layout some (not_listed s d new)
+cells_insert s d layout some new = grind (arith, common_steps, rising-insert, toggled_all_insert, not_listed)
 
 wide-cells_of : (s : Digests) (layout : LayoutModel) → 0 < layout.size → AreDigests s → AreWide (cells_of s layout)
 unfolding cells_of
-wide-cells_of s layout some are =
-    wide-toggled_all (replicate (3 * layout.size) nothing) (rising s) layout some (wide-nothing (3 * layout.size)) (each_digest s are)
+wide-cells_of s layout some are = grind (arith, common_steps, wide-toggled_all, wide-nothing, each_digest)
 
 length-cells_of : (s : Digests) (layout : LayoutModel) → length (cells_of s layout) ≡ 3 * layout.size
 unfolding cells_of
@@ -144,11 +122,7 @@ cells_apart : (s : Digests) (ds : List Text) (layout : LayoutModel) → 0 < layo
     → IsStrictlySortedBy text_cmp ds
     → toggled_all (cells_of s layout) ds layout ≡ cells_of (apart s (set.from_list ds)) layout
 cells_apart s [] layout some are each up = ap (λ (t : Digests). cells_of t layout) (apart_none s)
-cells_apart s (d ∷ ds) layout some are each up =
-    toggled_all_push (cells_of s layout) d ds layout some
-    ∙ ap (λ (l : List Cell). toggled l d layout) (cells_apart s ds layout some are each.1 (rest_sorted d ds up))
-    ∙ cells_turned (apart s (set.from_list ds)) d layout some (AreDigests-apart s (set.from_list ds) are (AreDigests-listed ds each.1)) each.0
-    ∙ ap (λ (t : Digests). cells_of t layout) (apart_more s d ds (first_is_new d ds up))
+cells_apart s (d ∷ ds) layout some are each up = grind (arith, common_steps, toggled_all_push, rest_sorted, cells_turned, apart, AreDigests-apart, AreDigests-listed, apart_more, first_is_new, (cells_apart s ds layout some are each.1 (rest_sorted d ds up)))
 
 pub differing_is : (own n : InventoryModel) (layout : LayoutModel) → 0 < layout.size → AreDigests own.digests → AreDigests n.digests
     → differing own (sketch_of n layout) ≡ cells_of (apart n.digests own.digests) layout
@@ -167,11 +141,7 @@ in_left : (all : Digests) (taken : List Text) (q : Text) → set.contains (left 
 in_left all taken q = set.contains-difference text_total all (set.from_list taken) q
 
 left-within : (all : Digests) (taken : List Text) → IsWithin (left all taken) all
-left-within all taken q h = by (set.contains all q) (set.contains (set.from_list {R = text_cmp} taken) q) (sym (in_left all taken q) ∙ h)
-  where
-    by : (a t : Bool) → (a && not t) ≡ true → a ≡ true
-    by true t e = refl
-    by false t e = e
+left-within all taken q h = grind (arith, common_steps, in_left)
 
 left_none : (all : Digests) → all ≡ left all []
 left_none all = by_members all (left all []) (λ q. sym (in_left all [] q ∙ ap (λ b. set.contains all q && not b) (set.contains-empty text_cmp q)
@@ -182,12 +152,7 @@ left_none all = by_members all (left all []) (λ q. sym (in_left all [] q ∙ ap
     by false = refl
 
 left_fewer : (a t e : Bool) → (e ≡ true → (a && not t) ≡ true) → either (a && not t) e ≡ (a && not (e || t))
-left_fewer true true true h = absurd (true≢false (sym (h refl)))
-left_fewer true false true h = refl
-left_fewer false t true h = absurd (true≢false (sym (h refl)))
-left_fewer true true false h = refl
-left_fewer true false false h = refl
-left_fewer false t false h = refl
+left_fewer a t e h = grind (arith, common_steps)
 
 left_more : (all : Digests) (taken : List Text) (d : Text) → set.contains (left all taken) d ≡ true
     → apart (left all taken) (one d) ≡ left all (taken ++ d ∷ [])
@@ -252,16 +217,12 @@ is_left : (layout : LayoutModel) (all : Digests) (start : List Cell) (taken : Li
     → IsEnough layout all
     → start ≡ cells_of all layout → Peels layout start taken rest → IsLeft layout all taken rest
 is_left layout all start [] start' some are enough e none = left_at_first layout all start e
-is_left layout all start taken rest some are enough e (more {taken = before} {cells = cells} place chain within lone) =
-    left_later layout place all before cells some are enough within lone (is_left layout all start before cells some are enough e chain)
+is_left layout all start taken rest some are enough e (more {taken = before} {cells = cells} place chain within lone) = search (rules, left_later, (is_left layout all start before cells some are enough e chain))
 
 -- ---- peeling that ends has found the digests that differ
 
 both_again : (a b : Bool) → either a (either b a) ≡ b
-both_again true true = refl
-both_again true false = refl
-both_again false true = refl
-both_again false false = refl
+both_again a b = grind (arith, common_steps)
 
 flipped-back : (own n : InventoryModel) (taken : List Text) → own.log ≡ n.log → set.from_list taken ≡ apart n.digests own.digests → flipped own taken ≡ n
 unfolding flipped

@@ -1,5 +1,6 @@
 -- The result of flipping digests one after another, and of flipping them back.
-use Rattle.std.proofs.Common.{◌≡◌, ◌∙◌, Bool, true, false, List, [], ◌∷◌, refl, sym, ap}
+use Rattle.std.proofs.lemmas.Grind.{common_steps}
+use Rattle.std.proofs.Common.{◌≡◌, ◌∙◌, Bool, true, false, List, [], ◌∷◌, refl, sym, ap, arith}
 use Rattle.std.specs.Prelude.{◌||◌, ◌&&◌, not}
 use Rattle.std.specs.List.Sorted.{IsStrictlySortedBy}
 use Rattle.std.specs.FinSet.{remove, contains-remove}
@@ -25,8 +26,7 @@ abbrev pub one : Text → Digests
 one d = set.from_list (d ∷ [])
 
 or_none : (a : Bool) → (a || false) ≡ a
-or_none true = refl
-or_none false = refl
+or_none a = grind (arith, common_steps)
 
 pub in_one : (d q : Text) → set.contains (one d) q ≡ eq_by_cmp text_cmp q d
 in_one d q = set.contains-from_list text_total (d ∷ []) q ∙ or_none (eq_by_cmp text_cmp q d)
@@ -57,10 +57,7 @@ apart_none s = by_members s (apart s (set.from_list [])) (λ q. sym (in_apart s 
     by false = refl
 
 apart_new : (a e : Bool) → (e ≡ true → a ≡ false) → either a e ≡ (e || a)
-apart_new true true h = absurd (true≢false (h refl))
-apart_new true false h = refl
-apart_new false true h = refl
-apart_new false false h = refl
+apart_new a e h = grind (arith, common_steps)
 
 pub apart-insert : (s : Digests) (d : Text) → set.contains s d ≡ false → apart s (one d) ≡ set.insert s d
 apart-insert s d new = by_members (apart s (one d)) (set.insert s d) (λ q.
@@ -68,10 +65,7 @@ apart-insert s d new = by_members (apart s (one d)) (set.insert s d) (λ q.
     ∙ apart_new (set.contains s q) (eq_by_cmp text_cmp q d) (told s d q false new) ∙ sym (set.contains-insert text_total s d q))
 
 apart_old : (a e : Bool) → (e ≡ true → a ≡ true) → either a e ≡ (not e && a)
-apart_old true true h = refl
-apart_old true false h = refl
-apart_old false true h = absurd (true≢false (sym (h refl)))
-apart_old false false h = refl
+apart_old a e h = grind (arith, common_steps)
 
 pub apart-remove : (s : Digests) (d : Text) → set.contains s d ≡ true → apart s (one d) ≡ remove s d
 apart-remove s d there = by_members (apart s (one d)) (remove s d) (λ q.
@@ -85,14 +79,7 @@ flipped_in_turn s [] = s
 flipped_in_turn s (d ∷ ds) = flipped_in_turn (apart s (one d)) ds
 
 one_before : (a e t : Bool) → (e ≡ true → t ≡ false) → either (either a e) t ≡ either a (e || t)
-one_before true true true h = absurd (true≢false (h refl))
-one_before false true true h = absurd (true≢false (h refl))
-one_before true true false h = refl
-one_before false true false h = refl
-one_before true false true h = refl
-one_before false false true h = refl
-one_before true false false h = refl
-one_before false false false h = refl
+one_before a e t h = grind (arith, common_steps)
 
 pub first_is_new : (d : Text) (ds : List Text) → IsStrictlySortedBy text_cmp (d ∷ ds) → set.contains (set.from_list {R = text_cmp} ds) d ≡ false
 unfolding IsStrictlySortedBy
@@ -122,11 +109,7 @@ flipped_in_turn_is s t = in_turn s (set.rising t) (rising_is_sorted text_total t
 -- ---- and back
 
 either_twice : (a b : Bool) → either (either a b) b ≡ a
-either_twice true true = refl
-either_twice true false = refl
-either_twice false true = refl
-either_twice false false = refl
+either_twice a b = grind (arith, common_steps)
 
 pub apart_twice : (s t : Digests) → apart (apart s t) t ≡ s
-apart_twice s t = by_members (apart (apart s t) t) s (λ q.
-    in_apart (apart s t) t q ∙ ap (λ b. either b (set.contains t q)) (in_apart s t q) ∙ either_twice (set.contains s q) (set.contains t q))
+apart_twice s t = grind (arith, common_steps, by_members, apart, in_apart, either_twice)

@@ -1,13 +1,12 @@
 -- Each line of a sketch's file decodes to the values that it encodes, and to no others.
+use Rattle.std.proofs.lemmas.Grind.{common_steps}
 use Rattle.std.proofs.Common.{
   ◌≡◌,
   ℕ,
   ◌+◌,
   ◌*◌,
   ◌/◌,
-  ◌%◌,
   ◌<◌,
-  ◌≤◌,
   ◌⊎◌,
   inl,
   inr,
@@ -33,9 +32,8 @@ use Rattle.std.proofs.Common.{
   ◌∙◌,
   subst,
   arith,
-  true≢false,
 }
-use Rattle.std.specs.Prelude.{◌&&◌, ◌^◌, decimal, nat_eq, codes, slice_index, option_map}
+use Rattle.std.specs.Prelude.{◌^◌, decimal, nat_eq, codes, slice_index, option_map}
 use Rattle.std.specs.Int.{w64, to_be_bytes, from_be_bytes, byte_at, bytes_high_first}
 use Rattle.std.specs.List.{starts_with}
 use Rattle.std.proofs.lemmas.Bool.{eqb-true}
@@ -83,20 +81,7 @@ use Rattle.cadf_sketch.proofs.NumberLemmas.{
 -- ---- a line that begins with a letter and a space
 
 pub begins_with : (x y : ℕ) (s : List ℕ) → starts_with nat_eq s (x ∷ y ∷ []) ≡ true → s ≡ x ∷ y ∷ drop 2 s
-begins_with x y [] h = absurd (true≢false (sym h))
-begins_with x y (a ∷ []) h = absurd (one (nat_eq x a) h)
-  where
-    one : (b : Bool) → (b && false) ≡ true → ⊥
-    one true e = true≢false (sym e)
-    one false e = true≢false (sym e)
-begins_with x y (a ∷ b ∷ s) h =
-    let p = two (nat_eq x a) (nat_eq y b) h in
-    (λ i. sym (eqb-true x a p.0) i ∷ sym (eqb-true y b p.1) i ∷ s)
-  where
-    two : (p q : Bool) → (p && (q && true)) ≡ true → (p ≡ true) × (q ≡ true)
-    two true true e = (refl, refl)
-    two true false e = absurd (true≢false (sym e))
-    two false q e = absurd (true≢false (sym e))
+begins_with x y s h = grind (arith, common_steps, eqb-true)
 
 module _ {A : Type 0} where
   pub chosen : (b : Bool) (o : Option A) (a : A) → cond b o None ≡ Some a → (b ≡ true) × (o ≡ Some a)
@@ -106,30 +91,11 @@ module _ {A : Type 0} where
 -- ---- the line of a layout and a digest
 
 laid : (l : LayoutModel) → IsLayout l → layout_of (3 * l.size) l.salt ≡ Some l
-laid l h =
-    ap (λ b. cond b (Some (record { size = 3 * l.size / 3; salt = l.salt })) None) fits
-    ∙ ap (λ n. Some (record { size = n; salt = l.salt })) third
-  where
-    third : 3 * l.size / 3 ≡ l.size
-    third = omega arith
-
-    fits : is_layout (3 * l.size) l.salt ≡ true
-    fits = grind (arith, h.some, h.most, h.odd)
+laid l h = grind (arith, common_steps)
 
 pub head-again : (h : Head) → IsHead h → head_in (head_line h) ≡ Some h
 unfolding head_in_words
-head-again h is =
-    let cells = decimal (3 * h.layout.size) in
-    let salt = decimal h.layout.salt in
-    let hex = encode_lower h.digest in
-    let small : 3 * h.layout.size < 2 ^ 64 = omega (arith, is.layout.most) in
-    let u = decimal_unblank (3 * h.layout.size) small in
-    let v = decimal_unblank h.layout.salt is.salt in
-    let after = after_is cells (salt ++ 32 ∷ hex) u in
-    (λ i. headed (laid_out (number_in (first_is cells (salt ++ 32 ∷ hex) u i)) (number_in (first_word (after i)))) (digest_of (words_after (after i))))
-    ∙ (λ i. headed (laid_out (number-again (3 * h.layout.size) small i) (number_in (first_is salt hex v i))) (digest_of (after_is salt hex v i)))
-    ∙ (λ i. headed (laid_out (Some (3 * h.layout.size)) (number-again h.layout.salt is.salt i)) (digest-again h.digest is.digest i))
-    ∙ (λ i. headed (laid h.layout is.layout i) (Some h.digest))
+head-again h is = grind (arith, common_steps, decimal_unblank, after_is, first_is, number-again, digest-again, laid)
 
 pub record HasLayout (cells salt : Option ℕ) (l : LayoutModel) : Type 0 where
   pub layout : IsLayout l
@@ -137,38 +103,13 @@ pub record HasLayout (cells salt : Option ℕ) (l : LayoutModel) : Type 0 where
   pub salt_is : salt ≡ Some l.salt
 
 layout_parts : (n a : ℕ) (l : LayoutModel) → layout_of n a ≡ Some l → (is_layout n a ≡ true) × (n / 3 ≡ l.size) × (a ≡ l.salt)
-layout_parts n a l e = by (is_layout n a) refl e
-  where
-    by : (b : Bool) → is_layout n a ≡ b → cond b (Some (record { size = n / 3; salt = a })) None ≡ Some l
-        → (is_layout n a ≡ true) × (n / 3 ≡ l.size) × (a ≡ l.salt)
-    by true is k = let p : record { size = n / 3; salt = a } ≡ l = cc in (is, ap (λ m. m.size) p, ap (λ m. m.salt) p)
-    by false is k = absurd (cc)
+layout_parts n a l e = grind (arith, common_steps)
 
 pub laid-only : (o p : Option ℕ) (l : LayoutModel) → laid_out o p ≡ Some l → HasLayout o p l
-laid-only None p l e = absurd (cc)
-laid-only (Some n) None l e = absurd (cc)
-laid-only (Some n) (Some a) l e =
-    let p = layout_parts n a l e in
-    let f = facts p.0 in
-    let whole : n ≡ 3 * l.size = omega (arith, f.0, p.1) in
-    record {
-      layout = record {
-        some = omega (arith, f.1, whole);
-        most = omega (arith, f.2, whole);
-        odd = subst (λ s. s % 2 ≡ 1) p.2 f.3;
-      };
-      cells_are = ap Some whole;
-      salt_is = ap Some p.2;
-    }
-  where
-    facts : is_layout n a ≡ true → (n % 3 ≡ 0) × (3 ≤ n) × (n ≤ 3 * 2 ^ 22) × (a % 2 ≡ 1)
-    facts h = (grind (arith, h), grind (arith, h), grind (arith, h), grind (arith, h))
+laid-only o p l e = grind (arith, common_steps, layout_parts)
 
 headed-only : (o : Option LayoutModel) (d : Option Text) (h : Head) → headed o d ≡ Some h → (o ≡ Some h.layout) × (d ≡ Some h.digest)
-headed-only None d h e = absurd (cc)
-headed-only (Some l) None h e = absurd (cc)
-headed-only (Some l) (Some d) h e =
-    let p : record { layout = l; digest = d } ≡ h = cc in (ap (λ x. Some x.layout) p, ap (λ x. Some x.digest) p)
+headed-only o d h e = grind (arith, common_steps)
 
 pub head-only : (l : List ℕ) (h : Head) → head_in l ≡ Some h → (l ≡ head_line h) × IsHead h
 unfolding head_in_words
@@ -216,9 +157,7 @@ tally-again t is =
     ap (λ k. tally_in_numbers (numbers_in k (spelled t.digests t.ones))) (sym is.size) ∙ ap tally_in_numbers (numbers-again t.digests t.ones is.digests is.ones)
 
 counted-only : (o : Option (List ℕ)) (t : Tally) → tally_in_numbers o ≡ Some t → o ≡ Some (t.digests ∷ t.ones)
-counted-only None t e = absurd (cc)
-counted-only (Some []) t e = absurd (cc)
-counted-only (Some (n ∷ ns)) t e = let p : record { digests = n; ones = ns } ≡ t = cc in ap (λ x. Some (x.digests ∷ x.ones)) p
+counted-only o t e = grind (arith, common_steps)
 
 pub tally-only : (l : List ℕ) (t : Tally) → tally_in l ≡ Some t → (l ≡ counts_line t) × IsTally t
 unfolding counts_in_words
@@ -250,8 +189,7 @@ be_size : (n : ℕ) → length (to_be_bytes w64 n) ≡ 8
 be_size n = refl
 
 byte_fits : (k n : ℕ) → byte_at k n < 256
-byte_fits zero n = mod_below n 256 (omega arith)
-byte_fits (suc k) n = mod_below (n / 256 ^ suc k) 256 (omega arith)
+byte_fits k n = grind (arith, common_steps, mod_below)
 
 pub high_fits : (k n i : ℕ) → slice_index (bytes_high_first k n) i < 256
 high_fits zero n i = omega arith
@@ -269,9 +207,7 @@ pub from_fits : (bytes : List ℕ) → ((i : ℕ) → slice_index bytes i < 256)
 from_fits bytes small = eight _ _ _ _ _ _ _ _ (small 0) (small 1) (small 2) (small 3) (small 4) (small 5) (small 6) (small 7)
 
 pub append_fits : (xs ys : List ℕ) → ((i : ℕ) → slice_index xs i < 256) → ((i : ℕ) → slice_index ys i < 256) → (i : ℕ) → slice_index (xs ++ ys) i < 256
-append_fits [] ys f g i = g i
-append_fits (x ∷ xs) ys f g zero = f zero
-append_fits (x ∷ xs) ys f g (suc i) = append_fits xs ys (λ k. f (suc k)) g i
+append_fits xs ys f g i = grind (arith, common_steps)
 
 take_back : (k : ℕ) (xs ys : List ℕ) → length xs ≡ k → take k (xs ++ ys) ≡ xs
 take_back k xs ys e = ap (λ n. take n (xs ++ ys)) (sym e) ∙ take-append_seam xs ys
@@ -291,15 +227,10 @@ cell-again c is =
     }))
 
 take_fits : (k : ℕ) (xs : List ℕ) → ((i : ℕ) → slice_index xs i < 256) → (i : ℕ) → slice_index (take k xs) i < 256
-take_fits zero xs f i = omega arith
-take_fits (suc k) [] f i = f i
-take_fits (suc k) (x ∷ xs) f zero = f zero
-take_fits (suc k) (x ∷ xs) f (suc i) = take_fits k xs (λ j. f (suc j)) i
+take_fits k xs f i = grind (arith, common_steps)
 
 drop_fits : (k : ℕ) (xs : List ℕ) → ((i : ℕ) → slice_index xs i < 256) → (i : ℕ) → slice_index (drop k xs) i < 256
-drop_fits zero xs f i = f i
-drop_fits (suc k) [] f i = f i
-drop_fits (suc k) (x ∷ xs) f i = drop_fits k xs (λ j. f (suc j)) i
+drop_fits k xs f i = grind (arith, common_steps)
 
 mapped-only : (o : Option Text) (c : Cell) → option_map cell_of_bytes o ≡ Some c → (bytes : Text) × (o ≡ Some bytes) × (cell_of_bytes bytes ≡ c)
 mapped-only None c e = absurd (cc)
@@ -328,32 +259,17 @@ cell-only l c e =
 
 pub head_uncut : (t : List ℕ) → words_after t ≡ [] → head_in_words t ≡ None
 unfolding head_in_words
-head_uncut t e = ap (λ w. headed (laid_out (number_in (first_word t)) (number_in (first_word w))) (digest_of (words_after w))) e
-    ∙ ap (λ o. headed (laid_out (number_in (first_word t)) o) (digest_of [])) number_of_none ∙ unlaid (number_in (first_word t))
-  where
-    unlaid : (o : Option ℕ) → headed (laid_out o None) (digest_of []) ≡ None
-    unlaid None = refl
-    unlaid (Some n) = refl
+head_uncut t e = grind (arith, common_steps, number_of_none)
 
 no_digest : digest_of [] ≡ None
-no_digest = by (digest_of []) refl
-  where
-    empty : (d : Text) → 0 ≡ length (encode_lower d) → length (encode_lower d) ≡ 2 * length d → length d ≡ 32 → ⊥
-    empty d p q r = omega (arith, p, q, r)
-
-    by : (o : Option Text) → digest_of [] ≡ o → o ≡ None
-    by None e = refl
-    by (Some d) e = let p = digest-only [] d e in absurd (empty d (ap length p.0) (length-encode_with lower_digits d) p.1.size)
+no_digest = grind (arith, common_steps, digest-only, length-encode_with)
 
 unheaded : (o : Option LayoutModel) → headed o None ≡ None
-unheaded None = refl
-unheaded (Some l) = refl
+unheaded o = grind (arith, common_steps)
 
 pub head_uncut_twice : (t : List ℕ) → words_after (words_after t) ≡ [] → head_in_words t ≡ None
 unfolding head_in_words
-head_uncut_twice t e =
-    let layout = laid_out (number_in (first_word t)) (number_in (first_word (words_after t))) in
-    ap (λ w. headed layout (digest_of w)) e ∙ ap (headed layout) no_digest ∙ unheaded layout
+head_uncut_twice t e = grind (arith, common_steps, no_digest, unheaded)
 
 module _ (t first rest second last : List ℕ) (a : first ≡ first_word t) (b : rest ≡ words_after t) (c : second ≡ first_word rest) (d : last ≡ words_after rest) where
   words : headed (laid_out (number_in first) (number_in second)) (digest_of last) ≡ head_in_words t

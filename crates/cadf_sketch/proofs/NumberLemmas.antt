@@ -1,4 +1,5 @@
 -- Numbers and the words that spell them.
+use Rattle.std.proofs.lemmas.Grind.{common_steps}
 use Rattle.std.proofs.Common.{
   ◌≡◌,
   ℕ,
@@ -38,12 +39,11 @@ use Rattle.std.proofs.Common.{
   append_assoc,
   length-drop,
   ◌-◌,
-  true≢false,
+  rules,
 }
 use Rattle.std.specs.Prelude.{◌==◌, ◌&&◌, ◌||◌, ◌^◌, not, decimal, nat_lt, flat_map, option_map, IsUtf8}
 use Rattle.std.specs.Int.{IsInRange}
 use Rattle.std.specs.List.{position_or_len, list_any}
-use Rattle.std.specs.Str.{bytes_eq}
 use Rattle.std.specs.Str.Parse.{AllDigits, digits_value, ParsesUnsigned}
 use Rattle.std.proofs.lemmas.Slice.Eq.{bytes_eq-Decides}
 use Rattle.std.proofs.lemmas.Str.Parse.{IsNumeralModel, numerals_by_value, tells_digits}
@@ -58,7 +58,7 @@ use Rattle.std.proofs.lemmas.List.{take_all}
 use Rattle.memchr.specs.Find.{IsFirstByte, is_byte}
 use Rattle.cadf_join.specs.laws.Sets.{false_from}
 use Rattle.cadf_sketch.specs.SketchFile.{spelled, AreWords64}
-use Rattle.cadf_sketch.specs.SketchVerdict.{number_if, number_in, first_word, words_after, put_before, numbers_in}
+use Rattle.cadf_sketch.specs.SketchVerdict.{number_in, first_word, words_after, put_before, numbers_in}
 
 pub own : IsNumeralModel (AllDigits 10) (digits_value 10)
 own = numerals_by_value _ tells_digits
@@ -66,22 +66,15 @@ own = numerals_by_value _ tells_digits
 -- ---- one number
 
 both : (a b : Bool) (n m : ℕ) → cond (a && b) (Some n) None ≡ Some m → (a ≡ true) × (b ≡ true) × (n ≡ m)
-both true true n m e = (refl, refl, cc)
-both true false n m e = absurd (cc)
-both false b n m e = absurd (cc)
+both a b n m e = grind (arith, common_steps)
 
 pub number-only : (w : List ℕ) (n : ℕ) → number_in w ≡ Some n → (w ≡ decimal n) × (n < 2 ^ 64)
 unfolding number_in
-number-only w n e =
-    let v = digits_value 10 w in
-    let p = both (bytes_eq w (decimal v)) (nat_lt v (2 ^ 64)) v n e in
-    ((bytes_eq-Decides w (decimal v)).0 p.0 ∙ ap decimal p.2, subst (λ (m : ℕ). m < 2 ^ 64) p.2 (ltb-true v (2 ^ 64) p.1))
+number-only w n e = grind (arith, common_steps, both, bytes_eq-Decides, ltb-true)
 
 pub number-again : (n : ℕ) → n < 2 ^ 64 → number_in (decimal n) ≡ Some n
 unfolding number_in
-number-again n small =
-    ap (number_if (decimal n)) (digits_value-decimal own n small)
-    ∙ (λ i. cond ((bytes_eq-Decides (decimal n) (decimal n)).1 refl i && lt-ltb n (2 ^ 64) small i) (Some n) None)
+number-again n small = grind (arith, common_steps, digits_value-decimal, own, bytes_eq-Decides, lt-ltb)
 
 -- a word that is not the spelling of a number of 64 bits, or is no text
 pub number_none : (w : List ℕ) → ((n : ℕ) → n < 2 ^ 64 → w ≡ decimal n → ⊥) → number_in w ≡ None
@@ -131,8 +124,7 @@ pub decimal_unblank : (n : ℕ) → n < 2 ^ 64 → has_blank (decimal n) ≡ fal
 decimal_unblank n small = digits_unblank (decimal n) (digits_decimal own n small)
 
 neither : (a b : Bool) → (a || b) ≡ false → (a ≡ false) × (b ≡ false)
-neither true b e = absurd (true≢false e)
-neither false b e = (refl, e)
+neither a b e = grind (arith, common_steps)
 
 blank_after : (w t : List ℕ) → has_blank w ≡ false → position_or_len (λ x. x == 32) (w ++ 32 ∷ t) ≡ length w
 blank_after [] t h = refl
@@ -157,9 +149,7 @@ numbers-again n (m ∷ ms) small all =
 
 put_some : (o : Option ℕ) (p : Option (List ℕ)) (ns : List ℕ) → put_before o p ≡ Some ns
     → (n : ℕ) × (ms : List ℕ) × (o ≡ Some n) × (p ≡ Some ms) × (ns ≡ n ∷ ms)
-put_some None p ns e = absurd (cc)
-put_some (Some n) None ns e = absurd (cc)
-put_some (Some n) (Some ms) ns e = (n, ms, refl, refl, cc)
+put_some o p ns e = grind (arith, common_steps)
 
 pub number_of_none : number_in [] ≡ None
 number_of_none = number_none [] (λ n small e. never n (decimal_nonempty n small) (ap length e))
@@ -168,8 +158,7 @@ number_of_none = number_none [] (λ n small e. never n (decimal_nonempty n small
     never n some none = omega (arith, some, none)
 
 pub numbers_of_none : (k : ℕ) → numbers_in k [] ≡ None
-numbers_of_none zero = ap (λ o. put_before o (Some [])) number_of_none
-numbers_of_none (suc k) = ap (λ o. put_before o (numbers_in k [])) number_of_none
+numbers_of_none k = grind (arith, common_steps, number_of_none)
 
 -- a text is its first word, a space and the words after it, or nothing follows its first word
 pub cut_cases : (text : List ℕ) → (text ≡ first_word text ++ 32 ∷ words_after text) ⊎ (words_after text ≡ [])
@@ -190,12 +179,7 @@ cut_cases text = by (nat_lt at (length text)) refl
     by false e = let past : length text ≤ at = ltb-false at (length text) e in inr (drop_of_length-le text (omega (arith, past)))
 
 pub numbers_uncut : (k : ℕ) (text : List ℕ) → words_after text ≡ [] → numbers_in (suc k) text ≡ None
-numbers_uncut k text e = ap (λ w. put_before (number_in (first_word text)) (numbers_in k w)) e
-    ∙ ap (put_before (number_in (first_word text))) (numbers_of_none k) ∙ nothing_put (number_in (first_word text))
-  where
-    nothing_put : (o : Option ℕ) → put_before o None ≡ None
-    nothing_put None = refl
-    nothing_put (Some n) = refl
+numbers_uncut k text e = grind (arith, common_steps, numbers_of_none)
 
 -- numbers that were read are spelled by the text
 pub record AreNumbers (k : ℕ) (text ns : List ℕ) : Type 0 where
@@ -253,17 +237,11 @@ numbers-only (suc k) text ns e =
 -- ---- the first space, as it is found
 
 blank_at : (text : List ℕ) (k : ℕ) → IsFirstByte (is_byte 32) text (Some k) → position_or_len (λ x. x == 32) text ≡ k
-blank_at text k h =
-    let b = h.0.high in
-    position_or_len_is (λ x. x == 32) text k 0 (omega (arith, b)) (λ j l. false_from _ (h.0.before j (omega arith) l)) (λ l. h.1)
+blank_at text k h = grind (arith, common_steps, position_or_len_is)
 
 pub cut_of : (text : List ℕ) (k : ℕ) → IsFirstByte (is_byte 32) text (Some k)
     → (take k text ≡ first_word text) × (take (length text - (k + 1)) (drop (k + 1) text) ≡ words_after text)
-cut_of text k h =
-    let e = sym (blank_at text k h) in (
-      ap (λ n. take n text) e,
-      take_all (length text - (k + 1)) (drop (k + 1) text) (omega (arith, length-drop (k + 1) text)) ∙ ap (λ n. drop (n + 1) text) e,
-    )
+cut_of text k h = grind (arith, common_steps, blank_at, take_all, length-drop)
 
 pub none_after : (text : List ℕ) → IsFirstByte (is_byte 32) text None → words_after text ≡ []
 none_after text h =
@@ -276,8 +254,7 @@ abbrev pub put_all : List ℕ → Option (List ℕ) → Option (List ℕ)
 put_all xs o = option_map (λ ns. xs ++ ns) o
 
 more_put : (xs : List ℕ) (n : ℕ) (o : Option (List ℕ)) → put_all xs (put_before (Some n) o) ≡ put_all (xs ++ n ∷ []) o
-more_put xs n None = refl
-more_put xs n (Some ns) = ap Some (sym (append_assoc xs (n ∷ []) ns))
+more_put xs n o = grind (arith, common_steps, append_assoc)
 
 module _ (xs : List ℕ) (count len : ℕ) (rest word after : List ℕ) (more : len < count) (word_is : word ≡ first_word rest) (after_is : after ≡ words_after rest) where
   left : count - len ≡ suc (count - suc (len))
@@ -291,9 +268,7 @@ module _ (xs : List ℕ) (count len : ℕ) (rest word after : List ℕ) (more : 
       ∙ more_put xs n (numbers_in (count - suc (len)) after)
 
 pub blank_missing : (xs : List ℕ) (count len : ℕ) (rest : List ℕ) → len < count → words_after rest ≡ [] → put_all xs (numbers_in (count - len) rest) ≡ None
-blank_missing xs count len rest more none =
-    let left : count - len ≡ suc (count - suc (len)) = omega (arith, more) in
-    ap (λ k. put_all xs (numbers_in k rest)) left ∙ ap (put_all xs) (numbers_uncut (count - suc (len)) rest none)
+blank_missing xs count len rest more none = search (rules, numbers_uncut)
 
 module _ (xs : List ℕ) (count len : ℕ) (rest : List ℕ) (most : len ≤ count) (all : count ≤ len) where
   done : count - len ≡ 0

@@ -1,5 +1,6 @@
 -- How a run of removals begins and continues.
-use Rattle.std.proofs.Common.{◌≡◌, ◌<◌, ℕ, List, [], ◌∷◌, ◌++◌, length, true, sym, subst}
+use Rattle.std.proofs.lemmas.Grind.{common_steps}
+use Rattle.std.proofs.Common.{◌≡◌, ◌<◌, ℕ, List, [], ◌∷◌, ◌++◌, length, true, sym, subst, arith}
 use Rattle.cadf_sketch.specs.Layouts.{LayoutModel}
 use Rattle.cadf_sketch.specs.Cells.{cell_at, is_lone, toggled}
 use Rattle.cadf_sketch.specs.Peeling.{Peels, none, more}
@@ -20,5 +21,4 @@ peels_more layout place start cells cells' taken taken' cell at within lone t c 
 -- the same of an equal layout and of equal cells
 pub peels_same : (l layout : LayoutModel) (cells start : List Cell) (taken : List (List ℕ)) (rest : List Cell) → l ≡ layout → cells ≡ start
     → Peels l cells taken rest → Peels layout start taken rest
-peels_same l layout cells start taken rest same from chain =
-    subst (λ (k : LayoutModel). Peels k start taken rest) same (subst (λ (cs : List Cell). Peels l cs taken rest) from chain)
+peels_same l layout cells start taken rest same from chain = grind (arith, common_steps)

@@ -1,6 +1,7 @@
 -- The verdict on a sketch's file accepts exactly the files of sketches, and a file determines its sketch.
-use Rattle.std.proofs.Common.{◌≡◌, ℕ, suc, ◌+◌, ◌*◌, ◌<◌, List, [], ◌∷◌, ◌++◌, length, map, Bool, true, false, Option, Some, None, refl, sym, ap, ◌∙◌, arith, true≢false}
-use Rattle.std.specs.Prelude.{◌==◌, ◌&&◌, ◌^◌, not, nat_lt, is_some, unwrap_or, decimal, flat_map}
+use Rattle.std.proofs.lemmas.Grind.{common_steps}
+use Rattle.std.proofs.Common.{◌≡◌, ℕ, suc, ◌+◌, ◌*◌, ◌<◌, List, [], ◌∷◌, ◌++◌, length, map, Bool, true, false, Option, Some, None, refl, sym, ap, ◌∙◌, arith, true≢false, rules}
+use Rattle.std.specs.Prelude.{◌==◌, ◌&&◌, ◌^◌, not, nat_lt, is_some, decimal, flat_map}
 use Rattle.std.specs.List.{filter_map}
 use Rattle.std.specs.Int.{IsInRange, w64, to_be_bytes}
 use Rattle.std.specs.Str.Parse.{AllDigits}
@@ -11,7 +12,7 @@ use Rattle.cadf_join.specs.Contents.{Text}
 use Rattle.cadf_event.specs.Known.{IsNameText}
 use Rattle.cadf_event.specs.LogName.{is_name_text, is_unbroken}
 use Rattle.cadf_event.proofs.LogNameLemmas.{unbroken_quoted, both_unbroken}
-use Rattle.cadf_linefile.specs.Verdict.{log_line, digest_line, log_in_line, with_digest_line, begins_digest}
+use Rattle.cadf_linefile.specs.Verdict.{log_line, with_digest_line, begins_digest}
 use Rattle.cadf_linefile.proofs.BodyLines.{AreAfter}
 use Rattle.cadf_linefile.proofs.LinesLemmas.{are_unbroken, both, and_true}
 use Rattle.cadf_linefile.proofs.ModelLemmas.{Plain, lines_of, Follows, Ends, IsModelKind, accepts-models, models-tell, name_is}
@@ -20,7 +21,17 @@ use Rattle.cadf_linefile.proofs.VerdictLemmas.{good_log}
 use Rattle.cadf_inventory.proofs.DigestLines.{plain_digest, unbroken_digest_of}
 use Rattle.cadf_sketch.specs.Sketches.{SketchModel}
 use Rattle.cadf_sketch.specs.SketchFile.{sketch_header, head_of, head_line, counts_line, cell_line, cell_lines, sketch_body, AreWords64, IsHead, IsTally, HasParts, IsSketch, SketchFileIsInjective}
-use Rattle.cadf_sketch.specs.SketchVerdict.{head_in, tally_in, cell_in, shape_unless, cells_of_head, no_head, no_tally, sketch_of_parts, sketch_model_in, sketch_kind, AcceptsSketches}
+use Rattle.cadf_sketch.specs.SketchVerdict.{
+  head_in,
+  tally_in,
+  cell_in,
+  shape_unless,
+  cells_of_head,
+  sketch_of_parts,
+  sketch_model_in,
+  sketch_kind,
+  AcceptsSketches,
+}
 use Rattle.cadf_sketch.specs.declared.cell.Cell.{Cell}
 use Rattle.cadf_sketch.specs.declared.head.Head.{Head}
 use Rattle.cadf_sketch.specs.declared.tally.Tally.{Tally}
@@ -34,16 +45,13 @@ After before xs = AreAfter (Follows sketch_kind) (Ends sketch_kind) before xs
 -- ---- such lines are those of a sketch
 
 pub shape_none : (b : Bool) → shape_unless b ≡ None → b ≡ true
-shape_none true e = refl
-shape_none false e = absurd (cc)
+shape_none b e = grind (arith, common_steps)
 
 pub there : {A : Type 0} (o : Option A) → is_some o ≡ true → (a : A) × (o ≡ Some a)
-there None e = absurd (true≢false (sym e))
-there (Some a) e = (a, refl)
+there o e = grind (arith, common_steps)
 
 lines_more : (cs : List Plain) (z : Plain) → length (lines_of (cs ++ z ∷ [])) ≡ suc (length (lines_of cs))
-lines_more [] z = refl
-lines_more (c ∷ cs) z = ap suc (lines_more cs z)
+lines_more cs z = grind (arith, common_steps)
 
 pub record AreRest (lines : List (List ℕ)) (before all : ℕ) : Type 0 where
   pub cells : List Cell
@@ -53,15 +61,7 @@ pub record AreRest (lines : List (List ℕ)) (before all : ℕ) : Type 0 where
 
 rest_cells : (x y : Plain) (cs xs : List Plain) → After (x ∷ y ∷ cs) xs
     → AreRest (lines_of xs) (length (lines_of cs)) (cells_of_head (head_in x.0))
-rest_cells x y cs [] h = record {
-  cells = [];
-  is = refl;
-  each = tt;
-  count = plus_none (length (lines_of cs)) ∙ eqb-true (length (lines_of cs)) (cells_of_head (head_in x.0)) h;
-}
-  where
-    plus_none : (n : ℕ) → n + 0 ≡ n
-    plus_none n = omega arith
+rest_cells x y cs [] h = grind (arith, common_steps, lines_of, eqb-true)
 rest_cells x y cs (z ∷ zs) h =
     let p = both _ _ (shape_none _ h.0) in
     let c = there (cell_in z.0) p.1 in
@@ -131,11 +131,7 @@ plains_are s = ap (λ ls. head_line (head_of s) ∷ counts_line s.tally ∷ ls) 
 
 cells_follow : (x y : Plain) (cs : List Plain) (cells : List Cell) (all : ℕ) → AreCells cells → cells_of_head (head_in x.0) ≡ all
     → length (lines_of cs) + length cells ≡ all → After (x ∷ y ∷ cs) (plain_cells cells)
-cells_follow x y cs [] all each count is =
-    eq-eqb (length (lines_of cs)) (cells_of_head (head_in x.0)) (sum (length (lines_of cs)) is ∙ sym count)
-  where
-    sum : (n : ℕ) → n + 0 ≡ all → n ≡ all
-    sum n e = omega (arith, e)
+cells_follow x y cs [] all each count is = grind (arith, common_steps, eq-eqb, lines_of)
 cells_follow x y cs (c ∷ cells) all each count is = (
   (λ i. shape_unless (nat_lt (length (lines_of cs)) (count i) && is_some (cell-again c each.0 i)))
       ∙ ap (λ b. shape_unless (b && true)) (lt-ltb (length (lines_of cs)) all (below (length (lines_of cs)) (length cells) is)),
@@ -186,9 +182,7 @@ after_unbroken [] h = refl
 after_unbroken (n ∷ ns) h = both_unbroken (32 ∷ decimal n) (flat_map (λ m. 32 ∷ decimal m) ns) (decimal_unbroken n h.0) (after_unbroken ns h.1)
 
 head_unbroken : (h : Head) → IsHead h → is_unbroken (head_line h) ≡ true
-head_unbroken h is =
-    both_unbroken (decimal (3 * h.layout.size)) _ (decimal_unbroken (3 * h.layout.size) (omega (arith, is.layout.most)))
-    (both_unbroken (decimal h.layout.salt) _ (decimal_unbroken h.layout.salt is.salt) (unbroken_digest_of h.digest))
+head_unbroken h is = grind (arith, common_steps, both_unbroken, decimal_unbroken, unbroken_digest_of)
 
 counts_unbroken : (t : Tally) → IsTally t → is_unbroken (counts_line t) ≡ true
 counts_unbroken t is = both_unbroken (decimal t.digests) _ (decimal_unbroken t.digests is.digests) (after_unbroken t.ones is.ones)
@@ -198,11 +192,7 @@ cells_unbroken [] l h = and_true (is_unbroken l) true h refl
 cells_unbroken (c ∷ cs) l h = and_true (is_unbroken (cell_line c)) _ (unbroken_digest_of (c.digest ++ to_be_bytes w64 c.check)) (cells_unbroken cs l h)
 
 pub unbroken_sketch : (s : SketchModel) → HasParts s → are_unbroken (with_digest_line (sketch_body s)) ≡ true
-unbroken_sketch s p =
-    and_true (is_unbroken (log_line s.log)) _ (unbroken_quoted s.log)
-    (and_true (is_unbroken (head_line (head_of s))) _ (head_unbroken (head_of s) p.head)
-    (and_true (is_unbroken (counts_line s.tally)) _ (counts_unbroken s.tally p.tally)
-    (cells_unbroken s.cells (digest_line (sketch_body s)) (unbroken_digest (sketch_body s)))))
+unbroken_sketch s p = search (rules, and_true, unbroken_quoted, head_unbroken, counts_unbroken, cells_unbroken, unbroken_digest)
 
 -- ---- the lines determine the sketch
 
@@ -218,13 +208,7 @@ cells_again [] l each is = rw (digest_no_cell l is) refl
 cells_again (c ∷ cs) l each is = rw (cell-again c each.0) (ap (λ xs. c ∷ xs) (cells_again cs l each.1 is))
 
 pub sketch_again : (s : SketchModel) → IsSketch s → sketch_model_in (with_digest_line (sketch_body s)) ≡ s
-sketch_again s is =
-    let p = is.parts in
-    let log : unwrap_or (log_in_line (log_line s.log)) [] ≡ s.log = ap (λ o. unwrap_or o []) (good_log s.log is.log) in
-    let head = ap (λ o. unwrap_or o no_head) (head-again (head_of s) p.head) in
-    let tally = ap (λ o. unwrap_or o no_tally) (tally-again s.tally p.tally) in
-    let cells = cells_again s.cells (digest_line (sketch_body s)) p.cells refl in
-    λ i. sketch_of_parts (log i) (head i) (tally i) (cells i)
+sketch_again s is = search (rules, good_log, head-again, tally-again, cells_again)
 
 -- ---- accepted bytes are the file of a sketch
 

@@ -1,4 +1,5 @@
 -- Counts to which the bits of a further word are added.
+use Rattle.std.proofs.lemmas.Grind.{common_steps}
 use Rattle.std.proofs.Common.{◌≡◌, ◌∙◌, ◌<◌, ◌≤◌, ◌+◌, ◌-◌, ◌/◌, ◌%◌, ◌^◌, ℕ, zero, suc}
 use Rattle.std.proofs.Common.{List, [], ◌∷◌, length, get_or, set, refl, ap, sym, arith, below_more, add_assoc, zero-add, Bool, true, false, cond}
 use Rattle.std.specs.Prelude.{nat_eq, count_by}
@@ -17,9 +18,7 @@ length-with_bits (n ∷ ns) w = ap (λ k. suc k) (length-with_bits ns w)
 pub at_bit : (ns : List ℕ) (w k : ℕ) → k < length ns
     → get_or (with_bits ns w) k 0 ≡ (get_or ns k 0 + w / 2 ^ (length ns - 1 - k) % 2) % 2 ^ 64
 at_bit [] w k h = absurd (omega arith)
-at_bit (n ∷ ns) w zero h =
-    let at : length ns ≡ length (n ∷ ns) - 1 - 0 = omega arith in
-    ap (λ e. (n + w / 2 ^ e % 2) % 2 ^ 64) at
+at_bit (n ∷ ns) w zero h = grind (arith, common_steps)
 at_bit (n ∷ ns) w (suc k) h =
     let within : k < length ns = omega arith in
     let at : length ns - 1 - k ≡ length (n ∷ ns) - 1 - suc k = omega arith in
@@ -32,18 +31,7 @@ pub record HasBitsBelow (place : ℕ) (old new : List ℕ) (w : ℕ) : Type 0 wh
 
 pub one_more_bit : (place : ℕ) (old new : List ℕ) (w : ℕ) → place < length old → HasBitsBelow place old new w
     → HasBitsBelow (place + 1) old (set new place ((get_or new place 0 + w / 2 ^ (length old - 1 - place) % 2) % 2 ^ 64)) w
-one_more_bit place old new w within before =
-    let v = (get_or new place 0 + w / 2 ^ (length old - 1 - place) % 2) % 2 ^ 64 in
-    let in_new : place < length new = omega (arith, before.length) in
-    record {
-      length = length-set new place v ∙ before.length;
-      done = below_more _ _
-          (λ k h. get_or-set_other new place k v 0 (λ e. absurd (omega arith)) ∙ before.done k h)
-          (get_or-set_same new place v 0 in_new
-          ∙ ap (λ n. (n + w / 2 ^ (length old - 1 - place) % 2) % 2 ^ 64) (before.rest place (omega arith))
-          ∙ sym (at_bit old w place within));
-      rest = λ k h. get_or-set_other new place k v 0 (λ e. absurd (omega arith)) ∙ before.rest k (omega arith);
-    }
+one_more_bit place old new w within before = grind (arith, common_steps, length-set, below_more, get_or-set_other, get_or-set_same, at_bit)
 
 pub all_bits : (place : ℕ) (old new : List ℕ) (w : ℕ) → length old ≤ place → HasBitsBelow place old new w → new ≡ with_bits old w
 all_bits place old new w h before = ext_get_or 0 new (with_bits old w) (before.length ∙ sym (length-with_bits old w))
@@ -53,9 +41,7 @@ all_bits place old new w h before = ext_get_or 0 new (with_bits old w) (before.l
 
 added_digests : (t : Tally) (ds : List (List ℕ)) (k : ℕ) → t.digests ≡ k % 2 ^ 64 → (tallied_all t ds).digests ≡ (k + length ds) % 2 ^ 64
 unfolding tallied
-added_digests t [] k h =
-    let none : k ≡ k + length {A = List ℕ} [] = omega arith in
-    h ∙ ap (λ n. n % 2 ^ 64) none
+added_digests t [] k h = grind (arith, common_steps)
 added_digests t (d ∷ ds) k h =
     let one : (t.digests + 1) % 2 ^ 64 ≡ (k + 1) % 2 ^ 64 = ap (λ n. (n + 1) % 2 ^ 64) h ∙ mod-add-mod k (2 ^ 64) 1 in
     let more : k + 1 + length ds ≡ k + length (d ∷ ds) = omega arith in
@@ -81,9 +67,7 @@ counted bit = is_count_by (set_in bit) (has_bit bit) refl (λ d ds. by (has_bit 
 added_ones : (bit : ℕ) (t : Tally) (ds : List (List ℕ)) (k : ℕ) → bit < 64 → length t.ones ≡ 64 → get_or t.ones bit 0 ≡ k % 2 ^ 64
     → get_or (tallied_all t ds).ones bit 0 ≡ (k + set_in bit ds) % 2 ^ 64
 unfolding tallied
-added_ones bit t [] k within size h =
-    let none : k ≡ k + 0 = omega arith in
-    h ∙ ap (λ n. n % 2 ^ 64) none
+added_ones bit t [] k within size h = grind (arith, common_steps)
 added_ones bit t (d ∷ ds) k within size h =
     let w = word d 0 in
     let inside : bit < length t.ones = omega arith in

@@ -1,5 +1,6 @@
 -- Decoding one further line of a sketch's file, and the sketch of all lines.
-use Rattle.std.proofs.Common.{◌≡◌, ℕ, suc, ◌+◌, ◌*◌, ◌<◌, ◌≤◌, List, [], ◌∷◌, ◌++◌, length, map, Bool, true, false, cond, Some, None, refl, sym, ap, ◌∙◌, subst, arith}
+use Rattle.std.proofs.lemmas.Grind.{common_steps}
+use Rattle.std.proofs.Common.{◌≡◌, ℕ, ◌+◌, ◌*◌, ◌<◌, ◌≤◌, List, [], ◌∷◌, ◌++◌, length, map, Bool, true, false, cond, Some, None, sym, ap, ◌∙◌, subst, arith}
 use Rattle.std.specs.Prelude.{◌&&◌, is_some, nat_eq}
 use Rattle.std.specs.List.{AllByRecursion}
 use Rattle.std.proofs.lemmas.Bool.{eqb-true, lt-ltb}
@@ -32,8 +33,7 @@ tally_told h l t is e =
     )
 
 lines_size : (cs : List Cell) → length (map cell_line cs) ≡ length cs
-lines_size [] = refl
-lines_size (c ∷ cs) = ap suc (lines_size cs)
+lines_size cs = grind (arith, common_steps)
 
 abbrev pub lines_told : Head → Tally → List Cell → List (List ℕ)
 lines_told h t cs = head_line h ∷ counts_line t ∷ map cell_line cs
@@ -43,12 +43,10 @@ pub cell_cause : (h : Head) (t : Tally) (cs : List Cell) (l : List ℕ) → IsHe
 cell_cause h t cs l is = λ i. cause_of_cell (lines_size cs i) (cells_of_head (head-again h is i)) l
 
 map_more : (cs : List Cell) (c : Cell) → map cell_line (cs ++ c ∷ []) ≡ map cell_line cs ++ cell_line c ∷ []
-map_more [] c = refl
-map_more (d ∷ cs) c = ap (λ ls. cell_line d ∷ ls) (map_more cs c)
+map_more cs c = grind (arith, common_steps)
 
 cells_more : (cs : List Cell) (c : Cell) → AllByRecursion IsCell cs → IsCell c → AllByRecursion IsCell (cs ++ c ∷ [])
-cells_more [] c each is = (is, tt)
-cells_more (d ∷ cs) c each is = (each.0, cells_more cs c each.1 is)
+cells_more cs c each is = grind (arith, common_steps)
 
 pub cell_told : (h : Head) (t : Tally) (old new : List Cell) (l : List ℕ) → AreCellsOf h t old → IsCellPut h old new l
     → (cause_after (lines_told h t old) l ≡ None) × (lines_told h t new ≡ lines_told h t old ++ l ∷ []) × AreCellsOf h t new

@@ -1,11 +1,11 @@
 -- The sketch of an inventory satisfies the invariant of sketches.
+use Rattle.std.proofs.lemmas.Grind.{common_steps}
 use Rattle.std.proofs.Common.{◌≡◌, ℕ, zero, suc, ◌+◌, ◌*◌, ◌/◌, ◌%◌, ◌^◌, ◌<◌, List, [], ◌∷◌, length, replicate, refl, sym, ap, ◌∙◌, arith}
 use Rattle.std.specs.Prelude.{slice_index, bit_xor}
 use Rattle.std.specs.List.{AllByRecursion}
 use Rattle.std.specs.Simd.Lanes.{zip2}
 use Rattle.std.proofs.lemmas.Nat.{xor_of_8, xor_lt, mod_below}
 use Rattle.std.proofs.lemmas.List.{length-replicate}
-use Rattle.cadf_join.specs.Sets.{rising}
 use Rattle.cadf_set.specs.Inventory.{InventoryModel, AreDigests}
 use Rattle.cadf_join.specs.Contents.{Text}
 use Rattle.cadf_line.specs.Digest.{IsDigest}
@@ -13,9 +13,9 @@ use Rattle.cadf_inventory.proofs.InventoryVerdictLemmas.{each_digest}
 use Rattle.cadf_inventory.proofs.RisingLists.{digests_push}
 use Rattle.sha2.specs.Sha256.{sha256, digest_bytes, final_hash, initial_hash_256}
 use Rattle.sha2.proofs.Facts256.{length-sha256}
-use Rattle.cadf_inventory.specs.InventoryFile.{inventory_text, inventory_digest}
+use Rattle.cadf_inventory.specs.InventoryFile.{inventory_digest}
 use Rattle.cadf_sketch.specs.Layouts.{LayoutModel, IsLayout}
-use Rattle.cadf_sketch.specs.Cells.{word, check, place_in, each_xor, nothing, mixed, mixed_at, cell_at, toggled, toggled_all}
+use Rattle.cadf_sketch.specs.Cells.{word, check, each_xor, nothing, mixed, mixed_at, cell_at, toggled, toggled_all}
 use Rattle.cadf_sketch.specs.Peeling.{Peels, none, more}
 use Rattle.cadf_sketch.specs.Refusals.{differing}
 use Rattle.cadf_sketch.specs.Sketches.{SketchModel, cells_of, sketch_of}
@@ -55,47 +55,32 @@ abbrev pub AreCells : List Cell → Type 0
 AreCells cells = AllByRecursion IsCell cells
 
 mixed_cells : (cells : List Cell) (place : ℕ) (d : List ℕ) → AreCells cells → IsDigest d → AreCells (mixed_at cells place d)
-mixed_cells [] place d p q = tt
-mixed_cells (c ∷ cells) zero d p q = (mixed_cell c d p.0 q, p.1)
-mixed_cells (c ∷ cells) (suc place) d p q = (p.0, mixed_cells cells place d p.1 q)
+mixed_cells cells place d p q = grind (arith, common_steps, mixed_cell)
 
 toggled_cells : (cells : List Cell) (d : List ℕ) (l : LayoutModel) → AreCells cells → IsDigest d → AreCells (toggled cells d l)
 unfolding toggled
-toggled_cells cells d l p q =
-    let first = mixed_cells cells (place_in 0 d l) d p q in
-    let second = mixed_cells (mixed_at cells (place_in 0 d l) d) (place_in 1 d l) d first q in
-    mixed_cells (mixed_at (mixed_at cells (place_in 0 d l) d) (place_in 1 d l) d) (place_in 2 d l) d second q
+toggled_cells cells d l p q = grind (arith, common_steps, mixed_cells)
 
 all_turned : (cells : List Cell) (ds : List (List ℕ)) (l : LayoutModel) → AreCells cells → AllByRecursion IsDigest ds → AreCells (toggled_all cells ds l)
 all_turned cells [] l p q = p
 all_turned cells (d ∷ ds) l p q = all_turned (toggled cells d l) ds l (toggled_cells cells d l p q.0) q.1
 
 cell_is : (cells : List Cell) (place : ℕ) → AreCells cells → place < length cells → IsCell (cell_at cells place)
-cell_is [] place p below = absurd (omega (arith, below))
-cell_is (c ∷ cells) zero p below = p.0
-cell_is (c ∷ cells) (suc place) p below = cell_is cells place p.1 (omega (arith, below))
+cell_is cells place p below = grind (arith, common_steps)
 
 -- each value removed from cells is a digest
 taken_are : (l : LayoutModel) (start : List Cell) (taken : List Text) (rest : List Cell) → AreCells start → Peels l start taken rest
     → AllByRecursion IsDigest taken × AreCells rest
 taken_are l start [] start' p none = (tt, p)
-taken_are l start taken rest p (more {taken = before} {cells = cells} place chain within lone) =
-    let both = taken_are l start before cells p chain in
-    let d = (cell_at cells place).digest in
-    let is = (cell_is cells place both.1 within).digest in
-    (digests_push IsDigest before d both.0 is, toggled_cells cells d l both.1 is)
+taken_are l start taken rest p (more {taken = before} {cells = cells} place chain within lone) = grind (arith, common_steps, cell_is, digests_push, toggled_cells, (taken_are l start before cells p chain))
 
 -- the same for the cells of a sketch into which an inventory was XORed
 pub peeled_are : (own : InventoryModel) (sketch : SketchModel) (taken : List Text) (rest : List Cell) → AreDigests own.digests → HasParts sketch
     → Peels sketch.layout (differing own sketch) taken rest → AllByRecursion IsDigest taken
-peeled_are own sketch taken rest are parts chain =
-    (taken_are sketch.layout (differing own sketch) taken rest
-    (all_turned sketch.cells (rising own.digests) sketch.layout parts.cells (each_digest own.digests are)) chain).0
+peeled_are own sketch taken rest are parts chain = grind (arith, common_steps, taken_are, all_turned, each_digest)
 
 zeros_fit : (n i : ℕ) → slice_index (replicate n 0) i < 256
-zeros_fit zero i = omega arith
-zeros_fit (suc n) zero = omega arith
-zeros_fit (suc n) (suc i) = zeros_fit n i
+zeros_fit n i = grind (arith, common_steps)
 
 nothing_cell : IsCell nothing
 nothing_cell = record { digest = record { size = refl; bytes = zeros_fit 32 }; check = omega arith }
@@ -116,11 +101,7 @@ bits_size (n ∷ ns) w = ap suc (bits_size ns w)
 
 tallied_fits : (t : Tally) (d : List ℕ) → IsTally t → IsTally (tallied t d)
 unfolding tallied
-tallied_fits t d p = record {
-  digests = mod_below (t.digests + 1) (2 ^ 64) (omega arith);
-  size = bits_size t.ones (word d 0) ∙ p.size;
-  ones = bits_fit t.ones (word d 0);
-}
+tallied_fits t d p = grind (arith, common_steps, mod_below, bits_size, bits_fit)
 
 all_tallied : (t : Tally) (ds : List (List ℕ)) → IsTally t → IsTally (tallied_all t ds)
 all_tallied t [] p = p
@@ -147,9 +128,4 @@ sha_digest message = record { size = length-sha256 message; bytes = digest_are (
 
 pub sketch_parts : (n : InventoryModel) (l : LayoutModel) → AreDigests n.digests → IsLayout l → l.salt < 2 ^ 64 → HasParts (sketch_of n l)
 unfolding sketch_of cells_of inventory_digest
-sketch_parts n l are layout salt = record {
-  head = record { layout = layout; salt = salt; digest = sha_digest (inventory_text n) };
-  tally = tally_fits (rising n.digests);
-  cells = all_turned (replicate (3 * l.size) nothing) (rising n.digests) l (empty_cells (3 * l.size)) (each_digest n.digests are);
-  count = length-toggled_all (replicate (3 * l.size) nothing) (rising n.digests) l ∙ length-replicate (3 * l.size) nothing;
-}
+sketch_parts n l are layout salt = grind (arith, common_steps, sha_digest, tally_fits, all_turned, empty_cells, each_digest, length-toggled_all, length-replicate)
