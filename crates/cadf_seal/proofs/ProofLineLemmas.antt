@@ -1,39 +1,7 @@
 -- Each line of a proof's file decodes to what it encodes, and to nothing else; and the lines of a proof are a kind of file.
 use Rattle.std.proofs.lemmas.Grind.{common_steps}
-use Rattle.std.proofs.Common.{
-  ◌≡◌,
-  ◌⊎◌,
-  inl,
-  inr,
-  ℕ,
-  ◌-◌,
-  ◌<◌,
-  ◌^◌,
-  List,
-  [],
-  ◌∷◌,
-  ◌++◌,
-  length,
-  map,
-  drop,
-  Bool,
-  true,
-  false,
-  cond,
-  Option,
-  Some,
-  None,
-  refl,
-  sym,
-  ap,
-  ◌∙◌,
-  subst,
-  arith,
-  append_assoc,
-  append-nil,
-  true≢false,
-  rules,
-}
+use Rattle.std.proofs.Common.{◌≡◌, ◌⊎◌, inl, inr, ℕ, ◌-◌, ◌<◌, ◌^◌, List, [], ◌∷◌, ◌++◌, length, map, drop, Bool, true, false, cond, Option, Some}
+use Rattle.std.proofs.Common.{None, refl, sym, ap, ◌∙◌, subst, arith, append_assoc, append-nil, true≢false, rules}
 use Rattle.std.specs.Prelude.{◌&&◌, nat_eq, nat_lt, is_some, unwrap_or, codes, decimal, slice_get}
 use Rattle.std.specs.List.{starts_with, filter_map, last_or, AllByRecursion}
 use Rattle.std.specs.Ordering.{is_lt}
@@ -297,7 +265,8 @@ hashes_unbroken (h ∷ hs) l is = and_true (is_unbroken (hidden_line h)) _ (unbr
 leaves_unbroken : (n : ℕ) (ss : List Leaf) (hs : List Text) (l : List ℕ) → n < 2 ^ 64 → AllByRecursion (IsLeafOf n) ss → is_unbroken l ≡ true
     → are_unbroken (value_lines ss hs ++ l ∷ []) ≡ true
 leaves_unbroken n [] hs l small each is = hashes_unbroken hs l is
-leaves_unbroken n (s ∷ ss) hs l small each is = grind (arith, common_steps, and_true, both_unbroken, decimal_unbroken, small_place, unbroken_digest_of, (leaves_unbroken n ss hs l small each.1 is))
+leaves_unbroken n (s ∷ ss) hs l small each is =
+    grind (arith, common_steps, and_true, both_unbroken, decimal_unbroken, small_place, unbroken_digest_of, (leaves_unbroken n ss hs l small each.1 is))
 
 unbroken_proof : (p : ProofModel) → HasProofParts p → are_unbroken (with_digest_line (proof_body p)) ≡ true
 unbroken_proof p parts = search (rules, and_true, unbroken_quoted, decimal_unbroken, leaves_unbroken, unbroken_digest)

@@ -1,40 +1,7 @@
 -- The tree that is rebuilt from shown leaves and the hashes of hidden subtrees, and the tree over all leaves.
 use Rattle.std.proofs.lemmas.Grind.{common_steps}
-use Rattle.std.proofs.Common.{
-  ◌≡◌,
-  ◌∙◌,
-  ◌<◌,
-  ◌≤◌,
-  ◌+◌,
-  ◌-◌,
-  ◌^◌,
-  ◌++◌,
-  ℕ,
-  zero,
-  suc,
-  Bool,
-  true,
-  false,
-  cond,
-  List,
-  [],
-  ◌∷◌,
-  Some,
-  length,
-  take,
-  drop,
-  get_or,
-  refl,
-  ap,
-  sym,
-  subst,
-  arith,
-  length-drop,
-  append_assoc,
-  inl,
-  inr,
-  true≢false,
-}
+use Rattle.std.proofs.Common.{◌≡◌, ◌∙◌, ◌<◌, ◌≤◌, ◌+◌, ◌-◌, ◌^◌, ◌++◌, ℕ, zero, suc, Bool, true, false, cond, List, [], ◌∷◌, Some, length, take, drop}
+use Rattle.std.proofs.Common.{get_or, refl, ap, sym, subst, arith, length-drop, append_assoc, inl, inr, true≢false}
 use Rattle.std.specs.Prelude.{nat_le, nat_lt, if◌then◌else◌}
 use Rattle.std.specs.List.{filter, AllByRecursion}
 use Rattle.std.proofs.lemmas.Bool.{leb-true, leb-false, le-leb, ltb-true, ltb-false}
@@ -268,7 +235,8 @@ Shows h = (a n : ℕ) (ds : List Text) (ss : List Leaf) (hs rest : List Text) �
 shows_step : (h : ℕ) → Shows h → (a n : ℕ) (ds : List Text) (s : Leaf) (ss : List Leaf) (hs rest : List Text) → n ≡ length ds → n ≤ 2 ^ suc h
     → AllByRecursion (IsIn a n) (s ∷ ss) → PlacesRise (s ∷ ss) → AreHashes hs → TextsDoNotCollide (hashed (suc h) ds) (rehashed (suc h) a n (s ∷ ss) hs)
     → rebuilt (suc h) a n (s ∷ ss) hs ≡ Some (tree (suc h) ds, rest) → (b : Bool) → nat_le n (2 ^ h) ≡ b → AllByRecursion (IsAt a ds) (s ∷ ss)
-shows_step h shows a n ds s ss hs rest all room ins rises hashes apart e true small = grind (arith, common_steps, leb-true, hashed_at, rehashed_at, rebuilt_at, tree_within)
+shows_step h shows a n ds s ss hs rest all room ins rises hashes apart e true small =
+    grind (arith, common_steps, leb-true, hashed_at, rehashed_at, rebuilt_at, tree_within)
 shows_step h shows a n ds s ss hs rest all room ins rises hashes apart e false large =
     let beyond = leb-false _ _ large in
     let far : 2 ^ h < length ds = omega (arith, beyond, all) in

@@ -60,7 +60,8 @@ index_less (d ∷ ds) zero zero sorted low high less = absurd (not_less_itself d
 index_less (d ∷ ds) zero (suc k) sorted low high less = omega arith
 index_less (d ∷ ds) (suc i) zero sorted low high less =
     absurd (not_less_itself d (less_trans d (get_or ds i []) d (at_all (IsLess d) ds i (omega (arith, low)) (sorted_above d ds sorted)) less))
-index_less (d ∷ ds) (suc i) (suc k) sorted low high less = grind (arith, common_steps, sorted_rest, (index_less ds i k (sorted_rest d ds sorted) (omega (arith, low)) (omega (arith, high)) less))
+index_less (d ∷ ds) (suc i) (suc k) sorted low high less =
+    grind (arith, common_steps, sorted_rest, (index_less ds i k (sorted_rest d ds sorted) (omega (arith, low)) (omega (arith, high)) less))
 
 record IsIndex (f : Text) (ds : List Text) : Type 0 where
   k : ℕ

@@ -12,18 +12,8 @@ use Rattle.std.proofs.lemmas.List.{length-replicate}
 use mathlib.Core.Bool.{true≢false}
 use Rattle.cadf_join.specs.Sets as set
 use Rattle.cadf_join.specs.Sets.{Listed, rising, sorted_keys}
-use Rattle.cadf_join.specs.laws.Rising.{
-  sorted_once,
-  sorted_keys_are_sorted,
-  listed_sorted,
-  sorted_listed,
-  listed-rising,
-  rising-listed,
-  rising_is_sorted,
-  from_list-rising,
-  any_listed,
-  listed_any,
-}
+use Rattle.cadf_join.specs.laws.Rising.{sorted_once, sorted_keys_are_sorted, listed_sorted, sorted_listed, listed-rising, rising-listed}
+use Rattle.cadf_join.specs.laws.Rising.{rising_is_sorted, from_list-rising, any_listed, listed_any}
 use Rattle.cadf_join.specs.laws.Contents.{text_total, text_same}
 use Rattle.cadf_join.specs.laws.Sets.{or_cases, bool_cases}
 use Rattle.cadf_join.specs.Contents.{Text, text_cmp, IsWithin}

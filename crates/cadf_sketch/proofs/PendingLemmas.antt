@@ -28,4 +28,5 @@ before_last places place q other h = grind (arith, common_steps, list_any-append
 pub awaits_taken : (layout : LayoutModel) (cells : List Cell) (pending : List ℕ) (place : ℕ) → 0 < layout.size
     → is_lone (cell_at cells place) place layout ≡ true → Awaits layout cells (pending ++ place ∷ [])
     → Awaits layout (toggled cells (cell_at cells place).digest layout) (pending ++ three_places (cell_at cells place).digest layout)
-awaits_taken layout cells pending place some is awaits q h lone = grind (arith, common_steps, length-toggled, list_any-append, or_three, at_turned, or_true, before_last, and_right, eqb-true)
+awaits_taken layout cells pending place some is awaits q h lone =
+    grind (arith, common_steps, length-toggled, list_any-append, or_three, at_turned, or_true, before_last, and_right, eqb-true)

@@ -21,17 +21,8 @@ use Rattle.cadf_linefile.proofs.VerdictLemmas.{good_log}
 use Rattle.cadf_inventory.proofs.DigestLines.{plain_digest, unbroken_digest_of}
 use Rattle.cadf_sketch.specs.Sketches.{SketchModel}
 use Rattle.cadf_sketch.specs.SketchFile.{sketch_header, head_of, head_line, counts_line, cell_line, cell_lines, sketch_body, AreWords64, IsHead, IsTally, HasParts, IsSketch, SketchFileIsInjective}
-use Rattle.cadf_sketch.specs.SketchVerdict.{
-  head_in,
-  tally_in,
-  cell_in,
-  shape_unless,
-  cells_of_head,
-  sketch_of_parts,
-  sketch_model_in,
-  sketch_kind,
-  AcceptsSketches,
-}
+use Rattle.cadf_sketch.specs.SketchVerdict.{head_in, tally_in, cell_in, shape_unless, cells_of_head, sketch_of_parts, sketch_model_in, sketch_kind}
+use Rattle.cadf_sketch.specs.SketchVerdict.{AcceptsSketches}
 use Rattle.cadf_sketch.specs.declared.cell.Cell.{Cell}
 use Rattle.cadf_sketch.specs.declared.head.Head.{Head}
 use Rattle.cadf_sketch.specs.declared.tally.Tally.{Tally}

@@ -128,4 +128,5 @@ sha_digest message = record { size = length-sha256 message; bytes = digest_are (
 
 pub sketch_parts : (n : InventoryModel) (l : LayoutModel) → AreDigests n.digests → IsLayout l → l.salt < 2 ^ 64 → HasParts (sketch_of n l)
 unfolding sketch_of cells_of inventory_digest
-sketch_parts n l are layout salt = grind (arith, common_steps, sha_digest, tally_fits, all_turned, empty_cells, each_digest, length-toggled_all, length-replicate)
+sketch_parts n l are layout salt =
+    grind (arith, common_steps, sha_digest, tally_fits, all_turned, empty_cells, each_digest, length-toggled_all, length-replicate)
