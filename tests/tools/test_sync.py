@@ -149,6 +149,19 @@ def test_a_site_to_take_from_that_is_not_there(sites, words, name):
     assert os.listdir(sites.path) == ["there.cadf"]
 
 
+def synced_read_alone(folders, here, there):
+    """A call for both ways, where the folder `still` can't be written to: its status, its output, and what it said."""
+    words = [sys.executable, os.path.join(folders.tools, "cadf-sync"), here, there]
+    answer = ended("unshare", ["-rm", "sh", "-c", "mount --bind still still && mount -o remount,bind,ro still && exec \"$@\"", "-", *words],
+                   env=folders.environment(), cwd=folders.path)
+    if b"unshare:" in answer.error or b"mount:" in answer.error:
+        pytest.skip("no file system of one's own can be mounted")
+    return answer.status, answer.output, said(answer)
+
+
+READ_ALONE = "cadf-sync: %s: it can't be written to, so nothing was brought here; the other site got what it lacked%s: use --push if that is meant, "
+
+
 @pytest.mark.needs("unshare")
 @pytest.mark.parametrize("here", ["still/here.cadf", "still/"])
 def test_a_site_here_that_cannot_be_written_to(folders, here):
@@ -157,14 +170,22 @@ def test_a_site_here_that_cannot_be_written_to(folders, here):
         (folders.path / "still").mkdir()
     folders.put(here, facts(1, 2))
     folders.put("there.cadf", facts(2, 3))
-    words = [sys.executable, os.path.join(folders.tools, "cadf-sync"), here, "there.cadf"]
-    answer = ended("unshare", ["-rm", "sh", "-c", "mount --bind still still && mount -o remount,bind,ro still && exec \"$@\"", "-", *words],
-                   env=folders.environment(), cwd=folders.path)
-    if b"unshare:" in answer.error or b"mount:" in answer.error:
-        pytest.skip("no file system of one's own can be mounted")
-    assert answer.status == 1 and answer.output.startswith(b"took 0 facts here, 2 there; ")
-    assert said(answer).startswith("cadf-sync: %s: it can't be written to, so nothing was brought here; the other site got what it lacked: " % here)
+    status, output, line = synced_read_alone(folders, here, "there.cadf")
+    assert status == 1 and output.startswith(b"took 0 facts here, 2 there; ") and line.startswith(READ_ALONE % (here, ""))
     assert folders.holds(here) == facts(1, 2) and folders.holds("there.cadf") == facts(1, 2, 3)
+
+
+@pytest.mark.needs("unshare")
+def test_a_damaged_site_here_that_cannot_be_written_to(folders):
+    """What was left out isn't said to be there."""
+    old, window = facts(1, 29, 2, 3, 59), "2024-03-04"
+    folders.put("still/", old)
+    folders.put("there/", facts(1, 57, 2, 3, 31))
+    changed(next((folders.path / "still").glob(window + ".*")))
+    status, output, lines = synced_read_alone(folders, "still/", "there/")
+    assert status == 1 and b"; 1 were left out; " in output
+    assert ("\n" + READ_ALONE % ("still/", ", but for 1 windows that were left out")) in lines
+    assert folders.holds("there/") == facts(1, 57, 2, 3, 31) | (old - parts_of(old, "day")[window])
 
 
 def test_since_leaves_older_windows(sites):
