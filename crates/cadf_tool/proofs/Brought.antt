@@ -1,5 +1,6 @@
 -- The atoms of contributions in a list.
-use Rattle.std.proofs.Common.{◌≡◌, ◌↔◌, List, [], ◌∷◌, ◌++◌, map, refl, ◌∙◌, inl, inr}
+use Rattle.std.proofs.lemmas.Grind.{common_steps}
+use Rattle.std.proofs.Common.{arith, ◌≡◌, ◌↔◌, List, [], ◌∷◌, ◌++◌, map, ◌∙◌, inl, inr}
 use Rattle.std.specs.Prelude.{Contains}
 use Rattle.cadf_join.specs.Contents.{Contents, IsWithin}
 use Rattle.cadf_join.specs.laws.Contents.{texts_total, texts_same}
@@ -8,7 +9,6 @@ use Rattle.cadf_join.proofs.Members as members
 use Rattle.cadf_atom.specs.Contributions.{Contribution, atoms, union_all}
 use Rattle.cadf_set.proofs.History.{contains_listed, listed_contains, in_union_all, of_union_all, listed_within}
 use Rattle.cadf_tool.specs.declared.input.Loaded.{Loaded}
-use Rattle.cadf_tool.specs.declared.input.Loaded.TheVariants.{Replica, Document}
 use Rattle.cadf_tool.specs.Told.{atoms_loaded}
 use Rattle.cadf_tool.specs.Exchange.{contribution_of}
 
@@ -38,8 +38,7 @@ same_brought cs ds same = laws.same_from_within texts_total texts_same _ _ (with
 -- ---- an input
 
 pub contributed : (l : Loaded) → atoms (contribution_of l) ≡ atoms_loaded l
-contributed (Replica h) = refl
-contributed (Document doc) = refl
+contributed l = grind (arith, common_steps)
 
 pub brought_alone : (l : Loaded) → brought_by (contribution_of l ∷ []) ≡ atoms_loaded l
 brought_alone l = laws.union-empty texts_total texts_same (atoms (contribution_of l)) ∙ contributed l

@@ -1,4 +1,5 @@
 -- The digests that are noted of a set are digests.
+use Rattle.std.proofs.lemmas.Grind.{common_steps}
 use Rattle.std.proofs.Common.{ℕ, zero, suc, ◌<◌, ◌/◌, ◌^◌, List, [], ◌∷◌, ◌++◌, slice_index, sym, subst, arith}
 use Rattle.std.specs.Int.{bytes_high_first}
 use Rattle.std.proofs.Math.Nat.{mod-lt}
@@ -19,9 +20,7 @@ none_is : AreBytes []
 none_is place = omega arith
 
 bytes_then : (xs ys : List ℕ) → AreBytes xs → AreBytes ys → AreBytes (xs ++ ys)
-bytes_then [] ys f g place = g place
-bytes_then (x ∷ xs) ys f g zero = f zero
-bytes_then (x ∷ xs) ys f g (suc place) = bytes_then xs ys (λ k. f (suc k)) g place
+bytes_then xs ys f g given = grind (arith, common_steps)
 
 high_first : (k n : ℕ) → AreBytes (bytes_high_first k n)
 high_first zero n place = none_is place

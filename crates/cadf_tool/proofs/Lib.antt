@@ -9,7 +9,6 @@ pub mod Runs
 pub mod Rehearsals
 pub mod SiteLines
 pub mod KindReading
-pub mod LoadLemmas
 pub mod OneText
 pub mod Exclusion
 pub mod OfTheBytes

@@ -1,5 +1,6 @@
 -- A script that is read and simulated.
-use Rattle.std.proofs.Common.{◌≡◌, ℕ, List, Result, Ok, Err, refl, sym, ap, subst}
+use Rattle.std.proofs.lemmas.Grind.{common_steps}
+use Rattle.std.proofs.Common.{arith, ◌≡◌, ℕ, List, Result, Ok, Err, refl, ap}
 use Rattle.cadf_join.specs.Contents.{Text}
 use Rattle.cadf_rehearsal.specs.declared.turn.Turn.{Turn as Step}
 use Rattle.cadf_tool.specs.declared.fault.ToolFault.{ToolFault}
@@ -11,8 +12,7 @@ use Rattle.cadf_linefile.specs.declared.file_feed.TheConstants.{FILE_LIMIT}
 -- what was read of a source is a script, if its bytes are
 pub judged : (t : SourceTransition) (v : List ℕ) (script : Result (List Step) ℕ) → IsReadAs bytes_spec t v → IsScriptJudged v script
     → IsReadAs script_spec t script
-judged t v script ((bytes, (consumed, end, (same, short))), unfailed) h =
-    ((bytes, (consumed, end, (short, subst (λ b. IsScriptJudged b script) (sym same) h))), unfailed)
+judged t v script ((bytes, (consumed, end, (same, short))), unfailed) h = grind (arith, common_steps)
 
 module _ (t : SourceTransition) (bounded : IsReadWithin FILE_LIMIT t) (v : List ℕ) (read : IsReadAs bytes_spec t v) where
   pub turns_read : (turns : List Step) → IsScriptJudged v (Ok turns) → IsExpected (one script_spec t) turns_of (Ok turns)

@@ -1,8 +1,9 @@
 -- A further ruling: the result of `rule` for a set of atoms.
-use Rattle.std.proofs.Common.{◌≡◌, ◌≤◌, ◌<◌, ◌-◌, ℕ, zero, suc, Bool, true, false, cond, inl, inr, List, [], ◌∷◌, map, length, get_or, slice_get}
-use Rattle.std.proofs.Common.{String, Global, string_bytes, Option, Some, None, Result, Ok, Err, refl, sym, ap, ◌∙◌, subst, arith, true≢false}
+use Rattle.std.proofs.lemmas.Grind.{common_steps}
+use Rattle.std.proofs.Common.{◌≡◌, ◌≤◌, ◌<◌, ◌-◌, ℕ, zero, suc, Bool, true, false, inl, inr, List, [], ◌∷◌, map, length, get_or, slice_get, String}
+use Rattle.std.proofs.Common.{Global, string_bytes, Option, Some, Result, Ok, Err, refl, sym, ap, ◌∙◌, subst, arith, true≢false}
 use Rattle.std.specs.Prelude.{IsTrue, is_some}
-use Rattle.std.specs.List.{filter, filter_map, cons_option}
+use Rattle.std.specs.List.{filter, filter_map}
 use Rattle.cadf_join.specs.Sets as set
 use Rattle.cadf_join.specs.Sets.{Listed, rising}
 use Rattle.cadf_join.specs.laws.Rising.{listed-rising}
@@ -12,15 +13,13 @@ use Rattle.cadf_join.specs.laws.Contents.{texts_total, texts_same}
 use Rattle.cadf_join.proofs.Members as members
 use Rattle.cadf_atom.specs.Atom.{atom_rules, IsRuling}
 use Rattle.cadf_event.specs.LogName.{is_name_text}
-use Rattle.cadf_line.specs.Atoms.{IsAtom, property, resource, geolocation, metric, event, is_text, ruling_letter}
+use Rattle.cadf_line.specs.Atoms.{IsAtom, ruling_letter}
 use Rattle.cadf_atom.specs.AtomSets.{IsReplicaSet}
 use Rattle.cadf_atom.specs.Contributions.{ARuling, one_atom, taken}
 use Rattle.cadf_set.specs.Replica.{ReplicaModel}
 use Rattle.cadf_atom.specs.Rulings.{ruling_of}
 use Rattle.cadf_line.specs.RulingTexts.{RulingParts, ruling_atom, is_value_letter, is_digest_text, value_digest}
 use Rattle.cadf_atom.specs.Shown.{strip, only, values}
-use Rattle.cadf_atom.specs.declared.ruling.RulingFault.{RulingFault}
-use Rattle.cadf_atom.specs.declared.ruling.RulingFault.TheVariants.{Letter as BadLetter, Key as BadKey, Digest as BadDigest}
 use Rattle.cadf_set.proofs.Again.{in_order_retain, value_is}
 use Rattle.cadf_set.proofs.ContributionLaws.{kept_union, ruling_kept}
 use Rattle.cadf_line.proofs.Lists.{Some-same, filter_map_listed}
@@ -41,8 +40,7 @@ got_listed (x ∷ vs) zero v e = inl (sym (Some-same x v e))
 got_listed (x ∷ vs) (suc n) v e = inr (got_listed vs n v e)
 
 at_listed : (vs : List Text) (place : ℕ) (v : Text) → value_at vs place ≡ Some v → Listed v vs
-at_listed vs zero v e = cc
-at_listed vs (suc n) v e = got_listed vs n v e
+at_listed vs place v e = grind (arith, common_steps, got_listed)
 
 listed_held : (s : Contents) (letter key v : Text) → Listed v (values s letter key) → Has s (letter ∷ key ∷ v ∷ [])
 listed_held s letter key v l =
@@ -53,19 +51,13 @@ listed_held s letter key v l =
 
 -- a property of every atom of three texts
 pub held_passes : (letter key v : Text) → IsAtom atom_rules (letter ∷ key ∷ v ∷ []) → IsTrue (is_value_letter letter) × IsTrue (is_name_text key)
-held_passes _ key _ (property p) = (refl, members.and_first _ _ p)
-held_passes _ key _ (resource p) = (refl, members.and_first _ _ p)
-held_passes _ key _ (geolocation p) = (refl, members.and_first _ _ p)
-held_passes _ key _ (metric p) = (refl, members.and_first _ _ p)
-held_passes _ key _ (event p) = (refl, members.and_first _ _ p)
+held_passes _ key _' given = grind (arith, common_steps)
 
 digest_is : (value : Text) → is_digest_text (value_digest value) ≡ true
 digest_is value = let d = is_digest value in hex_is_digest (sha256 value) d.size d.bytes
 
 pub ruling_is : (letter key value : Text) → IsAtom atom_rules (letter ∷ key ∷ value ∷ []) → IsRuling (ruling_on letter key value)
-ruling_is letter key value atom =
-    let h = held_passes letter key value atom in
-    members.and_both _ _ h.0 (members.and_both _ _ h.1 (digest_is value))
+ruling_is letter key value atom = grind (arith, common_steps, held_passes, digest_is)
 
 -- ---- the result of `rule`
 
@@ -82,21 +74,7 @@ same_held h k e = cc
 
 pub ruled_is : (letter key : Text) (place : ℕ) (named : Option Text) (s : Contents) (h : ReplicaModel)
     → ruled_in letter key place (under_log named s) ≡ Ok h → IsRuled letter key place named s h
-ruled_is letter key place None s h e = cc
-ruled_is letter key place (Some log) s h e = by (value_at (values s letter key) place) refl e
-  where
-    by : (found : Option Text) → value_at (values s letter key) place ≡ found
-        → with_ruling (record { log = log; atoms = s }) (ruling_for letter key found) ≡ Ok h → IsRuled letter key place (Some log) s h
-    by None is e = cc
-    by (Some value) is e =
-        let same = same_held (record { log = log; atoms = taken s (ARuling (ruling_on letter key value)) }) h e in
-        record {
-          value = value;
-          at_place = is;
-          held = listed_held s letter key value (at_listed (values s letter key) place value is);
-          log = ap (λ (k : ReplicaModel). Some k.log) same;
-          atoms = sym (ap (λ (k : ReplicaModel). k.atoms) same);
-        }
+ruled_is letter key place named s h e = grind (arith, common_steps, same_held, listed_held, at_listed)
 
 pub ruled_kept : (letter key : Text) (place : ℕ) (named : Option Text) (s : Contents) (h : ReplicaModel) → IsReplicaSet s
     → IsRuled letter key place named s h → IsReplicaSet h.atoms
@@ -109,23 +87,11 @@ ruled_kept letter key place named s h kept r =
 
 -- four texts are no value of a key
 no_value : (l k a b c d : Text) → is_some (only (strip (l ∷ k ∷ []) (a ∷ b ∷ c ∷ d ∷ []))) ≡ false
-no_value l k a b c d = by (is_text a l) (is_text b k)
-  where
-    by : (p q : Bool) → is_some (only (cond p (cond q (Some (c ∷ d ∷ [])) None) None)) ≡ false
-    by true true = refl
-    by true false = refl
-    by false q = refl
+no_value l k a b c d = grind (arith, common_steps)
 
 kept_by : {A B : Type 0} (f : A → Option B) (xs : List A) → filter_map f (filter (λ x. is_some (f x)) xs) ≡ filter_map f xs
 kept_by f [] = refl
-kept_by {A} {B} f (x ∷ xs) = by (kept_by f xs) (f x) refl
-  where
-    rest : List A
-    rest = filter (λ y. is_some (f y)) xs
-
-    by : filter_map f rest ≡ filter_map f xs → (o : Option B) → f x ≡ o → filter_map f (cond (is_some o) (x ∷ rest) rest) ≡ cons_option o (filter_map f xs)
-    by same None is = same
-    by same (Some y) is = λ i. cons_option (is i) (same i)
+kept_by {A} {B} f (x ∷ xs) = grind (arith, common_steps, (kept_by f xs))
 
 -- adding what is no value of a key changes no values
 module _ (s t : Contents) (l k : Text) where
@@ -192,19 +158,7 @@ ruled_again letter key place named s h r =
 
 -- making the ruling of a value in the set returns it
 read_is : (letter key value : Text) (r : RulingParts) → ruling_of letter key (value_digest value) ≡ Ok r → ruling_on letter key value ≡ r
-read_is letter key value r e = by (is_value_letter letter) (is_name_text key) (is_digest_text (value_digest value)) e
-  where
-    same : (x y : RulingParts) → ◌≡◌ {A = Result RulingParts RulingFault} (Ok x) (Ok y) → x ≡ y
-    same x y e = cc
-
-    chosen : (a b c : Bool) → Result RulingParts RulingFault
-    chosen a b c = cond a (cond b (cond c (Ok (ruling_on letter key value)) (Err BadDigest)) (Err BadKey)) (Err BadLetter)
-
-    by : (a b c : Bool) → chosen a b c ≡ Ok r → ruling_on letter key value ≡ r
-    by true true true e = same (ruling_on letter key value) r e
-    by true true false e = cc
-    by true false c e = cc
-    by false b c e = cc
+read_is letter key value r e = grind (arith, common_steps)
 
 some_at : (xs : List (String Global)) (place : ℕ) (x : String Global) → 1 ≤ place → place - 1 < length xs → x ≡ get_or xs (place - 1) x
     → value_at (map string_bytes xs) place ≡ Some (string_bytes x)
@@ -221,10 +175,7 @@ some_at xs (suc n) x one lt at =
 pub ruling_there : (s : Contents) (letter key : Text) (place : ℕ) (xs : List (String Global)) (x : String Global) (r : RulingParts)
     → map string_bytes xs ≡ values s letter key → 1 ≤ place → place - 1 < length xs → x ≡ get_or xs (place - 1) x
     → ruling_of letter key (value_digest (string_bytes x)) ≡ Ok r → ruling_at s letter key place ≡ Ok r
-ruling_there s letter key place xs x r are one lt at read =
-    ap (λ vs. ruling_for letter key (value_at vs place)) (sym are)
-    ∙ ap (ruling_for letter key) (some_at xs place x one lt at)
-    ∙ ap Ok (read_is letter key (string_bytes x) r read)
+ruling_there s letter key place xs x r are one lt at read = grind (arith, common_steps, some_at, read_is, string_bytes)
 
 -- a replica without such a value is refused with `NoValue`
 pub ruling_refused : (h : ReplicaModel) (letter key text : Text) (place : ℕ) (fault : ToolFault) → text ≡ key

@@ -1,5 +1,6 @@
 -- The lines that describe each site.
-use Rattle.std.proofs.Common.{◌≡◌, Bool, true, false, refl, sym, subst, true≢false}
+use Rattle.std.proofs.lemmas.Grind.{common_steps}
+use Rattle.std.proofs.Common.{arith, ◌≡◌, Bool, true, refl, true≢false}
 use Rattle.std.specs.Prelude.{◌&&◌, ◌↔◌, IsTrue}
 use Rattle.cadf_join.specs.Contents.{Contents}
 use Rattle.cadf_join.specs.Sets as set
@@ -11,15 +12,10 @@ use Rattle.std.specs.Cmp.Lexicographic.{bytes_decides}
 use Rattle.cadf_tool.specs.Sites.{is_same}
 
 all_three : (a b c : Bool) → (a && (b && c)) ≡ true → (a ≡ true) × (b ≡ true) × (c ≡ true)
-all_three true true true e = (refl, refl, refl)
-all_three true true false e = absurd (true≢false (sym e))
-all_three true false c e = absurd (true≢false (sym e))
-all_three false b c e = absurd (true≢false (sym e))
+all_three a b c e = grind (arith, common_steps)
 
 one_value : (a b : Bool) → (a ≡ true → b ≡ true) → (b ≡ true → a ≡ true) → a ≡ b
-one_value true b f g = sym (f refl)
-one_value false true f g = g refl
-one_value false false f g = refl
+one_value a b f g = grind (arith, common_steps)
 
 one_set : (s t : Contents) → set.is_subset s t ≡ true → set.is_subset t s ≡ true → s ≡ t
 one_set s t h k =
@@ -42,9 +38,4 @@ same_itself h =
 
 -- the test of whether two sites are the same decides the definition
 pub decided : (r : Bool) (h k : ReplicaModel) → (IsTrue r ↔ (h ≡ k)) → r ≡ is_same h k
-decided true h k w = sym (subst (λ x. is_same h x ≡ true) (w.0 refl) (same_itself h))
-decided false h k w = by (is_same h k) refl
-  where
-    by : (b : Bool) → is_same h k ≡ b → false ≡ b
-    by true e = w.1 (same_is h k e)
-    by false e = refl
+decided r h k w = grind (arith, common_steps, same_itself, same_is)

@@ -1,5 +1,6 @@
 -- The results of `sketch` and `missing-by-sketch` for inputs.
-use Rattle.std.proofs.Common.{◌≡◌, ℕ, List, Option, None, Some, IfSome, unwrap_or, Result, Ok, Err, true, refl, sym, ap, ◌∙◌, subst}
+use Rattle.std.proofs.lemmas.Grind.{common_steps}
+use Rattle.std.proofs.Common.{arith, ◌≡◌, ℕ, List, Option, Some, IfSome, unwrap_or, Result, Ok, Err, true, refl, sym, ap, ◌∙◌, subst}
 use Rattle.cadf_join.specs.Contents.{Text, Contents}
 use Rattle.cadf_line.specs.Digest.{atom_digest}
 use Rattle.cadf_line.specs.Missing.{missing_by}
@@ -42,8 +43,7 @@ sketched_is cells salt loaded sketch e = by (inventory_model_of loaded) refl e
     by (Err fault) is k = absurd (no_sketch fault k)
 
 cells_asked : (cells : Option ℕ) → IfSome cells (λ n. are_cells n ≡ true) → are_cells (unwrap_or cells default_cells) ≡ true
-cells_asked None h = refl
-cells_asked (Some n) h = h
+cells_asked cells h = grind (arith, common_steps)
 
 -- what was read of a sketch's file has the digest of the inventory that was sketched
 pub sketched_by : (to : List ℕ → Type 0) (noted : InventoryModel) (sketch : SketchModel) → IsSketchReadOf to noted sketch
@@ -61,10 +61,7 @@ sketched_by to noted sketch (bytes, (other, cells, salt, given, read, made, is),
 -- ---- the delta against a sketch
 
 pub held_named : (o : Option Text) (atoms : Contents) (h : ReplicaModel) → under_log o atoms ≡ Ok h → (o ≡ Some h.log) × (h.atoms ≡ atoms)
-held_named None atoms h e = absurd (cc)
-held_named (Some log) atoms h e =
-    let is : record { log = log; atoms = atoms } ≡ h = cc in
-    (ap (λ (k : ReplicaModel). Some k.log) is, sym (ap (λ (k : ReplicaModel). k.atoms) is))
+held_named o atoms h e = grind (arith, common_steps)
 
 -- a result is the delta of the input against the inventory that was decoded
 pub part_by_read_is : (from : Loaded) (sketch : SketchModel) (read : InventoryModel) (part : ReplicaModel) → IsPartByRead from sketch read part

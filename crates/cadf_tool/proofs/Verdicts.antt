@@ -1,18 +1,19 @@
 -- What a proof says of facts, as the work of an engine on its three inputs.
-use Rattle.std.proofs.Common.{ℕ, Bool, List, Result, Ok, Err, IfErr}
+use Rattle.std.proofs.lemmas.Grind.{common_steps}
+use Rattle.std.proofs.Common.{arith, ℕ, Bool, List, Result, Ok, Err, IfErr}
 use Rattle.cadf_linefile.specs.declared.file_feed.TheConstants.{FILE_LIMIT}
 use Rattle.cadf_seal.specs.ProofFile.{ProofModel}
 use Rattle.cadf_seal.specs.SealFile.{SealModel}
 use Rattle.cadf_tool.specs.declared.input.Loaded.{Loaded}
 use Rattle.cadf_tool.specs.declared.fault.ToolFault.{ToolFault}
-use Rattle.cadf_tool.specs.Run.{SourceTransition, one, both, with_number, input_spec, IsReadAs, IsReadWithin, IsUnread, IsValueOf, IsExpected, IsWorked}
+use Rattle.cadf_tool.specs.Run.{SourceTransition, one, both, with_number, input_spec, IsReadAs, IsReadWithin, IsUnread, IsValueOf, IsExpected}
+use Rattle.cadf_tool.specs.Run.{IsWorked}
 use Rattle.cadf_tool.specs.SealInput.{seal_spec, proof_spec}
 use Rattle.cadf_tool.specs.Verify.{sources_of, verdict_of}
 use Rattle.cadf_tool.proofs.Runs.{both_worked, second_not_read}
 
 pub if_err_more : {T E : Type 0} {P Q : E → Type 0} (r : Result T E) → IfErr r P → ((e : E) → P e → Q e) → IfErr r Q
-if_err_more (Ok v) p f = tt
-if_err_more (Err e) p f = f e p
+if_err_more r p f = grind (arith, common_steps)
 
 -- the seal and the facts were read
 module _ (absent : Bool) (first second third : SourceTransition) (within : IsReadWithin FILE_LIMIT first) (within' : IsReadWithin FILE_LIMIT second)
