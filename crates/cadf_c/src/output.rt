@@ -29,7 +29,7 @@ pub(crate) fn refuse(fault: ArgumentFault, output: &mut [u8], length: &mut usize
     i32::from(fault.status())
 }
 
-/// Answers how long the text is that an engine wrote, or hands out its fault. The text of a fault has less than 128 bytes.
+/// Answers how long the text is that an engine wrote, or hands out its fault. The text of a fault has at most 128 bytes.
 #[tactic(auto, using(crate::proofs::Statuses::one_or_four))]
 pub(crate) fn answer(made: Result<usize, ToolFault>, output: &mut [u8], length: &mut usize) -> i32
     requires { IfErr made (λ fault. is_of_memory fault ≡ true) }
