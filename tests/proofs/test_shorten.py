@@ -1,8 +1,9 @@
 """.ci/shorten on a small crate, with a prover of its own: it puts a call where the prover finds a proof, and nowhere else.
 
-The prover finds `first` in all its cases at once, `second` by `search` alone, and `third` by `grind`, but not within
-half of its limits. The trials must find fault with a version that doesn't read why a probe fails, with one that takes
-nothing back, and with one that takes a value for a proof.
+The prover finds `first` in all its cases at once, `second` by `search` alone and with what it cites, `third` by `grind`,
+but not within half of its limits, `fourth` without what it names, and the answer `returns`, but within half of its limits
+with what it cites alone. The trials must find fault with a version that doesn't read why a probe fails, with one that
+takes nothing back, with one that takes a value for a proof, and with one that reads no answers.
 """
 import os
 import re
@@ -32,10 +33,30 @@ third n =
     sym (first n) ∙
     first n
 
+fourth : (n : ℕ) → n ≡ n
+fourth n = grind (arith, common_steps, first)
+
 one_more : ℕ → ℕ
 one_more n =
     let m = suc n in
     m
+"""
+ANSWERS = """use Rattle.std.proofs.Common.{sym}
+use Rattle.one.proofs.Low.{below}
+use Rattle.one.proofs.some.f.Goals as goal
+
+pub returns : goal.returns
+returns c =
+    let a = below c.n in
+    sym a
+"""
+ANSWERED = """use Rattle.std.proofs.lemmas.Grind.{common_steps}
+use Rattle.std.proofs.Common.{arith}
+use Rattle.one.proofs.Low.{below}
+use Rattle.one.proofs.some.f.Goals as goal
+
+pub returns : goal.returns
+returns c = grind (arith, common_steps, below)
 """
 SHORTENED = """-- Lemmas.
 use Rattle.std.proofs.Common.{rules}
@@ -56,6 +77,9 @@ third n =
     sym (first n) ∙
     first n
 
+fourth : (n : ℕ) → n ≡ n
+fourth n = grind (arith, common_steps)
+
 one_more : ℕ → ℕ
 one_more n =
     let m = suc n in
@@ -63,18 +87,21 @@ one_more n =
 """
 PROVER = """#!%s
 import re, sys
-with open("proofs/Some.antt", encoding="utf-8") as file:
-    lines = file.read().split("\\n")
+UNFIT = {"second": "grind|search rules", "third": "steps !", "returns": ""}
+SLOW = {"third": "=", "returns": "steps[)]$"}
 refused = False
-for number, line in enumerate(lines, 1):
-    name = line.split(" ")[0]
-    if " = {! " in line:
-        print("./proofs/Some.antt:%%d:9: goal ? in `%%s`\\n    n : \\u2115\\n  \\u22a2 n \\u2261 n" %% (number, name))
-        if name == "second" and "{! grind" in line:
-            print("  the term in the hole does not fit: `grind` found no proof")
-    elif name == "third" and " = grind" in line and "--margin" in sys.argv:
-        refused = True
-        print("./proofs/Some.antt:%%d:1: error: `third`: `grind` stopped at its own limit" %% number)
+for path in ("proofs/Some.antt", "proofs/some/f/Answers.antt"):
+    with open(path, encoding="utf-8") as file:
+        lines = file.read().split("\\n")
+    for number, line in enumerate(lines, 1):
+        name = line.split(" ")[0]
+        if " = {! " in line:
+            print("./%%s:%%d:9: goal ? in `%%s`\\n    n : \\u2115\\n  \\u22a2 n \\u2261 n" %% (path, number, name))
+            if UNFIT.get(name) and re.search(UNFIT[name], line):
+                print("  the term in the hole does not fit: it found no proof")
+        elif " = grind" in line and name in SLOW and re.search(SLOW[name], line) and "--margin" in sys.argv:
+            refused = True
+            print("./%%s:%%d:1: error: `%%s`: `grind` stopped at its own limit" %% (path, number, name))
 sys.exit(refused)
 """ % sys.executable
 
@@ -82,9 +109,11 @@ sys.exit(refused)
 @pytest.fixture
 def shortened(tmp_path, monkeypatch):
     """Calls .ci/shorten on the crate, and returns its lemmas."""
-    (tmp_path / "crates" / "one" / "proofs").mkdir(parents=True)
-    lemmas, prover, module = tmp_path / "crates" / "one" / "proofs" / "Some.antt", tmp_path / "rt", loaded(os.path.join(TOP, ".ci", "shorten"))
+    proofs, prover, module = tmp_path / "crates" / "one" / "proofs", tmp_path / "rt", loaded(os.path.join(TOP, ".ci", "shorten"))
+    lemmas, answers = proofs / "Some.antt", proofs / "some" / "f" / "Answers.antt"
+    answers.parent.mkdir(parents=True)
     lemmas.write_text(LEMMAS, encoding="utf-8")
+    answers.write_text(ANSWERS, encoding="utf-8")
     prover.write_text(PROVER, encoding="utf-8")
     prover.chmod(0o700)
     monkeypatch.setattr(module, "RT", str(prover))
@@ -95,17 +124,18 @@ def shortened(tmp_path, monkeypatch):
         for name, value in changed.items():
             monkeypatch.setattr(module, name, value)
         module.Crate("one").shorten()
-        return lemmas.read_text(encoding="utf-8")
+        return lemmas.read_text(encoding="utf-8"), answers.read_text(encoding="utf-8")
     return call
 
 
 def test_shorten(shortened):
-    assert shortened() == SHORTENED
+    assert shortened() == (SHORTENED, ANSWERED)
 
 
-@pytest.mark.parametrize("changed", [{"UNFIT": re.compile("nothing")}, {"REFUSED": re.compile("nothing")}, {"is_value": lambda signature: False}])
+@pytest.mark.parametrize("changed", [{"UNFIT": re.compile("nothing")}, {"REFUSED": re.compile("nothing")}, {"is_value": lambda signature: False},
+                                     {"PROBE": re.compile(r"^\./(proofs/\w+\.antt):(\d+):\d+: goal \? in `[^`]*`\n((?:(?: .*)?\n)*)", re.M)}])
 def test_a_wrong_version_is_found(shortened, changed):
-    assert shortened(**changed) != SHORTENED
+    assert shortened(**changed) != (SHORTENED, ANSWERED)
 
 
 def test_what_cannot_be_settled_stays(shortened, tmp_path):
