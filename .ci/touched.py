@@ -8,15 +8,20 @@ TOP = os.path.dirname(os.path.dirname(os.path.abspath(__file__)))
 
 def listed(*words):
     try:
-        done = subprocess.run(["git", *words], cwd=TOP, check=True, stdout=subprocess.PIPE)
-    except FileNotFoundError:
+        done = subprocess.run(["git", *words], cwd=TOP, check=False, stdout=subprocess.PIPE)
+    except (FileNotFoundError, PermissionError):
         sys.exit("git, which tells what differs, isn't there")
+    if done.returncode:
+        sys.exit("git, which tells what differs, ended with %d" % done.returncode)
     return set(filter(None, done.stdout.decode("utf-8", "surrogateescape").split("\0")))
 
 
 def files(commit):
-    """The files of the tree that differ from the commit, and those that are new."""
-    return listed("diff", "--name-only", "--no-renames", "-z", commit) | listed("ls-files", "-oz", "--exclude-standard")
+    """The files of the tree that differ from the commit, and those that are new.
+
+    These come first: without a history of this user's `git diff` compares two files.
+    """
+    return listed("ls-files", "-oz", "--exclude-standard") | listed("diff", "--name-only", "--no-renames", "-z", commit)
 
 
 def crates(names):

@@ -6,6 +6,8 @@
 """
 import os
 
+from build import record
+
 # What a crate costs in seconds at one job on a usual machine, by its lines of code: enough for an order and an estimate.
 FIRST_SECONDS, LINES_A_SECOND = 10, 7
 # What a target costs besides, whose code is made: the code of all crates.
@@ -35,13 +37,13 @@ def crates_of(top):
     return {name: [other for other in uses if other in found] for name, uses in found.items()}
 
 
-def code_lines(folder):
-    """Counts the lines of code below the folder."""
-    paths = [os.path.join(at, name) for at, _, names in os.walk(folder) for name in names if name.endswith(".rt")]
+def code_lines(top, name):
+    """Counts the lines of code of the crate."""
     count = 0
-    for path in paths:
-        with open(path, "rb") as file:
-            count += file.read().count(b"\n")
+    for path in record.sources(top, name):
+        if path.endswith(".rt"):
+            with open(path, "rb") as file:
+                count += file.read().count(b"\n")
     return count
 
 
@@ -51,7 +53,7 @@ class Plan:
     def __init__(self, top, *targets, code=CODE_SECONDS):
         self.uses = crates_of(top)
         self.names = set(targets).union(*map(self.below, targets))
-        self.costs = {name: FIRST_SECONDS + code_lines(os.path.join(top, "crates", name, "src")) / LINES_A_SECOND
+        self.costs = {name: FIRST_SECONDS + code_lines(top, name) / LINES_A_SECOND
                       for name in self.names}
         for target in targets:
             self.costs[target] += code

@@ -6,6 +6,7 @@
 Each proof is a call of the kit's compiler, in a process group of its own. However a build ends, nothing of it runs on.
 A crate that was proved is kept (build/kept.py); the output of a proof is in crates/NAME/out/build.log.
 """
+import argparse
 import fcntl
 import os
 import shutil
@@ -79,6 +80,13 @@ def prioritize(group, is_urgent):
         os.setpriority(os.PRIO_PGRP, group, os.nice(0) if is_urgent else LATER)
     except OSError:
         pass
+
+
+def lanes(word):
+    """How many processors a word of a command line asks for."""
+    if int(word) < 1:
+        raise argparse.ArgumentTypeError("1 or more processors are needed")
+    return int(word)
 
 
 def minutes(seconds):

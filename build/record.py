@@ -31,6 +31,10 @@ def answer(words, top):
         ran = subprocess.run(words, cwd=top, stdin=subprocess.DEVNULL, stdout=subprocess.PIPE, stderr=subprocess.DEVNULL, check=False)
     except FileNotFoundError:
         return ""
+    except PermissionError:
+        if os.path.isabs(words[0]):
+            raise
+        return ""  # it isn't there, and PATH has a folder that this user may not search
     return ran.stdout.decode("utf-8", "replace").rstrip("\n") if ran.returncode == 0 else ""
 
 
@@ -61,11 +65,11 @@ def digest_of_file(name):
 
 
 def sources(top, name):
-    """Yields the files that the crate is proved and built from, in order."""
+    """Yields the files that the crate is proved and built from, in order: none is the link that an editor puts beside a file."""
     for part in ("src", "specs", "proofs"):
         for at, folders, files in os.walk(os.path.join(top, "crates", name, part)):
             folders.sort()
-            yield from (os.path.join(at, file) for file in sorted(files))
+            yield from filter(os.path.isfile, (os.path.join(at, file) for file in sorted(files)))
 
 
 def digest_of_sources(top, names):
@@ -73,7 +77,7 @@ def digest_of_sources(top, names):
     whole = hashlib.sha256()
     for name in sorted(names):
         for file in sources(top, name):
-            whole.update(("%s %s\n" % (os.path.relpath(file, top), digest_of_file(file))).encode())
+            whole.update(os.fsencode("%s %s\n" % (os.path.relpath(file, top), digest_of_file(file))))
     with open(os.path.join(top, "crates.txt"), encoding="utf-8") as file:
         whole.update("".join(line for line in file if line.split(":")[0].split()[:1] in [[name] for name in names]).encode())
     return whole.hexdigest()

@@ -29,10 +29,26 @@ class File(NamedTuple):
 
 
 def file_of(top, name, place, mode=None):
-    """The file of the tree, for that place, with the permissions of its kind unless others are given."""
-    path = os.path.join(top, name)
-    with open(path, "rb") as file:
-        return File(place, mode or (0o755 if os.access(path, os.X_OK) else 0o644), file.read())
+    """The file of the tree, for that place, with the permissions of its kind unless others are given: file systems tell their own."""
+    with open(os.path.join(top, name), "rb") as file:
+        content = file.read()
+    return File(place, mode or (0o755 if content.startswith(b"#!") else 0o644), content)
+
+
+def write(path, data, mode):
+    """Makes the file with these permissions, whatever those of this call are. The fault of a full disk names it too."""
+    try:
+        with open(path, "xb") as new:
+            new.write(data)
+        os.chmod(path, mode)
+    except OSError as fault:
+        fault.filename = path
+        raise
+
+
+def told(fault):
+    """The line of an OSError: of two names the one that was to be made."""
+    return ": ".join(filter(None, (fault.filename2 or fault.filename, fault.strerror)))
 
 
 def names_below(top, folder):
@@ -60,7 +76,7 @@ def files(top):
         yield file_of(top, name, name)
     yield File("share/cadf/version", 0o644, version(top))
     yield File(DOC + "/sbom.spdx.json", 0o644, sbom.text(top))
-    units = names_below(top, UNITS)
+    units = [name for name in names_below(top, UNITS) if os.path.splitext(name)[1] in OF_SYSTEMD]
     for name in units:
         name_alone, kind = os.path.splitext(os.path.basename(name))
         yield file_of(top, name, OF_SYSTEMD[kind] % name_alone)

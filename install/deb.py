@@ -4,7 +4,7 @@ import os
 import subprocess
 import tempfile
 
-from install.contents import File
+from install.contents import File, write
 
 
 def put_all(folder, files):
@@ -12,9 +12,7 @@ def put_all(folder, files):
     for file in files:
         path = os.path.join(folder, file.place)
         os.makedirs(os.path.dirname(path), exist_ok=True)
-        with open(path, "wb") as new:
-            new.write(file.content)
-        os.chmod(path, file.mode)
+        write(path, file.content, file.mode)
     for at, _, _ in os.walk(folder):
         os.chmod(at, 0o755)
 

@@ -75,8 +75,8 @@ def files(top):
     shared = "libcadf.so." + number
     with tempfile.TemporaryDirectory() as folder:
         link(top, folder)
-        yield contents.file_of(folder, "libcadf.a", "lib/libcadf.a", 0o644)
-        yield contents.file_of(folder, SONAME, "lib/" + shared, 0o644)
+        yield contents.file_of(folder, "libcadf.a", "lib/libcadf.a")
+        yield contents.file_of(folder, SONAME, "lib/" + shared)
     yield Link("lib/" + SONAME, shared)
     yield Link("lib/libcadf.so", SONAME)
     yield contents.file_of(top, BINDINGS + "/cadf.h", "include/cadf.h")

@@ -203,18 +203,45 @@ def test_changed_uses(built):
     assert (built.build()[0], sorted(built.begun())) == (0, ["cadf", "left"])
 
 
+def test_no_source(built):
+    """An editor's link of a file that is open in it, which leads nowhere, is no source; a name that is no text is one."""
+    os.symlink("a@host.1:2", built.path("crates/left/src/.#lib.rt"))
+    assert built.build("--is-built") == (0, "") and (built.build()[0], built.begun()) == (0, [])
+    built.add(os.fsdecode(b"crates/left/src/caf\xe9"))
+    assert (built.build()[0], sorted(built.begun())) == (0, ["cadf", "left"])
+
+
 def test_other_kit(built):
     """Another kit proves everything again."""
     assert (built.build(VERSION="another")[0], sorted(built.begun())) == (0, sorted(CRATES))
 
 
 def test_no_kit(tree):
-    """Without the kit it says so in one line, and so does the first look."""
+    """Without the kit it says so in one line, and so does the first look, also where something of its name can't be run."""
     tree.path("bin").mkdir()
     tree.path("bin/python3").symlink_to(sys.executable)
-    assert tree.build(PATH=str(tree.path("bin"))) == (1, "`rt version` answers nothing: the kit isn't on PATH\n")
-    done = ended(tree.path("build/try"), ["show"], env={"PATH": str(tree.path("bin"))})
-    assert (done.status, done.error) == (1, b"try: the kit isn't on PATH: rt: No such file or directory\n")
+    for why in (b"No such file or directory", b"Permission denied"):
+        assert tree.build(PATH=str(tree.path("bin"))) == (1, "`rt version` answers nothing: the kit isn't on PATH\n")
+        done = ended(tree.path("build/try"), ["show"], env={"PATH": str(tree.path("bin"))})
+        assert (done.status, done.error) == (1, b"try: the kit isn't on PATH: rt: %s\n" % why)
+        tree.path("bin/rt").write_text("")
+
+
+def test_folder_of_others(tree):
+    """Where it may not write it names the file, in one line."""
+    lock = tree.path(".git/cadf-build.lock")
+    lock.mkdir()
+    for program, name in (("build/command", "build"), ("build/library", "library")):
+        tree.add("crates.txt", "cadf_c staticlib: left\n" * (name == "library"))
+        assert tree.run(program) == (1, "%s: [Errno 21] Is a directory: '%s'\n" % (name, lock))
+    assert tree.run("build/hand-over") == (1, "hand-over: [Errno 2] No such file or directory: '%s'\n" % tree.path("kit/bin/rtlib.py"))
+
+
+@pytest.mark.parametrize("program, words, name", [
+    ("build/command", ["0"], "LANES"), ("build/library", ["--jobs", "0"], "--jobs"), ("build/library", ["--jobs", "-1"], "--jobs")])
+def test_no_processor(tree, program, words, name):
+    status, said = tree.run(program, *words)
+    assert (status, said.splitlines()[-1].strip()) == (2, "%s: error: argument %s: 1 or more processors are needed" % (os.path.basename(program), name))
 
 
 def test_changed_below(built):

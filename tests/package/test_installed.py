@@ -9,7 +9,7 @@ import shutil
 
 import pytest
 
-from tests import TOP, text_of
+from tests import TOP, text_of, tracked
 from tests.command.commands import COMMANDS
 from tests.command.vectors import read
 from tests.machine import ended, said
@@ -217,7 +217,8 @@ def test_install_ended(cadf, tmp_path):
     """What an install that ends before it is done has made is removed like the rest, folders too."""
     in_the_way = tmp_path / "share" / "man" / "man1" / "cadf.1"
     in_the_way.mkdir(parents=True)
-    assert ended(INSTALL, ["--any", tmp_path]).status == 1
+    done = ended(INSTALL, ["--any", tmp_path])
+    assert (done.status, done.error.decode()) == (1, "install: %s: Is a directory\n" % in_the_way)
     in_the_way.rmdir()
     count = sum(path.is_file() for path in tmp_path.rglob("*"))
     assert install("--uninstall", tmp_path) == "removed %d files under %s\n" % (count, tmp_path)
@@ -249,9 +250,51 @@ def test_two_at_once(cadf, tmp_path, word):
     fcntl.flock(folder, fcntl.LOCK_EX)
     done = ended(INSTALL, [word, tmp_path])
     os.close(folder)
-    assert (done.status, done.error.decode()) == (1, "install: another run is at work under %s: try again once it has ended\n" % tmp_path)
+    assert (done.status, done.error.decode()) == (1, "install: another run is at work under %s: try again once it has ended; lslocks names it\n" % tmp_path)
     assert sorted((path, path.stat().st_ino) for path in tmp_path.rglob("*")) == before
     install(word, tmp_path)
+
+
+def test_no_history(cadf, tmp_path):
+    """A tree without history is installed too; what an editor left beside a unit isn't put where systemd looks."""
+    tree = tmp_path / "tree"
+    for name in tracked():
+        (tree / name).parent.mkdir(parents=True, exist_ok=True)
+        shutil.copy2(os.path.join(TOP, name), tree / name)
+    for name in ("crates/cadf/out/cadf", "examples/systemd/cadf-spool@.service~"):
+        (tree / name).parent.mkdir(parents=True, exist_ok=True)
+        shutil.copy2(cadf, tree / name)
+    status, told = said(tree / "install" / "install", "--any", tmp_path / "prefix")
+    assert status == 0, told
+    assert [path for path in (tmp_path / "prefix/lib").rglob("*~*")] == [] and (tmp_path / "prefix/lib/systemd/system/cadf-spool@.service").exists()
+
+
+@pytest.mark.parametrize("word", ["--any", "--uninstall"])
+def test_bytes_of_names(cadf, tmp_path, word):
+    """A prefix, or a place in the list, that is no text is told, and made or removed, by its bytes."""
+    folder, strict = tmp_path / os.fsdecode(b"caf\xe9"), {**os.environ, "PYTHONIOENCODING": "utf-8:strict"}
+    install("--any", folder)
+    for name in ("bin/cadf-old", os.fsdecode(b"share/cadf/\xe9")):
+        (folder / name).write_text("x")
+        with open(folder / "share/doc/cadf/installed", "ab") as file:
+            file.write(os.fsencode(name + "\n"))
+    done = ended(INSTALL, [word, folder], env=strict)
+    assert (done.status, done.error) == (0, b"") and os.fsencode(" under %s\n" % folder) in done.output
+    assert [path for path in folder.rglob("*") if path.name in ("cadf-old", os.fsdecode(b"\xe9"))] == []
+
+
+def test_nobody_reads(cadf, tmp_path):
+    """Without a standard output it does the same."""
+    done = ended(INSTALL, ["--any", tmp_path], preexec_fn=lambda: os.close(1))
+    assert (done.status, done.error) == (0, b"") and (tmp_path / "bin" / "cadf").exists()
+
+
+@pytest.mark.needs("prlimit")
+def test_full(cadf, tmp_path):
+    """Where a file can't be written whole, it is named."""
+    done = ended("prlimit", ["--fsize=%d" % 2 ** 16, INSTALL, "--any", tmp_path])
+    place = os.path.join(tmp_path, "bin", "cadf.new")
+    assert (done.status, done.error.decode()) == (1, "install: %s: File too large\n" % place)
 
 
 def test_no_prefix(tmp_path):

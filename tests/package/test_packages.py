@@ -157,7 +157,12 @@ def first(cadf, tmp_path_factory):
 
 @pytest.fixture(scope="module")
 def second(first, cadf):
-    return clone(first, "the second, elsewhere", cadf)
+    """Another copy, on a file system where each file may be run."""
+    tree = clone(first, "the second, elsewhere", cadf)
+    git(tree.folder, "config", "core.fileMode", "false")
+    for name in git(tree.folder, "ls-files").splitlines():
+        os.chmod(os.path.join(tree.folder, name), 0o755)
+    return tree
 
 
 @pytest.fixture(scope="module")

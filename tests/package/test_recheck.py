@@ -60,3 +60,18 @@ def test_refused(tree):
     status, said, _ = tree.recheck(FAILS="left")
     assert status == 1 and "left failed: see crates/left/out/build.log" in said
     assert tree.recheck("absent")[0] == 2
+    status, said, _ = tree.recheck("--lanes", "0")
+    assert status == 2 and said.endswith("error: argument --lanes: 1 or more processors are needed\n")
+    tree.path(".git/cadf-build.lock").unlink()
+    tree.path(".git/cadf-build.lock").mkdir()
+    assert tree.recheck()[:2] == (1, "recheck: [Errno 21] Is a directory: '%s'\n" % tree.path(".git/cadf-build.lock"))
+
+
+def test_git_refuses(tree):
+    """What git says stands above a line that says what its answer is for."""
+    why = "\ngit, which tells what differs, ended with 128\n"
+    status, said, _ = tree.recheck("--since", "absent")
+    assert status == 1 and "'absent'" in said and said.endswith(why)
+    tree.path(".git").rename(tree.path("history"))
+    status, said, _ = tree.recheck()
+    assert status == 1 and said.startswith("fatal: not a git repository ") and said.endswith(why)

@@ -122,6 +122,15 @@ def test_folders(tmp_path):
         assert makes_folders(top, [each for each in names if each != name]) != 0, name
 
 
+def test_configured(tmp_path):
+    """A package is configured also where systemd-tmpfiles refuses a folder, as it does what a sender put in the place of one that was gone."""
+    for name, status in (("systemd-sysusers", 0), ("systemd-tmpfiles", 73), ("systemctl", 0), ("deb-systemd-invoke", 0)):
+        (tmp_path / name).write_text("#!/bin/sh\necho %s $*\nexit %d\n" % (name, status))
+        (tmp_path / name).chmod(0o755)
+    status, told = said("/bin/sh", os.path.join(TOP, "install", "debian", "cadf.postinst"), "configure", env={"PATH": str(tmp_path)})
+    assert (status, told.splitlines()[:2]) == (0, ["systemd-sysusers cadf.conf", "systemd-tmpfiles --create cadf.conf"])
+
+
 def runs_line(name, places, cadf):
     """Runs the line ExecStart of a unit, over places of the test's own."""
     program, *words = shlex.split(settings(name)["Service"]["ExecStart"])
