@@ -104,14 +104,14 @@ class Store:
             content = content[os.write(file, content):]
         return self.item(part, kind)
 
-    def copied(self, part, kind, source):
-        """Writes an item of a file's bytes."""
-        file, size = self.begin(), os.fstat(source.fileno()).st_size
-        check_room(self.file, size)
-        for block in Item(part, kind, source, 0, size).blocks():
+    def copied(self, item):
+        """Writes an item of the bytes of another."""
+        file = self.begin()
+        check_room(self.file, item.length)
+        for block in item.blocks():
             while block:
                 block = block[os.write(file, block):]
-        return self.item(part, kind)
+        return self.item(item.part, item.kind)
 
 
 def most_of_item(limit):

@@ -6,7 +6,7 @@ import json
 import re
 
 PIECE = 1 << 20
-UNREADABLE = (ValueError, IndexError)  # made once: a tuple that is made while memory is out can make CPython loop
+UNREADABLE = (ValueError, IndexError, RecursionError)  # made once: a tuple that is made while memory is out can make CPython loop
 YEARS, DAYS = 400, 146097  # after so many years, of so many days, the calendar begins anew
 TIME = re.compile(r"(\d{4})-(\d\d)-(\d\d)(?:[T ]([01]\d|2[0-3]):([0-5]\d)(?::([0-5]\d)(?:\.(\d{1,9}))?)?(Z|[+-](?:0\d|1[0-3]):[0-5]\d|[+-]14:00)?)?", re.ASCII)
 

@@ -2,8 +2,10 @@
 
 A run that succeeds replaces the file whole. One that fails leaves it, so the time of the last success grows old.
 """
+import contextlib
 import os
 import re
+import stat
 import subprocess
 import sys
 import tempfile
@@ -23,6 +25,7 @@ HELP = {
     "largest_window_bytes": "Bytes of the site's largest window.",
     "last_success_timestamp_seconds": "When the last run that succeeded ended.",
 }
+BEGINNING = b"# HELP cadf_"
 COUNTED = re.compile(r"open (\d+), settled \d+$")  # what cadf-conflicts says at its end
 
 
@@ -40,12 +43,23 @@ def text_of(labels, values):
     return "".join(map("".join, lines.items()))
 
 
+def check_replaced(path):
+    """Raises that what is to be replaced is no file of numbers: it may be a site, or a device."""
+    with contextlib.suppress(FileNotFoundError):
+        if stat.S_ISREG(os.lstat(path).st_mode):
+            with open(path, "rb") as file:
+                if file.read(len(BEGINNING)) in (b"", BEGINNING):
+                    return
+        raise Fault("%s: it has no numbers of a run, so it is not replaced: name another file by --metrics" % name_shown(path))
+
+
 def write(path, labels, values):
     """Replaces the file, which all may read, by values with these labels, to which the tool's name is added.
 
     FILE.new is written and renamed. What a run that was killed left there goes first.
     """
     working = path + ".new"
+    check_replaced(path)
     with naming(path), new_file(working, []) as file:
         with open(file, "w", encoding="utf-8", closefd=False) as output:
             output.write(text_of({"tool": tool(), **labels}, values))

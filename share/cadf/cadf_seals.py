@@ -18,7 +18,7 @@ import tempfile
 
 from cadf_link import Store
 from cadf_site import LARGEST, PART, SHARED, UNITS, Folder, check_window, made_of_parts, split, without_facts
-from cadf_toolkit import CADF, REFUSED, Fault, Input, Progress, Refusal, cadf, log_name, name_shown, other_log, with_advice
+from cadf_toolkit import CADF, REFUSED, Fault, Input, Progress, Refusal, cadf, log_name, log_of, name_shown, other_log, with_advice
 
 UNIT = re.compile(("B (%s)" % "|".join(UNITS)).encode())
 NAME_LINE = re.compile(("W (%s)" % PART).encode())
@@ -224,7 +224,7 @@ def lines_in(file, kind):
 def read(input, kind):
     """What a file of that kind has. Fault: it is refused."""
     try:
-        with open(input.path(), "rb") as file:
+        with input.reading() as file:
             return lines_in(file, kind)
     except Refused as fault:
         is_one = input.first(len(kind.FIRST + b"\n")) == kind.FIRST + b"\n"
@@ -288,7 +288,10 @@ def check_parts(asked, proof, name):
 def verify(words, inputs):
     """What `cadf verify` with these words writes of a seal, facts and a proof. Fault: the file that it refuses."""
     try:
-        return cadf(["verify", *words], inputs, subprocess.PIPE)
+        shown = cadf(["verify", *words], inputs, subprocess.PIPE)
+        if not shown.startswith((b"present ", b"absent ")):
+            log_of(inputs[1:2])  # of no facts nothing is shown, and another program's answer isn't taken for that
+        return shown
     except Refusal as fault:
         place = 2 if fault.said.startswith("fact ") else fault.place
         if place is None or fault.place == 2:

@@ -5,8 +5,7 @@ the moment of a take. A reader needs no lock. A tool imports this as it imports 
 
   is_folder(name)            whether the name is of a folder
   Folder(name).index()       what its file `site` says: an Index, or None if there is none
-  opened_site(name, parts)   its files as inputs, all or those of some parts, as it stood at one moment
-  opened_parts(folder, ..)   the same of a Folder
+  opened_parts(folder, ..)   its files as inputs, all or those of some parts, as it stood at one moment
   made_of_parts(folders, ..) what is made of the files of each part, as each folder stood at one moment
   take(..), settle(..)       take inputs into a folder, and join the files of each window
 """
@@ -251,18 +250,11 @@ def allow_files(count):
 
 
 @contextlib.contextmanager
-def opened_site(name, parts=None):
-    """Opens the files that a folder's `site` names at one moment, or those of some parts, which are different ones.
+def opened_parts(folder, parts):
+    """Opens the files that the folder's `site` names at one moment, or those of some parts, which are different ones.
 
     Yields what it says, and the inputs by their entries. Takes that come meanwhile change nothing of it.
     """
-    with Folder(name) as folder, opened_parts(folder, parts) as found:
-        yield found
-
-
-@contextlib.contextmanager
-def opened_parts(folder, parts):
-    """Opens the same files of a folder that is open."""
     with contextlib.ExitStack() as files:
         for _ in range(TRIES):
             index, inputs, missing = folder.site(), {}, None

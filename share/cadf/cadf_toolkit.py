@@ -43,10 +43,20 @@ OTHER_KINDS = {
     b"CADF-SITE-SEAL ": "the seal of a folder, which holds no facts: `cadf-seal --compare SEAL SITE/` reads it",
     b"CADF-SEAL ": "a seal, which holds no facts: take the site's file",
     b"CADF-SITE ": "the file `site` of a folder: name the folder, or the files that it names",
-    b"CADF-SPLIT ": "a split file, which no command reads: `cadf-take --by UNIT SITE/ FILE..` makes files of its parts",
+    b"CADF-SPLIT ": "a split file, which no command reads: take the files that it was made of",
     b'{"conflicts":': "a conflict list, which cadf writes and does not read: take the site's file",
     b"learn ": "a script: `cadf rehearse` reads it",
     b"<!doctype html>": "a page of cadf-report: take the site's file",
+}
+# What a command writes, and how that begins.
+WRITTEN = {
+    "check": ("answer of `cadf check`", b'ok "'),
+    "join": ("replica file", b"CADF-REPLICA "),
+    "missing-by-sketch": ("replica file", b"CADF-REPLICA "),
+    "inventory": ("inventory", b"CADF-INVENTORY "),
+    "sketch": ("sketch", b"CADF-SKETCH "),
+    "seal": ("seal", b"CADF-SEAL "),
+    "prove": ("proof", b"CADF-PROOF "),
 }
 OF_FACTS = {b"CADF-REPLICA ": "a replica file: `cadf-take SITE FILE` takes it as it is"}
 OF_LINES = "lines of JSON: `cadf-from-openstack --log ID FILE` makes a document of them"
@@ -136,9 +146,10 @@ def say(text):
 
 
 def why(fault):
-    """The name of the file and the system's words of an OSError. One without a name is of what is printed."""
-    name = name_shown(fault.filename) if isinstance(fault.filename, str) else "standard output: write fault"
-    return "%s: %s" % (name, fault.strerror)
+    """The name of the file and the system's words of an OSError. One without a name is of what is printed, or no folder is found for temporary files."""
+    if isinstance(fault.filename, str):
+        return "%s: %s" % (name_shown(fault.filename), fault.strerror)
+    return fault.strerror + NO_ROOM if fault.errno == errno.ENOENT else "standard output: write fault: %s" % fault.strerror
 
 
 @contextlib.contextmanager
@@ -230,6 +241,13 @@ class Parser(argparse.ArgumentParser):
         super().__init__(prog=tool(), description=description, usage=usage, allow_abbrev=False, formatter_class=Help)
         self.add_argument("--version", action=Version, nargs=0, help="print the version and the commit, and exit")
 
+    def parse_args(self, args=None, namespace=None):
+        """Reads the words. A file called `--` is named `./--`, since up to Python 3.12 argparse drops it after another file's name."""
+        words = list(sys.argv[1:] if args is None else args)
+        first = words.index("--") + 1 if "--" in words else len(words)
+        words[first:] = ["./--" if word == "--" else word for word in words[first:]]
+        return super().parse_args(words, namespace)
+
     def _get_value(self, action, text):
         """The value of a word. An option has one: what is empty is a variable of a script that isn't set."""
         if action.option_strings and not text:
@@ -295,9 +313,15 @@ class Input:
         except (IndexError, ValueError):
             return None
 
+    @contextlib.contextmanager
+    def reading(self):
+        """The file from its beginning. What the system refuses of it has its name."""
+        with naming(self.name), open(self.path(), "rb") as file:
+            yield file
+
     def whole(self):
         """All its bytes."""
-        with open(self.path(), "rb") as file:
+        with self.reading() as file:
             return file.read()
 
     def kind(self):
@@ -406,7 +430,9 @@ def started(words, **options):
     try:
         child = subprocess.Popen(words, **options)
     except BaseException as fault:
-        if isinstance(fault, OSError) and words[0] == CADF:
+        if isinstance(fault, OSError) and fault.filename is None:
+            fault.filename, fault.strerror = words[0], "%s: it can't be started now: try again, or allow more files and processes" % fault.strerror
+        elif isinstance(fault, OSError) and fault.filename == CADF:
             fault.strerror += ": name the command by CADF, or put it on PATH"
         release_signals()
         raise
@@ -441,6 +467,13 @@ def check_end(child, said, inputs):
         raise refusal(said.decode("utf-8", "backslashreplace"), status, inputs)
 
 
+def check_written(command, first):
+    """Raises that what CADF has written doesn't begin as what this command writes: CADF is another program."""
+    name, begin = WRITTEN.get(command, ("", b""))
+    if not first.startswith(begin):
+        raise Fault("%s: what it writes is no %s" % (name_shown(CADF), name))
+
+
 def cadf(words, inputs, output=subprocess.DEVNULL, keep=(), where=None, union=1):
     """Runs `cadf` with these words over open inputs, as `started_cadf`. Returns what it wrote, if `output` is a pipe.
 
@@ -452,7 +485,15 @@ def cadf(words, inputs, output=subprocess.DEVNULL, keep=(), where=None, union=1)
         if output >= 0 and said.strip() == b"cadf: write fault":
             raise Fault("%s: write fault%s%s" % (name_shown(where or tempfile.gettempdir()), write_fault(output), "" if where else NO_ROOM))
         check_end(child, said, inputs)
+    if written is not None:
+        check_written(words[0], written)
     return written
+
+
+def log_of(inputs):
+    """The log that `cadf` says that the files are of."""
+    answer = cadf(["check"], inputs, subprocess.PIPE)
+    return json.JSONDecoder().raw_decode(answer.decode(), len("ok "))[0]
 
 
 def in_order(lines, folder):
@@ -604,6 +645,7 @@ def ended(run, *words):
     if sys.stderr is None:
         return FAILED  # what is found couldn't be said
     ask_to_end(stop)
+    os.umask(os.umask(0o077) & 0o077)  # what is made is its owner's to read and write, whatever the caller's mask says
     try:
         if sys.stdout is None:
             raise OSError(errno.EBADF, os.strerror(errno.EBADF))

@@ -6,6 +6,7 @@ that go with the call, but a folder's `.unions`, which keeps the digests of wind
 import contextlib
 import datetime
 import hashlib
+import heapq
 import itertools
 import os
 import re
@@ -29,7 +30,6 @@ NODE = re.compile(rb"\[([1-9][0-9]*),([01]),")
 BLOCK = 2 ** 16  # bytes that are read at once
 CELLS, MOST_CELLS = 198, 12582912
 TOO_FEW = "too few cells: ask for "
-ABOVE = b"g"  # all digests
 
 
 def unit_of(window):
@@ -310,7 +310,7 @@ def whole(store, part, inputs):
     if len(inputs) == 1:
         if not is_intact(inputs[0]):
             cadf(["inventory"], inputs)
-        return store.copied(part, "facts", inputs[0].file)
+        return store.copied(Item(part, "facts", inputs[0].file, 0, os.fstat(inputs[0].file.fileno()).st_size))
     cadf(["join"], inputs, store.begin())
     return store.item(part, "facts")
 
@@ -343,14 +343,14 @@ class Piece:
         self.hash.update(lines)
         self.size += self.file.write(lines)
 
-    def item(self, part):
+    def item(self, part, kind):
         with self.file:
             self.file.write(b"Z %s\n" % self.hash.hexdigest().encode())
-        return self.store.item(part, "facts")
+        return self.store.item(part, kind)
 
 
 def pieces(store, item, most):
-    """Yields the item; or if it is longer than so many bytes, items that are not, and have its facts together.
+    """Yields the item; or if it is longer than so many bytes, items that are not, and have its facts together: all but the last are `some`.
 
     Each has as many of its lines as go into it, after those of the nodes above its first.
     """
@@ -369,7 +369,7 @@ def pieces(store, item, most):
                 continue
             new, unmarked = b"".join(unmarked), []
             if piece and piece.size + len(new) > most - LAST_LINE:
-                yield piece.item(item.part)
+                yield piece.item(item.part, "some")
                 piece = None
             if piece:
                 piece.put(new)
@@ -377,18 +377,24 @@ def pieces(store, item, most):
                 piece = Piece(store, head + b"".join(above))
             if piece.size > most - LAST_LINE:
                 raise Fault("%s: a fact of %d bytes, and a message has fewer: raise --limit at both ends" % (item.part, piece.size), REFUSED)
-    yield piece.item(item.part)
+    yield piece.item(item.part, "facts")
 
 
-def count_beyond(inputs, own):
-    """How many facts some inputs have together beyond others."""
-    held = digests(own)
-    count, one = 0, next(held, ABOVE)
-    for digest in digests(inputs):
-        while one < digest:
-            one = next(held, ABOVE)
-        count += one != digest
-    return count
+class Held:
+    """The digests of the facts of some inputs, which are added to, in a private file."""
+
+    def __init__(self, inputs):
+        self.file = tempfile.TemporaryFile()
+        self.file.writelines(digests(inputs))
+
+    def add(self, inputs):
+        """Adds the facts of some inputs. Returns how many were not there."""
+        self.file.seek(0)
+        together = tempfile.TemporaryFile()
+        together.writelines(digest for digest, _ in itertools.groupby(heapq.merge(self.file, digests(inputs))))
+        count = (together.tell() - self.file.tell()) // DIGEST_BYTES
+        self.file = together
+        return count
 
 
 def digests(inputs):

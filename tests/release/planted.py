@@ -37,7 +37,7 @@ ROWS = [
     Row("package: no units", "install/contents.py", "        yield file_of(top, name, OF_SYSTEMD[kind] % name_alone)\n", "", INSTALLED + "test_places"),
     Row("package: no sketches", "install/contents.py", "*NOT_INSTALLED)]", "*NOT_INSTALLED) and '.sketch' not in name]", INSTALLED + "test_places"),
     Row("package: older C library", "install/package", '"libc6 (>= %s)" % needs.glibc(file.content)', '"libc6 (>= 2.4)"', PACKAGES + "test_depends"),
-    Row("package: pages for the owner", "install/deb.py", "os.chmod(path, file.mode)", "os.chmod(path, file.mode & ~(0o044 if path.endswith('.md') else 0))", PACKAGES + "test_contents"),
+    Row("package: pages for the owner", "install/deb.py", "file.content, file.mode)", "file.content, file.mode & ~(0o044 if path.endswith('.md') else 0))", PACKAGES + "test_contents"),
     Row("install: old files stay", "install/install", "if place not in places])", "if place not in places][:0])", INSTALLED + "test_install_over"),
     Row("install: in place", "install/install", '    os.replace(path + ".new", path)', "    __import__('shutil').copy2(path + '.new', path)", INSTALLED + "test_install_over"),
     Row("install: removes others' files", "install/install", "            elif not os.listdir(path):\n                os.rmdir(path)", "            else:\n                __import__('shutil').rmtree(path)", INSTALLED + "test_uninstall"),

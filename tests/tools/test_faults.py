@@ -1,7 +1,7 @@
 """Each tool with each fault: the status, and a line with the file's name, the system's words and what to do next.
 
-A file that isn't there, a folder, no permission, a full disk; an inventory, a sketch, a conflict list, a script or a page in the
-place of a replica file; a damaged site, no log named, another log, a file that is too large.
+A file that isn't there or can't be read, a folder, no permission, a full disk; an inventory, a sketch, a conflict list, a script
+or a page in the place of a replica file; a damaged site, no log named, another log, a file that is too large.
 """
 import json
 import os
@@ -29,7 +29,7 @@ CALLS = {
     "conflicts": "conflicts FILE", "report": "report --log g FILE", "from-openstack": "from-openstack --log g FILE",
     "spool": "spool SITE SPOOL", "spool it as the site": "spool --log g FILE SPOOL", "listen": "listen --spool DIR --url-file FILE",
     "choices": "conflicts --rule FILE good.cadf", "authority": "listen --spool DIR --url amqp://h/ --ca FILE", "others": "conflicts good.cadf FILE",
-    "no log": "report FILE", "a new site": "take NEW FILE", "seal": "seal FILE", "earlier seal": "seal --compare FILE good.cadf",
+    "no log": "report FILE", "aside": "report --set-aside FILE good.cadf", "a new site": "take NEW FILE", "seal": "seal FILE", "earlier seal": "seal --compare FILE good.cadf",
 }
 READERS = ("which", "agree", "take", "take it as the site", "conflicts", "report", "spool", "spool it as the site", "seal")
 PLAIN = ("which", "agree", "take", "conflicts", "report", "from-openstack", "choices", "listen", "authority", "seal", "earlier seal")
@@ -39,10 +39,13 @@ NO_LOG = "no log named: an event by itself names none: give a file that does, or
 OTHER = "other log%s: one site has one log; `cadf check FILE` says which log a file is of"
 FAULTS = [
     ("absent", "No such file or directory", dict.fromkeys(PLAIN, 3)),
+    ("/proc/self/mem", "Input/output error",
+     dict.fromkeys(("which", "agree", "take", "conflicts", "report", "from-openstack", "choices", "listen", "seal", "earlier seal", "aside"), 3)),
     ("folder", "Is a directory", dict.fromkeys(("take", "from-openstack", "choices", "listen", "authority", "earlier seal"), 3)),
     ("folder", "no site in it: `cadf-take --by day SITE/ FILE..` makes one",
      dict.fromkeys(("which", "agree", "conflicts", "others", "report", "take it as the site", "spool it as the site", "seal"), 1)),
-    ("secret", "Permission denied", dict(dict.fromkeys((*PLAIN, "take it as the site"), 3), spool=1)),
+    ("secret", "Permission denied", dict.fromkeys((*PLAIN, "take it as the site"), 3)),
+    ("secret", "Permission denied: make it readable for this user, and put it back", {"spool": 1}),
     ("inventory", "an inventory, which holds no facts: `cadf missing-by SITE INVENTORY` answers it", {call: 1 for call in READERS if call != "agree"}),
     ("sketch", "a sketch, which holds no facts: `cadf missing-by-sketch SITE SKETCH` answers it", {call: 1 for call in READERS if call != "agree"}),
     ("site-seal", "the seal of a folder, which holds no facts: `cadf-seal --compare SEAL SITE/` reads it", dict.fromkeys(READERS, 1)),
@@ -52,7 +55,7 @@ FAULTS = [
     *((file, "version: no seal of a folder, as `cadf-seal SITE/` writes it", {"earlier seal": 1}) for file in ("seal", "inventory", "good.cadf", "index")),
     ("site-seal", "truncated: it is damaged: have it sent again", {"earlier seal": 1}),
     ("index", "the file `site` of a folder: name the folder, or the files that it names", dict.fromkeys(READERS, 1)),
-    ("split", "a split file, which no command reads: `cadf-take --by UNIT SITE/ FILE..` makes files of its parts", dict.fromkeys(READERS, 1)),
+    ("split", "a split file, which no command reads: take the files that it was made of", dict.fromkeys(READERS, 1)),
     ("conflicts", "a conflict list, which cadf writes and does not read: take the site's file", dict.fromkeys(READERS, 1)),
     ("script", "a script: `cadf rehearse` reads it", dict.fromkeys(READERS, 1)),
     ("lines", "lines of JSON: `cadf-from-openstack --log ID FILE` makes a document of them", dict.fromkeys(READERS, 1)),
@@ -94,6 +97,13 @@ FULL = [
     ("from-openstack --log g --split NEW many.json", "cadf-from-openstack: NEW0001.json: write fault: File too large"),
     ("from-openstack --log g --set-aside NEW page", "cadf-from-openstack: NEW: write fault: File too large"),
     ("spool SITE MANY", "cadf-spool: many.json: waits: File too large"),
+]
+# Calls, and what another program than the command doesn't write.
+ANOTHER = [
+    ("which good.cadf", "answer of `cadf check`"), ("conflicts open.cadf", "replica file"), ("conflicts --rule choices open.cadf", "replica file"),
+    ("conflicts open.cadf good.cadf", "replica file"), ("agree good.cadf many.json", "sketch"), ("report good.cadf", "answer of `cadf --version`"),
+    ("seal good.cadf", "seal"), ("seal --prove d.json good.cadf", "proof"), ("seal --verify seal d.json proof", "answer of `cadf check`"),
+    ("events good.cadf", "log"), ("events --bulk i good.cadf", "answer of `cadf check`"),
 ]
 ROWS = [(file, said, call, status) for file, said, calls in FAULTS for call, status in calls.items()]
 
@@ -246,6 +256,19 @@ def test_what_a_user_may_not_read(caller, row):
 @pytest.mark.parametrize("text, line", FULL, ids=[text for text, _ in FULL])
 def test_full_disk(caller, text, line, unbuffered):
     check_full(caller, text, line, unbuffered)
+
+
+@pytest.mark.parametrize("program", ["true", "echo \"$@\"", "head -c 200000 /dev/zero | tr '\\0' '['"])
+@pytest.mark.parametrize("text, answer", ANOTHER, ids=[text for text, _ in ANOTHER])
+def test_another_program(caller, program, text, answer):
+    """What another program than the command says is no answer: not that no key is open, that a fact is shown, or a file's seal."""
+    own, _, words = filled(text)
+    caller.cadf = os.path.join(own, "another")
+    put(caller.cadf, "#!/bin/sh\n%s\n" % program)
+    os.chmod(caller.cadf, 0o755)
+    status, lines = caller.run(words, own)
+    said = "%s: what it writes is no %s" % (caller.cadf, answer)
+    assert status == 3 and lines[0] in (said, "cadf-%s: %s" % (words[0], said)) and os.path.getsize(os.path.join(own, "output")) == 0, lines
 
 
 def hung_up(cadf, tool, ignored=signal.SIG_DFL):

@@ -33,6 +33,13 @@ import cadf_site
 import cadf_toolkit
 
 
+@contextlib.contextmanager
+def opened(site):
+    """Opens all files of the site's folder, as it stands at one moment."""
+    with cadf_site.Folder(str(site.folder)) as folder, cadf_site.opened_parts(folder, None) as found:
+        yield found
+
+
 def contents(*keys, **members):
     """A log document of an event a key: on the day of its number, with a tag."""
     events = [dict(EVENT, id="e%d" % key, eventTime=DAYS[key % len(DAYS)], tags=["t"]) for key in keys]
@@ -384,7 +391,7 @@ def test_links_are_refused(site, name):
     path.rename(site.path / "moved")
     path.symlink_to(site.path / "moved")
     if name != ".lock":
-        with pytest.raises(cadf_toolkit.Fault, match="symbolic link"), cadf_site.opened_site(str(site.folder)):
+        with pytest.raises(cadf_toolkit.Fault, match="symbolic link"), opened(site):
             pass
     answer = site.take(files=[site.put(contents(3))])
     assert answer.status == 3 and str(path).encode() in answer.error
@@ -478,7 +485,7 @@ def test_a_lost_index_loses_no_window(site):
     for words in ([], ["--by", "day"], ["--settle"]):
         files = [] if "--settle" in words else [site.put(contents(3))]
         assert site.take(*words, files=files) == (1, b"", b"cadf-take: %s\n" % os.fsencode(line))
-    with pytest.raises(cadf_toolkit.Fault) as fault, cadf_site.opened_site(str(site.folder)):
+    with pytest.raises(cadf_toolkit.Fault) as fault, opened(site):
         pass
     assert str(fault.value) == line and site.listed() == before
     new = Site(site.path, os.path.dirname(site.tool), "new")
@@ -583,7 +590,7 @@ def test_two_takers_and_three_readers_at_once(site):
 
     def read():
         while not stop.is_set():
-            with cadf_site.opened_site(str(site.folder)) as (_, inputs):
+            with opened(site) as (_, inputs):
                 atoms = set().union(*(read_file(each.whole())[1] for each in inputs.values()))
             sizes = {part: len(own) for part, own in parts_of(atoms, "day").items()}
             seen.append(sizes["2024-02-29"] == 2 * sizes["2024-03-01"])
@@ -639,7 +646,7 @@ def test_a_reader_looks_again(site, monkeypatch):
         return real(folder, name)
 
     monkeypatch.setattr(cadf_site.Folder, "input", late)
-    with cadf_site.opened_site(str(site.folder)) as (_, inputs):
+    with opened(site) as (_, inputs):
         assert set().union(*(read_file(each.whole())[1] for each in inputs.values())) == atoms_of(contents(0, 1, 3, 6))
 
 
@@ -667,7 +674,7 @@ def test_what_a_site_names_and_lacks_is_named(site):
     site.takes(contents(0, 1))
     path = next(site.folder.glob("2024-*.cadf"))
     path.unlink()
-    with pytest.raises(cadf_toolkit.Fault, match="not there: the site is damaged") as fault, cadf_site.opened_site(str(site.folder)):
+    with pytest.raises(cadf_toolkit.Fault, match="not there: the site is damaged") as fault, opened(site):
         pass
     assert str(path) in str(fault.value)
     answer = site.take(files=[site.put(contents(3))])

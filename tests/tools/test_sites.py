@@ -11,6 +11,7 @@ import pytest
 from tests import TOP
 from tests.formats import in_format
 from tests.machine import ended
+from tests.reference.replica_files import file_of
 from tests.tools.copies import copied
 from tests.tools.odd_logs import EVENT
 
@@ -138,6 +139,18 @@ def test_two_large_values(sites):
     sites.tools = copied("copy", "MOST_NAMED, LONGEST_SHOWN = 64, 100, 1000", "MOST_NAMED, LONGEST_SHOWN = 64, 10 ** 9, 10 ** 9")
     status, _, said = sites.tool("conflicts", "--values", "bomb-two", **limit)
     assert (status, said) == (4, ["cadf-conflicts: out of memory"])
+
+
+@pytest.mark.parametrize("characters, rulings, status", [(2 ** 20, 0, 0), (1, 40000, 1)])
+def test_many_choices_of_one_key(sites, characters, rulings, status):
+    """A line of the choices costs the same, however large the value that it chooses and however many the rulings of its key."""
+    limit = {"preexec_fn": lambda: resource.setrlimit(resource.RLIMIT_CPU, (4, 4))}
+    for name in "ab":
+        put(name + ".json", document([dict(id="e", more=name * characters)]))
+    put("rulings", file_of("g", {("U", "E", "e", hashlib.sha256(b"%d" % number).hexdigest()) for number in range(rulings)}))
+    sites.cadf("many", "join", "a.json", "b.json", "rulings")
+    put("choices", sites.choices("many", 1)[0] * 5000)
+    assert sites.tool("conflicts", "--rule", "choices", "many", **limit)[0] == status
 
 
 def shown_of(sites, *values):
@@ -359,6 +372,23 @@ def test_agree(sites):
     assert sites.tool("agree", "one.json", "two.json") == (5, b"", ["one.json lacks 1 fact of two.json"])
     assert ended("bash", ["-c", '"$0" <(cat site) <(cat site.inventory)', os.path.join(TOOLS, "cadf-agree")],
                  env={**os.environ, "CADF": sites.binary}) == (0, b"", b"")
+
+
+@pytest.mark.parametrize("name", ["site", "list", "link", "pipe", "folder"])
+def test_numbers_replace_numbers_alone(sites, name):
+    """A file of numbers is written where there is none, an empty one or an earlier one. A site of that name stays, and what is no file."""
+    put("m.prom", b"")
+    for _ in range(2):
+        assert sites.tool("agree", "--metrics=m.prom", "site", "site.1") == (0, b"", [])
+        assert held("m.prom").startswith(b"# HELP cadf_")
+    put("list", b"# another program's\n")
+    os.symlink("m.prom", "link")
+    os.mkfifo("pipe")
+    os.mkdir("folder")
+    before = os.lstat(name)
+    assert sites.tool("agree", "--metrics", name, "site", "site.1") == (
+        3, b"", ["cadf-agree: %s: it has no numbers of a run, so it is not replaced: name another file by --metrics" % name])
+    assert os.path.samestat(os.lstat(name), before) and not os.path.lexists(name + ".new")
 
 
 def test_agree_refuses(sites):

@@ -4,6 +4,7 @@ A file costs too much, keeps the others of its group from being taken, or is a s
 """
 import ctypes
 import errno
+import fcntl
 import functools
 import glob
 import json
@@ -173,7 +174,10 @@ def test_kinds(spools):
         ("a.jsonl", 2, ["not UTF-8"]), ("a.jsonl", 3, ["not JSON at character 7"])]
     modes = [os.stat(os.path.join(spool, name)).st_mode & 0o777 for name in ("taken", "taking", "set-aside", "set-aside/a.jsonl")]
     assert modes == [0o700] * 3 + [0o600]
-    assert spools.run(folder, "s.cadf", "spool") == (0, b"", b"")
+    for name in ("more", "lost+found"):  # the latter is that of a file system of the spool's own
+        os.mkdir(os.path.join(folder, "spool", name))
+    assert spools.run(folder, "s.cadf", "spool") == (
+        0, b"", b"cadf-spool: spool: passed over 2 folders, as folder.json: move the files in them into the spool\n")
     spools.leaves(folder, site, **wanted)
 
 
@@ -192,17 +196,17 @@ def test_mended(spools):
 
 def test_names(spools):
     """Names of every kind, and files that come again under one name."""
-    replicas = [spools.joined(document("n%d" % number)) for number in range(12)]
-    names = [b"-", b"-x.json", b"--log=h", b"a b", b"new\nline", b"\xff.cadf", "ü\u202e".encode(), b"x.reason", b"x" * 255, b"y" * 250 + b".cadf", b"a.json", b"$(x)"]
+    replicas = [spools.joined(document("n%d" % number)) for number in range(13)]
+    names = [b"-", b"-x.json", b"--log=h", b"a b", b"new\nline", b"\xff.cadf", "ü\u202e".encode(), b"x.reason", b"x" * 255, b"y" * 250 + b".cadf", b"a.json", b"$(x)", b"--"]
     folder = spools.site()
     for name, data in zip(names, replicas):
         put(os.path.join(os.fsencode(folder), b"spool", name), data if not name.endswith(b".reason") else message("n7"))
     put(os.path.join(folder, "spool/x"), b"CADF-")
     done = spools.takes(folder)
     assert (done.status, done.error.count(b" is called ")) == (1, 7)
-    site = spools.joined(document(*("n%d" % number for number in range(12))))
+    site = spools.joined(document(*("n%d" % number for number in range(13))))
     wanted = {**names_in("taken", ["odd-name.jsonl", "-x.json", "--log=h", "a b", "odd-name-2.jsonl", "odd-name.cadf", "odd-name-3.jsonl", "x-2.reason",
-                                   "odd-name-4.jsonl", "odd-name-2.cadf", "a.json", "$(x)"]), "set-aside/x": b"CADF-", "set-aside/x.reason": None}
+                                   "odd-name-4.jsonl", "odd-name-2.cadf", "a.json", "$(x)", "--"]), "set-aside/x": b"CADF-", "set-aside/x.reason": None}
     spools.leaves(folder, site, **wanted)
     for number in (2, 3):
         put(os.path.join(folder, "spool/a.json"), document("again%d" % number))
@@ -229,7 +233,7 @@ def test_odd_files(spools):
     with socket.socket(socket.AF_UNIX) as made:
         made.bind(os.path.relpath(os.path.join(folder, "spool/socket")))
     done = spools.takes(folder)
-    assert (done.status, done.error.count(b"set aside: not a regular file")) == (1, 4)
+    assert (done.status, done.error.count(b"set aside: not a regular file: put a copy of the file itself there\n")) == (1, 4)
     names = [name + end for name in ("link", "to-nothing", "pipe", "socket") for end in ("", ".reason")]
     spools.leaves(folder, spools.joined(document("e1")), **names_in("set-aside", names), **{"taken/a.json": None})
 
@@ -243,6 +247,16 @@ def test_open_for_writing(spools):
         writer.write(message("e2"))
     assert spools.takes(folder).status == 0
     spools.leaves(folder, spools.joined(document("e1", "e2")), **{"taken/a.jsonl": None})
+
+
+def test_lease(spools):
+    """A file of which a file server has the lease, for a client that may write it, is open for writing too."""
+    folder, handler = spools.site(**{"a.json": document("e1")}), signal.signal(signal.SIGIO, signal.SIG_IGN)
+    with open(os.path.join(folder, "spool/a.json"), "r+b") as server:
+        fcntl.fcntl(server, fcntl.F_SETLEASE, fcntl.F_WRLCK)
+        done = spools.takes(folder)
+    signal.signal(signal.SIGIO, handler)
+    assert done == (0, b"", b"cadf-spool: a.json: waits: open for writing\n" + b"cadf-spool: taken 0, set aside 0, waiting 1\n")
 
 
 @pytest.mark.parametrize("files, size, seconds", [(2, 2 ** 28, 60), (200, 1, 60), (200, 2 ** 28, 0)], ids=["number", "size", "time"])
@@ -367,6 +381,14 @@ def test_no_command(spools):
     assert spools.takes(spools.site(**{"a.jsonl": message("e1"), "b.json": document("e2")}), cadf="/absent").status == 3
 
 
+@pytest.mark.parametrize("program", ["/bin/echo", "/bin/false"])
+def test_another_program(spools, program):
+    """A program in the place of `cadf` that answers something else, or refuses by a status alone, is named, and the files wait."""
+    folder = spools.site(**{"a.json": document("e1")})
+    assert spools.takes(folder, cadf=program) == (3, b"", b"cadf-spool: %s: what it writes is no answer of `cadf check`\n" % program.encode())
+    spools.leaves(folder, None, **names_in("taking", ["a.json"]))
+
+
 def test_fault_in_the_spool(spools):
     """A fault of the tool's own files names the spool."""
     folder = spools.site(**{"a.json": document("e1")})
@@ -375,6 +397,16 @@ def test_fault_in_the_spool(spools):
     assert spools.takes(folder) == (3, b"", b"cadf-spool: spool (x): Is a directory\n")
     os.rmdir(os.path.join(folder, "spool", "taking", ".work", "x"))
     assert spools.takes(folder).status == 0
+
+
+def test_left_by_a_killed_run(spools):
+    """What a killed run made of files goes at the next run, though nothing has arrived."""
+    folder = spools.site()
+    taking = os.path.join(folder, "spool", "taking")
+    for each in (taking, os.path.join(taking, ".work")):
+        os.mkdir(each, 0o700)
+    put(os.path.join(taking, ".work", "0-0001.json"), document("e1"))
+    assert spools.takes(folder).status == 0 and os.listdir(taking) == []
 
 
 @pytest.mark.parametrize("limit", [0, 300])
@@ -520,6 +552,52 @@ def test_sizes(spools):
     hole = os.stat(os.path.join(found, "hole.json"))
     assert hole.st_size == 2 ** 26 and hole.st_blocks < 2048
     assert sorted(os.listdir(os.path.join(folder, "spool/taken"))) == ["a.json", "large.json"]
+
+
+def test_what_is_made_of_a_file(spools):
+    """Short lines that are no events make far longer ones: a file of which too much would be set aside is set aside itself."""
+    folder = spools.site(**{"a.json": document("e1"), "short.jsonl": b"x\n" * 300})
+    done = spools.takes(folder, "--size", str(2 ** 12))
+    assert (done.status, last_line(done)) == (1, counted(1, 1))
+    spools.leaves(folder, spools.joined(document("e1")), **{
+        "taken/a.json": None, "set-aside/short.jsonl": b"x\n" * 300,
+        "set-aside/short.jsonl.reason": b"what is made of it is larger than 4096 bytes: split it, or give a greater --size\n"})
+
+
+def test_times_of_a_sender(spools):
+    """What is taken has the time of what was sent, but none to come, by which it would never be old enough to be deleted."""
+    folder, begun = spools.site(**{"a.json": document("e1"), "b.json": document("e2"), "c.json": document("e3")}), time.time()
+    for name, seconds in (("a.json", -2 ** 31), ("b.json", 10 ** 9), ("c.json", 2 ** 33)):
+        os.utime(os.path.join(folder, "spool", name), (seconds, seconds))
+    assert spools.takes(folder).status == 0
+    found = [os.stat(os.path.join(folder, "spool/taken", name)) for name in ("a.json", "b.json", "c.json")]
+    assert [each.st_mtime for each in found[:2]] == [-2 ** 31, 10 ** 9]
+    assert all(begun - 1 <= each <= time.time() for each in (found[2].st_mtime, found[2].st_atime))
+
+
+def test_room_for_others(spools):
+    """What was copied of a file for which there is no room takes none while the others are taken."""
+    folder = spools.site(**{"a.json": document("e1"), "large.json": bytes(range(256)) * 2 ** 10})
+    odd = spools.command(folder, '[ "$1" = join ] && ls .work >%s' % shlex.quote(os.path.join(folder, "left")))
+    assert spools.takes(folder, cadf=odd, preexec_fn=lambda: resource.setrlimit(resource.RLIMIT_FSIZE, (2 ** 16, 2 ** 16))).status == 3
+    assert held(folder)["left"] == b""
+    spools.leaves(folder, spools.joined(document("e1")), **names_in("taken", ["a.json"]), **names_in("taking", ["large.json"]))
+
+
+def test_no_room_for_what_is_too_large(spools):
+    """A file that is too large is set aside, and not copied first, for which there may never be room."""
+    folder = spools.site(**{"large.json": bytes(range(256)) * 2 ** 10})
+    done = spools.takes(folder, "--size", str(2 ** 17), preexec_fn=lambda: resource.setrlimit(resource.RLIMIT_FSIZE, (2 ** 16, 2 ** 16)))
+    assert (done.status, last_line(done)) == (1, counted(0, 1))
+    spools.leaves(folder, None, **names_in("set-aside", ["large.json", "large.json.reason"]))
+
+
+def test_file_that_grows(spools):
+    """A file that grows beyond what one may have while it is copied is set aside."""
+    program, folder = spools.program(), spools.site(**{"a.json": document("e1")})
+    program.check_is_closed = lambda *_: os.truncate(os.path.join(folder, "spool/taking/a.json"), 2 ** 20)
+    run = program.Run(program.Spool(os.path.join(folder, "spool")), os.path.join(folder, "s.cadf"), "g", program.Budget(0, 2 ** 17, 60, 2 ** 32))
+    assert (run.run(), run.counts) == (1, {"taken": 0, "set aside": 1, "waiting": 0})
 
 
 def test_smaller_size(spools):
@@ -677,7 +755,8 @@ def test_unclosed(shared):
     pytest.param(test_budgets, ["memory"], ["raise self.fault(done)\n            self.facts", "raise Waits(done.said, done.status)\n            self.facts"],
                  id="a file that costs too much waits"),
     pytest.param(test_confined, [], ["if times == 1:\n                change_only(self.spool.work)", ""], id="a program writes anywhere"),
-    pytest.param(test_smaller_size, [], ["if file.tell() > most:", "if False:"], id="copies a file of any size"),
+    pytest.param(test_file_that_grows, [], ["if file.tell() > most:", "if False:"], id="copies a file of any size"),
+    pytest.param(test_no_room_for_what_is_too_large, [], ["if before.st_size > most:", "if False:"], id="copies what is too large"),
     pytest.param(test_sizes, [], ["if block.count(0) < len(block):", "if True:"], id="fills holes"),
     pytest.param(test_group_at_fault, ["echo 'cadf: out of memory' >&2; exit 4"], ["elif len(files) > 1:", "elif False:"], id="a group that fails ends the run"),
     pytest.param(test_group_at_fault, ["echo 'cadf: out of memory' >&2; exit 4"], ["return Refused(\"it can't be taken: \"", "return Waits(FAILED, \""],

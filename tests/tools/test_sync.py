@@ -41,7 +41,7 @@ REFERENCE = os.path.join(TOP, "tests", "reference", "cadf")
 FAR = os.path.join(TOP, "tests", "tools", "far_side.py")
 MOST_DIFFERING, MOST_EQUAL, MOST_TURNS = 100000, 40000, 6  # bytes both ways beyond the answers, turns of the line
 CUTS, MADE_AGAIN = 50, 5  # random bytes at which a link is cut; each of so many calls is made again
-FIRST = b'CADF-SYNC 1 {"limit":1073741824,"log":"g","timeout":60,"unit":null,"writes":true}\n'
+FIRST = b'CADF-SYNC 1 {"limit":1073741824,"log":"g","next":true,"timeout":60,"unit":null,"writes":true}\n'
 EVENT = {"eventType": "activity", "action": "read", "outcome": "success", "initiatorId": "u1", "targetId": "t1",
          "observerId": "s1"}
 
@@ -345,6 +345,13 @@ def answered(*found):
     return FIRST + LIST + message(b"answer", items(*found))
 
 
+def handed_out(*files):
+    """The answers of a far side that hands out these files of one part, and says that more is to come."""
+    return FIRST + LIST + b"".join(message(b"answer", items((b"all", b"some", each))) for each in files)
+
+
+PIECES = [file_of("g", facts(key)) for key in range(40, 45)]
+NO_MORE = message(b"answer", items((b"all", b"none", b"")))  # for the other question
 SKETCHED = (b"all", b"inventory", inventory_of("g", []))
 CAME_SO = ": it came so, and no file here is at fault: tell the operator of the end that sent it\n"
 LEFT_OUT = "left out all: the %s of all from h:there.cadf: %s" + CAME_SO
@@ -400,7 +407,14 @@ LIES = {
     "cells after an inventory": (answered((b"all", b"more", b"300")), 1, "no answer for inventory of all: more of all"),
     "facts that are none": (answered((b"all", b"facts", b"\x7fELF"), SKETCHED), 1, "all from h:there.cadf: not JSON"),
     "facts of another log": (answered((b"all", b"facts", OTHER), SKETCHED), 1, 'other log: "h"'),
-    "facts that are held, and more to come": (answered((b"all", b"some", file_of("g", facts(1))), SKETCHED), 1, "it sends again what is held"),
+    "facts that are held, and more to come": (first() + LIST + message(b"answer", items((b"all", b"some", file_of("g", facts(1))), SKETCHED)), 1, "it sends again what is held"),
+    "more to come, and another item": (answered((b"all", b"some", GOOD), SKETCHED), 1, "no answer for inventory of all: some of all"),
+    "nothing more where more was to come": (handed_out(GOOD) + message(b"answer", items((b"all", b"none", b""))), 1, "no answer for next of all: none of all"),
+    "more of another part": (handed_out(GOOD) + message(b"answer", items((b"shared", b"facts", GOOD))), 1, "no answer for next of all: facts of shared"),
+    "a piece again and again": (handed_out(GOOD, GOOD), 1, "all: it sends again what it sent, and says that more is to come"),
+    "pieces that come round again": (handed_out(*PIECES[:2], *PIECES[2:] * 9), 1, "all: it sends again what it sent, and says that more is to come"),
+    "pieces that are cut": (handed_out(GOOD) + message(b"answer", items((b"all", b"facts", PIECES[0][:-9]), )) + NO_MORE, 1, "all from h:there.cadf: truncated" + CAME_SO),
+    "pieces of another log": (handed_out(GOOD) + message(b"answer", items((b"all", b"facts", OTHER))) + NO_MORE, 1, 'other log: "h"'),
     "facts that are cut": (answered((b"all", b"facts", GOOD[:-9]), SKETCHED), 1, "all from h:there.cadf: truncated" + CAME_SO),
     "facts that were changed": (answered((b"all", b"facts", GOOD.replace(b"u1", b"u2")), SKETCHED), 1, "all from h:there.cadf: digest" + CAME_SO),
     "an inventory that is none": (answered((b"all", b"none", b""), (b"all", b"inventory", b"x\n")), 1, LEFT_OUT % ("inventory", "version")),
@@ -561,6 +575,8 @@ CALLS = {
     "facts that are asked": (hello() + message(b"ask", items((b"all", b"facts", GOOD))), 1, "no items"),
     "no number of cells": (hello() + message(b"ask", items((b"all", b"tell", b"7"))), 1, "no number of cells"),
     "too many cells": (hello() + message(b"ask", items((b"all", b"tell", b"999999999"))), 1, "no number of cells"),
+    "more, and nothing was asked": (hello() + message(b"ask", items((b"all", b"next", b""))), 1, "all: nothing more of it was to come"),
+    "more after all of it": (hello() + message(b"ask", items((b"all", b"whole", b""), (b"all", b"next", b""))), 1, "all: nothing more of it was to come"),
     "no facts": (hello() + message(b"take", items((b"all", b"facts", b"x"))), 1, "all from the caller: not JSON"),
     "facts of another log": (hello() + message(b"take", items((b"all", b"facts", OTHER))), 1, 'other log: "h"'),
     "facts and none": (hello() + message(b"take", items((b"all", b"facts", GOOD), (b"all", b"facts", b"{"))), 1, "not JSON"),
@@ -577,6 +593,16 @@ def test_a_caller_that_lies(sites, kind):
     assert answer.status == status and part in answer.output.decode(), answer
     assert answer.error == b"" and (b"fault" in answer.output.splitlines()[0] or b"\nfault " in answer.output)
     assert sorted((each.name, each.read_bytes()) for each in sites.path.iterdir()) == before
+
+
+@pytest.mark.parametrize("between, part", [((), b"shared"), (((b"2024-03-02", b"tell", b"3"),), b"2024-03-02"), (((b"shared", b"whole", b""),), b"2024-03-02")])
+def test_more_of_what_is_not_handed_out(sites, between, part):
+    """What is handed out is of one part, and until something else is asked for."""
+    sites.put("here.cadf", facts(*range(1, 196, 28)))
+    asked = [((b"2024-03-02", b"whole", b""),), ((b"2024-03-02", b"next", b""),), between, ((part, b"next", b""),)]
+    answer = sites.served(hello(limit=1024, unit="day") + message(b"list") + b"".join(message(b"ask", items(*each)) for each in asked if each))
+    assert answer.status == 1 and answer.output.count(b"\n2024-03-02 some ") == 2
+    assert answer.output.endswith(b"1 %s: nothing more of it was to come" % part), answer
 
 
 def test_a_caller_that_sends_no_sketch(sites):
@@ -1150,6 +1176,123 @@ def test_small_messages(folders):
     assert folders.holds("here/") == folders.holds("there/") == facts(*range(1, 90))
 
 
+ASKED = len("ask 12\nall next 0\n\n")  # bytes of a request for a further piece
+PIECE_BYTES = 3000
+
+
+def has_shell(sites, tools, *words):
+    """Has `--rsh=./shell` reach the serving end of these tools, with these words."""
+    (sites.path / "shell").write_text("#!/bin/sh\nexec %s\n" % shlex.join([sys.executable, os.path.join(tools, "cadf-sync"), "--serve", *words]))
+    (sites.path / "shell").chmod(0o755)
+
+
+def has_counted_calls(sites):
+    """Has the words of each call of the command be counted, at both ends."""
+    (sites.path / "counting").write_text("#!/bin/sh\necho $1 >>calls\nexec %s \"$@\"\n" % shlex.quote(sites.cadf))
+    (sites.path / "counting").chmod(0o755)
+    sites.cadf = "./counting"
+
+
+@pytest.mark.parametrize("here", [(), (1, 2)])
+def test_each_piece_costs_one_short_request(sites, here):
+    """Facts that are longer than a message are looked for once, and what this end holds is told once."""
+    old, union = facts(*here) if here else set(), facts(*range(1, 100))
+    sites.put("there.cadf", union)
+    if here:
+        sites.put("here.cadf", old)
+    has_counted_calls(sites)
+    answer = sites.sync("--quiet", "--pull", "--limit=%d" % PIECE_BYTES, sites.far("count", "counts"), "here.cadf", "h:there.cadf")
+    assert answer == (0, b"", b"") and (sites.path / "here.cadf").read_bytes() == file_of("g", union)
+    sent, _, turns = map(int, (sites.path / "counts").read_text().split())
+    pieces, calls = turns - 1, (sites.path / "calls").read_text().split()
+    assert pieces >= len(file_of("g", union - old)) // PIECE_BYTES > 5
+    assert sent < 300 + len(inventory_of("g", old)) + pieces * ASKED, (sent, pieces)
+    assert calls.count("missing-by") == bool(here) and calls.count("inventory") <= 3, calls
+
+
+def test_pieces_of_a_window_whose_inventory_is_longer_than_a_message(sites):
+    """A site that has nothing of a window gets it, whatever both ends allow of a message."""
+    union = facts(*range(1, 60))
+    assert len(inventory_of("g", union)) > PIECE_BYTES
+    sites.put("there.cadf", union)
+    has_shell(sites, sites.tools, "--limit=%d" % PIECE_BYTES, "there.cadf")
+    assert sites.sync("--quiet", "--pull", "--limit=%d" % PIECE_BYTES, "--rsh=./shell", "here.cadf", "h:there.cadf") == (0, b"", b"")
+    assert (sites.path / "here.cadf").read_bytes() == file_of("g", union)
+
+
+OLDER = {"serving": (", next=True", "", '"whole", "next", "tell"))', '"whole", "tell"))'), "calling": ('members.get("next") is True', "False")}
+
+
+@pytest.mark.parametrize("older", OLDER)
+def test_pieces_with_an_older_end(sites, older):
+    """An end that hands out no pieces, or asks for none, is asked for them, or asks, by inventories."""
+    tools = {"calling": sites.tools, "serving": sites.tools, older: copied(str(sites.path / "older"), *OLDER[older])}
+    sites.put("here.cadf", facts(1, 2))
+    sites.put("there.cadf", facts(*range(2, 80)))
+    has_counted_calls(sites)
+    has_shell(sites, tools["serving"], "there.cadf")
+    sites.tools = tools["calling"]
+    assert sites.sync("--quiet", "--pull", "--limit=%d" % PIECE_BYTES, "--rsh=./shell", "here.cadf", "h:there.cadf") == (0, b"", b"")
+    assert (sites.path / "here.cadf").read_bytes() == file_of("g", facts(*range(1, 80)))
+    assert (sites.path / "calls").read_text().split().count("missing-by") > 3
+
+
+def large(number):
+    """That many atoms, an event of some 900 bytes each, on as many days."""
+    return {(*atom[:2], atom[2].replace('"u1"', '"%s"' % ("u" * 700))) for atom in year(number, number)}
+
+
+def test_few_questions_are_sent_in_vain(sites):
+    """Of many windows an answer has a few, and the questions for the others aren't sent each time."""
+    windows, limit = 120, 10000
+    sites.put("there.cadf", large(windows))
+    assert sites.sync("--quiet", "--pull", "--since=2023-01-01", "--limit=%d" % limit, sites.far("count", "counts"), "here.cadf", "h:there.cadf") == (0, b"", b"")
+    assert sites.holds("here.cadf") == large(windows)
+    sent, received, turns = map(int, (sites.path / "counts").read_text().split())
+    assert turns > received // limit > 8
+    assert sent < 300 + 3 * windows * len("2023-01-01 whole 0\n"), sent
+
+
+FILES = 500  # that may be open at once: those of a call of cadf-take, and not of all that is exchanged
+
+
+@pytest.mark.parametrize("words", [("--pull", "--limit=1500"), ("--push", "--since=2023-01-01")])
+def test_more_messages_and_windows_than_files_may_be_open(sites, words):
+    """What waits to be taken, and what waits to be sent, are in few files."""
+    atoms = large(FILES + 100)
+    sites.put("there.cadf" if words[0] == "--pull" else "here.cadf", atoms)
+    answer = sites.runs("cadf-sync", "--quiet", *words, "here.cadf", "there.cadf", preexec_fn=lambda: resource.setrlimit(resource.RLIMIT_NOFILE, (FILES, FILES)))
+    assert answer == (0, b"", b"") and sites.holds("here.cadf") == sites.holds("there.cadf") == atoms
+
+
+@pytest.mark.parametrize("way", ["--pull", "--push"])
+def test_what_is_held_is_counted_once(folders, way):
+    """A folder reads what it held of a window for the first of its pieces, and not for each."""
+    old, union = facts(1, 29), facts(*range(1, 1681, 28))
+    for name, atoms in zip(("here/", "there/"), (old, union) if way == "--pull" else (union, old)):
+        folders.put(name, atoms)
+    has_counted_calls(folders)
+    has_shell(folders, folders.tools, "--limit=%d" % PIECE_BYTES, "there/")
+    assert folders.equal("--limit=%d" % PIECE_BYTES, "--rsh=./shell", way, "here/", "h:there/")["taken_here" if way == "--pull" else "taken_there"] == len(union - old)
+    assert folders.holds("here/") == folders.holds("there/") == union
+    calls = (folders.path / "calls").read_text().split()
+    takes = calls.count("split")
+    assert takes > 4 and calls.count("inventory") <= takes + 3, calls  # of each piece; of what is asked by; of what was held, at the first piece and the last
+
+
+def test_pieces_before_a_cut_stay(folders):
+    """A folder keeps the pieces that came, and the next call brings the others."""
+    union = facts(*range(1, 1177, 28))
+    folders.put("here/", facts())
+    folders.put("there/", union)
+    answer = folders.sync("--pull", "--limit=%d" % PIECE_BYTES, folders.far("cut", len(file_of("g", union)) * 2 // 3), "here/", "h:there/")
+    found = folders.holds("here/")
+    assert answer.status == 3 and facts() < found < union
+    assert said(answer).endswith("; taken before that: at least %d facts here, 0 there\n" % len(found - facts()))
+    assert folders.equal("--pull", "here/", "there/")["taken_here"] == len(union - found)
+    assert folders.holds("here/") == union
+
+
 @pytest.mark.parametrize("way", ["--pull", "--push"])
 def test_signs_of_life(tmp_path, way, tools):
     """An end whose command takes longer than the other waits says that it works."""
@@ -1177,7 +1320,7 @@ WRONG = [
     (" or len(found) == MOST_LISTED \\\n                        or before is not None and order(listed[1]) <= before:\n", ":\n",
      lambda sites: test_a_far_side_that_lies(sites, "twice")),
     ("not is_part(listed[1], unit)", "False", lambda sites: test_a_far_side_that_lies(sites, "a window without a unit")),
-    ("                if answer.part != asked.part or answer.kind not in ANSWERS[asked.kind]:\n", "                if False:\n",
+    ("answer.part != asked.part or answer.kind not in ANSWERS[asked.kind] or is_early", "False",
      lambda sites: test_a_far_side_that_lies(sites, "another part")),
     ("said if said.startswith(peer + \": \") else ", "", test_a_refusal_of_the_far_end_is_one_line),
     ("printable(text[2:LONGEST_TEXT])", "text[2:LONGEST_TEXT]",
@@ -1192,11 +1335,18 @@ WRONG = [
     (" and not (is_over.is_set() and line == b\"cadf-sync: stopped by SIGTERM\\n\")", "",
      lambda sites: test_refused_sites(sites, None, None, (), "neither site is there")),
     ("self.pushed += self.pieces(", "self.pulled += self.pieces(", lambda sites: test_two_files(sites, (), (1, 2, 3, 4), (1, 2, 3, 4))),
+    ("        if found is None or found.part != part:\n", "        if found is None:\n",
+     lambda sites: test_more_of_what_is_not_handed_out(sites, (), b"shared")),
+    ("            return self.handed_out(each.part)\n        self.rest = iter(())\n", "            return self.handed_out(each.part)\n",
+     lambda sites: test_more_of_what_is_not_handed_out(sites, ((b"2024-03-02", b"tell", b"3"),), b"2024-03-02")),
+    ("            kept = kept if number & number - 1 else digest\n", "", lambda sites: test_a_far_side_that_lies(sites, "a piece again and again")),
+    ("            kept = kept if number & number - 1 else digest\n", "            kept = digest\n",
+     lambda sites: test_a_far_side_that_lies(sites, "pieces that come round again")),
 ]
 
 
 WRONG_OF_FOLDERS = [
-    ("first._replace(kind=\"some\")", "first", lambda folders: test_a_window_larger_than_a_file_may_be(folders, "--pull", ())),
+    ("piece.item(item.part, \"some\")", "piece.item(item.part, \"facts\")", lambda folders: test_a_window_larger_than_a_file_may_be(folders, "--pull", ())),
     ("head + b\"\".join(above)", "head + new", lambda folders: test_a_window_larger_than_a_file_may_be(folders, "--push", ())),
     ("\"ruled\" not in value", "True", test_metrics_of_folders),
 ]

@@ -107,9 +107,10 @@ def folder(cadf, tmp_path, monkeypatch):
 
 # ---- What is taken
 
-def test_further_files_and_nothing_new(folder):
+@pytest.mark.parametrize("mask", [0, 0o777])
+def test_further_files_and_nothing_new(folder, mask):
     """The first file makes the site, which only its owner reads; a further one keeps what stood before; nothing new changes nothing."""
-    ends(folder.take("s.cadf", "one.json", preexec_fn=lambda: os.umask(0)), 0)
+    ends(folder.take("s.cadf", "one.json", preexec_fn=lambda: os.umask(mask)), 0)
     leaves(folder.one)
     assert mode_of("s.cadf") == 0o600
     ends(folder.take("s.cadf", "two.json"), 0)
@@ -139,8 +140,9 @@ def test_event_by_itself(folder):
 
 def test_names_with_a_dash(folder):
     put("-s.json", document("e2"))
-    ends(folder.take("--", "-s.cadf", "-s.json"), 0)
-    assert held("-s.cadf") == folder.two
+    put("--", document("e1"))
+    ends(folder.take("--", "-s.cadf", "-s.json", "--"), 0)
+    assert held("-s.cadf") == folder.both
 
 
 def test_command_by_path(folder):

@@ -34,6 +34,8 @@ def raising(fault):
     (OSError(errno.ENOMEM, "Cannot allocate memory"), 4, "out of memory"),
     (OSError(errno.EIO, "Input/output error", "a\x1b"), 3, '"a\\u001b": Input/output error'),
     (OSError(errno.ENOSPC, "No space left on device"), 3, "standard output: write fault: No space left on device"),
+    (FileNotFoundError(errno.ENOENT, "No usable temporary directory found in ['/tmp']"), 3,
+     "No usable temporary directory found in ['/tmp']: make room there, or name another folder by TMPDIR"),
 ])
 def test_ended_by_the_machine(kit, capsys, fault, status, said):
     assert kit.ended(raising(fault)) == status
@@ -60,6 +62,26 @@ def test_ended_by_a_signal(kit, capsys, number):
 
     assert kit.ended(run) == 128 + number
     assert capsys.readouterr().err == "cadf-tool: stopped by %s\n" % number.name
+
+
+NOT_NOW = ": it can't be started now: try again, or allow more files and processes"
+
+
+@pytest.mark.parametrize("fault, said", [
+    (FileNotFoundError(errno.ENOENT, "No such file or directory", "cadf"), "No such file or directory: name the command by CADF, or put it on PATH"),
+    (BlockingIOError(errno.EAGAIN, "Resource temporarily unavailable"), "Resource temporarily unavailable" + NOT_NOW),
+    (OSError(errno.EMFILE, "Too many open files"), "Too many open files" + NOT_NOW),
+])
+def test_start_that_fails(kit, monkeypatch, fault, said):
+    """Another name is advised where the command is at fault, and not where no process can be made. That is no fault of the output."""
+    def start(*_, **__):
+        raise fault
+
+    monkeypatch.setattr(kit, "CADF", "cadf")
+    monkeypatch.setattr(kit.subprocess, "Popen", start)
+    with pytest.raises(OSError) as found, kit.started(["cadf"]):
+        pass
+    assert (found.value.filename, found.value.strerror) == ("cadf", said)
 
 
 @pytest.mark.parametrize("words", [["--plain="], ["--plain", ""], ["--kind="], ["--list=a", "--list="], ["--one="], ["SITE", "--chosen="], [""]])
