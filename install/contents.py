@@ -3,6 +3,7 @@
 install/install puts these files under a prefix, install/package into a package.
 """
 import os
+import signal
 import subprocess
 from typing import NamedTuple
 
@@ -47,8 +48,11 @@ def write(path, data, mode):
 
 
 def told(fault):
-    """The line of an OSError: of two names the one that was to be made."""
-    return ": ".join(filter(None, (fault.filename2 or fault.filename, fault.strerror)))
+    """The line of an OSError, of two names the one that was to be made; or of a CalledProcessError, how the program ended."""
+    if isinstance(fault, OSError):
+        return ": ".join(filter(None, (fault.filename2 or fault.filename, fault.strerror)))
+    ended = fault.returncode
+    return "%s ended %s" % (fault.cmd[0], "with %d" % ended if ended >= 0 else "by signal %d, %s" % (-ended, signal.strsignal(-ended)))
 
 
 def names_below(top, folder):

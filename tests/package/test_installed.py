@@ -6,9 +6,11 @@ import fcntl
 import os
 import re
 import shutil
+import subprocess
 
 import pytest
 
+from install import contents
 from tests import TOP, text_of, tracked
 from tests.command.commands import COMMANDS
 from tests.command.vectors import read
@@ -255,15 +257,21 @@ def test_two_at_once(cadf, tmp_path, word):
     install(word, tmp_path)
 
 
+def tree_with(folder, cadf):
+    """Makes a copy of the tree, without its history and with nothing built but the command. Returns the folder."""
+    for name in tracked():
+        (folder / name).parent.mkdir(parents=True, exist_ok=True)
+        shutil.copy2(os.path.join(TOP, name), folder / name)
+    binary = folder / "crates" / "cadf" / "out" / "cadf"
+    binary.parent.mkdir(exist_ok=True)
+    shutil.copy2(cadf, binary)
+    return folder
+
+
 def test_no_history(cadf, tmp_path):
     """A tree without history is installed too; what an editor left beside a unit isn't put where systemd looks."""
-    tree = tmp_path / "tree"
-    for name in tracked():
-        (tree / name).parent.mkdir(parents=True, exist_ok=True)
-        shutil.copy2(os.path.join(TOP, name), tree / name)
-    for name in ("crates/cadf/out/cadf", "examples/systemd/cadf-spool@.service~"):
-        (tree / name).parent.mkdir(parents=True, exist_ok=True)
-        shutil.copy2(cadf, tree / name)
+    tree = tree_with(tmp_path / "tree", cadf)
+    (tree / "examples" / "systemd" / "cadf-spool@.service~").write_text("")
     status, told = said(tree / "install" / "install", "--any", tmp_path / "prefix")
     assert status == 0, told
     assert [path for path in (tmp_path / "prefix/lib").rglob("*~*")] == [] and (tmp_path / "prefix/lib/systemd/system/cadf-spool@.service").exists()
@@ -291,10 +299,19 @@ def test_nobody_reads(cadf, tmp_path):
 
 @pytest.mark.needs("prlimit")
 def test_full(cadf, tmp_path):
-    """Where a file can't be written whole, it is named."""
-    done = ended("prlimit", ["--fsize=%d" % 2 ** 16, INSTALL, "--any", tmp_path])
-    place = os.path.join(tmp_path, "bin", "cadf.new")
+    """Where a file can't be written whole, it is named. The library, which would be linked first, isn't there."""
+    install_there, prefix = tree_with(tmp_path / "tree", cadf) / "install" / "install", tmp_path / "prefix"
+    done = ended("prlimit", ["--fsize=%d" % 2 ** 16, install_there, "--any", prefix])
+    place = os.path.join(prefix, "bin", "cadf.new")
     assert (done.status, done.error.decode()) == (1, "install: %s: File too large\n" % place)
+
+
+@pytest.mark.parametrize("command, how", [("kill -XFSZ $$", "by signal 25, File size limit exceeded"), ("exit 3", "with 3")])
+def test_failed_program(command, how):
+    """Of a program that failed its name is told, and how it ended."""
+    with pytest.raises(subprocess.CalledProcessError) as caught:
+        subprocess.run(["sh", "-c", command], check=True)
+    assert contents.told(caught.value) == "sh ended " + how
 
 
 def test_no_prefix(tmp_path):
