@@ -1,9 +1,10 @@
 """.ci/shorten on a small crate, with a prover of its own: it puts a call where the prover finds a proof, and nowhere else.
 
 The prover finds `first` in all its cases at once, `second` by `search` alone and with what it cites, `third` by `grind`,
-but not within half of its limits, `fourth` without what it names, and the answer `returns`, but within half of its limits
-with what it cites alone. The trials must find fault with a version that doesn't read why a probe fails, with one that
-takes nothing back, with one that takes a value for a proof, and with one that reads no answers.
+but not within half of its limits, `fourth` without what it names, `fifth` with what its induction assumes, and the answer
+`returns`, but within half of its limits with what it cites alone. It reads no file in which a call isn't well formed. The
+trials must find fault with a version that doesn't read why a probe fails, with one that takes nothing back, with one that
+takes a value for a proof, with one that reads no answers, and with two that hand on more than the arguments of a call.
 """
 import os
 import re
@@ -36,6 +37,12 @@ third n =
 fourth : (n : ℕ) → n ≡ n
 fourth n = grind (arith, common_steps, first)
 
+fifth : (n : ℕ) → n ≡ n
+fifth zero = refl
+fifth (suc n) =
+    let e = fifth n in
+    sym (fifth e)
+
 one_more : ℕ → ℕ
 one_more n =
     let m = suc n in
@@ -62,7 +69,7 @@ SHORTENED = """-- Lemmas.
 use Rattle.std.proofs.Common.{rules}
 use Rattle.std.proofs.lemmas.Grind.{common_steps}
 use Rattle.std.proofs.Common.{arith}
-use Rattle.std.proofs.Common.{◌≡◌, ℕ, suc, sym, ◌∙◌}
+use Rattle.std.proofs.Common.{◌≡◌, ℕ, zero, suc, refl, sym, ◌∙◌}
 use Rattle.one.proofs.Low.{below}
 
 first : (n : ℕ) → n ≡ n
@@ -80,6 +87,10 @@ third n =
 fourth : (n : ℕ) → n ≡ n
 fourth n = grind (arith, common_steps)
 
+fifth : (n : ℕ) → n ≡ n
+fifth zero = refl
+fifth (suc n) = grind (arith, common_steps, (fifth n))
+
 one_more : ℕ → ℕ
 one_more n =
     let m = suc n in
@@ -87,12 +98,15 @@ one_more n =
 """
 PROVER = """#!%s
 import re, sys
-UNFIT = {"second": "grind|search rules", "third": "steps !", "returns": ""}
+UNFIT = {"second": "grind|search rules", "third": "steps !", "fifth": "steps !|steps[)] !|fifth e|search", "returns": ""}
 SLOW = {"third": "=", "returns": "steps[)]$"}
 refused = False
 for path in ("proofs/Some.antt", "proofs/some/f/Answers.antt"):
     with open(path, encoding="utf-8") as file:
         lines = file.read().split("\\n")
+    if any("{! " in line and " in)" in line for line in lines):
+        print("./%%s:1:1: error: expected `)`" %% path)
+        continue
     for number, line in enumerate(lines, 1):
         name = line.split(" ")[0]
         if " = {! " in line:
@@ -133,6 +147,7 @@ def test_shorten(shortened):
 
 
 @pytest.mark.parametrize("changed", [{"UNFIT": re.compile("nothing")}, {"REFUSED": re.compile("nothing")}, {"is_value": lambda signature: False},
+                                     {"BOUND": re.compile("(nothing)")}, {"calls_of": lambda name, body: ["(%s n in)" % name]},
                                      {"PROBE": re.compile(r"^\./(proofs/\w+\.antt):(\d+):\d+: goal \? in `[^`]*`\n((?:(?: .*)?\n)*)", re.M)}])
 def test_a_wrong_version_is_found(shortened, changed):
     assert shortened(**changed) != (SHORTENED, ANSWERED)
