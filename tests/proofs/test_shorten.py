@@ -1,10 +1,11 @@
 """.ci/shorten on a small crate, with a prover of its own: it puts a call where the prover finds a proof, and nowhere else.
 
 The prover finds `first` in all its cases at once, `second` by `search` alone and with what it cites, `third` by `grind`,
-but not within half of its limits, `fourth` without what it names, `fifth` with what its induction assumes, and the answer
-`returns`, but within half of its limits with what it cites alone. It reads no file in which a call isn't well formed. The
-trials must find fault with a version that doesn't read why a probe fails, with one that takes nothing back, with one that
-takes a value for a proof, with one that reads no answers, and with two that hand on more than the arguments of a call.
+but not within half of its limits, `fourth` without what it names, `fifth` with what its induction assumes, `sixth` with what
+it names, as it stands, and the answer `returns`, but within half of its limits with what it cites alone. It reads no file
+in which a call isn't well formed. The trials must find fault with a version that doesn't read why a probe fails, with one
+that takes nothing back, with one that takes a value for a proof, with one that reads no answers, with two that hand on
+more than the arguments of a call, and with one that takes a call of two lines for something else.
 """
 import os
 import re
@@ -42,6 +43,10 @@ fifth zero = refl
 fifth (suc n) =
     let e = fifth n in
     sym (fifth e)
+
+sixth : (n : ℕ) → n ≡ n
+sixth n =
+    grind (arith, common_steps, first)
 
 one_more : ℕ → ℕ
 one_more n =
@@ -91,6 +96,10 @@ fifth : (n : ℕ) → n ≡ n
 fifth zero = refl
 fifth (suc n) = grind (arith, common_steps, (fifth n))
 
+sixth : (n : ℕ) → n ≡ n
+sixth n =
+    grind (arith, common_steps, first)
+
 one_more : ℕ → ℕ
 one_more n =
     let m = suc n in
@@ -98,7 +107,7 @@ one_more n =
 """
 PROVER = """#!%s
 import re, sys
-UNFIT = {"second": "grind|search rules", "third": "steps !", "fifth": "steps !|steps[)] !|fifth e|search", "returns": ""}
+UNFIT = {"second": "grind|search rules", "third": "steps !", "fifth": "steps !|steps[)] !|fifth e|search", "sixth": "steps[)] !", "returns": ""}
 SLOW = {"third": "=", "returns": "steps[)]$"}
 refused = False
 for path in ("proofs/Some.antt", "proofs/some/f/Answers.antt"):
@@ -147,7 +156,7 @@ def test_shorten(shortened):
 
 
 @pytest.mark.parametrize("changed", [{"UNFIT": re.compile("nothing")}, {"REFUSED": re.compile("nothing")}, {"is_value": lambda signature: False},
-                                     {"BOUND": re.compile("(nothing)")}, {"calls_of": lambda name, body: ["(%s n in)" % name]},
+                                     {"BOUND": re.compile("(nothing)")}, {"CALL": re.compile("nothing")}, {"calls_of": lambda name, body: ["(%s n in)" % name]},
                                      {"PROBE": re.compile(r"^\./(proofs/\w+\.antt):(\d+):\d+: goal \? in `[^`]*`\n((?:(?: .*)?\n)*)", re.M)}])
 def test_a_wrong_version_is_found(shortened, changed):
     assert shortened(**changed) != (SHORTENED, ANSWERED)
