@@ -1,4 +1,6 @@
 -- Sets in parts by a key: which members a part has, and what the parts have together.
+use Rattle.std.proofs.lemmas.Grind.{common_steps}
+use Rattle.std.proofs.Common.{arith}
 use Rattle.std.proofs.Common.{◌≡◌, List, [], ◌∷◌, map, refl, sym, ap, ◌∙◌, subst, inl, inr}
 use Rattle.std.specs.Cmp.Lexicographic.{bytes_decides}
 use Rattle.cadf_join.specs.Sets as set
@@ -32,8 +34,7 @@ of_union_of F (j ∷ ks) q h = elim (members.of_union texts_total texts_same (F 
 ]
 
 pub union_all_same : (F G : Text → Contents) (ks : List Text) → ((k : Text) → F k ≡ G k) → union_all (map F ks) ≡ union_all (map G ks)
-union_all_same F G [] each = refl
-union_all_same F G (k ∷ ks) each = λ i. set.union (each k i) (union_all_same F G ks each i)
+union_all_same F G ks each = grind (arith, common_steps)
 
 module _ (of : Texts → Text) where
   -- ---- members
