@@ -1,6 +1,7 @@
 -- What a run on bytes in memory hands out in a buffer.
-use Rattle.std.proofs.Common.{◌≡◌, ℕ, List, [], ◌∷◌, ◌++◌, length, map, Option, Some, IfSome, Result, Ok, Err, refl, ap, ◌∙◌, subst}
-use Rattle.std.proofs.KnownBytes.{Consumes-whole}
+use Rattle.std.proofs.lemmas.Grind.{common_steps}
+use Rattle.std.proofs.Common.{arith}
+use Rattle.std.proofs.Common.{◌≡◌, ℕ, List, [], ◌∷◌, ◌++◌, length, map, Option, Some, Result, Ok, Err, refl, ap, ◌∙◌, subst}
 use Rattle.std.specs.Io.KnownBytes.{Appends}
 use Rattle.cadf_json.specs.declared.stream.Sink.{Ghosts as Sink}
 use Rattle.cadf_json.specs.declared.stream.Source.{Ghosts as Source}
@@ -8,7 +9,7 @@ use Rattle.cadf_join.specs.Contents.{Text}
 use Rattle.cadf_tool.specs.declared.input.Loaded.{Loaded}
 use Rattle.cadf_tool.specs.declared.fault.ToolFault.{ToolFault}
 use Rattle.cadf_tool.specs.Inputs.{SourceState, source_state}
-use Rattle.cadf_tool.specs.Run.{SourceTransition, InputSpec, Sources, one, two, both, all, all_from, input_spec, IsReadAs, AreLoaded, IsExpectedOfBy}
+use Rattle.cadf_tool.specs.Run.{SourceTransition, InputSpec, Sources, one, two, both, all, all_from, IsReadAs, AreLoaded, IsExpectedOfBy}
 use Rattle.cadf_tool.specs.Run.{IsWritten, IsAnswer, IsValueOf, IsRunBy, IsRun}
 use Rattle.cadf_memory.specs.declared.buffer.Buffer.{Buffer}
 use Rattle.cadf_memory.specs.Buffers.{buffer_name, buffer_before, buffer_text}
@@ -20,9 +21,7 @@ use Rattle.cadf_memory.proofs.Framed.{frame, name_kept, before_kept, text_added}
 -- what was read of bytes that are known is what they are
 read_of : {T : Type 0} (reader : InputSpec T) (t : SourceTransition) (bytes : List ℕ) → t.old.left ≡ Some bytes
     → (value : T) → IsReadAs reader t value → reader.is bytes value
-read_of reader t bytes given value (g, f) =
-    subst (λ (x : Option (List ℕ)). IfSome x (λ b. reader.is b value)) given
-    (Consumes-whole t.old.left t.new.left g.0 (λ b. reader.is b value) g.1.0 g.1.1 g.1.2)
+read_of reader t bytes given value (g, f) = grind (arith, common_steps)
 
 -- ---- inputs in a list
 
@@ -50,10 +49,8 @@ are_inputs [] (n ∷ ns) bytes ls e h = absurd h
 are_inputs (o ∷ os) [] bytes ls e h = absurd h
 are_inputs (o ∷ os) (n ∷ ns) bytes [] e h = absurd h
 are_inputs (o ∷ os) (n ∷ ns) [] (l ∷ ls) e h = absurd (no_head (left_of o) (map left_of os) e)
-are_inputs (o ∷ os) (n ∷ ns) (b ∷ bs) (l ∷ ls) e h = (
-  read_of input_spec (record { old = o; new = n }) b (head_same (left_of o) (Some b) (map left_of os) (map Some bs) e) l h.0,
-  are_inputs os ns bs ls (tail_same (left_of o) (Some b) (map left_of os) (map Some bs) e) h.1,
-)
+are_inputs (o ∷ os) (n ∷ ns) (b ∷ bs) (l ∷ ls) e h =
+    grind (arith, common_steps, read_of, head_same, tail_same, (are_inputs os ns bs ls (tail_same (left_of o) (Some b) (map left_of os) (map Some bs) e) h.1))
 
 -- ---- runs
 

@@ -1,4 +1,6 @@
 -- Why a run on bytes in memory gave up.
+use Rattle.std.proofs.lemmas.Grind.{common_steps}
+use Rattle.std.proofs.Common.{arith}
 use Rattle.std.proofs.Common.{◌≡◌, ℕ, List, map, Some, Result, Ok, Err, ◌⊎◌, inl, inr, sym, ◌∙◌, subst}
 use Rattle.cadf_json.specs.declared.stream.Sink.{Ghosts as Sink}
 use Rattle.cadf_json.specs.declared.stream.Source.{Ghosts as Source}
@@ -70,8 +72,7 @@ module _ {A S M : Type 0} (first : Sources A) (source : Source S) (ss rs : List 
 
 by_first : {S A M : Type 0} (fault result : ToolFault) → result ≡ fault_in_memory_of fault → (IsSeen : S → Type 0) (sources : S → Sources A)
     (work : A → Result M ToolFault → Type 0) (s : S) → IsSeen s → IsFirst (sources s) work (fault_in_memory_of fault) → IsFirstBy IsSeen sources work result
-by_first fault result answered IsSeen sources work s seen first =
-    subst (λ (f : ToolFault). IsFirstBy IsSeen sources work f) (sym answered) (record { source = s; seen = seen; first = first })
+by_first fault result answered IsSeen sources work s seen first = grind (arith, common_steps)
 
 module _ {M W V : Type 0} (tell : M → Text) (sink : Sink W) (old new : W) (fault result : ToolFault)
     (answered : result ≡ fault_in_memory_of fault) where

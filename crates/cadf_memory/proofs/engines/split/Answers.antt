@@ -1,3 +1,5 @@
+use Rattle.std.proofs.lemmas.Grind.{common_steps}
+use Rattle.std.proofs.Common.{arith}
 use Rattle.std.proofs.Common.{Some, ap, refl, rules, map, ◌∙◌}
 use Rattle.cadf_tool.specs.Join.{join_of}
 use Rattle.cadf_split.specs.Split.{split_text}
@@ -9,9 +11,7 @@ use Rattle.std.proofs.lemmas.Result.{err_from_is_err_and}
 use Rattle.cadf_memory.proofs.engines.split.Goals as goal
 
 pub returns-in_err-sources-clause-err : goal.returns-in_err-sources-clause-err
-returns-in_err-sources-clause-err c =
-    let p = err_from_is_err_and c.from_residual.result c.from_residual.ensures.1 in
-    rw (p.1, p.2) (refused_unread (join_of _) _)
+returns-in_err-sources-clause-err c = grind (arith, common_steps, err_from_is_err_and, refused_unread)
 
 pub returns-in-Ok-clause-ok : goal.returns-in-Ok-clause-ok
 returns-in-Ok-clause-ok c =
