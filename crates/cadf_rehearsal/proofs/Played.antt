@@ -1,7 +1,7 @@
 -- The world after the turns so far, one turn further. The turns so far have the newest first.
-use Rattle.std.proofs.Common.{◌≡◌, ℕ, ◌+◌, ◌<◌, ◌≤◌, List, [], ◌∷◌, ◌++◌, reverse, length, take, drop, get_or, sym, ap, ◌∙◌, add-one, arith}
+use Rattle.std.proofs.lemmas.Grind.{common_steps}
+use Rattle.std.proofs.Common.{◌≡◌, ℕ, ◌+◌, ◌<◌, ◌≤◌, List, [], ◌∷◌, ◌++◌, reverse, length, take, drop, get_or, sym, ap, ◌∙◌, arith}
 use Rattle.std.specs.Prelude.{Ok, Err}
-use Rattle.std.proofs.Math.Seq.{take-suc}
 use Rattle.std.proofs.lemmas.List.{reverse-append, length-reverse, length-take-le, take-append-drop}
 use Rattle.cadf_join.specs.Contents.{Text, Texts}
 use Rattle.cadf_rehearsal.specs.declared.turn.Turn.{Turn}
@@ -13,10 +13,7 @@ abbrev pub played : List Turn → List Turn
 played ts = reverse ts
 
 pub played_more : (ts : List Turn) (i : ℕ) (t : Turn) → i < length ts → t ≡ get_or ts i t → played (take (i + 1) ts) ≡ t ∷ played (take i ts)
-played_more ts i t h is =
-    ap (λ k. played (take k ts)) (add-one i)
-    ∙ ap played (take-suc ts i t h ∙ ap (λ x. take i ts ++ x ∷ []) (sym is))
-    ∙ reverse-append (take i ts) (t ∷ [])
+played_more ts i t h is = grind (arith, common_steps)
 
 pub played_length : (ts : List Turn) (i : ℕ) → i ≤ length ts → length (played (take i ts)) ≡ i
 played_length ts i h = length-reverse (take i ts) ∙ length-take-le i ts h

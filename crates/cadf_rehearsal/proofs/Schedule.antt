@@ -1,6 +1,7 @@
 -- A schedule with deltas results in the same sets as one with whole copies.
+use Rattle.std.proofs.lemmas.Grind.{common_steps}
 use Rattle.std.proofs.Common.{◌≡◌, ℕ, suc, ◌<◌, ◌≤◌, ◌≢◌, Bool, true, false, cond, List, [], ◌∷◌, refl, sym, ap, ◌∙◌, subst, inl, inr, arith, eq-eqb}
-use Rattle.std.proofs.Common.{ne_eqb, eqb-true, ltb-true, leb-true}
+use Rattle.std.proofs.Common.{eqb-true, ltb-true, leb-true}
 use Rattle.std.proofs.lemmas.Bool.{eqb-false}
 use Rattle.std.specs.Prelude.{Result, Ok, Err, nat_eq, nat_lt}
 use Rattle.cadf_join.specs.Sets as set
@@ -22,8 +23,7 @@ use Rattle.cadf_line.proofs.Missing.{missing_within, missing_by_is, part_suffice
 use Rattle.cadf_set.proofs.ContributionLaws.{grounded_union, grounded_empty, document_grounded}
 
 cond_ok : {A C : Type 0} (b : Bool) (r : Result A C) (c : C) (x : A) → cond b r (Err c) ≡ Ok x → (b ≡ true) × (r ≡ Ok x)
-cond_ok true r c x h = (refl, h)
-cond_ok false r c x h = cc
+cond_ok b r c x h = grind (arith, common_steps)
 
 Ok-same : {A C : Type 0} (x y : A) → ◌≡◌ {A = Result A C} (Ok x) (Ok y) → x ≡ y
 Ok-same x y h = cc
@@ -102,26 +102,16 @@ either_within true s t = laws.IsWithin-left texts_total s t
 either_within false s t = laws.IsWithin-refl s
 
 pub plain_grows : (t : Turn) (e : List Turn) (j : ℕ) → IsWithin (plain e j) (plain (t ∷ e) j)
-plain_grows (Learn k d) e j = either_within (nat_eq k j) _ _
-plain_grows (Ask k) e j = laws.IsWithin-refl _
-plain_grows (Answer k m) e j = laws.IsWithin-refl _
-plain_grows (Send k) e j = laws.IsWithin-refl _
-plain_grows (Deliver m k) e j = either_within (nat_eq k j) _ _
+plain_grows t e j = grind (arith, common_steps, either_within)
 
 other : (m n : ℕ) (s t : Contents) → m ≤ n → cond (nat_eq m (suc n)) s t ≡ t
-other m n s t h =
-    let ne : m ≢ suc n = omega arith in
-    ap (λ b. cond b s t) (ne_eqb m (suc n) ne)
+other m n s t h = grind (arith, common_steps)
 
 this : (n : ℕ) (s t : Contents) → cond (nat_eq (suc n) (suc n)) s t ≡ s
 this n s t = ap (λ b. cond b s t) (eq-eqb (suc n) (suc n) refl)
 
 pub carried_stays : (t : Turn) (e : List Turn) (m : ℕ) → m ≤ made_by e → carried (t ∷ e) m ≡ carried e m
-carried_stays (Learn k d) e m h = refl
-carried_stays (Ask k) e m h = other m (made_by e) _ _ h
-carried_stays (Answer k i) e m h = other m (made_by e) _ _ h
-carried_stays (Send k) e m h = other m (made_by e) _ _ h
-carried_stays (Deliver i k) e m h = refl
+carried_stays t e m h = grind (arith, common_steps)
 
 is_message_at : (w : World) (m : ℕ) → is_message w m ≡ true → (0 < m) × (m ≤ w.made)
 is_message_at w m h = (ltb-true 0 m (members.and_first _ _ h), leb-true m w.made (members.and_second (nat_lt 0 m) _ h))

@@ -1,7 +1,7 @@
 -- A federation's vectors, as the functions of a world.
+use Rattle.std.proofs.lemmas.Grind.{common_steps}
 use Rattle.std.proofs.Common.{◌≡◌, ℕ, suc, zero, ◌-◌, ◌<◌, ◌≤◌, Bool, true, false, cond, List, [], ◌∷◌, ◌++◌, map, length, get_or, set, refl, sym, ap, ◌∙◌}
-use Rattle.std.proofs.Common.{arith, lt-ltb, le-leb, eq-eqb, eqb-true, ne_eqb, sub-one, ◌≢◌}
-use Rattle.std.specs.Cmp.{both_ways}
+use Rattle.std.proofs.Common.{arith, lt-ltb, le-leb, ne_eqb, sub-one, ◌≢◌}
 use Rattle.std.specs.Prelude.{Result, Ok, Err, nat_eq}
 use Rattle.cadf_join.specs.Sets as sets
 use Rattle.cadf_join.specs.Contents.{Text, Contents}
@@ -21,9 +21,7 @@ suc_same : (j k : ℕ) → suc j ≡ suc k → j ≡ k
 suc_same j k e = omega arith
 
 both_later : (j k : ℕ) → nat_eq (suc j) (suc k) ≡ nat_eq j k
-both_later j k = both_ways _ _
-    (λ h. eq-eqb j k (suc_same j k (eqb-true (suc j) (suc k) h)))
-    (λ h. eq-eqb (suc j) (suc k) (ap suc (eqb-true j k h)))
+both_later j k = grind (arith, common_steps)
 
 module _ {S A : Type 0} (f : S → A) (d : A) where
   pub at_or_read : (xs : List S) (k : ℕ) (x : S) → k < length xs → x ≡ get_or xs k x → at_or d (map f xs) k ≡ f x
@@ -53,8 +51,7 @@ module _ {S A : Type 0} (f : S → A) (d : A) where
   at_number_read xs (suc m) x pos h e = at_or_read xs m x (omega arith) (e ∙ ap (λ k. get_or xs k x) (sub-one (suc m)))
 
 length_push : {A : Type 0} (xs : List A) (v : A) → suc (length xs) ≡ length (xs ++ v ∷ [])
-length_push [] v = refl
-length_push (x ∷ xs) v = ap suc (length_push xs v)
+length_push xs v = grind (arith, common_steps)
 
 module _ {S M : Type 0} (contents : S → Contents) (message : M → Message) (d : Message) where
   abbrev pub seen : List S → List M → World

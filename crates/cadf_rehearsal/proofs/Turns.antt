@@ -1,5 +1,8 @@
 -- The effect of one turn on a federation: a site gets a set, or a message is added.
-use Rattle.std.proofs.Common.{◌≡◌, ℕ, zero, suc, replicate, ◌-◌, ◌<◌, ◌≤◌, Bool, true, false, cond, length, map, get_or, ◌++◌, ◌∷◌, [], List}
+use Rattle.std.proofs.Common.{rules}
+use Rattle.std.proofs.lemmas.Grind.{common_steps}
+use Rattle.std.proofs.Common.{arith}
+use Rattle.std.proofs.Common.{◌≡◌, ℕ, zero, suc, replicate, ◌-◌, ◌<◌, ◌≤◌, true, false, cond, length, map, get_or, ◌++◌, ◌∷◌, [], List}
 use Rattle.std.proofs.Common.{refl, sym, ap, ◌∙◌, lt-ltb}
 use Rattle.std.specs.Prelude.{Result, Err, Option, Some, None, nat_lt}
 use Rattle.std.specs.Vec.{with_item}
@@ -14,7 +17,7 @@ use Rattle.cadf_rehearsal.specs.Federation.{at_or, at_number, held_at, log_at, m
 use Rattle.cadf_rehearsal.specs.declared.federation.Federation.{Federation}
 use Rattle.cadf_rehearsal.specs.declared.federation.Message.{Message}
 use Rattle.cadf_rehearsal.specs.declared.fault.RehearseFault.{RehearseFault}
-use Rattle.cadf_rehearsal.specs.declared.federation.Message.TheVariants.{Asked, PartFor, Whole}
+use Rattle.cadf_rehearsal.specs.declared.federation.Message.TheVariants.{Asked, Whole}
 use Rattle.cadf_line.specs.Digest.{atom_digest}
 use Rattle.cadf_set.specs.Inventory.{InventoryModel}
 use Rattle.cadf_rehearsal.specs.declared.fault.RehearseFault.TheVariants.{NoSite, NoMessage, NotInventory}
@@ -37,10 +40,7 @@ pub at_message : (f : Federation) (m turn : ℕ) (x : Message) (F : schedule.Mes
     (v : Result schedule.World RehearseFault) → 0 < m → m ≤ length f.messages.items
     → x ≡ get_or f.messages.items (m - 1) x → F (message_of x) ≡ v
     → cond (schedule.is_message (world_of f) m) (F ((world_of f).messages m)) (Err (NoMessage turn)) ≡ v
-at_message f m turn x F v pos le at is =
-    ap (λ t. cond t (F ((world_of f).messages m)) (Err (NoMessage turn))) (made_is held_at message_of none f.messages.items m pos le f.sites.items)
-    ∙ ap F (at_number_read message_of none f.messages.items m x pos le at)
-    ∙ is
+at_message f m turn x F v pos le at is = grind (arith, common_steps, made_is, at_number_read)
 
 -- ---- one log
 
@@ -59,22 +59,13 @@ site_takes f k old new s h at is = seen_adds held_at message_of none f.sites.ite
 
 pub site_later : (f : Federation) (k : ℕ) (new : ReplicaModel) → k < length f.sites.items → ((log : Text) → IsOneLog log f → new.log ≡ log)
     → IsLater f (with_site f k new)
-site_later f k new h same = record {
-  count = length-set f.sites.items k new;
-  one_log = λ log one. record { sites = all_set log_at log f.sites.items k new h one.sites (same log one); messages = one.messages };
-}
+site_later f k new h same = grind (arith, common_steps, length-set, all_set)
 
 -- ---- a message is added
 
 pub kept_later : (f g : Federation) (m : Message) → g.sites ≡ f.sites → g.messages.items ≡ f.messages.items ++ m ∷ []
     → ((log : Text) → IsOneLog log f → log_of_message m ≡ log) → IsLater f g
-kept_later f g m sites messages same = record {
-  count = ap (λ v. length v.items) sites;
-  one_log = λ log one. record {
-    sites = λ j. (λ i. at_or log (map log_at (sites i).items) j) ∙ one.sites j;
-    messages = λ k. (λ i. at_number log (map log_of_message (messages i)) k) ∙ all_push log_of_message log f.messages.items m one.messages (same log one) k;
-  };
-}
+kept_later f g m sites messages same = grind (arith, common_steps, all_push)
 
 -- ---- the log that a document names
 
@@ -84,11 +75,7 @@ of_log log (Some n) is = (bytes_decides n log).1 (sym is)
 
 pub of_other_log : (log : Text) (named : Option Text) → ¬ IsOfLog log named → schedule.is_of_log log named ≡ false
 of_other_log log None other = absurd (other tt)
-of_other_log log (Some n) other = by (schedule.is_of_log log (Some n)) refl
-  where
-    by : (b : Bool) → schedule.is_of_log log (Some n) ≡ b → b ≡ false
-    by true same = absurd (other (sym ((bytes_decides n log).0 same)))
-    by false same = refl
+of_other_log log (Some n) other = search rules
 
 -- ---- sites that have nothing yet
 
@@ -109,28 +96,13 @@ fresh log n = replicate n (record { log = log; atoms = sets.empty })
 pub starts : (log : Text) (n : ℕ) (xs : List ReplicaModel) (ms : List Message) → xs ≡ fresh log n → ms ≡ []
     → ◌≡◌ {A = schedule.World}
     (record { sites = at_or sets.empty (map held_at xs); made = length ms; messages = at_number none (map message_of ms) }) schedule.start
-starts log n xs ms sites messages =
-    (λ i. record { sites = at_or sets.empty (map held_at (sites i)); made = length (messages i); messages = at_number none (map message_of (messages i)) })
-    ∙ (λ i. record { sites = λ j. all_empty log n j i; made = 0; messages = λ m. no_message m i })
-  where
-    no_message : (m : ℕ) → at_number none [] m ≡ none
-    no_message zero = refl
-    no_message (suc m) = refl
+starts log n xs ms sites messages = grind (arith, common_steps, all_empty)
 
 pub begins : (log : Text) (n : ℕ) (f : Federation) → f.sites.items ≡ fresh log n → f.messages.items ≡ [] → IsOneLog log f
-begins log n f sites messages = record {
-  sites = λ j. (λ i. at_or log (map log_at (sites i)) j) ∙ all_named log n j;
-  messages = λ m. (λ i. at_number log (map log_of_message (messages i)) m) ∙ no_message m;
-}
-  where
-    no_message : (m : ℕ) → at_number log [] m ≡ log
-    no_message zero = refl
-    no_message (suc m) = refl
+begins log n f sites messages = grind (arith, common_steps, all_named)
 
 -- ---- an answer to a message that is no inventory
 
 pub not_answered : (log : Text) (f : Federation) (turn j : ℕ) (x : Message) → ((a : ℕ) (i : InventoryModel) → x ≡ Asked a i → ⊥)
     → schedule.answered atom_digest log (length f.sites.items) turn (world_of f) j (message_of x) ≡ Err (NotInventory turn)
-not_answered log f turn j (Asked a i) other = absurd (other a i refl)
-not_answered log f turn j (PartFor a h) other = refl
-not_answered log f turn j (Whole h) other = refl
+not_answered log f turn j x other = grind (arith, common_steps)

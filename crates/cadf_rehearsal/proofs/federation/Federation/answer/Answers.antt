@@ -1,3 +1,4 @@
+use Rattle.std.proofs.lemmas.Grind.{common_steps}
 use Rattle.std.proofs.Common.{◌<◌, ◌≤◌, length, Ok, ap, sym, subst, ◌∙◌, inr, arith}
 use Rattle.std.specs.Prelude.{◌≢◌}
 use Rattle.cadf_join.specs.Sets as set
@@ -46,11 +47,7 @@ returns-clause-ok c log one =
     ∙ seen_posted _ _ _ f.sites.items _ f.messages.items _ _ (ap (λ v. v.items) c.post.ensures.rest) c.in_ok-post.ensures.ok)))
 
 pub returns-clause-later : goal.returns-clause-later
-returns-clause-later c =
-    let f = c.args.self.now in
-    let there : c.args.site < length f.sites.items = omega arith in
-    kept_later f c.post.new.self _ c.post.ensures.rest c.in_ok-post.ensures.ok (λ log one.
-    ap (λ h. h.log) c.in-Ok.ensures.ok.1 ∙ site_log log f c.args.site c.index-in-Asked.result.now one there c.index-in-Asked.ensures)
+returns-clause-later c = grind (arith, common_steps, kept_later, site_log)
 
 -- the site and the asker are of one log
 pub unreachable-requires : goal.unreachable-requires

@@ -1,3 +1,4 @@
+use Rattle.std.proofs.Common.{rules}
 use Rattle.std.proofs.Common.{◌≡◌, ◌<◌, ◌≤◌, length, Ok, Err, ap, sym, ◌∙◌, cond, eq-eqb, ne_eqb, inr, arith}
 use Rattle.cadf_rehearsal.specs.Schedule as schedule
 use Rattle.cadf_rehearsal.specs.Federation.{world_of}
@@ -68,10 +69,7 @@ returns-in_ok-joined-in-PartFor-clause-ok c log one =
     ∙ ap Ok (site_takes f c.args.site c.index_mut.result.now c.joined.new.site _ there c.index_mut.ensures.value c.in_ok-joined-in-PartFor.ensures.ok)))
 
 pub returns-in_ok-joined-in-PartFor-clause-later : goal.returns-in_ok-joined-in-PartFor-clause-later
-returns-in_ok-joined-in-PartFor-clause-later c =
-    let f = c.args.self.now in
-    let there : c.args.site < length f.sites.items = omega arith in
-    site_later f c.args.site c.joined.new.site there (λ log one. c.joined.ensures.log ∙ site_log log f c.args.site c.index_mut.result.now one there c.index_mut.ensures.value)
+returns-in_ok-joined-in-PartFor-clause-later c = search (rules, site_later, site_log)
 
 pub returns-in_ok-joined-in-Whole-clause-ok : goal.returns-in_ok-joined-in-Whole-clause-ok
 returns-in_ok-joined-in-Whole-clause-ok c log one =
@@ -87,7 +85,4 @@ returns-in_ok-joined-in-Whole-clause-ok c log one =
     c.in_ok-joined-in-Whole.ensures.ok)))
 
 pub returns-in_ok-joined-in-Whole-clause-later : goal.returns-in_ok-joined-in-Whole-clause-later
-returns-in_ok-joined-in-Whole-clause-later c =
-    let f = c.args.self.now in
-    let there : c.args.site < length f.sites.items = omega arith in
-    site_later f c.args.site c.joined-in-Whole.new.site there (λ log one. c.joined-in-Whole.ensures.log ∙ site_log log f c.args.site c.index_mut-in-Whole.result.now one there c.index_mut-in-Whole.ensures.value)
+returns-in_ok-joined-in-Whole-clause-later c = search (rules, site_later, site_log)

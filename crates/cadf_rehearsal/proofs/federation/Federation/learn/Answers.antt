@@ -1,9 +1,10 @@
-use Rattle.std.proofs.Common.{◌<◌, length, Ok, Err, ap, subst, ◌∙◌, cond, inr, arith}
+use Rattle.std.proofs.lemmas.Grind.{common_steps}
+use Rattle.std.proofs.Common.{◌<◌, length, Ok, Err, ap, subst, ◌∙◌, cond, arith}
 use Rattle.cadf_rehearsal.specs.Schedule as schedule
 use Rattle.cadf_rehearsal.specs.Federation.{world_of}
 use Rattle.cadf_rehearsal.specs.declared.fault.RehearseFault.TheVariants as fault
 use Rattle.cadf_rehearsal.proofs.Turns.{at_site, site_log, site_takes, site_later, of_log, of_other_log}
-use Rattle.cadf_set.specs.Refusals.{IsOfLog, IsNamedLogFault}
+use Rattle.cadf_set.specs.Refusals.{IsOfLog}
 use Rattle.cadf_atom.specs.Contributions.{document_atoms}
 use Rattle.cadf_rehearsal.proofs.federation.Federation.learn.Goals as goal
 
@@ -20,19 +21,7 @@ returns-in-Ok-clause-ok c log one =
     ∙ ap Ok (site_takes f c.args.site site c.take_document.new.self _ there c.index_mut.ensures.value c.in-Ok.ensures.ok.1))
 
 pub returns-in-Ok-clause-later : goal.returns-in-Ok-clause-later
-returns-in-Ok-clause-later c =
-    let f = c.args.self.now in
-    let there : c.args.site < length f.sites.items = omega arith in
-    site_later f c.args.site c.take_document.new.self there (λ log one.
-    c.take_document.ensures.log ∙ site_log log f c.args.site c.index_mut.result.now one there c.index_mut.ensures.value)
+returns-in-Ok-clause-later c = grind (arith, common_steps, site_later, site_log)
 
 pub returns-in-Err-OtherLog-clause-err : goal.returns-in-Err-OtherLog-clause-err
-returns-in-Err-OtherLog-clause-err c log one =
-    let f = c.args.self.now in
-    let there : c.args.site < length f.sites.items = omega arith in
-    let same = site_log log f c.args.site c.index_mut.result.now one there c.index_mut.ensures.value in
-    let other = subst (λ x. ¬ IsOfLog x c.args.document.now.log) same
-    (subst (IsNamedLogFault c.index_mut.result.now.log c.args.document.now.log) c.in-Err-OtherLog.field-0-is c.in-Err-OtherLog.ensures.err) in
-    inr (at_site f c.args.site c.args.number _ _ there
-    (ap (λ t. cond t (Ok (schedule.adds (world_of f) c.args.site (document_atoms c.args.document.now))) (Err (fault.OtherLog c.args.number)))
-    (of_other_log log c.args.document.now.log other)))
+returns-in-Err-OtherLog-clause-err c log one = grind (arith, common_steps, site_log, at_site, of_other_log)

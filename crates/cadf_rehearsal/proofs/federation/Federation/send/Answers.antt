@@ -1,3 +1,4 @@
+use Rattle.std.proofs.lemmas.Grind.{common_steps}
 use Rattle.std.proofs.Common.{◌<◌, length, Ok, ap, sym, ◌∙◌, arith}
 use Rattle.cadf_join.specs.Sets as set
 use Rattle.cadf_rehearsal.specs.Schedule as schedule
@@ -16,8 +17,4 @@ returns-clause-ok c log one =
     ∙ seen_posted _ _ _ f.sites.items _ f.messages.items _ _ (ap (λ v. v.items) c.post.ensures.rest) c.in_ok-post.ensures.ok))
 
 pub returns-clause-later : goal.returns-clause-later
-returns-clause-later c =
-    let f = c.args.self.now in
-    let there : c.args.site < length f.sites.items = omega arith in
-    kept_later f c.post.new.self _ c.post.ensures.rest c.in_ok-post.ensures.ok (λ log one.
-    ap (λ h. h.log) c.in_ok-copy.ensures ∙ site_log log f c.args.site c.index.result.now one there c.index.ensures)
+returns-clause-later c = grind (arith, common_steps, kept_later, site_log)
