@@ -2,7 +2,7 @@
 use Rattle.std.proofs.lemmas.Grind.{common_steps}
 use Rattle.std.proofs.Common.{◌≡◌, ◌∙◌, ◌<◌, ◌≤◌, ◌-◌, ◌^◌, ◌++◌, ℕ, zero, suc, Bool, true, false, List, [], ◌∷◌, length, take, drop, get_or, refl, ap, sym, subst, arith, length-drop, inl, inr}
 use Rattle.std.specs.Prelude.{nat_le, if◌then◌else◌}
-use Rattle.std.proofs.lemmas.Bool.{leb-true, leb-false}
+use Rattle.std.proofs.lemmas.Bool.{leb-false}
 use Rattle.std.proofs.lemmas.List.{length-take-le, take_at, append_cancel_left, take-append-drop}
 use Rattle.std.proofs.Math.Nat.{one-le-pow}
 use Rattle.sha2.specs.Sha256.{sha256}
@@ -14,7 +14,7 @@ use Rattle.cadf_set.specs.Inventory.{InventoryModel}
 use Rattle.cadf_inventory.proofs.RisingLists.{set_again}
 use Rattle.cadf_seal.specs.Tree.{tree, hashed, TextsDoNotCollide, RootDetermines}
 use Rattle.cadf_seal.specs.SealFile.{seal_of}
-use Rattle.cadf_seal.proofs.Trees.{tree_within, tree_beyond, root_tree, below_power, doubled}
+use Rattle.cadf_seal.proofs.Trees.{tree_beyond, root_tree, below_power, doubled}
 
 -- ---- what is hashed
 
@@ -66,7 +66,7 @@ AreDetermined h = (ds es : List Text) → length ds ≡ length es → 0 < length
 step : (h : ℕ) → AreDetermined h → (ds es : List Text) → length ds ≡ length es → 0 < length ds → length ds ≤ 2 ^ suc h
     → TextsDoNotCollide (hashed (suc h) ds) (hashed (suc h) es) → tree (suc h) ds ≡ tree (suc h) es
     → (b : Bool) → nat_le (length ds) (2 ^ h) ≡ b → ds ≡ es
-step h same ds es size some within apart is true small = grind (arith, common_steps, leb-true, hashed_at, tree_within)
+step h same ds es size some within apart is true small = grind (arith, common_steps)
 step h same ds es size some within apart is false large =
     let beyond = leb-false _ _ large in
     let far : 2 ^ h < length es = omega (arith, beyond, size) in
@@ -89,7 +89,7 @@ step h same ds es size some within apart is false large =
     sym (take-append-drop (2 ^ h) ds) ∙ (λ i. first i ++ second i) ∙ take-append-drop (2 ^ h) es
 
 same_leaves : (h : ℕ) → AreDetermined h
-same_leaves zero ds es size some within apart is = grind (arith, common_steps, one_leaf)
+same_leaves zero ds es size some within apart is = grind (arith, common_steps)
 same_leaves (suc h) ds es size some within apart is = step h (same_leaves h) ds es size some within apart is (nat_le (length ds) (2 ^ h)) refl
 
 pub root_determines : RootDetermines

@@ -4,7 +4,7 @@ use Rattle.std.proofs.Common.{◌≡◌, ◌≢◌, ◌==◌, ◌∙◌, ◌+◌
 use Rattle.std.specs.Prelude.{if◌then◌else◌, cond, nat_le, nat_lt, not}
 use Rattle.std.specs.List.{filter}
 use Rattle.std.specs.List.Sorted.{IsNonDecreasingBy}
-use Rattle.std.proofs.lemmas.Bool.{le-leb, lt-leb, ltb-true, ltb-false}
+use Rattle.std.proofs.lemmas.Bool.{le-leb, lt-leb}
 use Rattle.std.proofs.lemmas.List.{take_all, length-take-le}
 use Rattle.cadf_join.specs.Contents.{Text}
 use Rattle.cadf_seal.specs.Shown.{until, leaves_from, hidden, all_hidden}
@@ -86,7 +86,7 @@ module _ (p q : Leaf → Bool) (other : (s : Leaf) → q s ≡ not (p s)) where
       )
 
 not_below : (n m : ℕ) → nat_le m n ≡ not (nat_lt n m)
-not_below n m = grind (arith, common_steps, lt-leb, ltb-true, le-leb, ltb-false)
+not_below n m = grind (arith, common_steps)
 
 pub around : (m i : ℕ) (ss : List Leaf) → ((k : ℕ) (d : Leaf) → 0 ≤ k → k < i → nat_lt (get_or ss k d).place m ≡ true)
     → ((k : ℕ) (d : Leaf) → i ≤ k → k < length ss → nat_lt (get_or ss k d).place m ≡ false) → i ≤ length ss

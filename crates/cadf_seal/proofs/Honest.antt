@@ -79,7 +79,7 @@ pub needs_listed : (before past_last : Option Text) (fs : List Text) (f : Text) 
     → needs before past_last fs ≡ true
 unfolding needs
 needs_listed before past_last [] f l h k = absurd l
-needs_listed before past_last (g ∷ fs) f (inl e) h k = grind (arith, common_steps, and_true)
+needs_listed before past_last (g ∷ fs) f (inl e) h k = grind (arith, common_steps)
 needs_listed before past_last (g ∷ fs) f (inr l) h k = grind (arith, common_steps, or_true, (needs_listed before past_last fs f l h k))
 
 both_true : (a b c : Bool) → ((a && b) || c) ≡ true → ((a ≡ true) × (b ≡ true)) ⊎ (c ≡ true)

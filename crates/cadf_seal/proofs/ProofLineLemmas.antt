@@ -1,13 +1,12 @@
 -- Each line of a proof's file decodes to what it encodes, and to nothing else; and the lines of a proof are a kind of file.
 use Rattle.std.proofs.lemmas.Grind.{common_steps}
-use Rattle.std.proofs.Common.{◌≡◌, ◌⊎◌, inl, inr, ℕ, ◌-◌, ◌<◌, ◌^◌, List, [], ◌∷◌, ◌++◌, length, map, drop, Bool, true, false, cond, Option, Some}
+use Rattle.std.proofs.Common.{◌≡◌, ◌⊎◌, inl, inr, ℕ, ◌-◌, ◌<◌, ◌^◌, List, [], ◌∷◌, ◌++◌, length, map, drop, Bool, true, cond, Option, Some}
 use Rattle.std.proofs.Common.{None, refl, sym, ap, ◌∙◌, subst, arith, append_assoc, append-nil, true≢false, rules}
 use Rattle.std.specs.Prelude.{◌&&◌, nat_eq, nat_lt, is_some, unwrap_or, codes, decimal, slice_get}
 use Rattle.std.specs.List.{starts_with, filter_map, last_or, AllByRecursion}
 use Rattle.std.specs.Ordering.{is_lt}
 use Rattle.std.proofs.lemmas.Bool.{lt-ltb, ltb-true}
 use Rattle.hex.specs.Hex.{encode_lower}
-use Rattle.hex.proofs.HexLemmas.{length-encode_with}
 use Rattle.cadf_join.specs.Contents.{Text, text_cmp}
 use Rattle.cadf_event.specs.Known.{IsNameText}
 use Rattle.cadf_event.specs.LogName.{is_name_text, is_unbroken}
@@ -45,7 +44,7 @@ unfolding leaf_in_words
 shown-again s small is = grind (arith, common_steps, decimal_unblank, first_is, after_is, number-again, digest-again)
 
 no_digest : digest_of [] ≡ None
-no_digest = grind (arith, common_steps, digest-only, length-encode_with)
+no_digest = grind (arith, common_steps)
 
 pub shown-only : (l : List ℕ) (s : Leaf) → shown_in l ≡ Some s → (l ≡ shown_line s) × (s.place < 2 ^ 64) × IsDigest s.digest
 unfolding leaf_in_words

@@ -60,7 +60,7 @@ both_all P xs ys p q = grind (arith, common_steps)
 
 either : (xs ys zs : List Text) (b : Bool) → AllByRecursion IsDigest xs → AllByRecursion IsDigest ys → AllByRecursion IsDigest zs
     → AllByRecursion IsDigest (if b then xs else ys ++ zs)
-either xs ys zs b all left right = grind (arith, common_steps, both_all)
+either xs ys zs b all left right = grind (arith, common_steps)
 
 hidden_digests : (h a : ℕ) (ds : List Text) (ss : List Leaf) → AllByRecursion IsDigest (hidden h a ds ss)
 hidden_digests zero a ds [] = (tree_digest 0 ds, tt)

@@ -13,7 +13,7 @@ use Rattle.cadf_seal.specs.Tree.{leaf_hash, node_hash, tree, hashed, TextsDoNotC
 use Rattle.cadf_seal.specs.Shown.{until, leaves_from, hidden, Rebuilt, next_hash, node_beside, node_of, rebuilt, hash_of, rest_of_rebuilt, rehashed}
 use Rattle.cadf_seal.specs.Verified.{IsAt, PlacesRise}
 use Rattle.cadf_seal.specs.declared.leaf.Leaf.{Leaf}
-use Rattle.cadf_seal.proofs.Trees.{tree_within, tree_beyond, doubled}
+use Rattle.cadf_seal.proofs.Trees.{tree_beyond, doubled}
 use Rattle.cadf_seal.proofs.Determined.{node_text, of_halves, hashed_at, listed_left, listed_right, long, halves_of}
 
 -- ---- some of a list
@@ -121,7 +121,7 @@ Rebuilds h = (a n : ℕ) (ds : List Text) (ss : List Leaf) (more : List Text) �
 rebuilds_step : (h : ℕ) → Rebuilds h → (a n : ℕ) (ds : List Text) (s : Leaf) (ss : List Leaf) (more : List Text) → n ≡ length ds → n ≤ 2 ^ suc h
     → AllByRecursion (IsAt a ds) (s ∷ ss) → (b : Bool) → nat_le n (2 ^ h) ≡ b
     → rebuilt (suc h) a n (s ∷ ss) (hidden (suc h) a ds (s ∷ ss) ++ more) ≡ Some (tree (suc h) ds, more)
-rebuilds_step h rebuilds a n ds s ss more all room at true small = grind (arith, common_steps, leb-true, rebuilt_at, hidden_at, tree_within)
+rebuilds_step h rebuilds a n ds s ss more all room at true small = grind (arith, common_steps)
 rebuilds_step h rebuilds a n ds s ss more all room at false large =
     let beyond = leb-false _ _ large in
     let far : 2 ^ h < length ds = omega (arith, beyond, all) in
@@ -235,8 +235,7 @@ Shows h = (a n : ℕ) (ds : List Text) (ss : List Leaf) (hs rest : List Text) �
 shows_step : (h : ℕ) → Shows h → (a n : ℕ) (ds : List Text) (s : Leaf) (ss : List Leaf) (hs rest : List Text) → n ≡ length ds → n ≤ 2 ^ suc h
     → AllByRecursion (IsIn a n) (s ∷ ss) → PlacesRise (s ∷ ss) → AreHashes hs → TextsDoNotCollide (hashed (suc h) ds) (rehashed (suc h) a n (s ∷ ss) hs)
     → rebuilt (suc h) a n (s ∷ ss) hs ≡ Some (tree (suc h) ds, rest) → (b : Bool) → nat_le n (2 ^ h) ≡ b → AllByRecursion (IsAt a ds) (s ∷ ss)
-shows_step h shows a n ds s ss hs rest all room ins rises hashes apart e true small =
-    grind (arith, common_steps, leb-true, hashed_at, rehashed_at, rebuilt_at, tree_within)
+shows_step h shows a n ds s ss hs rest all room ins rises hashes apart e true small = grind (arith, common_steps)
 shows_step h shows a n ds s ss hs rest all room ins rises hashes apart e false large =
     let beyond = leb-false _ _ large in
     let far : 2 ^ h < length ds = omega (arith, beyond, all) in

@@ -1,7 +1,7 @@
 -- Lines that stand one after another, each as often as it is counted, and the writing of them.
 use Rattle.std.proofs.Common.{◌≡◌, ℕ, zero, suc, ◌<◌, ◌+◌, ◌-◌, List, [], ◌∷◌, ◌++◌, Option, sym, subst, ap, ◌∙◌, arith, append_assoc, append-nil}
 use Rattle.std.specs.List.{repeat}
-use Rattle.std.proofs.lemmas.Grind.{flat_map-append, common_steps}
+use Rattle.std.proofs.lemmas.Grind.{common_steps}
 use Rattle.std.specs.Io.KnownBytes.{Appends}
 use Rattle.std.proofs.KnownBytes.{Appends-trans}
 use Rattle.cadf_json.specs.Streams.{AppendsPrefix}
@@ -13,7 +13,7 @@ use Rattle.cadf_seal.specs.Verified.{repeated_text}
 
 -- the text with one further line
 text_and : (ls : List Repeated) (a : Repeated) → repeated_text (ls ++ a ∷ []) ≡ repeated_text ls ++ repeat a.count a.line.items
-text_and ls a = grind (arith, common_steps, flat_map-append, append-nil)
+text_and ls a = grind (arith, common_steps)
 
 repeat_after : (n : ℕ) (xs : List ℕ) → xs ++ repeat n xs ≡ repeat n xs ++ xs
 repeat_after zero xs = append-nil xs
@@ -43,7 +43,7 @@ pub as_left : (old now : Option (List ℕ)) (all left same : List ℕ) → IsLef
 as_left old now all left same w e = subst (IsLeft old now all) e w
 
 pub repeat_more : (n k : ℕ) (xs rest : List ℕ) → k < n → repeat (n - k) xs ++ rest ≡ xs ++ (repeat (n - (k + 1)) xs ++ rest)
-repeat_more n k xs rest h = grind (arith, common_steps, append_assoc)
+repeat_more n k xs rest h = grind (arith, common_steps)
 
 module _ (old now new : Option (List ℕ)) (all left line rest : List ℕ) (w : IsLeft old now all left) (e : left ≡ line ++ rest) where
   pub line_written : Appends now new line → IsLeft old new all rest

@@ -30,7 +30,7 @@ no_other : (h t : Text) (hs : List Text) → alone h hs ≡ Some t → (h ≡ t)
 no_other h t hs e = grind (arith, common_steps)
 
 root_only : (r : Rebuilt) (t : Text) → root_from r ≡ Some t → r ≡ Some (t, [])
-root_only r t e = grind (arith, common_steps, no_other)
+root_only r t e = grind (arith, common_steps)
 
 pub shows_leaves : ShowsLeaves
 unfolding proof_root

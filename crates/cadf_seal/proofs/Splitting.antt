@@ -12,7 +12,7 @@ use Rattle.cadf_seal.specs.Shown.{until, leaves_from, next_hash, rebuilt}
 use Rattle.cadf_seal.specs.ProofFile.{ProofModel}
 use Rattle.cadf_seal.specs.Verified.{PlacesRise, alone, root_from, proof_root}
 use Rattle.cadf_seal.specs.declared.leaf.Leaf.{Leaf}
-use Rattle.cadf_seal.proofs.Rebuilding.{rebuilt_at, rise_kept}
+use Rattle.cadf_seal.proofs.Rebuilding.{rise_kept}
 use Rattle.cadf_seal.proofs.Trees.{below_power, within_more}
 
 place_at_least : (m : ℕ) (ss : List Leaf) (k : ℕ) (d : Leaf) → k < length ss → AllByRecursion (λ t. m < t.place) ss → m ≤ (slice_index_or ss k d).place
@@ -100,7 +100,7 @@ last_part k ss = take_all (length ss - k) (drop k ss) (omega (arith, length-drop
 -- ---- any height with enough room
 
 rebuilt_more : (h a n : ℕ) (ss : List Leaf) (hs : List Text) → n ≤ 2 ^ h → rebuilt (suc h) a n ss hs ≡ rebuilt h a n ss hs
-rebuilt_more h a n ss hs small = grind (arith, common_steps, rebuilt_none, rebuilt_at, le-leb)
+rebuilt_more h a n ss hs small = grind (arith, common_steps)
 
 rebuilt_any : (k h a n : ℕ) (ss : List Leaf) (hs : List Text) → n ≤ 2 ^ h → rebuilt (k + h) a n ss hs ≡ rebuilt h a n ss hs
 rebuilt_any zero h a n ss hs small = ap (λ m. rebuilt m a n ss hs) (omega arith)

@@ -5,8 +5,7 @@ use Rattle.std.specs.Prelude.{if◌then◌else◌}
 use Rattle.std.proofs.lemmas.Bool.{le-leb, lt-leb}
 use Rattle.std.proofs.lemmas.List.{length-take-le, drop-take, take_at, take_all}
 use Rattle.std.proofs.Math.Seq.{take-add}
-use Rattle.std.proofs.Math.Nat.{pow-le-pow_right, one-le-pow, mod-eq_of_lt}
-use Rattle.std.proofs.lemmas.Nat.{pow_below}
+use Rattle.std.proofs.Math.Nat.{pow-le-pow_right, one-le-pow}
 use Rattle.sha2.specs.Sha256.{sha256}
 use Rattle.cadf_join.specs.Contents.{Text}
 use Rattle.cadf_seal.specs.Tree.{leaf_hash, node_hash, tree, root, IsSplitAt, IsMerkleTree}
@@ -102,7 +101,7 @@ module _ (h n : ℕ) (ds : List Text) (there : n ≤ length ds) where
 
 -- a tree that isn't a leaf has two halves of this size
 pub half : (h : ℕ) → h ≤ 64 → 1 * 2 ^ (h - 1) % 18446744073709551616 ≡ 2 ^ (h - 1)
-half h within = grind (arith, common_steps, pow_below, mod-eq_of_lt)
+half h within = grind (arith, common_steps)
 
 -- twice the half is all
 pub halves : (h : ℕ) → h ≢ 0 → 2 ^ h ≡ 2 * 2 ^ (h - 1)

@@ -1,26 +1,12 @@
-use Rattle.std.proofs.Common.{◌∙◌, length, ap, sym, arith, length-drop, rules}
+use Rattle.std.proofs.lemmas.Grind.{common_steps}
+use Rattle.std.proofs.Common.{◌∙◌, sym, arith, length-drop}
 use Rattle.cadf_join.proofs.Outcome.{on_ok_then}
 use Rattle.cadf_seal.proofs.HiddenLemmas.{both_hidden}
 use Rattle.cadf_seal.proofs.Trees.{half, halves}
 use Rattle.cadf_seal.proofs.hidden_subtrees.+push_hidden.Goals as goal
 
 pub push_hidden-requires-3 : goal.push_hidden-requires-3
-push_hidden-requires-3 t c =
-    let halved = half c.args.height (omega (arith, c.requires.height)) in
-    let all = halves c.args.height c.if-height-eq0.false in
-    let left = ap length c.in_ok-push_hidden.ensures.rest ∙ length-drop _ c.args.leaves.now in (
-      search rules,
-      (
-        omega (arith, c.if-count-half.false),
-        (
-          omega (arith, halved, all, c.requires.room),
-          (
-            omega (arith, c.requires.height),
-            (omega (arith, c.requires.places, c.if-count-half.false), (omega (arith, left, c.requires.leaves), c.shown_around.ensures.rising.1)),
-          ),
-        ),
-      ),
-    )
+push_hidden-requires-3 t c = grind (arith, common_steps, half, halves, length-drop)
 
 pub returns-clause-hashes : goal.returns-clause-hashes
 returns-clause-hashes t c =

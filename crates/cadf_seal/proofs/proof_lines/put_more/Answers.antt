@@ -1,22 +1,14 @@
-use Rattle.std.proofs.Common.{sym, subst}
-use Rattle.std.specs.Prelude.{IfErr}
-use Rattle.cadf_linefile.specs.Answers.{CauseIs}
+use Rattle.std.proofs.lemmas.Grind.{common_steps}
+use Rattle.std.proofs.Common.{arith}
 use Rattle.cadf_linefile.proofs.WritingLemmas.{on_ok}
-use Rattle.cadf_seal.specs.ProofLines.{AreTold}
 use Rattle.cadf_seal.proofs.ProofLineLemmas.{cause_at, count_told, values_told}
 use Rattle.cadf_seal.proofs.proof_lines.put_more.Goals as goal
 
 pub returns-in-Values-clause-ok : goal.returns-in-Values-clause-ok
-returns-in-Values-clause-ok c =
-    let told = c.in-Values.is in
-    on_ok c.put_line.result _ _ (λ put. rw told (values_told c.in-Values.count c.in-Values.shown.items c.put_line.new.shown.items c.in-Values.hidden.items
-    c.put_line.new.hidden.items c.args.line.now (subst AreTold told c.requires) put)) c.put_line.ensures.ok
+returns-in-Values-clause-ok c = grind (arith, common_steps, on_ok, values_told)
 
 pub returns-in-Values-clause-err : goal.returns-in-Values-clause-err
-returns-in-Values-clause-err c =
-    let told = c.in-Values.is in
-    rw told (subst (λ o. IfErr c.put_line.result (λ e. CauseIs e o))
-    (sym (cause_at c.in-Values.count c.in-Values.shown.items c.in-Values.hidden.items (subst AreTold told c.requires) c.args.line.now)) c.put_line.ensures.err)
+returns-in-Values-clause-err c = grind (arith, common_steps, cause_at)
 
 pub returns-in-Some-clause-ok : goal.returns-in-Some-clause-ok
 returns-in-Some-clause-ok c =

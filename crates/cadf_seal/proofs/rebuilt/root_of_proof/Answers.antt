@@ -1,15 +1,13 @@
+use Rattle.std.proofs.lemmas.Grind.{common_steps}
 use Rattle.std.proofs.Common.{◌∙◌, arith, sym, subst, ap}
 use Rattle.cadf_seal.specs.Shown.{rebuilt}
-use Rattle.cadf_seal.specs.Verified.{alone, root_from, PlacesRise}
+use Rattle.cadf_seal.specs.Verified.{root_from, PlacesRise}
 use Rattle.cadf_seal.proofs.Sound.{places_rise}
 use Rattle.cadf_seal.proofs.Splitting.{root_without, root_with}
 use Rattle.cadf_seal.proofs.rebuilt.root_of_proof.Goals as goal
 
 pub returns-then-count-eq0 : goal.returns-then-count-eq0
-returns-then-count-eq0 c =
-    c.alone.ensures
-    ∙ (λ i. alone (c.digest.ensures i) (c.hidden-hashes.ensures i))
-    ∙ sym (root_without c.args.proof.now (omega (arith, c.count.ensures, c.if-count-eq0.true)))
+returns-then-count-eq0 c = grind (arith, common_steps, root_without)
 
 pub rebuilt-requires-clause-rising : goal.rebuilt-requires-clause-rising
 rebuilt-requires-clause-rising c = subst PlacesRise (sym c.shown.ensures) (places_rise c.args.proof.now.shown c.type_invariant.ensures.parts.rising)

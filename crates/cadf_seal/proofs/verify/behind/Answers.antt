@@ -1,8 +1,7 @@
+use Rattle.std.proofs.lemmas.Grind.{common_steps}
 use Rattle.std.proofs.Common.{arith, []}
 use Rattle.cadf_seal.proofs.Deciding.{behind_last}
 use Rattle.cadf_seal.proofs.verify.behind.Goals as goal
 
 pub returns-in-len1-up : goal.returns-in-len1-up
-returns-in-len1-up c =
-    let last = behind_last c.args.shown.now (record { place = 0; digest = [] }) c.requires.rising (omega (arith, c.in-len1-up.len_at_least)) in
-    omega (arith, last)
+returns-in-len1-up c = grind (arith, common_steps, behind_last)

@@ -1,8 +1,8 @@
-use Rattle.std.proofs.Common.{◌≡◌, ◌≢◌, ◌∙◌, ◌<◌, Some, None, false, take, drop, ap, sym, subst, arith}
+use Rattle.std.proofs.lemmas.Grind.{common_steps}
+use Rattle.std.proofs.Common.{◌≡◌, ◌≢◌, ◌∙◌, ◌<◌, Some, None, false, take, drop, ap, sym, arith}
 use Rattle.std.specs.Prelude.{if◌then◌else◌}
-use Rattle.std.specs.List.{AllByRecursion}
 use Rattle.std.proofs.lemmas.Bool.{eq-eqb, ne_eqb}
-use Rattle.cadf_seal.specs.Verified.{PlacesRise, past_last, lowest_place, is_shown}
+use Rattle.cadf_seal.specs.Verified.{past_last, lowest_place, is_shown}
 use Rattle.cadf_seal.proofs.Rebuilding.{all_map}
 use Rattle.cadf_seal.proofs.Sound.{places_rise}
 use Rattle.cadf_seal.proofs.Splitting.{last_part}
@@ -10,27 +10,19 @@ use Rattle.cadf_seal.proofs.Deciding.{state_shown, state_between, all_take, all_
 use Rattle.cadf_seal.proofs.verify.state.Goals as goal
 
 pub returns-then-is_first : goal.returns-then-is_first
-returns-then-is_first c =
-    let rest = last_part c.count_below-split.result c.args.shown.now in
-    state_shown c.args.digest.now c.args.count c.args.shown.now c.count_below-split.result c.requires.rising c.count_below-split.ensures.bound
-    c.count_below-split.ensures.split (ap (λ l. is_shown (take 1 l) c.args.digest.now) (sym rest) ∙ sym c.is_first.ensures ∙ c.if-is_first.true)
+returns-then-is_first c = grind (arith, common_steps, last_part, state_shown)
 
 pub behind-requires-clause-rising : goal.behind-requires-clause-rising
 behind-requires-clause-rising c = rise_take c.count_below-split.result c.args.shown.now (places_rise c.args.shown.now c.requires.rising)
 
 pub behind-requires-clause-leaves : goal.behind-requires-clause-leaves
-behind-requires-clause-leaves c =
-    all_take (λ s. s.place < c.args.count) c.count_below-split.result c.args.shown.now (all_map c.args.shown.now (λ s leaf. leaf.place) c.requires.leaves)
+behind-requires-clause-leaves c = grind (arith, common_steps, all_take, all_map)
 
 pub ahead-requires-clause-rising : goal.ahead-requires-clause-rising
-ahead-requires-clause-rising c =
-    subst PlacesRise (sym (last_part c.count_below-split.result c.args.shown.now))
-    (rise_drop c.count_below-split.result c.args.shown.now (places_rise c.args.shown.now c.requires.rising))
+ahead-requires-clause-rising c = grind (arith, common_steps, last_part, rise_drop, places_rise)
 
 pub ahead-requires-clause-leaves : goal.ahead-requires-clause-leaves
-ahead-requires-clause-leaves c =
-    subst (AllByRecursion (λ s. s.place < c.args.count)) (sym (last_part c.count_below-split.result c.args.shown.now))
-    (all_drop (λ s. s.place < c.args.count) c.count_below-split.result c.args.shown.now (all_map c.args.shown.now (λ s leaf. leaf.place) c.requires.leaves))
+ahead-requires-clause-leaves c = grind (arith, common_steps, last_part, all_drop, all_map)
 
 pub returns-then-behind-ahead : goal.returns-then-behind-ahead
 returns-then-behind-ahead c =

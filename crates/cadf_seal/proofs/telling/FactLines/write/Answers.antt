@@ -1,44 +1,20 @@
-use Rattle.std.proofs.Common.{◌≡◌, ◌∙◌, ◌++◌, ◌+◌, ◌-◌, ◌∷◌, ap, sym, subst, drop, arith}
+use Rattle.std.proofs.lemmas.Grind.{common_steps}
+use Rattle.std.proofs.Common.{◌≡◌, ◌∙◌, ◌++◌, ◌+◌, ◌-◌, ◌∷◌, ap, subst, drop, arith}
 use Rattle.std.specs.List.{repeat}
-use Rattle.std.proofs.lemmas.List.{drop_more}
 use Rattle.std.proofs.lemmas.Result.{err_from_is_err_and}
-use Rattle.std.specs.Io.KnownBytes.{Appends}
 use Rattle.cadf_json.specs.Streams.{AppendsPrefix}
 use Rattle.cadf_seal.specs.Verified.{repeated_text}
-use Rattle.cadf_seal.proofs.Repeating.{as_left, repeat_more, line_written, front_written}
+use Rattle.cadf_seal.proofs.Repeating.{repeat_more, line_written, front_written}
 use Rattle.cadf_seal.proofs.telling.FactLines.write.Goals as goal
 
 pub loop-init : goal.loop-init
-loop-init g c =
-    let lines = c.as_slice-lines.result.now in
-    let at = c.loop-repeated.repeated-index in
-    let item = c.repeated-item.result in
-    let none : item.count ≡ item.count - 0 = omega arith in (
-      as_left _ _ _ _ _ c.loop-repeated.invariant.0
-          (ap repeated_text (drop_more lines at item c.loop-repeated-test.true)
-          ∙ ap (λ x. repeated_text (x ∷ drop (at + 1) lines)) (sym c.repeated-item.is)
-          ∙ ap (λ n. repeat n item.line.items ++ repeated_text (drop (at + 1) lines)) none),
-      c.loop-repeated.invariant.1,
-    )
+loop-init g c = grind (arith, common_steps)
 
 pub loop-preserved : goal.loop-preserved
-loop-preserved g c =
-    let item = c.repeated-item.result in
-    let rest = repeated_text (drop (c.loop-repeated.repeated-index + 1) c.as_slice-lines.result.now) in (
-      line_written _ _ _ _ _ item.line.items (repeat (item.count - (c.loop.counter + 1)) item.line.items ++ rest) c.loop.invariant.0
-          (repeat_more item.count c.loop.counter item.line.items rest c.loop-test.true)
-          (subst (λ bs. Appends (g.S.Sink.written c.loop.sink) (g.S.Sink.written c.write_all.new.sink) bs) c.as_slice.ensures.value c.in_ok-write_all.ensures.bytes),
-      c.in_ok-write_all.ensures.failures ∙ c.loop.invariant.1,
-    )
+loop-preserved g c = grind (arith, common_steps, line_written, repeat_more)
 
 pub loop-repeated-preserved : goal.loop-repeated-preserved
-loop-repeated-preserved g c =
-    let item = c.repeated-item.result in
-    let rest = repeated_text (drop (c.loop-repeated.repeated-index + 1) c.as_slice-lines.result.now) in
-    let none : item.count - c.loop.counter ≡ 0 = omega (arith, c.loop-test.false) in (
-      as_left _ _ _ _ _ c.loop.invariant.0 (ap (λ n. repeat n item.line.items ++ rest) none),
-      c.loop.invariant.1,
-    )
+loop-repeated-preserved g c = grind (arith, common_steps)
 
 pub returns-in_err-write_all-clause-front : goal.returns-in_err-write_all-clause-front
 returns-in_err-write_all-clause-front g c =
