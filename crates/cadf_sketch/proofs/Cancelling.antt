@@ -7,7 +7,7 @@ use Rattle.std.specs.declared.cmp.Ordering.{Ordering}
 use Rattle.std.specs.declared.cmp.Ordering.TheVariants.{Less, Equal, Greater}
 use Rattle.std.specs.Ordering.{match_ordering}
 use Rattle.std.specs.BTreeSet.{insert_key}
-use Rattle.std.proofs.lemmas.List.{ext_get_or, length-replicate, get_or-replicate}
+use Rattle.std.proofs.lemmas.List.{ext_get_or}
 use Rattle.std.proofs.lemmas.Nat.{xor_comm}
 use lib.Bits.{xor_assoc, xor_self, xor_zero_r}
 use Rattle.cadf_join.specs.Sets.{Listed}
@@ -110,7 +110,7 @@ wide-toggled_all cells [] layout some wide each = wide
 wide-toggled_all cells (d ∷ ds) layout some wide each = grind (arith, common_steps, wide-toggled, (wide-toggled_all (toggled cells d layout) ds layout some (wide-toggled cells d layout some wide each.0.size) each.1))
 
 pub wide-nothing : (count : ℕ) → AreWide (replicate count nothing)
-wide-nothing count q h = grind (arith, common_steps, length-replicate, get_or-replicate)
+wide-nothing count q h = grind (arith, common_steps)
 
 pub toggled_all_push : (cells : List Cell) (d : Text) (ds : List Text) (layout : LayoutModel) → 0 < layout.size
     → toggled_all (toggled cells d layout) ds layout ≡ toggled (toggled_all cells ds layout) d layout

@@ -4,9 +4,7 @@ use Rattle.std.proofs.Common.{◌≡◌, ◌∙◌, ◌<◌, ◌≤◌, ◌+◌,
 use Rattle.std.proofs.Common.{Bool, true, cond, List, [], ◌∷◌, length, replicate, refl, sym, subst, arith}
 use Rattle.std.specs.Prelude.{◌||◌, nat_eq}
 use Rattle.std.specs.List.{filter}
-use Rattle.std.proofs.lemmas.List.{length-set, get_or-set_same, get_or-set_other, get_or-replicate, length-replicate}
-use Rattle.std.proofs.lemmas.Nat.{shr_below, mod_below, mul-add-lt, div_below}
-use Rattle.std.proofs.lemmas.Bool.{eqb-true, eq-eqb}
+use Rattle.std.proofs.lemmas.List.{length-set, get_or-replicate, length-replicate}
 use Rattle.cadf_sketch.specs.Layouts.{LayoutModel}
 use Rattle.cadf_sketch.specs.Cells.{toggled, toggled_all, mixed_at, mixed, mixed_all, cell_at, place_in, stands, nothing}
 use Rattle.cadf_sketch.specs.declared.cell.Cell.{Cell}
@@ -16,7 +14,7 @@ length-mixed_at cells place d = length-set cells place (mixed (cell_at cells pla
 
 pub length-toggled : (cells : List Cell) (d : List ℕ) (layout : LayoutModel) → length (toggled cells d layout) ≡ length cells
 unfolding toggled
-length-toggled cells d layout = grind (arith, common_steps, length-mixed_at)
+length-toggled cells d layout = grind (arith, common_steps)
 
 pub length-toggled_all : (cells : List Cell) (ds : List (List ℕ)) (layout : LayoutModel) → length (toggled_all cells ds layout) ≡ length cells
 length-toggled_all cells [] layout = refl
@@ -26,16 +24,16 @@ length-toggled_all cells (d ∷ ds) layout = length-toggled_all (toggled cells d
 
 -- the upper half of a number below 2 ^ 64, scaled to a number of places, is one of these places
 spread_below : (x size : ℕ) → 0 < size → (x % 2 ^ 64 / 2 ^ 32 * size) / 2 ^ 32 < size
-spread_below x size some = grind (arith, common_steps, shr_below, mod_below, mul-add-lt, div_below)
+spread_below x size some = grind (arith, common_steps)
 
 place_bounds : (table : ℕ) (d : List ℕ) (layout : LayoutModel) → 0 < layout.size
     → (table * layout.size ≤ place_in table d layout) × (place_in table d layout < table * layout.size + layout.size)
 unfolding place_in
-place_bounds table d layout some = grind (arith, common_steps, spread_below)
+place_bounds table d layout some = grind (arith, common_steps)
 
 at_mixed : (e : Bool) (cells : List Cell) (p q : ℕ) (d : List ℕ) → nat_eq q p ≡ e → q < length cells
     → cell_at (mixed_at cells p d) q ≡ cond e (mixed (cell_at cells q) d) (cell_at cells q)
-at_mixed e cells p q d is within = grind (arith, common_steps, eqb-true, get_or-set_same, get_or-set_other, eq-eqb)
+at_mixed e cells p q d is within = grind (arith, common_steps)
 
 -- at most one of three places is the one asked for
 pick : (a b c : Bool) (cell : Cell) (d : List ℕ) → (a ≡ true → b ≡ true → ⊥) → (a ≡ true → c ≡ true → ⊥) → (b ≡ true → c ≡ true → ⊥)
@@ -46,7 +44,7 @@ pick a b c cell d x y z = grind (arith, common_steps)
 
 -- a place of two tables
 apart : (low high x q : ℕ) → nat_eq q low ≡ true → nat_eq q high ≡ true → low < x → x ≤ high → ⊥
-apart low high x q l h below above = grind (arith, common_steps, eqb-true)
+apart low high x q l h below above = grind (arith, common_steps)
 
 pub at_turned : (cells : List Cell) (d : List ℕ) (layout : LayoutModel) (q : ℕ) → 0 < layout.size → q < length cells
     → cell_at (toggled cells d layout) q ≡ cond (stands d q layout) (mixed (cell_at cells q) d) (cell_at cells q)

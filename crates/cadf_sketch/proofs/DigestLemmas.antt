@@ -1,6 +1,6 @@
 -- The lines before the digest line determine an inventory's file.
 use Rattle.std.proofs.lemmas.Grind.{common_steps}
-use Rattle.std.proofs.Common.{◌≡◌, ◌∙◌, ℕ, List, [], ◌∷◌, ◌++◌, append_assoc, append-nil, sym, ap, codes, arith}
+use Rattle.std.proofs.Common.{◌≡◌, ◌∙◌, ℕ, List, [], ◌∷◌, ◌++◌, sym, ap, codes, arith}
 use Rattle.hex.specs.Hex.{encode_lower}
 use Rattle.sha2.specs.Sha256.{sha256}
 use Rattle.cadf_set.specs.Inventory.{InventoryModel}
@@ -10,7 +10,7 @@ use Rattle.cadf_inventory.specs.InventoryFile.{inventory_body, inventory_text, i
 use Rattle.cadf_inventory.proofs.InventoryVerdictLemmas.{inventory-file-tells}
 
 text_of_more : (ls : List (List ℕ)) (l : List ℕ) → text_of_lines (ls ++ l ∷ []) ≡ text_of_lines ls ++ with_line_feed l
-text_of_more ls l = grind (arith, common_steps, append-nil, append_assoc)
+text_of_more ls l = grind (arith, common_steps)
 
 file_is : (n : InventoryModel) → inventory_file n ≡ inventory_text n ++ with_line_feed (codes "Z " ++ encode_lower (sha256 (inventory_text n)))
 file_is n = text_of_more (inventory_body n) (digest_line (inventory_body n))

@@ -51,7 +51,7 @@ gone : (s : Digests) (d : Text) → set.contains s d ≡ true → set.contains (
 gone s d there = in_apart s (one d) d ∙ (λ i. either (there i) ((in_one d d ∙ ap is_eq (tied_itself text_total d)) i))
 
 with_one_more : (a t e : Bool) → (e ≡ true → t ≡ false) → either (either a t) e ≡ either a (e || t)
-with_one_more a t e h = grind (arith, common_steps, either)
+with_one_more a t e h = grind (arith, common_steps)
 
 apart_more : (s : Digests) (d : Text) (ds : List Text) → set.contains (set.from_list {R = text_cmp} ds) d ≡ false
     → apart (apart s (set.from_list ds)) (one d) ≡ apart s (set.from_list (d ∷ ds))

@@ -5,8 +5,7 @@ use Rattle.std.proofs.Common.{Option, Some, None, refl, sym, ap, ◌∙◌, subs
 use Rattle.std.specs.Prelude.{◌^◌, decimal, nat_eq, codes, slice_index, option_map}
 use Rattle.std.specs.Int.{w64, to_be_bytes, from_be_bytes, byte_at, bytes_high_first}
 use Rattle.std.specs.List.{starts_with}
-use Rattle.std.proofs.lemmas.Bool.{eqb-true}
-use Rattle.std.proofs.lemmas.Nat.{from_be_bytes-to_be_bytes_8, be_bytes_8, mod_below}
+use Rattle.std.proofs.lemmas.Nat.{from_be_bytes-to_be_bytes_8, be_bytes_8}
 use Rattle.std.proofs.lemmas.List.{take-append-drop, length-append, length-drop, length-take-le}
 use Rattle.std.proofs.Math.Seq.{take-append_seam, drop-append_seam}
 use Rattle.hex.specs.Hex.{encode_lower, decode_sized, lower_digits}
@@ -28,7 +27,7 @@ use Rattle.cadf_sketch.proofs.NumberLemmas.{after_is, cut_cases}
 -- ---- a line that begins with a letter and a space
 
 pub begins_with : (x y : ℕ) (s : List ℕ) → starts_with nat_eq s (x ∷ y ∷ []) ≡ true → s ≡ x ∷ y ∷ drop 2 s
-begins_with x y s h = grind (arith, common_steps, eqb-true)
+begins_with x y s h = grind (arith, common_steps)
 
 module _ {A : Type 0} where
   pub chosen : (b : Bool) (o : Option A) (a : A) → cond b o None ≡ Some a → (b ≡ true) × (o ≡ Some a)
@@ -53,7 +52,7 @@ layout_parts : (n a : ℕ) (l : LayoutModel) → layout_of n a ≡ Some l → (i
 layout_parts n a l e = grind (arith, common_steps)
 
 pub laid-only : (o p : Option ℕ) (l : LayoutModel) → laid_out o p ≡ Some l → HasLayout o p l
-laid-only o p l e = grind (arith, common_steps, layout_parts)
+laid-only o p l e = grind (arith, common_steps)
 
 headed-only : (o : Option LayoutModel) (d : Option Text) (h : Head) → headed o d ≡ Some h → (o ≡ Some h.layout) × (d ≡ Some h.digest)
 headed-only o d h e = grind (arith, common_steps)
@@ -136,7 +135,7 @@ be_size : (n : ℕ) → length (to_be_bytes w64 n) ≡ 8
 be_size n = refl
 
 byte_fits : (k n : ℕ) → byte_at k n < 256
-byte_fits k n = grind (arith, common_steps, mod_below)
+byte_fits k n = grind (arith, common_steps)
 
 pub high_fits : (k n i : ℕ) → slice_index (bytes_high_first k n) i < 256
 high_fits zero n i = omega arith
@@ -206,17 +205,17 @@ cell-only l c e =
 
 pub head_uncut : (t : List ℕ) → words_after t ≡ [] → head_in_words t ≡ None
 unfolding head_in_words
-head_uncut t e = grind (arith, common_steps, number_of_none)
+head_uncut t e = grind (arith, common_steps)
 
 no_digest : digest_of [] ≡ None
-no_digest = grind (arith, common_steps, digest-only, length-encode_with)
+no_digest = grind (arith, common_steps)
 
 unheaded : (o : Option LayoutModel) → headed o None ≡ None
 unheaded o = grind (arith, common_steps)
 
 pub head_uncut_twice : (t : List ℕ) → words_after (words_after t) ≡ [] → head_in_words t ≡ None
 unfolding head_in_words
-head_uncut_twice t e = grind (arith, common_steps, no_digest, unheaded)
+head_uncut_twice t e = grind (arith, common_steps)
 
 module _ (t first rest second last : List ℕ) (a : first ≡ first_word t) (b : rest ≡ words_after t) (c : second ≡ first_word rest) (d : last ≡ words_after rest) where
   words : headed (laid_out (number_in first) (number_in second)) (digest_of last) ≡ head_in_words t

@@ -1,7 +1,7 @@
 -- Numbers and the words that spell them.
 use Rattle.std.proofs.lemmas.Grind.{common_steps}
 use Rattle.std.proofs.Common.{◌≡◌, ℕ, zero, suc, ◌+◌, ◌<◌, List, [], ◌∷◌, ◌++◌, Bool, true, false, cond, length, take, drop, get_or, ◌≤◌, ◌⊎◌, inl}
-use Rattle.std.proofs.Common.{inr, Option, Some, None, Result, Ok, Err, refl, sym, ap, ◌∙◌, subst, arith, append-nil, append_assoc, length-drop, ◌-◌}
+use Rattle.std.proofs.Common.{inr, Option, Some, None, Result, Ok, Err, refl, sym, ap, ◌∙◌, subst, arith, append-nil, length-drop, ◌-◌}
 use Rattle.std.proofs.Common.{rules}
 use Rattle.std.specs.Prelude.{◌==◌, ◌&&◌, ◌||◌, ◌^◌, not, decimal, nat_lt, flat_map, option_map, IsUtf8}
 use Rattle.std.specs.Int.{IsInRange}
@@ -216,7 +216,7 @@ abbrev pub put_all : List ℕ → Option (List ℕ) → Option (List ℕ)
 put_all xs o = option_map (λ ns. xs ++ ns) o
 
 more_put : (xs : List ℕ) (n : ℕ) (o : Option (List ℕ)) → put_all xs (put_before (Some n) o) ≡ put_all (xs ++ n ∷ []) o
-more_put xs n o = grind (arith, common_steps, append_assoc)
+more_put xs n o = grind (arith, common_steps)
 
 module _ (xs : List ℕ) (count len : ℕ) (rest word after : List ℕ) (more : len < count) (word_is : word ≡ first_word rest) (after_is : after ≡ words_after rest) where
   left : count - len ≡ suc (count - suc (len))

@@ -23,7 +23,7 @@ and_right a b h = grind (arith, common_steps)
 -- an element other than the last is before it
 before_last : (places : List ℕ) (place q : ℕ) → (nat_eq q place ≡ true → ⊥) → list_any (nat_eq q) (places ++ place ∷ []) ≡ true
     → list_any (nat_eq q) places ≡ true
-before_last places place q other h = grind (arith, common_steps, list_any-append)
+before_last places place q other h = grind (arith, common_steps)
 
 pub awaits_taken : (layout : LayoutModel) (cells : List Cell) (pending : List ℕ) (place : ℕ) → 0 < layout.size
     → is_lone (cell_at cells place) place layout ≡ true → Awaits layout cells (pending ++ place ∷ [])

@@ -1,13 +1,13 @@
 -- The verdict on a sketch's file accepts exactly the files of sketches, and a file determines its sketch.
 use Rattle.std.proofs.lemmas.Grind.{common_steps}
 use Rattle.std.proofs.Common.{◌≡◌, ℕ, suc, ◌+◌, ◌*◌, ◌<◌, List, [], ◌∷◌, ◌++◌, length, map, Bool, true, false, Option, Some, None, refl, sym, ap, ◌∙◌, arith, true≢false, rules}
-use Rattle.std.specs.Prelude.{◌==◌, ◌&&◌, ◌^◌, not, nat_lt, is_some, decimal, flat_map}
+use Rattle.std.specs.Prelude.{◌==◌, ◌&&◌, ◌^◌, not, is_some, decimal, flat_map}
 use Rattle.std.specs.List.{filter_map}
 use Rattle.std.specs.Int.{IsInRange, w64, to_be_bytes}
 use Rattle.std.specs.Str.Parse.{AllDigits}
 use Rattle.std.proofs.lemmas.Str.Parse.{tells_digits}
 use Rattle.std.proofs.lemmas.Fmt.{digits_decimal}
-use Rattle.std.proofs.lemmas.Bool.{eqb-true, eq-eqb, lt-ltb}
+use Rattle.std.proofs.lemmas.Bool.{lt-ltb}
 use Rattle.cadf_join.specs.Contents.{Text}
 use Rattle.cadf_event.specs.Known.{IsNameText}
 use Rattle.cadf_event.specs.LogName.{is_name_text, is_unbroken}
@@ -52,7 +52,7 @@ pub record AreRest (lines : List (List ℕ)) (before all : ℕ) : Type 0 where
 
 rest_cells : (x y : Plain) (cs xs : List Plain) → After (x ∷ y ∷ cs) xs
     → AreRest (lines_of xs) (length (lines_of cs)) (cells_of_head (head_in x.0))
-rest_cells x y cs [] h = grind (arith, common_steps, lines_of, eqb-true)
+rest_cells x y cs [] h = grind (arith, common_steps)
 rest_cells x y cs (z ∷ zs) h =
     let p = both _ _ (shape_none _ h.0) in
     let c = there (cell_in z.0) p.1 in
@@ -122,19 +122,9 @@ plains_are s = ap (λ ls. head_line (head_of s) ∷ counts_line s.tally ∷ ls) 
 
 cells_follow : (x y : Plain) (cs : List Plain) (cells : List Cell) (all : ℕ) → AreCells cells → cells_of_head (head_in x.0) ≡ all
     → length (lines_of cs) + length cells ≡ all → After (x ∷ y ∷ cs) (plain_cells cells)
-cells_follow x y cs [] all each count is = grind (arith, common_steps, eq-eqb, lines_of)
-cells_follow x y cs (c ∷ cells) all each count is = (
-  (λ i. shape_unless (nat_lt (length (lines_of cs)) (count i) && is_some (cell-again c each.0 i)))
-      ∙ ap (λ b. shape_unless (b && true)) (lt-ltb (length (lines_of cs)) all (below (length (lines_of cs)) (length cells) is)),
-  cells_follow x y (cs ++ plain_cell c ∷ []) cells all each.1 count
-      (more (length (lines_of cs)) (length cells) (length (lines_of (cs ++ plain_cell c ∷ []))) (lines_more cs (plain_cell c)) is),
-)
-  where
-    below : (n k : ℕ) → n + suc k ≡ all → n < all
-    below n k e = omega (arith, e)
-
-    more : (n k m : ℕ) → m ≡ suc n → n + suc k ≡ all → m + k ≡ all
-    more n k m e f = omega (arith, e, f)
+cells_follow x y cs [] all each count is = grind (arith, common_steps)
+cells_follow x y cs (c ∷ cells) all each count is =
+    grind (arith, common_steps, lines_of, cell-again, lt-ltb, lines_more, (cells_follow x y (cs ++ plain_cell c ∷ []) cells all each.1 count))
 
 plains_follow : (s : SketchModel) → IsSketch s → After [] (plains s)
 plains_follow s is =

@@ -1,15 +1,15 @@
-use Rattle.std.proofs.Common.{◌∙◌, ◌*◌, replicate}
+use Rattle.std.proofs.lemmas.Grind.{common_steps}
+use Rattle.std.proofs.Common.{arith}
+use Rattle.std.proofs.Common.{◌∙◌, ◌*◌}
 use Rattle.std.proofs.lemmas.List.{length-replicate}
 use Rattle.cadf_join.specs.Sets.{rising}
-use Rattle.cadf_sketch.specs.Cells.{nothing}
 use Rattle.cadf_sketch.specs.Sketches.{cells_of, sketch_of}
 use Rattle.cadf_sketch.proofs.CellLemmas.{at_sketched, length-toggled_all}
 use Rattle.cadf_sketch.proofs.laws.cells_are_what_stands_there.Goals as goal
 
 pub returns-clause-count : goal.returns-clause-count
 unfolding sketch_of cells_of
-returns-clause-count c = λ n layout. length-toggled_all (replicate (3 * layout.size) nothing) (rising n.digests) layout
-    ∙ length-replicate (3 * layout.size) nothing
+returns-clause-count c = grind (arith, common_steps, length-toggled_all, length-replicate)
 
 pub returns-clause-each : goal.returns-clause-each
 unfolding sketch_of cells_of

@@ -1,3 +1,4 @@
+use Rattle.std.proofs.Common.{rules}
 use Rattle.std.proofs.Common.{replicate, refl}
 use Rattle.std.proofs.lemmas.List.{get_or-replicate}
 use Rattle.cadf_join.specs.Sets.{rising}
@@ -12,5 +13,4 @@ returns-clause-digests c = λ n layout. tallied_digests (record { digests = 0; o
 
 pub returns-clause-ones : goal.returns-clause-ones
 unfolding sketch_of tally_of
-returns-clause-ones c = λ n layout bit within. tallied_ones bit (record { digests = 0; ones = replicate 64 0 }) (rising n.digests) within refl
-    (get_or-replicate 64 bit 0 0 within)
+returns-clause-ones c = search (rules, tallied_ones, get_or-replicate)

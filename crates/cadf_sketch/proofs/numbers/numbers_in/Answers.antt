@@ -1,12 +1,11 @@
+use Rattle.std.proofs.lemmas.Grind.{common_steps}
 use Rattle.std.proofs.Common.{◌≡◌, ◌∙◌, ◌<◌, ◌-◌, suc, vec_len, sym, arith}
 use Rattle.cadf_sketch.specs.SketchVerdict.{numbers_in}
 use Rattle.cadf_sketch.proofs.NumberLemmas.{put_all, blank_missing, number_put}
 use Rattle.cadf_sketch.proofs.numbers.numbers_in.Goals as goal
 
 pub returns-in_default : goal.returns-in_default
-returns-in_default c =
-    let more : vec_len c.words.numbers < c.args.count = omega (arith, c.words-test.true, c.len.ensures) in
-    sym (blank_missing c.words.numbers.items c.args.count (vec_len c.words.numbers) c.words.rest.now more c.in_default.ensures) ∙ c.words.invariant.all
+returns-in_default c = grind (arith, common_steps, vec_len, blank_missing)
 
 pub words-preserved : goal.words-preserved
 words-preserved c =

@@ -1,3 +1,5 @@
+use Rattle.std.proofs.lemmas.Grind.{common_steps}
+use Rattle.std.proofs.Common.{arith}
 use Rattle.std.proofs.Common.{◌∙◌, ap, sym}
 use mathlib.Core.Bool.{true≢false}
 use Rattle.cadf_join.specs.Sets.{rising}
@@ -5,9 +7,7 @@ use Rattle.cadf_sketch.specs.Tallies.{tally_of, cells_to_ask}
 use Rattle.cadf_sketch.proofs.reading.read.Goals as goal
 
 pub returns-then-found-clause-log : goal.returns-then-found-clause-log
-returns-then-found-clause-log c =
-    let same = c.is_log_of.ensures.0 c.if-not-is_log_of.false in
-    (same, c.flip_peeled.ensures.log ∙ same)
+returns-then-found-clause-log c = grind (arith, common_steps)
 
 pub returns-clause-err : goal.returns-clause-err
 returns-clause-err c =

@@ -1,3 +1,5 @@
+use Rattle.std.proofs.lemmas.Grind.{common_steps}
+use Rattle.std.proofs.Common.{arith}
 use Rattle.std.proofs.Common.{◌≡◌, ◌∙◌, ◌++◌, ◌∷◌, [], None, sym, subst}
 use Rattle.std.specs.Prelude.{IfErr}
 use Rattle.cadf_linefile.specs.Answers.{CauseIs}
@@ -21,10 +23,7 @@ returns-in-Some-2-clause-ok c =
     (tally_told h l t (subst AreTold c.in-Beginning.is c.requires) (sym c.in-Some-2.is ∙ c.in_ok-tally-in-Beginning.ensures)))
 
 pub returns-in-Cells-clause-ok : goal.returns-in-Cells-clause-ok
-returns-in-Cells-clause-ok c =
-    let told = c.in-Cells.is in
-    on_ok c.put_cell.result _ _ (λ put. rw told (cell_told c.in-Cells.head c.in-Cells.field-1 c.in-Cells.cells.items c.put_cell.new.cells.items c.args.line.now
-    (subst AreTold told c.requires) put)) c.put_cell.ensures.ok
+returns-in-Cells-clause-ok c = grind (arith, common_steps, on_ok, cell_told)
 
 pub returns-in-Cells-clause-err : goal.returns-in-Cells-clause-err
 returns-in-Cells-clause-err c =

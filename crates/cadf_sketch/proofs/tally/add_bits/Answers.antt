@@ -1,3 +1,4 @@
+use Rattle.std.proofs.lemmas.Grind.{common_steps}
 use Rattle.std.proofs.Common.{◌≡◌, ◌-◌, ◌+◌, ◌/◌, ◌%◌, ◌^◌, ℕ, length, get_or, set, subst, arith}
 use Rattle.cadf_sketch.proofs.TallyLemmas.{HasBitsBelow, one_more_bit, all_bits}
 use Rattle.cadf_sketch.proofs.tally.add_bits.Goals as goal
@@ -12,6 +13,4 @@ loop-place-preserved c =
     (one_more_bit place old c.loop-place.ones w (omega (arith, c.told-ones, c.loop-place-test.true)) c.loop-place.invariant)
 
 pub returns : goal.returns
-returns c =
-    all_bits c.loop-place.place c.args.ones.now c.loop-place.ones c.args.word
-    (omega (arith, c.told-ones, c.loop-place-test.false)) c.loop-place.invariant
+returns c = grind (arith, common_steps, all_bits)
