@@ -17,9 +17,6 @@ zero_other j = let ne : 0 ≢ suc j = omega arith in ne_eqb 0 (suc j) ne
 other_zero : (j : ℕ) → nat_eq (suc j) 0 ≡ false
 other_zero j = let ne : suc j ≢ 0 = omega arith in ne_eqb (suc j) 0 ne
 
-suc_same : (j k : ℕ) → suc j ≡ suc k → j ≡ k
-suc_same j k e = omega arith
-
 both_later : (j k : ℕ) → nat_eq (suc j) (suc k) ≡ nat_eq j k
 both_later j k = grind (arith, common_steps)
 

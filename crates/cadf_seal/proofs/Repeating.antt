@@ -39,9 +39,6 @@ pub record IsLeft (old now : Option (List ℕ)) (all left : List ℕ) : Type 0 w
   pub written : Appends old now done
   pub parts : done ++ left ≡ all
 
-pub as_left : (old now : Option (List ℕ)) (all left same : List ℕ) → IsLeft old now all left → left ≡ same → IsLeft old now all same
-as_left old now all left same w e = subst (IsLeft old now all) e w
-
 pub repeat_more : (n k : ℕ) (xs rest : List ℕ) → k < n → repeat (n - k) xs ++ rest ≡ xs ++ (repeat (n - (k + 1)) xs ++ rest)
 repeat_more n k xs rest h = grind (arith, common_steps)
 

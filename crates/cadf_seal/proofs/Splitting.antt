@@ -8,7 +8,7 @@ use Rattle.std.proofs.lemmas.Bool.{le-leb, lt-leb, lt-ltb, ltb-true, ltb-false, 
 use Rattle.std.proofs.lemmas.List.{take_all}
 use Rattle.sha2.specs.Sha256.{sha256}
 use Rattle.cadf_join.specs.Contents.{Text}
-use Rattle.cadf_seal.specs.Shown.{until, leaves_from, next_hash, rebuilt}
+use Rattle.cadf_seal.specs.Shown.{until, leaves_from, rebuilt}
 use Rattle.cadf_seal.specs.ProofFile.{ProofModel}
 use Rattle.cadf_seal.specs.Verified.{PlacesRise, alone, root_from, proof_root}
 use Rattle.cadf_seal.specs.declared.leaf.Leaf.{Leaf}
@@ -83,9 +83,6 @@ all_true P [] h = tt
 all_true P (s ∷ ss) h = (h s, all_true P ss h)
 
 -- ---- a step
-
-pub rebuilt_none : (h a n : ℕ) (ss : List Leaf) (hs : List Text) → length ss ≡ 0 → rebuilt h a n ss hs ≡ next_hash hs
-rebuilt_none h a n ss hs e = grind (arith, common_steps)
 
 pub until_rises : (m : ℕ) (ss : List Leaf) → PlacesRise ss → PlacesRise (until m ss)
 until_rises m ss h = rise_kept (λ s. nat_lt s.place m) ss h

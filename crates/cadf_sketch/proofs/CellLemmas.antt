@@ -22,10 +22,6 @@ length-toggled_all cells (d ∷ ds) layout = length-toggled_all (toggled cells d
 
 -- ---- one place of the cells
 
--- the upper half of a number below 2 ^ 64, scaled to a number of places, is one of these places
-spread_below : (x size : ℕ) → 0 < size → (x % 2 ^ 64 / 2 ^ 32 * size) / 2 ^ 32 < size
-spread_below x size some = grind (arith, common_steps)
-
 place_bounds : (table : ℕ) (d : List ℕ) (layout : LayoutModel) → 0 < layout.size
     → (table * layout.size ≤ place_in table d layout) × (place_in table d layout < table * layout.size + layout.size)
 unfolding place_in

@@ -14,7 +14,7 @@ use Rattle.cadf_join.specs.Contents.{Text}
 use Rattle.cadf_line.specs.Digest.{IsDigest}
 use Rattle.cadf_inventory.specs.InventoryVerdict.{if_spelled, digest_of}
 use Rattle.cadf_inventory.proofs.DigestLines.{digest-again, digest-only, spelled-again, spelled-only}
-use Rattle.cadf_sketch.specs.Layouts.{LayoutModel, IsLayout, is_layout, layout_of}
+use Rattle.cadf_sketch.specs.Layouts.{LayoutModel, IsLayout, layout_of}
 use Rattle.cadf_sketch.specs.SketchFile.{spelled, head_line, counts_line, cell_line, AreWords64, IsHead, IsTally, IsCell}
 use Rattle.cadf_sketch.specs.SketchVerdict.{number_in, numbers_in, first_word, words_after, laid_out, headed, head_in_words, head_in}
 use Rattle.cadf_sketch.specs.SketchVerdict.{tally_in_numbers, counts_in_words, tally_in, cell_of_bytes, cell_in}
@@ -47,9 +47,6 @@ pub record HasLayout (cells salt : Option ℕ) (l : LayoutModel) : Type 0 where
   pub layout : IsLayout l
   pub cells_are : cells ≡ Some (3 * l.size)
   pub salt_is : salt ≡ Some l.salt
-
-layout_parts : (n a : ℕ) (l : LayoutModel) → layout_of n a ≡ Some l → (is_layout n a ≡ true) × (n / 3 ≡ l.size) × (a ≡ l.salt)
-layout_parts n a l e = grind (arith, common_steps)
 
 pub laid-only : (o p : Option ℕ) (l : LayoutModel) → laid_out o p ≡ Some l → HasLayout o p l
 laid-only o p l e = grind (arith, common_steps)

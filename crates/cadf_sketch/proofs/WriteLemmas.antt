@@ -1,9 +1,7 @@
 -- The lines of a sketch, by their places, and the line of its counts.
-use Rattle.std.proofs.lemmas.Grind.{common_steps}
-use Rattle.std.proofs.Common.{◌≡◌, ◌∙◌, ◌+◌, ◌-◌, ◌<◌, ◌≤◌, ℕ, suc, List, [], ◌∷◌, ◌++◌, length, map, drop, get_or, sym, ap, arith, append-nil}
+use Rattle.std.proofs.Common.{◌≡◌, ◌∙◌, ◌+◌, ◌-◌, ◌<◌, ◌≤◌, ℕ, suc, List, [], ◌∷◌, ◌++◌, length, map, get_or, sym, ap, arith}
 use Rattle.std.specs.Prelude.{decimal, flat_map}
 use Rattle.std.proofs.lemmas.List.{get_or-map, length-map}
-use Rattle.std.proofs.Math.ListN.{drop_of_length-le}
 use Rattle.cadf_sketch.specs.SketchFile.{cell_line, cell_lines}
 use Rattle.cadf_sketch.specs.Sketches.{SketchModel}
 use Rattle.cadf_sketch.specs.declared.cell.Cell.{Cell}
@@ -21,10 +19,3 @@ cell_there s place none after there =
 
 abbrev after : List ℕ → List ℕ
 after ns = flat_map (λ m. 32 ∷ decimal m) ns
-
-pub count_put : (line blank put ones : List ℕ) (i : ℕ) → i < length ones → blank ≡ line ++ 32 ∷ [] → put ≡ blank ++ decimal (get_or ones i 0)
-    → put ++ after (drop (i + 1) ones) ≡ line ++ after (drop i ones)
-count_put line blank put ones i within e f = grind (arith, common_steps)
-
-pub counts_ended : (line ones : List ℕ) (i : ℕ) → length ones ≤ i → line ≡ line ++ after (drop i ones)
-counts_ended line ones i past = sym (append-nil line) ∙ ap (λ l. line ++ after l) (sym (drop_of_length-le ones past))

@@ -5,10 +5,7 @@ use Rattle.std.proofs.Common.{◌≡◌, Bool, cond, List, [], ◌∷◌, take}
 use Rattle.cadf_join.specs.Contents.{Text}
 use Rattle.cadf_split.specs.declared.unit.Unit.{Unit}
 use Rattle.cadf_split.specs.Parts.{IsOfCarrier}
-use Rattle.cadf_split.specs.Windows.{window_of, key}
-
-window_of_first : (unit : Unit) (x : Text) (xs : List Text) → window_of unit (x ∷ take 2 xs) ≡ window_of unit (x ∷ xs)
-window_of_first unit x xs = grind (arith, common_steps)
+use Rattle.cadf_split.specs.Windows.{key}
 
 key_of : (unit : Unit) (b : Bool) (x : Text) (xs : List Text) → key unit (cond b (x ∷ take 2 xs) (x ∷ xs)) ≡ key unit (x ∷ xs)
 key_of unit b x xs = grind (arith, common_steps)
