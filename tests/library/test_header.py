@@ -12,6 +12,7 @@ from tests.library.declarations import HEADERS, IN_PYTHON, PYTHON, STRICT, calle
 
 import cadf  # noqa: E402  by tests.library.declarations
 
+PEDANTIC = ["-pedantic", "-Wall", "-Wextra", "-Werror"]
 # What a value of each kind is in a call, where it is given and where it is NULL, and how the noting library prints it.
 VALUES = {"bool": ("true", "true"), "uint8_t": ("'E'", "'E'"), "uint64_t": ("9", "9"), "uint8_t *": ("buffer", "NULL"), "size_t *": ("&length", "&length")}
 PRINTED = {"bool": ("%d", "{0}"), "uint8_t": ("%d", "{0}"), "uint64_t": ("%d", "(int){0}"), "size_t": ("%d", "(int){0}"), "uint8_t *": ("%d", "{0} != NULL"),
@@ -51,9 +52,9 @@ def noting():
 
 
 @pytest.mark.needs("gcc")
-@pytest.mark.parametrize("language, words", [("c", STRICT), ("c++", ["-std=c++11", "-Wall", "-Wextra", "-Werror"])])
+@pytest.mark.parametrize("language, words", [("c", STRICT), ("c", ["-std=c99", *PEDANTIC]), ("c++", ["-std=c++11", *PEDANTIC])])
 def test_wrappers(tmp_path, language, words):
-    """In C and in C++ each function takes NULL for what is nothing, and hands all else on in its order."""
+    """In C99, C11 and C++11 each function takes NULL for what is nothing, and hands all else on in its order."""
     if language == "c++" and subprocess.run(["gcc", "-x", "c++", "-fsyntax-only", os.devnull], stderr=subprocess.DEVNULL).returncode:
         pytest.skip("gcc has no C++ here (Debian: g++)")
     calls = [call(name, kinds, is_given) for name, kinds, _ in declared() if kinds for is_given in (True, False)]
