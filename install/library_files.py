@@ -3,11 +3,12 @@
 The archive that is installed has the kit's allocator in it, so `-lcadf` alone links; it and the shared library show
 `cadf_*` and nothing else. build/library makes the archive that both are linked of.
 """
+import contextlib
 import os
 import re
+import runpy
 import shutil
 import subprocess
-import sys
 import tempfile
 from typing import NamedTuple
 
@@ -87,7 +88,10 @@ def files(top):
 
 
 def wheel(top, folder):
-    """Makes the wheel of the package for Python, with the shared library in it. Returns its name. Raises CalledProcessError."""
+    """Puts the wheel of the package for Python, with the shared library in it, into the folder at once. Returns its name.
+
+    Raises CalledProcessError and OSError.
+    """
     with tempfile.TemporaryDirectory() as room:
         for name in contents.names_below(top, PACKAGE):
             place = os.path.join(room, os.path.relpath(name, PACKAGE))
@@ -96,5 +100,10 @@ def wheel(top, folder):
         with tempfile.TemporaryDirectory() as made:
             link(top, made)
             shutil.copyfile(os.path.join(made, SONAME), os.path.join(room, "cadf", SONAME))
-        words = [sys.executable, "-c", "import backend, sys; print(backend.build_wheel(sys.argv[1]))", os.path.abspath(folder)]
-        return subprocess.run(words, cwd=room, stdin=subprocess.DEVNULL, stdout=subprocess.PIPE, check=True).stdout.decode().strip()
+        name = runpy.run_path(os.path.join(room, "backend.py"))["build_wheel"](room)
+        file = contents.file_of(room, name, os.path.join(folder, name))
+    with contextlib.suppress(FileNotFoundError):
+        os.unlink(file.place + ".new")  # what a run left that was ended
+    contents.write(file.place + ".new", file.content, file.mode)
+    os.replace(file.place + ".new", file.place)
+    return name

@@ -1,6 +1,8 @@
 """bindings/c/cadf.h and the package for Python without the library: what they hand on, over one that notes what it is given."""
+import contextlib
 import os
 import re
+import resource
 import subprocess
 import sys
 
@@ -9,6 +11,7 @@ import pytest
 from install import library_files
 from tests import TOP, text_of
 from tests.library.declarations import HEADERS, IN_PYTHON, PYTHON, STRICT, called, declared, exported
+from tests.machine import put
 
 import cadf  # noqa: E402  by tests.library.declarations
 
@@ -102,6 +105,42 @@ def test_versions():
 def test_package():
     """The package's own tests that need no library."""
     subprocess.run([sys.executable, "-m", "unittest", "tests.test_package"], cwd=PYTHON, check=True, env={**os.environ, "PYTHONDONTWRITEBYTECODE": "1"})
+
+
+@contextlib.contextmanager
+def full():
+    """Lets no file be written beyond 20,000 bytes."""
+    before = resource.getrlimit(resource.RLIMIT_FSIZE)
+    resource.setrlimit(resource.RLIMIT_FSIZE, (20_000, before[1]))
+    try:
+        yield
+    finally:
+        resource.setrlimit(resource.RLIMIT_FSIZE, before)
+
+
+def wheel_of(library, monkeypatch, folder):
+    """Makes the wheel in the folder, with these bytes for the library. Returns its path."""
+    monkeypatch.setattr(library_files, "link", lambda _, made: put(made, library_files.SONAME, library))
+    return folder / library_files.wheel(TOP, str(folder))
+
+
+def test_wheel(tmp_path, monkeypatch):
+    """The wheel has the same bytes each time, and what a run left that was killed is no hindrance."""
+    monkeypatch.setenv("PYTHONSAFEPATH", "1")
+    path = wheel_of(b"library", monkeypatch, tmp_path)
+    made = path.read_bytes()
+    put(tmp_path, path.name + ".new", b"left")
+    assert wheel_of(b"library", monkeypatch, tmp_path).read_bytes() == made
+    assert os.listdir(tmp_path) == [path.name]
+
+
+def test_wheel_on_a_full_disk(tmp_path, monkeypatch, capfd):
+    """The wheel before stays whole, and the fault is an OSError."""
+    path = wheel_of(b"library", monkeypatch, tmp_path)
+    made = path.read_bytes()
+    with full(), pytest.raises(OSError, match="File too large"):
+        wheel_of(os.urandom(19_900), monkeypatch, tmp_path)
+    assert (os.listdir(tmp_path), path.read_bytes(), capfd.readouterr()) == ([path.name], made, ("", ""))
 
 
 def test_names():
