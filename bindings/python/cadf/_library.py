@@ -52,7 +52,7 @@ def load(path: Optional[str] = None) -> ctypes.CDLL:
             function = getattr(library, "cadf_" + name)
             function.argtypes, function.restype = [*arguments, *OUTPUT], ctypes.c_int
         library.cadf_version.argtypes, library.cadf_version.restype = [], ctypes.c_uint32
-    except (OSError, AttributeError) as error:
+    except (OSError, AttributeError, UnicodeError) as error:  # the last where the loader tells of a path that is no text
         raise ImportError("cadf: no library (%s): install it (build/library, install/install), or name it in the variable %s"
                           % (error, VARIABLE)) from None
     return library

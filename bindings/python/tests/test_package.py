@@ -47,6 +47,11 @@ class Library(unittest.TestCase):
         self.assertIn(_library.VARIABLE, str(caught.exception))
         self.assertNotIn("\n", str(caught.exception))
 
+    def test_whose_path_is_no_text_is_told_so_too(self):
+        with self.assertRaises(ImportError) as caught:
+            _library.load(os.fsdecode(b"/nowhere/\xff"))
+        self.assertIn(_library.VARIABLE, str(caught.exception))
+
     def test_that_lacks_a_function_is_told_so_too(self):
         with self.assertRaises(ImportError) as caught:
             _library.load("libc.so.6")
