@@ -161,11 +161,8 @@ def _listed(texts: List[bytes]) -> Tuple[Any, int]:
 
 
 def _log(log: Optional[str]) -> bytes:
-    """The bytes of a log that may be given: none for none. An empty one is refused here, since the library takes it for none."""
-    name = b"" if log is None else _of(log)
-    if log is not None and not name:
-        raise WrongArgument("log name")
-    return name
+    """The bytes of a log that may be given: none for none. An empty one is handed on as a control character, which is refused."""
+    return b"" if log is None else _of(log) or b"\0"
 
 
 def _room(*inputs: bytes) -> int:

@@ -250,6 +250,13 @@ class Calls(unittest.TestCase):
         with mock.patch.object(cadf, "_loaded", Fake(b'ok "a \\u0001\\" atoms 1" atoms 3 conflicts 1\n')):
             self.assertEqual(cadf.check("{}"), cadf.Check('a \x01" atoms 1', 3, 1))
 
+    def test_hand_on_an_empty_log_as_no_name(self):
+        for log, given in ((None, b""), ("", b"\0"), (b"", b"\0"), ("g", b"g")):
+            with mock.patch.object(cadf, "_loaded", Fake(b"")) as fake:
+                cadf.join(["{}"], log)
+                cadf.split("week", ["{}"], log)  # the library refuses the unit first
+            self.assertEqual(fake.inputs, [[given], [b"week", given]])
+
     def test_take_bytes_and_texts_alone(self):
         for wrong in (1, None, ["{}"], {"id": "g"}):
             with self.assertRaises(TypeError):
