@@ -90,8 +90,10 @@ class Check(NamedTuple):
 def _of(value: Input) -> bytes:
     """The bytes of an input, by no method that a class derived from its own may replace: the library believes their length.
 
-    Half of a surrogate pair becomes bytes that are no UTF-8, which the library refuses in its words.
+    Bytes are not copied. Half of a surrogate pair becomes bytes that are no UTF-8, which the library refuses in its words.
     """
+    if type(value) is bytes:
+        return value
     try:
         if isinstance(value, str):
             return str.encode(value, "utf-8", "surrogatepass")

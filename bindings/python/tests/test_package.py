@@ -209,6 +209,10 @@ class Inputs(unittest.TestCase):
             for value in (LongBytes(b"{}"), LongText("{}")):  # the wrong version
                 self.assertEqual(len(cadf._of(value)), 1000)
 
+    def test_of_bytes_are_not_copied(self):
+        value = bytes(range(256))
+        self.assertIs(cadf._of(value), value)
+
     def test_with_half_of_a_pair_go_to_the_library_which_refuses_them(self):
         self.assertEqual(self.given("\ud800"), [[b"\xed\xa0\x80"]])
 
