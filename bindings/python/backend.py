@@ -6,7 +6,9 @@ names this module, and nothing else is required.
 """
 import ast
 import base64
+import gzip
 import hashlib
+import io
 import os
 import re
 import tarfile
@@ -14,7 +16,7 @@ import zipfile
 
 HERE = os.path.dirname(os.path.abspath(__file__))
 LIBRARY = "cadf/libcadf.so.0"
-# The same bytes each time: archives have this time, the least that they can.
+# The same bytes each time: what is in a wheel has this time, the least that it can.
 TIME = (1980, 1, 1, 0, 0, 0)
 
 
@@ -87,13 +89,14 @@ def build_editable(wheel_directory, config_settings=None, metadata_directory=Non
 
 
 def build_sdist(sdist_directory, config_settings=None):
+    files = {name: _read(name) for name in ["pyproject.toml", "backend.py", *_sources()]}
+    packed = io.BytesIO()
+    with tarfile.open(fileobj=packed, mode="w", format=tarfile.PAX_FORMAT) as archive:
+        for place, content in {**files, "PKG-INFO": _metadata()}.items():
+            entry = tarfile.TarInfo(_name("/") + place)  # of no time and no owner
+            entry.size = len(content)
+            archive.addfile(entry, io.BytesIO(content))
     name = _name(".tar.gz")
-    with tarfile.open(os.path.join(sdist_directory, name), "w:gz", format=tarfile.PAX_FORMAT) as archive:
-        for file in ["pyproject.toml", "backend.py", *_sources()]:
-            archive.add(os.path.join(HERE, file), _name("/") + file)
-        info = os.path.join(sdist_directory, "PKG-INFO")
-        with open(info, "wb") as file:
-            file.write(_metadata())
-        archive.add(info, _name("/PKG-INFO"))
-        os.remove(info)
+    with open(os.path.join(sdist_directory, name), "wb") as file:
+        file.write(gzip.compress(packed.getvalue(), mtime=0))
     return name

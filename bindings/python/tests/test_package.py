@@ -1,8 +1,10 @@
 """What needs no library: how it is found, errors, sizes, and the wheel."""
 import ctypes
+import io
 import os
 import pickle
 import sys
+import tarfile
 import tempfile
 import unittest
 import zipfile
@@ -291,6 +293,23 @@ class Wheel(unittest.TestCase):
             fields, description = facts.split("\n\n", 1)
             self.assertLessEqual({"Name", "Version", "Summary", "Author", "Requires-Python"}, {line.split(":")[0] for line in fields.splitlines()})
             self.assertIn("import cadf", description)
+
+
+class Source(unittest.TestCase):
+    def test_has_what_builds_the_wheel_and_the_same_bytes_each_time(self):
+        made = []
+        for now in (10 ** 9, 10 ** 9 + 1):
+            with tempfile.TemporaryDirectory() as folder, mock.patch("time.time", lambda: now):
+                name = backend.build_sdist(folder)
+                self.assertEqual(os.listdir(folder), [name])
+                with open(os.path.join(folder, name), "rb") as file:
+                    made.append(file.read())
+        self.assertEqual(made[0], made[1])
+        with tarfile.open(fileobj=io.BytesIO(made[0])) as archive:
+            files = {file.name: file for file in archive}
+            self.assertIn("Name: cadf\n", archive.extractfile("cadf-0.1.0/PKG-INFO").read().decode())
+        self.assertLessEqual({"cadf-0.1.0/" + each for each in ("pyproject.toml", "backend.py", "cadf/__init__.py", "cadf/py.typed")}, set(files))
+        self.assertEqual({(file.mtime, file.uid, file.uname, file.mode) for file in files.values()}, {(0, 0, "", 0o644)})
 
 
 if __name__ == "__main__":
