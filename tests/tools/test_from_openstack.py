@@ -385,6 +385,14 @@ def test_bombs():
     os.remove("sparse")
 
 
+def test_deep_numbers():
+    """Numbers that lie deep, under long names, take no more time than others, and the first of them are named."""
+    deep = '{"%s":' % ("n" * 1000) * 290 + "[" + ",".join(["1.5"] * 40000) + "]" + "}" * 290
+    done = read('{"events":[],"x":%s}\n' % deep + json.dumps(event(id="good")), preexec_fn=lambda: resource.setrlimit(resource.RLIMIT_CPU, (5, 5)))
+    assert (done.status, [each["id"] for each in done.events]) == (1, ["good"])
+    assert done.entries[0]["faults"] == ["x: no event", *["/x/%s..: a number is not whole" % ("n" * 997)] * 99, "and 39901 more"]
+
+
 def test_longest():
     """The longest line, to the byte, with each of the ends of a line; and the longest text of --whole."""
     line = json.dumps(event(id="a")).ljust(1000)
