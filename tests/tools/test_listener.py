@@ -210,6 +210,31 @@ def test_broker_away(program, monkeypatch, tmp_path, seconds, ends_at, is_heard)
                             "the queue answer, and run this again", [line for line in program.lines if "notifications" not in line][-1])
 
 
+@pytest.mark.parametrize("hosts, seconds", [("h1,h2,h3", 0), ("h1", 30)])
+@pytest.mark.parametrize("is_heard", [False, True], ids=["broker away", "links that hold for a minute"])
+def test_faults_that_go_on(program, monkeypatch, hosts, seconds, is_heard):
+    """A fault that goes on is told once an hour for each host, however long a try takes. That of a link that held is told anew."""
+    clock, tried = Clock(), []
+
+    def pause(seconds):
+        clock.now += seconds
+        if clock.now >= 1000 + 3600 + 1800:
+            program.stopping.set()
+
+    def serve_once(host, deliveries, spool, options):
+        tried.append(host)
+        clock.now += seconds + 60 * is_heard
+        deliveries.heard = clock.now * is_heard
+        raise OSError(111, "Connection refused")
+
+    monkeypatch.setattr(program, "time", clock)
+    monkeypatch.setattr(program.stopping, "wait", pause)
+    monkeypatch.setattr(program, "serve_once", serve_once)
+    program.serve(types.SimpleNamespace(finish_if_old=lambda: None),
+                  types.SimpleNamespace(url="rabbit://%s/" % hosts, url_file=None, ca=None, until_empty=None))
+    assert len(program.lines) == (len(tried) if is_heard else 2 * len(hosts.split(",")))
+
+
 class Trickle:
     """A connection on which a frame comes every 9 milliseconds, and which the broker gives up after a minute without a heartbeat."""
 
