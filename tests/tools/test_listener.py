@@ -357,6 +357,8 @@ def test_words(program, tmp_path):
     for what, words, status in (
             ("no words", [], 2), ("no URL", spool, 2), ("two URLs", [*spool, "--url", "rabbit://h/", "--url-file", "x"], 2),
             ("no scheme", [*spool, "--url", "h/"], 2), ("http", [*spool, "--url", "http://h/"], 2), ("no port", [*spool, "--url", "amqp://h:x/"], 2),
+            ("a password that isn't encoded", [*spool, "--url", "amqp://u:SECRET/p@h/"], 2),
+            ("a comma in a password", [*spool, "--url", "amqp://u:SECRET,p@h/"], 2),
             ("no key", [*spool, "--url", "amqp://h/", "--bind", "nova"], 2), ("no exchange", [*spool, "--url", "amqp://h/", "--bind", ":k"], 2),
             ("prefetch 0", [*spool, "--url", "amqp://h/", "--prefetch", "0"], 2), ("NaN", [*spool, "--url", "amqp://h/", "--until-empty", "nan"], 2),
             ("a prefix", [*spool, "--url", "amqp://h/", "--until", "1"], 2), ("no file", [*spool, "--url-file", str(tmp_path / "absent")], 3),
@@ -364,7 +366,7 @@ def test_words(program, tmp_path):
         ended, output, error = answer(program, words)
         assert ended == status, what
         assert "(--url-file FILE | --url URL)" in output if what == "help" else "cadf-listen" in error, what
-        assert "\x1b" not in error, what
+        assert "\x1b" not in error and "SECRET" not in error, what
     program.amqp = None
     ended, _, error = answer(program, [*spool, "--url", "rabbit://h/"])
     assert (ended, error) == (3, "cadf-listen: needs the library amqp: apt install python3-kombu\n")
