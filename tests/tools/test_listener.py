@@ -403,6 +403,19 @@ def test_recovery(program, tmp_path):
         shutil.rmtree(folder)
 
 
+def test_recovery_beside_a_finished_file(program, tmp_path):
+    """Of a folder that was copied back while it had a file as it was before, the finished file stays, and the other is finished too."""
+    folder = tmp_path / "back"
+    folder.mkdir(0o700)
+    (folder / "n.jsonl").write_bytes(b"1\n2\n3\n")
+    (folder / "n.jsonl.part").touch(0o600)
+    (folder / "n.jsonl.part").write_bytes(b"1\n2")
+    os.close(program.Spool(str(folder), 1, 1).own)
+    assert (folder / "n.jsonl").read_bytes() == b"1\n2\n3\n"
+    assert sorted(lines_of(str(folder))) == [b"1", b"1", b"2", b"3"]
+    assert [path.suffix for path in folder.iterdir()].count(".part") == 0
+
+
 def test_files(program, tmp_path):
     """Names, modes and ends of the files of a spool, and its lock."""
     before, folder = os.umask(0), str(tmp_path / "files")
