@@ -177,7 +177,7 @@ def test_nothing_of_a_link_that_was_cut_is_no_empty_queue(program, monkeypatch):
 def test_broker_away(program, monkeypatch, tmp_path, seconds, ends_at, is_heard):
     """With --until-empty a broker that is away ends it with status 3: after that time, and a minute at least. Without, it goes on.
 
-    What was acknowledged before is in a finished file then. The time counts from when the queue could last be read.
+    What came before is in a finished file then. The time counts from when the queue could last be read.
     """
     clock, tried = Clock(), []
     monkeypatch.setattr(program, "time", types.SimpleNamespace(monotonic=clock.monotonic, strftime=program.time.strftime, gmtime=program.time.gmtime))
@@ -188,7 +188,7 @@ def test_broker_away(program, monkeypatch, tmp_path, seconds, ends_at, is_heard)
         if is_heard and not tried:
             spool.write([b"x\n"])
             clock.now += 5000
-            deliveries.gather(types.SimpleNamespace(blocking_read=lambda timeout: deliveries.lines.extend([b"y"] * 9)), 9)
+            deliveries.gather(types.SimpleNamespace(blocking_read=lambda timeout: deliveries.lines.extend([b"y\n"] * 9)), 9)
         tried.append(clock.now)
         clock.now += 20  # as of a host that takes connections and says nothing
         if len(tried) == 1000:
@@ -201,7 +201,7 @@ def test_broker_away(program, monkeypatch, tmp_path, seconds, ends_at, is_heard)
         status, _, error = answer(program, ["--spool", str(tmp_path / "spool"), "--url", "rabbit://h/", "--seconds", "1000000", *words])
     finally:
         program.stopping.clear()
-    assert (lines_of(str(tmp_path / "spool")), glob.glob(str(tmp_path / "spool" / "*.part"))) == ([b"x"] * is_heard, [])
+    assert (lines_of(str(tmp_path / "spool")), glob.glob(str(tmp_path / "spool" / "*.part"))) == (([b"x"] + [b"y"] * 9) * is_heard, [])
     if seconds is None:
         assert (status, len(tried), error) == (0, 1000, "")
     else:
@@ -233,6 +233,31 @@ def test_faults_that_go_on(program, monkeypatch, hosts, seconds, is_heard):
     program.serve(types.SimpleNamespace(finish_if_old=lambda: None),
                   types.SimpleNamespace(url="rabbit://%s/" % hosts, url_file=None, ca=None, until_empty=None))
     assert len(program.lines) == (len(tried) if is_heard else 2 * len(hosts.split(",")))
+
+
+@pytest.mark.parametrize("prefetch", [1, 9], ids=["at the acknowledgement", "while more comes"])
+def test_what_came_before_a_link_broke(program, monkeypatch, tmp_path, prefetch):
+    """What came is written once, also if the link breaks before it could be acknowledged: its queue may be gone with the broker."""
+    folder = str(tmp_path / "spool")
+    spool = program.Spool(folder, 1000, 1000)
+
+    def fail(*_, **__):
+        program.stopping.set()
+        raise ConnectionResetError(errno.ECONNRESET, os.strerror(errno.ECONNRESET))
+
+    def serve_once(host, deliveries, spool, options):
+        def read(timeout):
+            return fail() if deliveries.lines else deliveries.lines.append(b"{}\n") is None
+
+        channel = types.SimpleNamespace(basic_qos=lambda *_: None, basic_consume=lambda _: None, basic_ack=fail)
+        program.listen(types.SimpleNamespace(channel=lambda: channel, blocking_read=read, heartbeat_tick=lambda: None), deliveries, spool, options)
+
+    monkeypatch.setattr(program, "find_queue", lambda *_: None)
+    monkeypatch.setattr(program, "serve_once", serve_once)
+    program.serve(spool, types.SimpleNamespace(url="rabbit://h/", url_file=None, ca=None, queue="q", bind=[], prefetch=prefetch, until_empty=None))
+    spool.finish()
+    os.close(spool.own)
+    assert lines_of(folder) == [b"{}"]
 
 
 class Trickle:

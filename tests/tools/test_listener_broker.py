@@ -26,7 +26,7 @@ pytestmark = [pytest.mark.broker, pytest.mark.xdist_group("broker"), pytest.mark
 
 READ = tool("cadf-from-openstack")
 ACKNOWLEDGES = "            channel.basic_ack(deliveries.tag, multiple=True)\n"
-WRITES = "            spool.write(deliveries.lines)\n"
+WRITES = "            deliveries.write(spool)\n"
 LIMITS = (30000, 40001, 50002)  # bytes
 FILLING = 80  # messages: two or three times a limit
 HUGE, HUGE_COUNT = 3000000, 12
