@@ -11,12 +11,14 @@ import signal
 import socket
 import stat
 import struct
+import subprocess
 import sys
 import threading
 import types
 
 import pytest
 
+from tests import TOP
 from tests.tools.listeners import LISTEN, lines_of
 from tests.tools.programs import loaded
 
@@ -200,7 +202,7 @@ def test_broker_away(program, monkeypatch, tmp_path, seconds, ends_at, is_heard)
     try:
         status, _, error = answer(program, ["--spool", str(tmp_path / "spool"), "--url", "rabbit://h/", "--seconds", "1000000", *words])
     finally:
-        program.stopping.clear()
+        program.stopping.is_asked = False
     assert (lines_of(str(tmp_path / "spool")), glob.glob(str(tmp_path / "spool" / "*.part"))) == (([b"x"] + [b"y"] * 9) * is_heard, [])
     if seconds is None:
         assert (status, len(tried), error) == (0, 1000, "")
@@ -258,6 +260,23 @@ def test_what_came_before_a_link_broke(program, monkeypatch, tmp_path, prefetch)
     spool.finish()
     os.close(spool.own)
     assert lines_of(folder) == [b"{}"]
+
+
+ASKED_AT_EACH_LINE = """
+import sys
+from tests.tools.programs import loaded
+program = loaded(sys.argv[1])
+def asked(*_):
+    program.stopping.set()
+    return asked
+sys.settrace(asked)
+program.stopping.wait(600)
+"""
+
+
+def test_asked_to_end_at_any_time():
+    """A signal that asks it to end may come at each step of a wait, also twice, and ends the wait."""
+    assert subprocess.run([sys.executable, "-c", ASKED_AT_EACH_LINE, LISTEN], cwd=TOP, timeout=60, check=False).returncode == 0
 
 
 class Trickle:
