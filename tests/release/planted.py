@@ -105,6 +105,8 @@ ROWS = [
     Row("listener: gathers without an end", "tools/cadf-listen", " and time.monotonic() < until:", ":", LISTENER + "test_trickle"),
     Row("listener: a slow message is an empty queue", "tools/cadf-listen", "        if deliveries.count > count:", "        if deliveries.tag > count:", LISTENER + "test_slow_message"),
     Row("listener: recovered, not synced", "tools/cadf-listen", "                os.ftruncate(file, whole)\n            os.fsync(file)\n", "                os.ftruncate(file, whole)\n", CRASH + "test_listener"),
+    Row("listener: replaces a finished file", "tools/cadf-listen", "        if name in os.listdir(self.own):\n", "        if not name:\n", LISTENER + "test_recovery_beside"),
+    Row("listener: drops what came before a fault", "tools/cadf-listen", "                deliveries.write(spool)  # the queue", "                pass  # the queue", LISTENER + "test_what_came"),
     Row("listener: torn end not synced", "tools/cadf-listen", "            os.fsync(copy)\n", "", CRASH + "test_listener"),
     # ---- Sites compared
     Row("agree: peels without a bound", "tools/cadf-agree", "while pending and count < len(cells):", "while pending:", COMPARED + "test_peeled"),
