@@ -13,8 +13,8 @@ import time
 
 import cadf_site
 from cadf_keys import Files, at_once
-from cadf_logs import Text
-from cadf_toolkit import DIFFERS, DONE, FAILED, MEMORY, REFUSED, Fault, cadf, name_shown, naming, new_file, opened, started, tool
+from cadf_logs import UNREADABLE, Text
+from cadf_toolkit import CADF, DIFFERS, DONE, FAILED, MEMORY, REFUSED, Fault, cadf, name_shown, naming, new_file, opened, started, tool
 
 HELP = {
     "facts_taken": "Facts that the last run took into the site; of cadf-spool, those that it held before among them.",
@@ -104,10 +104,13 @@ def shown_conflicts(inputs):
         cadf(["show", "--conflicts"], inputs, file.fileno())
         file.seek(0)
         text, count = Text(file), 0
-        for member in text.names():
-            for _ in text.items() if member == "conflicts" else [None]:
-                value, _ = text.take()
-                count += member == "conflicts" and "ruled" not in value
+        try:
+            for member in text.names():
+                for _ in text.items() if member == "conflicts" else [None]:
+                    value, _ = text.take()
+                    count += member == "conflicts" and "ruled" not in value
+        except UNREADABLE:
+            raise Fault("%s: what it writes is no conflict list" % name_shown(CADF)) from None
     return count
 
 

@@ -52,12 +52,15 @@ OTHER_KINDS = {
 WRITTEN = {
     "check": ("answer of `cadf check`", b'ok "'),
     "join": ("replica file", b"CADF-REPLICA "),
+    "missing": ("replica file", b"CADF-REPLICA "),
+    "missing-by": ("replica file", b"CADF-REPLICA "),
     "missing-by-sketch": ("replica file", b"CADF-REPLICA "),
     "inventory": ("inventory", b"CADF-INVENTORY "),
     "sketch": ("sketch", b"CADF-SKETCH "),
     "seal": ("seal", b"CADF-SEAL "),
     "prove": ("proof", b"CADF-PROOF "),
 }
+LONGEST_BEGIN = max(len(begin) for _, begin in WRITTEN.values())
 OF_FACTS = {b"CADF-REPLICA ": "a replica file: `cadf-take SITE FILE` takes it as it is"}
 OF_LINES = "lines of JSON: `cadf-from-openstack --log ID FILE` makes a document of them"
 LARGEST = 2 ** 30  # bytes that cadf reads of a file
@@ -478,14 +481,20 @@ def cadf(words, inputs, output=subprocess.DEVNULL, keep=(), where=None, union=1)
     """Runs `cadf` with these words over open inputs, as `started_cadf`. Returns what it wrote, if `output` is a pipe.
 
     `where` names the file that is written, by a descriptor, so that a failed write is told with the system's words; else it is
-    a temporary one. Refusal: what `cadf` refuses. Fault: it ended otherwise, or could not write. OSError: it can't be started.
+    a temporary one. Refusal: what `cadf` refuses. Fault: it ended otherwise, could not write, or wrote what this command
+    doesn't. OSError: it can't be started.
     """
+    begin = os.lseek(output, 0, os.SEEK_CUR) if output >= 0 else 0
     with started_cadf(words, inputs, output, keep, union) as child:
         written, said = child.communicate()
         if output >= 0 and said.strip() == b"cadf: write fault":
             raise Fault("%s: write fault%s%s" % (name_shown(where or tempfile.gettempdir()), write_fault(output), "" if where else NO_ROOM))
         check_end(child, said, inputs)
-    if written is not None:
+    if output >= 0:
+        with open("/dev/fd/%d" % output, "rb") as file:
+            file.seek(begin)
+            check_written(words[0], file.read(LONGEST_BEGIN))
+    elif written is not None:
         check_written(words[0], written)
     return written
 

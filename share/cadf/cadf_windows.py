@@ -16,7 +16,7 @@ import tempfile
 
 import cadf_site
 from cadf_link import Item, Store
-from cadf_toolkit import REFUSED, Fault, Input, Refusal, cadf, check_end, naming, opened_file, started_cadf
+from cadf_toolkit import CADF, REFUSED, Fault, Input, Refusal, cadf, check_end, name_shown, naming, opened_file, started_cadf
 
 ALL, SHARED = "all", cadf_site.SHARED
 UNITS = {length: unit for unit, length in cadf_site.UNITS.items()}
@@ -81,7 +81,10 @@ def union_digest(inputs):
         for block in iter(lambda: child.stdout.read(BLOCK), b""):
             last = (last + block)[-LAST_LINE:]
         check_end(child, child.stderr.read(), inputs)
-    return LAST.fullmatch(last)[1].decode()
+    found = LAST.fullmatch(last)
+    if not found:
+        raise Fault("%s: what it writes is no replica file" % name_shown(CADF))
+    return found[1].decode()
 
 
 def made(words, inputs, name):

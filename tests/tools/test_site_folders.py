@@ -215,6 +215,19 @@ def test_what_is_held_already_changes_nothing(site):
     assert site.atoms() == atoms_of(contents(0, 1, 2, 3, 4, 6, name="n"))
 
 
+@pytest.mark.parametrize("answer", ["", "a\\nb\\nc\\n"])
+def test_what_another_program_answers_is_not_believed(site, answer):
+    """No three lines but those of a replica file say that a window holds all that a file brings."""
+    site.takes(contents(0))
+    before = site.listed()
+    odd = site.path / "odd"
+    odd.write_text('#!/bin/sh\n[ "$1" = missing ] || exec %s "$@"\nprintf "%s"\n' % (shlex.quote(site.command), answer))
+    odd.chmod(0o755)
+    site.environment["CADF"] = str(odd)
+    assert site.take(files=[site.put(contents(3))]) == (3, b"", b"cadf-take: %s: what it writes is no replica file\n" % os.fsencode(odd))
+    assert site.listed() == before
+
+
 def test_a_settled_folder_is_a_function_of_its_facts(site):
     values = [contents(key, key + 1, name="n%d" % (key % 2)) for key in range(3)]
     site.takes(*values)

@@ -31,7 +31,7 @@ from tests.tools.programs import loaded, tool
 
 CALLS = "os.open os.mkdir os.rename os.fsync os.unlink os.rmdir fcntl.flock builtins.open subprocess.Popen"
 DAMAGED = "the file is damaged: fetch it again, or restore it as the guide says under `A damaged site`"
-TOO_LARGE = "truncate -s 1073741824 /dev/stdout; printf 'Z %064d\\n' 0 >>/dev/stdout; exit 0"  # a replica file that no command reads
+TOO_LARGE = "printf 'CADF-REPLICA 2\\n'; truncate -s 1073741824 /dev/stdout; printf 'Z %064d\\n' 0 >>/dev/stdout; exit 0"  # a replica file that no command reads
 
 
 def event(key, **members):

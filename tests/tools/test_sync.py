@@ -772,6 +772,15 @@ def test_windows_of_several_files_are_compared_by_their_union(folders):
     assert folders.equal("here/", "there/")["windows_differed"] == 0
 
 
+def test_another_program_has_no_union_of_files(folders):
+    """It is named, and the windows are taken for equal or different by no digest of its."""
+    folders.put("here/", facts(1))
+    folders.put("29.cadf", facts(29))
+    folders.takes("here/", ["29.cadf"])
+    folders.cadf = "true"
+    assert folders.sync("here/", "new.cadf") == (3, b"", b"cadf-sync: true: what it writes is no replica file\n")
+
+
 def test_a_folder_whose_first_take_ended_early_is_made(folders):
     """A call that was killed or refused before there was a site is made again and completes."""
     folders.put("here/", facts(1, 2, 3))
