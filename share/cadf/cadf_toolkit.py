@@ -449,6 +449,16 @@ def started(words, **options):
             raise
 
 
+def heard(child):
+    """What a cadf-take that was started writes to standard error, but that it waits for a lock: that is said at once."""
+    lines = []
+    for line in child.stderr:
+        lines.append(line.decode("utf-8", "backslashreplace"))
+        if lines[-1].startswith("cadf-take: waits for "):
+            say(lines.pop().removeprefix("cadf-take: ").rstrip())
+    return "".join(lines)
+
+
 def started_cadf(words, inputs, output, keep=(), union=1):
     """Starts `cadf` with these words over open inputs, of which the first so many are FROM together.
 

@@ -83,6 +83,22 @@ def test_sync_says_for_what_it_waits(cadf, tmp_path, held):
     assert (tmp_path / "here.cadf").read_bytes() == (tmp_path / "there.cadf").read_bytes()
 
 
+@pytest.mark.parametrize("held", ["site.cadf.lock", "spool/.spool.lock"])
+def test_spool_says_for_what_it_waits(cadf, tmp_path, held):
+    """Once, while another call has the lock of the site or of the spool."""
+    spool = tmp_path / "spool"
+    spool.mkdir()
+    os.rename(document(tmp_path, "e1"), spool / "e1.json")
+    with open(put(tmp_path, held, "", 0o600), "r+") as lock:
+        fcntl.flock(lock, fcntl.LOCK_EX)
+        child = subprocess.Popen([tool("cadf-spool"), "--unchanged", "0", "--log", "g", tmp_path / "site.cadf", spool],
+                                 env={**os.environ, "CADF": cadf}, stderr=subprocess.PIPE)
+        assert select.select([child.stderr], [], [], 30)[0], "nothing is said"
+        assert child.stderr.readline().decode() == "cadf-spool: waits for %s, which another call holds\n" % (tmp_path / held)
+    assert (child.wait(60), child.stderr.read()) == (0, b"cadf-spool: taken 1, set aside 0, waiting 0\n")
+    child.stderr.close()
+
+
 def test_take_behind_a_link(cadf, tmp_path):
     """A lock that is a link is no lock: its file may be one that others hold."""
     put(tmp_path, "own", "", 0o600)
