@@ -23,7 +23,7 @@ import subprocess
 import tempfile
 
 from cadf_toolkit import (CADF, FAILED, IN_THE_WAY, LARGEST, REFUSED, Fault, Input, Refusal, cadf, check_end, check_lock, log_name, name_shown,
-                          open_descriptor, opened_file, other_log, say, started_cadf, sync, wait_for_lock)
+                          new_lock, open_descriptor, opened_file, other_log, say, started_cadf, sync, wait_for_lock)
 
 UNITS = {"month": len("2024-03"), "day": len("2024-03-01"), "hour": len("2024-03-01T12")}  # with the length of a window's name
 INDEX, LOCK, WORKING = "site", ".lock", ".new"
@@ -456,10 +456,9 @@ class Taking:
 
     def opened_lock(self):
         """The lock's file, which is made if it isn't there, for a group if that may write to the folder."""
+        mode = 0o660 if self.folder.found.st_mode & stat.S_IWGRP else 0o600
         try:
-            lock = self.folder.open(LOCK, os.O_RDWR | os.O_CREAT | os.O_EXCL)
-            self.folder.give(lock, 0o660 if self.folder.found.st_mode & stat.S_IWGRP else 0o600)
-            return lock
+            return new_lock(LOCK, lambda file: self.folder.give(file, mode), self.folder.descriptor)
         except FileExistsError:
             return self.folder.open(LOCK, os.O_RDWR | os.O_NONBLOCK)
 

@@ -555,6 +555,28 @@ def open_descriptor(file):
         os.close(file)
 
 
+def new_lock(name, give, folder=None):
+    """Opens a lock's new file, by its path, or by a name in an open folder. FileExistsError: it is there.
+
+    `give` gives it its group and mode. It gets its name after that, if the file system can do so: a call that is killed between
+    would leave a lock that others of the group can't open.
+    """
+    try:
+        file = os.open(os.path.dirname(name) or ".", os.O_RDWR | os.O_TMPFILE, 0o600, dir_fd=folder)
+    except OSError:
+        file = os.open(name, os.O_RDWR | os.O_CREAT | os.O_EXCL, 0o600, dir_fd=folder)
+        give(file)
+        return file
+    try:
+        give(file)
+        os.link("/dev/fd/%d" % file, name, src_dir_fd=file, dst_dir_fd=folder)  # with a folder it follows the link in /dev/fd
+        return file
+    except OSError as fault:
+        os.close(file)
+        fault.filename = name
+        raise
+
+
 def wait_for_lock(file, name, seconds):
     """Waits for the lock of an open file, at most so long, without limit for None. Who can read the file can hold the lock.
 

@@ -3,6 +3,7 @@ import functools
 import json
 import os
 import resource
+import shutil
 import signal
 import stat
 import struct
@@ -335,6 +336,26 @@ def test_each_call(folder, way, statuses, is_first):
         assert done.status in statuses and held("s.cadf") in ((after,) if done.status == 0 else (old, after)), (place, call, done)
         ends(folder.take("s.cadf", "two.json"), 0)
         assert held("s.cadf") == after and not os.path.exists("s.cadf.new"), (place, call)
+
+
+@pytest.mark.parametrize("site", ["s.cadf", "ours/"])
+def test_a_killed_call_leaves_no_lock_that_a_group_cannot_open(folder, site):
+    """Whenever it is killed, there is no lock, or one that has the mode for the group."""
+    def run(*words):
+        shutil.rmtree("ours", ignore_errors=True)
+        os.mkdir("ours")
+        folder.site(site=folder.one)
+        for name, mode in (("ours", 0o2770), ("s.cadf", 0o660)):
+            os.chmod(name, mode)
+        by = ["--by", "day"] if site == "ours/" else []
+        return calls_of("os.open os.link os.fchmod fcntl.flock", folder.tool, [*by, site, "two.json"], *words, env={**os.environ, "CADF": folder.cadf})
+
+    lock = site + ".lock"
+    _, calls = run()
+    assert mode_of(lock) == 0o660
+    for place in range(1, 2 + calls.index("flock")):
+        done, _ = run("killed", place)
+        assert done.status == -9 and (not os.path.exists(lock) or mode_of(lock) == 0o660), (place, calls[:place])
 
 
 @pytest.mark.parametrize("callers", [12, pytest.param(100, marks=pytest.mark.release)])
