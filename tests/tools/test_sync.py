@@ -41,7 +41,7 @@ REFERENCE = os.path.join(TOP, "tests", "reference", "cadf")
 FAR = os.path.join(TOP, "tests", "tools", "far_side.py")
 MOST_DIFFERING, MOST_EQUAL, MOST_TURNS = 100000, 40000, 6  # bytes both ways beyond the answers, turns of the line
 CUTS, MADE_AGAIN = 50, 5  # random bytes at which a link is cut; each of so many calls is made again
-FIRST = b'CADF-SYNC 1 {"limit":1073741824,"log":"g","next":true,"timeout":60,"unit":null,"writes":true}\n'
+FIRST = b'CADF-SYNC 1 {"keeps":true,"limit":1073741824,"log":"g","next":true,"timeout":60,"unit":null,"writes":true}\n'
 EVENT = {"eventType": "activity", "action": "read", "outcome": "success", "initiatorId": "u1", "targetId": "t1",
          "observerId": "s1"}
 
@@ -580,6 +580,9 @@ CALLS = {
     "no facts": (hello() + message(b"take", items((b"all", b"facts", b"x"))), 1, "all from the caller: not JSON"),
     "facts of another log": (hello() + message(b"take", items((b"all", b"facts", OTHER))), 1, 'other log: "h"'),
     "facts and none": (hello() + message(b"take", items((b"all", b"facts", GOOD), (b"all", b"facts", b"{"))), 1, "not JSON"),
+    "facts that are kept, and others that are none": (hello() + message(b"take", items((b"all", b"some", GOOD))) + message(b"take", items((b"all", b"facts", b"{"))), 1,
+                                                      "not JSON"),
+    "facts that are kept, and a cut": (hello() + message(b"take", items((b"all", b"some", GOOD))) + b"take 100\nall", 3, "cut in a message"),
     "waits": (hello() + b"wait 0\n" * 1001, 1, "it says that it works"),
 }
 
@@ -1244,6 +1247,28 @@ def test_pieces_with_an_older_end(sites, older):
     assert sites.sync("--quiet", "--pull", "--limit=%d" % PIECE_BYTES, "--rsh=./shell", "here.cadf", "h:there.cadf") == (0, b"", b"")
     assert (sites.path / "here.cadf").read_bytes() == file_of("g", facts(*range(1, 80)))
     assert (sites.path / "calls").read_text().split().count("missing-by") > 3
+
+
+NOT_KEPT = {"serving": (", keeps=True", "", '("facts", "some"))', '("facts",))'), "calling": ("if after and self.keeps:", "if False:")}
+
+
+@pytest.mark.parametrize("older", [None, *NOT_KEPT])
+def test_messages_into_a_file_are_joined_together(folders, older):
+    """A take of a file costs what it holds. With an older end it is made for each message, which brings the same."""
+    union = facts(*range(1, 40))
+    tools = dict.fromkeys(("calling", "serving"), folders.tools)
+    if older:
+        tools[older] = copied(str(folders.path / "older"), *NOT_KEPT[older])
+    folders.put("here.cadf", union)
+    folders.put("there.cadf", facts(1, 2))
+    has_counted_calls(folders)
+    has_shell(folders, tools["serving"], "--limit=%d" % PIECE_BYTES, "there.cadf")
+    folders.tools = tools["calling"]
+    answer = folders.sync("--json", "--push", "--rsh=./shell", "here.cadf", "h:there.cadf")
+    assert (answer.status, answer.error, json.loads(answer.output)["taken_there"]) == (0, b"", len(union - facts(1, 2)))
+    assert (folders.path / "there.cadf").read_bytes() == file_of("g", union)
+    takes = (folders.path / "calls").read_text().split().count("missing")
+    assert takes > 2 if older else takes == 1
 
 
 def large(number):
