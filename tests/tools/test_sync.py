@@ -625,6 +625,14 @@ def test_a_log_that_is_none(sites, log):
     assert (answer.status, answer.error) == (1, b"cadf-sync: no text in the first line: log\n")
 
 
+def test_facts_if_neither_site_is_there(sites):
+    """No end has named a log, so the facts are refused, though a document names one."""
+    document = json.dumps({"id": "g", "events": []}).encode()
+    answer = sites.served(hello(log=None) + message(b"take", items((b"all", b"facts", document))))
+    assert (answer.status, answer.error, os.listdir(sites.path)) == (1, b"", [])
+    assert answer.output.endswith(b"1 neither site is there: take a file into one by cadf-take")
+
+
 def test_a_site_that_is_read_alone(sites):
     sites.put("here.cadf", facts(1))
     answer = sites.served(hello() + message(b"take", items((b"all", b"facts", GOOD))), "--read-only")
