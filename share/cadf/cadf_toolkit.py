@@ -563,18 +563,18 @@ def new_lock(name, give, folder=None):
     """
     try:
         file = os.open(os.path.dirname(name) or ".", os.O_RDWR | os.O_TMPFILE, 0o600, dir_fd=folder)
-    except OSError:
+        try:
+            give(file)
+            os.link("/dev/fd/%d" % file, name, src_dir_fd=file, dst_dir_fd=folder)  # with a folder it follows the link in /dev/fd
+        except BaseException:
+            os.close(file)
+            raise
+    except FileExistsError:
+        raise
+    except OSError:  # as where no file can be without a name, or get one by a link
         file = os.open(name, os.O_RDWR | os.O_CREAT | os.O_EXCL, 0o600, dir_fd=folder)
         give(file)
-        return file
-    try:
-        give(file)
-        os.link("/dev/fd/%d" % file, name, src_dir_fd=file, dst_dir_fd=folder)  # with a folder it follows the link in /dev/fd
-        return file
-    except OSError as fault:
-        os.close(file)
-        fault.filename = name
-        raise
+    return file
 
 
 def wait_for_lock(file, name, seconds):

@@ -8,6 +8,7 @@ import signal
 import stat
 import struct
 import subprocess
+import sys
 
 import pytest
 
@@ -356,6 +357,20 @@ def test_a_killed_call_leaves_no_lock_that_a_group_cannot_open(folder, site):
     for place in range(1, 2 + calls.index("flock")):
         done, _ = run("killed", place)
         assert done.status == -9 and (not os.path.exists(lock) or mode_of(lock) == 0o660), (place, calls[:place])
+
+
+@pytest.mark.parametrize("site, status", [("s.cadf", 3), ("ours/", 0)])
+def test_a_file_system_without_hard_links(folder, site, status):
+    """A folder needs none. A file isn't replaced, and the line says so."""
+    linkless = "import errno, os, runpy, sys\ndef link(source, *_, **__):\n    raise OSError(errno.EPERM, 'Operation not permitted', source)\n" \
+        "os.link, sys.argv = link, sys.argv[1:]\nrunpy.run_path(sys.argv[0], run_name='__main__')"
+    folder.site(site=folder.one)
+    os.mkdir("ours")
+    done = ended(sys.executable, ["-c", linkless, folder.tool, *(["--by", "day"] if site == "ours/" else []), site, "two.json"], env={**os.environ, "CADF": folder.cadf})
+    ends(done, status, "cadf-take: s.cadf: Operation not permitted: no hard link can keep what it held, "
+         "and a folder needs none: cadf-take --by day NEW/ s.cadf\n" if status else "")
+    leaves(folder.one)
+    assert mode_of(site + ".lock") == 0o600
 
 
 @pytest.mark.parametrize("callers", [12, pytest.param(100, marks=pytest.mark.release)])
