@@ -478,6 +478,16 @@ def test_heavy(place, driver):
     tried.is_quiet()
 
 
+def test_long_names(place, driver):
+    """A long name above many members hides no conflict: its beginning is in each path."""
+    events = [dict(EVENT, id="e", **{"N" * 1000000: {"m%d" % at: value for at in range(600)}}) for value in "ab"]
+    tried = Tried(driver, place.page("names", place.file("names.json", {"id": "g", "events": events}))).ready()
+    tried.show("conflicts")
+    assert "2 values differ in 600 paths" in tried.texts("#panels")[0]
+    assert tried.texts("article th[scope=row]")[0] == '["%s\u2026"].m0' % ("N" * 199)
+    tried.is_quiet()
+
+
 def worked(driver):
     """The seconds of a processor that the page has taken so far."""
     metrics = driver.execute_cdp_cmd("Performance.getMetrics", {})["metrics"]

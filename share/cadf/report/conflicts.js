@@ -19,10 +19,26 @@ function valuesOf(at) {
   });
 }
 
-/** Writes a path one step longer. */
+/* A path is the numbers of its names and places: with the names themselves, a long one would be in each path below it. */
+const pathNames = [], pathNumbers = new Map();
+const namesOf = path => path.split("/").slice(1).map(number => pathNames[number]);
+
+/** Makes a path one step longer. */
 function stepped(path, name) {
-  if (typeof name === "number") return `${path}[${name}]`;
-  return /^[\w:-]+$/.test(name) ? (path ? path + "." : "") + name : `${path}[${JSON.stringify(name)}]`;
+  if (!pathNumbers.has(name)) pathNumbers.set(name, pathNames.push(name) - 1);
+  return `${path}/${pathNumbers.get(name)}`;
+}
+
+/** Writes a path, cut off where it is long. */
+function pathText(path) {
+  let written = "";
+  for (const name of namesOf(path)) {
+    const short = cut(String(name), 200);
+    if (typeof name === "number") written += `[${name}]`;
+    else written += /^[\w:-]+$/.test(short) ? (written ? "." : "") + short : `[${JSON.stringify(short)}]`;
+    if (written.length > 600) break;
+  }
+  return cut(written || "value", 600);
 }
 
 /** Lists a value's leaves by their paths: the empty path is that of the value itself. */
@@ -40,7 +56,8 @@ function compared(values, isEvent) {
   const flat = values.map(({value}) => leaves(value, "", new Map(), isEvent ? BESIDE : new Set()));
   const counts = new Map();   // of each path, how many values have there what the first has
   for (const each of flat) for (const [path, string] of each) counts.set(path, (counts.get(path) || 0) + Number(string === flat[0].get(path)));
-  const paths = [...counts.keys()].sort(), same = path => counts.get(path) === flat.length;
+  const texts = new Map([...counts.keys()].map(path => [path, pathText(path)])), same = path => counts.get(path) === flat.length;
+  const paths = [...texts.keys()].sort((a, b) => Number(texts.get(a) > texts.get(b)) - Number(texts.get(a) < texts.get(b)));
   return {flat, differing: paths.filter(path => !same(path)), equal: paths.filter(same)};
 }
 
@@ -92,7 +109,7 @@ function comparison(path, flat, differs) {
     if (!each.has(path)) return make("td", {class: "absent"}, "absent");
     return many ? putMarked(make("td"), each.get(path), front, back) : put(make("td"), cut(each.get(path), 2000));
   };
-  return make("tr", {class: differs ? "differs" : ""}, put(make("th", {scope: "row"}), cut(path || "value", 600)), ...flat.map(cell));
+  return make("tr", {class: differs ? "differs" : ""}, put(make("th", {scope: "row"}), pathText(path)), ...flat.map(cell));
 }
 
 /* ---- Choices. ---- */
@@ -144,7 +161,7 @@ function tellings(at) {
 
 /** Returns the text of what a value has at a path. */
 function told(value, path) {
-  const cell = path.reduce((inner, name) => inner === undefined ? undefined : typeof name === "number" ? parts(inner)[name] : member(inner, name), value);
+  const cell = namesOf(path).reduce((inner, name) => inner === undefined ? undefined : typeof name === "number" ? parts(inner)[name] : member(inner, name), value);
   return cell === undefined ? "absent" : text(cell);
 }
 
@@ -281,7 +298,7 @@ function conflictCard(at) {
   return card;
 }
 
-/** Lists the paths at which values part, as lists of names; what is shared is known to be equal without a look. */
+/** Lists the paths at which values part; what is shared is known to be equal without a look. */
 function parting(cells, path, found, skipped = new Set()) {
   if (cells.every(cell => cell === cells[0])) return found;
   if (!cells.every(isObject)) {
@@ -292,18 +309,17 @@ function parting(cells, path, found, skipped = new Set()) {
   for (const [name, part] of cells.flatMap(entries)) held.has(name) ? held.get(name).push(part) : held.set(name, [part]);
   for (const name of [...held.keys()].sort()) {
     if (skipped.has(name)) continue;
-    if (held.get(name).length < cells.length) found.push([...path, name]);
-    else parting(held.get(name), [...path, name], found);
+    if (held.get(name).length < cells.length) found.push(stepped(path, name));
+    else parting(held.get(name), stepped(path, name), found);
   }
   return found;
 }
 
-const pathText = path => path.reduce(stepped, "") || "value";
 let paths = [];   // of each conflict, when they are first shown
 
 /** Finds of each conflict the paths at which its values part. */
 function findPaths() {
-  paths = conflicts.map((_, at) => parting(valuesOf(at).map(({value}) => value), [], [], kindOf(at) === "E" ? BESIDE : undefined));
+  paths = conflicts.map((_, at) => parting(valuesOf(at).map(({value}) => value), "", [], kindOf(at) === "E" ? BESIDE : undefined));
 }
 
 /** Groups conflicts by the paths at which their values part. */
@@ -311,7 +327,7 @@ function patterns() {
   const groups = new Map();
   conflicts.forEach((_, at) => {
     const kind = kindOf(at), key = JSON.stringify([kind, ...paths[at]]);
-    if (!groups.has(key)) groups.set(key, {kind, differing: paths[at].map(pathText), members: []});
+    if (!groups.has(key)) groups.set(key, {kind, differing: paths[at], members: []});
     groups.get(key).members.push(at);
   });
   return [...groups.values()].sort((a, b) => b.members.length - a.members.length);
@@ -325,7 +341,7 @@ function patternList(groups, pick) {
       for (const each of list.querySelectorAll("button")) each.setAttribute("aria-pressed", String(each === made));
       pick(members);
     }, {"aria-pressed": String(!differing)});
-    for (const path of (differing || []).slice(0, 8)) put(made, cut(path, 60), "code");
+    for (const path of (differing || []).slice(0, 8)) put(made, cut(pathText(path), 60), "code");
     if (differing && differing.length > 8) made.append(` and ${differing.length - 8} more`);
     list.append(make("li", {}, made));
   };

@@ -41,8 +41,8 @@ const SVG = "http://www.w3.org/2000/svg";
 const ODD = /[\p{Cc}\p{Cf}\p{Zl}\p{Zp}\p{Co}\u00a0\u034f\u115f\u1160\u1680\u17b4\u17b5\u2000-\u200a\u202f\u205f\u2800\u3000\u3164\uffa0\ufe00-\ufe0f\u{e0100}-\u{e01ef}]/gu;
 const codePoint = char => "U+" + char.codePointAt(0).toString(16).toUpperCase().padStart(4, "0");
 const named = string => string.replace(ODD, char => "\u2039" + codePoint(char) + "\u203a");
-const cut = (string, most) => [...string.slice(0, 2 * most)].length > most || string.length > 2 * most
-  ? [...string.slice(0, 2 * most)].slice(0, most - 1).join("") + "\u2026" : string;
+const cut = (string, most) => string.length <= most || string.length <= 2 * most && [...string].length <= most
+  ? string : [...string.slice(0, 2 * most)].slice(0, most - 1).join("") + "\u2026";
 const id = name => document.getElementById(name);
 const counted = number => number.toLocaleString("en");
 
