@@ -671,9 +671,10 @@ def ask_to_end(handler):
 
 
 def prepare_streams():
-    """Has each write to standard output continued that is cut short, and no file get the number of a closed standard input."""
+    """Has each write to standard output continued that is cut short, what it can't encode escaped, and no file get the number of a closed standard input."""
     if isinstance(getattr(sys.stdout, "buffer", None), io.RawIOBase):  # as with PYTHONUNBUFFERED
-        sys.stdout = open(1, "w", encoding=sys.stdout.encoding, errors=sys.stdout.errors, closefd=False)
+        sys.stdout = open(1, "w", encoding=sys.stdout.encoding, closefd=False)
+    sys.stdout.reconfigure(errors="backslashreplace")  # as standard error does, whatever PYTHONIOENCODING says
     if sys.stdin is None:
         os.open(os.devnull, os.O_WRONLY)  # what reads it fails
 

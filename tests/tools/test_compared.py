@@ -3,6 +3,7 @@ import itertools
 import json
 import os
 import resource
+import shutil
 import subprocess
 import types
 
@@ -73,6 +74,14 @@ def test_every_kind(cadf, tmp_path):
     listed = [tuple(line.split()[:3]) for line in done.stdout.decode().splitlines() if not line.startswith("#")]
     keys = {"E": "e", "R": "r", "G": "l", "M": "m", "P": "p"}
     assert done.returncode == 5 and sorted(listed) == sorted((kind, '"%s"' % key, place) for kind, key in keys.items() for place in "12")
+
+
+def test_a_name_that_standard_output_cannot_encode(cadf, tmp_path):
+    """A list on an output that takes ASCII alone has the other characters of a file's name escaped."""
+    site, name = os.path.join(VECTORS, "both.cadf"), tmp_path / "\u00e9.cadf"
+    shutil.copy(site, name)
+    done = subprocess.run([tool("cadf-conflicts"), site, name], env={**os.environ, "CADF": cadf, "PYTHONIOENCODING": "ascii"}, stdout=subprocess.PIPE, stderr=subprocess.PIPE)
+    assert done.returncode == 5 and b"\\xe9.cadf\n" in done.stdout, done
 
 
 def test_long_lines_of_choices(cadf, tmp_path):
