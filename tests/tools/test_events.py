@@ -113,7 +113,7 @@ def test_file_and_folder_show_the_same(cadf, tmp_path, seed):
     (", *(self.of_facts(name, rulings) for name in windows.facts))", ")"),
     ("utc(limits.until - 1)[:length]", "utc(limits.until - 1)[:length - 1]"),
     ("            if len(parts) > 1:", "            if len(parts) > 2:"),
-    ('yield instant(event["eventTime"]), event["id"], text', 'yield event["eventTime"], event["id"], text'),
+    ("yield at, identifier, text", 'yield event["eventTime"], identifier, text'),
     ('any(map(self.limits.has, conflict["values"]))', "1"),
 ])
 def test_wrong_versions_are_caught(cadf, tmp_path, right, wrong):
@@ -127,6 +127,21 @@ def test_bulk_lines_name_log_and_identifier(cadf, tmp_path):
     answer = events(os.path.join(TOP, "tools"), cadf, str(tmp_path / "a"), (None, None), "--bulk", "audit")
     name = hashlib.sha256(LOG.encode() + b"\0" + "e\u00e9".encode()).hexdigest()
     assert answer.output.decode() == '{"index":{"_index":"audit","_id":"%s"}}\n' % name + wanted(atoms, (None, None))[0].decode()
+
+
+@pytest.mark.parametrize("wrong", [
+    's/"eventTime":"[^"]*"/"eventTime":"x"/', 's/"eventTime"/"time"/', 's/"id":"e"/"id":7/', 's/"events":.*,/"events":[7],/',
+    's/"conflicts":.*,"log"/"conflicts":[{}],"log"/', 's/"conflicts":.*,"log"/"conflicts":7,"log"/'])
+def test_another_program_that_imitates_the_command(cadf, tmp_path, wrong):
+    """What isn't what the command writes is no log, whatever range is asked for."""
+    (tmp_path / "imitation").write_text('#!/bin/sh\n"%s" "$@" | sed \'%s\'\n' % (cadf, wrong))
+    (tmp_path / "imitation").chmod(0o755)
+    atoms = document({"id": LOG, "events": [dict(EVENT, id="e", eventTime=TIMES[4])]})[1]
+    (tmp_path / "file").write_bytes(file_of(LOG, atoms))
+    for site in str(tmp_path / "file"), folder_of(tmp_path / "folder", atoms, "day", random.Random(0)):
+        for words in [["--bulk", "audit"], ["--from", "2024-03-01"]]:
+            answer = ended(os.path.join(TOP, "tools", "cadf-events"), [*words, "--", site], env=dict(os.environ, CADF=str(tmp_path / "imitation")))
+            assert (answer.status, answer.error.decode()) == (3, "cadf-events: %s: what it writes is no log\n" % (tmp_path / "imitation")), answer
 
 
 @pytest.mark.parametrize("place", [3, -3])

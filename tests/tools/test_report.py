@@ -297,6 +297,16 @@ def test_faults(reports):
     assert (full.status, full.error) == (3, b"cadf-report: standard output: write fault: No space left on device\n")
 
 
+@pytest.mark.parametrize("wrong", [
+    "s/^{.*/{}/", 's/"eventTime":"[^"]*"/"eventTime":7/g', 's/"id":"/"key":"/g', 's/"values":/"value":/g', 's/"rulings":.*/"rulings":7}/'])
+def test_another_program_that_imitates_the_command(reports, wrong):
+    """What isn't what the command shows makes no page."""
+    put("imitation", '#!/bin/sh\n"%s" "$@" | sed \'%s\'\n' % (reports.binary, wrong))
+    os.chmod("imitation", 0o755)
+    said = ["cadf-report: ./imitation: what it writes is no text of cadf"]
+    assert reports.answer("--until", "2024-03-02", "settled", env={"CADF": "./imitation"}) == (3, b"", said)
+
+
 ENTRIES = [{"file": "a.jsonl", "line": 3, "faults": ["eventTime", "tag 2"], "event": {"id": "e", "x": [1.5, "</script>"]}},
            {"file": "b\u202e", "line": 1, "faults": ["not JSON at character 0"], "text": "x" * 5000}, {"file": "c", "line": 9, "faults": ["longer"]}]
 
