@@ -14,7 +14,7 @@ from typing import NamedTuple
 
 from cadf_logs import utc
 from cadf_site import CHANGED, DAMAGED, SHARED, TRIES, UNITS, Folder, is_folder, made_of_parts
-from cadf_toolkit import REFUSED, Fault, Input, cadf, in_order, opened
+from cadf_toolkit import REFUSED, Fault, Input, cadf, in_order, most_files, opened
 
 AT_ONCE = 256  # files that one call is given, where as many may be open
 LARGEST = 2 ** 28  # bytes of windows whose common keys are put together at once
@@ -68,7 +68,7 @@ class Read(NamedTuple):
 
 def at_once():
     """How many files one call is given: `cadf` opens each once more."""
-    _, most = resource.getrlimit(resource.RLIMIT_NOFILE)
+    most = most_files()
     return AT_ONCE if most == resource.RLIM_INFINITY else min(AT_ONCE, most // 2 - 32)
 
 

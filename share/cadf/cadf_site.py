@@ -22,8 +22,8 @@ import stat
 import subprocess
 import tempfile
 
-from cadf_toolkit import (CADF, FAILED, IN_THE_WAY, LARGEST, REFUSED, Fault, Input, Refusal, cadf, check_end, check_lock, log_name, name_shown,
-                          new_lock, open_descriptor, opened_file, other_log, say, started_cadf, sync, wait_for_lock)
+from cadf_toolkit import (CADF, FAILED, IN_THE_WAY, LARGEST, REFUSED, Fault, Input, Refusal, cadf, check_end, check_lock, log_name, most_files,
+                          name_shown, new_lock, open_descriptor, opened_file, other_log, say, started_cadf, sync, wait_for_lock)
 
 UNITS = {"month": len("2024-03"), "day": len("2024-03-01"), "hour": len("2024-03-01T12")}  # with the length of a window's name
 INDEX, LOCK, WORKING = "site", ".lock", ".new"
@@ -243,8 +243,7 @@ def is_folder(name):
 
 def allow_files(count):
     """Has the system allow as many open files. Refuses more than it can."""
-    _, most = resource.getrlimit(resource.RLIMIT_NOFILE)
-    resource.setrlimit(resource.RLIMIT_NOFILE, (most, most))
+    most = most_files()
     if most != resource.RLIM_INFINITY and count > most:
         raise Fault("%d files are to be open, and the system allows %d: raise that (ulimit -n), or settle the site" % (count, most))
 

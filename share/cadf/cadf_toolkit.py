@@ -377,14 +377,21 @@ def opened_or_copied(name):
         return copy_of(file) if stat.S_ISFIFO(os.fstat(file.fileno()).st_mode) else opened_file(name)
 
 
+def most_files():
+    """Has the system allow as many open files as it can, since `cadf` opens each once more. Returns how many."""
+    _, most = resource.getrlimit(resource.RLIMIT_NOFILE)
+    with contextlib.suppress(ValueError):  # it allows fewer by now: fs.nr_open was lowered
+        resource.setrlimit(resource.RLIMIT_NOFILE, (most, most))
+    return resource.getrlimit(resource.RLIMIT_NOFILE)[0]
+
+
 @contextlib.contextmanager
 def opened(names, pipes=False):
     """Opens the files of these names for a call. `-` is standard input, which is copied, since it can be read once.
 
     Fault: one of them can't be opened.
     """
-    _, most = resource.getrlimit(resource.RLIMIT_NOFILE)
-    resource.setrlimit(resource.RLIMIT_NOFILE, (most, most))  # `cadf` opens each once more
+    most_files()
     with contextlib.ExitStack() as files:
         inputs = []
         for name in names:
@@ -671,7 +678,7 @@ def ask_to_end(handler):
 
 
 def prepare_streams():
-    """Has each write to standard output continued that is cut short, what it can't encode escaped, and no file get the number of a closed standard input."""
+    """Has a write to standard output go on that is cut short, and escapes what it can't encode. No file gets the number of a closed standard input."""
     if isinstance(getattr(sys.stdout, "buffer", None), io.RawIOBase):  # as with PYTHONUNBUFFERED
         sys.stdout = open(1, "w", encoding=sys.stdout.encoding, closefd=False)
     sys.stdout.reconfigure(errors="backslashreplace")  # as standard error does, whatever PYTHONIOENCODING says

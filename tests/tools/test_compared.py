@@ -80,7 +80,8 @@ def test_a_name_that_standard_output_cannot_encode(cadf, tmp_path):
     """A list on an output that takes ASCII alone has the other characters of a file's name escaped."""
     site, name = os.path.join(VECTORS, "both.cadf"), tmp_path / "\u00e9.cadf"
     shutil.copy(site, name)
-    done = subprocess.run([tool("cadf-conflicts"), site, name], env={**os.environ, "CADF": cadf, "PYTHONIOENCODING": "ascii"}, stdout=subprocess.PIPE, stderr=subprocess.PIPE)
+    environment = {**os.environ, "CADF": cadf, "PYTHONIOENCODING": "ascii"}
+    done = subprocess.run([tool("cadf-conflicts"), site, name], env=environment, stdout=subprocess.PIPE, stderr=subprocess.PIPE)
     assert done.returncode == 5 and b"\\xe9.cadf\n" in done.stdout, done
 
 

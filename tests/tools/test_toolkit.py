@@ -2,6 +2,7 @@
 import errno
 import io
 import os
+import resource
 import signal
 import subprocess
 
@@ -82,6 +83,17 @@ def test_start_that_fails(kit, monkeypatch, fault, said):
     with pytest.raises(OSError) as found, kit.started(["cadf"]):
         pass
     assert (found.value.filename, found.value.strerror) == ("cadf", said)
+
+
+def test_as_many_files_as_the_system_allows(kit, monkeypatch):
+    """Where the system allows fewer open files than it once did, a call has those that it had."""
+    def refused(*_):
+        raise ValueError("not allowed to raise maximum limit")
+
+    monkeypatch.setattr(kit.resource, "setrlimit", refused)
+    with kit.opened([TOOLKIT]) as (found,):
+        assert found.name == TOOLKIT
+    assert kit.most_files() == resource.getrlimit(resource.RLIMIT_NOFILE)[0]
 
 
 @pytest.mark.parametrize("words", [["--plain="], ["--plain", ""], ["--kind="], ["--list=a", "--list="], ["--one="], ["SITE", "--chosen="], [""]])
