@@ -475,3 +475,15 @@ def test_agree_of_a_file_that_changes(sites, command, change, other):
     put("changing", '#!/bin/sh\n[ "$1" = %s ] && %s\nexec \'%s\' "$@"\n' % (command, change, sites.binary))
     os.chmod("changing", 0o755)
     assert sites.tool("agree", "moved.json", other, env={"CADF": os.path.abspath("changing")}) == wanted
+
+
+@pytest.mark.parametrize("command, sent", [("missing-by", ["inventory"]), ("inventory", ["inventory"]), ("missing-by-sketch", ["sketch", "--cells", "900"])])
+def test_agree_of_what_was_sent_and_changes(sites, command, sent):
+    """An inventory that is emptied while it is compared is named, and nothing is counted. A sketch is compared as it was."""
+    put_many()
+    sites.cadf("sent", *sent, "many.json")
+    wanted = sites.tool("agree", "more.json", "sent") if sent[0] == "sketch" else (3, b"", ["sent: changed while it was compared"])
+    put("emptying", '#!/bin/sh\n\'%s\' "$@"\nstatus=$?\n[ "$1" = %s ] && : >sent\nexit $status\n' % (sites.binary, command))
+    os.chmod("emptying", 0o755)
+    assert sites.tool("agree", "more.json", "sent", env={"CADF": os.path.abspath("emptying")}) == wanted
+    assert held("sent") == b""
