@@ -488,6 +488,17 @@ def test_long_names(place, driver):
     tried.is_quiet()
 
 
+def test_longer_than_the_longest_text(place, driver):
+    """What is longer than a browser's longest text is an event that can be opened, and the page says that it can't be hashed."""
+    tried = Tried(driver, place.page("long", place.file("long.json", {"id": "g", "events": [dict(EVENT, id="e", note="x" * 30000)]}))).ready()
+    tried.js("const real = JSON.stringify; JSON.stringify = value => { if (value.length > 20000) throw new RangeError(); return real(value); };")
+    tried.one(".opener").click()
+    assert len(tried.all(".opened pre")) == 1
+    tried.one("#prove").click()
+    tried.until("what can't be done", "return document.getElementById('proved').textContent.startsWith('The texts are too long for this browser')")
+    tried.is_quiet()
+
+
 def worked(driver):
     """The seconds of a processor that the page has taken so far."""
     metrics = driver.execute_cdp_cmd("Performance.getMetrics", {})["metrics"]

@@ -251,7 +251,7 @@ function compareTable(at, values, from, turn) {
 /** Makes a value in full, with the line that rules for it alone. */
 function fullValue(at, {value, place}) {
   const string = command(at, place), made = titled(`Value ${place}`, kindOf(at) === "E" ? detail(value) : block(value));
-  if (!ruledOf(at).size) made.append(make("p", {class: "command"}, "to rule for it alone: ", make("code", {tabindex: 0}, string), " ", copier(string)));
+  if (!ruledOf(at).size) made.append(make("p", {class: "command"}, "to rule for it alone: ", make("code", {tabindex: 0}, string), " ", copier(() => string)));
   return made;
 }
 

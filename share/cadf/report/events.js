@@ -154,7 +154,7 @@ function detail(event) {
   if (tags.length) left.append(titled(howMany("Tags", tags), make("ul", {class: "tags"}, ...tags.slice(0, MOST).map(tag => put(make("li"), plain(tag))))));
   if (attachments.length) left.append(titled(howMany("Attachments", attachments), ...attachments.slice(0, MOST).map(block)));
   const whole = titled("Event", block(event));
-  whole.firstChild.append(" ", copier(text(event).replace(ODD, escaped), "Copy as JSON"));
+  whole.firstChild.append(" ", copier(() => text(event).replace(ODD, escaped), "Copy as JSON"));
   made.append(make("div", {class: "halves"}, whole, left));
   return made;
 }

@@ -94,9 +94,14 @@ async function prove() {
   id("proved").textContent = "Working\u2026";
   await new Promise(resolve => setTimeout(resolve, 20));
   const answers = [];
-  for (const [cell, name] of [[data.log, "log-digest"], [data.listed, "conflict-digest"]]) {
-    const sum = await crypto.subtle.digest("SHA-256", new TextEncoder().encode(text(cell) + "\n"));
-    answers.push([...new Uint8Array(sum)].map(byte => byte.toString(16).padStart(2, "0")).join("") === id(name).textContent);
+  try {
+    for (const [cell, name] of [[data.log, "log-digest"], [data.listed, "conflict-digest"]]) {
+      const sum = await crypto.subtle.digest("SHA-256", new TextEncoder().encode(text(cell) + "\n"));
+      answers.push([...new Uint8Array(sum)].map(byte => byte.toString(16).padStart(2, "0")).join("") === id(name).textContent);
+    }
+  } catch {
+    id("proved").textContent = "The texts are too long for this browser: hash what the command writes.";
+    return;
   }
   id("proved").textContent = answers.every(Boolean) ? "\u2713 The data in this page make both digests." : "\u2715 The data in this page do not make these digests.";
 }

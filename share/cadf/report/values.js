@@ -82,11 +82,11 @@ function button(label, action, attributes = {}) {
   return made;
 }
 
-/** Makes a button that copies a text, and says so. */
-function copier(string, label = "Copy") {
+/** Makes a button that copies what a call writes, and says so. */
+function copier(write, label = "Copy") {
   const made = button(label, async () => {
     try {
-      await navigator.clipboard.writeText(string);
+      await navigator.clipboard.writeText(write());
       made.textContent = "Copied";
     } catch {
       made.textContent = "Select and copy by hand";
