@@ -76,6 +76,17 @@ def test_every_kind(cadf, tmp_path):
     assert done.returncode == 5 and sorted(listed) == sorted((kind, '"%s"' % key, place) for kind, key in keys.items() for place in "12")
 
 
+@pytest.mark.parametrize("name, command", [("cadf-conflicts", "join"), ("cadf-events", "show"), ("cadf-report", "show")])
+def test_a_command_that_is_ended(cadf, tmp_path, name, command):
+    """Where the command is ended amid a line, as it may be for lack of memory, this is told."""
+    ending = tmp_path / "ending"
+    ending.write_text('#!/bin/sh\n[ "$1" = %s ] || exec "%s" "$@"\n"%s" "$@" | head -c 300\nkill -KILL $$\n' % (command, cadf, cadf))
+    ending.chmod(0o755)
+    site, environment = os.path.join(VECTORS, "both.cadf"), {**os.environ, "CADF": ending}
+    done = subprocess.run([tool(name), site], env=environment, stdout=subprocess.PIPE, stderr=subprocess.PIPE)
+    assert (done.returncode, done.stderr.decode()) == (3, "%s: %s: ended by signal 9\n" % (name, ending))
+
+
 def test_a_name_that_standard_output_cannot_encode(cadf, tmp_path):
     """A list on an output that takes ASCII alone has the other characters of a file's name escaped."""
     site, name = os.path.join(VECTORS, "both.cadf"), tmp_path / "\u00e9.cadf"
