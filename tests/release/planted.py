@@ -144,7 +144,7 @@ ROWS = [
     Row("page: every chain the longest", PAGE + "events.js", "best: node.best && wanted[at] === key});", "best: true});", MEANING + "test_chains"),
     Row("page: too many levels", PAGE + "timeline.js", "most / each <= 5", "most / each <= 50", MEANING + "test_levels"),
     Row("page: no faults of what was set aside", "tools/cadf-report", "texts[3:]", "[]", REPORTS + "test_set_aside"),
-    Row("page: hidden characters copied", PAGE + "events.js", "copier(text(event).replace(ODD, escaped)", "copier(text(event)", MEANING + "test_copy"),
+    Row("page: hidden characters copied", PAGE + "events.js", "copier(() => text(event).replace(ODD, escaped)", "copier(() => text(event)", MEANING + "test_copy"),
     Row("page: a print says one page", PAGE + "events.js", "const room = printing ? Math.max(1, items.length) : size", "const room = size", MEANING + "test_printed"),
     # ---- The library
     Row("header: C++ names", "bindings/c/cadf.h", 'extern "C" {', 'extern "C++" {', HEADER + "test_wrappers"),
