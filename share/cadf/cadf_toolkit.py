@@ -681,7 +681,8 @@ def prepare_streams():
     """Has a write to standard output go on that is cut short, and escapes what it can't encode. No file gets the number of a closed standard input."""
     if isinstance(getattr(sys.stdout, "buffer", None), io.RawIOBase):  # as with PYTHONUNBUFFERED
         sys.stdout = open(1, "w", encoding=sys.stdout.encoding, closefd=False)
-    sys.stdout.reconfigure(errors="backslashreplace")  # as standard error does, whatever PYTHONIOENCODING says
+    if isinstance(sys.stdout, io.TextIOWrapper):
+        sys.stdout.reconfigure(errors="backslashreplace")  # as standard error does, whatever PYTHONIOENCODING says
     if sys.stdin is None:
         os.open(os.devnull, os.O_WRONLY)  # what reads it fails
 
