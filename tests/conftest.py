@@ -2,6 +2,7 @@
 import os
 import shutil
 import signal
+import threading
 
 import pytest
 
@@ -19,8 +20,14 @@ PROGRAMS = {"broker": ("rabbitmq-server",), "browser": ("chromium", "chromedrive
 SLOW = ("bindings", "limits", "browser", "broker", "packages", "test_oom", "test_bits", "sandbox", "test_builds")
 
 
-def pytest_configure():
-    """Has no signal ignored that this process was given so, as behind nohup or in the background: the tools would ignore it too."""
+def pytest_configure(config):
+    """Has no signal ignored that this process was given so, as behind nohup or in the background: the tools would ignore it too.
+
+    Ends a process of xdist that runs beside its main thread, where a test can handle no signal, as execnet begins one now and then
+    on a busy machine: xdist begins another.
+    """
+    if hasattr(config, "workerinput") and threading.current_thread() is not threading.main_thread():
+        os._exit(1)
     for number in (signal.SIGHUP, signal.SIGINT):
         if signal.getsignal(number) is signal.SIG_IGN:
             signal.signal(number, signal.SIG_DFL)

@@ -4,10 +4,12 @@ import os
 import re
 import runpy
 import subprocess
+import threading
+import types
 
 import pytest
 
-from tests import TOP, text_of, tracked
+from tests import TOP, conftest, text_of, tracked
 from tests.conftest import SLOW
 
 CODE = re.compile(r"`([^`]+)`")
@@ -34,6 +36,18 @@ def test_each_step_is_in_the_table():
     """CONTRIBUTING has the stages and their steps, as the gate has them: none is dropped by the one alone."""
     rows = re.findall(r"(?m)^\| ([a-z ]+) \| (`.*`) \|$", section("CONTRIBUTING.md", "The gate"))
     assert [(stage, CODE.findall(names)) for stage, names in rows] == [(stage, list(steps)) for stage, _, steps in STEPS["STAGES"]]
+
+
+@pytest.mark.parametrize("worker, wanted", [({"workerinput": {}}, [1]), ({}, [])])
+def test_no_test_runs_beside_the_main_thread(monkeypatch, worker, wanted):
+    """A process of xdist ends there, before it has a test; pytest without xdist runs where it is, and so does a process in its main thread."""
+    codes = []
+    monkeypatch.setattr(conftest.os, "_exit", codes.append)
+    conftest.pytest_configure(types.SimpleNamespace(workerinput={}))
+    beside = threading.Thread(target=conftest.pytest_configure, args=[types.SimpleNamespace(**worker)])
+    beside.start()
+    beside.join()
+    assert codes == wanted
 
 
 @pytest.mark.parametrize("place", STEPS["programs"]())
