@@ -4,6 +4,7 @@ import contextlib
 import errno
 import glob
 import io
+import itertools
 import os
 import re
 import shutil
@@ -582,8 +583,8 @@ def test_deliveries(program):
 
 
 def test_slow_message(program, monkeypatch):
-    """A message whose parts come all the time is no empty queue, however long it takes."""
-    clock, frames, lines, acknowledged = Clock(), frames_of(7, *[b"x"] * 20), [], []
+    """A message whose parts come all the time is no empty queue, however long it takes. After the last one the queue is."""
+    clock, frames, lines, acknowledged = Clock(), itertools.chain(*(frames_of(tag, *[b"x"] * 20) for tag in (7, 8))), [], []
     monkeypatch.setattr(program, "time", clock)
     monkeypatch.setattr(program, "find_queue", lambda *_: None)
     program.frame_handler = lambda connection, callback: None
@@ -594,6 +595,7 @@ def test_slow_message(program, monkeypatch):
         clock.now += 0.9
         frame = next(frames, None)
         if frame is None:
+            assert clock.now < 1100, "the queue never counts as empty"
             raise socket.timeout
         handle(frame)
 
@@ -602,7 +604,7 @@ def test_slow_message(program, monkeypatch):
     connection = types.SimpleNamespace(channel=lambda: channel, blocking_read=read, heartbeat_tick=lambda: None)
     spool = types.SimpleNamespace(write=lines.extend, finish_if_old=lambda: None)
     program.listen(connection, deliveries, spool, types.SimpleNamespace(queue="q", bind=[], prefetch=1, until_empty=1))
-    assert (lines, acknowledged) == ([b"x" * 20 + b"\n"], [7])
+    assert (lines, acknowledged) == ([b"x" * 20 + b"\n"] * 2, [7, 8])
 
 
 def refused(call, *words):

@@ -100,11 +100,12 @@ def test_spool_says_for_what_it_waits(cadf, tmp_path, held):
 
 
 def test_take_behind_a_link(cadf, tmp_path):
-    """A lock that is a link is no lock: its file may be one that others hold."""
+    """A lock that is a link is no lock, and isn't opened: its file may be one that others hold."""
     put(tmp_path, "own", "", 0o600)
     os.symlink("own", tmp_path / "site.cadf.lock")
     done = subprocess.run([tool("cadf-take"), tmp_path / "site.cadf", document(tmp_path, "e1")], env={**os.environ, "CADF": cadf}, stderr=subprocess.PIPE)
-    assert done.returncode == 3 and not (tmp_path / "site.cadf").exists()
+    said = "cadf-take: %s: Too many levels of symbolic links\n" % (tmp_path / "site.cadf.lock")
+    assert (done.returncode, done.stderr.decode()) == (3, said) and not (tmp_path / "site.cadf").exists()
 
 
 # A command whose first call removes the lock, as one that looks stale, and has another caller take meanwhile.
