@@ -134,7 +134,8 @@ def takes(trial):
     trial.say("the timer's run takes what is good", atoms() == 3 and sorted(os.listdir(SPOOL + "/taken")) == ["lines.jsonl", "one.json"],
               "" if atoms() == 3 else journal(UNIT))
     reasons = {path.stem: path.read_text().strip() for path in sorted(Path(SPOOL, "set-aside").glob("*.reason"))}
-    wanted = {"cut.json": "not JSON", "hidden.json": "Permission denied", "link.json": "not a regular file"}
+    wanted = {"cut.json": "not JSON", "hidden.json": "Permission denied: make it readable for this user, and put it back",
+              "link.json": "not a regular file: put a copy of the file itself there"}
     trial.say("it sets aside the rest with reasons", reasons == wanted, json.dumps(reasons))
     said = journal(UNIT)
     trial.say("the journal has each reason, and that the run failed", "cut.json: set aside: not JSON" in said and "Failed with result 'exit-code'" in said, said)

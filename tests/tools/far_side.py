@@ -4,6 +4,7 @@
     cut N        the same, but the connection ends after N bytes of both ways together
     says FILE    no cadf-sync: writes FILE's bytes, reads all that comes, and waits
     endless FILE writes FILE's bytes, and then its last line again and again
+    streams FILE the same, but slowly: no message of some MB comes to its end
     drips FILE   writes FILE's bytes one by one, with pauses
     mute FILE    writes FILE's bytes, and reads nothing
 
@@ -62,8 +63,9 @@ def main(mode, word, *rest):
             write(data[place:place + 1])
             time.sleep(PAUSE)
     write(data)
-    while mode == "endless":
+    while mode in ("endless", "streams"):
         write(data.splitlines(True)[-1] * 100)
+        time.sleep(0.001 if mode == "streams" else 0)
     while mode != "mute" and os.read(0, 2 ** 16):
         pass
     time.sleep(30 if mode == "mute" else 0)

@@ -446,7 +446,7 @@ def test_a_far_side_that_lies(sites, kind):
     ("endless", FIRST + LIST + b"answer 1000000\nall facts 0\n", (), "no items that may answer"),
     ("drips", FIRST, (), "silent for 1 seconds"),
     ("drips", FIRST, ("--timeout=20", "--session=2"), "h:there.cadf: the session has lasted 2 seconds: make the call again, or raise --session"),
-    ("endless", FIRST + b"list 1000000000\nW all\n", ("--session=2",), "the session has lasted 2 seconds"),
+    ("streams", FIRST + b"list 1000000000\nW all\n", ("--session=2",), "the session has lasted 2 seconds"),
     ("mute", b"Press a key: ", ("--timeout=5",), 'the far shell prints "Press a key: "'),
 ])
 def test_a_far_side_without_an_end(sites, mode, data, words, part):
