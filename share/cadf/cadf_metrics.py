@@ -14,7 +14,7 @@ import time
 import cadf_site
 from cadf_keys import Files, at_once
 from cadf_logs import UNREADABLE, Text
-from cadf_toolkit import CADF, DIFFERS, DONE, FAILED, MEMORY, REFUSED, Fault, cadf, name_shown, naming, new_file, opened, started, tool
+from cadf_toolkit import DIFFERS, DONE, FAILED, MEMORY, REFUSED, Fault, another_program, cadf, name_shown, naming, new_file, opened, started, tool
 
 HELP = {
     "facts_taken": "Facts that the last run took into the site; of cadf-spool, those that it held before among them.",
@@ -110,7 +110,7 @@ def shown_conflicts(inputs):
                     value, _ = text.take()
                     count += member == "conflicts" and "ruled" not in value
         except UNREADABLE:
-            raise Fault("%s: what it writes is no conflict list" % name_shown(CADF)) from None
+            raise another_program("conflict list") from None
     return count
 
 

@@ -18,7 +18,7 @@ import tempfile
 
 from cadf_link import Store
 from cadf_site import LARGEST, PART, SHARED, UNITS, Folder, check_window, made_of_parts, split, without_facts
-from cadf_toolkit import CADF, REFUSED, Fault, Input, Progress, Refusal, cadf, log_name, log_of, name_shown, other_log, with_advice
+from cadf_toolkit import REFUSED, Fault, Input, Progress, Refusal, another_program, cadf, log_name, log_of, other_log, with_advice
 
 UNIT = re.compile(("B (%s)" % "|".join(UNITS)).encode())
 NAME_LINE = re.compile(("W (%s)" % PART).encode())
@@ -126,7 +126,7 @@ def sealed(inputs):
     """How many facts some files have together, and their root."""
     found = SEAL.fullmatch(cadf(["seal"], inputs, subprocess.PIPE))
     if not found:
-        raise Fault("%s: what it writes is no seal" % name_shown(CADF))
+        raise another_program("seal")
     return int(found[1]), found[2]
 
 

@@ -22,8 +22,8 @@ import stat
 import subprocess
 import tempfile
 
-from cadf_toolkit import (CADF, FAILED, IN_THE_WAY, LARGEST, REFUSED, Fault, Input, Refusal, cadf, check_end, check_lock, log_name, most_files,
-                          name_shown, new_lock, open_descriptor, opened_file, other_log, say, started_cadf, sync, wait_for_lock)
+from cadf_toolkit import (CADF, FAILED, IN_THE_WAY, LARGEST, REFUSED, Fault, Input, Refusal, another_program, cadf, check_end, check_lock, log_name,
+                          most_files, name_shown, new_lock, open_descriptor, opened_file, other_log, say, started_cadf, sync, wait_for_lock)
 
 UNITS = {"month": len("2024-03"), "day": len("2024-03-01"), "hour": len("2024-03-01T12")}  # with the length of a window's name
 INDEX, LOCK, WORKING = "site", ".lock", ".new"
@@ -384,7 +384,7 @@ def split(words, inputs, keep=()):
             is_whole = False
         check_end(child, child.stderr.read(), inputs)
     if not is_whole:
-        raise Fault("%s: what it writes is no split file" % name_shown(CADF))
+        raise another_program("split file")
 
 
 def groups(inputs):

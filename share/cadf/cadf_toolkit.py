@@ -487,11 +487,16 @@ def check_end(child, said, inputs):
         raise refusal(said.decode("utf-8", "backslashreplace"), status, inputs)
 
 
+def another_program(kind, name=None):
+    """The Fault that CADF, or the program of that name, has written no such thing: it isn't `cadf`."""
+    return Fault("%s: what it writes is no %s" % (name_shown(name or CADF), kind))
+
+
 def check_written(command, first):
-    """Raises that what CADF has written doesn't begin as what this command writes: CADF is another program."""
-    name, begin = WRITTEN.get(command, ("", b""))
+    """Raises that what CADF has written doesn't begin as what this command writes."""
+    kind, begin = WRITTEN.get(command, ("", b""))
     if not first.startswith(begin):
-        raise Fault("%s: what it writes is no %s" % (name_shown(CADF), name))
+        raise another_program(kind)
 
 
 def cadf(words, inputs, output=subprocess.DEVNULL, keep=(), where=None, union=1):

@@ -16,7 +16,7 @@ import tempfile
 
 import cadf_site
 from cadf_link import Item, Store
-from cadf_toolkit import CADF, REFUSED, Fault, Input, Refusal, cadf, check_end, name_shown, naming, opened_file, started_cadf
+from cadf_toolkit import REFUSED, Fault, Input, Refusal, another_program, cadf, check_end, naming, opened_file, started_cadf
 
 ALL, SHARED = "all", cadf_site.SHARED
 UNITS = {length: unit for unit, length in cadf_site.UNITS.items()}
@@ -83,7 +83,7 @@ def union_digest(inputs):
         check_end(child, child.stderr.read(), inputs)
     found = LAST.fullmatch(last)
     if not found:
-        raise Fault("%s: what it writes is no replica file" % name_shown(CADF))
+        raise another_program("replica file")
     return found[1].decode()
 
 
