@@ -2,6 +2,7 @@
 
 install/install puts these files under a prefix, install/package into a package.
 """
+import contextlib
 import os
 import signal
 import subprocess
@@ -45,6 +46,15 @@ def write(path, data, mode):
     except OSError as fault:
         fault.filename = path
         raise
+
+
+@contextlib.contextmanager
+def replacing(path, working):
+    """Removes the working file of a run that was ended; the one that the block makes takes the place of the path at once."""
+    with contextlib.suppress(FileNotFoundError):
+        os.unlink(working)
+    yield
+    os.replace(working, path)
 
 
 def told(fault):

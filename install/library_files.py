@@ -3,7 +3,6 @@
 The archive that is installed has the kit's allocator in it, so `-lcadf` alone links; it and the shared library show
 `cadf_*` and nothing else. build/library makes the archive that both are linked of.
 """
-import contextlib
 import os
 import re
 import runpy
@@ -102,8 +101,6 @@ def wheel(top, folder):
             shutil.copyfile(os.path.join(made, SONAME), os.path.join(room, "cadf", SONAME))
         name = runpy.run_path(os.path.join(room, "backend.py"))["build_wheel"](room)
         file = contents.file_of(room, name, os.path.join(folder, name))
-    with contextlib.suppress(FileNotFoundError):
-        os.unlink(file.place + ".new")  # what a run left that was ended
-    contents.write(file.place + ".new", file.content, file.mode)
-    os.replace(file.place + ".new", file.place)
+    with contents.replacing(file.place, file.place + ".new"):
+        contents.write(file.place + ".new", file.content, file.mode)
     return name
