@@ -149,6 +149,11 @@ def shuffled_members(numbers):
     return "{%s}" % ",".join('"%s":0' % name for name in shuffled(numbers))
 
 
+def replaced_members(numbers):
+    """An object with short names in no order, each with a number that isn't whole and then with one that is."""
+    return "{%s}" % ",".join('"%s":%s' % (name, text) for text in ("-0", "0") for name in shuffled(numbers))
+
+
 def nested_falling(numbers, depth):
     """A list of zeros in so many objects, of which each has its members in falling order."""
     return '{"b":0,"a":' * depth + "[%s]" % ",".join("0" for _ in numbers) + "}" * depth
@@ -250,6 +255,8 @@ SHAPES = {
     "line-blank": Shape("a line of `0` after a blank, refused", 2, lines=line_after_blank, forms=FILES,
                         is_refused=True, memory=4),
     "line-fraction": Shape("a line of `0` behind a fraction, refused", 2, lines=lambda numbers: [
-        "[1.5,%s]" % ",".join("0" for _ in numbers)], forms=FILES, is_refused=True, memory=TINY),
+        "[1.5,%s]" % ",".join("0" for _ in numbers)], forms=FILES, is_refused=True, memory=4),
+    "line-replaced": Shape("a line of members `-0`, each of which a later one replaces, refused", 17, lines=lambda numbers: [
+        replaced_members(numbers)], forms=FILES, is_refused=True, memory=4),
     "line-1": Shape("a line of `{\"\":0}`, refused", 7, lines=line, forms=(FILE_1,), is_refused=True, memory=TINY),
 }

@@ -69,6 +69,26 @@ TWICE = [
      '{"m00":15,%s}' % ",".join('"m%02d":%d' % (place, place) for place in range(1, 15))),
 ]
 
+# Texts with a number that isn't whole, and whether a later member replaces each: the first and the last, one of many, one
+# in an object that is replaced, a name that comes back, a name with an escape, and more than one pass looks for.
+REPLACED = [
+    ('{"a":1.5,"b":1}', False),
+    ('{"a":1,"a":1.5}', False),
+    ('{"a":1.5,"a":1,"a":1.5}', False),
+    ('{"a":1.5,"\\u0061":1}', True),
+    ('[{"a":1.5,"a":1},{"a":1.5}]', False),
+    ('[{"a":{"b":1.5,"c":1},"a":{"b":1}},1.5]', False),
+    ('{"a":{"b":{"c":1.5},"b":0},"c":1}', True),
+    ('{"a":{"b":1.5,"c":1},"a":{"c":1}}', True),
+    ('{"a":[%s0],"a":0}' % (40 * "-0,"), True),
+    ('{"a":[%s0],"a":0,"b":-0}' % (40 * "-0,"), False),
+    ('{"b":-0,"a":[%s0],"a":0,"c":0}' % (40 * "-0,"), False),
+    ('{"b":-0,"a":[%s0],"a":0,"b":0}' % (40 * "-0,"), True),
+    ("{%s}" % ",".join('"%02d":%s' % (place, number) for number in ("-0", "0") for place in range(40)), True),
+    ("{%s}" % ",".join('"%02d":%s' % (place, number) for number, places in (("-0", 40), ("0", 39)) for place in range(places)),
+     False),
+]
+
 # Numbers that refuse a value, and those that it keeps as they stand.
 NOT_WHOLE = ["1.5", "1e3", "1.0", "1E2", "0.5", "18446744073709551616", "-9223372036854775809", "-0", "-0.0"]
 WHOLE = ["18446744073709551615", "-9223372036854775808", '"1.5"']
@@ -304,7 +324,9 @@ def spelled():
         yield "spells_value", ["[%s ]" % number], [True], CANONICAL
     for number in NOT_WHOLE:
         yield "spells_value", ["[%s]" % number], [False], CANONICAL
-    for text in ('{"a":1,"a":1.5}', '{"a":1.5,"b":1}', "1e400", '{"a":1e400,"a":1}', '{"a":1.5,"a":1}]', "[1,]", "1 2", "", nested(128)):
+    for text, is_replaced in REPLACED:
+        yield "spells_value", [text], [is_replaced], CANONICAL
+    for text in ("1e400", '{"a":1e400,"a":1}', '{"a":1.5,"a":1}]', "[1,]", "1 2", "", nested(128)):
         yield "spells_value", [text], [False], CANONICAL
 
 

@@ -1,79 +1,188 @@
-//! Checks whether a text spells a value, without building it if every number in the text is whole.
-
-ghost use Rattle.std.specs.Prelude.{◌≡◌, [], true, false, Some, None, IfOk};
-ghost use Rattle.json.specs.Json.{Json as JsonTree, value as value_at};
-ghost use Rattle.json.specs.Lex.{tokens};
-ghost use Rattle.json.specs.Reads.{token_of};
+//! Checks whether a text spells a value, without building it.
+ghost use Rattle.std.specs.Prelude.{◌≡◌, ◌<◌, length, true, false, Err, IfOk, OnOk};
 ghost use Rattle.serde_json.specs.Data.{Data};
-ghost use Rattle.serde_json.specs.Read.{read};
+ghost use Rattle.serde_json.specs.Read.{number_of, read};
+ghost use Rattle.cadf_json.specs.Reading.{IsNoValue, AreNoItems, AreNoMembers};
+ghost use Rattle.cadf_json.specs.Fractions.{IsJudged, AreItemsJudged, AreMembersJudged, IsNumberJudged, IsTextJudged, asked, IsPassed};
 ghost use Rattle.cadf_json.specs.Value.{SpellsValue};
-ghost use Rattle.cadf_json.specs.WholeTokens.{is_whole_token as is_whole, are_whole_tokens as are_whole};
 
 use crate::Memory;
 use crate::number::Number;
+use crate::push::ReadFault;
 use crate::read::MAX_DEPTH;
-use crate::value::{Json, JsonFault};
 use json::{Reader, Scratch, Token};
 use std::alloc::Global;
+use std::collections::BTreeSet;
 
-/// Returns whether the token is no number, or a whole one.
-fn is_whole_token(token: Token<'_>) -> bool
-    ensures { result ≡ is_whole (token_of token.entry) }
-{
-    let Token::Number(text) = token else {
-        return true;
-    };
-    match Number::parse(text) {
-        Some(number) => !number.is_float(),
-        None => false,
-    }
+/// How many bytes of a text there are for each number that one pass looks for.
+const BYTES_FOR_EACH: usize = 24;
+
+/// The numbers that aren't whole and that one pass looks for, of those that come next: the first `before` are passed
+/// over, then `left` are looked for.
+#[derive(Clone, Copy, Drop)]
+struct Window {
+    before: usize,
+    left: usize,
 }
 
-/// Returns whether all numbers among the tokens are whole.
-fn are_whole_tokens(reader: &mut Reader<'_>) -> bool
-    ensures { result ≡ are_whole reader.old }
-{
-    'tokens: while let Some(token) = reader.next() {
-        if !is_whole_token(token) {
+impl Window {
+    /// Passes one number, and returns whether it is looked for.
+    fn takes(&mut self) -> bool
+        ensures is { result ≡ asked self.old 0 }
+        ensures passed { IsPassed 1 self.old self.new }
+    {
+        if self.before > 0 {
+            self.before -= 1;
             return false;
         }
+        if self.left > 0 {
+            self.left -= 1;
+            return true;
+        }
+        false
     }
-    true
 }
 
-/// Returns whether the text is one JSON value, whatever its numbers are. Lists and objects may nest 127 deep.
-fn is_one_value(scratch: &mut Scratch, text: &str) -> Result<bool, Memory>
-    ensures yes { IfOk result (λ b. b ≡ true → (j : JsonTree) × (value_at 127 (tokens text.now) ≡ Some (j, []))) }
-    ensures no { IfOk result (λ b. b ≡ false → read text.now ≡ None) }
+/// Returns whether the number isn't whole and is looked for. `NotJson` if it has no value.
+fn judge_number(text: &str, window: &mut Window) -> Result<bool, ReadFault>
+    ensures ok { IfOk result (λ left. IsNumberJudged left text.now window.old window.new) }
+    ensures not_json { result ≡ Err ReadFault.NotJson → number_of text.now ≡ None }
+{
+    match Number::parse(text) {
+        Some(Number::Float(_)) => Ok(window.takes()),
+        Some(_) => Ok(false),
+        None => Err(ReadFault::NotJson),
+    }
+}
+
+/// Returns whether the next value has a number that is looked for and that no later member replaces. Lists and objects
+/// may nest `depth` deep. `NotJson` if no value comes next.
+#[cycle(judge_value)]
+fn judge_value(
+    alloc: Global,
+    reader: &mut Reader<'_>,
+    depth: usize,
+    window: &mut Window,
+) -> Result<bool, ReadFault>
+    ensures ok { IfOk result (λ left. IsJudged left depth reader.old reader.new window.old window.new) }
+    ensures not_json { result ≡ Err ReadFault.NotJson → IsNoValue depth reader.old }
+    ensures shorter { OnOk result (length reader.new < length reader.old) }
+{
+    let Some(token) = reader.next() else {
+        return Err(ReadFault::NotJson);
+    };
+    match token {
+        Token::String(_) | Token::Bool(_) | Token::Null => Ok(false),
+        Token::Number(text) => Ok(judge_number(text, window)?),
+        Token::EndObject | Token::EndArray | Token::Key(_) | Token::Bad => Err(ReadFault::NotJson),
+        Token::BeginArray => {
+            if depth == 0 {
+                return Err(ReadFault::NotJson);
+            }
+            Ok(judge_items(alloc, reader, depth - 1, window)?)
+        }
+        Token::BeginObject => {
+            if depth == 0 {
+                return Err(ReadFault::NotJson);
+            }
+            Ok(judge_members(alloc, reader, depth - 1, window)?)
+        }
+    }
+}
+
+/// Judges the next items, the opening bracket of which was read.
+#[cycle(judge_value)]
+#[inline(never)]
+fn judge_items(
+    alloc: Global,
+    reader: &mut Reader<'_>,
+    depth: usize,
+    window: &mut Window,
+) -> Result<bool, ReadFault>
+    ensures ok { IfOk result (λ left. AreItemsJudged left depth reader.old reader.new window.old window.new) }
+    ensures not_json { result ≡ Err ReadFault.NotJson → AreNoItems depth reader.old }
+    ensures shorter { OnOk result (length reader.new < length reader.old) }
+{
+    let mut left = false;
+    'items: while !reader.take_end_array() {
+        left = judge_value(alloc, reader, depth, window)? | left;
+    }
+    Ok(left)
+}
+
+/// Judges the next members, the opening brace of which was read. Keeps the names whose last value has a number that is
+/// looked for.
+#[cycle(judge_value)]
+#[inline(never)]
+fn judge_members<'a>(
+    alloc: Global,
+    reader: &mut Reader<'a>,
+    depth: usize,
+    window: &mut Window,
+) -> Result<bool, ReadFault>
+    ensures ok { IfOk result (λ left. AreMembersJudged left depth reader.old reader.new window.old window.new) }
+    ensures not_json { result ≡ Err ReadFault.NotJson → AreNoMembers depth reader.old }
+    ensures shorter { OnOk result (length reader.new < length reader.old) }
+{
+    let mut names: BTreeSet<&'a str> = BTreeSet::new(alloc);
+    'members: loop {
+        let Ok(key) = reader.next_key() else {
+            return Err(ReadFault::NotJson);
+        };
+        let Some(name) = key else {
+            break;
+        };
+        if judge_value(alloc, reader, depth, window)? {
+            names.insert(name)?;
+        } else {
+            names.remove(name);
+        }
+    }
+    Ok(!names.is_empty())
+}
+
+/// Returns whether the text's one value has a number that is looked for and that no later member replaces. `NotJson` if
+/// the text isn't one value.
+fn judge_text(
+    alloc: Global,
+    scratch: &mut Scratch,
+    text: &str,
+    window: &mut Window,
+) -> Result<bool, ReadFault>
+    ensures ok { IfOk result (λ left. IsTextJudged left text.now window.old window.new) }
+    ensures not_json { result ≡ Err ReadFault.NotJson → read text.now ≡ None }
 {
     let mut reader = Reader::new(text, scratch)?;
-    let Ok(()) = reader.skip_value(MAX_DEPTH) else {
-        return Ok(false);
-    };
+    let left = judge_value(alloc, &mut reader, MAX_DEPTH, window)?;
     match reader.next() {
-        Some(_) => Ok(false),
-        None => Ok(true),
+        Some(_) => Err(ReadFault::NotJson),
+        None => Ok(left),
     }
 }
 
-/// Returns whether the text spells a value. Makes no value of it if every number in it is whole. `Memory` if an
-/// allocation fails.
+/// Returns whether the text spells a value. Makes no value of it: passes over it look for so many numbers that aren't
+/// whole that the names that one keeps take at most twice the text's memory. `Memory` if an allocation fails.
 pub fn spells_value(alloc: Global, text: &str) -> Result<bool, Memory>
     ensures yes { IfOk result (λ b. b ≡ true → (d : Data) × SpellsValue text.now d) }
     ensures no { IfOk result (λ b. b ≡ false → (d : Data) → ¬ SpellsValue text.now d) }
 {
     let mut scratch = Scratch::new(alloc);
-    if !is_one_value(&mut scratch, text)? {
-        return Ok(false);
-    }
-    if are_whole_tokens(&mut Reader::new(text, &mut scratch)?) {
-        return Ok(true);
-    }
-    match Json::new(alloc).read_into(alloc, &mut scratch, text.as_bytes()) {
-        Ok(()) => Ok(true),
-        Err(JsonFault::NotJson) => Ok(false),
-        Err(JsonFault::NotWhole) => Ok(false),
-        Err(JsonFault::NotCanonical) => unreachable!(),
-        Err(JsonFault::Memory) => Err(Memory),
+    let width = text.len() / BYTES_FOR_EACH + 1;
+    let mut before: usize = 0;
+    'windows: loop {
+        let mut window = Window {
+            before,
+            left: width,
+        };
+        match judge_text(alloc, &mut scratch, text, &mut window) {
+            Ok(true) => return Ok(false),
+            Ok(false) => {}
+            Err(ReadFault::NotJson) => return Ok(false),
+            Err(ReadFault::Memory) => return Err(Memory),
+        }
+        if window.left > 0 {
+            return Ok(true);
+        }
+        before = before.checked_add(width).ok_or(Memory)?;
     }
 }

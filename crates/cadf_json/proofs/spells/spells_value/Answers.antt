@@ -1,10 +1,18 @@
-use Rattle.std.proofs.Common.{sym, ap, ◌∙◌, arith}
-use Rattle.cadf_json.specs.WholeTokens.{are_whole_tokens}
-use Rattle.cadf_json.proofs.TokenNumbers.{spelled_whole}
+use Rattle.std.proofs.Common.{◌≡◌, ◌+◌, ◌/◌, length, subst, arith}
+use Rattle.cadf_json.proofs.Judging.{NoneBefore, none_before_next, one_is_left, none_is_left}
 use Rattle.cadf_json.proofs.spells.spells_value.Goals as goal
 
-pub returns-then-are_whole_tokens-clause-yes : goal.returns-then-are_whole_tokens-clause-yes
-returns-then-are_whole_tokens-clause-yes c h =
-    let one = c.in_ok-is_one_value.ensures.yes (grind arith) in
-    let whole = ap are_whole_tokens (sym c.in_ok-new.ensures.ok) ∙ sym c.are_whole_tokens.ensures ∙ c.if-are_whole_tokens.true in
-    spelled_whole c.args.text.now one.0 c.utf8.text one.1 whole
+pub returns-in-Ok-true-clause-no : goal.returns-in-Ok-true-clause-no
+returns-in-Ok-true-clause-no c h =
+    one_is_left c.args.text.now _ c.judge_text.new.window c.in-Ok-true.field-0 c.in-Ok-true.ensures.ok c.windows.invariant (grind arith)
+
+pub returns-then-window-gt0-clause-yes : goal.returns-then-window-gt0-clause-yes
+returns-then-window-gt0-clause-yes c h =
+    none_is_left c.args.text.now _ c.judge_text.new.window c.in-Ok-false.field-0 c.in-Ok-false.ensures.ok c.windows.invariant (grind arith)
+    (grind arith) c.utf8.text
+
+pub windows-preserved : goal.windows-preserved
+windows-preserved c =
+    let sum : c.windows.before + (length c.args.text.now / 24 + 1) ≡ c.in_ok-before.before = grind arith in
+    subst (NoneBefore c.args.text.now) sum
+    (none_before_next c.args.text.now _ c.judge_text.new.window c.in-Ok-false.field-0 c.in-Ok-false.ensures.ok c.windows.invariant (grind arith))
