@@ -1,7 +1,9 @@
 -- What is left of the numbers that aren't whole.
 use Rattle.std.proofs.lemmas.Grind.{common_steps}
-use Rattle.std.proofs.Common.{◌≡◌, ℕ, ◌+◌, ◌<◌, List, Bool, true, false, cond, Ordering, Less, Greater, nat_cmp, Option, option_map, inr, refl, sym, ap, ap₂, ◌∙◌, arith}
+use Rattle.std.proofs.Common.{◌≡◌, ℕ, ◌+◌, ◌<◌, List, Bool, true, false, cond, Ordering, Less, Greater, nat_cmp}
+use Rattle.std.proofs.Common.{Option, option_map, inr, refl, sym, ap, ap₂, ◌∙◌, arith}
 use Rattle.std.specs.Prelude.{◌⊎◌, ◌&&◌, ◌||◌, not, unwrap_or, if◌then◌else◌}
+use Rattle.std.proofs.Math.Bool.{and-or_distrib_left, and-or_distrib_right}
 use Rattle.std.proofs.lemmas.Bool.{or_parts}
 use Rattle.std.proofs.lemmas.Slice.Eq.{bytes_eq-Decides}
 use Rattle.std.specs.Cmp.Lexicographic.{slice_cmp, nat_list_cmp_total, nat_list_eq_equiv}
@@ -13,7 +15,8 @@ use Rattle.serde_json.specs.Data.{Num, Data, number, array, object, item, Member
 use Rattle.serde_json.specs.Find.{is_float}
 use Rattle.serde_json.specs.Read.{number_of, of_json, of_items, of_members}
 use Rattle.serde_json.specs.Written.{has_float, items_have_float, members_have_float}
-use Rattle.cadf_json.specs.Fractions.{is_fraction_text, fractions, items_fractions, members_fractions, is_named, after, is_left, is_left_in_items, is_left_in_members}
+use Rattle.cadf_json.specs.Fractions.{is_fraction_text, fractions, items_fractions, members_fractions, is_named, after}
+use Rattle.cadf_json.specs.Fractions.{is_left, is_left_in_items, is_left_in_members}
 use Rattle.cadf_json.specs.Value.{RisesFrom, Rises}
 use mathlib.Core.Bool.{true≢false}
 use Rattle.cadf_json.proofs.Given.{Given, Given-same, Given-map, Given-and_then}
@@ -21,27 +24,17 @@ use Rattle.cadf_json.proofs.Orders.{put_step, Rises-put}
 
 -- ---- two windows at once
 
-and_or : (a b c : Bool) → (a && (b || c)) ≡ (a && b || a && c)
-and_or true b c = refl
-and_or false b c = refl
-
 or_or : (a b x y : Bool) → ((a || b) || (x || y)) ≡ ((a || x) || (b || y))
 or_or true b x y = refl
 or_or false true true y = refl
 or_or false true false y = refl
 or_or false false x y = refl
 
-or_and : (a b c : Bool) → ((a || b) && c) ≡ (a && c || b && c)
-or_and true b true = refl
-or_and true true false = refl
-or_and true false false = refl
-or_and false b c = refl
-
 mutual
   pub left_or : (p q : ℕ → Bool) (j : json.Json) → is_left (λ i. p i || q i) j ≡ (is_left p j || is_left q j)
   left_or p q json.null = refl
   left_or p q (json.boolean b) = refl
-  left_or p q (json.number s) = and_or (is_fraction_text s) (p 0) (q 0)
+  left_or p q (json.number s) = and-or_distrib_left (is_fraction_text s) (p 0) (q 0)
   left_or p q (json.string s) = refl
   left_or p q (json.array js) = left_or_items p q js
   left_or p q (json.object ms) = left_or_members p q ms
@@ -58,7 +51,7 @@ mutual
   left_or_members p q (json.member k j ms) =
       ap₂ (λ a b. a && not (is_named k ms) || b) (left_or p q j) (left_or_members (after (fractions j) p) (after (fractions j) q) ms)
       ∙ ap (λ a. a || (is_left_in_members (after (fractions j) p) ms || is_left_in_members (after (fractions j) q) ms))
-      (or_and (is_left p j) (is_left q j) (not (is_named k ms)))
+      (and-or_distrib_right (is_left p j) (is_left q j) (not (is_named k ms)))
       ∙ or_or (is_left p j && not (is_named k ms)) (is_left q j && not (is_named k ms)) _ _
 
 -- ---- only the numbers that there are count
@@ -76,7 +69,8 @@ mutual
   left_same p q (json.array js) h = left_same_items p q js h
   left_same p q (json.object ms) h = left_same_members p q ms h
 
-  left_same_items : (p q : ℕ → Bool) (js : json.Items) → ((i : ℕ) → i < items_fractions js → p i ≡ q i) → is_left_in_items p js ≡ is_left_in_items q js
+  left_same_items : (p q : ℕ → Bool) (js : json.Items) → ((i : ℕ) → i < items_fractions js → p i ≡ q i)
+      → is_left_in_items p js ≡ is_left_in_items q js
   left_same_items p q json.no_items h = refl
   left_same_items p q (json.item j js) h =
       ap₂ (λ a b. a || b) (left_same p q j (λ i l. h i (omega (arith, l))))
@@ -148,11 +142,14 @@ has_at q (member l e ms) = cond (bytes_eq l q) (has_float e) (has_at q ms)
 apart : (k l : List ℕ) (o : Ordering) → slice_cmp nat_cmp k l ≡ o → is_eq o ≡ false → bytes_eq k l ≡ false
 apart k l o h n = sym (is_eq-slice_cmp k l) ∙ ap is_eq h ∙ n
 
-swapped : (k l q : List ℕ) (a b x : Bool) → bytes_eq k l ≡ false → cond (bytes_eq l q) b (cond (bytes_eq k q) a x) ≡ cond (bytes_eq k q) a (cond (bytes_eq l q) b x)
+swapped : (k l q : List ℕ) (a b x : Bool) → bytes_eq k l ≡ false
+    → cond (bytes_eq l q) b (cond (bytes_eq k q) a x) ≡ cond (bytes_eq k q) a (cond (bytes_eq l q) b x)
 swapped k l q a b x n = by (bytes_eq k q) (bytes_eq l q) refl refl
   where
     by : (e f : Bool) → bytes_eq k q ≡ e → bytes_eq l q ≡ f → cond f b (cond e a x) ≡ cond e a (cond f b x)
-    by true true g h = absurd (true≢false (sym ((bytes_eq-Decides k l).1 ((bytes_eq-Decides k q).0 g ∙ sym ((bytes_eq-Decides l q).0 h))) ∙ n))
+    by true true g h =
+        let same = (bytes_eq-Decides k q).0 g ∙ sym ((bytes_eq-Decides l q).0 h) in
+        absurd (true≢false (sym ((bytes_eq-Decides k l).1 same) ∙ n))
     by true false g h = refl
     by false f g h = refl
 
@@ -162,7 +159,8 @@ has_at_put q k d (member l e ms) =
     put_step (λ os. has_at q os ≡ cond (bytes_eq k q) (has_float d) (cond (bytes_eq l q) (has_float e) (has_at q ms))) k l d e ms
     (λ is. refl)
     (λ same. ap (λ n. cond n (has_float d) (has_at q ms)) (ap (λ x. bytes_eq x q) (sym same))
-    ∙ both (bytes_eq k q) (has_float d) (has_float e) (has_at q ms) ∙ ap (λ x. cond (bytes_eq k q) (has_float d) (cond (bytes_eq x q) (has_float e) (has_at q ms))) same)
+    ∙ both (bytes_eq k q) (has_float d) (has_float e) (has_at q ms)
+    ∙ ap (λ x. cond (bytes_eq k q) (has_float d) (cond (bytes_eq x q) (has_float e) (has_at q ms))) same)
     (λ is. ap (cond (bytes_eq l q) (has_float e)) (has_at_put q k d ms)
     ∙ swapped k l q (has_float d) (has_float e) (has_at q ms) (apart k l Greater is refl))
   where
@@ -224,9 +222,10 @@ mutual
   float_items : (js : json.Items) → Given (λ ds. items_have_float ds ≡ is_left_in_items all js) (of_items js)
   float_items json.no_items = refl
   float_items (json.item j js) =
-      Given-and_then (λ d. has_float d ≡ is_left all j) (λ ds. items_have_float ds ≡ is_left_in_items all (json.item j js)) (λ d. option_map (item d) (of_items js))
-      (λ d h. Given-map (λ ds. items_have_float ds ≡ is_left_in_items all js) (λ ds. items_have_float ds ≡ is_left_in_items all (json.item j js)) (item d)
-      (λ ds k. ap₂ (λ a b. a || b) h k) (of_items js) (float_items js)) (of_json j) (float_json j)
+      Given-and_then (λ d. has_float d ≡ is_left all j) (λ ds. items_have_float ds ≡ is_left_in_items all (json.item j js))
+      (λ d. option_map (item d) (of_items js))
+      (λ d h. Given-map (λ ds. items_have_float ds ≡ is_left_in_items all js) (λ ds. items_have_float ds ≡ is_left_in_items all (json.item j js))
+      (item d) (λ ds k. ap₂ (λ a b. a || b) h k) (of_items js) (float_items js)) (of_json j) (float_json j)
 
   float_members : (ms : json.Members) (found : Members) → Rises found → Given (IsSettled ms found) (of_members ms found)
   float_members json.no_members found r = (r, λ q. refl)

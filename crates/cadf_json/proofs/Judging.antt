@@ -1,6 +1,7 @@
 -- The loops of the judge: items and members, read one after another.
 use Rattle.std.proofs.lemmas.Grind.{common_steps}
-use Rattle.std.proofs.Common.{◌≡◌, ℕ, ◌+◌, ◌-◌, ◌<◌, ◌≤◌, List, [], ◌∷◌, length, Bool, true, false, cond, nat_cmp, Option, Some, None, option_map, refl, sym, ap, ap₂, ◌∙◌, subst, arith}
+use Rattle.std.proofs.Common.{◌≡◌, ℕ, ◌+◌, ◌-◌, ◌<◌, ◌≤◌, List, [], ◌∷◌, length, Bool, true, false, cond, nat_cmp, Option}
+use Rattle.std.proofs.Common.{Some, None, option_map, refl, sym, ap, ap₂, ◌∙◌, subst, arith}
 use Rattle.std.specs.Prelude.{◌||◌, ◌&&◌, not, nat_le, is_some, option_and_then, unwrap_or, if◌then◌else◌, IsTrue, IsUtf8, ◌↔◌}
 use Rattle.std.specs.BTreeSet.{BTreeSet, contains_by, UpdatesBy}
 use Rattle.std.specs.Set.{KeepsOthers}
@@ -19,10 +20,12 @@ use Rattle.json.specs.Json as json
 use Rattle.json.specs.Json.{Parse, parse_map, after_end_array, read_key, items, members, value}
 use Rattle.json.proofs.Grammar.{value_is, value-begin_array, value-begin_object, items_end, items_more, members_end, members_more}
 use Rattle.json.specs.Lex.{tokens}
+use Rattle.json.proofs.Trees.{none_before}
 use Rattle.serde_json.specs.Data.{Data, null, boolean, number, string, array, object, Members, no_members, put}
 use Rattle.serde_json.specs.Read.{of_json, of_items, of_members, converted, read}
 use Rattle.cadf_json.specs.declared.spells.Window.{Window}
-use Rattle.cadf_json.specs.Fractions.{fractions, items_fractions, members_fractions, after, is_left, is_left_in_items, asked, IsPassed, IsNumberJudged, IsJudged, AreItemsJudged, AreMembersJudged, IsTextJudged}
+use Rattle.cadf_json.specs.Fractions.{fractions, items_fractions, members_fractions, after, is_left, is_left_in_items, asked, IsPassed}
+use Rattle.cadf_json.specs.Fractions.{IsNumberJudged, IsJudged, AreItemsJudged, AreMembersJudged, IsTextJudged}
 use Rattle.serde_json.specs.Find.{is_float}
 use Rattle.serde_json.specs.Written.{has_float}
 use Rattle.cadf_json.specs.Value.{SpellsValue}
@@ -80,7 +83,8 @@ module _ (depth : ℕ) (ts rest : List Token) (w : Window) where
   scalar_judged (Token.key s) e h = absurd cc
   scalar_judged (Token.string s) e h = plain (json.string s) (string s) (ap (value depth) e ∙ value_is depth (Token.string s ∷ rest)) refl refl refl
   scalar_judged (Token.number s) e h = absurd cc
-  scalar_judged (Token.boolean b) e h = plain (json.boolean b) (boolean b) (ap (value depth) e ∙ value_is depth (Token.boolean b ∷ rest)) refl refl refl
+  scalar_judged (Token.boolean b) e h =
+      plain (json.boolean b) (boolean b) (ap (value depth) e ∙ value_is depth (Token.boolean b ∷ rest)) refl refl refl
   scalar_judged Token.null e h = plain json.null null (ap (value depth) e ∙ value_is depth (Token.null ∷ rest)) refl refl refl
   scalar_judged Token.bad e h = absurd cc
 
@@ -134,12 +138,12 @@ still_none {B = B} f g (Some q) same h = by (f q.0) (f (g q.0)) (same q.0) h
 -- ---- items
 
 -- the items that were read come before any others
-pub record ItemsJudged (p : Parse json.Json) (start now : List Token) (left : Bool) (w v : Window) : Type 0 where
+pub record ItemsJudged (depth : ℕ) (start now : List Token) (left : Bool) (w v : Window) : Type 0 where
   pub bound : ℕ
   pub enough : length now ≤ bound
   pub shorter : length now ≤ length start
   pub begun : json.Items → json.Items
-  pub so_far : items p (length start) start ≡ parse_map begun (items p bound now)
+  pub so_far : items (value depth) (length start) start ≡ parse_map begun (items (value depth) bound now)
   pub reads : (js : json.Items) → is_some (of_items (begun js)) ≡ is_some (of_items js)
   pub left_is : (js : json.Items) → is_left_in_items (asked w) (begun js) ≡ (left || is_left_in_items (asked v) js)
   pub passes : (js : json.Items) (u : Window) → IsPassed (items_fractions js) v u → IsPassed (items_fractions (begun js)) w u
@@ -150,10 +154,6 @@ or_later true false c = refl
 or_later false true c = refl
 or_later false false c = refl
 
-same_parse : {A : Type 0} (o : Option (A × List Token)) → o ≡ parse_map (λ a. a) o
-same_parse None = refl
-same_parse (Some q) = refl
-
 parse_twice : {A : Type 0} (f g : A → A) (o : Option (A × List Token)) → parse_map f (parse_map g o) ≡ parse_map (λ a. f (g a)) o
 parse_twice f g None = refl
 parse_twice f g (Some q) = refl
@@ -161,22 +161,22 @@ parse_twice f g (Some q) = refl
 item_reads : (j : json.Json) (d : Data) (js : json.Items) → of_json j ≡ Some d → is_some (of_items (json.item j js)) ≡ is_some (of_items js)
 item_reads j d js e = grind (arith, common_steps)
 
-module _ (p : Parse json.Json) (start : List Token) (w : Window) where
-  pub items_begin : ItemsJudged p start start false w w
+module _ (depth : ℕ) (start : List Token) (w : Window) where
+  pub items_begin : ItemsJudged depth start start false w w
   items_begin = record {
     bound = length start;
     enough = omega arith;
     shorter = omega arith;
     begun = λ js. js;
-    so_far = same_parse _;
+    so_far = none_before _;
     reads = λ js. refl;
     left_is = λ js. refl;
     passes = λ js u h. h;
   }
 
-  pub item_judged : (now r : List Token) (left b : Bool) (v u : Window) (j : json.Json) (d : Data) → ItemsJudged p start now left w v → after_end_array now ≡ None
-      → p now ≡ Some (j, r) → of_json j ≡ Some d → b ≡ is_left (asked v) j → IsPassed (fractions j) v u → length r < length now
-      → ItemsJudged p start r (b || left) w u
+  pub item_judged : (now r : List Token) (left b : Bool) (v u : Window) (j : json.Json) (d : Data) → ItemsJudged depth start now left w v
+      → after_end_array now ≡ None → value depth now ≡ Some (j, r) → of_json j ≡ Some d → b ≡ is_left (asked v) j → IsPassed (fractions j) v u → length r < length now
+      → ItemsJudged depth start r (b || left) w u
   item_judged now r left b v u j d h going is reads left_is passes less =
       let enough = h.enough in
       let shorter = h.shorter in
@@ -185,7 +185,8 @@ module _ (p : Parse json.Json) (start : List Token) (w : Window) where
         enough = omega (arith, enough, less);
         shorter = omega (arith, shorter, less);
         begun = λ js. h.begun (json.item j js);
-        so_far = h.so_far ∙ ap (parse_map h.begun) (items_more p h.bound now r j (omega (arith, enough, less)) going is) ∙ parse_twice h.begun (json.item j) _;
+        so_far = h.so_far ∙ ap (parse_map h.begun) (items_more (value depth) h.bound now r j (omega (arith, enough, less)) going is)
+            ∙ parse_twice h.begun (json.item j) _;
         reads = λ js. h.reads (json.item j js) ∙ item_reads j d js reads;
         left_is = λ js. h.left_is (json.item j js)
             ∙ ap₂ (λ a f. left || (a || is_left_in_items f js)) (sym left_is) (sym (asked_after (fractions j) v u passes))
@@ -193,14 +194,14 @@ module _ (p : Parse json.Json) (start : List Token) (w : Window) where
         passes = λ js x e. h.passes (json.item j js) x (passed_both (fractions j) (items_fractions js) v u x passes e);
       }
 
-  pub items_judged : (depth : ℕ) (now r : List Token) (left : Bool) (v : Window) → p ≡ value depth → ItemsJudged p start now left w v
+  pub items_judged : (now r : List Token) (left : Bool) (v : Window) → ItemsJudged depth start now left w v
       → after_end_array now ≡ Some r → AreItemsJudged left depth start r w v
-  items_judged depth now r left v same h over =
+  items_judged now r left v h over =
       let read = some_value (of_items (h.begun json.no_items)) (h.reads json.no_items) in
       record {
         tree = h.begun json.no_items;
         got = read.0;
-        is = ap (λ q. items q (length start) start) (sym same) ∙ h.so_far ∙ ap (parse_map h.begun) (items_end p h.bound now r h.enough over);
+        is = h.so_far ∙ ap (parse_map h.begun) (items_end (value depth) h.bound now r h.enough over);
         reads = read.1;
         left_is = or_none left ∙ sym (h.left_is json.no_items);
         passes = h.passes json.no_items v (passed_none v);
@@ -210,10 +211,11 @@ module _ (p : Parse json.Json) (start : List Token) (w : Window) where
       or_none true = refl
       or_none false = refl
 
-  pub no_items_judged : (now : List Token) (left : Bool) (v : Window) → ItemsJudged p start now left w v → after_end_array now ≡ None
-      → converted of_json (p now) ≡ None → converted of_items (items p (length start) start) ≡ None
+  pub no_items_judged : (now : List Token) (left : Bool) (v : Window) → ItemsJudged depth start now left w v → after_end_array now ≡ None
+      → converted of_json (value depth now) ≡ None → converted of_items (items (value depth) (length start) start) ≡ None
   no_items_judged now left v h going e =
-      ap (converted of_items) h.so_far ∙ still_none of_items h.begun (items p h.bound now) h.reads (item_failed p h.bound now going e)
+      ap (converted of_items) h.so_far
+      ∙ still_none of_items h.begun (items (value depth) h.bound now) h.reads (item_failed (value depth) h.bound now going e)
 
 -- ---- names
 
@@ -239,12 +241,12 @@ names_updated bs s n b h cs = by (bytes_eq bs cs) refl
 
 -- ---- members
 
-pub record MembersJudged (p : Parse json.Json) (start now : List Token) (names : BTreeSet (Bor (List ℕ))) (w v : Window) : Type 0 where
+pub record MembersJudged (depth : ℕ) (start now : List Token) (names : BTreeSet (Bor (List ℕ))) (w v : Window) : Type 0 where
   pub bound : ℕ
   pub enough : length now ≤ bound
   pub shorter : length now ≤ length start
   pub begun : json.Members → json.Members
-  pub so_far : members p (length start) start ≡ parse_map begun (members p bound now)
+  pub so_far : members (value depth) (length start) start ≡ parse_map begun (members (value depth) bound now)
   pub reads : (ms : json.Members) → is_some (of_members (begun ms) no_members) ≡ is_some (of_members ms no_members)
   pub left_is : (q : List ℕ) (ms : json.Members) → pending (asked w) q (begun ms) false ≡ pending (asked v) q ms (has_name names q)
   pub passes : (ms : json.Members) (u : Window) → IsPassed (members_fractions ms) v u → IsPassed (members_fractions (begun ms)) w u
@@ -260,25 +262,26 @@ reads_at (json.member k j ms) f g = by (of_json j) (λ d. reads_at ms (put k d f
 
 member_reads : (k : List ℕ) (j : json.Json) (d : Data) (ms : json.Members) → of_json j ≡ Some d
     → is_some (of_members (json.member k j ms) no_members) ≡ is_some (of_members ms no_members)
-member_reads k j d ms e = ap (λ o. is_some (option_and_then (λ x. of_members ms (put k x no_members)) o)) e ∙ reads_at ms (put k d no_members) no_members
+member_reads k j d ms e =
+    ap (λ o. is_some (option_and_then (λ x. of_members ms (put k x no_members)) o)) e ∙ reads_at ms (put k d no_members) no_members
 
-module _ (p : Parse json.Json) (start : List Token) (w : Window) where
-  pub members_begin : (names : BTreeSet (Bor (List ℕ))) → names.keys ≡ [] → MembersJudged p start start names w w
+module _ (depth : ℕ) (start : List Token) (w : Window) where
+  pub members_begin : (names : BTreeSet (Bor (List ℕ))) → names.keys ≡ [] → MembersJudged depth start start names w w
   members_begin names none = record {
     bound = length start;
     enough = omega arith;
     shorter = omega arith;
     begun = λ ms. ms;
-    so_far = same_parse _;
+    so_far = none_before _;
     reads = λ ms. refl;
     left_is = λ q ms. ap (λ ks. pending (asked w) q ms (list_any (λ k. is_eq (slice_cmp nat_cmp q k.now)) ks)) (sym none);
     passes = λ ms u h. h;
   }
 
   pub member_judged : (now s r : List Token) (names more : BTreeSet (Bor (List ℕ))) (b : Bool) (v u : Window) (k : List ℕ) (j : json.Json) (d : Data)
-      → MembersJudged p start now names w v → read_key now ≡ Some (Some k, s) → p s ≡ Some (j, r) → of_json j ≡ Some d → b ≡ is_left (asked v) j
-      → IsPassed (fractions j) v u → length r < length now → ((q : List ℕ) → has_name more q ≡ cond (bytes_eq k q) b (has_name names q))
-      → MembersJudged p start r more w u
+      → MembersJudged depth start now names w v → read_key now ≡ Some (Some k, s) → value depth s ≡ Some (j, r) → of_json j ≡ Some d
+      → b ≡ is_left (asked v) j → IsPassed (fractions j) v u → length r < length now → ((q : List ℕ) → has_name more q ≡ cond (bytes_eq k q) b (has_name names q))
+      → MembersJudged depth start r more w u
   member_judged now s r names more b v u k j d h key is reads left_is passes less updates =
       let enough = h.enough in
       let shorter = h.shorter in
@@ -287,7 +290,7 @@ module _ (p : Parse json.Json) (start : List Token) (w : Window) where
         enough = omega (arith, enough, less);
         shorter = omega (arith, shorter, less);
         begun = λ ms. h.begun (json.member k j ms);
-        so_far = h.so_far ∙ ap (parse_map h.begun) (members_more p h.bound k now s r j (omega (arith, enough, less)) key is)
+        so_far = h.so_far ∙ ap (parse_map h.begun) (members_more (value depth) h.bound k now s r j (omega (arith, enough, less)) key is)
             ∙ parse_twice h.begun (json.member k j) _;
         reads = λ ms. h.reads (json.member k j ms) ∙ member_reads k j d ms reads;
         left_is = λ q ms. h.left_is q (json.member k j ms)
@@ -296,15 +299,15 @@ module _ (p : Parse json.Json) (start : List Token) (w : Window) where
         passes = λ ms x e. h.passes (json.member k j ms) x (passed_both (fractions j) (members_fractions ms) v u x passes e);
       }
 
-  pub members_judged : (depth : ℕ) (now r : List Token) (names : BTreeSet (Bor (List ℕ))) (v : Window) (none : Bool) → p ≡ value depth
-      → MembersJudged p start now names w v → read_key now ≡ Some (None, r) → IsTrue none ↔ (length names.keys ≡ 0)
+  pub members_judged : (now r : List Token) (names : BTreeSet (Bor (List ℕ))) (v : Window) (none : Bool)
+      → MembersJudged depth start now names w v → read_key now ≡ Some (None, r) → IsTrue none ↔ (length names.keys ≡ 0)
       → AreMembersJudged (not none) depth start r w v
-  members_judged depth now r names v none same h over empty =
+  members_judged now r names v none h over empty =
       let read = some_value (of_members (h.begun json.no_members) no_members) (h.reads json.no_members) in
       record {
         tree = h.begun json.no_members;
         got = read.0;
-        is = ap (λ q. members q (length start) start) (sym same) ∙ h.so_far ∙ ap (parse_map h.begun) (members_end p h.bound now r h.enough over);
+        is = h.so_far ∙ ap (parse_map h.begun) (members_end (value depth) h.bound now r h.enough over);
         reads = read.1;
         left_is = left_from (asked w) (h.begun json.no_members) (not none) (has_name names) (some names.keys none empty) (any names.keys none empty)
             (λ q. sym (h.left_is q json.no_members));
@@ -315,7 +318,9 @@ module _ (p : Parse json.Json) (start : List Token) (w : Window) where
           → (q : List ℕ) × (list_any (λ k. is_eq (slice_cmp nat_cmp q k.now)) ks ≡ true)
       some [] true e n = absurd cc
       some [] false e n = absurd (true≢false (sym (e.1 refl)))
-      some (x ∷ ks) b e n = (x.now, ap (λ a. a || list_any (λ k. is_eq (slice_cmp nat_cmp x.now k.now)) ks) (is_eq-slice_cmp x.now x.now ∙ (bytes_eq-Decides x.now x.now).1 refl))
+      some (x ∷ ks) b e n =
+          let itself = is_eq-slice_cmp x.now x.now ∙ (bytes_eq-Decides x.now x.now).1 refl in
+          (x.now, ap (λ a. a || list_any (λ k. is_eq (slice_cmp nat_cmp x.now k.now)) ks) itself)
 
       any : (ks : List (Bor (List ℕ))) (b : Bool) → IsTrue b ↔ (length ks ≡ 0) → (q : List ℕ)
           → list_any (λ k. is_eq (slice_cmp nat_cmp q k.now)) ks ≡ true → not b ≡ true
@@ -323,18 +328,20 @@ module _ (p : Parse json.Json) (start : List Token) (w : Window) where
       any (x ∷ ks) true e q h = let none = e.0 refl in absurd (omega (arith, none))
       any (x ∷ ks) false e q h = refl
 
-  pub no_key_judged : (now : List Token) (names : BTreeSet (Bor (List ℕ))) (v : Window) → MembersJudged p start now names w v → read_key now ≡ None
-      → converted (λ ms. of_members ms no_members) (members p (length start) start) ≡ None
+  pub no_key_judged : (now : List Token) (names : BTreeSet (Bor (List ℕ))) (v : Window) → MembersJudged depth start now names w v
+      → read_key now ≡ None → converted (λ ms. of_members ms no_members) (members (value depth) (length start) start) ≡ None
   no_key_judged now names v h key =
       ap (converted (λ ms. of_members ms no_members)) h.so_far
-      ∙ still_none (λ ms. of_members ms no_members) h.begun (members p h.bound now) h.reads (key_failed p no_members h.bound now key)
+      ∙ still_none (λ ms. of_members ms no_members) h.begun (members (value depth) h.bound now) h.reads
+      (key_failed (value depth) no_members h.bound now key)
 
-  pub no_member_judged : (now s : List Token) (names : BTreeSet (Bor (List ℕ))) (v : Window) (k : List ℕ) → MembersJudged p start now names w v
-      → read_key now ≡ Some (Some k, s) → converted of_json (p s) ≡ None
-      → converted (λ ms. of_members ms no_members) (members p (length start) start) ≡ None
+  pub no_member_judged : (now s : List Token) (names : BTreeSet (Bor (List ℕ))) (v : Window) (k : List ℕ) → MembersJudged depth start now names w v
+      → read_key now ≡ Some (Some k, s) → converted of_json (value depth s) ≡ None
+      → converted (λ ms. of_members ms no_members) (members (value depth) (length start) start) ≡ None
   no_member_judged now s names v k h key e =
       ap (converted (λ ms. of_members ms no_members)) h.so_far
-      ∙ still_none (λ ms. of_members ms no_members) h.begun (members p h.bound now) h.reads (member_failed p no_members h.bound k now s key e)
+      ∙ still_none (λ ms. of_members ms no_members) h.begun (members (value depth) h.bound now) h.reads
+      (member_failed (value depth) no_members h.bound k now s key e)
 
 -- ---- the whole text
 

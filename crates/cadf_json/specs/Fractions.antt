@@ -1,6 +1,6 @@
 -- The numbers of a text that aren't whole: which of them no later member replaces.
-use Rattle.std.specs.Prelude.{◌≡◌, ℕ, ◌+◌, ◌-◌, List, [], length, ◌&&◌, ◌||◌, not, nat_le, nat_lt, Bool, false, Some, option_map, unwrap_or}
-use Rattle.std.specs.Prelude.{if◌then◌else◌}
+use Rattle.std.specs.Prelude.{◌≡◌, ℕ, ◌+◌, ◌-◌, List, [], length, ◌&&◌, ◌||◌, not, nat_le, nat_lt, Bool, false}
+use Rattle.std.specs.Prelude.{Some, option_map, unwrap_or, if◌then◌else◌}
 use Rattle.std.specs.Str.{bytes_eq}
 use Rattle.json.specs.Token.{Token}
 use Rattle.json.specs.Lex.{tokens}

@@ -1,5 +1,5 @@
 use Rattle.std.proofs.lemmas.Grind.{common_steps}
-use Rattle.std.proofs.Common.{◌≡◌, ◌<◌, ◌∷◌, length, true, false, Some, None, Err, option_map, refl, sym, ap, ◌∙◌, subst, arith, rules}
+use Rattle.std.proofs.Common.{◌≡◌, ◌<◌, ◌∷◌, length, true, false, Some, None, Err, option_map, sym, ap, ◌∙◌, subst, arith, rules}
 use Rattle.json.specs.Json.{after_end_array, read_key, value}
 use Rattle.json.specs.Reads.{token_of, opens}
 use Rattle.json.proofs.Grammar.{value_is, value-begin_array, value-begin_object, read_key-shorter}
@@ -7,7 +7,8 @@ use Rattle.serde_json.specs.Read.{of_json, converted}
 use Rattle.cadf_json.specs.declared.push.ReadFault.TheVariants.{NotJson}
 use Rattle.cadf_json.proofs.Turns.{converted-array, converted-object}
 use Rattle.cadf_json.proofs.Loops.{too_deep}
-use Rattle.cadf_json.proofs.Judging.{scalar_judged, number_judged, array_judged, object_judged, ItemsJudged, items_begin, item_judged, items_judged, no_items_judged}
+use Rattle.cadf_json.proofs.Judging.{scalar_judged, number_judged, array_judged, object_judged}
+use Rattle.cadf_json.proofs.Judging.{ItemsJudged, items_begin, item_judged, items_judged, no_items_judged}
 use Rattle.cadf_json.proofs.Judging.{members_begin, member_judged, members_judged, no_key_judged, no_member_judged, names_updated}
 use Rattle.cadf_json.proofs.spells.+judge_value.Goals as goal
 
@@ -66,44 +67,43 @@ judge_items-returns-in_err-left-clause-not_json t c h =
     let l = c.items in
     let going : (after_end_array l.reader ≡ None) × (c.take_end_array.new.self ≡ l.reader) = grind arith in
     let failed : Err c.in_err-left.field-0.0 ≡ Err NotJson = search rules in
-    no_items_judged (value c.args.depth) c.args.reader.now c.args.window.now l.reader l.left l.window l.invariant going.0
+    no_items_judged c.args.depth c.args.reader.now c.args.window.now l.reader l.left l.window l.invariant going.0
     (subst (λ ts. converted of_json (value c.args.depth ts) ≡ None) going.1 (c.in_err-left.ensures.not_json failed))
 
 pub judge_items-items-preserved : goal.judge_items-items-preserved
 judge_items-items-preserved t c =
     let l = c.items in
-    let p = value c.args.depth in
     let going : (after_end_array l.reader ≡ None) × (c.take_end_array.new.self ≡ l.reader) = grind arith in
     let done = c.in_ok-left.ensures in
     let r = c.judge_value.new.reader in
     let less : length r < length l.reader = rw (← going.1) done.shorter in
     let read = done.ok in
-    item_judged p c.args.reader.now c.args.window.now l.reader r l.left _ l.window c.judge_value.new.window read.tree read.got l.invariant going.0
-    (rw (← going.1) read.is) read.reads read.left_is read.passes less
+    item_judged c.args.depth c.args.reader.now c.args.window.now l.reader r l.left _ l.window c.judge_value.new.window read.tree read.got l.invariant
+    going.0 (rw (← going.1) read.is) read.reads read.left_is read.passes less
 
 pub judge_items-returns-clause-ok : goal.judge_items-returns-clause-ok
 judge_items-returns-clause-ok t c =
     let l = c.items in
-    items_judged (value c.args.depth) c.args.reader.now c.args.window.now c.args.depth l.reader c.take_end_array.new.self l.left l.window refl l.invariant
+    items_judged c.args.depth c.args.reader.now c.args.window.now l.reader c.take_end_array.new.self l.left l.window l.invariant
     (grind arith)
 
 -- ---- members
 
 pub judge_members-members-init : goal.judge_members-members-init
-judge_members-members-init t c = members_begin (value c.args.depth) c.args.reader.now c.args.window.now c.new-names.result c.new-names.ensures.empty
+judge_members-members-init t c = members_begin c.args.depth c.args.reader.now c.args.window.now c.new-names.result c.new-names.ensures.empty
 
 pub judge_members-returns-in_default-clause-not_json : goal.judge_members-returns-in_default-clause-not_json
 judge_members-returns-in_default-clause-not_json t c h =
     let l = c.members in
     let key : read_key l.reader ≡ None = grind arith in
-    no_key_judged (value c.args.depth) c.args.reader.now c.args.window.now l.reader l.names l.window l.invariant key
+    no_key_judged c.args.depth c.args.reader.now c.args.window.now l.reader l.names l.window l.invariant key
 
 pub judge_members-returns-clause-ok : goal.judge_members-returns-clause-ok
 judge_members-returns-clause-ok t c =
     let l = c.members in
     let s = c.next_key.new.self in
     let over : read_key l.reader ≡ Some (None, s) = c.in-Ok.ensures.value ∙ ap (λ o. Some (option_map (λ x. x.now) o, s)) c.in_default-key.is in
-    members_judged (value c.args.depth) c.args.reader.now c.args.window.now c.args.depth l.reader s l.names l.window _ refl l.invariant over c.is_empty.ensures
+    members_judged c.args.depth c.args.reader.now c.args.window.now l.reader s l.names l.window _ l.invariant over c.is_empty.ensures
 
 pub judge_members-returns-in_err-judge_value-clause-not_json : goal.judge_members-returns-in_err-judge_value-clause-not_json
 judge_members-returns-in_err-judge_value-clause-not_json t c h =
@@ -112,7 +112,7 @@ judge_members-returns-in_err-judge_value-clause-not_json t c h =
     let s = c.next_key.new.self in
     let named : read_key l.reader ≡ Some (Some k.now, s) = c.in-Ok.ensures.value ∙ ap (λ o. Some (option_map (λ x. x.now) o, s)) c.in-Some.is in
     let failed : Err c.in_err-judge_value.field-0.0 ≡ Err NotJson = search rules in
-    no_member_judged (value c.args.depth) c.args.reader.now c.args.window.now l.reader s l.names l.window k.now l.invariant named
+    no_member_judged c.args.depth c.args.reader.now c.args.window.now l.reader s l.names l.window k.now l.invariant named
     (c.in_err-judge_value.ensures.not_json failed)
 
 pub judge_members-members-preserved-in_ok-insert : goal.judge_members-members-preserved-in_ok-insert
@@ -125,7 +125,7 @@ judge_members-members-preserved-in_ok-insert t c =
     let sooner = read_key-shorter l.reader (Some k.now) s named in
     let later = done.shorter in
     let read = done.ok in
-    member_judged (value c.args.depth) c.args.reader.now c.args.window.now l.reader s c.judge_value.new.reader l.names c.insert.new.self true l.window
+    member_judged c.args.depth c.args.reader.now c.args.window.now l.reader s c.judge_value.new.reader l.names c.insert.new.self true l.window
     c.judge_value.new.window k.now read.tree read.got l.invariant named read.is read.reads (sym c.if-branch.true ∙ read.left_is) read.passes
     (omega (arith, sooner, later)) (names_updated k.now l.names c.insert.new.self true c.in_ok-insert.ensures.updates)
 
@@ -139,6 +139,6 @@ judge_members-members-preserved t c =
     let sooner = read_key-shorter l.reader (Some k.now) s named in
     let later = done.shorter in
     let read = done.ok in
-    member_judged (value c.args.depth) c.args.reader.now c.args.window.now l.reader s c.judge_value.new.reader l.names c.remove.new.self false l.window
+    member_judged c.args.depth c.args.reader.now c.args.window.now l.reader s c.judge_value.new.reader l.names c.remove.new.self false l.window
     c.judge_value.new.window k.now read.tree read.got l.invariant named read.is read.reads (sym c.if-branch.false ∙ read.left_is) read.passes
     (omega (arith, sooner, later)) (names_updated k.now l.names c.remove.new.self false c.remove.ensures.updates)
