@@ -101,6 +101,8 @@ def _of(value: Input) -> bytes:
             return memoryview(value).tobytes()
     except MemoryError:
         raise OutOfMemory(_NO_MEMORY) from None
+    except ValueError:
+        raise TypeError("an input is bytes or a text, not a view that was released") from None
     raise TypeError("an input is bytes or a text, not %s" % type(value).__name__)
 
 
@@ -110,9 +112,10 @@ def _given(value: bytes) -> _library.Bytes:
 
 
 def _whole(value: int, name: str) -> int:
-    """A number of 64 bits without a sign. One that is none is handed on as 0, which the library refuses."""
+    """A number of 64 bits without a sign, by no method of a derived class either. Any other is handed on as 0, which the library refuses."""
     if isinstance(value, bool) or not isinstance(value, int):
         raise TypeError("%s is a whole number, not %s" % (name, type(value).__name__))
+    value = int.__index__(value)
     return value if 0 <= value < 1 << 64 else 0
 
 
@@ -154,12 +157,18 @@ def _texts(inputs: Iterable[Input]) -> List[bytes]:
     """The bytes of each of several inputs."""
     if isinstance(inputs, (str, bytes, bytearray, memoryview)):
         raise TypeError("inputs is a list of inputs, not one input")
-    return [_of(value) for value in inputs]
+    try:
+        return [_of(value) for value in inputs]
+    except MemoryError:
+        raise OutOfMemory(_NO_MEMORY) from None
 
 
 def _listed(texts: List[bytes]) -> Tuple[Any, int]:
     """An array of inputs, and their number. The array is never empty."""
-    return (_library.Bytes * max(len(texts), 1))(*map(_given, texts or [b""])), len(texts)
+    try:
+        return (_library.Bytes * max(len(texts), 1))(*map(_given, texts or [b""])), len(texts)
+    except MemoryError:
+        raise OutOfMemory(_NO_MEMORY) from None
 
 
 def _log(log: Optional[str]) -> bytes:

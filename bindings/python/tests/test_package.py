@@ -168,6 +168,17 @@ class Sizes(unittest.TestCase):
         with self.assertRaises(cadf.OutOfMemory):
             cadf.show(value)
 
+    def test_of_more_inputs_than_memory_has_are_out_of_memory(self):
+        def endless():
+            yield "{}"
+            raise MemoryError  # as where the list of them can't grow
+
+        with mock.patch.object(cadf, "_loaded", Fake(b"")), self.assertRaises(cadf.OutOfMemory):
+            cadf.join(endless())
+        with mock.patch.object(cadf, "_loaded", Fake(b"")), mock.patch.object(cadf, "_given", mock.Mock(side_effect=MemoryError)):
+            with self.assertRaises(cadf.OutOfMemory):
+                cadf.join(["{}"])
+
     def test_of_a_text_without_memory_for_its_copy_are_out_of_memory(self):
         with mock.patch.object(cadf, "_loaded", Fake(b"a")), mock.patch.object(cadf, "_new_bytes", lambda _, size: Uncopied(size)):
             with self.assertRaises(cadf.OutOfMemory):
@@ -191,6 +202,15 @@ class LongBytes(bytes):
         return self
 
 
+class SmallNumber(int):
+    """A number that says of itself that it is in each range."""
+
+    __ge__ = __gt__ = __le__ = __lt__ = lambda *_: True
+
+    def __rmul__(self, _):
+        return 2 ** 63
+
+
 class LongText(str):
     """A text whose UTF-8 tells a length that it doesn't have."""
 
@@ -210,6 +230,13 @@ class Inputs(unittest.TestCase):
         with mock.patch.object(cadf, "_of", lambda value: value.encode() if isinstance(value, str) else bytes(value)):
             for value in (LongBytes(b"{}"), LongText("{}")):  # the wrong version
                 self.assertEqual(len(cadf._of(value)), 1000)
+
+    def test_that_were_released_are_none(self):
+        view = memoryview(b"{}")
+        view.release()
+        for call, value in ((cadf.show, view), (cadf.join, ["{}", view])):
+            with self.assertRaisesRegex(TypeError, "^an input is bytes or a text, not a view that was released"):
+                call(value)
 
     def test_of_bytes_are_not_copied(self):
         value = bytes(range(256))
@@ -262,6 +289,12 @@ class Calls(unittest.TestCase):
                 cadf.join(["{}"], log)
                 cadf.split("week", ["{}"], log)  # the library refuses the unit first
             self.assertEqual(fake.inputs, [[given], [b"week", given]])
+
+    def test_hand_on_a_number_as_it_is(self):
+        self.assertEqual([cadf._whole(SmallNumber(value), "cells") for value in (-1, 3, 2 ** 64 - 1, 2 ** 64 + 3)], [0, 3, 2 ** 64 - 1, 0])
+        with mock.patch.object(cadf, "_loaded", Fake(b"")) as fake:
+            cadf.sketch("{}", cells=SmallNumber(3))
+        self.assertEqual(fake.rooms, [4096 + 81 * 3])
 
     def test_take_bytes_and_texts_alone(self):
         for wrong in (1, None, ["{}"], {"id": "g"}):
