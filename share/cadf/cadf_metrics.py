@@ -14,7 +14,8 @@ import time
 import cadf_site
 from cadf_keys import Files, at_once
 from cadf_logs import UNREADABLE, Text
-from cadf_toolkit import DIFFERS, DONE, FAILED, MEMORY, REFUSED, Fault, another_program, cadf, name_shown, naming, new_file, opened, started, tool
+from cadf_toolkit import (DIFFERS, DONE, FAILED, MEMORY, REFUSED, Fault, another_program, cadf, name_shown, naming, new_file, opened, started,
+                          temporary_folder, tool)
 
 HELP = {
     "facts_taken": "Facts that the last run took into the site; of cadf-spool, those that it held before among them.",
@@ -88,7 +89,7 @@ def open_conflicts(name, parts=None):
     if not parts:
         return 0
     parts = {cadf_site.SHARED, *parts}
-    with cadf_site.Folder(name) as site, tempfile.TemporaryDirectory() as folder:
+    with cadf_site.Folder(name) as site, temporary_folder() as folder:
         if sum(len(site.site().digests(part)) for part in parts) <= at_once():
             with cadf_site.opened_parts(site, parts) as (_, inputs):
                 return shown_conflicts(list(inputs.values()))

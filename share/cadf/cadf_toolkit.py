@@ -666,6 +666,18 @@ def release_signals():
             stop(held[0], None)
 
 
+@contextlib.contextmanager
+def temporary_folder(folder=None):
+    """A private folder in that one, or where temporary files are, which goes at the end. A signal that asks the call to end waits meanwhile."""
+    with contextlib.ExitStack() as steps:
+        hold_signals()
+        steps.callback(release_signals)
+        name = steps.enter_context(tempfile.TemporaryDirectory(dir=folder))
+        steps.callback(hold_signals)
+        release_signals()
+        yield name
+
+
 def stop(number, _):
     if Stopped.held is not None:
         Stopped.held.append(number)
@@ -673,6 +685,16 @@ def stop(number, _):
     for each in STOPPING:
         signal.signal(each, signal.SIG_IGN)
     raise Stopped(number)
+
+
+def raise_later(found):
+    """Has a signal come again whose Stopped was raised where Python passes over it, as while an object is removed."""
+    if not isinstance(found.exc_value, Stopped):
+        sys.__unraisablehook__(found)
+        return
+    number = found.exc_value.status - 128
+    signal.signal(number, stop)
+    threading.Timer(PAUSE, os.kill, (os.getpid(), number)).start()
 
 
 def ask_to_end(handler):
@@ -699,15 +721,19 @@ def ended(run, *words):
     """
     if sys.stderr is None:
         return FAILED  # what is found couldn't be said
-    ask_to_end(stop)
-    os.umask(os.umask(0o077) & 0o077)  # what is made is its owner's to read and write, whatever the caller's mask says
     try:
-        if sys.stdout is None:
-            raise OSError(errno.EBADF, os.strerror(errno.EBADF))
-        prepare_streams()
-        status = run(*words)
-        sys.stdout.flush()
-        return status
+        try:
+            ask_to_end(stop)
+            sys.unraisablehook = raise_later
+            os.umask(os.umask(0o077) & 0o077)  # what is made is its owner's to read and write, whatever the caller's mask says
+            if sys.stdout is None:
+                raise OSError(errno.EBADF, os.strerror(errno.EBADF))
+            prepare_streams()
+            status = run(*words)
+            sys.stdout.flush()
+            return status
+        finally:
+            ask_to_end(signal.SIG_DFL)  # why the call ended is told, and nothing is left that has to be ended
     except (Fault, Stopped) as fault:
         status, said = fault.status, str(fault)
     except OSError as fault:

@@ -5,6 +5,7 @@ import os
 import resource
 import signal
 import subprocess
+import sys
 
 import pytest
 
@@ -19,6 +20,7 @@ def kit(monkeypatch):
     module = loaded(TOOLKIT)
     handlers = {number: signal.getsignal(number) for number in module.STOPPING}
     monkeypatch.setattr("sys.argv", ["/usr/bin/cadf-tool"])
+    monkeypatch.setattr("sys.unraisablehook", sys.unraisablehook)
     yield module
     for number, handler in handlers.items():
         signal.signal(number, handler)
@@ -178,6 +180,57 @@ def test_ended_while_a_program_is_started(tmp_path, when):
         done = subprocess.run(["python3", "-c", STARTED, TOOLKIT, when, program], stdout=subprocess.PIPE, stderr=subprocess.PIPE, timeout=30)
         said = b"stopped by SIGTERM\n" if when == "before" or program == sleeping else b"absent: No such file or directory\n"
         assert done.returncode == (3 if said.startswith(b"absent") else 143) and done.stderr.endswith(said), done
+
+
+STOPPED = """import os, signal, sys, time
+sys.path.insert(0, os.path.dirname(sys.argv[1]))
+import cadf_toolkit
+def stopped_at(module, name):
+    real = getattr(module, name)
+    def call(*words):
+        os.kill(os.getpid(), signal.SIGTERM)
+        return real(*words)
+    setattr(module, name, call)
+stopped_at(*{"begin": (os, "umask"), "end": (cadf_toolkit, "say"), "removed": (os, "close")}[sys.argv[2]])
+class Removed:
+    def __del__(self):
+        os.close(os.dup(2))
+def run():
+    if sys.argv[2] == "removed":
+        Removed()
+        time.sleep(5)
+    raise cadf_toolkit.Fault("why")
+sys.exit(cadf_toolkit.ended(run))
+"""
+
+
+@pytest.mark.parametrize("when, status, said", [("begin", 143, "stopped by SIGTERM"), ("removed", 143, "stopped by SIGTERM"), ("end", -15, None)])
+def test_ended_by_a_signal_at_any_time(when, status, said):
+    """The status is that of a signal, 143 in a shell, and nothing goes on, also where Python passes over what a handler raises."""
+    done = subprocess.run(["python3", "-c", STOPPED, TOOLKIT, when], stdout=subprocess.PIPE, stderr=subprocess.PIPE, timeout=30)
+    assert (done.returncode, done.stderr.decode()) == (status, "-c: %s\n" % said if said else "")
+
+
+@pytest.mark.parametrize("module, name", [("tempfile", "mkdtemp"), ("os", "unlink")])
+def test_ended_while_a_temporary_folder_is_made_or_removed(kit, tmp_path, monkeypatch, module, name):
+    """What a tool that is asked to end has made of a log does not stay where temporary files are."""
+    real = getattr(getattr(kit, module), name)
+
+    def call(*words, **more):
+        found = real(*words, **more)
+        monkeypatch.undo()
+        os.kill(os.getpid(), signal.SIGTERM)
+        return found
+
+    def run():
+        with kit.temporary_folder(str(tmp_path)) as folder:
+            for each in ("1", "2"):
+                with open(os.path.join(folder, each), "w", encoding="utf-8"):
+                    pass
+        return 0
+
+    monkeypatch.setattr(getattr(kit, module), name, call)
+    assert (kit.ended(run), os.listdir(tmp_path)) == (143, [])
 
 
 @pytest.mark.parametrize("words", [["cadf-take", "new.cadf", "event.json"], ["cadf-which", "event.json"], ["cadf-agree", "event.json", "event.json"],
