@@ -228,6 +228,23 @@ def test_what_another_program_answers_is_not_believed(site, answer):
     assert site.listed() == before
 
 
+@pytest.mark.parametrize("options, cut, lines", [(["--settle"], "join", -1), (["--settle"], "join", 4), ([], "missing", 3)])
+def test_what_another_program_cuts_off_is_not_believed(site, options, cut, lines):
+    """A text that is cut at the end of a line is in no place of a window's files, and doesn't say that they hold what is taken."""
+    site.takes(contents(0, 1))
+    site.takes(contents(3))
+    before, odd = site.files(), site.path / "odd"
+    odd.write_text('#!/bin/sh\n[ "$1" = %s ] || exec %s "$@"\n%s "$@" | head -n %d\n' % (cut, *[shlex.quote(site.command)] * 2, lines))
+    odd.chmod(0o755)
+    site.environment["CADF"] = str(odd)
+    answer = site.take(*options, files=[] if options else [site.put(contents(6, 9))])
+    assert answer == (3, b"", ("cadf-take: %s: what it writes is no replica file\n" % odd).encode())
+    assert site.files() == before
+    site.environment["CADF"] = site.command
+    site.settles()
+    assert site.atoms() == atoms_of(contents(0, 1, 3))
+
+
 def test_a_settled_folder_is_a_function_of_its_facts(site):
     values = [contents(key, key + 1, name="n%d" % (key % 2)) for key in range(3)]
     site.takes(*values)
