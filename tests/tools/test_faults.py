@@ -272,6 +272,20 @@ def test_another_program(caller, program, text, answer):
     assert status == 3 and lines[0] in (said, "cadf-%s: %s" % (words[0], said)) and os.path.getsize(os.path.join(own, "output")) == 0, lines
 
 
+@pytest.mark.parametrize("text, answer", [
+    ("conflicts open.cadf", "replica file"), ("conflicts --rule choices open.cadf", "replica file"), ("report good.cadf", "replica file"),
+    ("agree good.cadf many.json", "sketch"), ("seal good.cadf", "seal"), ("seal --prove d.json good.cadf", "proof")])
+def test_cut_text(caller, text, answer):
+    """What a program writes that loses the status of a `cadf` that was ended is no answer either: it has no last line."""
+    own, _, words = filled(text)
+    put(os.path.join(own, "losing"), "#!/bin/sh\n'%s' \"$@\" | sed '/^Z /d'\n" % caller.cadf)
+    caller.cadf = os.path.join(own, "losing")
+    os.chmod(caller.cadf, 0o755)
+    status, lines = caller.run(words, own)
+    assert (status, os.path.getsize(os.path.join(own, "output"))) == (3, 0)
+    assert lines[0].endswith("%s: what it writes is no %s" % (caller.cadf, answer)), lines
+
+
 def hung_up(cadf, tool, ignored=signal.SIG_DFL):
     """How a tool ends whose terminal goes while it reads a file: its status, and what it says."""
     put("hanging", '#!/bin/sh\nkill -HUP $PPID\nexec "%s" "$@"\n' % cadf)
