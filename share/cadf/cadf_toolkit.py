@@ -61,7 +61,7 @@ WRITTEN = {
     "prove": ("proof", b"CADF-PROOF "),
 }
 LONGEST_BEGIN = max(len(begin) for _, begin in WRITTEN.values())
-LAST_LINE, LENGTH_OF_LAST = re.compile(rb"\nZ [0-9a-f]{64}\n"), 68  # of each of them that is a file, with the end of the line before
+LAST, LAST_LINE = re.compile(rb"Z ([0-9a-f]{64})\n"), 67  # of each of them that is a file, and its bytes
 OF_FACTS = {b"CADF-REPLICA ": "a replica file: `cadf-take SITE FILE` takes it as it is"}
 OF_LINES = "lines of JSON: `cadf-from-openstack --log ID FILE` makes a document of them"
 LARGEST = 2 ** 30  # bytes that cadf reads of a file
@@ -496,7 +496,7 @@ def another_program(kind, name=None):
 def check_written(command, first, last=None):
     """Raises that what CADF has written doesn't begin as what this command writes or, if its last bytes are given, doesn't end so."""
     kind, begin = WRITTEN.get(command, ("", b""))
-    is_cut = last is not None and begin.startswith(b"CADF-") and not LAST_LINE.fullmatch(last)
+    is_cut = last is not None and begin.startswith(b"CADF-") and not LAST.fullmatch(last)
     if is_cut or not first.startswith(begin):
         raise another_program(kind)
 
@@ -518,10 +518,10 @@ def cadf(words, inputs, output=subprocess.DEVNULL, keep=(), where=None, union=1)
         with open("/dev/fd/%d" % output, "rb") as file:
             file.seek(begin)
             first = file.read(LONGEST_BEGIN)
-            file.seek(max(begin, os.fstat(output).st_size - LENGTH_OF_LAST))
+            file.seek(max(begin, os.fstat(output).st_size - LAST_LINE))
             check_written(words[0], first, file.read())
     elif written is not None:
-        check_written(words[0], written, written[-LENGTH_OF_LAST:])
+        check_written(words[0], written, written[-LAST_LINE:])
     return written
 
 

@@ -16,7 +16,7 @@ import tempfile
 
 import cadf_site
 from cadf_link import Item, Store
-from cadf_toolkit import REFUSED, Fault, Input, Refusal, another_program, cadf, check_end, naming, opened_file, started_cadf
+from cadf_toolkit import LAST, LAST_LINE, REFUSED, Fault, Input, Refusal, another_program, cadf, check_end, naming, opened_file, started_cadf
 
 ALL, SHARED = "all", cadf_site.SHARED
 UNITS = {length: unit for unit, length in cadf_site.UNITS.items()}
@@ -24,8 +24,7 @@ WINDOW = re.compile(r"\d{4}-\d\d(?:-\d\d(?:T\d\d)?)?", re.ASCII)
 UNIONS = ".unions"
 UNION = re.compile(rb"U ([0-9a-f]{64}) ([0-9a-f]{64})\n")
 SECOND = b"CADF-REPLICA 2\n"
-LAST = re.compile(rb"Z ([0-9a-f]{64})\n")
-LAST_LINE, DIGEST_BYTES, CELL_BYTES = 67, 65, 81  # of a line
+DIGEST_BYTES, CELL_BYTES = 65, 81  # of a line
 NODE = re.compile(rb"\[([1-9][0-9]*),([01]),")
 BLOCK = 2 ** 16  # bytes that are read at once
 CELLS, MOST_CELLS = 198, 12582912
