@@ -349,12 +349,12 @@ module _ (depth : ℕ) (start : List Token) (w : Window) where
 abbrev pub NoneBefore : List ℕ → ℕ → Type 0
 NoneBefore s b = (j : json.Json) → value 127 (tokens s) ≡ Some (j, []) → is_left all j ≡ is_left (nat_le b) j
 
-from_at : (w : Window) (i : ℕ) → nat_le w.before i ≡ (asked w i || nat_le (w.before + w.left) i)
+from_at : (w : Window) (i : ℕ) → nat_le w.before i ≡ (asked w i || nat_le (w.before + w.wanted) i)
 from_at w i = grind (arith, common_steps)
 
 -- one is left in the window, or after it
-in_or_after : (w : Window) (j : json.Json) → is_left (nat_le w.before) j ≡ (is_left (asked w) j || is_left (nat_le (w.before + w.left)) j)
-in_or_after w j = ap (λ p. is_left p j) (λ t i. from_at w i t) ∙ left_or (asked w) (nat_le (w.before + w.left)) j
+in_or_after : (w : Window) (j : json.Json) → is_left (nat_le w.before) j ≡ (is_left (asked w) j || is_left (nat_le (w.before + w.wanted)) j)
+in_or_after w j = ap (λ p. is_left p j) (λ t i. from_at w i t) ∙ left_or (asked w) (nat_le (w.before + w.wanted)) j
 
 same_tree : (s : List ℕ) (j k : json.Json) → value 127 (tokens s) ≡ Some (j, []) → value 127 (tokens s) ≡ Some (k, []) → j ≡ k
 same_tree s j k e f = grind (arith, common_steps)
@@ -366,23 +366,23 @@ module _ (s : List ℕ) (w v : Window) (left : Bool) (h : IsTextJudged left s w 
   float_is : has_float h.got ≡ is_left (nat_le w.before) h.tree
   float_is = subst (Given (λ d. has_float d ≡ is_left all h.tree)) h.reads (float_json h.tree) ∙ none h.tree h.is
 
-  pub none_before_next : left ≡ false → NoneBefore s (w.before + w.left)
+  pub none_before_next : left ≡ false → NoneBefore s (w.before + w.wanted)
   none_before_next e j is =
       none j is ∙ in_or_after w j
-      ∙ ap (λ b. b || is_left (nat_le (w.before + w.left)) j) (ap (is_left (asked w)) (same_tree s j h.tree is h.is) ∙ sym h.left_is ∙ e)
+      ∙ ap (λ b. b || is_left (nat_le (w.before + w.wanted)) j) (ap (is_left (asked w)) (same_tree s j h.tree is h.is) ∙ sym h.left_is ∙ e)
 
   pub one_is_left : left ≡ true → (d : Data) → ¬ SpellsValue s d
   one_is_left e d spells =
-      let one = in_or_after w h.tree ∙ ap (λ b. b || is_left (nat_le (w.before + w.left)) h.tree) (sym h.left_is ∙ e) in
+      let one = in_or_after w h.tree ∙ ap (λ b. b || is_left (nat_le (w.before + w.wanted)) h.tree) (sym h.left_is ∙ e) in
       true≢false (sym (float_is ∙ one) ∙ whole (sym text_read ∙ spells.1) spells.2)
     where
       whole : Some h.got ≡ Some d → has_float d ≡ false → has_float h.got ≡ false
       whole same no_float = grind (arith, common_steps)
 
-  pub none_is_left : left ≡ false → 0 < v.left → IsUtf8 s → (d : Data) × SpellsValue s d
+  pub none_is_left : left ≡ false → 0 < v.wanted → IsUtf8 s → (d : Data) × SpellsValue s d
   none_is_left e some u =
       let passes = h.passes.1 in
       (h.got, (u, text_read, float_is ∙ left_same (nat_le w.before) (asked w) h.tree (λ i l. within i l passes) ∙ sym h.left_is ∙ e))
     where
-      within : (i : ℕ) → i < fractions h.tree → v.left ≡ w.left - (fractions h.tree - w.before) → nat_le w.before i ≡ asked w i
+      within : (i : ℕ) → i < fractions h.tree → v.wanted ≡ w.wanted - (fractions h.tree - w.before) → nat_le w.before i ≡ asked w i
       within i l e = grind (arith, common_steps)

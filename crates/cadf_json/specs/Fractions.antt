@@ -63,11 +63,11 @@ abbrev mutual
 
 -- the i-th number from here is looked for
 abbrev pub asked : Window → ℕ → Bool
-asked w i = nat_le w.before i && nat_lt i (w.before + w.left)
+asked w i = nat_le w.before i && nat_lt i (w.before + w.wanted)
 
 -- n numbers were passed
 abbrev pub IsPassed : ℕ → Window → Window → Type 0
-IsPassed n w v = (v.before ≡ w.before - n) × (v.left ≡ w.left - (n - w.before))
+IsPassed n w v = (v.before ≡ w.before - n) × (v.wanted ≡ w.wanted - (n - w.before))
 
 abbrev pub IsNumberJudged : Bool → List ℕ → Window → Window → Type 0
 IsNumberJudged left s w v = (n : Num) × ((number_of s ≡ Some n) × (left ≡ (is_float n && asked w 0)) × IsPassed (if is_float n then 1 else 0) w v)

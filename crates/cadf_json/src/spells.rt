@@ -14,15 +14,15 @@ use json::{Reader, Scratch, Token};
 use std::alloc::Global;
 use std::collections::BTreeSet;
 
-/// How many bytes of a text there are for each number that one pass looks for.
+/// One pass looks for one number in so many bytes of the text. A name that it keeps takes up to 42.
 const BYTES_FOR_EACH: usize = 24;
 
 /// The numbers that aren't whole and that one pass looks for, of those that come next: the first `before` are passed
-/// over, then `left` are looked for.
+/// over, then `wanted` are looked for.
 #[derive(Clone, Copy, Drop)]
 struct Window {
     before: usize,
-    left: usize,
+    wanted: usize,
 }
 
 impl Window {
@@ -35,8 +35,8 @@ impl Window {
             self.before -= 1;
             return false;
         }
-        if self.left > 0 {
-            self.left -= 1;
+        if self.wanted > 0 {
+            self.wanted -= 1;
             return true;
         }
         false
@@ -160,8 +160,8 @@ fn judge_text(
     }
 }
 
-/// Returns whether the text spells a value. Makes no value of it: passes over it look for so many numbers that aren't
-/// whole that the names that one keeps take at most twice the text's memory. `Memory` if an allocation fails.
+/// Returns whether the text spells a value. Makes no value of it. Reads it once if all numbers are whole, else at most
+/// eight times, and keeps at most one name for 24 bytes. `Memory` if an allocation fails.
 pub fn spells_value(alloc: Global, text: &str) -> Result<bool, Memory>
     ensures yes { IfOk result (λ b. b ≡ true → (d : Data) × SpellsValue text.now d) }
     ensures no { IfOk result (λ b. b ≡ false → (d : Data) → ¬ SpellsValue text.now d) }
@@ -172,7 +172,7 @@ pub fn spells_value(alloc: Global, text: &str) -> Result<bool, Memory>
     'windows: loop {
         let mut window = Window {
             before,
-            left: width,
+            wanted: width,
         };
         match judge_text(alloc, &mut scratch, text, &mut window) {
             Ok(true) => return Ok(false),
@@ -180,7 +180,7 @@ pub fn spells_value(alloc: Global, text: &str) -> Result<bool, Memory>
             Err(ReadFault::NotJson) => return Ok(false),
             Err(ReadFault::Memory) => return Err(Memory),
         }
-        if window.left > 0 {
+        if window.wanted > 0 {
             return Ok(true);
         }
         before = before.checked_add(width).ok_or(Memory)?;
