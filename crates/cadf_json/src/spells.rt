@@ -14,7 +14,7 @@ use json::{Reader, Scratch, Token};
 use std::alloc::Global;
 use std::collections::BTreeSet;
 
-/// One pass looks for one number in so many bytes of the text. A name that it keeps takes up to 42.
+/// One pass looks for one number in so many bytes of the text. A name that it keeps takes up to 39.
 const BYTES_FOR_EACH: usize = 24;
 
 /// The numbers that aren't whole and that one pass looks for, of those that come next: the first `before` are passed
