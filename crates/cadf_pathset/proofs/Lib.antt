@@ -4,7 +4,7 @@ pub mod Arena
 pub mod Behind
 pub mod Bounds
 pub mod CarrierLists
-pub mod Children
+pub mod FirstSections
 pub mod Climbs
 pub mod Compared
 pub mod Copies

@@ -44,17 +44,20 @@ module _ (ts : List Texts) (d : ℕ) (numbers : List ℕ) (ls : List Texts) (vie
     left_there = subst (AllByRecursion (IsThere ts)) (sym (lists_are ∙ ap (drop low) front_is))
         (all_of_last (IsThere ts) (take high numbers) low (all_of_first (IsThere ts) numbers high there))
 
-    pub section_view : (t : Text) → AllByRecursion (λ l. is_before (t ∷ []) true l ≡ true) (take high ls)
-        → AllByRecursion (λ l. is_before (t ∷ []) true l ≡ false) (drop high ls)
-        → AllByRecursion (λ l. is_before (t ∷ []) false l ≡ true) (take low ls)
-        → AllByRecursion (λ l. is_before (t ∷ []) false l ≡ false) (drop low ls)
-        → map (rest_of ts further) lists ≡ tails_of t ls
-    section_view t upto over below from =
+    pub between_view : map (rest_of ts further) lists ≡ map (λ l. drop 1 l) (drop low (take high ls))
+    between_view =
         map_same (IsThere ts) (rest_of ts further) (λ r. drop 1 (rest_of ts d r)) lists deeper left_there
         ∙ map_twice (rest_of ts d) (λ l. drop 1 l) lists
         ∙ ap (map (λ l. drop 1 l)) (ap (map (rest_of ts d)) lists_are ∙ sym (drop-map (rest_of ts d) low front) ∙ ap (drop low) front_view)
-        ∙ sym (rests_between t (drop low (take high ls))
-        (last_of_front (λ l. is_before (t ∷ []) false l ≡ false) ls low high from)
-        (all_of_last (λ l. is_before (t ∷ []) true l ≡ true) (take high ls) low upto))
-        ∙ rests_from t (take high ls) low (first_of_front (λ l. is_before (t ∷ []) false l ≡ true) ls low high below)
-        ∙ rests_up_to t ls high over
+
+pub section_between : (t : Text) (ls : List Texts) (low high : ℕ) → AllByRecursion (λ l. is_before (t ∷ []) true l ≡ true) (take high ls)
+    → AllByRecursion (λ l. is_before (t ∷ []) true l ≡ false) (drop high ls)
+    → AllByRecursion (λ l. is_before (t ∷ []) false l ≡ true) (take low ls)
+    → AllByRecursion (λ l. is_before (t ∷ []) false l ≡ false) (drop low ls)
+    → map (λ l. drop 1 l) (drop low (take high ls)) ≡ tails_of t ls
+section_between t ls low high upto over below from =
+    sym (rests_between t (drop low (take high ls))
+    (last_of_front (λ l. is_before (t ∷ []) false l ≡ false) ls low high from)
+    (all_of_last (λ l. is_before (t ∷ []) true l ≡ true) (take high ls) low upto))
+    ∙ rests_from t (take high ls) low (first_of_front (λ l. is_before (t ∷ []) false l ≡ true) ls low high below)
+    ∙ rests_up_to t ls high over

@@ -70,8 +70,13 @@ impl PathSet {
     pub fn child_texts(&self, prefix: &[&str]) -> Result<Vec<String>, Memory>
         ensures { IfOk result (λ found. map string_bytes found.items ≡ set.rising (heads (suffixes_after self.now (texts_at prefix.now)))) }
     {
-        let children = self.suffix_set(prefix).children()?;
-        continued(self.alloc, &[], children.as_slice())
+        let mut texts = Vec::new(self.alloc);
+        let mut next = self.suffix_set(prefix).first_section();
+        while let Some(first) = next {
+            texts.push(String::from_str(self.alloc, first.text)?)?;
+            next = first.above.first_section();
+        }
+        Ok(texts)
     }
 
     /// Counts the texts directly after the prefix that two or more different texts follow. `u64::MAX` if there are
@@ -79,14 +84,13 @@ impl PathSet {
     pub fn multi_valued_count_at(&self, prefix: &[&str]) -> u64
         ensures { result ≡ saturated (length (multi_valued_keys (suffixes_after self.now (texts_at prefix.now)))) }
     {
-        let range = self.rows.suffixes(prefix);
         let mut count: u64 = 0;
-        let mut last = None;
-        while let Some(text) = range.next_child(last) {
-            if range.section(text).has_multiple() {
+        let mut next = self.suffix_set(prefix).first_section();
+        while let Some(first) = next {
+            if first.behind.has_multiple() {
                 count = count.saturating_add(1);
             }
-            last = Some(text);
+            next = first.above.first_section();
         }
         count
     }

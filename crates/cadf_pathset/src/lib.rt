@@ -27,4 +27,4 @@ pub use builder::PathSetBuilder;
 pub use cadf_join::{Join, Memory, Visitor, Walk};
 pub use carriers::Carrier;
 pub use path_set::PathSet;
-pub use suffix_set::SuffixSet;
+pub use suffix_set::{Section, SuffixSet};

@@ -76,7 +76,7 @@ impl<'a> SuffixRange<'a> {
 
     /// Returns the index, from `from` on, of the first suffix above those that begin with the text. Galloping search:
     /// fast if it is close to `from`.
-    fn gallop(&self, text: &str, from: usize) -> usize
+    pub fn gallop(&self, text: &str, from: usize) -> usize
         requires rising { IsStrictlySortedBy texts_cmp self.now }
         requires within { from ≤ length self.now }
         requires below { (k : ℕ) → k < from → is_before (text.now ∷ []) true (get_or self.now k []) ≡ true }
@@ -147,7 +147,7 @@ impl<'a> SuffixRange<'a> {
     }
 
     /// Returns the first text of the suffix at that index. `None` if the suffix is empty, or there is none.
-    fn text(&self, number: usize) -> Option<&'a str>
+    pub fn text(&self, number: usize) -> Option<&'a str>
         ensures { option_copied result ≡ first_text (get_or self.now number []) }
     {
         match self.numbers.get(number) {
@@ -162,9 +162,27 @@ impl<'a> SuffixRange<'a> {
         ensures { result ≡ tails_of text.now self.now }
     {
         let (low, high) = self.bounds(text);
+        self.between(low, high)
+    }
+
+    /// Returns the suffixes from index `low` to `high`, each without its first text.
+    pub fn between(&self, low: usize, high: usize) -> SuffixRange<'a>
+        requires order { low ≤ high }
+        requires within { high ≤ length self.now }
+        ensures { result ≡ map (λ l. drop 1 l) (drop low (take high self.now)) }
+    {
         let (front, _) = self.numbers.split_at(high);
         let (_, numbers) = front.split_at(low);
         SuffixRange::new(self.nodes, numbers, self.nodes.next_depth(self.depth))
+    }
+
+    /// Returns the suffixes from that index on.
+    pub fn above(&self, number: usize) -> SuffixRange<'a>
+        requires { number ≤ length self.now }
+        ensures { result ≡ drop number self.now }
+    {
+        let (_, numbers) = self.numbers.split_at(number);
+        SuffixRange::new(self.nodes, numbers, self.depth)
     }
 
     /// Returns the least first text above the given one. For `None`, the least of all. Binary search.
@@ -186,17 +204,6 @@ impl<'a> SuffixRange<'a> {
         match self.text(0) {
             Some(text) => Some(text),
             None => self.text(1),
-        }
-    }
-
-    /// Returns whether there are two or more different first texts.
-    pub fn has_multiple(&self) -> bool
-        requires { IsStrictlySortedBy texts_cmp self.now }
-        ensures { result ≡ nat_le 2 (length (set.rising (heads (set.from_list self.now)))) }
-    {
-        match self.next_child(None) {
-            Some(first) => self.next_child(Some(first)).is_some(),
-            None => false,
         }
     }
 
@@ -246,25 +253,6 @@ impl<'a> SuffixRange<'a> {
             Some(node) => text_at(self.nodes, *node, self.depth, place),
             None => "",
         }
-    }
-
-    /// Lists the first texts, each once, in order. Galloping search from each to the next.
-    pub fn children(&self, alloc: Global) -> Result<Vec<&'a str>, Memory>
-        requires { IsStrictlySortedBy texts_cmp self.now }
-        ensures { IfOk result (λ found. texts_at found.items ≡ set.rising (heads (set.from_list self.now))) }
-    {
-        let mut texts = Vec::new(alloc);
-        let mut number: usize = 0;
-        while number < self.count() {
-            match self.text(number) {
-                Some(text) => {
-                    texts.push(text)?;
-                    number = self.gallop(text, number + 1);
-                }
-                None => number += 1,
-            }
-        }
-        Ok(texts)
     }
 
     /// Copies the suffixes, in order.

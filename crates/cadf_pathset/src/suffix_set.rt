@@ -1,12 +1,14 @@
 //! The suffixes after a prefix in a set, borrowed from the set.
-ghost use Rattle.std.specs.Prelude.{◌≡◌, [], IfOk, length, get_or};
+ghost use Rattle.std.specs.Prelude.{◌≡◌, ◌≤◌, [], IfOk, Some, None, length, get_or, nat_le};
 ghost use Rattle.std.specs.List.Sorted.{IsStrictlySortedBy};
 ghost use Rattle.std.specs.Option.{option_copied, option_map};
 ghost use Rattle.cadf_join.specs.Contents.{next_after, suffixes_of, texts_cmp};
 ghost use Rattle.cadf_join.specs.Longest.{longest_of};
 ghost use Rattle.cadf_join.specs.Maps.{heads};
-ghost use Rattle.cadf_join.specs.Prefixes.{all_texts, texts_at};
+ghost use Rattle.cadf_join.specs.Prefixes.{all_texts};
 ghost use Rattle.cadf_join.specs.Sets as set;
+ghost use Rattle.cadf_pathset.specs.Lists.{first_text};
+ghost use Rattle.cadf_pathset.specs.Sections.{sections_from, sections_of};
 
 use crate::Memory;
 use crate::suffix_range::SuffixRange;
@@ -18,6 +20,14 @@ use std::marker::Model;
 pub struct SuffixSet<'a> {
     range: SuffixRange<'a>,
     alloc: Global,
+}
+
+/// The least first text of some suffixes, the suffixes that follow it, and those above all that begin with it.
+#[derive(Drop)]
+pub struct Section<'a> {
+    pub text: &'a str,
+    pub behind: SuffixSet<'a>,
+    pub above: SuffixSet<'a>,
 }
 
 impl<'a> Model for SuffixSet<'a> {
@@ -49,6 +59,44 @@ impl<'a> SuffixSet<'a> {
         ensures { result ≡ suffixes_of self.now text.now }
     {
         SuffixSet::new(self.alloc, self.range.section(text))
+    }
+
+    /// Returns the section of the least first text. `None` if there is no first text. Galloping search.
+    pub fn first_section(&self) -> Option<Section<'a>>
+        ensures { sections_from result ≡ sections_of self.now }
+    {
+        if let Some(text) = self.range.text(0) {
+            return Some(self.section_at(text, 0));
+        }
+        match self.range.text(1) {
+            Some(text) => Some(self.section_at(text, 1)),
+            None => None,
+        }
+    }
+
+    /// Returns the section of the text that begins the suffix at that index. A suffix before it is empty.
+    fn section_at(&self, text: &'a str, number: usize) -> Section<'a>
+        requires text { first_text (get_or (set.rising self.now) number []) ≡ Some text.now }
+        requires few { number ≤ 1 }
+        requires empty { number ≡ 1 → first_text (get_or (set.rising self.now) 0 []) ≡ None }
+        ensures { sections_from (Some result) ≡ sections_of self.now }
+    {
+        let high = self.range.gallop(text, number + 1);
+        Section {
+            text,
+            behind: SuffixSet::new(self.alloc, self.range.between(number, high)),
+            above: SuffixSet::new(self.alloc, self.range.above(high)),
+        }
+    }
+
+    /// Returns whether there are two or more different first texts.
+    pub fn has_multiple(&self) -> bool
+        ensures { result ≡ nat_le 2 (length (set.rising (heads self.now))) }
+    {
+        match self.first_section() {
+            Some(first) => first.above.first_section().is_some(),
+            None => false,
+        }
     }
 
     /// Returns the least first text above the given one. For `None`, the least of all. Binary search.
@@ -84,13 +132,6 @@ impl<'a> SuffixSet<'a> {
         ensures { option_map (λ n. get_or (set.rising self.now) n []) result ≡ longest_of (set.rising self.now) }
     {
         self.range.longest()
-    }
-
-    /// Lists the first texts, each once, in order. No text is copied.
-    pub fn children(&self) -> Result<Vec<&'a str>, Memory>
-        ensures { IfOk result (λ found. texts_at found.items ≡ set.rising (heads self.now)) }
-    {
-        self.range.children(self.alloc)
     }
 
     /// Copies the suffixes, in order.

@@ -1,6 +1,5 @@
 use Rattle.std.proofs.lemmas.Grind.{common_steps}
 use Rattle.std.proofs.Common.{arith}
-use Rattle.cadf_join.specs.Sets as set
 use Rattle.cadf_pathset.proofs.Behind.{next_is, text_at_bound}
 use Rattle.cadf_pathset.proofs.suffix_range.SuffixRange.next_child.Goals as goal
 

@@ -2,7 +2,6 @@ use Rattle.std.proofs.lemmas.Grind.{common_steps}
 use Rattle.std.proofs.Common.{sym, subst, arith}
 use Rattle.std.specs.List.Sorted.{IsStrictlySortedBy}
 use Rattle.cadf_join.specs.Contents.{texts_cmp}
-use Rattle.cadf_join.specs.Sets as set
 use Rattle.cadf_pathset.proofs.Behind.{rests_rise, section_of}
 use Rattle.cadf_pathset.proofs.suffix_set.SuffixSet.section.Goals as goal
 
