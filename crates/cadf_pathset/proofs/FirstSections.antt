@@ -1,8 +1,8 @@
 -- The sections of strictly ascending lists: that of the least first text, and those above it.
 --     children ls    the first texts of the lists, each once, in order
 use Rattle.std.proofs.lemmas.Grind.{common_steps}
-use Rattle.std.proofs.Common.{◌≡◌, ℕ, ◌+◌, suc, zero, true, false, List, [], ◌∷◌, Some, None, refl, sym, ap, ◌∙◌, subst, take, drop, get_or, map, length}
-use Rattle.std.proofs.Common.{arith, le-leb, ◌<◌, ◌≤◌, Option}
+use Rattle.std.proofs.Common.{◌≡◌, ℕ, ◌+◌, ◌<◌, ◌≤◌, suc, zero, true, false, List, [], ◌∷◌, Option, Some, None, refl, sym, ap, ◌∙◌, subst}
+use Rattle.std.proofs.Common.{take, drop, get_or, map, length, arith, le-leb}
 use Rattle.std.proofs.lemmas.List.{length-map}
 use Rattle.std.specs.Prelude.{is_some, nat_le}
 use mathlib.Core.Bool.{true≢false}
@@ -42,7 +42,8 @@ none_is_not_some : (t : Text) → None ≡ Some t → ⊥
 none_is_not_some t e = cc
 
 -- the first two lists have no first text, so none has
-no_first : (ls : List Texts) → IsStrictlySortedBy texts_cmp ls → first_text (get_or ls 0 []) ≡ None → first_text (get_or ls 1 []) ≡ None → firsts ls ≡ []
+no_first : (ls : List Texts) → IsStrictlySortedBy texts_cmp ls → first_text (get_or ls 0 []) ≡ None → first_text (get_or ls 1 []) ≡ None
+    → firsts ls ≡ []
 unfolding IsStrictlySortedBy
 no_first [] s first second = refl
 no_first ([] ∷ []) s first second = refl
@@ -223,14 +224,16 @@ module _ (t : Text) (s : Contents) (ls : List Texts) (rises : IsStrictlySortedBy
 pub sections-none : (ls : List Texts) → IsStrictlySortedBy texts_cmp ls → first_text (get_or ls 0 []) ≡ None → first_text (get_or ls 1 []) ≡ None
     → [] ≡ sections_of (set.from_list ls)
 sections-none ls s first second =
-    ap (map (λ k. (k, suffixes_of (set.from_list ls) k))) (sym (children_are ls s ∙ ap (λ ts. set.rising (set.from_list {R = text_cmp} ts)) (no_first ls s first second) ∙ children-nil))
+    ap (map (λ k. (k, suffixes_of (set.from_list ls) k)))
+    (sym (children_are ls s ∙ ap (λ ts. set.rising (set.from_list {R = text_cmp} ts)) (no_first ls s first second) ∙ children-nil))
 
 -- ---- the count of first texts
 
 counted : (s : Contents) (ps : List (Text × Contents)) → ps ≡ sections_of s → length ps ≡ length (set.rising (heads s))
 counted s ps is = ap length is ∙ length-map (set.rising (heads s)) (λ t. (t, suffixes_of s t))
 
-pub several : (s : Contents) (f : held.Section) (next : Option held.Section) → sections_from (Some f) ≡ sections_of s → sections_from next ≡ sections_of f.above
+pub several : (s : Contents) (f : held.Section) (next : Option held.Section) → sections_from (Some f) ≡ sections_of s
+    → sections_from next ≡ sections_of f.above
     → is_some next ≡ nat_le 2 (length (set.rising (heads s)))
 several s f None is rest = ap (nat_le 2) (counted s ((f.text.now, f.behind) ∷ []) (ap (λ ps. (f.text.now, f.behind) ∷ ps) rest ∙ is))
 several s f (Some g) is rest =

@@ -1,5 +1,5 @@
 //! Suffixes: a range of lists, each without its first texts.
-ghost use Rattle.std.specs.Prelude.{◌≡◌, ◌≤◌, ◌<◌, ℕ, [], ◌∷◌, IfOk, IfSome, None, true, false, length, take, drop, get_or, map, nat_le};
+ghost use Rattle.std.specs.Prelude.{◌≡◌, ◌≤◌, ◌<◌, ℕ, [], ◌∷◌, IfOk, IfSome, None, true, false, length, take, drop, get_or, map};
 ghost use Rattle.std.specs.List.{AllByRecursion, find};
 ghost use Rattle.std.specs.List.Sorted.{IsStrictlySortedBy};
 ghost use Rattle.std.specs.Option.{option_copied, option_map};
@@ -8,7 +8,7 @@ ghost use Rattle.std.specs.declared.cmp.Ordering.TheVariants.{Less};
 ghost use Rattle.cadf_join.specs.Contents.{is_after, next_after, tails_of, text_cmp, texts_cmp};
 ghost use Rattle.cadf_join.specs.Longest.{longer_than, longest_of};
 ghost use Rattle.cadf_join.specs.Maps.{firsts, heads};
-ghost use Rattle.cadf_join.specs.Prefixes.{all_texts, chain_texts, texts_at};
+ghost use Rattle.cadf_join.specs.Prefixes.{all_texts, chain_texts};
 ghost use Rattle.cadf_join.specs.Sets as set;
 ghost use Rattle.cadf_pathset.specs.Lists.{first_text, is_before, prefix_cmp};
 ghost use Rattle.cadf_pathset.specs.Nodes.{AreThere, rest_of};
