@@ -9,7 +9,7 @@ import json
 from tests.tables.seal_rows import closed, proof, seal
 from tests.tables.texts import B1, LIMIT, LIMITS, PIECES, digits, line, refused
 
-CALLS = {"read_proof": ["read_proof", "Proof::log", "Proof::count", "Proof::shown", "Proof::hidden"], "verified": ["verified", "FactLines::write"]}
+CALLS = {"read_proof": ["read_model", "Proof::log", "Proof::count", "Proof::shown", "Proof::hidden"], "verified": ["verified", "FactLines::write"]}
 
 PROOF = "Proof file"
 SHOWN = 'CADF-PROOF 1\nL "g"\n'

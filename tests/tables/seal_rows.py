@@ -10,10 +10,10 @@ from tests.tables.texts import C1, C2, CF, K1, KF, LIMIT, LIMITS, PIECES, SINKS,
 CALLS = {
     "seal": ["Seal::of", "Seal::log", "Seal::count", "Seal::root"],
     "root_of": ["root_of"],
-    "read_seal": ["read_seal"],
-    "write_seal": ["write_seal"],
+    "read_seal": ["read_model"],
+    "write_seal": ["write_model"],
     "proof": ["Proof::of", "Proof::log", "Proof::count", "Proof::shown", "Proof::hidden"],
-    "write_proof": ["write_proof"],
+    "write_proof": ["write_model"],
 }
 
 SEAL, PROOF, REFUSAL = "Seal file", "Proof file", "What is refused"

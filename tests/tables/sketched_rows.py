@@ -7,11 +7,11 @@ from tests.tables import sketch_rows as made
 from tests.tables.texts import C1, C2, CF, K1, KF, LIMIT, LIMITS, PIECES, SINKS, WHOLE, data, digits, refused
 
 CALLS = {
-    "read_sketch": ["read_sketch", "Sketch::log", "Sketch::layout", "Layout::cells", "Layout::salt", "Sketch::digest", "Sketch::tally",
+    "read_sketch": ["read_model", "Sketch::log", "Sketch::layout", "Layout::cells", "Layout::salt", "Sketch::digest", "Sketch::tally",
                     "Sketch::cells"],
-    "write_sketch": ["Cells::of", "Salt::of", "Sketch::of", "write_sketch"],
-    "read_by": ["read_sketch", "read"],
-    "missing_by_sketch": ["read_sketch", "missing_by_sketch"],
+    "write_sketch": ["Cells::of", "Salt::of", "Sketch::of", "write_model"],
+    "read_by": ["read_model", "read"],
+    "missing_by_sketch": ["read_model", "missing_by_sketch"],
 }
 
 SKETCH, READER, REFUSAL = "Sketch file", "What a sketch says to its reader", "What is refused"

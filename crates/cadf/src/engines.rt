@@ -6,9 +6,9 @@ use crate::stop::Stop;
 use cadf_arguments::{read_key, read_log, read_unit};
 use cadf_json::{FromStd, Sink};
 use cadf_tool::{
-    ToolFault, run_check_union, run_inventory_union, run_join, run_missing_by_sketch_union,
-    run_missing_by_union, run_missing_unions, run_prove, run_rehearse, run_rule_union,
-    run_seal_union, run_show_union, run_sketch_union, run_split, run_verify,
+    Engine, InventoryEngine, RuleEngine, SealEngine, ShowEngine, SketchEngine, ToolFault,
+    run_check_union, run_join, run_missing_by_sketch_union, run_missing_by_union,
+    run_missing_unions, run_prove, run_rehearse, run_split, run_union, run_verify,
 };
 use cadf_words::Request;
 use std::alloc::Global;
@@ -40,6 +40,17 @@ fn open_all<R: Files>(
         files.push(file)?;
     }
     Ok(files)
+}
+
+/// Runs the engine on the union of files.
+fn union<E: Engine, W: Sink>(
+    rt: &HostRuntime,
+    engine: &E,
+    paths: &[&str],
+    output: &mut W,
+) -> Result<(), Stop> {
+    let mut inputs = open_all(rt, rt.alloc(), 0, paths)?;
+    Ok(run_union(rt.alloc(), engine, inputs.as_mut_slice(), output)?)
 }
 
 /// Runs `join` on files.
@@ -94,12 +105,6 @@ fn missing_by<W: Sink>(
     Ok(run_missing_by_union(rt.alloc(), from.as_mut_slice(), &mut inventory, output)?)
 }
 
-/// Runs `inventory` on files.
-fn inventory<W: Sink>(rt: &HostRuntime, paths: &[&str], output: &mut W) -> Result<(), Stop> {
-    let mut inputs = open_all(rt, rt.alloc(), 0, paths)?;
-    Ok(run_inventory_union(rt.alloc(), inputs.as_mut_slice(), output)?)
-}
-
 /// Runs `sketch` on files. `options` are the number of cells and the salt, if they are given.
 fn sketch<W: Sink>(
     rt: &HostRuntime,
@@ -109,8 +114,7 @@ fn sketch<W: Sink>(
 ) -> Result<(), Stop> {
     let cells = cells_given(options[0])?;
     let salt = salt_given(options[1])?;
-    let mut inputs = open_all(rt, rt.alloc(), 0, paths)?;
-    Ok(run_sketch_union(rt.alloc(), cells, salt, inputs.as_mut_slice(), output)?)
+    union(rt, &SketchEngine { cells, salt }, paths, output)
 }
 
 /// Runs `missing-by-sketch` on files and a sketch file.
@@ -124,12 +128,6 @@ fn missing_by_sketch<W: Sink>(
     let mut from = open_all(rt, rt.alloc(), 0, from)?;
     let mut sketch = open(rt, sketch, number)?;
     Ok(run_missing_by_sketch_union(rt.alloc(), from.as_mut_slice(), &mut sketch, output)?)
-}
-
-/// Runs `seal` on files.
-fn seal<W: Sink>(rt: &HostRuntime, paths: &[&str], output: &mut W) -> Result<(), Stop> {
-    let mut inputs = open_all(rt, rt.alloc(), 0, paths)?;
-    Ok(run_seal_union(rt.alloc(), inputs.as_mut_slice(), output)?)
 }
 
 /// Runs `prove` on a file of facts and on files.
@@ -174,15 +172,8 @@ fn rule<W: Sink>(
     let letter = letter_given(ruling[0])?;
     let key = read_key(rt.alloc(), ruling[1])?;
     let place = place_given(ruling[2])?;
-    let mut inputs = open_all(rt, rt.alloc(), 0, paths)?;
-    Ok(run_rule_union(
-        rt.alloc(),
-        letter,
-        &key,
-        place,
-        inputs.as_mut_slice(),
-        output,
-    )?)
+    let key = &key;
+    union(rt, &RuleEngine { letter, key, place }, paths, output)
 }
 
 /// Runs `rehearse` on a script.
@@ -197,17 +188,6 @@ fn rehearse<W: Sink>(
     let sites = sites_given(sites)?;
     let mut script = open(rt, script, 1)?;
     Ok(run_rehearse(rt.alloc(), &log, sites, &mut script, output)?)
-}
-
-/// Runs `show` on files.
-fn show<W: Sink>(
-    rt: &HostRuntime,
-    conflicts: bool,
-    paths: &[&str],
-    output: &mut W,
-) -> Result<(), Stop> {
-    let mut inputs = open_all(rt, rt.alloc(), 0, paths)?;
-    Ok(run_show_union(rt.alloc(), conflicts, inputs.as_mut_slice(), output)?)
 }
 
 /// Runs `check` on files.
@@ -230,14 +210,14 @@ pub(crate) fn run_engine<W: Sink>(
         Request::MissingBy { from, inventory } => {
             missing_by(rt, from.as_slice(), inventory, output)
         }
-        Request::Inventory { files } => inventory(rt, files.as_slice(), output),
+        Request::Inventory { files } => union(rt, &InventoryEngine, files.as_slice(), output),
         Request::Sketch { cells, salt, files } => {
             sketch(rt, [*cells, *salt], files.as_slice(), output)
         }
         Request::MissingBySketch { from, sketch } => {
             missing_by_sketch(rt, from.as_slice(), sketch, output)
         }
-        Request::Seal { files } => seal(rt, files.as_slice(), output),
+        Request::Seal { files } => union(rt, &SealEngine, files.as_slice(), output),
         Request::Prove { facts, files } => prove(rt, facts, files.as_slice(), output),
         Request::Verify {
             absent,
@@ -252,7 +232,10 @@ pub(crate) fn run_engine<W: Sink>(
             files,
         } => rule(rt, [letter, key, place], files.as_slice(), output),
         Request::Rehearse { log, sites, script } => rehearse(rt, log, sites, script, output),
-        Request::Show { conflicts, files } => show(rt, *conflicts, files.as_slice(), output),
+        Request::Show { conflicts, files } => {
+            let conflicts = *conflicts;
+            union(rt, &ShowEngine { conflicts }, files.as_slice(), output)
+        }
         Request::Check { files } => check(rt, files.as_slice(), output),
     }
 }

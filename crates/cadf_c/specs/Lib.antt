@@ -1,3 +1,2 @@
-pub mod Inputs
 pub mod Arguments
 pub mod Statuses

@@ -4,18 +4,16 @@
 ghost use Rattle.std.specs.Prelude.{◌≡◌, pos, Some, None, encode_utf8};
 ghost use Rattle.cadf_inventory.specs.InventoryFile.{inventory_file};
 ghost use Rattle.cadf_tool.specs.Run.{input_spec};
-ghost use Rattle.cadf_tool.specs.InventoryInput.{inventory_spec};
+ghost use Rattle.cadf_tool.specs.ModelInput.{inventory_spec, sketch_spec, seal_spec, proof_spec};
 ghost use Rattle.cadf_tool.specs.Told.{replica_model_of};
 ghost use Rattle.cadf_tool.specs.Shown.{shown_text, checked_text};
 ghost use Rattle.cadf_tool.specs.Missing.{delta_between};
 ghost use Rattle.cadf_tool.specs.MissingBy.{inventory_model_of, part_by};
 ghost use Rattle.cadf_sketch.specs.SketchFile.{sketch_file};
 ghost use Rattle.cadf_tool.specs.Sketch.{sketch_model_of, IsPartBySketch};
-ghost use Rattle.cadf_tool.specs.SketchInput.{sketch_spec};
 ghost use Rattle.cadf_seal.specs.SealFile.{seal_file};
 ghost use Rattle.cadf_seal.specs.ProofFile.{proof_file};
 ghost use Rattle.cadf_tool.specs.Seal.{seal_model_of};
-ghost use Rattle.cadf_tool.specs.SealInput.{seal_spec, proof_spec};
 ghost use Rattle.cadf_tool.specs.Prove.{proof_of_union};
 ghost use Rattle.cadf_tool.specs.Verify.{verdict_of};
 ghost use Rattle.cadf_tool.specs.Rule.{ruled_of};
@@ -26,24 +24,22 @@ ghost use Rattle.cadf_tool.specs.WrittenFile.{written_file};
 ghost use Rattle.cadf_split.specs.declared.unit.Unit.{Unit};
 ghost use Rattle.cadf_split.specs.Split.{split_text};
 ghost use Rattle.cadf_arguments.specs.Arguments.{unit_named};
+ghost use Rattle.cadf_memory.specs.Memory.{bytes_in};
 ghost use Rattle.cadf_memory.specs.Handed.{IsHandedOut};
 ghost use Rattle.cadf_memory.specs.Made.{IsMadeOf, IsMadeOfTwo, IsMadeOfTwoBy, IsMadeOfThree, IsMadeOfAll, IsMadeOfOneAndAll};
 ghost use Rattle.cadf_memory.specs.Refused.{IsFirstOf, IsFirstOfTwo, IsFirstOfTwoBy, IsFirstOfThree, IsFirstOfAll, IsFirstOfOneAndAll};
 ghost use Rattle.cadf_c.specs.Statuses.{IsRefused, IsTold};
 ghost use Rattle.cadf_c.specs.Arguments.{log_given, number_given, log_refused, split_refused, ruling_refused, rehearsal_refused, sketch_refused};
-ghost use Rattle.cadf_c.specs.Inputs.{bytes_in};
 
 mod arguments;
-mod inputs;
 mod output;
 
 use crate::arguments::{log_if_any, rehearsal_given, ruling_given, sketch_given, split_given};
-pub use crate::inputs::CadfBytes;
-use crate::inputs::{join_inputs, prove_inputs, split_inputs};
 use crate::output::{answer, refuse};
+pub use cadf_memory::CadfBytes;
 use cadf_memory::{
-    check, inventory, missing, missing_by, missing_by_sketch, rehearse, rule, seal, show, sketch,
-    verify,
+    InventoryEngine, RuleEngine, SealEngine, ShowEngine, SketchEngine, check, join, missing,
+    missing_by, missing_by_sketch, over_one, prove, rehearse, split, verify,
 };
 use std::alloc::Global;
 
@@ -76,7 +72,7 @@ pub extern "C" fn cadf_show(
     ensures refused { result ≡ pos 1 → IsRefused (IsFirstOf input_spec replica_model_of input.now.bytes.now) }
     ensures told { IsTold None result output.old output.new length.new }
 {
-    let made = show(alloc, conflicts, input.bytes, output);
+    let made = over_one(alloc, &ShowEngine { conflicts }, input.bytes, output);
     answer(made, output, length)
 }
 
@@ -114,7 +110,7 @@ pub extern "C" fn cadf_inventory(
     ensures refused { result ≡ pos 1 → IsRefused (IsFirstOf input_spec inventory_model_of input.now.bytes.now) }
     ensures told { IsTold None result output.old output.new length.new }
 {
-    let made = inventory(alloc, input.bytes, output);
+    let made = over_one(alloc, &InventoryEngine, input.bytes, output);
     answer(made, output, length)
 }
 
@@ -133,7 +129,7 @@ pub extern "C" fn cadf_seal(
     ensures refused { result ≡ pos 1 → IsRefused (IsFirstOf input_spec seal_model_of input.now.bytes.now) }
     ensures told { IsTold None result output.old output.new length.new }
 {
-    let made = seal(alloc, input.bytes, output);
+    let made = over_one(alloc, &SealEngine, input.bytes, output);
     answer(made, output, length)
 }
 
@@ -153,7 +149,7 @@ pub extern "C" fn cadf_prove(
     ensures refused { result ≡ pos 1 → IsRefused (IsFirstOfOneAndAll input_spec proof_of_union facts.now.bytes.now (bytes_in inputs.now)) }
     ensures told { IsTold None result output.old output.new length.new }
 {
-    let made = prove_inputs(alloc, facts.bytes, inputs, output);
+    let made = prove(alloc, facts.bytes, inputs, output);
     answer(made, output, length)
 }
 
@@ -242,7 +238,13 @@ pub extern "C" fn cadf_rule(
 {
     match ruling_given(alloc, letter, key.bytes, place) {
         Ok((letter, key, place)) => {
-            let made = rule(alloc, letter, &key, place, input.bytes, output);
+            let key = &key;
+            let made = over_one(
+                alloc,
+                &RuleEngine { letter, key, place },
+                input.bytes,
+                output,
+            );
             answer(made, output, length)
         }
         Err(fault) => refuse(fault, output, length),
@@ -294,7 +296,7 @@ pub extern "C" fn cadf_sketch(
 {
     match sketch_given(cells, salt) {
         Ok((cells, salt)) => {
-            let made = sketch(alloc, cells, salt, input.bytes, output);
+            let made = over_one(alloc, &SketchEngine { cells, salt }, input.bytes, output);
             answer(made, output, length)
         }
         Err(fault) => refuse(fault, output, length),
@@ -340,7 +342,7 @@ pub extern "C" fn cadf_join(
 {
     match log_if_any(alloc, log.bytes) {
         Ok(log) => {
-            let made = join_inputs(alloc, log, inputs, output);
+            let made = join(alloc, log, inputs, output);
             answer(made, output, length)
         }
         Err(fault) => refuse(fault, output, length),
@@ -366,7 +368,7 @@ pub extern "C" fn cadf_split(
 {
     match split_given(alloc, by.bytes, log.bytes) {
         Ok((unit, log)) => {
-            let made = split_inputs(alloc, unit, log, inputs, output);
+            let made = split(alloc, unit, log, inputs, output);
             answer(made, output, length)
         }
         Err(fault) => refuse(fault, output, length),

@@ -177,54 +177,61 @@ module _ {M : Type 0} {k : ModelKind M} {Is : M → Type 0} {log : M → Text} {
       ∙ ap (λ c. c.lines) (cut-lines (with_digest_line (k.body n)) (is.unbroken n q)) in
       sym (is.again m p) ∙ ap k.model_in lines ∙ is.again n q
 
-  -- ---- what was read
+-- ---- what was read
 
+module _ {M : Type 0} (k : ModelKind M) where
   accepted_whole : (limit : ℕ) (failed : Bool) (bytes : List ℕ) (lines : List (List ℕ))
       → frame.verdict (grammar_of k) limit failed bytes ≡ Ok (with_digest_line lines) → k.is_whole (drop 2 lines) ≡ true
   accepted_whole limit true bytes lines v = absurd (unread (grammar_of k) limit bytes (with_digest_line lines) v)
   accepted_whole limit false bytes lines v =
-      let a = accepted limit bytes (with_digest_line lines) v in
-      let same : lines ≡ k.body a.model = last_apart lines (k.body a.model) (digest_line lines) (digest_line (k.body a.model)) a.lines_are in
-      ap (λ ls. k.is_whole (drop 2 ls)) (same ∙ sym (is.lines a.model)) ∙ whole_after k [] (plains a.model) (is.follow a.model a.is_model)
+      let f = (file_is_items (grammar_of k) k.header (λ (x : Plain). x.0) Told (Follows k) (Ends k) (kind k) limit bytes (with_digest_line lines) v).2 in
+      let before = k.header ∷ log_line f.0 ∷ lines_of f.1 in
+      let same : lines ≡ before = last_apart lines before (digest_line lines) (digest_line before) f.2 in
+      ap (λ ls. k.is_whole (drop 2 ls)) same ∙ whole_after k [] f.1 f.4
 
-  module _ {B : Type 0} (lines : B → List (List ℕ)) where
-    pub are_whole : (r : Result B FileFault) (limit : ℕ) (failed : Bool) (bytes : List ℕ)
-        → frame_answers.Answers lines r (frame.verdict (grammar_of k) limit failed bytes) → AreWhole k lines r
-    are_whole (Ok body) limit failed bytes v = accepted_whole limit failed bytes (lines body) v
-    are_whole (Err e) limit failed bytes v = tt
+  pub are_whole : {B : Type 0} (lines : B → List (List ℕ)) (r : Result B FileFault) (limit : ℕ) (failed : Bool) (bytes : List ℕ)
+      → frame_answers.Answers lines r (frame.verdict (grammar_of k) limit failed bytes) → AreWhole k lines r
+  are_whole lines (Ok held) limit failed bytes v = accepted_whole limit failed bytes (lines held) v
+  are_whole lines (Err e) limit failed bytes v = tt
 
-    pub answered : (r : Result B FileFault) (s : Result M FileFault) (v : Result (List (List ℕ)) FileFault)
-        → IsModelOfRead k lines Is r s → frame_answers.Answers lines r v → AnswersModel s (model_or_fault k v)
-    answered (Ok body) (Ok m) v h e = ap (model_or_fault k) (e ∙ ap (λ ls. Ok (with_digest_line ls)) h.0) ∙ ap Ok (is.again m h.1)
-    answered (Ok body) (Err f) v h e = absurd h
-    answered (Err f) (Ok m) v h e = absurd h
-    answered (Err f) (Err g) v h e =
-        subst (λ x. frame_answers.UnlessMemory (λ y. model_or_fault k v ≡ Err y) x) (sym h)
-        (unless_map (λ x. v ≡ Err x) (λ x. model_or_fault k v ≡ Err x) (λ x q. ap (model_or_fault k) q) f e)
+module _ {M : Type 0} (k : ModelKind M) {Is : M → Type 0} (accepts : AcceptsModels k Is) {B : Type 0} (lines : B → List (List ℕ)) where
+  pub answered : (r : Result B FileFault) (s : Result M FileFault) (limit : ℕ) (failed : Bool) (bytes : List ℕ)
+      → IsModelOfRead k lines Is r s → frame_answers.Answers lines r (frame.verdict (grammar_of k) limit failed bytes)
+      → AnswersModel s (verdict_of k limit failed bytes)
+  answered (Ok held) (Ok m) limit true bytes h e = absurd (unread (grammar_of k) limit bytes (with_digest_line (lines held)) e)
+  answered (Ok held) (Ok m) limit false bytes h e =
+      let p = file_is_items (grammar_of k) k.header (λ (x : Plain). x.0) Told (Follows k) (Ends k) (kind k) limit bytes (with_digest_line (lines held)) e in
+      (accepts limit bytes m).1 (p.0 ∙ ap (λ ls. text_of_lines (with_digest_line ls)) h.0, p.1, h.1)
+  answered (Ok held) (Err f) limit failed bytes h e = absurd h
+  answered (Err f) (Ok m) limit failed bytes h e = absurd h
+  answered (Err f) (Err g) limit failed bytes h e =
+      let v = frame.verdict (grammar_of k) limit failed bytes in
+      subst (λ x. frame_answers.UnlessMemory (λ y. model_or_fault k v ≡ Err y) x) (sym h)
+      (unless_map (λ x. v ≡ Err x) (λ x. model_or_fault k v ≡ Err x) (λ x q. ap (model_or_fault k) q) f e)
 
-    same_fault : (r : Result B FileFault) (s : Result M FileFault) (f : FileFault) → IsModelOfRead k lines Is r s → r ≡ Err f → s ≡ Err f
-    same_fault (Ok body) s f h e = absurd (cc)
-    same_fault (Err g) (Ok m) f h e = absurd h
-    same_fault (Err g) (Err x) f h e = let q : g ≡ f = cc in ap Err (h ∙ q)
+  same_fault : (r : Result B FileFault) (s : Result M FileFault) (f : FileFault) → IsModelOfRead k lines Is r s → r ≡ Err f → s ≡ Err f
+  same_fault (Ok held) s f h e = absurd (cc)
+  same_fault (Err g) (Ok m) f h e = absurd h
+  same_fault (Err g) (Err x) f h e = let q : g ≡ f = cc in ap Err (h ∙ q)
 
-    pub reads : (r : Result B FileFault) (s : Result M FileFault) → IsModelOfRead k lines Is r s
-        → (limit : ℕ) (old new : Option (List ℕ)) (before after : ℕ)
-        → frame_reads.ReadsFile (grammar_of k) lines limit [] old new before after r → ReadsModel k limit old new before after s
-    reads r s h limit old new before after x = record {
-      failed = x.failed;
-      bytes = x.bytes;
-      failures = x.failures;
-      consumed = x.consumed;
-      verdict = answered r s _ h x.verdict;
-      failure = λ f. elim (x.failure f) [
-        | inl e ↦ inl (same_fault r s _ h e)
-        | inr e ↦ inr (same_fault r s _ h e)
-      ];
-      end = λ f d. elim (x.end f d) [
-        | inl e ↦ inl (same_fault r s _ h e)
-        | inr e ↦ inr e
-      ];
-    }
+  pub reads : (r : Result B FileFault) (s : Result M FileFault) → IsModelOfRead k lines Is r s
+      → (limit : ℕ) (old new : Option (List ℕ)) (before after : ℕ)
+      → frame_reads.ReadsFile (grammar_of k) lines limit [] old new before after r → ReadsModel k limit old new before after s
+  reads r s h limit old new before after x = record {
+    failed = x.failed;
+    bytes = x.bytes;
+    failures = x.failures;
+    consumed = x.consumed;
+    verdict = answered r s limit x.failed x.bytes h x.verdict;
+    failure = λ f. elim (x.failure f) [
+      | inl e ↦ inl (same_fault r s _ h e)
+      | inr e ↦ inr (same_fault r s _ h e)
+    ];
+    end = λ f d. elim (x.end f d) [
+      | inl e ↦ inl (same_fault r s _ h e)
+      | inr e ↦ inr e
+    ];
+  }
 
 -- the name of a log, as text
 pub name_is : (log : Text) → IsNameText log → is_name_text log ≡ true

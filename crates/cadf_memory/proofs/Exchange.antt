@@ -10,8 +10,7 @@ use Rattle.cadf_tool.specs.declared.fault.ToolFault.{ToolFault}
 use Rattle.cadf_tool.specs.Told.{log_named, atoms_loaded, replica_model_of}
 use Rattle.cadf_tool.specs.Inputs.{SourceState}
 use Rattle.cadf_tool.specs.Run.{input_spec, AreLoaded}
-use Rattle.cadf_tool.specs.InventoryInput.{inventory_spec}
-use Rattle.cadf_tool.specs.SketchInput.{sketch_spec}
+use Rattle.cadf_tool.specs.ModelInput.{inventory_spec, sketch_spec}
 use Rattle.cadf_tool.specs.Sketch.{AreAsked, sketch_model_of, IsPartBySketch}
 use Rattle.cadf_tool.specs.Join.{join_of}
 use Rattle.cadf_tool.specs.Missing.{delta_between}

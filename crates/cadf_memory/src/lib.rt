@@ -9,9 +9,11 @@ mod output;
 mod slice_source;
 
 pub use crate::engines::{
-    check, inventory, join, missing, missing_by, missing_by_sketch, prove, rehearse, rule, seal,
-    show, sketch, split, verify,
+    CadfBytes, check, join, missing, missing_by, missing_by_sketch, over_one, prove, rehearse,
+    split, verify,
 };
 pub use cadf_event::Name;
 pub use cadf_sketch::{Cells, Salt};
-pub use cadf_tool::{ToolFault, Unit, status};
+pub use cadf_tool::{
+    InventoryEngine, RuleEngine, SealEngine, ShowEngine, SketchEngine, ToolFault, Unit, status,
+};

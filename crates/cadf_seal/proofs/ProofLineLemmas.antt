@@ -28,10 +28,11 @@ use Rattle.cadf_sketch.proofs.SketchFileLemmas.{decimal_unbroken, there, shape_n
 use Rattle.cadf_seal.specs.SealFile.{count_line}
 use Rattle.cadf_seal.specs.SealVerdict.{sealed_count}
 use Rattle.cadf_seal.specs.ProofFile.{ProofModel, proof_header, shown_line, hidden_line, proof_lines, proof_body, AreRising, IsLeafOf, HasProofParts, IsProof, ProofFileIsInjective}
-use Rattle.cadf_seal.specs.ProofVerdict.{leaf_of, leaf_in_words, shown_in, hidden_in, is_next, cause_of_line, cause_after, proof_model_in, proof_kind, AcceptsProofs}
+use Rattle.cadf_seal.specs.ProofVerdict.{leaf_of, leaf_in_words, shown_in, hidden_in, is_next, cause_of_line, cause_after, proof_model_in, proof_kind}
 use Rattle.cadf_seal.specs.ProofLines.{proof_values, with_shown, with_hidden, IsPut}
 use Rattle.cadf_seal.specs.declared.leaf.Leaf.{Leaf}
 use Rattle.cadf_seal.proofs.SealLemmas.{count-again, count-only}
+use Rattle.cadf_linefile.specs.ModelKind.{AcceptsModels}
 use Rattle.cadf_linefile.proofs.ModelLemmas.{Plain, lines_of, Follows, Ends, IsModelKind, accepts-models, models-tell, name_is}
 
 -- ---- one line
@@ -310,7 +311,7 @@ proof_is_kind = record {
   found = proof_found;
 }
 
-pub accepts-proofs : AcceptsProofs
+pub accepts-proofs : AcceptsModels proof_kind IsProof
 accepts-proofs = accepts-models proof_is_kind
 
 pub proof-file-tells : ProofFileIsInjective

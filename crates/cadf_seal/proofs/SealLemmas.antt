@@ -19,7 +19,8 @@ use Rattle.cadf_sketch.proofs.NumberLemmas.{number-again, number-only}
 use Rattle.cadf_sketch.proofs.LineLemmas.{chosen, begins_with}
 use Rattle.cadf_sketch.proofs.SketchFileLemmas.{decimal_unbroken, there, shape_none}
 use Rattle.cadf_seal.specs.SealFile.{SealModel, seal_header, count_line, root_line, seal_body, HasParts, IsSeal, SealFileIsInjective}
-use Rattle.cadf_seal.specs.SealVerdict.{sealed_count, root_in, cause_after, seal_kind, seal_model_in, AcceptsSeals}
+use Rattle.cadf_seal.specs.SealVerdict.{sealed_count, root_in, cause_after, seal_kind, seal_model_in}
+use Rattle.cadf_linefile.specs.ModelKind.{AcceptsModels}
 use Rattle.cadf_linefile.proofs.ModelLemmas.{Plain, lines_of, Follows, Ends, IsModelKind, accepts-models, models-tell, name_is}
 
 -- ---- one line
@@ -87,7 +88,7 @@ seal_is_kind = record {
   found = seal_found;
 }
 
-pub accepts-seals : AcceptsSeals
+pub accepts-seals : AcceptsModels seal_kind IsSeal
 accepts-seals = accepts-models seal_is_kind
 
 pub seal-file-tells : SealFileIsInjective

@@ -2,11 +2,9 @@ pub mod Facts
 pub mod Neighbours
 pub mod ProofFile
 pub mod ProofLines
-pub mod ProofReads
 pub mod ProofVerdict
 pub mod SealFile
 pub mod SealLines
-pub mod SealReads
 pub mod SealVerdict
 pub mod Shown
 pub mod Tree

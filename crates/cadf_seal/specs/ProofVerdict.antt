@@ -16,9 +16,9 @@ use Rattle.cadf_linefile.specs.LineGrammar.{LineGrammar}
 use Rattle.cadf_linefile.specs.Verdict.{log_in_line}
 use Rattle.cadf_inventory.specs.InventoryVerdict.{digest_of}
 use Rattle.cadf_sketch.specs.SketchVerdict.{number_in, first_word, words_after, shape_unless}
-use Rattle.cadf_linefile.specs.ModelKind.{ModelKind, grammar_of, verdict_of, AcceptsModels}
+use Rattle.cadf_linefile.specs.ModelKind.{ModelKind, grammar_of, verdict_of}
 use Rattle.cadf_seal.specs.SealVerdict.{sealed_count}
-use Rattle.cadf_seal.specs.ProofFile.{ProofModel, IsProof, proof_header, proof_body}
+use Rattle.cadf_seal.specs.ProofFile.{ProofModel, proof_header, proof_body}
 use Rattle.cadf_seal.specs.declared.leaf.Leaf.{Leaf}
 
 -- ---- lines
@@ -87,7 +87,3 @@ proof_grammar = grammar_of proof_kind
 
 abbrev pub proof_verdict : ℕ → Bool → List ℕ → Result ProofModel FileFault
 proof_verdict = verdict_of proof_kind
-
--- bytes are accepted if and only if they are the file of a proof, within the limit
-abbrev pub AcceptsProofs : Type 0
-AcceptsProofs = AcceptsModels proof_kind IsProof

@@ -1,15 +1,11 @@
 -- The lines of a seal's file that have been read so far, and the values decoded from them.
 --     told_lines told          the lines after the log line that have these values
---     lines_so_far l           all lines so far
 --     AreTold told             the invariant of the values so far
 --     IsMore told l more       the line l is allowed next, and `more` has its value too
-use Rattle.std.specs.Prelude.{◌≡◌, ◌<◌, ◌^◌, ℕ, List, [], ◌∷◌, ◌++◌, true, None}
-use Rattle.cadf_event.specs.LogName.{is_name_text}
+use Rattle.std.specs.Prelude.{◌≡◌, ◌<◌, ◌^◌, ℕ, List, [], ◌∷◌, ◌++◌, None}
 use Rattle.cadf_line.specs.Digest.{IsDigest}
-use Rattle.cadf_linefile.specs.Verdict.{log_line}
-use Rattle.cadf_seal.specs.SealFile.{seal_header, count_line, root_line}
+use Rattle.cadf_seal.specs.SealFile.{count_line, root_line}
 use Rattle.cadf_seal.specs.SealVerdict.{cause_after}
-use Rattle.cadf_seal.specs.declared.seal_lines.SealLines.{SealLines}
 use Rattle.cadf_seal.specs.declared.seal_lines.Told.{Told}
 use Rattle.cadf_seal.specs.declared.seal_lines.Told.TheVariants.{Nothing, Count, Whole}
 
@@ -17,9 +13,6 @@ abbrev pub told_lines : Told → List (List ℕ)
 told_lines Nothing = []
 told_lines (Count count) = count_line count ∷ []
 told_lines (Whole count root) = count_line count ∷ root_line root ∷ []
-
-abbrev pub lines_so_far : SealLines → List (List ℕ)
-lines_so_far l = seal_header ∷ log_line l.log ∷ told_lines l.told
 
 abbrev pub AreTold : Told → Type 0
 AreTold Nothing = Unit {0}
@@ -29,6 +22,3 @@ AreTold (Whole count root) = (count < 2 ^ 64) × IsDigest root
 -- the line is allowed after those so far, and `more` are the values with that of the line
 abbrev pub IsMore : Told → List ℕ → Told → Type 0
 IsMore told line more = (cause_after (told_lines told) line ≡ None) × (told_lines more ≡ told_lines told ++ line ∷ []) × AreTold more
-
-abbrev pub AreSoFar : SealLines → Type 0
-AreSoFar l = (is_name_text l.log ≡ true) × AreTold l.told

@@ -13,8 +13,8 @@ use Rattle.cadf_linefile.specs.LineGrammar.{LineGrammar}
 use Rattle.cadf_linefile.specs.Verdict.{log_in_line}
 use Rattle.cadf_inventory.specs.InventoryVerdict.{digest_of}
 use Rattle.cadf_sketch.specs.SketchVerdict.{number_in, shape_unless}
-use Rattle.cadf_linefile.specs.ModelKind.{ModelKind, grammar_of, verdict_of, AcceptsModels}
-use Rattle.cadf_seal.specs.SealFile.{SealModel, IsSeal, seal_header, seal_body}
+use Rattle.cadf_linefile.specs.ModelKind.{ModelKind, grammar_of, verdict_of}
+use Rattle.cadf_seal.specs.SealFile.{SealModel, seal_header, seal_body}
 
 abbrev pub sealed_count : List ℕ → Option ℕ
 sealed_count line = if starts_with nat_eq line (codes "N ") then number_in (drop 2 line) else None
@@ -50,7 +50,3 @@ seal_grammar = grammar_of seal_kind
 
 abbrev pub seal_verdict : ℕ → Bool → List ℕ → Result SealModel FileFault
 seal_verdict = verdict_of seal_kind
-
--- bytes are accepted if and only if they are the file of a seal, within the limit
-abbrev pub AcceptsSeals : Type 0
-AcceptsSeals = AcceptsModels seal_kind IsSeal

@@ -4,9 +4,9 @@ ghost use Rattle.cadf_join.specs.Sets.{rising};
 ghost use Rattle.cadf_set.specs.Inventory.{InventoryModel};
 ghost use Rattle.cadf_seal.specs.Neighbours.{FactHasPlace, FactNeeds, FactsNeed};
 ghost use Rattle.cadf_seal.specs.ProofFile.{IsProof, ProofFileIsInjective, proof_file};
-ghost use Rattle.cadf_seal.specs.ProofVerdict.{AcceptsProofs, proof_verdict};
+ghost use Rattle.cadf_seal.specs.ProofVerdict.{proof_verdict};
 ghost use Rattle.cadf_seal.specs.SealFile.{IsSeal, SealFileIsInjective, seal_file, seal_of};
-ghost use Rattle.cadf_seal.specs.SealVerdict.{AcceptsSeals, seal_verdict};
+ghost use Rattle.cadf_seal.specs.SealVerdict.{seal_verdict};
 ghost use Rattle.cadf_seal.specs.Tree.{IsMerkleTree, RootDetermines, TextsDoNotCollide, hashed};
 ghost use Rattle.cadf_seal.specs.Verified.{TellsAll, ShowsLeaves, TellsTruth, FactsAreSo};
 
@@ -40,11 +40,6 @@ pub fn seal_file_is_injective()
     ensures { SealFileIsInjective }
 {}
 
-/// States that bytes are accepted if and only if they are the file of a seal, within the limit.
-pub fn accepted_bytes_are_seals()
-    ensures { AcceptsSeals }
-{}
-
 /// States that the file of a seal is accepted if it is within the limit, and is read as that seal.
 pub fn seal_is_read_back(seal: &Seal)
     ensures seal { IsSeal seal.now }
@@ -56,11 +51,6 @@ pub fn seal_is_read_back(seal: &Seal)
 /// States that a proof's file is injective: proofs with equal files are equal.
 pub fn proof_file_is_injective()
     ensures { ProofFileIsInjective }
-{}
-
-/// States that bytes are accepted if and only if they are the file of a proof, within the limit.
-pub fn accepted_bytes_are_proofs()
-    ensures { AcceptsProofs }
 {}
 
 /// States that the file of a proof is accepted if it is within the limit, and is read as that proof.

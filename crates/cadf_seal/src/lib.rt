@@ -6,12 +6,9 @@ mod laws;
 mod leaf;
 mod proof;
 mod proof_lines;
-mod proof_read;
-mod proof_write;
 mod rebuilt;
 mod seal;
 mod seal_lines;
-mod seal_read;
 mod seal_write;
 mod shown_leaves;
 mod telling;
@@ -19,18 +16,13 @@ mod tree;
 mod verify;
 
 pub use laws::{
-    accepted_bytes_are_proofs, accepted_bytes_are_seals, accepted_proof_is_true,
-    made_proof_is_accepted, proof_file_is_injective, proof_is_read_back,
+    accepted_proof_is_true, made_proof_is_accepted, proof_file_is_injective, proof_is_read_back,
     proof_shows_facts_or_neighbours, root_is_of_a_merkle_tree, seal_determines_inventory,
     seal_file_is_injective, seal_is_read_back,
 };
 pub use leaf::Leaf;
 pub use proof::Proof;
-pub use proof_read::read_proof;
-pub use proof_write::write_proof;
 pub use seal::Seal;
-pub use seal_read::read_seal;
-pub use seal_write::write_seal;
 pub use telling::FactLines;
 pub use tree::root_of;
 pub use verify::{VerifyFault, verified};

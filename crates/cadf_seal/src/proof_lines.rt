@@ -1,37 +1,29 @@
-//! The lines of a proof's file up to its digest line.
+//! The file of a proof.
 
-ghost use Rattle.std.specs.Prelude.{◌≡◌, IfErr, OnOk, true};
+ghost use Rattle.std.specs.Prelude.{◌≡◌, IfOk, IfErr, OnOk, None, refl};
 ghost use Rattle.std.specs.List.{last_or};
 ghost use Rattle.cadf_linefile.specs.Answers.{CauseIs};
-ghost use Rattle.cadf_linefile.specs.ModelReads.{IsModelOfLines};
-ghost use Rattle.cadf_seal.specs.ProofFile.{proof_header, IsProof};
-ghost use Rattle.cadf_seal.specs.ProofVerdict.{proof_grammar, proof_kind, has_count, cause_after, cause_of_line, cause_of_leaf, is_next, leaf_in_words, shown_in, hidden_in};
-ghost use Rattle.cadf_seal.specs.ProofLines.{told_lines, lines_so_far, AreTold, AreSoFar, IsMore, IsPut};
+ghost use Rattle.cadf_seal.specs.ProofFile.{proof_lines, shown_line, IsProof};
+ghost use Rattle.cadf_seal.specs.ProofVerdict.{proof_kind, cause_of_line, cause_of_leaf, is_next, leaf_in_words, shown_in, hidden_in};
+ghost use Rattle.cadf_seal.specs.ProofLines.{told_lines, AreTold, IsPut};
 
 use crate::leaf::Leaf;
 use crate::proof::Proof;
 use crate::seal_lines::count_in;
+use crate::seal_write::{count_line, digest_line};
 use cadf_event::Name;
 use cadf_inventory::digest_of;
-use cadf_linefile::{Cause, LineDecoder, LineFault};
+use cadf_json::Memory;
+use cadf_linefile::{Cause, LineFault, ModelFile};
 use cadf_sketch::number_in;
 use memchr::memchr;
 use std::alloc::Global;
 
-const HEADER: &[u8; 12] = b"CADF-PROOF 1";
-
 /// The values decoded from the lines after the log line, so far.
 #[derive(Drop)]
-pub(crate) enum Told {
+pub enum Told {
     Nothing,
     Values(u64, Vec<Leaf>, Vec<[u8; 32]>),
-}
-
-/// The values decoded from the lines so far.
-#[derive(Drop)]
-pub struct ProofLines {
-    log: Name,
-    told: Told,
 }
 
 /// Decodes a place and a digest. `None` for any other words.
@@ -72,26 +64,8 @@ fn hidden_in(line: &[u8]) -> Option<[u8; 32]>
     }
 }
 
-/// Decodes the next line after the log line. After an `Err` the values are of no use.
-fn put_more(alloc: Global, told: &mut Told, line: &[u8]) -> Result<(), LineFault>
-    requires { AreTold told.old }
-    ensures ok { OnOk result (IsMore told.old line.now told.new) }
-    ensures err { IfErr result (λ e. CauseIs e (cause_after (told_lines told.old) line.now)) }
-{
-    match told {
-        Told::Nothing => {
-            let Some(count) = count_in(line) else {
-                return Err(LineFault::Here(Cause::Shape));
-            };
-            *told = Told::Values(count, Vec::new(alloc), Vec::new(alloc));
-            Ok(())
-        }
-        Told::Values(count, shown, hidden) => put_line(*count, shown, hidden, line),
-    }
-}
-
 /// Appends the leaf or the hash of a line, if it may come next.
-fn put_line(
+fn put_shown_or_hidden(
     count: u64,
     shown: &mut Vec<Leaf>,
     hidden: &mut Vec<[u8; 32]>,
@@ -138,65 +112,87 @@ fn is_next(shown: &[Leaf], leaf: &Leaf) -> bool
     }
 }
 
-/// Returns whether the count was read.
-fn has_count(told: &Told) -> bool
-    ensures { result ≡ has_count (told_lines told.now) }
+/// Makes the line of a leaf that is shown.
+fn shown_line(alloc: Global, leaf: &Leaf) -> Result<Vec<u8>, Memory>
+    ensures { IfOk result (λ line. line.items ≡ shown_line leaf.now) }
 {
-    matches!(told, Told::Values(_, _, _))
+    let mut buffer = itoa::Buffer::new();
+    let mut line = Vec::from_slice(alloc, b"P ")?;
+    line.extend_from_slice(buffer.format(leaf.place).as_bytes())?;
+    line.push(b' ')?;
+    line.extend_from_slice(hex::encode(alloc, &leaf.digest)?.as_bytes())?;
+    Ok(line)
 }
 
-impl ProofLines {
-    /// Returns the proof.
-    pub(crate) fn into_proof(self) -> Proof
-        requires so_far { AreSoFar self }
-        requires whole { has_count (told_lines self.told) ≡ true }
-        ensures { IsModelOfLines proof_kind lines_so_far IsProof self result }
-    {
-        let ProofLines { log, told } = self;
+impl ModelFile for Proof {
+    ghost kind = { proof_kind };
+
+    ghost holds = { IsProof };
+
+    ghost log = { λ p. p.log };
+
+    ghost lines = { proof_lines };
+
+    ghost body = { λ _. refl };
+
+    type Told = Told;
+
+    ghost told_lines = { told_lines };
+
+    ghost sound = { AreTold };
+
+    fn accepted() {}
+
+    fn first_line() -> &'static str {
+        "CADF-PROOF 1"
+    }
+
+    fn nothing() -> Told {
+        Told::Nothing
+    }
+
+    fn put_line(alloc: Global, told: &mut Told, line: &[u8]) -> Result<(), LineFault> {
         match told {
-            Told::Values(count, shown, hidden) => Proof::from_parts(log, count, shown, hidden),
+            Told::Nothing => {
+                let Some(count) = count_in(line) else {
+                    return Err(LineFault::Here(Cause::Shape));
+                };
+                *told = Told::Values(count, Vec::new(alloc), Vec::new(alloc));
+                Ok(())
+            }
+            Told::Values(count, shown, hidden) => put_shown_or_hidden(*count, shown, hidden, line),
+        }
+    }
+
+    fn is_whole(told: &Told) -> bool {
+        matches!(told, Told::Values(_, _, _))
+    }
+
+    fn of_lines(name: Name, told: Told) -> Proof {
+        match told {
+            Told::Values(count, shown, hidden) => Proof::from_parts(name, count, shown, hidden),
             Told::Nothing => unreachable!(),
         }
     }
-}
 
-impl LineDecoder for ProofLines {
-    ghost form = { proof_grammar };
+    fn log_name(&self) -> &Name {
+        self.log()
+    }
 
-    ghost lines = { lines_so_far };
+    fn line_count(&self) -> usize {
+        1 + self.shown().len() + self.hidden().len()
+    }
 
-    ghost sound = { AreSoFar };
-
-    type Start = ();
-
-    type Held = ();
-
-    ghost start_line = { λ _. proof_header };
-
-    fn start(line: &[u8]) -> Option<()> {
-        if line == HEADER.as_slice() {
-            Some(())
-        } else {
-            None
+    fn line_at(&self, alloc: Global, place: usize) -> Result<Vec<u8>, Memory> {
+        if place == 0 {
+            return count_line(alloc, self.count());
         }
-    }
-
-    fn new(_alloc: Global, _start: (), log: Name) -> ProofLines {
-        ProofLines {
-            log,
-            told: Told::Nothing,
-        }
-    }
-
-    fn accept(&mut self, alloc: Global, _held: Option<&()>, line: &[u8]) -> Result<(), LineFault> {
-        put_more(alloc, &mut self.told, line)
-    }
-
-    fn cause_of_previous(&self, _line: &[u8]) -> Option<Cause> {
-        if has_count(&self.told) {
-            None
+        let at = place - 1;
+        let shown = self.shown();
+        if at < shown.len() {
+            shown_line(alloc, &shown[at])
         } else {
-            Some(Cause::Unended)
+            digest_line(alloc, b"H ", &self.hidden()[at - shown.len()])
         }
     }
 }

@@ -1,34 +1,26 @@
-//! The lines of a seal's file up to its digest line.
+//! The file of a seal.
 
-ghost use Rattle.std.specs.Prelude.{◌≡◌, true, IfOk, IfErr};
+ghost use Rattle.std.specs.Prelude.{◌≡◌, IfOk, IfErr, refl};
 ghost use Rattle.cadf_linefile.specs.Answers.{CauseIs};
-ghost use Rattle.cadf_linefile.specs.ModelReads.{IsModelOfLines};
-ghost use Rattle.cadf_seal.specs.SealFile.{seal_header, IsSeal};
-ghost use Rattle.cadf_seal.specs.SealVerdict.{seal_kind, seal_grammar, is_whole, cause_after, sealed_count, root_in};
-ghost use Rattle.cadf_seal.specs.SealLines.{told_lines, lines_so_far, AreTold, AreSoFar, IsMore};
+ghost use Rattle.cadf_seal.specs.SealFile.{seal_lines, IsSeal};
+ghost use Rattle.cadf_seal.specs.SealVerdict.{seal_kind, cause_after, sealed_count, root_in};
+ghost use Rattle.cadf_seal.specs.SealLines.{told_lines, AreTold, IsMore};
 
 use crate::seal::Seal;
+use crate::seal_write::{count_line, digest_line};
 use cadf_event::Name;
 use cadf_inventory::digest_of;
-use cadf_linefile::{Cause, LineDecoder, LineFault};
+use cadf_json::Memory;
+use cadf_linefile::{Cause, LineFault, ModelFile};
 use cadf_sketch::number_in;
 use std::alloc::Global;
 
-const HEADER: &[u8; 11] = b"CADF-SEAL 1";
-
 /// The values decoded from the lines after the log line, so far.
 #[derive(Drop)]
-pub(crate) enum Told {
+pub enum Told {
     Nothing,
     Count(u64),
     Whole(u64, [u8; 32]),
-}
-
-/// The values decoded from the lines so far.
-#[derive(Drop)]
-pub struct SealLines {
-    log: Name,
-    told: Told,
 }
 
 /// Decodes the line of the count. `None` if it is no such line.
@@ -72,66 +64,62 @@ fn told_more(told: &Told, line: &[u8]) -> Result<Told, LineFault>
     }
 }
 
-/// Returns whether both lines were read.
-fn is_whole(told: &Told) -> bool
-    ensures { result ≡ is_whole (told_lines told.now) }
-{
-    matches!(told, Told::Whole(_, _))
-}
+impl ModelFile for Seal {
+    ghost kind = { seal_kind };
 
-impl SealLines {
-    /// Returns the seal.
-    pub(crate) fn into_seal(self) -> Seal
-        requires so_far { AreSoFar self }
-        requires whole { is_whole (told_lines self.told) ≡ true }
-        ensures { IsModelOfLines seal_kind lines_so_far IsSeal self result }
-    {
-        let SealLines { log, told } = self;
-        match told {
-            Told::Whole(count, root) => Seal::from_parts(log, count, root),
-            _ => unreachable!(),
-        }
-    }
-}
+    ghost holds = { IsSeal };
 
-impl LineDecoder for SealLines {
-    ghost form = { seal_grammar };
+    ghost log = { λ s. s.log };
 
-    ghost lines = { lines_so_far };
+    ghost lines = { seal_lines };
 
-    ghost sound = { AreSoFar };
+    ghost body = { λ _. refl };
 
-    type Start = ();
+    type Told = Told;
 
-    type Held = ();
+    ghost told_lines = { told_lines };
 
-    ghost start_line = { λ _. seal_header };
+    ghost sound = { AreTold };
 
-    fn start(line: &[u8]) -> Option<()> {
-        if line == HEADER.as_slice() {
-            Some(())
-        } else {
-            None
-        }
+    fn accepted() {}
+
+    fn first_line() -> &'static str {
+        "CADF-SEAL 1"
     }
 
-    fn new(_alloc: Global, _start: (), log: Name) -> SealLines {
-        SealLines {
-            log,
-            told: Told::Nothing,
-        }
+    fn nothing() -> Told {
+        Told::Nothing
     }
 
-    fn accept(&mut self, _alloc: Global, _held: Option<&()>, line: &[u8]) -> Result<(), LineFault> {
-        self.told = told_more(&self.told, line)?;
+    fn put_line(_alloc: Global, told: &mut Told, line: &[u8]) -> Result<(), LineFault> {
+        *told = told_more(told, line)?;
         Ok(())
     }
 
-    fn cause_of_previous(&self, _line: &[u8]) -> Option<Cause> {
-        if is_whole(&self.told) {
-            None
+    fn is_whole(told: &Told) -> bool {
+        matches!(told, Told::Whole(_, _))
+    }
+
+    fn of_lines(name: Name, told: Told) -> Seal {
+        match told {
+            Told::Whole(count, root) => Seal::from_parts(name, count, root),
+            _ => unreachable!(),
+        }
+    }
+
+    fn log_name(&self) -> &Name {
+        self.log()
+    }
+
+    fn line_count(&self) -> usize {
+        2
+    }
+
+    fn line_at(&self, alloc: Global, place: usize) -> Result<Vec<u8>, Memory> {
+        if place == 0 {
+            count_line(alloc, self.count())
         } else {
-            Some(Cause::Unended)
+            digest_line(alloc, b"R ", self.root())
         }
     }
 }

@@ -1,48 +1,11 @@
-//! Writes a seal as its file.
+//! Makes the lines of a seal's file.
 
-ghost use Rattle.std.specs.Prelude.{◌≡◌, ◌++◌, IfOk, OnOk, OnErr};
-ghost use Rattle.std.specs.Io.KnownBytes.{Appends};
+ghost use Rattle.std.specs.Prelude.{◌≡◌, ◌++◌, IfOk};
 ghost use Rattle.hex.specs.Hex.{encode_lower};
-ghost use Rattle.cadf_json.specs.Streams.{counted, is_write_fault, AppendsPrefix};
-ghost use Rattle.cadf_seal.specs.SealFile.{seal_file, seal_lines, count_line};
+ghost use Rattle.cadf_seal.specs.SealFile.{count_line};
 
-use crate::seal::Seal;
-use cadf_event::Name;
-use cadf_json::{Memory, OutFault, Sink};
-use cadf_linefile::{Listed, write_listed};
+use cadf_json::Memory;
 use std::alloc::Global;
-
-/// Writes the file of the seal line by line. After an `Err` a prefix was written.
-pub fn write_seal<S: Sink>(alloc: Global, seal: &Seal, sink: &mut S) -> Result<(), OutFault>
-    ensures bytes { OnOk result (Appends (S.written sink.old) (S.written sink.new) (seal_file seal.now)) }
-    ensures front { OnErr result (AppendsPrefix (S.written sink.old) (S.written sink.new) (seal_file seal.now)) }
-    ensures failures { S.failures sink.new ≡ counted (is_write_fault result) (S.failures sink.old) }
-{
-    write_listed(alloc, "CADF-SEAL 1", seal, sink)
-}
-
-/// The lines after the log line: the count and the root.
-impl Listed for Seal {
-    ghost log = { λ s. s.log };
-
-    ghost lines = { seal_lines };
-
-    fn log_name(&self) -> &Name {
-        self.log()
-    }
-
-    fn line_count(&self) -> usize {
-        2
-    }
-
-    fn line_at(&self, alloc: Global, place: usize) -> Result<Vec<u8>, Memory> {
-        if place == 0 {
-            count_line(alloc, self.count())
-        } else {
-            digest_line(alloc, b"R ", self.root())
-        }
-    }
-}
 
 /// Makes the line of the count.
 pub(crate) fn count_line(alloc: Global, count: u64) -> Result<Vec<u8>, Memory>

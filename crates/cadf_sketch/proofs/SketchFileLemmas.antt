@@ -15,6 +15,7 @@ use Rattle.cadf_event.proofs.LogNameLemmas.{unbroken_quoted, both_unbroken}
 use Rattle.cadf_linefile.specs.Verdict.{log_line, with_digest_line, begins_digest}
 use Rattle.cadf_linefile.proofs.BodyLines.{AreAfter}
 use Rattle.cadf_linefile.proofs.LinesLemmas.{are_unbroken, both, and_true}
+use Rattle.cadf_linefile.specs.ModelKind.{AcceptsModels}
 use Rattle.cadf_linefile.proofs.ModelLemmas.{Plain, lines_of, Follows, Ends, IsModelKind, accepts-models, models-tell, name_is}
 use Rattle.cadf_linefile.proofs.UnbrokenLines.{unbroken_digest}
 use Rattle.cadf_linefile.proofs.VerdictLemmas.{good_log}
@@ -22,7 +23,6 @@ use Rattle.cadf_inventory.proofs.DigestLines.{plain_digest, unbroken_digest_of}
 use Rattle.cadf_sketch.specs.Sketches.{SketchModel}
 use Rattle.cadf_sketch.specs.SketchFile.{sketch_header, head_of, head_line, counts_line, cell_line, cell_lines, sketch_body, AreWords64, IsHead, IsTally, HasParts, IsSketch, SketchFileIsInjective}
 use Rattle.cadf_sketch.specs.SketchVerdict.{head_in, tally_in, cell_in, shape_unless, cells_of_head, sketch_of_parts, sketch_model_in, sketch_kind}
-use Rattle.cadf_sketch.specs.SketchVerdict.{AcceptsSketches}
 use Rattle.cadf_sketch.specs.declared.cell.Cell.{Cell}
 use Rattle.cadf_sketch.specs.declared.head.Head.{Head}
 use Rattle.cadf_sketch.specs.declared.tally.Tally.{Tally}
@@ -212,7 +212,7 @@ sketch_is_kind = record {
   found = sketch_found;
 }
 
-pub accepts-sketches : AcceptsSketches
+pub accepts-sketches : AcceptsModels sketch_kind IsSketch
 accepts-sketches = accepts-models sketch_is_kind
 
 pub sketch-file-tells : SketchFileIsInjective

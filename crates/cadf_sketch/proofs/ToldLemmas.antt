@@ -1,13 +1,11 @@
 -- Decoding one further line of a sketch's file, and the sketch of all lines.
 use Rattle.std.proofs.lemmas.Grind.{common_steps}
-use Rattle.std.proofs.Common.{◌≡◌, ℕ, ◌+◌, ◌*◌, ◌<◌, ◌≤◌, List, [], ◌∷◌, ◌++◌, length, map, Bool, true, false, cond, Some, None, sym, ap, ◌∙◌, subst, arith}
+use Rattle.std.proofs.Common.{◌≡◌, ℕ, ◌+◌, ◌*◌, ◌<◌, ◌≤◌, List, [], ◌∷◌, ◌++◌, length, map, true, Some, None, sym, ap, ◌∙◌, subst, arith}
 use Rattle.std.specs.Prelude.{◌&&◌, is_some, nat_eq}
 use Rattle.std.specs.List.{AllByRecursion}
 use Rattle.std.proofs.lemmas.Bool.{eqb-true, lt-ltb}
 use Rattle.std.proofs.lemmas.List.{length-append}
 use Rattle.cadf_join.specs.Contents.{Text}
-use Rattle.cadf_linefile.specs.declared.fault.Cause.TheVariants.{Unended}
-use Rattle.cadf_linefile.specs.ModelKind.{cause_of_end}
 use Rattle.cadf_sketch.specs.SketchFile.{head_line, counts_line, cell_line, IsHead, IsCell, HasParts}
 use Rattle.cadf_sketch.specs.SketchVerdict.{head_in, tally_in, shape_unless, cells_of_head, cause_of_cell, cause_after, is_whole, sketch_of_parts}
 use Rattle.cadf_sketch.specs.SketchLines.{AreCellsOf, IsCellPut}
@@ -78,9 +76,3 @@ all_cells h t cs are whole = eqb-true (length cs) (3 * h.layout.size) (sym (whol
 pub parts_told : (log : Text) (h : Head) (t : Tally) (cs : List Cell) → AreCellsOf h t cs → is_whole (lines_told h t cs) ≡ true
     → HasParts (sketch_of_parts log h t cs)
 parts_told log h t cs are whole = record { head = are.head; tally = are.tally; cells = are.cells; count = all_cells h t cs are whole }
-
-pub end_none : (b w : Bool) → b ≡ true → w ≡ true → None ≡ cond b (cause_of_end w) None
-end_none b w p q = λ i. cond (sym p i) (cause_of_end (sym q i)) None
-
-pub end_unended : (b w : Bool) → b ≡ true → w ≡ false → Some Unended ≡ cond b (cause_of_end w) None
-end_unended b w p q = λ i. cond (sym p i) (cause_of_end (sym q i)) None

@@ -7,7 +7,6 @@ pub mod Peeling
 pub mod Refusals
 pub mod SketchFile
 pub mod SketchLines
-pub mod SketchReads
 pub mod SketchVerdict
 pub mod Sketches
 pub mod Tallies

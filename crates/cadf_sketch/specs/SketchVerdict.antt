@@ -18,12 +18,12 @@ use Rattle.cadf_linefile.specs.declared.fault.Cause.{Cause}
 use Rattle.cadf_linefile.specs.declared.fault.Cause.TheVariants.{Shape}
 use Rattle.cadf_linefile.specs.declared.fault.FileFault.{FileFault}
 use Rattle.cadf_linefile.specs.LineGrammar.{LineGrammar}
-use Rattle.cadf_linefile.specs.ModelKind.{ModelKind, grammar_of, decided_of, verdict_of, AcceptsModels}
+use Rattle.cadf_linefile.specs.ModelKind.{ModelKind, grammar_of, decided_of, verdict_of}
 use Rattle.cadf_linefile.specs.Verdict.{log_in_line}
 use Rattle.cadf_inventory.specs.InventoryVerdict.{if_spelled, digest_of}
 use Rattle.cadf_sketch.specs.Layouts.{LayoutModel, layout_of}
 use Rattle.cadf_sketch.specs.Sketches.{SketchModel}
-use Rattle.cadf_sketch.specs.SketchFile.{sketch_header, sketch_body, IsSketch}
+use Rattle.cadf_sketch.specs.SketchFile.{sketch_header, sketch_body}
 use Rattle.cadf_sketch.specs.declared.cell.Cell.{Cell}
 use Rattle.cadf_sketch.specs.declared.head.Head.{Head}
 use Rattle.cadf_sketch.specs.declared.tally.Tally.{Tally}
@@ -142,7 +142,3 @@ sketch_decided = decided_of sketch_kind
 
 abbrev pub sketch_verdict : ℕ → Bool → List ℕ → Result SketchModel FileFault
 sketch_verdict = verdict_of sketch_kind
-
--- bytes are accepted if and only if they are the file of a sketch, within the limit
-abbrev pub AcceptsSketches : Type 0
-AcceptsSketches = AcceptsModels sketch_kind IsSketch

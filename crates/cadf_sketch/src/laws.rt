@@ -18,7 +18,7 @@ ghost use Rattle.cadf_inventory.specs.InventoryFile.{IsInventory, inventory_dige
 ghost use Rattle.cadf_line.specs.Digest.{atom_digest};
 ghost use Rattle.cadf_set.specs.Replica.{ReplicaModel};
 ghost use Rattle.cadf_sketch.specs.SketchFile.{IsSketch, SketchFileIsInjective, sketch_file};
-ghost use Rattle.cadf_sketch.specs.SketchVerdict.{AcceptsSketches, sketch_verdict};
+ghost use Rattle.cadf_sketch.specs.SketchVerdict.{sketch_verdict};
 
 use crate::sketch::Sketch;
 
@@ -61,11 +61,6 @@ pub fn enough_cells_are_read()
 /// States that a sketch's file is injective: sketches with equal files are equal.
 pub fn sketch_file_is_injective()
     ensures { SketchFileIsInjective }
-{}
-
-/// States that bytes are accepted if and only if they are the file of a sketch, within the limit.
-pub fn accepted_bytes_are_sketches()
-    ensures { AcceptsSketches }
 {}
 
 /// States that the file of a sketch is accepted if it is within the limit, and is read as that sketch.

@@ -13,7 +13,6 @@ mod peel;
 mod reading;
 mod sketch;
 mod sketch_lines;
-mod sketch_read;
 mod sketch_write;
 mod tally;
 mod toggle;
@@ -22,14 +21,11 @@ pub use answer::missing_by_sketch;
 pub use cell::Cell;
 pub use head::Head;
 pub use laws::{
-    accepted_bytes_are_sketches, cells_are_what_stands_there, counts_are_of_the_digests,
-    enough_cells_are_read, read_is_what_was_sketched, sketch_file_is_injective,
-    sketch_is_read_back,
+    cells_are_what_stands_there, counts_are_of_the_digests, enough_cells_are_read,
+    read_is_what_was_sketched, sketch_file_is_injective, sketch_is_read_back,
 };
 pub use layout::{Cells, Layout, Salt};
 pub use numbers::number_in;
 pub use reading::{ReadFault, read};
 pub use sketch::Sketch;
-pub use sketch_read::read_sketch;
-pub use sketch_write::write_sketch;
 pub use tally::Tally;

@@ -1,62 +1,28 @@
-//! The lines of a sketch's file up to its digest line.
+//! The file of a sketch.
 
-ghost use Rattle.std.specs.Prelude.{◌≡◌, ◌≤◌, ◌*◌, IfErr, OnOk, true, length};
+ghost use Rattle.std.specs.Prelude.{◌≡◌, ◌≤◌, ◌*◌, IfErr, OnOk, length, refl};
 ghost use Rattle.cadf_linefile.specs.Answers.{CauseIs};
-ghost use Rattle.cadf_linefile.specs.ModelReads.{IsModelOfLines};
-ghost use Rattle.cadf_sketch.specs.SketchFile.{sketch_header, IsSketch};
-ghost use Rattle.cadf_sketch.specs.SketchVerdict.{sketch_kind, sketch_grammar, is_whole, cause_after, cause_of_cell};
-ghost use Rattle.cadf_sketch.specs.SketchLines.{told_lines, lines_so_far, AreTold, AreSoFar, IsMore, IsCellPut};
+ghost use Rattle.cadf_sketch.specs.SketchFile.{cell_lines, IsSketch};
+ghost use Rattle.cadf_sketch.specs.SketchVerdict.{sketch_kind, cause_of_cell};
+ghost use Rattle.cadf_sketch.specs.SketchLines.{told_lines, AreTold, IsCellPut};
 
 use crate::cell::Cell;
 use crate::head::Head;
 use crate::line_parts::{cell_in, head_in, tally_in};
 use crate::sketch::Sketch;
+use crate::sketch_write::{cell_line, counts_line, head_line};
 use crate::tally::Tally;
 use cadf_event::Name;
-use cadf_linefile::{Cause, LineDecoder, LineFault};
+use cadf_json::Memory;
+use cadf_linefile::{Cause, LineFault, ModelFile};
 use std::alloc::Global;
-
-const HEADER: &[u8; 13] = b"CADF-SKETCH 1";
 
 /// The values decoded from the lines after the log line, so far.
 #[derive(Drop)]
-pub(crate) enum Told {
+pub enum Told {
     Nothing,
     Beginning(Head),
     Cells(Head, Tally, Vec<Cell>),
-}
-
-/// The values decoded from the lines so far.
-#[derive(Drop)]
-pub struct SketchLines {
-    log: Name,
-    told: Told,
-}
-
-/// Decodes the next line after the log line. After an `Err` the values are of no use.
-fn put_more(alloc: Global, told: &mut Told, line: &[u8]) -> Result<(), LineFault>
-    requires { AreTold told.old }
-    ensures ok { OnOk result (IsMore told.old line.now told.new) }
-    ensures err { IfErr result (λ e. CauseIs e (cause_after (told_lines told.old) line.now)) }
-{
-    match told {
-        Told::Nothing => {
-            let Some(head) = head_in(line) else {
-                return Err(LineFault::Here(Cause::Shape));
-            };
-            *told = Told::Beginning(head);
-            Ok(())
-        }
-        Told::Beginning(head) => {
-            let head = *head;
-            let Some(tally) = tally_in(alloc, line)? else {
-                return Err(LineFault::Here(Cause::Shape));
-            };
-            *told = Told::Cells(head, tally, Vec::new(alloc));
-            Ok(())
-        }
-        Told::Cells(head, _, cells) => put_cell(cells, head, line),
-    }
 }
 
 /// Appends the cell of a line, if a further cell is due.
@@ -75,69 +41,81 @@ fn put_cell(cells: &mut Vec<Cell>, head: &Head, line: &[u8]) -> Result<(), LineF
     Ok(())
 }
 
-/// Returns whether all cells were read.
-fn is_whole(told: &Told) -> bool
-    requires { AreTold told.now }
-    ensures { result ≡ is_whole (told_lines told.now) }
-{
-    match told {
-        Told::Cells(head, _, cells) => cells.len() == head.layout.cells(),
-        _ => false,
-    }
-}
+impl ModelFile for Sketch {
+    ghost kind = { sketch_kind };
 
-impl SketchLines {
-    /// Returns the sketch.
-    pub(crate) fn into_sketch(self) -> Sketch
-        requires so_far { AreSoFar self }
-        requires whole { is_whole (told_lines self.told) ≡ true }
-        ensures { IsModelOfLines sketch_kind lines_so_far IsSketch self result }
-    {
-        let SketchLines { log, told } = self;
+    ghost holds = { IsSketch };
+
+    ghost log = { λ s. s.log };
+
+    ghost lines = { cell_lines };
+
+    ghost body = { λ _. refl };
+
+    type Told = Told;
+
+    ghost told_lines = { told_lines };
+
+    ghost sound = { AreTold };
+
+    fn accepted() {}
+
+    fn first_line() -> &'static str {
+        "CADF-SKETCH 1"
+    }
+
+    fn nothing() -> Told {
+        Told::Nothing
+    }
+
+    fn put_line(alloc: Global, told: &mut Told, line: &[u8]) -> Result<(), LineFault> {
         match told {
-            Told::Cells(head, tally, cells) => Sketch::from_parts(log, head, tally, cells),
+            Told::Nothing => {
+                let Some(head) = head_in(line) else {
+                    return Err(LineFault::Here(Cause::Shape));
+                };
+                *told = Told::Beginning(head);
+                Ok(())
+            }
+            Told::Beginning(head) => {
+                let head = *head;
+                let Some(tally) = tally_in(alloc, line)? else {
+                    return Err(LineFault::Here(Cause::Shape));
+                };
+                *told = Told::Cells(head, tally, Vec::new(alloc));
+                Ok(())
+            }
+            Told::Cells(head, _, cells) => put_cell(cells, head, line),
+        }
+    }
+
+    fn is_whole(told: &Told) -> bool {
+        match told {
+            Told::Cells(head, _, cells) => cells.len() == head.layout.cells(),
+            _ => false,
+        }
+    }
+
+    fn of_lines(name: Name, told: Told) -> Sketch {
+        match told {
+            Told::Cells(head, tally, cells) => Sketch::from_parts(name, head, tally, cells),
             _ => unreachable!(),
         }
     }
-}
 
-impl LineDecoder for SketchLines {
-    ghost form = { sketch_grammar };
-
-    ghost lines = { lines_so_far };
-
-    ghost sound = { AreSoFar };
-
-    type Start = ();
-
-    type Held = ();
-
-    ghost start_line = { λ _. sketch_header };
-
-    fn start(line: &[u8]) -> Option<()> {
-        if line == HEADER.as_slice() {
-            Some(())
-        } else {
-            None
-        }
+    fn log_name(&self) -> &Name {
+        self.log()
     }
 
-    fn new(_alloc: Global, _start: (), log: Name) -> SketchLines {
-        SketchLines {
-            log,
-            told: Told::Nothing,
-        }
+    fn line_count(&self) -> usize {
+        2 + self.cells().len()
     }
 
-    fn accept(&mut self, alloc: Global, _held: Option<&()>, line: &[u8]) -> Result<(), LineFault> {
-        put_more(alloc, &mut self.told, line)
-    }
-
-    fn cause_of_previous(&self, _line: &[u8]) -> Option<Cause> {
-        if is_whole(&self.told) {
-            None
-        } else {
-            Some(Cause::Unended)
+    fn line_at(&self, alloc: Global, place: usize) -> Result<Vec<u8>, Memory> {
+        match place {
+            0 => head_line(alloc, self),
+            1 => counts_line(alloc, self.tally()),
+            _ => cell_line(alloc, &self.cells()[place - 2]),
         }
     }
 }

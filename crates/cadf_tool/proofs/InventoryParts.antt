@@ -67,7 +67,7 @@ notes_inventory bytes loaded noted input n =
 pub noted_by : (to : List ℕ → Type 0) (noted : InventoryModel) → IsInventoryReadOf to noted → (other : Loaded) × IsReadOf to other × Notes other noted
 noted_by to noted (bytes, (other, written, read, made, is), input) =
     let n : Notes other written = notes other written made in
-    let same : written ≡ noted = inventory-file-tells written noted (notes_inventory read.0 other written read.2 n) input.inventory (sym is ∙ input.is) in
+    let same : written ≡ noted = inventory-file-tells written noted (notes_inventory read.0 other written read.2 n) input.holds (sym is ∙ input.is) in
     (other, read, subst (Notes other) same n)
 
 -- ---- the delta against an inventory

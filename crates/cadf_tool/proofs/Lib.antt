@@ -8,7 +8,7 @@ pub mod Convergence
 pub mod Runs
 pub mod Rehearsals
 pub mod SiteLines
-pub mod KindReading
+pub mod ModelReading
 pub mod OneText
 pub mod Exclusion
 pub mod OfTheBytes

@@ -13,7 +13,7 @@ use Rattle.cadf_tool.specs.declared.fault.ToolFault.{ToolFault}
 use Rattle.cadf_tool.specs.Told.{log_named, atoms_loaded, replica_model_of}
 use Rattle.cadf_tool.specs.Inputs.{source_state}
 use Rattle.cadf_tool.specs.Run.{InputSpec, transition_of, Sources, one, two, all, input_spec, IsExpectedOfBy, IsAnswer, IsRun, IsRunBy}
-use Rattle.cadf_tool.specs.SketchInput.{sketch_spec}
+use Rattle.cadf_tool.specs.ModelInput.{sketch_spec}
 use Rattle.cadf_tool.specs.Sketch.{AreAsked, sketch_model_of, IsPartBySketch}
 use Rattle.cadf_tool.specs.Join.{join_of}
 use Rattle.cadf_tool.specs.Rule.{ruling_on, ruling_for, ruled_of}

@@ -5,8 +5,7 @@ pub mod Told
 pub mod Shown
 pub mod Inputs
 pub mod Run
-pub mod FileKind
-pub mod InventoryInput
+pub mod ModelInput
 pub mod Join
 pub mod JoinState
 pub mod Facts
@@ -14,10 +13,8 @@ pub mod WrittenFile
 pub mod Missing
 pub mod MissingBy
 pub mod Sketch
-pub mod SketchInput
 pub mod Seal
 pub mod Prove
-pub mod SealInput
 pub mod Verify
 pub mod Rule
 pub mod Rehearse

@@ -3,14 +3,13 @@
 --     missing_by_of from noted    the delta: the atoms of FROM whose digest the inventory lacks, under their log, or why there is none
 --     part_by both                the same of a pair, FROM first
 --     part_by_union both          the same of a list of inputs, which is joined, and an inventory
---     IsInventoryInput limit b n  the bytes are the file of this inventory, within the limit
+--     IsFileInput file Is limit b m   the bytes are the file of this value, within the limit
 use Rattle.std.specs.Prelude.{◌≡◌, ◌≤◌, ◌+◌, ℕ, List, length, Option, Some, None, Result, Ok, Err}
 use Rattle.cadf_join.specs.Contents.{Text}
 use Rattle.cadf_line.specs.Digest.{atom_digest}
 use Rattle.cadf_set.specs.Inventory.{InventoryModel}
 use Rattle.cadf_line.specs.Missing.{Digests, digests_of, missing_by}
 use Rattle.cadf_set.specs.Replica.{ReplicaModel}
-use Rattle.cadf_inventory.specs.InventoryFile.{inventory_file, IsInventory}
 use Rattle.cadf_tool.specs.declared.input.Loaded.{Loaded}
 use Rattle.cadf_tool.specs.declared.input.Loaded.TheVariants.{Replica}
 use Rattle.cadf_tool.specs.declared.fault.ToolFault.{ToolFault}
@@ -42,8 +41,8 @@ part_by both = missing_by_of both.0 both.1
 abbrev pub part_by_union : List Loaded × InventoryModel → Result ReplicaModel ToolFault
 part_by_union both = on_ok (join_of None both.0) (λ h. missing_by_at (length both.0 + 1) (Replica h) both.1)
 
--- the bytes are the file of this inventory, within the limit
-pub record IsInventoryInput (limit : ℕ) (bytes : List ℕ) (noted : InventoryModel) : Type 0 where
-  pub is : bytes ≡ inventory_file noted
+-- the bytes are the file of this value, within the limit
+pub record IsFileInput {M : Type 0} (file : M → List ℕ) (Is : M → Type 0) (limit : ℕ) (bytes : List ℕ) (value : M) : Type 0 where
+  pub is : bytes ≡ file value
   pub within : length bytes ≤ limit
-  pub inventory : IsInventory noted
+  pub holds : Is value

@@ -3,14 +3,12 @@
 --     sketch_model_of cells salt loaded   the sketch of an input's inventory, or why there is none
 --     IsPartBySketch both answer          a result for an input and a sketch; a relation, since it leaves open which digests peeling finds
 --     IsPartOfUnionBySketch both answer   the same of a list of inputs, which is joined, and a sketch
---     IsSketchInput limit b s             the bytes are the file of this sketch, within the limit
-use Rattle.std.specs.Prelude.{◌≡◌, ◌<◌, ◌≤◌, ◌+◌, ◌^◌, ℕ, true, List, length, Option, None, IfSome, unwrap_or, Result, Ok, Err}
+use Rattle.std.specs.Prelude.{◌≡◌, ◌<◌, ◌+◌, ◌^◌, ℕ, true, List, length, Option, None, IfSome, unwrap_or, Result, Ok, Err}
 use Rattle.cadf_set.specs.Inventory.{InventoryModel}
 use Rattle.cadf_set.specs.Replica.{ReplicaModel}
 use Rattle.cadf_sketch.specs.Answers.{inventory_of, IsAnswer}
 use Rattle.cadf_sketch.specs.Layouts.{are_cells, default_cells, is_salt}
 use Rattle.cadf_sketch.specs.Refusals.{IsReadFault}
-use Rattle.cadf_sketch.specs.SketchFile.{sketch_file, IsSketch}
 use Rattle.cadf_sketch.specs.Sketches.{SketchModel, asked}
 use Rattle.cadf_sketch.specs.declared.reading.ReadFault.{ReadFault}
 use Rattle.cadf_sketch.specs.declared.reading.ReadFault.TheVariants as read
@@ -55,9 +53,3 @@ IsPartBySketch both answer = IsAnswerOfResult 2 both.1 (replica_model_of both.0)
 -- the sketch is numbered after the inputs
 abbrev pub IsPartOfUnionBySketch : List Loaded × SketchModel → Result ReplicaModel ToolFault → Type 0
 IsPartOfUnionBySketch both answer = IsAnswerOfResult (length both.0 + 1) both.1 (join_of None both.0) answer
-
--- the bytes are the file of this sketch, within the limit
-pub record IsSketchInput (limit : ℕ) (bytes : List ℕ) (sketch : SketchModel) : Type 0 where
-  pub is : bytes ≡ sketch_file sketch
-  pub within : length bytes ≤ limit
-  pub holds : IsSketch sketch

@@ -15,7 +15,7 @@ use Rattle.cadf_tool.specs.Facts.{facts_under}
 use Rattle.cadf_tool.specs.Faults.{of_verify}
 use Rattle.cadf_tool.specs.Join.{is_other, on_ok}
 use Rattle.cadf_tool.specs.Run.{Sources, SourceTransition, one, both, with_number, input_spec}
-use Rattle.cadf_tool.specs.SealInput.{seal_spec, proof_spec}
+use Rattle.cadf_tool.specs.ModelInput.{seal_spec, proof_spec}
 
 abbrev pub sources_of : SourceTransition → SourceTransition → SourceTransition → Sources (SealModel × (Loaded × ProofModel))
 sources_of seal facts proof = both (one seal_spec seal) (both (with_number 2 input_spec facts) (with_number 3 proof_spec proof))

@@ -1,11 +1,10 @@
 //! The engine of `inventory`: the digests of the atoms of the union of inputs, as an inventory file.
 ghost use Rattle.cadf_inventory.specs.InventoryFile.{inventory_file};
 ghost use Rattle.cadf_tool.specs.MissingBy.{inventory_model_of};
-ghost use Rattle.cadf_tool.specs.Join.{of_union};
 ghost use Rattle.cadf_tool.specs.laws.Engines.{of_inventory};
-ghost use Rattle.cadf_tool.specs.Run.{one, all, transition_of, input_spec, IsRun};
+ghost use Rattle.cadf_tool.specs.Run.{one, transition_of, input_spec, IsRun};
 
-use crate::engine::{Engine, run_one, run_union};
+use crate::engine::{Engine, run_one};
 use crate::fault::{ToolFault, answered};
 use cadf_inventory::write_inventory;
 use cadf_json::{Sink, Source};
@@ -50,16 +49,4 @@ pub fn run_inventory<R: Source, W: Sink>(
         inventory_file W.Sink output.old output.new result }
 {
     run_one(alloc, &InventoryEngine, input, output)
-}
-
-/// Writes the inventory file of the union of all inputs. `Err`: why nothing was written, or only a prefix.
-pub fn run_inventory_union<R: Source, W: Sink>(
-    alloc: Global,
-    inputs: &mut [R],
-    output: &mut W,
-) -> Result<(), ToolFault>
-    ensures { IsRun (all R.Source inputs.old inputs.new) (of_union inventory_model_of)
-        inventory_file W.Sink output.old output.new result }
-{
-    run_union(alloc, &InventoryEngine, inputs, output)
 }

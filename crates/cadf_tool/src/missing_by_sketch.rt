@@ -4,11 +4,11 @@ ghost use Rattle.cadf_tool.specs.WrittenFile.{written_file};
 ghost use Rattle.cadf_tool.specs.declared.input.Loaded.{Loaded};
 ghost use Rattle.cadf_tool.specs.JoinState.{IsJoinState};
 ghost use Rattle.cadf_tool.specs.Sketch.{IsAnswerTo, IsPartBySketch, IsPartOfUnionBySketch};
-ghost use Rattle.cadf_tool.specs.SketchInput.{sketch_spec};
+ghost use Rattle.cadf_tool.specs.ModelInput.{sketch_spec};
 ghost use Rattle.cadf_tool.specs.Run.{all, both, with_number, two, transition_of, input_spec, IsExpectedBy, IsWorkedBy, IsRunBy};
 
 use crate::fault::ToolFault;
-use crate::inputs::load_sketch;
+use crate::inputs::load_model;
 use crate::join::{next, union_with, write_file};
 use crate::join_state::JoinState;
 use cadf_json::{Sink, Source};
@@ -55,7 +55,7 @@ fn load_part<R: Source>(alloc: Global, from: &mut R, sketch: &mut R) -> Result<R
         IsPartBySketch result }
 {
     let first = next(alloc, JoinState::new(alloc, None), 1, from, None)?;
-    let read = load_sketch(alloc, 2, sketch)?;
+    let read = load_model(alloc, 2, sketch)?;
     part(alloc, 2, first, &read)
 }
 
@@ -71,7 +71,7 @@ fn load_part_of_union<R: Source>(
 {
     let number = from.len() + 1;
     let union = union_with(alloc, JoinState::new(alloc, None), 1, from, None)?;
-    let read = load_sketch(alloc, number, sketch)?;
+    let read = load_model(alloc, number, sketch)?;
     part(alloc, number, union, &read)
 }
 

@@ -14,7 +14,8 @@ use crate::inputs::load_one;
 use crate::join::union_with;
 use crate::join_state::JoinState;
 use cadf_json::{Memory, Sink, Source};
-use cadf_seal::{Proof, write_proof};
+use cadf_linefile::write_model;
+use cadf_seal::Proof;
 use cadf_set::Replica;
 use std::alloc::Global;
 
@@ -60,7 +61,7 @@ fn prove<R: Source>(alloc: Global, facts: &mut R, inputs: &mut [R]) -> Result<Pr
 fn write_proved<W: Sink>(alloc: Global, proof: &Proof, output: &mut W) -> Result<(), ToolFault>
     ensures { IsWritten W.Sink output.old output.new (proof_file proof.now) result }
 {
-    answered(write_proof(alloc, proof, output))
+    answered(write_model(alloc, proof, output))
 }
 
 /// Writes the proof file for what `facts` contributes, under the seal of the union of `inputs`: which of it is in the

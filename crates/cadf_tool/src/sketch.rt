@@ -4,16 +4,15 @@ ghost use Rattle.cadf_sketch.specs.Answers.{inventory_of};
 ghost use Rattle.cadf_sketch.specs.Layouts.{default_cells};
 ghost use Rattle.cadf_sketch.specs.SketchFile.{sketch_file};
 ghost use Rattle.cadf_sketch.specs.Sketches.{asked};
-ghost use Rattle.cadf_tool.specs.Sketch.{AreAsked, sketch_model_of};
-ghost use Rattle.cadf_tool.specs.Join.{of_union};
+ghost use Rattle.cadf_tool.specs.Sketch.{sketch_model_of};
 ghost use Rattle.cadf_tool.specs.laws.Engines.{of_sketch};
-ghost use Rattle.cadf_tool.specs.Run.{one, all, transition_of, input_spec, IsRun};
 
-use crate::engine::{Engine, run_one, run_union};
+use crate::engine::Engine;
 use crate::fault::{ToolFault, answered};
-use cadf_json::{Memory, Sink, Source};
+use cadf_json::{Memory, Sink};
+use cadf_linefile::write_model;
 use cadf_set::Replica;
-use cadf_sketch::{Cells, Salt, Sketch, write_sketch};
+use cadf_sketch::{Cells, Salt, Sketch};
 use std::alloc::Global;
 
 /// Returns the number of cells, the default if none is given.
@@ -40,7 +39,9 @@ fn sketch_of(
     Sketch::of(alloc, &inventory, cells_or_default(cells), salt)
 }
 
-/// Makes the sketch of a replica's inventory, with the cells and the salt that are given, and writes its file.
+/// Makes the sketch of a replica's inventory, with the cells and the salt that are given, and writes its file. The number
+/// of cells is `Cells::by_default` if none is given. If no salt is given, the inventory's digest determines it, so that one
+/// set has one sketch.
 #[derive(Drop)]
 pub struct SketchEngine {
     pub cells: Option<Cells>,
@@ -66,39 +67,6 @@ impl Engine for SketchEngine {
         made: &Sketch,
         output: &mut W,
     ) -> Result<(), ToolFault> {
-        answered(write_sketch(alloc, made, output))
+        answered(write_model(alloc, made, output))
     }
-}
-
-/// Writes the sketch file of an input's inventory. The number of cells is `Cells::by_default` if none is given. If no
-/// salt is given, the inventory's digest determines it, so that one set has one sketch. `Err`: why nothing was written,
-/// or only a prefix.
-pub fn run_sketch<R: Source, W: Sink>(
-    alloc: Global,
-    cells: Option<Cells>,
-    salt: Option<Salt>,
-    input: &mut R,
-    output: &mut W,
-) -> Result<(), ToolFault>
-    ensures written { IsRun (one input_spec (transition_of R.Source input.old input.new)) (sketch_model_of cells salt)
-        sketch_file W.Sink output.old output.new result }
-    // A number of cells and a salt that are given are such that a sketch can have.
-    ensures asked { AreAsked cells salt }
-{
-    run_one(alloc, &SketchEngine { cells, salt }, input, output)
-}
-
-/// Writes the sketch file of the union of all inputs. `Err`: why nothing was written, or only a prefix.
-pub fn run_sketch_union<R: Source, W: Sink>(
-    alloc: Global,
-    cells: Option<Cells>,
-    salt: Option<Salt>,
-    inputs: &mut [R],
-    output: &mut W,
-) -> Result<(), ToolFault>
-    ensures written { IsRun (all R.Source inputs.old inputs.new) (of_union (sketch_model_of cells salt))
-        sketch_file W.Sink output.old output.new result }
-    ensures asked { AreAsked cells salt }
-{
-    run_union(alloc, &SketchEngine { cells, salt }, inputs, output)
 }

@@ -7,7 +7,7 @@ ghost use Rattle.cadf_tool.specs.Verify.{verdict_lines, verdict_of, sources_of};
 use crate::facts::facts_under;
 use crate::fault::{ToolFault, unverified};
 use crate::input::Loaded;
-use crate::inputs::{load_one, load_proof, load_seal};
+use crate::inputs::{load_model, load_one};
 use cadf_json::{Sink, Source};
 use cadf_seal::{FactLines, Proof, Seal, verified};
 use cadf_set::Replica;
@@ -70,9 +70,9 @@ fn verify<R: Source>(
     ensures err { IfErr result (λ fault. IsExpected (sources_of (transition_of R.Source seal.old seal.new) (transition_of R.Source facts.old facts.new)
         (transition_of R.Source proof.old proof.new)) (verdict_of absent) (Err fault)) }
 {
-    let seal = load_seal(alloc, 1, seal)?;
+    let seal = load_model(alloc, 1, seal)?;
     let loaded = load_one(alloc, 2, facts, None)?;
-    let proof = load_proof(alloc, 3, proof)?;
+    let proof = load_model(alloc, 3, proof)?;
     verdict(alloc, absent, &seal, loaded, &proof)
 }
 

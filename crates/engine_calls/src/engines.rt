@@ -4,11 +4,11 @@ use crate::answers::Answer;
 use crate::words::Words;
 use cadf_event::Name;
 use cadf_tool::{
-    Cells, CountingSink, Salt, ToolFault, Unit, run_check, run_check_union, run_inventory,
-    run_inventory_union, run_join, run_missing, run_missing_by, run_missing_by_sketch,
-    run_missing_by_sketch_union, run_missing_by_union, run_missing_unions, run_prove, run_rehearse,
-    run_rule, run_rule_union, run_seal, run_seal_union, run_show, run_show_union, run_sketch,
-    run_sketch_union, run_split, run_verify, status,
+    Cells, CountingSink, InventoryEngine, RuleEngine, Salt, SealEngine, ShowEngine, SketchEngine,
+    ToolFault, Unit, run_check, run_check_union, run_inventory, run_join, run_missing,
+    run_missing_by, run_missing_by_sketch, run_missing_by_sketch_union, run_missing_by_union,
+    run_missing_unions, run_one, run_prove, run_rehearse, run_rule, run_show, run_split, run_union,
+    run_verify, status,
 };
 use calls::{MemorySink, MemorySource, push, push_number, refused};
 use std::alloc::{AllocError as Memory, Global};
@@ -64,11 +64,11 @@ fn missing_by(alloc: Global, words: Words<'_>, sink: &mut Output) -> Ran {
     Some(run_missing_by(alloc, &mut from, &mut inventory, sink))
 }
 
-/// Runs `run_sketch`. Its words are a number of cells and a salt, empty for none, and a reader.
+/// Runs `run_one` of a sketch. Its words are a number of cells and a salt, empty for none, and a reader.
 fn sketch(alloc: Global, words: Words<'_>, sink: &mut Output) -> Ran {
     let cells = Cells::of(words.number(4) as u64);
     let salt = Salt::of(words.number(5) as u64);
-    Some(run_sketch(alloc, cells, salt, &mut words.source(6), sink))
+    Some(run_one(alloc, &SketchEngine { cells, salt }, &mut words.source(6), sink))
 }
 
 /// Runs `run_missing_by_sketch`. Its words are two readers.
@@ -139,16 +139,16 @@ fn missing_by_sketch_union(alloc: Global, words: Words<'_>, sink: &mut Output) -
     Some(run_missing_by_sketch_union(alloc, from.as_mut_slice(), &mut sketch, sink))
 }
 
-/// Runs `run_inventory_union`. Its words are readers.
+/// Runs `run_union` of an inventory. Its words are readers.
 fn inventory_union(alloc: Global, words: Words<'_>, sink: &mut Output) -> Ran {
     let mut inputs = sources(alloc, words, 4).ok()?;
-    Some(run_inventory_union(alloc, inputs.as_mut_slice(), sink))
+    Some(run_union(alloc, &InventoryEngine, inputs.as_mut_slice(), sink))
 }
 
-/// Runs `run_seal_union`. Its words are readers.
+/// Runs `run_union` of a seal. Its words are readers.
 fn seal_union(alloc: Global, words: Words<'_>, sink: &mut Output) -> Ran {
     let mut inputs = sources(alloc, words, 4).ok()?;
-    Some(run_seal_union(alloc, inputs.as_mut_slice(), sink))
+    Some(run_union(alloc, &SealEngine, inputs.as_mut_slice(), sink))
 }
 
 /// Runs `run_check_union`. Its words are readers.
@@ -157,32 +157,33 @@ fn check_union(alloc: Global, words: Words<'_>, sink: &mut Output) -> Ran {
     Some(run_check_union(alloc, inputs.as_mut_slice(), sink))
 }
 
-/// Runs `run_sketch_union`. Its words are those of `run_sketch`, with further readers.
+/// Runs `run_union` of a sketch. Its words are those of one input, with further readers.
 fn sketch_union(alloc: Global, words: Words<'_>, sink: &mut Output) -> Ran {
     let cells = Cells::of(words.number(4) as u64);
     let salt = Salt::of(words.number(5) as u64);
     let mut inputs = sources(alloc, words, 6).ok()?;
-    Some(run_sketch_union(alloc, cells, salt, inputs.as_mut_slice(), sink))
+    Some(run_union(alloc, &SketchEngine { cells, salt }, inputs.as_mut_slice(), sink))
 }
 
-/// Runs `run_rule_union`. Its words are those of `run_rule`, with further readers.
+/// Runs `run_union` of a ruling. Its words are those of `run_rule`, with further readers.
 fn rule_union(alloc: Global, words: Words<'_>, sink: &mut Output) -> Ran {
     let letter = words.text(4).chars().next()?;
     let key = Name::read(alloc, words.text(5)).ok()?;
     let place = words.number(6) as u64;
     let mut inputs = sources(alloc, words, 7).ok()?;
-    Some(run_rule_union(alloc, letter, &key, place, inputs.as_mut_slice(), sink))
+    let key = &key;
+    Some(run_union(alloc, &RuleEngine { letter, key, place }, inputs.as_mut_slice(), sink))
 }
 
-/// Runs `run_show_union`. Its words are those of `run_show`, with further readers.
+/// Runs `run_union` of what is shown. Its words are those of `run_show`, with further readers.
 fn show_union(alloc: Global, words: Words<'_>, sink: &mut Output) -> Ran {
     let conflicts = words.text(4) == "conflicts";
     let mut inputs = sources(alloc, words, 5).ok()?;
-    Some(run_show_union(alloc, conflicts, inputs.as_mut_slice(), sink))
+    Some(run_union(alloc, &ShowEngine { conflicts }, inputs.as_mut_slice(), sink))
 }
 
 /// Runs the engine over unions of that name. `None` if there is none, or if its words don't fit.
-fn run_union(alloc: Global, words: Words<'_>, sink: &mut Output) -> Ran {
+fn run_over_union(alloc: Global, words: Words<'_>, sink: &mut Output) -> Ran {
     match words.text(0) {
         "run_missing_unions" => missing_unions(alloc, words, sink),
         "run_missing_by_union" => missing_by_union(alloc, words, sink),
@@ -207,14 +208,14 @@ fn run(alloc: Global, words: Words<'_>, sink: &mut Output) -> Ran {
         "run_inventory" => Some(run_inventory(alloc, &mut words.source(4), sink)),
         "run_sketch" => sketch(alloc, words, sink),
         "run_missing_by_sketch" => missing_by_sketch(alloc, words, sink),
-        "run_seal" => Some(run_seal(alloc, &mut words.source(4), sink)),
+        "run_seal" => Some(run_one(alloc, &SealEngine, &mut words.source(4), sink)),
         "run_prove" => prove(alloc, words, sink),
         "run_verify" => verify(alloc, words, sink),
         "run_rule" => rule(alloc, words, sink),
         "run_rehearse" => rehearse(alloc, words, sink),
         "run_show" => show(alloc, words, sink),
         "run_check" => Some(run_check(alloc, &mut words.source(4), sink)),
-        _ => run_union(alloc, words, sink),
+        _ => run_over_union(alloc, words, sink),
     }
 }
 

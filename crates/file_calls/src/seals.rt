@@ -6,10 +6,9 @@ use crate::replicas::replica_of;
 use crate::streams::{sink_of, written};
 use cadf_file::FileFault;
 use cadf_json::Memory;
+use cadf_linefile::{read_model, write_model};
 use cadf_replica::Inventory;
-use cadf_seal::{
-    FactLines, Leaf, Proof, Seal, read_proof, read_seal, root_of, verified, write_proof, write_seal,
-};
+use cadf_seal::{FactLines, Leaf, Proof, Seal, root_of, verified};
 use calls::{Call, MemorySink, answer, push, push_number, refused};
 use std::alloc::{AllocError, Global};
 
@@ -23,7 +22,7 @@ fn shown(alloc: Global, seal: &Seal) -> Result<String, Memory> {
 
 /// Reads the bytes as a seal file.
 fn read_in(alloc: Global, reading: Reading, bytes: &[u8]) -> Result<Seal, FileFault> {
-    read_seal(alloc, &mut reading.source(bytes), reading.limit)
+    read_model(alloc, &mut reading.source(bytes), reading.limit)
 }
 
 /// Answers `read_seal`: a reading and a file.
@@ -61,7 +60,7 @@ pub(crate) fn write(alloc: Global, call: &Call) -> Result<String, Memory> {
     };
     let seal = Seal::of(alloc, &inventory)?;
     let mut sink = sink_of(alloc, call, 1);
-    let done = write_seal(alloc, &seal, &mut sink);
+    let done = write_model(alloc, &seal, &mut sink);
     written(alloc, done, &sink)
 }
 
@@ -117,13 +116,13 @@ pub(crate) fn write_proof_of(alloc: Global, call: &Call) -> Result<String, Memor
     };
     let proof = Proof::of(alloc, &facts, &inventory)?;
     let mut sink = sink_of(alloc, call, 1);
-    let done = write_proof(alloc, &proof, &mut sink);
+    let done = write_model(alloc, &proof, &mut sink);
     written(alloc, done, &sink)
 }
 
 /// Reads the bytes as a proof file.
 fn proof_in(alloc: Global, reading: Reading, bytes: &[u8]) -> Result<Proof, FileFault> {
-    read_proof(alloc, &mut reading.source(bytes), reading.limit)
+    read_model(alloc, &mut reading.source(bytes), reading.limit)
 }
 
 /// Answers `read_proof`: a reading and a file.

@@ -6,7 +6,8 @@ use crate::replicas::{replica_of, shown as replica_shown};
 use crate::streams::{sink_of, written};
 use cadf_file::FileFault;
 use cadf_json::Memory;
-use cadf_sketch::{Cell, Cells, Salt, Sketch, missing_by_sketch, read_sketch, write_sketch};
+use cadf_linefile::{read_model, write_model};
+use cadf_sketch::{Cell, Cells, Salt, Sketch, missing_by_sketch};
 use calls::{Call, answer, push, push_number, refused};
 use std::alloc::Global;
 
@@ -48,7 +49,7 @@ fn shown(alloc: Global, sketch: &Sketch) -> Result<String, Memory> {
 /// Reads the call's fourth word as a sketch file.
 fn sketch_in(alloc: Global, call: &Call) -> Result<Sketch, FileFault> {
     let reading = Reading::of(call);
-    read_sketch(alloc, &mut reading.source(call.bytes(4)), reading.limit)
+    read_model(alloc, &mut reading.source(call.bytes(4)), reading.limit)
 }
 
 /// Answers `read_sketch`: a reading and a file.
@@ -71,7 +72,7 @@ pub(crate) fn write(alloc: Global, call: &Call) -> Result<String, Memory> {
     let salt = Salt::of(call.number(5) as u64);
     let sketch = Sketch::of(alloc, &inventory, cells, salt)?;
     let mut sink = sink_of(alloc, call, 1);
-    let done = write_sketch(alloc, &sketch, &mut sink);
+    let done = write_model(alloc, &sketch, &mut sink);
     written(alloc, done, &sink)
 }
 

@@ -1,5 +1,5 @@
 use Rattle.std.proofs.Common.{Some, ap, refl, rules}
-use Rattle.cadf_tool.specs.InventoryInput.{inventory_spec}
+use Rattle.cadf_tool.specs.ModelInput.{inventory_spec}
 use Rattle.cadf_tool.specs.MissingBy.{part_by}
 use Rattle.cadf_tool.specs.Run.{input_spec, IsValueOf}
 use Rattle.cadf_tool.specs.WrittenFile.{written_file}

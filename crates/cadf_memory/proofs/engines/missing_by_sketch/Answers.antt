@@ -1,7 +1,7 @@
 use Rattle.std.proofs.Common.{Some, ap, refl, rules}
 use Rattle.cadf_tool.specs.Run.{input_spec}
 use Rattle.cadf_tool.specs.Sketch.{IsPartBySketch}
-use Rattle.cadf_tool.specs.SketchInput.{sketch_spec}
+use Rattle.cadf_tool.specs.ModelInput.{sketch_spec}
 use Rattle.cadf_tool.specs.WrittenFile.{written_file}
 use Rattle.cadf_memory.proofs.Made.{run_made_two}
 use Rattle.cadf_memory.proofs.Refused.{run_refused_two}

@@ -1,6 +1,6 @@
 use Rattle.std.proofs.Common.{Some, ap, refl, rules}
 use Rattle.cadf_tool.specs.Run.{input_spec}
-use Rattle.cadf_tool.specs.SealInput.{seal_spec, proof_spec}
+use Rattle.cadf_tool.specs.ModelInput.{seal_spec, proof_spec}
 use Rattle.cadf_tool.specs.Verify.{verdict_of}
 use Rattle.cadf_memory.proofs.Made.{run_made_three}
 use Rattle.cadf_memory.proofs.Refused.{run_refused_three}

@@ -1,5 +1,5 @@
 use Rattle.std.proofs.Common.{None, [], ◌∷◌, subst}
-use Rattle.cadf_tool.specs.InventoryInput.{inventory_spec}
+use Rattle.cadf_tool.specs.ModelInput.{inventory_spec}
 use Rattle.cadf_tool.specs.MissingBy.{part_by}
 use Rattle.cadf_tool.specs.Run.{one, with_number, transition_of, input_spec, IsValueOf, IsWorked}
 use Rattle.cadf_tool.proofs.Runs.{both_worked}

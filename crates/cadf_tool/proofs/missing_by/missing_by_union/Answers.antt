@@ -1,6 +1,6 @@
 use Rattle.std.proofs.Common.{◌+◌, length, None, sym, ap}
 use Rattle.std.proofs.lemmas.Result.{err_from_is_err_and}
-use Rattle.cadf_tool.specs.InventoryInput.{inventory_spec}
+use Rattle.cadf_tool.specs.ModelInput.{inventory_spec}
 use Rattle.cadf_tool.specs.MissingBy.{part_by_union}
 use Rattle.cadf_tool.specs.Run.{all, with_number, transition_of, IsValueOf}
 use Rattle.cadf_tool.proofs.LoadedLists.{none_failed, all_count}

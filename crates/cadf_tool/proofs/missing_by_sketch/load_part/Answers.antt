@@ -1,6 +1,6 @@
 use Rattle.std.proofs.Common.{None, [], ◌∷◌}
 use Rattle.cadf_tool.specs.Sketch.{IsPartBySketch}
-use Rattle.cadf_tool.specs.SketchInput.{sketch_spec}
+use Rattle.cadf_tool.specs.ModelInput.{sketch_spec}
 use Rattle.cadf_tool.specs.Run.{one, with_number, transition_of, input_spec}
 use Rattle.cadf_tool.proofs.Runs.{both_worked}
 use Rattle.cadf_tool.proofs.Unions.{first_place}
@@ -11,7 +11,7 @@ pub returns : goal.returns
 returns g c =
     let f = c.in_ok-first.ensures.ok in
     both_worked (one input_spec (transition_of g.R.Source c.args.from.now c.next.new.input))
-    (with_number 2 sketch_spec (transition_of g.R.Source c.args.sketch.now c.load_sketch.new.input)) IsPartBySketch
+    (with_number 2 sketch_spec (transition_of g.R.Source c.args.sketch.now c.load_model.new.input)) IsPartBySketch
     c.in_ok-first.ensures.reads c.in_ok-read.ensures.reads f.0 c.in_ok-read.read c.part.result f.1 f.1.1 c.in_ok-read.ensures.ok c.in_ok-read.ensures.ok.1
     (by_sketch_worked f.0 c.in_ok-read.read c.part.result
     (c.part.ensures (f.0 ∷ []) (number_two f.0) (f.2 1 None [] first_place (c.new.ensures 1))))

@@ -1,7 +1,7 @@
 use Rattle.std.proofs.Common.{◌+◌, length, None, sym, ap}
 use Rattle.std.proofs.lemmas.Result.{err_from_is_err_and}
 use Rattle.cadf_tool.specs.Sketch.{IsPartOfUnionBySketch}
-use Rattle.cadf_tool.specs.SketchInput.{sketch_spec}
+use Rattle.cadf_tool.specs.ModelInput.{sketch_spec}
 use Rattle.cadf_tool.specs.Run.{all, with_number, transition_of}
 use Rattle.cadf_tool.proofs.LoadedLists.{none_failed, all_count}
 use Rattle.cadf_tool.proofs.Runs.{both_worked, second_not_read}
@@ -12,7 +12,7 @@ returns-in_err-read g c =
     let p = err_from_is_err_and c.from_residual-in_err-read.result c.from_residual-in_err-read.ensures.1 in
     let f = c.in_ok-union.ensures.ok in
     rw (p.1, p.2) (second_not_read (all g.R.Source c.args.from.now c.union_with.new.inputs)
-    (with_number (length c.args.from.now + 1) sketch_spec (transition_of g.R.Source c.args.sketch.now c.load_sketch.new.input)) IsPartOfUnionBySketch
+    (with_number (length c.args.from.now + 1) sketch_spec (transition_of g.R.Source c.args.sketch.now c.load_model.new.input)) IsPartOfUnionBySketch
     c.in_ok-union.ensures.reads c.in_err-read.ensures.reads f.0 c.in_err-read.field-0.0 f.1 (none_failed _ _ f.0 f.1)
     c.in_err-read.ensures.err)
 
@@ -20,7 +20,7 @@ pub returns : goal.returns
 returns g c =
     let f = c.in_ok-union.ensures.ok in
     both_worked (all g.R.Source c.args.from.now c.union_with.new.inputs)
-    (with_number (length c.args.from.now + 1) sketch_spec (transition_of g.R.Source c.args.sketch.now c.load_sketch.new.input)) IsPartOfUnionBySketch
+    (with_number (length c.args.from.now + 1) sketch_spec (transition_of g.R.Source c.args.sketch.now c.load_model.new.input)) IsPartOfUnionBySketch
     c.in_ok-union.ensures.reads c.in_ok-read.ensures.reads f.0 c.in_ok-read.read c.part.result f.1 (none_failed _ _ f.0 f.1) c.in_ok-read.ensures.ok c.in_ok-read.ensures.ok.1
     (c.part.ensures f.0 (ap (λ n. n + 1) (sym (all_count g.R.Source c.args.from.now c.union_with.new.inputs f.0 f.1)))
     (f.2 None (c.new.ensures 1)))

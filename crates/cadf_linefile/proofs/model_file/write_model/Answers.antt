@@ -1,0 +1,10 @@
+use Rattle.std.proofs.lemmas.Grind.{common_steps}
+use Rattle.std.proofs.Common.{arith}
+use Rattle.cadf_linefile.proofs.WritingLemmas.{on_ok, on_err}
+use Rattle.cadf_linefile.proofs.model_file.write_model.Goals as goal
+
+pub returns-clause-bytes : goal.returns-clause-bytes
+returns-clause-bytes g c = grind (arith, common_steps, on_ok)
+
+pub returns-clause-front : goal.returns-clause-front
+returns-clause-front g c = grind (arith, common_steps, on_err)

@@ -1,0 +1,33 @@
+use Rattle.std.proofs.lemmas.Grind.{common_steps}
+use Rattle.std.proofs.Common.{arith}
+use Rattle.std.proofs.Common.{◌≡◌, ◌∙◌, ◌++◌, ◌∷◌, [], None, sym, subst}
+use Rattle.std.specs.Prelude.{IfErr}
+use Rattle.cadf_linefile.specs.Answers.{CauseIs}
+use Rattle.cadf_linefile.proofs.WritingLemmas.{on_ok}
+use Rattle.cadf_sketch.specs.SketchFile.{head_line}
+use Rattle.cadf_sketch.specs.SketchLines.{AreTold, AreCellsOf}
+use Rattle.cadf_sketch.specs.SketchVerdict.{cause_after}
+use Rattle.cadf_sketch.proofs.ToldLemmas.{head_told, lines_told, tally_told, cell_cause, cell_told}
+use Rattle.cadf_sketch.proofs.sketch_lines.SketchModelFile.put_line.Goals as goal
+
+pub returns-in-Some-clause-ok : goal.returns-in-Some-clause-ok
+returns-in-Some-clause-ok c = rw c.in-Nothing.is (head_told c.args.line.now c.in-Some.head c.in-Some.ensures)
+
+pub returns-in-Some-2-clause-ok : goal.returns-in-Some-2-clause-ok
+returns-in-Some-2-clause-ok c =
+    let h = c.in-Beginning.head in
+    let l = c.args.line.now in
+    let t = c.in-Some-2.tally in
+    rw c.in-Beginning.is
+    (subst (λ cs. (cause_after (head_line h ∷ []) l ≡ None) × (lines_told h t cs ≡ head_line h ∷ l ∷ []) × AreCellsOf h t cs) (sym c.new.ensures.items)
+    (tally_told h l t (subst AreTold c.in-Beginning.is c.requires) (sym c.in-Some-2.is ∙ c.in_ok-tally-in-Beginning.ensures)))
+
+pub returns-in-Cells-clause-ok : goal.returns-in-Cells-clause-ok
+returns-in-Cells-clause-ok c = grind (arith, common_steps, on_ok, cell_told)
+
+pub returns-in-Cells-clause-err : goal.returns-in-Cells-clause-err
+returns-in-Cells-clause-err c =
+    let told = c.in-Cells.is in
+    let are = subst AreTold told c.requires in
+    rw told (subst (λ o. IfErr c.put_cell.result (λ e. CauseIs e o))
+    (sym (cell_cause c.in-Cells.head c.in-Cells.field-1 c.in-Cells.cells.items c.args.line.now are.head)) c.put_cell.ensures.err)

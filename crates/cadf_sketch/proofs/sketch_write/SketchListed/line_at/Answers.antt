@@ -1,8 +1,0 @@
-use Rattle.std.proofs.lemmas.Grind.{common_steps}
-use Rattle.std.proofs.Common.{◌≤◌, ◌-◌, ◌∙◌, [], get_or, arith}
-use Rattle.cadf_join.proofs.Outcome as outcome
-use Rattle.cadf_sketch.proofs.WriteLemmas.{cell_there}
-use Rattle.cadf_sketch.proofs.sketch_write.SketchListed.line_at.Goals as goal
-
-pub returns-in_default : goal.returns-in_default
-returns-in_default c = grind (arith, common_steps, get_or, cell_there)
