@@ -39,7 +39,7 @@ ROWS = [
     Row("package: older C library", "install/package", '"libc6 (>= %s)" % needs.glibc(file.content)', '"libc6 (>= 2.4)"', PACKAGES + "test_depends"),
     Row("package: pages for the owner", "install/deb.py", "file.content, file.mode)", "file.content, file.mode & ~(0o044 if path.endswith('.md') else 0))", PACKAGES + "test_contents"),
     Row("install: old files stay", "install/install", "if place not in places])", "if place not in places][:0])", INSTALLED + "test_install_over"),
-    Row("install: in place", "install/install", '    os.replace(path + ".new", path)', "    __import__('shutil').copy2(path + '.new', path)", INSTALLED + "test_install_over"),
+    Row("install: in place", "install/contents.py", '    os.replace(working, path)', "    __import__('shutil').copy2(working, path)", INSTALLED + "test_install_over"),
     Row("install: removes others' files", "install/install", "            elif not os.listdir(path):\n                os.rmdir(path)", "            else:\n                __import__('shutil').rmtree(path)", INSTALLED + "test_uninstall"),
     Row("install: two at once", "install/install", "        fcntl.flock(folder, fcntl.LOCK_EX | fcntl.LOCK_NB)\n", "        pass\n", INSTALLED + "test_two_at_once"),
     Row("manual: no --cells", "share/man/man1/cadf.1", ".RB [ \\-\\-cells\n.IR N ]\n", "", INSTALLED + "test_commands"),
