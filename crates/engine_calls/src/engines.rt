@@ -68,7 +68,12 @@ fn missing_by(alloc: Global, words: Words<'_>, sink: &mut Output) -> Ran {
 fn sketch(alloc: Global, words: Words<'_>, sink: &mut Output) -> Ran {
     let cells = Cells::of(words.number(4) as u64);
     let salt = Salt::of(words.number(5) as u64);
-    Some(run_one(alloc, &SketchEngine { cells, salt }, &mut words.source(6), sink))
+    Some(run_one(
+        alloc,
+        &SketchEngine { cells, salt },
+        &mut words.source(6),
+        sink,
+    ))
 }
 
 /// Runs `run_missing_by_sketch`. Its words are two readers.
@@ -162,7 +167,12 @@ fn sketch_union(alloc: Global, words: Words<'_>, sink: &mut Output) -> Ran {
     let cells = Cells::of(words.number(4) as u64);
     let salt = Salt::of(words.number(5) as u64);
     let mut inputs = sources(alloc, words, 6).ok()?;
-    Some(run_union(alloc, &SketchEngine { cells, salt }, inputs.as_mut_slice(), sink))
+    Some(run_union(
+        alloc,
+        &SketchEngine { cells, salt },
+        inputs.as_mut_slice(),
+        sink,
+    ))
 }
 
 /// Runs `run_union` of a ruling. Its words are those of `run_rule`, with further readers.
@@ -172,14 +182,24 @@ fn rule_union(alloc: Global, words: Words<'_>, sink: &mut Output) -> Ran {
     let place = words.number(6) as u64;
     let mut inputs = sources(alloc, words, 7).ok()?;
     let key = &key;
-    Some(run_union(alloc, &RuleEngine { letter, key, place }, inputs.as_mut_slice(), sink))
+    Some(run_union(
+        alloc,
+        &RuleEngine { letter, key, place },
+        inputs.as_mut_slice(),
+        sink,
+    ))
 }
 
 /// Runs `run_union` of what is shown. Its words are those of `run_show`, with further readers.
 fn show_union(alloc: Global, words: Words<'_>, sink: &mut Output) -> Ran {
     let conflicts = words.text(4) == "conflicts";
     let mut inputs = sources(alloc, words, 5).ok()?;
-    Some(run_union(alloc, &ShowEngine { conflicts }, inputs.as_mut_slice(), sink))
+    Some(run_union(
+        alloc,
+        &ShowEngine { conflicts },
+        inputs.as_mut_slice(),
+        sink,
+    ))
 }
 
 /// Runs the engine over unions of that name. `None` if there is none, or if its words don't fit.
