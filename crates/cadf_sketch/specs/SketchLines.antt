@@ -1,7 +1,7 @@
 -- The lines of a sketch's file that have been read so far, and the values decoded from them.
 --     told_lines told          the lines after the log line that have these values
 --     AreTold told             the invariant of the values so far
-use Rattle.std.specs.Prelude.{◌≡◌, ◌≤◌, ◌<◌, ◌*◌, ℕ, List, [], ◌∷◌, ◌++◌, length, map, true, Some, None}
+use Rattle.std.specs.Prelude.{◌≡◌, ◌≤◌, ◌<◌, ◌*◌, ℕ, List, [], ◌∷◌, ◌++◌, length, map, Some}
 use Rattle.std.specs.List.{AllByRecursion}
 use Rattle.cadf_sketch.specs.SketchFile.{head_line, counts_line, cell_line, IsHead, IsTally, IsCell}
 use Rattle.cadf_sketch.specs.SketchVerdict.{cell_in}

@@ -1,6 +1,6 @@
 -- The lines that describe each site.
 use Rattle.std.proofs.lemmas.Grind.{common_steps}
-use Rattle.std.proofs.Common.{arith, ◌≡◌, Bool, true, refl, true≢false}
+use Rattle.std.proofs.Common.{arith, ◌≡◌, Bool, true, refl}
 use Rattle.std.specs.Prelude.{◌&&◌, ◌↔◌, IsTrue}
 use Rattle.cadf_join.specs.Contents.{Contents}
 use Rattle.cadf_join.specs.Sets as set

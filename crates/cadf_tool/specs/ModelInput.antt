@@ -2,7 +2,7 @@
 --     RefusesModel k old new f     the source is refused for the fault of its bytes as a file of the kind
 --     model_spec k Is              how the source is read
 --     inventory_spec, sketch_spec, seal_spec, proof_spec    how it is read as a file of each of these kinds
-use Rattle.std.specs.Prelude.{◌≡◌, ◌≢◌, ◌⊎◌, ℕ, List, Bool, true, false, Option, None, Result, Err}
+use Rattle.std.specs.Prelude.{◌≡◌, ◌≢◌, ◌⊎◌, ℕ, List, Bool, true, false, None, Err}
 use Rattle.std.specs.Io.KnownBytes.{Consumes, IsAtEnd}
 use Rattle.cadf_json.specs.Streams.{counted}
 use Rattle.cadf_inventory.specs.InventoryFile.{IsInventory}

@@ -1,6 +1,5 @@
 use Rattle.std.proofs.lemmas.Grind.{common_steps}
 use Rattle.std.proofs.Common.{arith}
-use Rattle.std.proofs.Common.{◌∙◌, ◌++◌}
 use Rattle.cadf_seal.proofs.HiddenLemmas.{hidden_all, none_hidden}
 use Rattle.cadf_seal.proofs.hidden_subtrees.hidden_for.Goals as goal
 use Rattle.cadf_seal.proofs.hidden_subtrees.hidden_for.Goals.{then-count-gt0+in_ok-push_hidden, else-count-gt0}

@@ -1,5 +1,5 @@
 use Rattle.std.proofs.lemmas.Grind.{common_steps}
-use Rattle.std.proofs.Common.{◌∙◌, arith}
+use Rattle.std.proofs.Common.{arith}
 use Rattle.cadf_seal.proofs.Splitting.{until_rises, from_rises, last_part}
 use Rattle.cadf_seal.proofs.Trees.{half, halves}
 use Rattle.cadf_seal.proofs.rebuilt.+rebuilt.Goals as goal

@@ -1,6 +1,5 @@
 use Rattle.std.proofs.lemmas.Grind.{common_steps}
 use Rattle.std.proofs.Common.{arith}
-use Rattle.std.proofs.Common.{◌∙◌}
 use Rattle.cadf_seal.proofs.Trees.{root_none, root_all}
 use Rattle.cadf_seal.proofs.tree.root_of.Goals as goal
 

@@ -1,7 +1,5 @@
 use Rattle.std.proofs.lemmas.Grind.{common_steps}
 use Rattle.std.proofs.Common.{arith}
-use Rattle.std.proofs.Common.{◌∙◌}
-use Rattle.cadf_join.specs.Sets as set
 use Rattle.cadf_line.proofs.SpelledLines.{noted_rising}
 use Rattle.cadf_sketch.proofs.answer.inventory_of.Goals as goal
 

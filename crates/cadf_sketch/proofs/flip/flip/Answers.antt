@@ -1,6 +1,5 @@
 use Rattle.std.proofs.lemmas.Grind.{common_steps}
 use Rattle.std.proofs.Common.{arith}
-use Rattle.std.proofs.Common.{◌∙◌}
 use Rattle.cadf_sketch.proofs.FlipLemmas.{flipped_in_turn, flipped_in_turn_is}
 use Rattle.cadf_sketch.proofs.flip.flip.Goals as goal
 

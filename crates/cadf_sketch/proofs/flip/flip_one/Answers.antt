@@ -1,6 +1,5 @@
 use Rattle.std.proofs.lemmas.Grind.{common_steps}
 use Rattle.std.proofs.Common.{arith}
-use Rattle.std.proofs.Common.{◌∙◌}
 use Rattle.cadf_sketch.proofs.FlipLemmas.{apart-insert, apart-remove}
 use Rattle.cadf_sketch.proofs.flip.flip_one.Goals as goal
 

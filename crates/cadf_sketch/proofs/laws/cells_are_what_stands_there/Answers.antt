@@ -1,6 +1,5 @@
 use Rattle.std.proofs.lemmas.Grind.{common_steps}
 use Rattle.std.proofs.Common.{arith}
-use Rattle.std.proofs.Common.{◌∙◌, ◌*◌}
 use Rattle.std.proofs.lemmas.List.{length-replicate}
 use Rattle.cadf_join.specs.Sets.{rising}
 use Rattle.cadf_sketch.specs.Sketches.{cells_of, sketch_of}

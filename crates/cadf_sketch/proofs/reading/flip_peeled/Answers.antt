@@ -1,6 +1,5 @@
 use Rattle.std.proofs.lemmas.Grind.{common_steps}
 use Rattle.std.proofs.Common.{arith}
-use Rattle.std.proofs.Common.{◌≡◌, ◌≤◌, ◌⊎◌, ◌*◌, ◌∙◌}
 use Rattle.cadf_sketch.specs.Flips.{apart, flipped}
 use Rattle.cadf_sketch.proofs.FlipLemmas.{apart_twice}
 use Rattle.cadf_sketch.proofs.PeelLemmas.{peels_same}

@@ -1,6 +1,5 @@
 use Rattle.std.proofs.lemmas.Grind.{common_steps}
 use Rattle.std.proofs.Common.{arith}
-use Rattle.std.proofs.Common.{◌∙◌, ◌∷◌, ◌++◌}
 use Rattle.cadf_sketch.proofs.sketch_write.counts_line.Goals as goal
 
 pub returns : goal.returns

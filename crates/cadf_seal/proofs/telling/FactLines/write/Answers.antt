@@ -1,5 +1,5 @@
 use Rattle.std.proofs.lemmas.Grind.{common_steps}
-use Rattle.std.proofs.Common.{◌≡◌, ◌∙◌, ◌++◌, ◌+◌, ◌-◌, ◌∷◌, ap, subst, drop, arith}
+use Rattle.std.proofs.Common.{◌≡◌, ◌∙◌, ◌++◌, ◌+◌, ◌-◌, ap, subst, drop, arith}
 use Rattle.std.specs.List.{repeat}
 use Rattle.std.proofs.lemmas.Result.{err_from_is_err_and}
 use Rattle.cadf_json.specs.Streams.{AppendsPrefix}

@@ -1,6 +1,5 @@
 use Rattle.std.proofs.lemmas.Grind.{common_steps}
 use Rattle.std.proofs.Common.{arith}
-use Rattle.std.proofs.Common.{◌∙◌}
 use Rattle.std.proofs.lemmas.List.{with_items_is}
 use Rattle.cadf_sketch.specs.Sketches.{cells_of, sketch_of}
 use Rattle.cadf_sketch.proofs.WholeLemmas.{sketch_parts}
