@@ -149,9 +149,9 @@ def shuffled_members(numbers):
     return "{%s}" % ",".join('"%s":0' % name for name in shuffled(numbers))
 
 
-def replaced_members(numbers):
-    """An object with short names in no order, each with a number that isn't whole and then with one that is."""
-    return "{%s}" % ",".join('"%s":%s' % (name, text) for text in ("-0", "0") for name in shuffled(numbers))
+def replaced_members(names):
+    """An object that has each name with a number that isn't whole, and then each with one that is."""
+    return "{%s}" % ",".join('"%s":%s' % (name, text) for text in ("-0", "0") for name in names)
 
 
 def nested_falling(numbers, depth):
@@ -256,7 +256,9 @@ SHAPES = {
                         is_refused=True, memory=4),
     "line-fraction": Shape("a line of `0` behind a fraction, refused", 2, lines=lambda numbers: [
         "[1.5,%s]" % ",".join("0" for _ in numbers)], forms=FILES, is_refused=True, memory=4),
-    "line-replaced": Shape("a line of members `-0`, each of which a later one replaces, refused", 17, lines=lambda numbers: [
-        replaced_members(numbers)], forms=FILES, is_refused=True, memory=4),
+    "line-replaced": Shape("a line of members `-0` in no order, each of which a later one replaces, refused", 17, lines=lambda numbers: [
+        replaced_members(shuffled(numbers))], forms=FILES, is_refused=True, memory=4),
+    "line-rising": Shape("a line of members `-0` in rising order, each of which a later one replaces, refused", 17, lines=lambda numbers: [
+        replaced_members(sorted(map(short, numbers)))], forms=FILES, is_refused=True, memory=4),
     "line-1": Shape("a line of `{\"\":0}`, refused", 7, lines=line, forms=(FILE_1,), is_refused=True, memory=TINY),
 }
