@@ -7,7 +7,7 @@ use Rattle.std.specs.Ordering.{is_lt}
 use Rattle.std.specs.declared.cmp.Ordering.{Ordering}
 use Rattle.std.specs.declared.cmp.Ordering.TheVariants.{Less}
 use Rattle.json.specs.Token.{Token}
-use Rattle.json.specs.Json.{value, number, array, object, Json, Items, no_items, item, Members, no_members, member, Parse, parse_map, after_end_array}
+use Rattle.json.specs.Json.{value, array, object, Json, Items, no_items, item, Members, no_members, member, Parse, parse_map, after_end_array}
 use Rattle.json.specs.Json.{read_key, items_step, items, members}
 use Rattle.json.proofs.Grammar.{value_is, value-begin_array, value-begin_object, items_end, items_more, members_end, members_no_key, members_more}
 use Rattle.cadf_json.specs.Value.{RisesFrom}

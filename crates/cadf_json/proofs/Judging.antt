@@ -1,18 +1,15 @@
 -- The loops of the judge: items and members, read one after another.
 use Rattle.std.proofs.lemmas.Grind.{common_steps}
-use Rattle.std.proofs.Common.{◌≡◌, ℕ, ◌+◌, ◌-◌, ◌<◌, ◌≤◌, List, [], ◌∷◌, length, Bool, true, false, cond, nat_cmp, Option}
+use Rattle.std.proofs.Common.{◌≡◌, ℕ, ◌+◌, ◌-◌, ◌<◌, ◌≤◌, List, [], ◌∷◌, length, Bool, true, false, cond, Option}
 use Rattle.std.proofs.Common.{Some, None, option_map, refl, sym, ap, ap₂, ◌∙◌, subst, arith}
 use Rattle.std.specs.Prelude.{◌||◌, ◌&&◌, not, nat_le, is_some, option_and_then, unwrap_or, if◌then◌else◌, IsTrue, IsUtf8, ◌↔◌}
-use Rattle.std.specs.BTreeSet.{BTreeSet, contains_by, UpdatesBy}
+use Rattle.std.specs.HashSet.{HashSet, contains_by, UpdatesBy}
 use Rattle.std.specs.Set.{KeepsOthers}
 use Rattle.std.specs.Map.{IsKeyTest, AreApart}
 use Rattle.std.proofs.lemmas.Slice.Eq.{bytes_eq-Decides}
 use mathlib.Core.Bool.{true≢false}
 use Rattle.std.specs.List.{list_any}
-use Rattle.std.specs.Ordering.{is_eq}
-use Rattle.std.specs.Cmp.{eq_by_cmp_equiv}
-use Rattle.std.specs.Cmp.Lexicographic.{slice_cmp, nat_list_cmp_total, nat_list_eq_equiv}
-use Rattle.std.proofs.lemmas.Map.Text.{is_eq-slice_cmp}
+use Rattle.std.specs.Cmp.Lexicographic.{nat_list_eq_equiv}
 use Rattle.std.specs.Str.{bytes_eq}
 use denote.Ref.{Bor}
 use Rattle.json.specs.Token.{Token}
@@ -23,6 +20,7 @@ use Rattle.json.specs.Lex.{tokens}
 use Rattle.json.proofs.Trees.{none_before}
 use Rattle.serde_json.specs.Data.{Data, null, boolean, number, string, array, object, Members, no_members, put}
 use Rattle.serde_json.specs.Read.{of_json, of_items, of_members, converted, read}
+use Rattle.cadf_json.specs.declared.name_hashing.NameHashing.{NameHashing}
 use Rattle.cadf_json.specs.declared.spells.Window.{Window}
 use Rattle.cadf_json.specs.Fractions.{fractions, items_fractions, members_fractions, after, is_left, is_left_in_items, asked, IsPassed}
 use Rattle.cadf_json.specs.Fractions.{IsNumberJudged, IsJudged, AreItemsJudged, AreMembersJudged, IsTextJudged}
@@ -219,29 +217,30 @@ module _ (depth : ℕ) (start : List Token) (w : Window) where
 
 -- ---- names
 
+abbrev Names : Type 0
+Names = HashSet (Bor (List ℕ)) NameHashing
+
 -- the name is in the set
-abbrev pub has_name : BTreeSet (Bor (List ℕ)) → List ℕ → Bool
-has_name s q = contains_by (λ k. slice_cmp nat_cmp q k.now) s
+abbrev pub has_name : Names → List ℕ → Bool
+has_name s q = contains_by (λ k. bytes_eq q k.now) s
 
 others : (eq : Bor (List ℕ) → Bor (List ℕ) → Bool) (test : Bor (List ℕ) → Bool) (old new : List (Bor (List ℕ))) → KeepsOthers eq test old new
     → (other : Bor (List ℕ) → Bool) → IsKeyTest eq other → AreApart test other → list_any other new ≡ list_any other old
 unfolding KeepsOthers
 others eq test old new h = h
 
-pub names_updated : (bs : List ℕ) (s n : BTreeSet (Bor (List ℕ))) (b : Bool)
-    → UpdatesBy (λ x y. slice_cmp nat_cmp x.now y.now) (λ k. slice_cmp nat_cmp bs k.now) s n b
+pub names_updated : (bs : List ℕ) (s n : Names) (b : Bool) → UpdatesBy (λ x y. bytes_eq x.now y.now) (λ k. bytes_eq bs k.now) s n b
     → (cs : List ℕ) → has_name n cs ≡ cond (bytes_eq bs cs) b (has_name s cs)
 names_updated bs s n b h cs = by (bytes_eq bs cs) refl
   where
     by : (e : Bool) → bytes_eq bs cs ≡ e → has_name n cs ≡ cond e b (has_name s cs)
     by true e = subst (λ l. has_name n l ≡ b) ((bytes_eq-Decides bs cs).0 e) h.1
-    by false e = others _ _ _ _ h.3 _ (λ x y. (eq_by_cmp_equiv nat_list_cmp_total).congr cs x.now y.now)
-        (λ k y. is_eq-slice_cmp cs k.now ∙ nat_list_eq_equiv.symm cs k.now
-        ∙ sym (nat_list_eq_equiv.congr bs k.now cs (sym (is_eq-slice_cmp bs k.now) ∙ y)) ∙ e)
+    by false e = others _ _ _ _ h.3 _ (λ x y. nat_list_eq_equiv.congr cs x.now y.now)
+        (λ k y. nat_list_eq_equiv.symm cs k.now ∙ sym (nat_list_eq_equiv.congr bs k.now cs y) ∙ e)
 
 -- ---- members
 
-pub record MembersJudged (depth : ℕ) (start now : List Token) (names : BTreeSet (Bor (List ℕ))) (w v : Window) : Type 0 where
+pub record MembersJudged (depth : ℕ) (start now : List Token) (names : Names) (w v : Window) : Type 0 where
   pub bound : ℕ
   pub enough : length now ≤ bound
   pub shorter : length now ≤ length start
@@ -266,7 +265,7 @@ member_reads k j d ms e =
     ap (λ o. is_some (option_and_then (λ x. of_members ms (put k x no_members)) o)) e ∙ reads_at ms (put k d no_members) no_members
 
 module _ (depth : ℕ) (start : List Token) (w : Window) where
-  pub members_begin : (names : BTreeSet (Bor (List ℕ))) → names.keys ≡ [] → MembersJudged depth start start names w w
+  pub members_begin : (names : Names) → names.keys ≡ [] → MembersJudged depth start start names w w
   members_begin names none = record {
     bound = length start;
     enough = omega arith;
@@ -274,11 +273,11 @@ module _ (depth : ℕ) (start : List Token) (w : Window) where
     begun = λ ms. ms;
     so_far = none_before _;
     reads = λ ms. refl;
-    left_is = λ q ms. ap (λ ks. pending (asked w) q ms (list_any (λ k. is_eq (slice_cmp nat_cmp q k.now)) ks)) (sym none);
+    left_is = λ q ms. ap (λ ks. pending (asked w) q ms (list_any (λ k. bytes_eq q k.now) ks)) (sym none);
     passes = λ ms u h. h;
   }
 
-  pub member_judged : (now s r : List Token) (names more : BTreeSet (Bor (List ℕ))) (b : Bool) (v u : Window) (k : List ℕ) (j : json.Json) (d : Data)
+  pub member_judged : (now s r : List Token) (names more : Names) (b : Bool) (v u : Window) (k : List ℕ) (j : json.Json) (d : Data)
       → MembersJudged depth start now names w v → read_key now ≡ Some (Some k, s) → value depth s ≡ Some (j, r) → of_json j ≡ Some d
       → b ≡ is_left (asked v) j → IsPassed (fractions j) v u → length r < length now → ((q : List ℕ) → has_name more q ≡ cond (bytes_eq k q) b (has_name names q))
       → MembersJudged depth start r more w u
@@ -299,7 +298,7 @@ module _ (depth : ℕ) (start : List Token) (w : Window) where
         passes = λ ms x e. h.passes (json.member k j ms) x (passed_both (fractions j) (members_fractions ms) v u x passes e);
       }
 
-  pub members_judged : (now r : List Token) (names : BTreeSet (Bor (List ℕ))) (v : Window) (none : Bool)
+  pub members_judged : (now r : List Token) (names : Names) (v : Window) (none : Bool)
       → MembersJudged depth start now names w v → read_key now ≡ Some (None, r) → IsTrue none ↔ (length names.keys ≡ 0)
       → AreMembersJudged (not none) depth start r w v
   members_judged now r names v none h over empty =
@@ -315,27 +314,27 @@ module _ (depth : ℕ) (start : List Token) (w : Window) where
       }
     where
       some : (ks : List (Bor (List ℕ))) (b : Bool) → IsTrue b ↔ (length ks ≡ 0) → not b ≡ true
-          → (q : List ℕ) × (list_any (λ k. is_eq (slice_cmp nat_cmp q k.now)) ks ≡ true)
+          → (q : List ℕ) × (list_any (λ k. bytes_eq q k.now) ks ≡ true)
       some [] true e n = absurd cc
       some [] false e n = absurd (true≢false (sym (e.1 refl)))
       some (x ∷ ks) b e n =
-          let itself = is_eq-slice_cmp x.now x.now ∙ (bytes_eq-Decides x.now x.now).1 refl in
-          (x.now, ap (λ a. a || list_any (λ k. is_eq (slice_cmp nat_cmp x.now k.now)) ks) itself)
+          let itself = (bytes_eq-Decides x.now x.now).1 refl in
+          (x.now, ap (λ a. a || list_any (λ k. bytes_eq x.now k.now) ks) itself)
 
       any : (ks : List (Bor (List ℕ))) (b : Bool) → IsTrue b ↔ (length ks ≡ 0) → (q : List ℕ)
-          → list_any (λ k. is_eq (slice_cmp nat_cmp q k.now)) ks ≡ true → not b ≡ true
+          → list_any (λ k. bytes_eq q k.now) ks ≡ true → not b ≡ true
       any [] b e q h = absurd cc
       any (x ∷ ks) true e q h = let none = e.0 refl in absurd (omega (arith, none))
       any (x ∷ ks) false e q h = refl
 
-  pub no_key_judged : (now : List Token) (names : BTreeSet (Bor (List ℕ))) (v : Window) → MembersJudged depth start now names w v
+  pub no_key_judged : (now : List Token) (names : Names) (v : Window) → MembersJudged depth start now names w v
       → read_key now ≡ None → converted (λ ms. of_members ms no_members) (members (value depth) (length start) start) ≡ None
   no_key_judged now names v h key =
       ap (converted (λ ms. of_members ms no_members)) h.so_far
       ∙ still_none (λ ms. of_members ms no_members) h.begun (members (value depth) h.bound now) h.reads
       (key_failed (value depth) no_members h.bound now key)
 
-  pub no_member_judged : (now s : List Token) (names : BTreeSet (Bor (List ℕ))) (v : Window) (k : List ℕ) → MembersJudged depth start now names w v
+  pub no_member_judged : (now s : List Token) (names : Names) (v : Window) (k : List ℕ) → MembersJudged depth start now names w v
       → read_key now ≡ Some (Some k, s) → converted of_json (value depth s) ≡ None
       → converted (λ ms. of_members ms no_members) (members (value depth) (length start) start) ≡ None
   no_member_judged now s names v k h key e =

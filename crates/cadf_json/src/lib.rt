@@ -8,6 +8,7 @@ mod depth;
 mod items;
 mod laws;
 mod members;
+mod name_hashing;
 mod node;
 mod number;
 mod order;

@@ -7,15 +7,16 @@ ghost use Rattle.cadf_json.specs.Fractions.{IsJudged, AreItemsJudged, AreMembers
 ghost use Rattle.cadf_json.specs.Value.{SpellsValue};
 
 use crate::Memory;
+use crate::name_hashing::NameHashing;
 use crate::number::Number;
 use crate::push::ReadFault;
 use crate::read::MAX_DEPTH;
 use json::{Reader, Scratch, Token};
 use std::alloc::Global;
-use std::collections::BTreeSet;
+use std::collections::HashSet;
 
-/// One pass looks for one number in so many bytes of the text. A name that it keeps takes up to 39.
-const BYTES_FOR_EACH: usize = 24;
+/// One pass looks for one number in so many bytes of the text. A name that it keeps takes up to 46.
+const BYTES_FOR_EACH: usize = 27;
 
 /// The numbers that aren't whole and that one pass looks for, of those that come next: the first `before` are passed
 /// over, then `wanted` are looked for.
@@ -62,6 +63,7 @@ fn judge_value(
     alloc: Global,
     reader: &mut Reader<'_>,
     depth: usize,
+    hashing: NameHashing,
     window: &mut Window,
 ) -> Result<bool, ReadFault>
     ensures ok { IfOk result (λ left. IsJudged left depth reader.old reader.new window.old window.new) }
@@ -79,13 +81,13 @@ fn judge_value(
             if depth == 0 {
                 return Err(ReadFault::NotJson);
             }
-            Ok(judge_items(alloc, reader, depth - 1, window)?)
+            Ok(judge_items(alloc, reader, depth - 1, hashing, window)?)
         }
         Token::BeginObject => {
             if depth == 0 {
                 return Err(ReadFault::NotJson);
             }
-            Ok(judge_members(alloc, reader, depth - 1, window)?)
+            Ok(judge_members(alloc, reader, depth - 1, hashing, window)?)
         }
     }
 }
@@ -97,6 +99,7 @@ fn judge_items(
     alloc: Global,
     reader: &mut Reader<'_>,
     depth: usize,
+    hashing: NameHashing,
     window: &mut Window,
 ) -> Result<bool, ReadFault>
     ensures ok { IfOk result (λ left. AreItemsJudged left depth reader.old reader.new window.old window.new) }
@@ -105,7 +108,7 @@ fn judge_items(
 {
     let mut left = false;
     'items: while !reader.take_end_array() {
-        left = judge_value(alloc, reader, depth, window)? | left;
+        left = judge_value(alloc, reader, depth, hashing, window)? | left;
     }
     Ok(left)
 }
@@ -118,13 +121,14 @@ fn judge_members<'a>(
     alloc: Global,
     reader: &mut Reader<'a>,
     depth: usize,
+    hashing: NameHashing,
     window: &mut Window,
 ) -> Result<bool, ReadFault>
     ensures ok { IfOk result (λ left. AreMembersJudged left depth reader.old reader.new window.old window.new) }
     ensures not_json { result ≡ Err ReadFault.NotJson → AreNoMembers depth reader.old }
     ensures shorter { OnOk result (length reader.new < length reader.old) }
 {
-    let mut names: BTreeSet<&'a str> = BTreeSet::new(alloc);
+    let mut names: HashSet<&'a str, NameHashing> = HashSet::with_hasher(alloc, hashing);
     'members: loop {
         let Ok(key) = reader.next_key() else {
             return Err(ReadFault::NotJson);
@@ -132,7 +136,7 @@ fn judge_members<'a>(
         let Some(name) = key else {
             break;
         };
-        if judge_value(alloc, reader, depth, window)? {
+        if judge_value(alloc, reader, depth, hashing, window)? {
             names.insert(name)?;
         } else {
             names.remove(name);
@@ -147,13 +151,14 @@ fn judge_text(
     alloc: Global,
     scratch: &mut Scratch,
     text: &str,
+    hashing: NameHashing,
     window: &mut Window,
 ) -> Result<bool, ReadFault>
     ensures ok { IfOk result (λ left. IsTextJudged left text.now window.old window.new) }
     ensures not_json { result ≡ Err ReadFault.NotJson → read text.now ≡ None }
 {
     let mut reader = Reader::new(text, scratch)?;
-    let left = judge_value(alloc, &mut reader, MAX_DEPTH, window)?;
+    let left = judge_value(alloc, &mut reader, MAX_DEPTH, hashing, window)?;
     match reader.next() {
         Some(_) => Err(ReadFault::NotJson),
         None => Ok(left),
@@ -161,11 +166,12 @@ fn judge_text(
 }
 
 /// Returns whether the text spells a value. Makes no value of it. Reads it once if all numbers are whole, else at most
-/// eight times, and keeps at most one name for 24 bytes. `Memory` if an allocation fails.
+/// nine times, and keeps at most one name for 27 bytes. `Memory` if an allocation fails.
 pub fn spells_value(alloc: Global, text: &str) -> Result<bool, Memory>
     ensures yes { IfOk result (λ b. b ≡ true → (d : Data) × SpellsValue text.now d) }
     ensures no { IfOk result (λ b. b ≡ false → (d : Data) → ¬ SpellsValue text.now d) }
 {
+    let hashing = NameHashing::of(text);
     let mut scratch = Scratch::new(alloc);
     let width = text.len() / BYTES_FOR_EACH + 1;
     let mut before: usize = 0;
@@ -174,7 +180,7 @@ pub fn spells_value(alloc: Global, text: &str) -> Result<bool, Memory>
             before,
             wanted: width,
         };
-        match judge_text(alloc, &mut scratch, text, &mut window) {
+        match judge_text(alloc, &mut scratch, text, hashing, &mut window) {
             Ok(true) => return Ok(false),
             Ok(false) => {}
             Err(ReadFault::NotJson) => return Ok(false),

@@ -1,5 +1,5 @@
 use Rattle.std.proofs.lemmas.Grind.{common_steps}
-use Rattle.std.proofs.Common.{◌-◌, arith}
+use Rattle.std.proofs.Common.{arith}
 use Rattle.json.proofs.Grammar.{value-begin_array}
 use Rattle.cadf_json.proofs.Turns.{converted-array}
 use Rattle.cadf_json.proofs.apart.pass_list.Goals as goal

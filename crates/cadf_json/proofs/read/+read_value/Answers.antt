@@ -1,6 +1,6 @@
 use Rattle.std.proofs.lemmas.Grind.{common_steps}
-use Rattle.std.proofs.Common.{◌≡◌, ◌-◌, ◌+◌, ◌<◌, [], ◌∷◌, length, set, ◌&&◌, Some, None, Err, option_map, refl, sym, ap, ◌∙◌, subst, arith, rules, append-nil}
-use Rattle.json.specs.Json.{after_end_array, read_key, items, members, value}
+use Rattle.std.proofs.Common.{◌≡◌, ◌+◌, ◌<◌, [], ◌∷◌, length, set, ◌&&◌, Some, None, Err, option_map, refl, sym, ap, ◌∙◌, subst, arith, rules, append-nil}
+use Rattle.json.specs.Json.{after_end_array, read_key, value}
 use Rattle.json.specs.Reads.{token_of}
 use Rattle.json.proofs.Grammar.{value_is, value-begin_array, value-begin_object, read_key-shorter}
 use Rattle.serde_json.specs.Data.{null, boolean, number, string}

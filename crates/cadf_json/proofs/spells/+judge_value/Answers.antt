@@ -90,7 +90,7 @@ judge_items-returns-clause-ok t c =
 -- ---- members
 
 pub judge_members-members-init : goal.judge_members-members-init
-judge_members-members-init t c = members_begin c.args.depth c.args.reader.now c.args.window.now c.new-names.result c.new-names.ensures.empty
+judge_members-members-init t c = members_begin c.args.depth c.args.reader.now c.args.window.now c.with_hasher-names.result c.with_hasher-names.ensures.empty
 
 pub judge_members-returns-in_default-clause-not_json : goal.judge_members-returns-in_default-clause-not_json
 judge_members-returns-in_default-clause-not_json t c h =

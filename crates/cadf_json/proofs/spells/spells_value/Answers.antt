@@ -13,6 +13,6 @@ returns-then-window-gt0-clause-yes c h =
 
 pub windows-preserved : goal.windows-preserved
 windows-preserved c =
-    let sum : c.windows.before + (length c.args.text.now / 24 + 1) ≡ c.in_ok-before.before = grind arith in
+    let sum : c.windows.before + (length c.args.text.now / 27 + 1) ≡ c.in_ok-before.before = grind arith in
     subst (NoneBefore c.args.text.now) sum
     (none_before_next c.args.text.now _ c.judge_text.new.window c.in-Ok-false.field-0 c.in-Ok-false.ensures.ok c.windows.invariant (grind arith))
