@@ -16,9 +16,9 @@ use Rattle.cadf_json.specs.Reading.{Entry, AreNamed, put_named, IsFirstMember}
 abbrev pub name_cmp : List ℕ → List ℕ → Ordering
 name_cmp = slice_cmp nat_cmp
 
-pub put_named_push : (ps : List Named) (p : Named) (es : List Entry) → put_named (ps ++ p ∷ []) es ≡ entries.put name_cmp p.name.now p (put_named ps es)
+pub put_named_push : (ps : List Named) (p : Named) (es : List Entry) → put_named (ps ++ p ∷ []) es ≡ entries.put name_cmp p.name p (put_named ps es)
 put_named_push [] p es = refl
-put_named_push (q ∷ ps) p es = put_named_push ps p (entries.put name_cmp q.name.now q es)
+put_named_push (q ∷ ps) p es = put_named_push ps p (entries.put name_cmp q.name q es)
 
 module _ (t : List ℕ) (n : ℕ) where
   named_either : (o : Ordering) (es fs gs : List Entry) (ms ns os : Members) → (o ≡ Less → AreNamed t n es ms) → (o ≡ Equal → AreNamed t n fs ns)

@@ -19,7 +19,7 @@ use Rattle.cadf_json.specs.declared.order.Named.{Named}
 use Rattle.cadf_json.specs.Reading.{Entry, put_named, is_replaced, lasts}
 
 abbrev pub below : Named → Named → Bool
-below p q = is_lt (name_cmp p.name.now q.name.now)
+below p q = is_lt (name_cmp p.name q.name)
 
 -- ---- what is found at a name
 
@@ -29,21 +29,21 @@ ended [] o = o
 ended (p ∷ ps) o = ended ps (Some p)
 
 abbrev has_name : List ℕ → Named → Bool
-has_name k p = eq_by_cmp name_cmp k p.name.now
+has_name k p = eq_by_cmp name_cmp k p.name
 
-found_at : (b : Bool) (k : List ℕ) (p : Named) (ps : List Named) (o : Option Named) → eq_by_cmp name_cmp k p.name.now ≡ b
+found_at : (b : Bool) (k : List ℕ) (p : Named) (ps : List Named) (o : Option Named) → eq_by_cmp name_cmp k p.name ≡ b
     → ended (filter (has_name k) ps) (cond b (Some p) o) ≡ ended (filter (has_name k) (p ∷ ps)) o
 found_at b k p ps o is = grind (arith, common_steps)
 
 found : (k : List ℕ) (ps : List Named) (es : List Entry) → entries.find name_cmp k (put_named ps es) ≡ ended (filter (has_name k) ps) (entries.find name_cmp k es)
 found k [] es = refl
 found k (p ∷ ps) es =
-    found k ps (entries.put name_cmp p.name.now p es) ∙ ap (ended (filter (has_name k) ps)) (entries.find-put name_cmp nat_list_cmp_total k p.name.now p es)
+    found k ps (entries.put name_cmp p.name p es) ∙ ap (ended (filter (has_name k) ps)) (entries.find-put name_cmp nat_list_cmp_total k p.name p es)
     ∙ found_at _ k p ps (entries.find name_cmp k es) refl
 
 in_order : (ps : List Named) (es : List Entry) → T (entries.is_sorted name_cmp es) → T (entries.is_sorted name_cmp (put_named ps es))
 in_order [] es h = h
-in_order (p ∷ ps) es h = in_order ps _ (entries.is_sorted-put name_cmp nat_list_cmp_total p.name.now p es h)
+in_order (p ∷ ps) es h = in_order ps _ (entries.is_sorted-put name_cmp nat_list_cmp_total p.name p es h)
 
 -- ---- a stable sort leaves it as it is
 
@@ -51,10 +51,10 @@ tied_at : (o r : Ordering) → r ≡ ordering_reverse o → not (is_lt o) && not
 tied_at o r is = grind (arith, common_steps)
 
 abbrev pub spot : List ℕ → Named
-spot k = record { name = record { ref_ptr = (0, 0); now = k }; nodes = record { ref_ptr = (0, 0); now = [] } }
+spot k = record { name = k; nodes = record { ref_ptr = (0, 0); now = [] } }
 
 tied : (k : List ℕ) (p : Named) → ties below (spot k) p ≡ has_name k p
-tied k p = tied_at _ _ (nat_list_cmp_total.antisymm p.name.now k)
+tied k p = tied_at _ _ (nat_list_cmp_total.antisymm p.name k)
 
 pub same_puts : (ps qs : List Named) → ((x : Named) → filter (ties below x) qs ≡ filter (ties below x) ps) → put_named qs [] ≡ put_named ps []
 same_puts ps qs stable = entries.same_entries name_cmp nat_list_cmp_total same_name (put_named qs []) (put_named ps []) (in_order qs [] tt) (in_order ps [] tt)
@@ -94,26 +94,26 @@ rise (p ∷ q ∷ ps) h = (h 0 p (omega arith) (omega arith), rise (q ∷ ps) (�
 
 abbrev Under : List Entry → List Named → Type 0
 Under es [] = ⊤
-Under es (p ∷ ps) = AreUnder es p.name.now
+Under es (p ∷ ps) = AreUnder es p.name
 
 under_none : (ps : List Named) → Under [] ps
 under_none ps = grind (arith, common_steps)
 
-put_at_end_at : (o : Ordering) (p q : Named) (ps : List Named) (es : List Entry) → name_cmp p.name.now q.name.now ≡ o → below q p ≡ false → AreUnder es p.name.now
-    → ((fs : List Entry) → AreUnder fs q.name.now → put_named (q ∷ ps) fs ≡ fs ++ lasts (q ∷ ps))
+put_at_end_at : (o : Ordering) (p q : Named) (ps : List Named) (es : List Entry) → name_cmp p.name q.name ≡ o → below q p ≡ false → AreUnder es p.name
+    → ((fs : List Entry) → AreUnder fs q.name → put_named (q ∷ ps) fs ≡ fs ++ lasts (q ∷ ps))
     → put_named (p ∷ q ∷ ps) es ≡ es ++ lasts (p ∷ q ∷ ps)
 put_at_end_at Less p q ps es is up under further = search (rules, is_eq-slice_cmp, greater-from_less, put_last, under_further, append_assoc)
 put_at_end_at Equal p q ps es is up under further =
-    let name = q.name.now in
-    let same = same_name p.name.now name is in
+    let name = q.name in
+    let same = same_name p.name name is in
     let here = subst (AreUnder es) same under in
-    let again : bytes_eq name p.name.now ≡ true = ap (bytes_eq name) same ∙ sym (is_eq-slice_cmp name name) ∙ ap is_eq (itself name) in
+    let again : bytes_eq name p.name ≡ true = ap (bytes_eq name) same ∙ sym (is_eq-slice_cmp name name) ∙ ap is_eq (itself name) in
     grind (arith, common_steps, name_cmp, put_last, put_over)
-put_at_end_at Greater p q ps es is up under further = absurd (let lower = ap is_lt (less-from_greater p.name.now q.name.now is) in cc)
+put_at_end_at Greater p q ps es is up under further = absurd (let lower = ap is_lt (less-from_greater p.name q.name is) in cc)
 
 put_at_end : (ps : List Named) (es : List Entry) → Under es ps → Rise ps → put_named ps es ≡ es ++ lasts ps
 put_at_end [] es under up = sym (append-nil es)
-put_at_end (p ∷ []) es under up = put_last es p.name.now p under
+put_at_end (p ∷ []) es under up = put_last es p.name p under
 put_at_end (p ∷ q ∷ ps) es under up = put_at_end_at _ p q ps es refl up.0 under (λ fs h. put_at_end (q ∷ ps) fs h up.1)
 
 pub lasts_are : (ps qs : List Named) → IsSortedBy below qs → ((x : Named) → filter (ties below x) qs ≡ filter (ties below x) ps) → lasts qs ≡ put_named ps []
@@ -122,6 +122,6 @@ lasts_are ps qs sorted stable = sym (put_at_end qs [] (under_none qs) (rise qs s
 -- ---- the last of each name, from one place on
 
 pub lasts_from : (ps : List Named) (i : ℕ) (b : Bool) → i < length ps
-    → b ≡ is_replaced (slice_index_or ps i (spot [])).name.now (take (length ps - (i + 1)) (drop (i + 1) ps))
-    → lasts (drop i ps) ≡ (if b then lasts (drop (i + 1) ps) else (((slice_index_or ps i (spot [])).name.now, slice_index_or ps i (spot [])) ∷ lasts (drop (i + 1) ps)))
+    → b ≡ is_replaced (slice_index_or ps i (spot [])).name (take (length ps - (i + 1)) (drop (i + 1) ps))
+    → lasts (drop i ps) ≡ (if b then lasts (drop (i + 1) ps) else (((slice_index_or ps i (spot [])).name, slice_index_or ps i (spot [])) ∷ lasts (drop (i + 1) ps)))
 lasts_from ps i b some is = grind (arith, common_steps, slice_index_or, at_drop_more, take_all, length-drop)

@@ -74,16 +74,16 @@ AreNamed t n (e ∷ es) (member k d ms) =
 -- the members put one after another at their names: of two with the same name the later one stays
 abbrev pub put_named : List Named → List Entry → List Entry
 put_named [] es = es
-put_named (p ∷ ps) es = put_named ps (entries.put (slice_cmp nat_cmp) p.name.now p es)
+put_named (p ∷ ps) es = put_named ps (entries.put (slice_cmp nat_cmp) p.name p es)
 
 -- of members in the order of their names the last one of each name
 abbrev pub is_replaced : List ℕ → List Named → Bool
 is_replaced k [] = false
-is_replaced k (p ∷ ps) = bytes_eq p.name.now k
+is_replaced k (p ∷ ps) = bytes_eq p.name k
 
 abbrev pub lasts : List Named → List Entry
 lasts [] = []
-lasts (p ∷ ps) = if is_replaced p.name.now ps then lasts ps else ((p.name.now, p) ∷ lasts ps)
+lasts (p ∷ ps) = if is_replaced p.name ps then lasts ps else ((p.name, p) ∷ lasts ps)
 
 -- the first member of those at the nodes
 pub record IsFirstMember (t : List ℕ) (nodes : List Node) (k : List ℕ) (d : Data) (ms : Members) (f : FirstMember) : Type 0 where

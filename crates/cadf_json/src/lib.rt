@@ -5,6 +5,7 @@
 mod apart;
 mod canonical;
 mod depth;
+mod front;
 mod items;
 mod laws;
 mod members;
@@ -27,6 +28,7 @@ mod write;
 
 pub use crate::apart::ItemVisitor;
 pub use crate::canonical::is_canonical;
+pub use crate::front::front_of;
 pub use crate::items::Items;
 pub use crate::laws::{
     bytes_spell_values, depth_limit_is_127, text_is_injective, text_is_one_line,

@@ -4,6 +4,7 @@ ghost use Rattle.serde_json.specs.Data.{Data, Items, array, object, Members, no_
 ghost use Rattle.cadf_json.specs.Flat.{Stands, ItemsStand, MembersStand, put_all, items_count, settled, settled_items, settled_members};
 ghost use Rattle.cadf_json.specs.Reading.{StandsAsRead, Copied, AreNamed, put_named, is_replaced as is_replaced_by, lasts};
 
+use crate::front::Fronted;
 use crate::node::Node;
 use crate::push::extent_from;
 use crate::walk::first_member;
@@ -13,9 +14,9 @@ use std::alloc::{AllocError, Global};
 const MOST_SPARE: usize = 1 << 12;
 
 /// A member: its name, and the nodes of its name and its value.
-#[derive(Clone, Copy, Drop)]
+#[derive(Drop)]
 struct Named<'v> {
-    name: &'v [u8],
+    name: Fronted<'v>,
     nodes: &'v [Node],
 }
 
@@ -116,9 +117,9 @@ fn copy_members(
     let mut kept: u32 = 0;
     let mut at = 0;
     'members: while at < sorted.len() {
-        let member = sorted[at];
+        let member = &sorted[at];
         at += 1;
-        if !is_replaced(member.name, &sorted[at..]) {
+        if !is_replaced(member.name.text(), &sorted[at..]) {
             out.push(member.nodes[0])?;
             copy_value(alloc, &member.nodes[1..], texts, out)?;
             if kept == u32::MAX {
@@ -148,7 +149,7 @@ fn by_name<'v>(
     'members: while !rest.is_empty() {
         let first = first_member(rest, texts);
         named.push(Named {
-            name: first.name,
+            name: Fronted::of(first.name),
             nodes: first.nodes,
         })?;
         rest = first.rest;
@@ -160,7 +161,7 @@ fn by_name<'v>(
 fn sort(named: &mut Vec<Named<'_>>) -> Result<(), AllocError>
     ensures { OnOk result (lasts named.new.items ≡ put_named named.old.items []) }
 {
-    named.sort_by(|one, other| one.name.cmp(other.name))
+    named.sort_by(|one, other| one.name.cmp(&other.name))
 }
 
 /// Returns whether the first of the later members has this name too.
@@ -168,7 +169,7 @@ fn is_replaced(name: &[u8], later: &[Named<'_>]) -> bool
     ensures { result ≡ is_replaced_by name.now later.now }
 {
     match later {
-        [next, ..] => next.name == name,
+        [next, ..] => next.name.text() == name,
         [] => false,
     }
 }

@@ -1,10 +1,10 @@
 use Rattle.std.proofs.lemmas.Grind.{common_steps}
-use Rattle.std.proofs.Common.{◌≡◌, [], ◌∷◌, ◌++◌, length, ◌+◌, false, drop, set, slice_index_or, refl, sym, ap, ◌∙◌, subst, arith, rules, length-drop}
+use Rattle.std.proofs.Common.{◌≡◌, [], ◌∷◌, ◌++◌, length, ◌+◌, ◌-◌, false, drop, take, set, slice_index_or, refl, sym, ap, ◌∙◌, subst, arith, rules, length-drop}
 use Rattle.std.proofs.lemmas.List.{at_drop_all}
 use Rattle.std.proofs.lemmas.Result.{on_ok_weaker}
 use Rattle.cadf_json.specs.declared.node.Node.TheVariants.{Null, Text, Array, Object}
 use Rattle.cadf_json.specs.Flat.{Stands, settled}
-use Rattle.cadf_json.specs.Reading.{Copied, lasts}
+use Rattle.cadf_json.specs.Reading.{Copied, is_replaced, lasts}
 use Rattle.cadf_json.proofs.Copying.{nonempty, begun_by, scalar_begun, place_within, ItemsCopied, copied_none, copied_more, copied_all, MembersCopied}
 use Rattle.cadf_json.proofs.Copying.{first_kept, named_none, named_more, named_all}
 use Rattle.cadf_json.proofs.Firsts.{first_item, tail_of, tail_is}
@@ -139,12 +139,17 @@ copy_members-members-preserved-then-not-is_replaced t c =
     let rest = lasts (drop (l.at + 1) c.as_slice-sorted.result.now) in
     let old = c.args.out.now.items in
     let mid = c.push-then-not-is_replaced.new.self.items in
-    let now = lasts_from c.as_slice-sorted.result.now l.at false c.members-test.true (sym c.if-not-is_replaced.true ∙ c.is_replaced.ensures) in
-    let pushed : mid ≡ l.out.items ++ slice_index_or p.nodes.now 0 Null ∷ [] = search rules in (
+    let item : c.index-sorted-at.result ≡ p = grind (arith, common_steps, slice_index_or) in
+    let sorted = c.as_slice-sorted.result.now in
+    let later = take (length sorted - (l.at + 1)) (drop (l.at + 1) sorted) in
+    let now = lasts_from sorted l.at false c.members-test.true
+    (sym c.if-not-is_replaced.true ∙ c.is_replaced.ensures ∙ ap (λ k. is_replaced k later) (c.text.ensures ∙ ap (λ x. x.name) item)) in
+    let pushed : mid ≡ l.out.items ++ slice_index_or p.nodes.now 0 Null ∷ [] =
+    c.in_ok-push-2.ensures.items ∙ ap (λ x. l.out.items ++ slice_index_or x.nodes.now 0 Null ∷ []) item in (
       (λ ms h.
           let f = first_kept c.args.texts.now (length c.args.members.now) now (l.invariant.0 ms h) in
-          let tail = tail_is (Text f.place) p.nodes.now f.ys f.nodes_are in
-          named_more texts n ms old (p.name.now, p) rest l.out.items mid c.copy_value.new.out.items l.kept
+          let tail = tail_is (Text f.place) c.index-sorted-at.result.nodes.now f.ys (ap (λ x. x.nodes.now) item ∙ f.nodes_are) in
+          named_more texts n ms old (p.name, p) rest l.out.items mid c.copy_value.new.out.items l.kept
           (subst (λ es. MembersCopied texts n ms es old l.out.items l.kept) now (l.invariant.0 ms h)) f
           (pushed ∙ ap (λ ns. l.out.items ++ slice_index_or ns 0 Null ∷ []) f.nodes_are)
           (c.in_ok-copy_value.ensures f.value (subst (Stands texts f.value) (sym tail) f.stands))),

@@ -1,7 +1,8 @@
 use Rattle.std.proofs.Common.{◌≡◌, [], length, refl, sym, ap, ◌∙◌, subst, arith}
 use Rattle.cadf_json.specs.declared.order.Named.{Named}
 use Rattle.cadf_json.specs.Reading.{put_named}
-use Rattle.cadf_json.proofs.ByName.{Naming, put_named_push, naming_start, naming_more, naming_over}
+use Rattle.std.specs.FinMap.Entries as entries
+use Rattle.cadf_json.proofs.ByName.{Naming, name_cmp, put_named_push, naming_start, naming_more, naming_over}
 use Rattle.cadf_json.proofs.Firsts.{some_member}
 use Rattle.cadf_json.proofs.order.by_name.Goals as goal
 
@@ -29,12 +30,13 @@ members-preserved c = λ ms h.
     let t = c.args.texts.now in
     let rest = c.members.rest.now in
     let f = c.first_member-first.result in
-    let p : Named = record { name = f.name; nodes = f.nodes } in
+    let p : Named = record { name = c.of.result; nodes = f.nodes } in
     let n = c.members.invariant ms h in
     let l = some_member t rest n.left (grind arith) n.stands in
     subst (λ es. Naming t (length c.args.members.now) es f.rest.now ms) (sym (ap (λ ps. put_named ps []) c.in_ok-push.ensures.items ∙ put_named_push c.members.named.items p []))
+    (subst (λ k. Naming t (length c.args.members.now) (entries.put name_cmp k p (put_named c.members.named.items [])) f.rest.now ms) (sym c.of.ensures)
     (naming_more t (length c.args.members.now) (put_named c.members.named.items []) rest ms l.0 l.1.0 l.1.1.0 f p n l.1.1.1.0
-    (c.first_member-first.ensures l.0 l.1.0 l.1.1.0 l.1.1.1.1) refl)
+    (c.first_member-first.ensures l.0 l.1.0 l.1.1.0 l.1.1.1.1) refl))
 
 pub returns : goal.returns
 returns c = λ ms h.
