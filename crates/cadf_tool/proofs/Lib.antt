@@ -12,7 +12,6 @@ pub mod ModelReading
 pub mod OneText
 pub mod Exclusion
 pub mod OfTheBytes
-pub mod TakenAlone
 pub mod KeptInputs
 pub mod InputUnions
 pub mod UnitingLemmas

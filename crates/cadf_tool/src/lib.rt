@@ -23,7 +23,6 @@ mod seal;
 mod show;
 mod sketch;
 mod split;
-mod told;
 mod verify;
 
 pub use crate::check::{run_check, run_check_union};
