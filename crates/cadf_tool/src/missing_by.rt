@@ -16,27 +16,18 @@ use cadf_json::{Sink, Source};
 use cadf_set::{Inventory, Replica, ReplicaFault};
 use std::alloc::Global;
 
-/// Returns the delta of the replica for the inventory, which is input `number`. `OtherLog` if they are of different
-/// logs, `Memory` if an allocation fails.
-fn beyond(number: usize, from: &Replica, inventory: &Inventory) -> Result<Replica, ToolFault>
-    ensures { IsWorked (missing_by_at number (loaded.Replica from.now) inventory.now) result }
-{
-    match from.missing_by(inventory) {
-        Ok(part) => Ok(part),
-        Err(ReplicaFault::OtherLog) => Err(ToolFault::OtherLog(number)),
-        Err(ReplicaFault::Ungrounded) => unreachable!(),
-        Err(ReplicaFault::Memory) => Err(ToolFault::Memory),
-    }
-}
-
 /// Returns the delta of the union for the inventory, which is input `number`. `NoLog`: no input of the union names a
 /// log. `OtherLog`: an input or the inventory is of another log.
 fn part(number: usize, from: JoinState, inventory: &Inventory) -> Result<Replica, ToolFault>
     ensures { (froms : List Loaded) → number ≡ length froms + 1 → IsJoinState 1 None froms from
         → IsWorked (part_by_union (froms, inventory.now)) result }
 {
-    let from = from.end()?;
-    beyond(number, &from, inventory)
+    match from.end()?.missing_by(inventory) {
+        Ok(part) => Ok(part),
+        Err(ReplicaFault::OtherLog) => Err(ToolFault::OtherLog(number)),
+        Err(ReplicaFault::Ungrounded) => unreachable!(),
+        Err(ReplicaFault::Memory) => Err(ToolFault::Memory),
+    }
 }
 
 /// Loads both inputs, the second as an inventory file, and returns the delta of the first for the second.

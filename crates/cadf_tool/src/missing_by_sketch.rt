@@ -16,24 +16,6 @@ use cadf_set::Replica;
 use cadf_sketch::{ReadFault, Sketch, missing_by_sketch};
 use std::alloc::Global;
 
-/// Returns the delta of the replica for the sketch, which is input `number`. `OtherLog` if they are of different logs,
-/// `TooFewCells` if the sketch has too few cells, `Memory` if an allocation fails.
-fn beyond(
-    alloc: Global,
-    number: usize,
-    from: &Replica,
-    sketch: &Sketch,
-) -> Result<Replica, ToolFault>
-    ensures { IsWorkedBy (IsAnswerTo number sketch.now from.now) result }
-{
-    match missing_by_sketch(alloc, from, sketch) {
-        Ok(part) => Ok(part),
-        Err(ReadFault::OtherLog) => Err(ToolFault::OtherLog(number)),
-        Err(ReadFault::TooFewCells(cells)) => Err(ToolFault::TooFewCells(number, cells)),
-        Err(ReadFault::Memory) => Err(ToolFault::Memory),
-    }
-}
-
 /// Returns the delta of the union for the sketch, which is input `number`. `NoLog`: no input of the union names a log.
 /// `OtherLog`: an input or the sketch is of another log. `TooFewCells`: the sketch has too few cells.
 fn part(
@@ -45,8 +27,12 @@ fn part(
     ensures { (froms : List Loaded) → number ≡ length froms + 1 → IsJoinState 1 None froms from
         → IsWorkedBy (IsPartOfUnionBySketch (froms, sketch.now)) result }
 {
-    let held = from.end()?;
-    beyond(alloc, number, &held, sketch)
+    match missing_by_sketch(alloc, &from.end()?, sketch) {
+        Ok(part) => Ok(part),
+        Err(ReadFault::OtherLog) => Err(ToolFault::OtherLog(number)),
+        Err(ReadFault::TooFewCells(cells)) => Err(ToolFault::TooFewCells(number, cells)),
+        Err(ReadFault::Memory) => Err(ToolFault::Memory),
+    }
 }
 
 /// Loads both inputs, the second as a sketch file, and returns the delta of the first for the second.

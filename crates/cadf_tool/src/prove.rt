@@ -57,13 +57,6 @@ fn prove<R: Source>(alloc: Global, facts: &mut R, inputs: &mut [R]) -> Result<Pr
     proof_by(alloc, union, asked)
 }
 
-/// Writes the file of the proof. `WriteFault` if a write fails, `Memory` if an allocation fails.
-fn write_proved<W: Sink>(alloc: Global, proof: &Proof, output: &mut W) -> Result<(), ToolFault>
-    ensures { IsWritten W.Sink output.old output.new (proof_file proof.now) result }
-{
-    answered(write_model(alloc, proof, output))
-}
-
 /// Writes the proof file for what `facts` contributes, under the seal of the union of `inputs`: which of it is in the
 /// union, and which is not. Inputs are counted from 1: `facts` is the first. `Err`: why nothing was written, or only a
 /// prefix.
@@ -78,5 +71,5 @@ pub fn run_prove<R: Source, W: Sink>(
         proof_of_union proof_file W.Sink output.old output.new result }
 {
     let proof = prove(alloc, facts, inputs)?;
-    write_proved(alloc, &proof, output)
+    answered(write_model(alloc, &proof, output))
 }

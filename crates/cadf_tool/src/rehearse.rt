@@ -41,16 +41,6 @@ fn turns<R: Source>(alloc: Global, script: &mut R) -> Result<Vec<Turn>, ToolFaul
     }
 }
 
-/// Returns the fault of the engine for the fault of a schedule.
-fn refused(fault: RehearseFault) -> ToolFault
-    ensures { result ≡ of_rehearsal fault }
-{
-    match fault {
-        RehearseFault::Memory => ToolFault::Memory,
-        fault => ToolFault::Rehearse(fault),
-    }
-}
-
 /// Simulates the turns, and returns the replicas of the sites after the last. `Err`: the first turn that fails.
 fn left(alloc: Global, log: &Name, sites: usize, turns: &[Turn]) -> Result<Vec<Replica>, ToolFault>
     ensures ok { IfOk result (λ v. IsWorked (replicas_after log.now sites turns.now) (Ok v.items)) }
@@ -58,7 +48,8 @@ fn left(alloc: Global, log: &Name, sites: usize, turns: &[Turn]) -> Result<Vec<R
 {
     match rehearse(alloc, log, sites, turns) {
         Ok(left) => Ok(left),
-        Err(fault) => Err(refused(fault)),
+        Err(RehearseFault::Memory) => Err(ToolFault::Memory),
+        Err(fault) => Err(ToolFault::Rehearse(fault)),
     }
 }
 

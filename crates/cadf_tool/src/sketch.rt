@@ -15,16 +15,6 @@ use cadf_set::Replica;
 use cadf_sketch::{Cells, Salt, Sketch};
 use std::alloc::Global;
 
-/// Returns the number of cells, the default if none is given.
-fn cells_or_default(cells: Option<Cells>) -> Cells
-    ensures { result ≡ unwrap_or cells default_cells }
-{
-    match cells {
-        Some(cells) => cells,
-        None => Cells::by_default(),
-    }
-}
-
 /// Makes the sketch of the replica's inventory: of `Cells::by_default` if no number is given, with the inventory's own
 /// salt if none is given. `Memory` if an allocation fails.
 fn sketch_of(
@@ -36,7 +26,8 @@ fn sketch_of(
     ensures { IfOk result (λ sketch. sketch ≡ asked (inventory_of replica.now) (unwrap_or cells default_cells) salt) }
 {
     let inventory = replica.inventory()?;
-    Sketch::of(alloc, &inventory, cells_or_default(cells), salt)
+    let cells = cells.unwrap_or(Cells::by_default());
+    Sketch::of(alloc, &inventory, cells, salt)
 }
 
 /// Makes the sketch of a replica's inventory, with the cells and the salt that are given, and writes its file. The number

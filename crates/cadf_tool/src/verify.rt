@@ -13,13 +13,6 @@ use cadf_seal::{FactLines, Proof, Seal, verified};
 use cadf_set::Replica;
 use std::alloc::Global;
 
-/// Returns whether the proof is of another log than the seal.
-fn is_other(seal: &Seal, proof: &Proof) -> bool
-    ensures { result ≡ is_other seal.now.log (Some proof.now.log) }
-{
-    proof.log().as_str() != seal.log().as_str()
-}
-
 /// Makes a line for each fact, which is as asked. `OtherLog`: the proof is of another log than the seal. `Unverified`:
 /// the proof is refused, or a fact isn't as asked. `Memory` if an allocation fails.
 fn lines(
@@ -32,7 +25,7 @@ fn lines(
     ensures ok { IfOk result (λ text. verdict_lines absent seal.now facts.now proof.now ≡ Ok text) }
     ensures err { IfErr result (λ fault. IsWorked (verdict_lines absent seal.now facts.now proof.now) (Err fault)) }
 {
-    if is_other(seal, proof) {
+    if proof.log().as_str() != seal.log().as_str() {
         return Err(ToolFault::OtherLog(3));
     }
     match verified(alloc, seal, facts, proof, absent) {
@@ -76,17 +69,6 @@ fn verify<R: Source>(
     verdict(alloc, absent, &seal, loaded, &proof)
 }
 
-/// Writes the lines. `WriteFault` if a write fails.
-fn write_lines<W: Sink>(lines: &FactLines, output: &mut W) -> Result<(), ToolFault>
-    ensures written { IsWritten W.Sink output.old output.new lines.now result }
-    ensures only { IfErr result (λ fault. fault ≡ ToolFault.WriteFault) }
-{
-    match lines.write(output) {
-        Ok(()) => Ok(()),
-        Err(_) => Err(ToolFault::WriteFault),
-    }
-}
-
 /// Writes a line for each fact of `facts`, in the order of atoms, if the proof shows under the seal that each is in the
 /// sealed set; with `absent`, that none is. The seal is input 1, `facts` input 2 and the proof input 3; the first and
 /// the last are read as such files, whatever bytes they begin with. `Err`: why nothing was written, or only a prefix.
@@ -104,5 +86,8 @@ pub fn run_verify<R: Source, W: Sink>(
     ensures memory { result ≡ Err ToolFault.Memory → output.new ≡ output.old }
 {
     let lines = verify(alloc, seal, facts, proof, absent)?;
-    write_lines(&lines, output)
+    match lines.write(output) {
+        Ok(()) => Ok(()),
+        Err(_) => Err(ToolFault::WriteFault),
+    }
 }
