@@ -44,13 +44,6 @@ impl Model for Sketch {
     ghost invariant = { λ s. HasParts (record { log = s.log; layout = s.layout; digest = s.digest; tally = s.tally; cells = s.cells.items }) };
 }
 
-/// Makes cells without a digest.
-fn empty_cells(alloc: Global, count: usize) -> Result<Vec<Cell>, Memory>
-    ensures { IfOk result (λ cells. cells.items ≡ replicate count nothing) }
-{
-    Ok(Vec::from_elem(alloc, Cell::EMPTY, count)?)
-}
-
 /// Mixes each digest of the inventory into its cells by XOR.
 pub(crate) fn toggle_all(cells: &mut [Cell], inventory: &Inventory, layout: Layout)
     requires { length cells.old ≡ 3 * layout.size }
@@ -74,16 +67,6 @@ pub(crate) fn tally(inventory: &Inventory) -> Tally
     tally
 }
 
-/// Returns the salt; if none is given, the one that the inventory's digest determines.
-fn salt_or_own(salt: Option<Salt>, digest: &[u8; 32]) -> Salt
-    ensures { result ≡ unwrap_or salt (word digest.now 0 / 2 * 2 + 1) }
-{
-    match salt {
-        Some(salt) => salt,
-        None => Salt::of_digest(digest),
-    }
-}
-
 impl Sketch {
     /// Makes the sketch of the inventory with that many cells. If no salt is given, the inventory's digest determines
     /// it: an inventory then has one sketch of that many cells.
@@ -96,7 +79,7 @@ impl Sketch {
         ensures { IfOk result (λ s. s ≡ asked inventory.now cells salt) }
     {
         let digest = inventory_digest(alloc, inventory)?;
-        let salt = salt_or_own(salt, &digest);
+        let salt = salt.unwrap_or(Salt::of_digest(&digest));
         Sketch::laid_out(alloc, inventory, Layout::of(cells, salt), digest)
     }
 
@@ -112,7 +95,7 @@ impl Sketch {
     {
         inventory.type_invariant();
         layout.type_invariant();
-        let mut cells = empty_cells(alloc, layout.cells())?;
+        let mut cells = Vec::from_elem(alloc, Cell::EMPTY, layout.cells())?;
         toggle_all(&mut cells, inventory, layout);
         Ok(Sketch {
             log: inventory.log().copy(alloc)?,
