@@ -2,6 +2,7 @@
 use Rattle.std.proofs.lemmas.Grind.{common_steps}
 use Rattle.std.proofs.Common.{◌≡◌, ◌∙◌, ℕ, ◌+◌, Bool, true, false, not, List, [], ◌∷◌, map, Option, Some, None, Ok, sym, subst, inl, inr, true≢false, arith}
 use Rattle.std.specs.Prelude.{option_map}
+use Rattle.std.specs.Option.{option_or}
 use Rattle.std.specs.List.{position_from, AllByRecursion}
 use Rattle.std.proofs.lemmas.Bool.{eqb-true}
 use Rattle.std.proofs.lemmas.Slice.Eq.{bytes_eq-Decides}
@@ -15,7 +16,7 @@ use Rattle.cadf_line.specs.Missing.{digests_of}
 use Rattle.cadf_line.proofs.Missing.{known_digest, digest_of_some}
 use Rattle.cadf_set.specs.Inventory.{InventoryModel}
 use Rattle.cadf_sketch.specs.Answers.{inventory_of}
-use Rattle.cadf_seal.specs.Verified.{state, is_state, verify_fault_unless, first_fault, is_root, text_unless, IsOf, FactsAreSo}
+use Rattle.cadf_seal.specs.Verified.{state, is_state, verify_fault_unless, is_root, text_unless, IsOf, FactsAreSo}
 use Rattle.cadf_seal.specs.declared.verify.VerifyFault.{VerifyFault}
 use Rattle.cadf_seal.proofs.Honest.{not_true}
 use Rattle.cadf_seal.proofs.Sound.{tells_truth}
@@ -23,7 +24,7 @@ use Rattle.cadf_seal.proofs.Sound.{tells_truth}
 no_fault : (r : Option VerifyFault) (text t : List ℕ) → text_unless r text ≡ Ok t → r ≡ None
 no_fault r text t e = grind (arith, common_steps)
 
-both_none : (a b : Option VerifyFault) → first_fault a b ≡ None → (a ≡ None) × (b ≡ None)
+both_none : (a b : Option VerifyFault) → option_or a b ≡ None → (a ≡ None) × (b ≡ None)
 both_none a b e = grind (arith, common_steps)
 
 is_right : (b : Bool) (fault : VerifyFault) → verify_fault_unless b fault ≡ None → b ≡ true

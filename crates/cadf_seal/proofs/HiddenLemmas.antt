@@ -1,14 +1,11 @@
 -- The greatest subtrees without a shown leaf.
 use Rattle.std.proofs.lemmas.Grind.{common_steps}
-use Rattle.std.proofs.Common.{◌≡◌, ◌≢◌, ◌==◌, ◌∙◌, ◌+◌, ◌-◌, ◌<◌, ◌≤◌, ◌^◌, ℕ, zero, suc, Bool, true, false, true≢false, List, [], ◌∷◌, ◌++◌, length, take, drop, get_or, refl, ap, sym, arith, append_assoc}
-use Rattle.std.specs.Prelude.{if◌then◌else◌, cond, nat_le, nat_lt, not}
-use Rattle.std.specs.List.{filter}
-use Rattle.std.specs.List.Sorted.{IsNonDecreasingBy}
+use Rattle.std.proofs.Common.{◌≡◌, ◌≢◌, ◌==◌, ◌∙◌, ◌+◌, ◌-◌, ◌<◌, ◌≤◌, ◌^◌, ℕ, zero, suc, false, true≢false, List, [], ◌∷◌, ◌++◌, length, take, drop, ap, sym, arith, append_assoc}
+use Rattle.std.specs.Prelude.{if◌then◌else◌}
 use Rattle.std.proofs.lemmas.Bool.{le-leb, lt-leb}
 use Rattle.std.proofs.lemmas.List.{take_all, length-take-le}
 use Rattle.cadf_join.specs.Contents.{Text}
 use Rattle.cadf_seal.specs.Shown.{until, leaves_from, hidden, all_hidden}
-use Rattle.cadf_seal.specs.ProofFile.{AreRising}
 use Rattle.cadf_seal.specs.Tree.{tree}
 use Rattle.cadf_seal.proofs.Trees.{tree_any, below_power, within_more, first_part, second_part}
 use Rattle.cadf_seal.specs.declared.leaf.Leaf.{Leaf}
@@ -58,69 +55,6 @@ module _ (h n a : ℕ) (ds : List Text) (s : Leaf) (ss : List Leaf) (there : n �
       hidden_beyond h a (take n ds) s ss (omega (arith, length-take-le n ds there, beyond))
       ∙ (λ i. hidden h a (first_part h n ds there beyond i) (until (a + 2 ^ h) (s ∷ ss))
       ++ hidden h (a + 2 ^ h) (second_part h n ds there beyond i) (leaves_from (a + 2 ^ h) (s ∷ ss)))
-
--- ---- leaves around a place
-
-module _ (p q : Leaf → Bool) (other : (s : Leaf) → q s ≡ not (p s)) where
-  all_pass : (ss : List Leaf) → ((k : ℕ) (d : Leaf) → k < length ss → p (get_or ss k d) ≡ false) → (filter p ss ≡ []) × (filter q ss ≡ ss)
-  all_pass [] f = (refl, refl)
-  all_pass (s ∷ ss) f =
-      let here : p s ≡ false = f 0 s (omega arith) in
-      let rest = all_pass ss (λ k d m. f (suc k) d (omega (arith, m))) in (
-        ap (λ b. cond b (s ∷ filter p ss) (filter p ss)) here ∙ rest.0,
-        ap (λ b. cond b (s ∷ filter q ss) (filter q ss)) (other s ∙ ap not here) ∙ ap (λ x. s ∷ x) rest.1,
-      )
-
-  pub divided : (i : ℕ) (ss : List Leaf) → ((k : ℕ) (d : Leaf) → k < i → p (get_or ss k d) ≡ true)
-      → ((k : ℕ) (d : Leaf) → i ≤ k → k < length ss → p (get_or ss k d) ≡ false) → i ≤ length ss
-      → (filter p ss ≡ take i ss) × (filter q ss ≡ drop i ss)
-  divided zero ss t f within = all_pass ss (λ k d m. f k d (omega arith) m)
-  divided (suc i) [] t f within = absurd (omega (arith, within))
-  divided (suc i) (s ∷ ss) t f within =
-      let here : p s ≡ true = t 0 s (omega arith) in
-      let front = λ (k : ℕ) (d : Leaf) (m : k < i). t (suc k) d (omega (arith, m)) in
-      let back = λ (k : ℕ) (d : Leaf) (m : i ≤ k) (o : k < length ss). f (suc k) d (omega (arith, m)) (omega (arith, o)) in
-      let rest = divided i ss front back (omega (arith, within)) in (
-        ap (λ b. cond b (s ∷ filter p ss) (filter p ss)) here ∙ ap (λ x. s ∷ x) rest.0,
-        ap (λ b. cond b (s ∷ filter q ss) (filter q ss)) (other s ∙ ap not here) ∙ rest.1,
-      )
-
-not_below : (n m : ℕ) → nat_le m n ≡ not (nat_lt n m)
-not_below n m = grind (arith, common_steps)
-
-pub around : (m i : ℕ) (ss : List Leaf) → ((k : ℕ) (d : Leaf) → 0 ≤ k → k < i → nat_lt (get_or ss k d).place m ≡ true)
-    → ((k : ℕ) (d : Leaf) → i ≤ k → k < length ss → nat_lt (get_or ss k d).place m ≡ false) → i ≤ length ss
-    → (until m ss ≡ take i ss) × (leaves_from m ss ≡ drop i ss)
-around m i ss t f within =
-    divided (λ s. nat_lt s.place m) (λ s. nat_le m s.place) (λ s. not_below s.place m) i ss (λ k d l. t k d (omega arith) l) f within
-
--- ---- places rise
-
-pub rising_take : (i : ℕ) (ss : List Leaf) → AreRising ss → AreRising (take i ss)
-rising_take zero ss h = tt
-rising_take (suc i) [] h = tt
-rising_take (suc i) (s ∷ []) h = grind (arith, common_steps)
-rising_take (suc zero) (s ∷ t ∷ ss) h = tt
-rising_take (suc (suc i)) (s ∷ t ∷ ss) h = (h.0, h.1, rising_take (suc i) (t ∷ ss) h.2)
-
-rising_tail : (s : Leaf) (ss : List Leaf) → AreRising (s ∷ ss) → AreRising ss
-rising_tail s ss h = grind (arith, common_steps)
-
-pub rising_drop : (i : ℕ) (ss : List Leaf) → AreRising ss → AreRising (drop i ss)
-rising_drop zero ss h = h
-rising_drop (suc i) [] h = tt
-rising_drop (suc i) (s ∷ ss) h = rising_drop i ss (rising_tail s ss h)
-
-first_least : (s : Leaf) (ss : List Leaf) (j : ℕ) (d : Leaf) → AreRising (s ∷ ss) → j < length (s ∷ ss) → s.place ≤ (get_or (s ∷ ss) j d).place
-first_least s ss zero d h m = omega arith
-first_least s [] (suc j) d h m = absurd (omega (arith, m))
-first_least s (t ∷ ss) (suc j) d h m = omega (arith, h.0, first_least t ss j d h.2 (omega (arith, m)))
-
-pub places_rise : (ss : List Leaf) → AreRising ss → IsNonDecreasingBy (λ s. s.place) ss
-places_rise [] h i j d m o = absurd (omega (arith, o))
-places_rise (s ∷ ss) h zero j d m o = first_least s ss j d h o
-places_rise (s ∷ ss) h (suc i) zero d m o = absurd (omega (arith, m))
-places_rise (s ∷ ss) h (suc i) (suc j) d m o = places_rise ss (rising_tail s ss h) i j d (omega (arith, m)) (omega (arith, o))
 
 -- ---- both halves, one after the other
 

@@ -2,7 +2,6 @@
 --     shown_in, hidden_in       the leaf, or the hash, that the line encodes, if it is such a line
 --     cause_of_line n ss hs     what is wrong with a line after those of n leaves, of the shown leaves ss and of the hashes hs
 --     cause_after before line   what is wrong with the line, if `before` are the lines between it and the log line
---     proof_decided             the fault that the bytes decide by themselves, before the source ends
 --     proof_verdict             the proof whose file the bytes are, or the first fault
 use Rattle.std.specs.Prelude.{ℕ, nat_eq, nat_lt, List, [], ◌∷◌, drop, codes}
 use Rattle.std.specs.Prelude.{Bool, true, false, ◌&&◌, is_some, if◌then◌else◌, Option, Some, None, unwrap_or, Result}

@@ -1,7 +1,6 @@
 -- The result of reading a seal file, as a function of its bytes, of the limit and of whether a read failed.
 --     sealed_count, root_in     the value that the line encodes, if it is such a line
 --     cause_after before line   what is wrong with the line, if `before` are the lines between it and the log line
---     seal_decided              the fault that the bytes decide by themselves, before the source ends
 --     seal_verdict              the seal whose file the bytes are, or the first fault
 use Rattle.std.specs.Prelude.{ℕ, nat_eq, List, [], ◌∷◌, length, drop, codes, Bool, is_some, if◌then◌else◌, Option, Some, None, unwrap_or, Result}
 use Rattle.std.specs.List.{starts_with}

@@ -16,6 +16,7 @@
 --     FactsAreSo              of facts that are told, each is in the sealed set or not, as was asked
 use Rattle.std.specs.Prelude.{◌≡◌, ◌≤◌, ◌<◌, ◌+◌, ◌-◌, ℕ, suc, max, min, nat_eq, List, [], ◌∷◌, ◌++◌, length, map, flat_map, get_or, codes}
 use Rattle.std.specs.Prelude.{Bool, true, false, not, if◌then◌else◌, Option, None, Some, option_map, Result, Ok, Err}
+use Rattle.std.specs.Option.{option_or}
 use Rattle.std.specs.List.{filter, list_any, position_from, repeat, AllByRecursion}
 use Rattle.std.specs.Ordering.{is_eq}
 use Rattle.json.specs.Print.{quoted}
@@ -111,10 +112,6 @@ abbrev pub verify_fault_unless : Bool → VerifyFault → Option VerifyFault
 verify_fault_unless true fault = None
 verify_fault_unless false fault = Some fault
 
-abbrev pub first_fault : Option VerifyFault → Option VerifyFault → Option VerifyFault
-first_fault None later = later
-first_fault (Some fault) later = Some fault
-
 abbrev pub is_root : Option Text → Text → Bool
 is_root None r = false
 is_root (Some h) r = is_text h r
@@ -125,17 +122,17 @@ not_as_asked false k = Absent k
 
 abbrev pub refusal_of_root : SealModel → ProofModel → Option VerifyFault
 refusal_of_root s p =
-    first_fault (verify_fault_unless (nat_eq p.count s.count) OtherCount) (verify_fault_unless (is_root (proof_root p) s.root) OtherRoot)
+    option_or (verify_fault_unless (nat_eq p.count s.count) OtherCount) (verify_fault_unless (is_root (proof_root p) s.root) OtherRoot)
 
 -- the first shown leaf is line 4 of the proof's file
 abbrev pub refusal_of_facts : ProofModel → Contents → Bool → Option VerifyFault
 refusal_of_facts p facts absent =
-    first_fault (option_map NotShown (first_with None p (map atom_digest (rising facts))))
-    (first_fault (option_map NotNeeded (unneeded 4 None p.shown (rising (digests_of atom_digest facts))))
+    option_or (option_map NotShown (first_with None p (map atom_digest (rising facts))))
+    (option_or (option_map NotNeeded (unneeded 4 None p.shown (rising (digests_of atom_digest facts))))
     (option_map (not_as_asked absent) (first_with (Some absent) p (map atom_digest (rising facts)))))
 
 abbrev pub refusal : SealModel → ProofModel → Contents → Bool → Option VerifyFault
-refusal s p facts absent = first_fault (refusal_of_root s p) (refusal_of_facts p facts absent)
+refusal s p facts absent = option_or (refusal_of_root s p) (refusal_of_facts p facts absent)
 
 abbrev pub word_for : Bool → List ℕ
 word_for true = codes "absent "

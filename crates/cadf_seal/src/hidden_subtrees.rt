@@ -2,10 +2,11 @@
 ghost use Rattle.std.specs.Prelude.{◌≡◌, ◌≤◌, ◌<◌, ◌+◌, ◌^◌, ◌++◌, IfOk, OnOk, length, take, drop};
 ghost use Rattle.cadf_join.specs.Sets.{rising};
 ghost use Rattle.cadf_seal.specs.ProofFile.{AreRising};
-ghost use Rattle.cadf_seal.specs.Shown.{until, leaves_from, hidden, all_hidden};
+ghost use Rattle.cadf_seal.specs.Shown.{hidden, all_hidden};
 ghost use Rattle.cadf_seal.specs.Tree.{tree};
+ghost use Rattle.cadf_seal.specs.Verified.{PlacesRise};
 
-use crate::leaf::Leaf;
+use crate::leaf::{Leaf, shown_around};
 use crate::tree::{height_for, subtree};
 use cadf_json::Memory;
 use cadf_set::Inventory;
@@ -46,7 +47,7 @@ fn push_hidden(
     requires height { height ≤ 63 }
     requires places { first + count < 2 ^ 64 }
     requires leaves { count ≤ length leaves.old }
-    requires shown { AreRising shown.now }
+    requires shown { PlacesRise shown.now }
     ensures hashes { OnOk result (hashes.new.items ≡ hashes.old.items ++ hidden height first (take count leaves.old) shown.now) }
     ensures rest { OnOk result (leaves.new ≡ drop count leaves.old) }
 {
@@ -66,14 +67,4 @@ fn push_hidden(
     let (left, right) = shown_around(shown, middle);
     push_hidden(hashes, leaves, height - 1, first, half, left)?;
     push_hidden(hashes, leaves, height - 1, middle, count - half, right)
-}
-
-/// Returns the shown leaves before the place, and the others.
-fn shown_around(shown: &[Leaf], place: u64) -> (&[Leaf], &[Leaf])
-    requires { AreRising shown.now }
-    ensures until { result.0.now ≡ until place shown.now }
-    ensures from { result.1.now ≡ leaves_from place shown.now }
-    ensures rising { AreRising result.0.now × AreRising result.1.now }
-{
-    shown.split_at(shown.partition_point(|leaf| leaf.place < place))
 }

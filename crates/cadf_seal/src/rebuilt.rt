@@ -1,11 +1,11 @@
 //! The root of a tree, by its shown leaves and the hashes of its other subtrees.
 
-ghost use Rattle.std.specs.Prelude.{◌≡◌, ◌≤◌, ◌<◌, ◌+◌, ◌^◌, option_map, length, take, drop, ℕ, List};
+ghost use Rattle.std.specs.Prelude.{◌≡◌, ◌≤◌, ◌<◌, ◌+◌, ◌^◌, option_map, ℕ, List};
 ghost use Rattle.cadf_join.specs.Contents.{Text};
-ghost use Rattle.cadf_seal.specs.Shown.{next_hash, rebuilt, until, leaves_from};
+ghost use Rattle.cadf_seal.specs.Shown.{next_hash, rebuilt};
 ghost use Rattle.cadf_seal.specs.Verified.{alone, proof_root, PlacesRise};
 
-use crate::leaf::Leaf;
+use crate::leaf::{Leaf, shown_around};
 use crate::proof::Proof;
 use crate::tree::{hash_of_leaf, hash_of_node};
 use sha2::{Digest, Sha256};
@@ -66,11 +66,11 @@ fn rebuilt<'a>(
         return rebuilt(height - 1, place, count, shown, hashes);
     }
     let middle = place + half;
-    let split = count_until(middle, shown);
-    let Some(left) = rebuilt(height - 1, place, half, &shown[..split], hashes) else {
+    let (before, others) = shown_around(shown, middle);
+    let Some(left) = rebuilt(height - 1, place, half, before, hashes) else {
         return None;
     };
-    let Some(right) = rebuilt(height - 1, middle, count - half, &shown[split..], left.rest) else {
+    let Some(right) = rebuilt(height - 1, middle, count - half, others, left.rest) else {
         return None;
     };
     let hash = hash_of_node(&left.hash, &right.hash);
@@ -88,14 +88,4 @@ fn next_hash<'a>(hashes: &'a [[u8; 32]]) -> Option<Subtree<'a>>
         [] => None,
         [hash, rest @ ..] => Some(Subtree { hash: *hash, rest }),
     }
-}
-
-/// Counts the shown leaves before a place. These are the first ones.
-fn count_until(place: u64, shown: &[Leaf]) -> usize
-    requires { PlacesRise shown.now }
-    ensures bound { result ≤ length shown.now }
-    ensures before { take result shown.now ≡ until place shown.now }
-    ensures after { drop result shown.now ≡ leaves_from place shown.now }
-{
-    shown.partition_point(|leaf| leaf.place < place)
 }
