@@ -36,23 +36,31 @@ use crate::telling::{FactLines, told};
 use cadf_json::Memory;
 use cadf_set::{Inventory, Replica};
 use std::alloc::Global;
+use thiserror::Error;
 
-/// Why a proof of facts is refused, or a fact isn't as asked.
-#[derive(Debug, PartialEq, Eq, Drop)]
+/// Why a proof, which is input 3, is refused for some facts, or one of them isn't as asked. Facts are counted from 1.
+#[derive(Clone, Copy, Debug, Drop, PartialEq, Eq, Error)]
 pub enum VerifyFault {
     /// The proof has another number of leaves than the seal.
+    #[error("input 3: other count")]
     OtherCount,
     /// The hash of all leaves isn't the seal's root, or the hashes aren't as many as the subtrees.
+    #[error("input 3: other root")]
     OtherRoot,
-    /// The proof doesn't show whether this fact is there.
+    /// The proof doesn't show whether the fact of that number is there.
+    #[error("fact {0}: not shown")]
     NotShown(u64),
-    /// No fact needs the leaf of this line.
+    /// No fact needs the leaf of the proof's line of that number, from 1.
+    #[error("input 3: line {0}: not needed")]
     NotNeeded(u64),
-    /// This fact isn't there.
+    /// The fact of that number isn't there.
+    #[error("fact {0}: absent")]
     Absent(u64),
-    /// This fact is there.
+    /// The fact of that number is there.
+    #[error("fact {0}: present")]
     Present(u64),
     /// An allocation failed.
+    #[error("out of memory")]
     Memory,
 }
 

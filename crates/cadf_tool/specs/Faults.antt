@@ -6,7 +6,6 @@ use Rattle.cadf_seal.specs.declared.verify.VerifyFault.{VerifyFault}
 use Rattle.cadf_seal.specs.declared.verify.VerifyFault.TheVariants as verify
 use Rattle.cadf_tool.specs.declared.input.LoadFault.{LoadFault}
 use Rattle.cadf_tool.specs.declared.input.LoadFault.TheVariants.{File, TooLarge, ReadFault, Json, Document, Memory}
-use Rattle.cadf_tool.specs.declared.fault.VerifyRefusal.TheVariants as refusal
 use Rattle.cadf_tool.specs.declared.fault.ToolFault.{ToolFault}
 use Rattle.cadf_tool.specs.declared.fault.ToolFault.TheVariants.{Input, NoLog, OtherLog, TooFewCells, Script, Rehearse, NoValue, Unverified}
 use Rattle.cadf_tool.specs.declared.fault.ToolFault.TheVariants.{ReadFault as ReadFailed, WriteFault, Memory as OutOfMemory}
@@ -22,13 +21,8 @@ of_load n Memory = OutOfMemory
 
 -- why facts are not verified; `Memory` is the engine's own
 abbrev pub of_verify : VerifyFault → ToolFault
-of_verify verify.OtherCount = Unverified refusal.OtherCount
-of_verify verify.OtherRoot = Unverified refusal.OtherRoot
-of_verify (verify.NotShown k) = Unverified (refusal.NotShown k)
-of_verify (verify.NotNeeded l) = Unverified (refusal.NotNeeded l)
-of_verify (verify.Absent k) = Unverified (refusal.Absent k)
-of_verify (verify.Present k) = Unverified (refusal.Present k)
 of_verify verify.Memory = OutOfMemory
+of_verify fault = Unverified fault
 
 -- the result of writing a text
 abbrev pub of_out : {T : Type 0} → Result T OutFault → Result T ToolFault

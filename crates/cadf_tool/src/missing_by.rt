@@ -22,7 +22,8 @@ fn part(number: usize, from: JoinState, inventory: &Inventory) -> Result<Replica
     ensures { (froms : List Loaded) → number ≡ length froms + 1 → IsJoinState 1 None froms from
         → IsWorked (part_by_union (froms, inventory.now)) result }
 {
-    match from.end()?.missing_by(inventory) {
+    let from = from.end()?;
+    match from.missing_by(inventory) {
         Ok(part) => Ok(part),
         Err(ReplicaFault::OtherLog) => Err(ToolFault::OtherLog(number)),
         Err(ReplicaFault::Ungrounded) => unreachable!(),

@@ -27,7 +27,8 @@ fn part(
     ensures { (froms : List Loaded) → number ≡ length froms + 1 → IsJoinState 1 None froms from
         → IsWorkedBy (IsPartOfUnionBySketch (froms, sketch.now)) result }
 {
-    match missing_by_sketch(alloc, &from.end()?, sketch) {
+    let held = from.end()?;
+    match missing_by_sketch(alloc, &held, sketch) {
         Ok(part) => Ok(part),
         Err(ReadFault::OtherLog) => Err(ToolFault::OtherLog(number)),
         Err(ReadFault::TooFewCells(cells)) => Err(ToolFault::TooFewCells(number, cells)),

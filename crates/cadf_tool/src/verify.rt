@@ -5,11 +5,11 @@ ghost use Rattle.cadf_tool.specs.Run.{transition_of, IsExpected, IsWorked, IsWri
 ghost use Rattle.cadf_tool.specs.Verify.{verdict_lines, verdict_of, sources_of};
 
 use crate::facts::facts_under;
-use crate::fault::{ToolFault, unverified};
+use crate::fault::ToolFault;
 use crate::input::Loaded;
 use crate::inputs::{load_model, load_one};
 use cadf_json::{Sink, Source};
-use cadf_seal::{FactLines, Proof, Seal, verified};
+use cadf_seal::{FactLines, Proof, Seal, VerifyFault, verified};
 use cadf_set::Replica;
 use std::alloc::Global;
 
@@ -30,7 +30,8 @@ fn lines(
     }
     match verified(alloc, seal, facts, proof, absent) {
         Ok(lines) => Ok(lines),
-        Err(fault) => Err(unverified(fault)),
+        Err(VerifyFault::Memory) => Err(ToolFault::Memory),
+        Err(fault) => Err(ToolFault::Unverified(fault)),
     }
 }
 
