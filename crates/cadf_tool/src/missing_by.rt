@@ -2,10 +2,9 @@
 ghost use Rattle.std.specs.Prelude.{◌≡◌, ◌+◌, ◌<◌, ◌^◌, length, List, None};
 ghost use Rattle.cadf_tool.specs.WrittenFile.{written_file};
 ghost use Rattle.cadf_tool.specs.declared.input.Loaded.{Loaded};
-ghost use Rattle.cadf_tool.specs.declared.input.Loaded.TheVariants as loaded;
 ghost use Rattle.cadf_tool.specs.ModelInput.{inventory_spec};
 ghost use Rattle.cadf_tool.specs.JoinState.{IsJoinState};
-ghost use Rattle.cadf_tool.specs.MissingBy.{missing_by_at, part_by, part_by_union};
+ghost use Rattle.cadf_tool.specs.MissingBy.{part_by, part_by_union};
 ghost use Rattle.cadf_tool.specs.Run.{all, both, with_number, two, transition_of, input_spec, IsExpected, IsWorked, IsRun};
 
 use crate::fault::ToolFault;

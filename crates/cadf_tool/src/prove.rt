@@ -5,7 +5,7 @@ ghost use Rattle.cadf_sketch.specs.Answers.{inventory_of};
 ghost use Rattle.cadf_tool.specs.declared.input.Loaded.{Loaded};
 ghost use Rattle.cadf_tool.specs.JoinState.{IsJoinState};
 ghost use Rattle.cadf_tool.specs.Prove.{proof_for, proof_of_union};
-ghost use Rattle.cadf_tool.specs.Run.{one, all_from, both, transition_of, input_spec, IsExpected, IsWorked, IsWritten, IsRun};
+ghost use Rattle.cadf_tool.specs.Run.{one, all_from, both, transition_of, input_spec, IsExpected, IsWorked, IsRun};
 
 use crate::facts::facts_under;
 use crate::fault::{ToolFault, answered};

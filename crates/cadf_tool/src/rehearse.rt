@@ -1,6 +1,6 @@
 //! The engine of `rehearse`: simulates the schedule of a script, and writes the state of each site.
 ghost use Rattle.std.specs.Prelude.{◌≡◌, IfOk, IfErr, Ok, string_bytes};
-ghost use Rattle.cadf_tool.specs.Rehearse.{bytes_spec, script_spec, turns_of, of_rehearsal, replicas_after, final_sites as played_of};
+ghost use Rattle.cadf_tool.specs.Rehearse.{bytes_spec, script_spec, turns_of, replicas_after, final_sites as played_of};
 ghost use Rattle.cadf_tool.specs.Run.{one, transition_of, IsReadAs, IsReadWithin, IsUnread, IsExpected, IsWorked, IsWritten, IsRun};
 ghost use Rattle.cadf_tool.specs.Sites.{is_same, place_of as place_in, site_line, sites_text as text_of_sites};
 

@@ -1,7 +1,6 @@
 //! The engine of `verify`: what a proof says, under a seal, of the facts of an input.
-ghost use Rattle.std.specs.Prelude.{◌≡◌, Some, Ok, Err, IfOk, IfErr};
-ghost use Rattle.cadf_tool.specs.Join.{is_other};
-ghost use Rattle.cadf_tool.specs.Run.{transition_of, IsExpected, IsWorked, IsWritten, IsRun};
+ghost use Rattle.std.specs.Prelude.{◌≡◌, Ok, Err, IfOk, IfErr};
+ghost use Rattle.cadf_tool.specs.Run.{transition_of, IsExpected, IsWorked, IsRun};
 ghost use Rattle.cadf_tool.specs.Verify.{verdict_lines, verdict_of, sources_of};
 
 use crate::facts::facts_under;
