@@ -1,7 +1,6 @@
 //! The root of a tree, by its shown leaves and the hashes of its other subtrees.
 
-ghost use Rattle.std.specs.Prelude.{◌≡◌, ◌≤◌, ◌<◌, ◌+◌, ◌^◌, option_map, ℕ, List};
-ghost use Rattle.cadf_join.specs.Contents.{Text};
+ghost use Rattle.std.specs.Prelude.{◌≡◌, ◌≤◌, ◌<◌, ◌+◌, ◌^◌, option_map};
 ghost use Rattle.cadf_seal.specs.Shown.{next_hash, rebuilt};
 ghost use Rattle.cadf_seal.specs.Verified.{alone, proof_root, PlacesRise};
 

@@ -1,8 +1,8 @@
 //! A sketch of an inventory.
-ghost use Rattle.std.specs.Prelude.{◌≡◌, ◌*◌, ◌/◌, ◌+◌, IfOk, length, replicate, unwrap_or};
+ghost use Rattle.std.specs.Prelude.{◌≡◌, ◌*◌, IfOk, length};
 ghost use Rattle.cadf_join.specs.Sets.{rising};
 ghost use Rattle.cadf_inventory.specs.InventoryFile.{inventory_digest};
-ghost use Rattle.cadf_sketch.specs.Cells.{nothing, toggled_all, word};
+ghost use Rattle.cadf_sketch.specs.Cells.{toggled_all};
 ghost use Rattle.cadf_event.specs.Known.{IsNameText};
 ghost use Rattle.cadf_sketch.specs.SketchFile.{HasParts};
 ghost use Rattle.cadf_sketch.specs.Sketches.{sketch_of, asked};
