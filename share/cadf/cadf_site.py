@@ -696,6 +696,13 @@ def check_site(name, unit, log):
             check(folder, folder.index(), unit, log)
 
 
+def check_file(name):
+    """Raises that the site's file of that name is one of a folder: it would then hold something else than its name says."""
+    folder, own = os.path.split(name)
+    if WINDOW_FILE.fullmatch(own) and os.path.lexists(os.path.join(folder, INDEX)):
+        raise Fault("%s: a file of the folder %s, which a take would damage: name the folder as SITE" % (name_shown(name), name_shown(folder or ".")), REFUSED)
+
+
 @contextlib.contextmanager
 def taking(name, unit, log, wait):
     """Locks a folder for a take, unless it is of another unit or log."""

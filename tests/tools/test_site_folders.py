@@ -507,6 +507,19 @@ def test_nothing_new_is_taken_beside_a_link(site):
     assert answer.status == 3 and b"%s: not a regular file: the site is damaged" % os.fsencode(path) in answer.error
 
 
+def test_a_window_is_no_site_of_its_own(site):
+    """As in `cadf-take north/*.cadf`, which names no SITE: what the first file held besides would be of another name than it says."""
+    site.takes(contents(0, 2))
+    before = site.listed()
+    names = [str(site.folder / name) for name in sorted(before) if name != "site"]
+    said = "%s: a file of the folder %s, which a take would damage: name the folder as SITE" % (names[0], site.folder)
+    for files in names[1:], [site.put(contents(3))]:
+        assert ended(site.tool, [names[0], *files], env=site.environment) == (1, b"", b"cadf-take: %s\n" % os.fsencode(said))
+    assert site.listed() == before
+    (site.folder / "site").unlink()
+    assert ended(site.tool, names, env=site.environment).status == 0
+
+
 def test_a_lost_index_loses_no_window(site):
     site.takes(contents(0, 1))
     (site.folder / "site").unlink()
