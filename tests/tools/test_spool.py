@@ -320,6 +320,16 @@ def test_refused_words(spools, words, status, said):
     spools.leaves(folder, None, **{"a.json": None})
 
 
+def test_a_site_is_no_spool(spools):
+    """As if SITE were named twice, or the two the other way round: no file of it is moved."""
+    folder = spools.site(**{"a.json": document("e1")})
+    assert spools.run(folder, "--by", "day", "--log", "g", "site", "spool").status == 0
+    before = sorted(os.listdir(os.path.join(folder, "site")))
+    done = spools.run(folder, "--log", "g", "s.cadf", "site")
+    assert (done.status, done.error) == (3, b"cadf-spool: site: the folder of a site, whose files would be moved: name the folder in which files arrive\n")
+    assert sorted(os.listdir(os.path.join(folder, "site"))) == before
+
+
 def test_link_in_place_of_a_folder(spools):
     folder = spools.site(**{"a.json": document("e1")})
     os.mkdir(os.path.join(folder, "elsewhere"))
