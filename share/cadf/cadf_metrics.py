@@ -120,6 +120,8 @@ def listed_conflicts(name):
     beside = os.path.join(os.path.dirname(os.path.realpath(sys.argv[0])), "cadf-conflicts")
     with started([sys.executable, beside, "--", name], stdin=subprocess.DEVNULL, stdout=subprocess.DEVNULL, stderr=subprocess.PIPE) as child:
         said = child.communicate()[1].decode("utf-8", "backslashreplace").strip()
+    if child.returncode == DONE and not said:
+        return 0  # it says nothing of a site without conflicts
     counted = COUNTED.search(said)
     if child.returncode not in (DONE, DIFFERS) or not counted:
         raise Fault("%s: cadf-conflicts: %s" % (name_shown(name), said), child.returncode if child.returncode in (REFUSED, MEMORY) else FAILED)

@@ -1013,6 +1013,14 @@ def test_metrics_of_folders(folders):
             "facts_taken": here, "facts_lacked_by_peer": there, "open_conflicts": conflicts, "largest_window_bytes": largest}
 
 
+@pytest.mark.parametrize("more, status, count", [(set(), 0, 0), (failed(1), 5, 1), (failed(1) | ruling(1), 0, 0)], ids=["none", "open", "settled"])
+def test_conflicts_of_a_folder(folders, more, status, count):
+    folders.put("here/", facts(1, 2) | more)
+    folders.put("there/", facts(1, 2))
+    answer = folders.sync("--conflicts", "here/", "there/")
+    assert answer.status == status and answer.output.endswith(b"; %d open conflicts\n" % count), answer
+
+
 def test_metrics_of_more_windows_than_files_may_be_open(folders):
     """What an exchange can do is counted too: 28 windows and what is of no time, and 100 files."""
     for name in ("here/", "there/"):
