@@ -92,7 +92,7 @@ class Files:
         """Makes a file of what the inputs hold. Returns its name."""
         name = self.new_name()
         with open(name, "xb") as output:
-            cadf(["join"], inputs, output.fileno(), where=name)
+            cadf(["join"], inputs, output.fileno())
         return name
 
     def joined(self, names):
