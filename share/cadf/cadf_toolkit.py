@@ -428,7 +428,8 @@ def with_advice(text):
 
 def explained(said, which=None):
     """What `cadf` said of an input, or what else than a file of facts it is, with what to do next."""
-    return (which.kind() if which and OF_NO_KIND.match(said) else None) or with_advice(said)
+    is_lost = which and said == "not JSON" and which.name.endswith(".cadf")  # as a site's file that a shell has emptied
+    return (which.kind() if which and OF_NO_KIND.match(said) else None) or (said + ": " + DAMAGED if is_lost else with_advice(said))
 
 
 @contextlib.contextmanager

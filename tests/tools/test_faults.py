@@ -72,6 +72,7 @@ FAULTS = [
     ("good.cadf", "a replica file: `cadf-take SITE FILE` takes it as it is", {"choices": 1}),
     ("damaged", "digest: " + DAMAGED, dict.fromkeys(READERS, 1)),
     ("cut", "truncated: " + DAMAGED, dict.fromkeys(READERS, 1)),
+    ("emptied.cadf", "not JSON: " + DAMAGED, dict.fromkeys(READERS, 1)),
     ("lacking", "line 4: order: " + DAMAGED, dict.fromkeys(READERS, 1)),
     ("of-windows", "version: a later release wrote it, or line ends were changed on the way: fetch it again, or have `cadf show` of it sent",
      dict.fromkeys(READERS, 1)),
@@ -165,6 +166,7 @@ def make_files(cadf):
         good = file.read()
     put("damaged", good.replace(b"read", b"reap"))
     put("cut", good[:-20])
+    put("emptied.cadf", "")
     put("lacking", good.replace(b'[2,0,"e1"]\n', b""))
     put("of-windows", good.replace(b"\n", b"\r\n"))
     os.mkdir("folder")
