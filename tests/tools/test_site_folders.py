@@ -518,6 +518,8 @@ def test_a_window_is_no_site_of_its_own(site):
     assert site.listed() == before
     (site.folder / "site").unlink()
     assert ended(site.tool, names, env=site.environment).status == 0
+    new = Site(site.path, os.path.dirname(site.tool), "new")  # what such a file holds is taken all the same
+    assert new.take("--by", "day", files=names[:1]).status == 0 and new.atoms() == atoms_of(contents(0, 2))
 
 
 def test_a_lost_index_loses_no_window(site):
