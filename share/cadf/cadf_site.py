@@ -148,7 +148,7 @@ class Folder:
             if fault.errno == errno.ENOTDIR:
                 said += ": `cadf-take --by day NEW/ %s` makes a folder of a site's file" % name_shown(self.name)
             elif fault.errno == errno.ENOENT:
-                said += ": `cadf-take --by day SITE/ FILE..` makes it"
+                said += ": is that its name? `cadf-take --by day SITE/ FILE..` makes a new site"
             raise Fault("%s: %s" % (name_shown(name), said)) from None
         self.found = os.fstat(self.descriptor)
 

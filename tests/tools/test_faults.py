@@ -39,6 +39,8 @@ NO_LOG = "no log named: an event by itself names none: give a file that does, or
 OTHER = "other log%s: one site has one log; `cadf check FILE` says which log a file is of"
 FAULTS = [
     ("absent", "No such file or directory", dict.fromkeys(PLAIN, 3)),
+    ("absent/", "No such file or directory: is that its name? `cadf-take --by day SITE/ FILE..` makes a new site",
+     dict.fromkeys(("which", "agree", "conflicts", "report", "take it as the site", "seal"), 3)),
     ("/proc/self/mem", "Input/output error",
      dict.fromkeys(("which", "agree", "take", "conflicts", "report", "from-openstack", "choices", "listen", "seal", "earlier seal", "aside"), 3)),
     ("folder", "Is a directory", dict.fromkeys(("take", "from-openstack", "choices", "listen", "authority", "earlier seal"), 3)),
