@@ -409,6 +409,45 @@ def test_fault_in_the_spool(spools):
     assert spools.takes(folder).status == 0
 
 
+@pytest.mark.parametrize("kind, said", [(stat.S_ISREG, None), (stat.S_ISDIR, "spool/taking: it has to be a folder of the caller's, of mode 0700, on the spool's file system: mend or move it")])
+def test_another_file_system(spools, monkeypatch, kind, said):
+    """A folder that is mounted there is refused. A file may have another number than its folder, as in an overlay."""
+    program, right = spools.program(), os.fstat
+    monkeypatch.chdir(spools.site())
+    spool = os.stat("spool")
+
+    def fstat(file):
+        found = right(file)
+        is_other = kind(found.st_mode) and not os.path.samestat(found, spool)
+        return os.stat_result([*found[:2], found.st_dev + is_other, *found[3:10]])
+
+    monkeypatch.setattr(program.os, "fstat", fstat)
+    if said is None:
+        program.Spool("spool")
+    else:
+        with pytest.raises(program.Fault) as fault:
+            program.Spool("spool")
+        assert str(fault.value) == said
+
+
+@pytest.mark.parametrize("number", [errno.EROFS, errno.ENOSPC, errno.EDQUOT])
+@pytest.mark.parametrize("name", [".spool.lock", "taking"])
+def test_a_spool_that_cannot_be_written_to(spools, monkeypatch, number, name):
+    """That is said as it is, and not that something else is in the way."""
+    program, right = spools.program(), os.open
+
+    def failing(path, *words, **options):
+        if path == name:
+            raise OSError(number, os.strerror(number), path)
+        return right(path, *words, **options)
+
+    monkeypatch.chdir(spools.site())
+    monkeypatch.setattr(program.os, "open", failing)
+    with pytest.raises(OSError) as fault, program.naming_spool("spool"):
+        program.Spool("spool")
+    assert (fault.value.filename, fault.value.strerror) == ("spool (%s)" % name, os.strerror(number))
+
+
 def test_left_by_a_killed_run(spools):
     """What a killed run made of files goes at the next run, though nothing has arrived."""
     folder = spools.site()
