@@ -160,9 +160,9 @@ class Folder:
         os.close(self.descriptor)
 
     def give(self, file, mode):
-        """Gives a new file the folder's owner and group, as far as the caller may, and this mode."""
+        """Gives a new file the folder's owner and group, as far as the caller may and its user namespace has them, and this mode."""
         for user, group in ((self.found.st_uid, -1), (-1, self.found.st_gid)):
-            with contextlib.suppress(PermissionError):
+            with contextlib.suppress(OSError):
                 os.fchown(file, user, group)
         os.fchmod(file, mode)
 

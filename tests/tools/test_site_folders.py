@@ -1,5 +1,6 @@
 """Sites that are folders, as docs/FORMATS.md has them: what a take leaves there, and what a reader sees meanwhile."""
 import contextlib
+import errno
 import functools
 import hashlib
 import json
@@ -201,6 +202,18 @@ def test_root_takes_for_the_folders_owner(site):
     os.chown(site.folder, 2001, 3001)
     site.takes(contents(0))
     assert {(name.stat().st_uid, name.stat().st_gid) for name in site.folder.iterdir()} == {(2001, 3001)}
+
+
+@pytest.mark.parametrize("number", [errno.EPERM, errno.EINVAL])
+def test_an_owner_that_cannot_be_given(site, monkeypatch, number):
+    """The caller may not, or its user namespace has no such user or group, as in a container."""
+    def fchown(*_):
+        raise OSError(number, os.strerror(number))
+
+    site.folder.mkdir()
+    monkeypatch.setattr(os, "fchown", fchown)
+    site.takes_here(site.put(contents(0)), "day")
+    assert site.atoms() == atoms_of(contents(0))
 
 
 def test_what_is_held_already_changes_nothing(site):

@@ -210,6 +210,20 @@ def test_no_bits(folder):
     assert mode_of("s.cadf") == 0o755
 
 
+@pytest.mark.root
+@pytest.mark.needs("unshare")
+def test_an_owner_that_a_user_namespace_does_not_have(folder):
+    """As in a container: the site is the caller's from then on, as where he may not give it to its owner."""
+    folder.site(site=folder.one)
+    os.chown("s.cadf", 54321, -1)
+    os.chmod("s.cadf", 0o660)
+    done = ended("unshare", ["-r", folder.tool, "s.cadf", "two.json"], env={**os.environ, "CADF": folder.cadf})
+    if b"unshare:" in done.error:
+        pytest.skip("no user namespace can be made")
+    ends(done, 0)
+    assert held("s.cadf") == folder.both and (os.stat("s.cadf").st_uid, mode_of("s.cadf")) == (0, 0o660)
+
+
 # ---- What is refused
 
 @pytest.mark.parametrize("words, status, error", [
