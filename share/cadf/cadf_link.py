@@ -13,7 +13,7 @@ import threading
 import time
 from typing import NamedTuple
 
-from cadf_toolkit import FAILED, REFUSED, Fault, Input, is_log_name, printable
+from cadf_toolkit import FAILED, REFUSED, Fault, Input, is_log_name, printable, started_thread
 
 VERSION = 1
 FIRST_WORD = b"CADF-SYNC "
@@ -306,8 +306,7 @@ class Link:
             except (Fault, OSError) as fault:
                 faults.append(fault)
 
-        thread = threading.Thread(target=run, daemon=True)
-        thread.start()
+        thread = started_thread(run)
         try:
             yield thread, faults
         finally:

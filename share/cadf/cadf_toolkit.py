@@ -31,6 +31,7 @@ BEGUN, QUIET, BETWEEN_LINES = time.monotonic(), 2, 0.2  # seconds before progres
 CLEARED = "\r\x1b[K"  # what empties the line of a terminal
 NOT_REGULAR = "not a regular file; what a pipe brings is taken from standard input, as `-`"
 NO_ROOM = ": make room there, or name another folder by TMPDIR"
+NOT_NOW = "it can't be started now: try again, or allow more files and processes"
 IN_THE_WAY = "in the way of a new file: move it away, and make the call again"
 OUT_OF_MEMORY = "out of memory"  # made once: no text is made while memory is out
 
@@ -158,11 +159,15 @@ def why(fault):
 
 @contextlib.contextmanager
 def naming(name, numbers=None, advice=""):
-    """A context in which an OSError, or one of these numbers, without the name of a file is given this one."""
+    """A context in which an OSError, or one of these numbers, without the name of a file is given this one.
+
+    But for the one that no folder is found for temporary files.
+    """
     try:
         yield
     except OSError as fault:
-        if not isinstance(fault.filename, str) and (numbers is None or fault.errno in numbers):
+        is_told = isinstance(fault.filename, str) or fault.filename is None and fault.errno == errno.ENOENT
+        if not is_told and (numbers is None or fault.errno in numbers):
             fault.filename, fault.strerror = name, "%s%s" % (fault.strerror, advice)
         raise
 
@@ -443,7 +448,7 @@ def started(words, **options):
         child = subprocess.Popen(words, **options)
     except BaseException as fault:
         if isinstance(fault, OSError) and fault.filename is None:
-            fault.filename, fault.strerror = words[0], "%s: it can't be started now: try again, or allow more files and processes" % fault.strerror
+            fault.filename, fault.strerror = words[0], "%s: %s" % (fault.strerror, NOT_NOW)
         elif isinstance(fault, OSError) and fault.filename == CADF:
             fault.strerror += ": name the command by CADF, or put it on PATH"
         release_signals()
@@ -456,6 +461,16 @@ def started(words, **options):
         except BaseException:
             child.terminate()
             raise
+
+
+def started_thread(work, *words):
+    """Starts a thread, which doesn't outlive the program. Fault: it can't be started."""
+    thread = threading.Thread(target=work, args=words, daemon=True)
+    try:
+        thread.start()
+    except RuntimeError:
+        raise Fault("a thread: " + NOT_NOW) from None
+    return thread
 
 
 def heard(child):
@@ -607,6 +622,8 @@ def wait_for_lock(file, name, seconds):
             return fcntl.flock(file, fcntl.LOCK_EX | fcntl.LOCK_NB)
         except BlockingIOError:
             waited = time.monotonic() - begun
+        except OSError as fault:
+            raise Fault("%s: %s: callers take turns by this lock: have it on a file system with locks" % (name_shown(name), fault.strerror)) from None
         if seconds is not None and waited >= seconds:
             raise Fault("%s: another call holds this lock: try again, or wait longer by --wait" % name_shown(name))
         if waited >= PATIENCE and not told:

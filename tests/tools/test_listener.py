@@ -369,6 +369,16 @@ def test_late_fault(program, monkeypatch, tmp_path, call, size, lines):
     assert lines_of(folder) == [b"{}"] * lines
 
 
+def test_a_file_system_without_locks_of_folders(program, monkeypatch, tmp_path):
+    """As NFS, whose folders can't be locked: it takes nothing, and says where to have the folder."""
+    def flock(*_):
+        raise OSError(errno.EBADF, os.strerror(errno.EBADF))
+
+    folder = str(tmp_path / "spool")
+    monkeypatch.setattr(program.fcntl, "flock", flock)
+    assert refused(program.Spool, folder, 1, 1) == folder + ": it can't be locked: Bad file descriptor: name a folder on a disk of this machine"
+
+
 def test_no_file(program, tmp_path):
     """Nor does it take anything if no file can be made there, as on a disk without inodes or for reading alone."""
     folder = str(tmp_path / "spool")

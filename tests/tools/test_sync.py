@@ -474,6 +474,45 @@ def test_no_room_for_what_is_temporary(sites, here, part):
     assert answer.status == 3 and "cadf-sync: %s%sFile too large: make room there, or name another folder by TMPDIR\n" % (tempfile.gettempdir(), part) in said(answer)
 
 
+def test_no_folder_for_what_is_temporary(sites):
+    """The site is not named for it."""
+    sites.put("here.cadf", facts(1))
+    answer = sites.runs("cadf-sync", "here.cadf", "there.cadf", preexec_fn=lambda: resource.setrlimit(resource.RLIMIT_FSIZE, (0, 0)))
+    assert answer.status == 3 and said(answer).startswith("cadf-sync: No usable temporary directory found in ")
+    assert said(answer).endswith(": make room there, or name another folder by TMPDIR\n")
+
+
+def test_a_last_line_that_cannot_be_written(sites):
+    """It is not tried again at the end, which would be another status."""
+    sites.put("here.cadf", facts(1))
+    words = [sys.executable, os.path.join(sites.tools, "cadf-sync"), "here.cadf", "there.cadf"]
+    answer = ended("sh", ["-c", '"$@" >/dev/full', "-", *words], env=sites.environment(), cwd=sites.path)
+    assert (answer.status, said(answer)) == (3, "cadf-sync: standard output: write fault: No space left on device\n")
+
+
+# Runs a program whose thread of that number can't be started.
+THREADLESS = """
+import runpy, sys, threading
+start, left = threading.Thread.start, [None] * int(sys.argv[1])
+def started(thread):
+    if not left:
+        raise RuntimeError("can't start new thread")
+    left.pop()
+    start(thread)
+threading.Thread.start, sys.argv = started, sys.argv[2:]
+runpy.run_path(sys.argv[0], run_name="__main__")
+"""
+
+
+@pytest.mark.parametrize("number", range(4))
+def test_a_thread_that_cannot_be_started(sites, number):
+    sites.put("here.cadf", facts(1))
+    sites.put("there.cadf", facts(2))
+    answer = ended(sys.executable, ["-c", THREADLESS, str(number), os.path.join(sites.tools, "cadf-sync"), "here.cadf", "there.cadf"],
+                   env=sites.environment(), cwd=sites.path)
+    assert (answer.status, said(answer)) == (3, "cadf-sync: a thread: it can't be started now: try again, or allow more files and processes\n")
+
+
 LARGE = 2 ** 21  # bytes for which there is no room
 
 

@@ -2,10 +2,12 @@
 import errno
 import io
 import os
+import re
 import resource
 import signal
 import subprocess
 import sys
+import threading
 
 import pytest
 
@@ -85,6 +87,28 @@ def test_start_that_fails(kit, monkeypatch, fault, said):
     with pytest.raises(OSError) as found, kit.started(["cadf"]):
         pass
     assert (found.value.filename, found.value.strerror) == ("cadf", said)
+
+
+def test_a_thread_that_cannot_be_started(kit, monkeypatch):
+    def start(_):
+        raise RuntimeError("can't start new thread")
+
+    monkeypatch.setattr(threading.Thread, "start", start)
+    with pytest.raises(kit.Fault, match="^a thread" + NOT_NOW) as fault:
+        kit.started_thread(print)
+    assert fault.value.status == 3
+
+
+@pytest.mark.parametrize("number", [errno.ENOLCK, errno.EOPNOTSUPP])
+def test_a_file_system_without_locks(kit, monkeypatch, tmp_path, number):
+    """The lock is named, and not the site, with what to do."""
+    def flock(*_):
+        raise OSError(number, os.strerror(number))
+
+    monkeypatch.setattr(kit.fcntl, "flock", flock)
+    with pytest.raises(kit.Fault) as fault, kit.open_descriptor(kit.new_lock(str(tmp_path / "lock"), lambda file: None)) as file:
+        kit.wait_for_lock(file, "s/.lock", None)
+    assert str(fault.value) == "s/.lock: %s: callers take turns by this lock: have it on a file system with locks" % os.strerror(number)
 
 
 def test_as_many_files_as_the_system_allows(kit, monkeypatch):
