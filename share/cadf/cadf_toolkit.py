@@ -230,7 +230,7 @@ def version():
 
 class Version(argparse.Action):
     def __call__(self, parser, *_):
-        print("%s %s" % (parser.prog, version()))
+        parser._print_message("%s %s\n" % (parser.prog, version()), sys.stdout)
         parser.exit()
 
 
@@ -262,6 +262,13 @@ class Parser(argparse.ArgumentParser):
         if action.option_strings and not text:
             raise argparse.ArgumentError(action, "it is empty")
         return super()._get_value(action, text)
+
+    def _print_message(self, message, file=None):
+        """Prints help, the version or what is refused. Help that can't be written ends the call as any other fault."""
+        if file is sys.stderr:
+            super()._print_message(message, file)
+        elif ended(lambda: print(message, end="")):
+            os._exit(FAILED)
 
     def error(self, message):
         if sys.stderr is None:
@@ -306,7 +313,10 @@ class Input:
         self.name, self.file, self.advice = name_shown(name), file, advice
 
     def path(self):
-        return "/dev/fd/%d" % self.file.fileno()
+        path = "/dev/fd/%d" % self.file.fileno()
+        if not os.path.lexists(path):
+            raise Fault("%s: not there, and files are given to cadf by it: mount /proc" % path)
+        return path
 
     def first(self, count):
         """The first bytes. Raises the system's words if they can't be read."""

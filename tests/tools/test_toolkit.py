@@ -271,3 +271,23 @@ def test_refused_words_that_nobody_hears():
     """Where standard error is closed, the status of refused words is the same, and nothing is written elsewhere."""
     done = subprocess.run(["sh", "-c", '"$0" --no 2>&-', os.path.join(TOP, "tools", "cadf-which")], stdout=subprocess.PIPE, timeout=60, check=False)
     assert (done.returncode, done.stdout) == (2, b"")
+
+
+@pytest.mark.parametrize("unbuffered", ["", "1"])
+@pytest.mark.parametrize("words", ["--help", "--version"])
+def test_help_that_cannot_be_written(words, unbuffered):
+    done = subprocess.run(["sh", "-c", '"$0" %s >/dev/full' % words, os.path.join(TOP, "tools", "cadf-which")], stderr=subprocess.PIPE, timeout=60,
+                          env=dict(os.environ, PYTHONUNBUFFERED=unbuffered), check=False)
+    assert (done.returncode, done.stderr) == (3, b"cadf-which: standard output: write fault: No space left on device\n")
+
+
+@pytest.mark.needs("unshare")
+def test_a_machine_without_proc(tmp_path):
+    """Files are given to `cadf` by their descriptors: that these have no names there is said, and not that a file can't be read."""
+    (tmp_path / "event.json").write_text("{}")
+    words = [sys.executable, os.path.join(TOP, "tools", "cadf-which"), "event.json"]
+    done = subprocess.run(["unshare", "-rm", "sh", "-c", 'mount -t tmpfs none /proc && exec "$@"', "-", *words], cwd=tmp_path, stderr=subprocess.PIPE, timeout=60,
+                          env=dict(os.environ, CADF=os.path.join(TOP, "tests", "reference", "cadf")), check=False)
+    if b"unshare:" in done.stderr or b"mount:" in done.stderr:
+        pytest.skip("no file system of one's own can be mounted")
+    assert done.returncode == 3 and re.fullmatch(rb"/dev/fd/\d+: not there, and files are given to cadf by it: mount /proc\n", done.stderr), done.stderr
