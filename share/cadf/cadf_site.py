@@ -143,6 +143,7 @@ class Folder:
         self.name, self.read, self.files = name.rstrip("/") or "/", (None, None), contextlib.ExitStack()
         try:
             self.descriptor = os.open(name, os.O_RDONLY | os.O_DIRECTORY)
+            self.found = os.fstat(self.descriptor)
         except OSError as fault:
             said = fault.strerror
             if fault.errno == errno.ENOTDIR:
@@ -150,7 +151,6 @@ class Folder:
             elif fault.errno == errno.ENOENT:
                 said += ": is that its name? `cadf-take --by day SITE/ FILE..` makes a new site"
             raise Fault("%s: %s" % (name_shown(name), said)) from None
-        self.found = os.fstat(self.descriptor)
 
     def __enter__(self):
         return self
@@ -185,15 +185,21 @@ class Folder:
     def open(self, name, flags, mode=0o600):
         return os.open(name, flags | os.O_NOFOLLOW, mode, dir_fd=self.descriptor)
 
-    def input(self, name):
-        """A file of the folder as an input. Raises FileNotFoundError if it isn't there."""
+    @contextlib.contextmanager
+    def reading(self, name):
+        """A context in which what the system refuses of a file is told of its path, unless it isn't there."""
         try:
-            return Input(self.path(name), opened_file(name, os.O_NOFOLLOW, self.descriptor))
+            yield
         except FileNotFoundError:
             raise
         except OSError as fault:
             said = {errno.ELOOP: "a symbolic link, which no file of a site is", errno.EINVAL: NO_FILE, errno.EISDIR: NO_FILE}.get(fault.errno, fault.strerror)
             raise Fault("%s: %s" % (self.shown(name), said)) from None
+
+    def input(self, name):
+        """A file of the folder as an input. Raises FileNotFoundError if it isn't there."""
+        with self.reading(name):
+            return Input(self.path(name), opened_file(name, os.O_NOFOLLOW, self.descriptor))
 
     def index(self):
         """What `site` says, or None if it isn't there. It is read once, until another file has its name or it is written to."""
@@ -201,7 +207,7 @@ class Folder:
             file = self.input(INDEX).file
         except FileNotFoundError:
             return None
-        with contextlib.ExitStack() as files:
+        with contextlib.ExitStack() as files, self.reading(INDEX):
             files.enter_context(file)
             found = os.fstat(file.fileno())
             state = found.st_dev, found.st_ino, found.st_size, found.st_mtime_ns, found.st_ctime_ns

@@ -708,6 +708,15 @@ def test_a_reader_looks_again(site, monkeypatch):
         assert set().union(*(read_file(each.whole())[1] for each in inputs.values())) == atoms_of(contents(0, 1, 3, 6))
 
 
+def test_an_index_that_cannot_be_read_is_named(site, monkeypatch):
+    """As on a bad disk: it is no fault of what is printed."""
+    site.takes(contents(0))
+    monkeypatch.setattr(cadf_site, "opened_file", lambda *_: open("/proc/self/mem", "rb"))
+    with cadf_site.Folder(str(site.folder)) as folder, pytest.raises(cadf_toolkit.Fault) as fault:
+        folder.index()
+    assert str(fault.value) == "%s: Input/output error" % (site.folder / "site")
+
+
 def test_a_window_is_opened_by_its_name(site):
     """Whatever number of windows there is, so that one after the other costs no square: `site` is read, and no line of it judged."""
     counts = set()
