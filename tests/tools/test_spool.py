@@ -458,6 +458,18 @@ def test_left_by_a_killed_run(spools):
     assert spools.takes(folder).status == 0 and os.listdir(taking) == []
 
 
+@pytest.mark.parametrize("name", [".nfs000000000012d68700000001", ".fuse_hidden0000000200000001"])
+def test_what_a_file_server_keeps(spools, name):
+    """A file that was replaced while its sender had it open has such a name on some file systems until he closes it. It was not claimed."""
+    folder = spools.site(**{"a.json": document("e1")})
+    taking = os.path.join(folder, "spool", "taking")
+    os.mkdir(taking, 0o700)
+    put(os.path.join(taking, name), document("e2"))
+    assert spools.takes(folder) == (0, b"", counted(1, 0).encode() + b"\n")
+    spools.leaves(folder, spools.joined(document("e1")), **names_in("taken", ["a.json"]))
+    assert os.listdir(taking) == [name]
+
+
 @pytest.mark.parametrize("limit", [0, 300])
 def test_full_disk(spools, limit):
     folder = spools.site(**{"a.jsonl": message("e1"), "b.json": document("e2"), "c.json": b"{"})
