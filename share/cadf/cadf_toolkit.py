@@ -151,10 +151,12 @@ def say(text):
 
 
 def why(fault):
-    """The name of the file and the system's words of an OSError. One without a name is of what is printed, or no folder is found for temporary files."""
+    """The name of the file and the system's words of an OSError. One without a name is of what is printed, unless something isn't there."""
     if isinstance(fault.filename, str):
         return "%s: %s" % (name_shown(fault.filename), fault.strerror)
-    return fault.strerror + NO_ROOM if fault.errno == errno.ENOENT else "standard output: write fault: %s" % fault.strerror
+    if fault.errno == errno.ENOENT:
+        return fault.strerror + NO_ROOM if fault.strerror.startswith("No usable") else "the working folder: " + fault.strerror
+    return "standard output: write fault: %s" % fault.strerror
 
 
 @contextlib.contextmanager

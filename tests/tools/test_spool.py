@@ -380,6 +380,13 @@ def test_command_that_fails(spools, script, status):
     spools.leaves(folder, spools.joined(document("e1", "e2")), **names_in("taken", ["a.jsonl", "b.json"]))
 
 
+def test_no_working_folder(spools):
+    """A name that is relative to a folder that was removed is a fault as any other."""
+    folder = spools.site()
+    done = ended("sh", ["-c", 'mkdir here && cd here && rmdir ../here && exec "$@"', "-", sys.executable, spools.tool, "--log", "g", "s.cadf", "spool"], cwd=folder)
+    assert done == (3, b"", b"cadf-spool: the working folder: No such file or directory\n")
+
+
 def test_nowhere(spools):
     """Where no site can be made, as in a folder that isn't there, the first file shows it, and the others aren't tried."""
     folder = spools.site(**{"%d.json" % number: document("e1") for number in range(4)})
@@ -809,7 +816,7 @@ def test_unclosed(shared):
 # ---- Copies of the tool that do wrong
 
 @pytest.mark.parametrize("check, words, texts", [
-    pytest.param(test_stopped, [], ["    return status\n\n\nif __name__ == \"__main__\":\n    sys.exit(ended(take, words()))",
+    pytest.param(test_stopped, [], ["    return status\n\n\nif __name__ == \"__main__\":\n    sys.exit(ended(lambda: take(words())))",
                                     "    return status\n\n\nif __name__ == \"__main__\":\n    sys.exit(take(words()))"], id="what it runs goes on"),
     pytest.param(test_withdrawn, [], ["except FileNotFoundError:\n                say(", "except ZeroDivisionError:\n                say("], id="fails for a file that is gone"),
     pytest.param(test_budgets, ["memory"], ["resource.setrlimit(kind, (min(most, hard), hard))", "pass"], id="no budget"),

@@ -41,6 +41,7 @@ def raising(fault):
     (OSError(errno.ENOSPC, "No space left on device"), 3, "standard output: write fault: No space left on device"),
     (FileNotFoundError(errno.ENOENT, "No usable temporary directory found in ['/tmp']"), 3,
      "No usable temporary directory found in ['/tmp']: make room there, or name another folder by TMPDIR"),
+    (FileNotFoundError(errno.ENOENT, "No such file or directory"), 3, "the working folder: No such file or directory"),
 ])
 def test_ended_by_the_machine(kit, capsys, fault, status, said):
     assert kit.ended(raising(fault)) == status
