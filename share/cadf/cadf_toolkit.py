@@ -758,6 +758,7 @@ def ended(run, *words):
     try:
         try:
             ask_to_end(stop)
+            signal.signal(signal.SIGCHLD, signal.SIG_DFL)  # where the caller's caller ignores it, each program that fails seems to end well
             sys.unraisablehook = raise_later
             os.umask(os.umask(0o077) & 0o077)  # what is made is its owner's to read and write, whatever the caller's mask says
             if sys.stdout is None:

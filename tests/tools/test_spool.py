@@ -380,6 +380,14 @@ def test_command_that_fails(spools, script, status):
     spools.leaves(folder, spools.joined(document("e1", "e2")), **names_in("taken", ["a.jsonl", "b.json"]))
 
 
+def test_started_by_who_ignores_the_end_of_programs(spools):
+    """The status of a take isn't lost then: what could not be taken waits."""
+    folder = spools.site(**{"a.json": document("e1")})
+    os.mkdir(os.path.join(folder, "s.cadf.new"))
+    assert spools.takes(folder, preexec_fn=lambda: signal.signal(signal.SIGCHLD, signal.SIG_IGN)).status == 3
+    spools.leaves(folder, None, **names_in("taking", ["a.json"]))
+
+
 def test_no_working_folder(spools):
     """A name that is relative to a folder that was removed is a fault as any other."""
     folder = spools.site()
