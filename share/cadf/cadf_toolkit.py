@@ -739,7 +739,13 @@ def ask_to_end(handler):
 
 
 def prepare_streams():
-    """Has a write to standard output go on that is cut short, and escapes what it can't encode. No file gets the number of a closed standard input."""
+    """Has a write to standard output go on that is cut short, and escapes what it can't encode. No file gets the number of a closed standard input.
+
+    A program that had the streams before may have left them so that a read of what is still to come looks like the end.
+    """
+    for number in range(3):
+        with contextlib.suppress(OSError):
+            os.set_blocking(number, True)
     if isinstance(getattr(sys.stdout, "buffer", None), io.RawIOBase):  # as with PYTHONUNBUFFERED
         sys.stdout = open(1, "w", encoding=sys.stdout.encoding, closefd=False)
     if isinstance(sys.stdout, io.TextIOWrapper):

@@ -1,17 +1,23 @@
 """How a tool ends, by share/cadf/cadf_toolkit.py, for what no test can make a machine do."""
 import errno
+import fcntl
 import io
+import json
 import os
 import re
 import resource
 import signal
+import struct
 import subprocess
 import sys
+import termios
 import threading
+import time
 
 import pytest
 
 from tests import TOP
+from tests.tools.odd_logs import EVENT
 from tests.tools.programs import loaded
 
 TOOLKIT = os.path.join(TOP, "share", "cadf", "cadf_toolkit.py")
@@ -292,3 +298,38 @@ def test_a_machine_without_proc(tmp_path):
     if b"unshare:" in done.stderr or b"mount:" in done.stderr:
         pytest.skip("no file system of one's own can be mounted")
     assert done.returncode == 3 and re.fullmatch(rb"/dev/fd/\d+: not there, and files are given to cadf by it: mount /proc\n", done.stderr), done.stderr
+
+
+@pytest.mark.parametrize("words, output", [(["cadf-from-openstack", "--log", "g"], b'"e2"'), (["cadf-which", "-"], b"")])
+def test_a_standard_input_that_does_not_block(words, output):
+    """What comes after a pause is read, though a program that had the pipe before has left it so that reads don't wait."""
+    reading, writing = os.pipe()
+    os.set_blocking(reading, False)
+    text = json.dumps({"id": "g", "events": [dict(EVENT, id=key) for key in ("e1", "e2")]}).encode() + b"\n"
+    os.write(writing, text[:40])
+    with subprocess.Popen([os.path.join(TOP, "tools", words[0]), *words[1:]], stdin=reading, stdout=subprocess.PIPE, stderr=subprocess.PIPE,
+                          env=dict(os.environ, CADF=os.path.join(TOP, "tests", "reference", "cadf"))) as child:
+        while struct.unpack("i", fcntl.ioctl(writing, termios.FIONREAD, bytes(4)))[0] and child.poll() is None:
+            time.sleep(0.01)
+        time.sleep(0.1)
+        os.write(writing, text[40:])
+        for each in (reading, writing):
+            os.close(each)
+        written, said = child.communicate(timeout=60)
+    assert child.returncode == 0 and output in written, said
+
+
+def test_a_standard_output_that_does_not_block(tmp_path):
+    """All of a text that a pipe doesn't hold is written, though the pipe was left so that writes don't wait."""
+    reading, writing = os.pipe()
+    os.set_blocking(writing, False)
+    (tmp_path / "lines").write_text("".join(json.dumps(dict(EVENT, id="e%d" % number)) + "\n" for number in range(1000)))
+    with subprocess.Popen([os.path.join(TOP, "tools", "cadf-from-openstack"), "--log", "g", str(tmp_path / "lines")], stdout=writing, stderr=subprocess.PIPE) as child:
+        os.close(writing)
+        while struct.unpack("i", fcntl.ioctl(reading, termios.FIONREAD, bytes(4)))[0] < 60000 and child.poll() is None:
+            time.sleep(0.01)
+        time.sleep(0.1)
+        with open(reading, "rb") as output:
+            written = output.read()
+        said = child.communicate(timeout=60)[1]
+    assert child.returncode == 0 and len(json.loads(written)["events"]) == 1000, said
