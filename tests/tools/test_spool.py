@@ -24,7 +24,7 @@ import pytest
 
 from tests.machine import ended, side_by_side
 from tests.tools import others
-from tests.tools.copies import is_caught
+from tests.tools.copies import copied, is_caught
 from tests.tools.faulty import calls_of
 from tests.tools.odd_logs import EVENT
 from tests.tools.programs import loaded, tool
@@ -386,6 +386,20 @@ def test_started_by_who_ignores_the_end_of_programs(spools):
     os.mkdir(os.path.join(folder, "s.cadf.new"))
     assert spools.takes(folder, preexec_fn=lambda: signal.signal(signal.SIGCHLD, signal.SIG_IGN)).status == 3
     spools.leaves(folder, None, **names_in("taking", ["a.json"]))
+
+
+def test_a_program_that_fails_at_its_start(spools, tmp_path):
+    """As amid an upgrade, or where memory is out: that is no fault of the file, which waits, and the next run takes it."""
+    right, tools = spools.tool, copied(tmp_path / "copy")
+    put(os.path.join(tools, "cadf-from-openstack"), b"raise ImportError('no such name')\n")
+    folder = spools.site(**{"a.jsonl": message("e1"), "b.json": document("e2")})
+    spools.tool = os.path.join(tools, "cadf-spool")
+    done = spools.takes(folder)
+    assert done.status == 3 and b"cadf-spool: a.jsonl: waits: " in done.error and b"ImportError: no such name\n" in done.error
+    spools.leaves(folder, spools.joined(document("e2")), **names_in("taking", ["a.jsonl"]), **names_in("taken", ["b.json"]))
+    spools.tool = right
+    assert spools.takes(folder).status == 0
+    spools.leaves(folder, spools.joined(document("e1", "e2")), **names_in("taken", ["a.jsonl", "b.json"]))
 
 
 def test_no_working_folder(spools):
