@@ -225,9 +225,11 @@ def version():
     """The version, with the commit that it was made of."""
     with contextlib.suppress(OSError), open(os.path.join(HERE, "version"), encoding="utf-8") as file:
         return file.read().strip()
-    done = subprocess.run(["git", "-C", HERE, "describe", "--always", "--dirty", "--abbrev=12"], stdin=subprocess.DEVNULL,
-                          stdout=subprocess.PIPE, stderr=subprocess.DEVNULL, text=True, check=False)
-    return "of the sources, commit %s" % (done.stdout.strip() or "unknown")
+    commit = ""
+    with contextlib.suppress(OSError):  # there may be no git
+        commit = subprocess.run(["git", "-C", HERE, "describe", "--always", "--dirty", "--abbrev=12"], stdin=subprocess.DEVNULL,
+                                stdout=subprocess.PIPE, stderr=subprocess.DEVNULL, text=True, check=False).stdout.strip()
+    return "of the sources, commit %s" % (commit or "unknown")
 
 
 class Version(argparse.Action):

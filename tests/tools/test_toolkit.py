@@ -333,3 +333,8 @@ def test_a_standard_output_that_does_not_block(tmp_path):
             written = output.read()
         said = child.communicate(timeout=60)[1]
     assert child.returncode == 0 and len(json.loads(written)["events"]) == 1000, said
+
+
+def test_a_version_without_git(kit, monkeypatch):
+    monkeypatch.setenv("PATH", "/none")
+    assert kit.version() == "of the sources, commit unknown"
