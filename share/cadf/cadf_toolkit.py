@@ -23,6 +23,7 @@ import time
 DONE, REFUSED, USAGE, FAILED, MEMORY, DIFFERS = range(6)  # the manual page says what each means
 CADF = os.environ.get("CADF") or "cadf"
 HERE = os.path.dirname(os.path.realpath(__file__))
+sys.executable = sys.executable or os.path.realpath("/proc/self/exe")  # Python can't tell if PATH isn't set
 STOPPING = (signal.SIGHUP, signal.SIGINT, signal.SIGTERM)
 LOCK_MODES = (stat.S_IFREG | 0o600, stat.S_IFREG | 0o660)
 PATIENCE = 1  # seconds before a lock that is held is worth a line

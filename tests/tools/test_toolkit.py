@@ -338,3 +338,11 @@ def test_a_standard_output_that_does_not_block(tmp_path):
 def test_a_version_without_git(kit, monkeypatch):
     monkeypatch.setenv("PATH", "/none")
     assert kit.version() == "of the sources, commit unknown"
+
+
+def test_no_path(tmp_path):
+    """Without PATH Python doesn't know its own path, by which the tools start Python again."""
+    (tmp_path / "d.json").write_text('{"id": "g", "events": []}')
+    done = subprocess.run(["", os.path.join(TOP, "tools", "cadf-which"), "d.json"], executable=sys.executable, cwd=tmp_path, stderr=subprocess.PIPE, timeout=60, check=False,
+                          env={"CADF": os.path.join(TOP, "tests", "reference", "cadf"), "LC_ALL": "C", "PYTHONUTF8": "0", "PYTHONCOERCECLOCALE": "0"})
+    assert (done.returncode, done.stderr) == (0, b"")
