@@ -5,9 +5,11 @@ the kit, and the verdict on each crate.
 """
 import hashlib
 import os
+import signal
 import subprocess
 import sys
 
+signal.signal(signal.SIGCHLD, signal.SIG_DFL)  # if the caller ignores it, each program that fails seems to end well
 PROGRAM = "cadf"
 DEFAULT_PROCESSOR = "x86-64-v2"
 

@@ -92,8 +92,8 @@ class Tree:
         self.told.write_text("")
         return self.start_beside(program, *words, **more)
 
-    def start_beside(self, program, *words, **more):
-        return subprocess.Popen([self.path(program), *words], env=self.environment(more),
+    def start_beside(self, program, *words, before=(), **more):
+        return subprocess.Popen([*before, self.path(program), *words], env=self.environment(more),
                                 stdout=subprocess.PIPE, stderr=subprocess.STDOUT, universal_newlines=True)
 
     def run(self, program, *words, **more):
@@ -274,10 +274,12 @@ def test_together(tree):
     assert not tree.path(".git/cadf-build/rooms").exists()
 
 
-def test_failing(tree):
-    """A crate that isn't proved ends the build and what runs beside it."""
-    status, said = tree.build("4", FAILS="low")
-    assert status == 1 and "low failed: see crates/low/out/build.log" in said
+@pytest.mark.parametrize("before", [[], ["env", "--ignore-signal=CHLD"]], ids=["plain", "SIGCHLD ignored"])
+def test_failing(tree, before):
+    """A crate that isn't proved ends the build and what runs beside it, also where the caller ignores what programs end with."""
+    child = tree.start("build/command", "4", before=before, FAILS="low")
+    said = child.communicate(timeout=60)[0]
+    assert child.returncode == 1 and "low failed: see crates/low/out/build.log" in said
     assert tree.is_quiet()
 
 
