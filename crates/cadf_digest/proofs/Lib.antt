@@ -1,0 +1,4 @@
+mod Choices
+mod Holding
+mod Lanes
+mod TermLemmas
