@@ -1,6 +1,6 @@
 -- The loops of the judge: items and members, read one after another.
 use Rattle.std.proofs.lemmas.Grind.{common_steps}
-use Rattle.std.proofs.Common.{◌≡◌, ℕ, ◌+◌, ◌-◌, ◌<◌, ◌≤◌, List, [], ◌∷◌, length, Bool, true, false, cond, Option}
+use Rattle.std.proofs.Common.{◌≡◌, ℕ, ◌+◌, ◌-◌, ◌^◌, ◌<◌, ◌≤◌, List, [], ◌∷◌, length, Bool, true, false, cond, Option}
 use Rattle.std.proofs.Common.{Some, None, option_map, refl, sym, ap, ap₂, ◌∙◌, subst, arith}
 use Rattle.std.specs.Prelude.{◌||◌, ◌&&◌, not, nat_le, is_some, option_and_then, unwrap_or, if◌then◌else◌, IsTrue, IsUtf8, ◌↔◌}
 use Rattle.std.specs.HashSet.{HashSet, contains_by, UpdatesBy}
@@ -23,7 +23,7 @@ use Rattle.serde_json.specs.Read.{of_json, of_items, of_members, converted, read
 use Rattle.cadf_json.specs.declared.name_hashing.NameHashing.{NameHashing}
 use Rattle.cadf_json.specs.declared.spells.Window.{Window}
 use Rattle.cadf_json.specs.Fractions.{fractions, items_fractions, members_fractions, after, is_left, is_left_in_items, asked, IsPassed}
-use Rattle.cadf_json.specs.Fractions.{IsNumberJudged, IsJudged, AreItemsJudged, AreMembersJudged, IsTextJudged}
+use Rattle.cadf_json.specs.Fractions.{MayEnd, IsNumberJudged, IsJudged, AreItemsJudged, AreMembersJudged, IsTextJudged}
 use Rattle.serde_json.specs.Find.{is_float}
 use Rattle.serde_json.specs.Written.{has_float}
 use Rattle.cadf_json.specs.Value.{SpellsValue}
@@ -34,18 +34,23 @@ use Rattle.cadf_json.proofs.Loops.{item_failed, member_failed, key_failed}
 
 -- ---- windows
 
-asked_at : (n : ℕ) (w v : Window) → IsPassed n w v → (i : ℕ) → asked v i ≡ asked w (n + i)
-asked_at n w v h i = grind (arith, common_steps)
+asked_at : (n : ℕ) (w v : Window) → IsPassed n w v → (e i : ℕ) → asked v e i ≡ asked w e (n + i)
+asked_at n w v h e i = grind (arith, common_steps)
 
 -- what the window asks for after n numbers
-pub asked_after : (n : ℕ) (w v : Window) → IsPassed n w v → asked v ≡ after n (asked w)
-asked_after n w v h = λ t i. asked_at n w v h i t
+pub asked_after : (n : ℕ) (w v : Window) → IsPassed n w v → (e : ℕ) → asked v e ≡ after n (asked w e)
+asked_after n w v h e = λ t i. asked_at n w v h e i t
 
 pub passed_both : (n m : ℕ) (w v u : Window) → IsPassed n w v → IsPassed m v u → IsPassed (n + m) w u
-passed_both n m w v u h k = omega (arith, h, k)
+passed_both n m w v u h k =
+    (k.0 ∙ h.0, k.1 ∙ ap (λ s. s + m) h.1 ∙ omega arith, λ e x. h.2 e (k.2 e x), λ x. k.3 (h.3 x))
 
 pub passed_none : (w : Window) → IsPassed 0 w w
-passed_none w = omega arith
+passed_none w = (refl, omega arith, λ e x. x, λ x. x)
+
+-- a name was counted after n numbers
+pub passed_on : (n : ℕ) (w v u : Window) → IsPassed n w v → IsPassed 0 v u → IsPassed n w u
+passed_on n w v u h k = subst (λ m. IsPassed m w u) (omega arith) (passed_both n 0 w v u h k)
 
 -- ---- values
 
@@ -62,14 +67,14 @@ is_scalar Token.null = true
 is_scalar Token.bad = false
 
 module _ (depth : ℕ) (ts rest : List Token) (w : Window) where
-  plain : (j : json.Json) (d : Data) → value depth ts ≡ Some (j, rest) → of_json j ≡ Some d → is_left (asked w) j ≡ false → fractions j ≡ 0
+  plain : (j : json.Json) (d : Data) → value depth ts ≡ Some (j, rest) → of_json j ≡ Some d → ((e : ℕ) → is_left (asked w e) j ≡ false) → fractions j ≡ 0
       → IsJudged false depth ts rest w w
   plain j d is reads none zero = record {
     tree = j;
     got = d;
     is = is;
     reads = reads;
-    left_is = sym none;
+    left_is = λ e m. sym (none e);
     passes = subst (λ n. IsPassed n w w) (sym zero) (passed_none w);
   }
 
@@ -79,11 +84,11 @@ module _ (depth : ℕ) (ts rest : List Token) (w : Window) where
   scalar_judged Token.begin_array e h = absurd cc
   scalar_judged Token.end_array e h = absurd cc
   scalar_judged (Token.key s) e h = absurd cc
-  scalar_judged (Token.string s) e h = plain (json.string s) (string s) (ap (value depth) e ∙ value_is depth (Token.string s ∷ rest)) refl refl refl
+  scalar_judged (Token.string s) e h = plain (json.string s) (string s) (ap (value depth) e ∙ value_is depth (Token.string s ∷ rest)) refl (λ e. refl) refl
   scalar_judged (Token.number s) e h = absurd cc
   scalar_judged (Token.boolean b) e h =
-      plain (json.boolean b) (boolean b) (ap (value depth) e ∙ value_is depth (Token.boolean b ∷ rest)) refl refl refl
-  scalar_judged Token.null e h = plain json.null null (ap (value depth) e ∙ value_is depth (Token.null ∷ rest)) refl refl refl
+      plain (json.boolean b) (boolean b) (ap (value depth) e ∙ value_is depth (Token.boolean b ∷ rest)) refl (λ e. refl) refl
+  scalar_judged Token.null e h = plain json.null null (ap (value depth) e ∙ value_is depth (Token.null ∷ rest)) refl (λ e. refl) refl
   scalar_judged Token.bad e h = absurd cc
 
   module _ (v : Window) (left : Bool) where
@@ -93,7 +98,7 @@ module _ (depth : ℕ) (ts rest : List Token) (w : Window) where
       got = number h.0;
       is = ap (value depth) e ∙ value_is depth (Token.number s ∷ rest);
       reads = ap (option_map number) h.1.0;
-      left_is = h.1.1 ∙ ap (λ o. unwrap_or (option_map is_float o) false && asked w 0) (sym h.1.0);
+      left_is = λ x m. h.1.1 x m ∙ ap (λ o. unwrap_or (option_map is_float o) false && asked w x 0) (sym h.1.0);
       passes = subst (λ o. IsPassed (if unwrap_or (option_map is_float o) false then 1 else 0) w v) (sym h.1.0) h.1.2;
     }
 
@@ -143,7 +148,7 @@ pub record ItemsJudged (depth : ℕ) (start now : List Token) (left : Bool) (w v
   pub begun : json.Items → json.Items
   pub so_far : items (value depth) (length start) start ≡ parse_map begun (items (value depth) bound now)
   pub reads : (js : json.Items) → is_some (of_items (begun js)) ≡ is_some (of_items js)
-  pub left_is : (js : json.Items) → is_left_in_items (asked w) (begun js) ≡ (left || is_left_in_items (asked v) js)
+  pub left_is : (e : ℕ) → MayEnd e v → (js : json.Items) → is_left_in_items (asked w e) (begun js) ≡ (left || is_left_in_items (asked v e) js)
   pub passes : (js : json.Items) (u : Window) → IsPassed (items_fractions js) v u → IsPassed (items_fractions (begun js)) w u
 
 or_later : (a b c : Bool) → (a || (b || c)) ≡ ((b || a) || c)
@@ -168,12 +173,12 @@ module _ (depth : ℕ) (start : List Token) (w : Window) where
     begun = λ js. js;
     so_far = none_before _;
     reads = λ js. refl;
-    left_is = λ js. refl;
+    left_is = λ e m js. refl;
     passes = λ js u h. h;
   }
 
   pub item_judged : (now r : List Token) (left b : Bool) (v u : Window) (j : json.Json) (d : Data) → ItemsJudged depth start now left w v
-      → after_end_array now ≡ None → value depth now ≡ Some (j, r) → of_json j ≡ Some d → b ≡ is_left (asked v) j → IsPassed (fractions j) v u → length r < length now
+      → after_end_array now ≡ None → value depth now ≡ Some (j, r) → of_json j ≡ Some d → ((e : ℕ) → MayEnd e u → b ≡ is_left (asked v e) j) → IsPassed (fractions j) v u → length r < length now
       → ItemsJudged depth start r (b || left) w u
   item_judged now r left b v u j d h going is reads left_is passes less =
       let enough = h.enough in
@@ -186,9 +191,9 @@ module _ (depth : ℕ) (start : List Token) (w : Window) where
         so_far = h.so_far ∙ ap (parse_map h.begun) (items_more (value depth) h.bound now r j (omega (arith, enough, less)) going is)
             ∙ parse_twice h.begun (json.item j) _;
         reads = λ js. h.reads (json.item j js) ∙ item_reads j d js reads;
-        left_is = λ js. h.left_is (json.item j js)
-            ∙ ap₂ (λ a f. left || (a || is_left_in_items f js)) (sym left_is) (sym (asked_after (fractions j) v u passes))
-            ∙ or_later left b (is_left_in_items (asked u) js);
+        left_is = λ e m js. h.left_is e (passes.2 e m) (json.item j js)
+            ∙ ap₂ (λ a f. left || (a || is_left_in_items f js)) (sym (left_is e m)) (sym (asked_after (fractions j) v u passes e))
+            ∙ or_later left b (is_left_in_items (asked u e) js);
         passes = λ js x e. h.passes (json.item j js) x (passed_both (fractions j) (items_fractions js) v u x passes e);
       }
 
@@ -201,7 +206,7 @@ module _ (depth : ℕ) (start : List Token) (w : Window) where
         got = read.0;
         is = h.so_far ∙ ap (parse_map h.begun) (items_end (value depth) h.bound now r h.enough over);
         reads = read.1;
-        left_is = or_none left ∙ sym (h.left_is json.no_items);
+        left_is = λ e m. or_none left ∙ sym (h.left_is e m json.no_items);
         passes = h.passes json.no_items v (passed_none v);
       }
     where
@@ -247,7 +252,8 @@ pub record MembersJudged (depth : ℕ) (start now : List Token) (names : Names) 
   pub begun : json.Members → json.Members
   pub so_far : members (value depth) (length start) start ≡ parse_map begun (members (value depth) bound now)
   pub reads : (ms : json.Members) → is_some (of_members (begun ms) no_members) ≡ is_some (of_members ms no_members)
-  pub left_is : (q : List ℕ) (ms : json.Members) → pending (asked w) q (begun ms) false ≡ pending (asked v) q ms (has_name names q)
+  pub left_is : (e : ℕ) → MayEnd e v → (q : List ℕ) (ms : json.Members)
+      → pending (asked w e) q (begun ms) false ≡ pending (asked v e) q ms (has_name names q)
   pub passes : (ms : json.Members) (u : Window) → IsPassed (members_fractions ms) v u → IsPassed (members_fractions (begun ms)) w u
 
 reads_at : (ms : json.Members) (f g : Members) → is_some (of_members ms f) ≡ is_some (of_members ms g)
@@ -273,13 +279,14 @@ module _ (depth : ℕ) (start : List Token) (w : Window) where
     begun = λ ms. ms;
     so_far = none_before _;
     reads = λ ms. refl;
-    left_is = λ q ms. ap (λ ks. pending (asked w) q ms (list_any (λ k. bytes_eq q k.now) ks)) (sym none);
+    left_is = λ e m q ms. ap (λ ks. pending (asked w e) q ms (list_any (λ k. bytes_eq q k.now) ks)) (sym none);
     passes = λ ms u h. h;
   }
 
   pub member_judged : (now s r : List Token) (names more : Names) (b : Bool) (v u : Window) (k : List ℕ) (j : json.Json) (d : Data)
       → MembersJudged depth start now names w v → read_key now ≡ Some (Some k, s) → value depth s ≡ Some (j, r) → of_json j ≡ Some d
-      → b ≡ is_left (asked v) j → IsPassed (fractions j) v u → length r < length now → ((q : List ℕ) → has_name more q ≡ cond (bytes_eq k q) b (has_name names q))
+      → ((e : ℕ) → MayEnd e u → b ≡ is_left (asked v e) j) → IsPassed (fractions j) v u → length r < length now
+      → ((q : List ℕ) → has_name more q ≡ cond (bytes_eq k q) b (has_name names q))
       → MembersJudged depth start r more w u
   member_judged now s r names more b v u k j d h key is reads left_is passes less updates =
       let enough = h.enough in
@@ -292,25 +299,25 @@ module _ (depth : ℕ) (start : List Token) (w : Window) where
         so_far = h.so_far ∙ ap (parse_map h.begun) (members_more (value depth) h.bound k now s r j (omega (arith, enough, less)) key is)
             ∙ parse_twice h.begun (json.member k j) _;
         reads = λ ms. h.reads (json.member k j ms) ∙ member_reads k j d ms reads;
-        left_is = λ q ms. h.left_is q (json.member k j ms)
-            ∙ ap₂ (λ a f. pending f q ms (cond (bytes_eq k q) a (has_name names q))) (sym left_is) (sym (asked_after (fractions j) v u passes))
-            ∙ ap (pending (asked u) q ms) (sym (updates q));
+        left_is = λ e m q ms. h.left_is e (passes.2 e m) q (json.member k j ms)
+            ∙ ap₂ (λ a f. pending f q ms (cond (bytes_eq k q) a (has_name names q))) (sym (left_is e m)) (sym (asked_after (fractions j) v u passes e))
+            ∙ ap (pending (asked u e) q ms) (sym (updates q));
         passes = λ ms x e. h.passes (json.member k j ms) x (passed_both (fractions j) (members_fractions ms) v u x passes e);
       }
 
-  pub members_judged : (now r : List Token) (names : Names) (v : Window) (none : Bool)
-      → MembersJudged depth start now names w v → read_key now ≡ Some (None, r) → IsTrue none ↔ (length names.keys ≡ 0)
-      → AreMembersJudged (not none) depth start r w v
-  members_judged now r names v none h over empty =
+  pub members_judged : (now r : List Token) (names : Names) (v u : Window) (none : Bool)
+      → MembersJudged depth start now names w v → read_key now ≡ Some (None, r) → IsPassed 0 v u → IsTrue none ↔ (length names.keys ≡ 0)
+      → AreMembersJudged (not none) depth start r w u
+  members_judged now r names v u none h over freed empty =
       let read = some_value (of_members (h.begun json.no_members) no_members) (h.reads json.no_members) in
       record {
         tree = h.begun json.no_members;
         got = read.0;
         is = h.so_far ∙ ap (parse_map h.begun) (members_end (value depth) h.bound now r h.enough over);
         reads = read.1;
-        left_is = left_from (asked w) (h.begun json.no_members) (not none) (has_name names) (some names.keys none empty) (any names.keys none empty)
-            (λ q. sym (h.left_is q json.no_members));
-        passes = h.passes json.no_members v (passed_none v);
+        left_is = λ e m. left_from (asked w e) (h.begun json.no_members) (not none) (has_name names) (some names.keys none empty)
+            (any names.keys none empty) (λ q. sym (h.left_is e (freed.2 e m) q json.no_members));
+        passes = h.passes json.no_members u freed;
       }
     where
       some : (ks : List (Bor (List ℕ))) (b : Bool) → IsTrue b ↔ (length ks ≡ 0) → not b ≡ true
@@ -348,40 +355,47 @@ module _ (depth : ℕ) (start : List Token) (w : Window) where
 abbrev pub NoneBefore : List ℕ → ℕ → Type 0
 NoneBefore s b = (j : json.Json) → value 127 (tokens s) ≡ Some (j, []) → is_left all j ≡ is_left (nat_le b) j
 
-from_at : (w : Window) (i : ℕ) → nat_le w.before i ≡ (asked w i || nat_le (w.before + w.wanted) i)
-from_at w i = grind (arith, common_steps)
+from_at : (w : Window) (e i : ℕ) → w.seen ≡ 0 → w.from ≤ e → nat_le w.from i ≡ (asked w e i || nat_le e i)
+from_at w e i none h = grind (arith, common_steps)
 
 -- one is left in the window, or after it
-in_or_after : (w : Window) (j : json.Json) → is_left (nat_le w.before) j ≡ (is_left (asked w) j || is_left (nat_le (w.before + w.wanted)) j)
-in_or_after w j = ap (λ p. is_left p j) (λ t i. from_at w i t) ∙ left_or (asked w) (nat_le (w.before + w.wanted)) j
+in_or_after : (w : Window) (e : ℕ) (j : json.Json) → w.seen ≡ 0 → w.from ≤ e → is_left (nat_le w.from) j ≡ (is_left (asked w e) j || is_left (nat_le e) j)
+in_or_after w e j none h = ap (λ p. is_left p j) (λ t i. from_at w e i none h t) ∙ left_or (asked w e) (nat_le e) j
 
 same_tree : (s : List ℕ) (j k : json.Json) → value 127 (tokens s) ≡ Some (j, []) → value 127 (tokens s) ≡ Some (k, []) → j ≡ k
 same_tree s j k e f = grind (arith, common_steps)
 
-module _ (s : List ℕ) (w v : Window) (left : Bool) (h : IsTextJudged left s w v) (none : NoneBefore s w.before) where
+module _ (s : List ℕ) (w v : Window) (left : Bool) (h : IsTextJudged left s w v) (begins : w.seen ≡ 0) (some : w.from < w.end)
+    (none : NoneBefore s w.from) where
   text_read : read s ≡ Some h.got
   text_read = whole_read (value 127 (tokens s)) h.got (ap (converted of_json) h.is ∙ ap (option_map (λ d. (d, []))) h.reads)
 
-  float_is : has_float h.got ≡ is_left (nat_le w.before) h.tree
+  float_is : has_float h.got ≡ is_left (nat_le w.from) h.tree
   float_is = subst (Given (λ d. has_float d ≡ is_left all h.tree)) h.reads (float_json h.tree) ∙ none h.tree h.is
 
-  pub none_before_next : left ≡ false → NoneBefore s (w.before + w.wanted)
-  none_before_next e j is =
-      none j is ∙ in_or_after w j
-      ∙ ap (λ b. b || is_left (nat_le (w.before + w.wanted)) j) (ap (is_left (asked w)) (same_tree s j h.tree is h.is) ∙ sym h.left_is ∙ e)
+  pub moves_on : (w.from < v.end) × (v.seen < 2 ^ 64)
+  moves_on = rw (← h.passes.0) (h.passes.3 (some, omega arith))
+
+  left_is : left ≡ is_left (asked w v.end) h.tree
+  left_is = h.left_is v.end (omega arith, λ x. refl)
+
+  both : is_left (nat_le w.from) h.tree ≡ (left || is_left (nat_le v.end) h.tree)
+  both = in_or_after w v.end h.tree begins (omega (arith, moves_on)) ∙ ap (λ b. b || is_left (nat_le v.end) h.tree) (sym left_is)
+
+  pub none_before_next : left ≡ false → NoneBefore s v.end
+  none_before_next e j is = grind (arith, common_steps, none, both, same_tree, h.is)
 
   pub one_is_left : left ≡ true → (d : Data) → ¬ SpellsValue s d
   one_is_left e d spells =
-      let one = in_or_after w h.tree ∙ ap (λ b. b || is_left (nat_le (w.before + w.wanted)) h.tree) (sym h.left_is ∙ e) in
-      true≢false (sym (float_is ∙ one) ∙ whole (sym text_read ∙ spells.1) spells.2)
+      true≢false (sym (float_is ∙ both ∙ ap (λ b. b || is_left (nat_le v.end) h.tree) e) ∙ whole (sym text_read ∙ spells.1) spells.2)
     where
       whole : Some h.got ≡ Some d → has_float d ≡ false → has_float h.got ≡ false
       whole same no_float = grind (arith, common_steps)
 
-  pub none_is_left : left ≡ false → 0 < v.wanted → IsUtf8 s → (d : Data) × SpellsValue s d
-  none_is_left e some u =
+  pub none_is_left : left ≡ false → v.seen ≤ v.end → IsUtf8 s → (d : Data) × SpellsValue s d
+  none_is_left e all_seen u =
       let passes = h.passes.1 in
-      (h.got, (u, text_read, float_is ∙ left_same (nat_le w.before) (asked w) h.tree (λ i l. within i l passes) ∙ sym h.left_is ∙ e))
+      (h.got, (u, text_read, float_is ∙ left_same (nat_le w.from) (asked w v.end) h.tree (λ i l. within i l passes) ∙ sym left_is ∙ e))
     where
-      within : (i : ℕ) → i < fractions h.tree → v.wanted ≡ w.wanted - (fractions h.tree - w.before) → nat_le w.before i ≡ asked w i
+      within : (i : ℕ) → i < fractions h.tree → v.seen ≡ w.seen + fractions h.tree → nat_le w.from i ≡ asked w v.end i
       within i l e = grind (arith, common_steps)

@@ -1,5 +1,5 @@
 -- The numbers of a text that aren't whole: which of them no later member replaces.
-use Rattle.std.specs.Prelude.{◌≡◌, ℕ, ◌+◌, ◌-◌, List, [], length, ◌&&◌, ◌||◌, not, nat_le, nat_lt, Bool, false}
+use Rattle.std.specs.Prelude.{◌≡◌, ℕ, ◌+◌, ◌^◌, ◌<◌, ◌≤◌, List, [], length, ◌&&◌, ◌||◌, not, nat_le, nat_lt, Bool, false}
 use Rattle.std.specs.Prelude.{Some, option_map, unwrap_or, if◌then◌else◌}
 use Rattle.std.specs.Str.{bytes_eq}
 use Rattle.json.specs.Token.{Token}
@@ -61,16 +61,29 @@ abbrev mutual
   is_left_in_members p json.no_members = false
   is_left_in_members p (json.member k j ms) = is_left p j && not (is_named k ms) || is_left_in_members (after (fractions j) p) ms
 
--- the i-th number from here is looked for
-abbrev pub asked : Window → ℕ → Bool
-asked w i = nat_le w.before i && nat_lt i (w.before + w.wanted)
+-- the i-th number from here is looked for, if the window ends before the e-th of the text
+abbrev pub asked : Window → ℕ → ℕ → Bool
+asked w e i = nat_le w.from (w.seen + i) && nat_lt (w.seen + i) e
 
--- n numbers were passed
+-- the window ends before the e-th number, or may still come to end there
+abbrev pub MayEnd : ℕ → Window → Type 0
+MayEnd e w = (e ≤ w.end) × (e < w.seen → e ≡ w.end)
+
+-- a number is looked for, and those that were seen can be counted
+abbrev pub IsOpen : Window → Type 0
+IsOpen w = (w.from < w.end) × (w.seen < 2 ^ 64)
+
+-- n numbers were passed; where the window ends is settled once
 abbrev pub IsPassed : ℕ → Window → Window → Type 0
-IsPassed n w v = (v.before ≡ w.before - n) × (v.wanted ≡ w.wanted - (n - w.before))
+IsPassed n w v = (v.from ≡ w.from) × (v.seen ≡ w.seen + n) × ((e : ℕ) → MayEnd e v → MayEnd e w) × (IsOpen w → IsOpen v)
+
+-- a number that isn't whole was passed, and is looked for if b says so
+abbrev pub IsFractionJudged : Bool → Window → Window → Type 0
+IsFractionJudged b w v = ((e : ℕ) → MayEnd e v → b ≡ asked w e 0) × IsPassed 1 w v
 
 abbrev pub IsNumberJudged : Bool → List ℕ → Window → Window → Type 0
-IsNumberJudged left s w v = (n : Num) × ((number_of s ≡ Some n) × (left ≡ (is_float n && asked w 0)) × IsPassed (if is_float n then 1 else 0) w v)
+IsNumberJudged left s w v = (n : Num) × ((number_of s ≡ Some n)
+    × ((e : ℕ) → MayEnd e v → left ≡ (is_float n && asked w e 0)) × IsPassed (if is_float n then 1 else 0) w v)
 
 -- a value was read, and it is known whether a number in it that the window asks for is left
 pub record IsJudged (left : Bool) (depth : ℕ) (ts rest : List Token) (w v : Window) : Type 0 where
@@ -78,7 +91,7 @@ pub record IsJudged (left : Bool) (depth : ℕ) (ts rest : List Token) (w v : Wi
   pub got : Data
   pub is : value depth ts ≡ Some (tree, rest)
   pub reads : of_json tree ≡ Some got
-  pub left_is : left ≡ is_left (asked w) tree
+  pub left_is : (e : ℕ) → MayEnd e v → left ≡ is_left (asked w e) tree
   pub passes : IsPassed (fractions tree) w v
 
 pub record AreItemsJudged (left : Bool) (depth : ℕ) (ts rest : List Token) (w v : Window) : Type 0 where
@@ -86,7 +99,7 @@ pub record AreItemsJudged (left : Bool) (depth : ℕ) (ts rest : List Token) (w 
   pub got : Items
   pub is : items (value depth) (length ts) ts ≡ Some (tree, rest)
   pub reads : of_items tree ≡ Some got
-  pub left_is : left ≡ is_left_in_items (asked w) tree
+  pub left_is : (e : ℕ) → MayEnd e v → left ≡ is_left_in_items (asked w e) tree
   pub passes : IsPassed (items_fractions tree) w v
 
 pub record AreMembersJudged (left : Bool) (depth : ℕ) (ts rest : List Token) (w v : Window) : Type 0 where
@@ -94,7 +107,7 @@ pub record AreMembersJudged (left : Bool) (depth : ℕ) (ts rest : List Token) (
   pub got : Members
   pub is : members (value depth) (length ts) ts ≡ Some (tree, rest)
   pub reads : of_members tree no_members ≡ Some got
-  pub left_is : left ≡ is_left_in_members (asked w) tree
+  pub left_is : (e : ℕ) → MayEnd e v → left ≡ is_left_in_members (asked w e) tree
   pub passes : IsPassed (members_fractions tree) w v
 
 abbrev pub IsTextJudged : Bool → List ℕ → Window → Window → Type 0

@@ -1,9 +1,11 @@
 //! Checks whether a text spells a value, without building it.
-ghost use Rattle.std.specs.Prelude.{◌≡◌, ◌<◌, length, true, false, Err, IfOk, OnOk};
+ghost use Rattle.std.specs.Prelude.{◌≡◌, ◌≢◌, ◌<◌, length, true, false, Err, IfOk, OnOk};
+ghost use Rattle.std.specs.HashSet.{UpdatesBy};
+ghost use Rattle.std.specs.Str.{bytes_eq};
 ghost use Rattle.serde_json.specs.Data.{Data};
 ghost use Rattle.serde_json.specs.Read.{number_of, read};
 ghost use Rattle.cadf_json.specs.Reading.{IsNoValue, AreNoItems, AreNoMembers};
-ghost use Rattle.cadf_json.specs.Fractions.{IsJudged, AreItemsJudged, AreMembersJudged, IsNumberJudged, IsTextJudged, asked, IsPassed};
+ghost use Rattle.cadf_json.specs.Fractions.{IsJudged, AreItemsJudged, AreMembersJudged, IsFractionJudged, IsNumberJudged, IsTextJudged, IsPassed};
 ghost use Rattle.cadf_json.specs.Value.{SpellsValue};
 
 use crate::Memory;
@@ -12,35 +14,49 @@ use crate::number::Number;
 use crate::push::ReadFault;
 use crate::read::MAX_DEPTH;
 use json::{Reader, Scratch, Token};
-use std::alloc::Global;
+use std::alloc::{AllocError, Global};
 use std::collections::HashSet;
 
-/// One pass looks for one number in so many bytes of the text. A name that it keeps takes up to 46.
-const BYTES_FOR_EACH: usize = 27;
+/// One pass keeps at most one name for so many bytes of the text. A name takes up to 87 while the set grows.
+const BYTES_FOR_NAME: usize = 48;
 
-/// The numbers that aren't whole and that one pass looks for, of those that come next: the first `before` are passed
-/// over, then `wanted` are looked for.
+/// The numbers that aren't whole and that one pass looks for: those from the `from`-th to before the `end`-th of the
+/// text, counted from 0. `seen` of them were passed, and `room` more names may be kept.
 #[derive(Clone, Copy, Drop)]
 struct Window {
-    before: usize,
-    wanted: usize,
+    from: usize,
+    end: usize,
+    seen: usize,
+    room: usize,
 }
 
 impl Window {
-    /// Passes one number, and returns whether it is looked for.
-    fn takes(&mut self) -> bool
-        ensures is { result ≡ asked self.old 0 }
-        ensures passed { IsPassed 1 self.old self.new }
+    /// Passes one number, and returns whether it is looked for. `Memory` if there are more than a `usize` counts.
+    fn takes(&mut self) -> Result<bool, ReadFault>
+        ensures ok { IfOk result (λ b. IsFractionJudged b self.old self.new) }
+        ensures err { result ≢ Err ReadFault.NotJson }
     {
-        if self.before > 0 {
-            self.before -= 1;
-            return false;
+        let at = self.seen;
+        self.seen = at.checked_add(1).ok_or(ReadFault::Memory)?;
+        Ok(self.from <= at && at < self.end)
+    }
+
+    /// Counts a name that is kept. Where there was no room for it, no later number is looked for.
+    fn keep_name(&mut self)
+        ensures { IsPassed 0 self.old self.new }
+    {
+        if self.room > 0 {
+            self.room -= 1;
+        } else if self.from < self.seen && self.seen < self.end {
+            self.end = self.seen;
         }
-        if self.wanted > 0 {
-            self.wanted -= 1;
-            return true;
-        }
-        false
+    }
+
+    /// Makes room for names that are kept no longer.
+    fn free_names(&mut self, names: usize)
+        ensures { IsPassed 0 self.old self.new }
+    {
+        self.room = self.room.saturating_add(names);
     }
 }
 
@@ -50,7 +66,7 @@ fn judge_number(text: &str, window: &mut Window) -> Result<bool, ReadFault>
     ensures not_json { result ≡ Err ReadFault.NotJson → number_of text.now ≡ None }
 {
     match Number::parse(text) {
-        Some(Number::Float(_)) => Ok(window.takes()),
+        Some(Number::Float(_)) => window.takes(),
         Some(_) => Ok(false),
         None => Err(ReadFault::NotJson),
     }
@@ -113,6 +129,26 @@ fn judge_items(
     Ok(left)
 }
 
+/// Keeps the name of a member, if a number in the member is left, else keeps it no longer.
+fn settle_name<'a>(
+    names: &mut HashSet<&'a str, NameHashing>,
+    name: &'a str,
+    left: bool,
+    window: &mut Window,
+) -> Result<(), AllocError>
+    ensures names { OnOk result (UpdatesBy (λ x y. bytes_eq x.now y.now) (λ k. bytes_eq name.now k.now) names.old names.new left) }
+    ensures window { IsPassed 0 window.old window.new }
+{
+    if left {
+        if names.insert(name)? {
+            window.keep_name();
+        }
+    } else if names.remove(name) {
+        window.free_names(1);
+    }
+    Ok(())
+}
+
 /// Judges the next members, the opening brace of which was read. Keeps the names whose last value has a number that is
 /// looked for.
 #[cycle(judge_value)]
@@ -136,12 +172,10 @@ fn judge_members<'a>(
         let Some(name) = key else {
             break;
         };
-        if judge_value(alloc, reader, depth, hashing, window)? {
-            names.insert(name)?;
-        } else {
-            names.remove(name);
-        }
+        let left = judge_value(alloc, reader, depth, hashing, window)?;
+        settle_name(&mut names, name, left, window)?;
     }
+    window.free_names(names.len());
     Ok(!names.is_empty())
 }
 
@@ -165,20 +199,21 @@ fn judge_text(
     }
 }
 
-/// Returns whether the text spells a value. Makes no value of it. Reads it once if all numbers are whole, else at most
-/// nine times, and keeps at most one name for 27 bytes. `Memory` if an allocation fails.
+/// Returns whether the text spells a value. Makes no value of it, and keeps at most one name for 48 bytes at a time:
+/// where that isn't enough, reads the text again for the numbers that come later. `Memory` if an allocation fails.
 pub fn spells_value(alloc: Global, text: &str) -> Result<bool, Memory>
     ensures yes { IfOk result (λ b. b ≡ true → (d : Data) × SpellsValue text.now d) }
     ensures no { IfOk result (λ b. b ≡ false → (d : Data) → ¬ SpellsValue text.now d) }
 {
     let hashing = NameHashing::of(text);
     let mut scratch = Scratch::new(alloc);
-    let width = text.len() / BYTES_FOR_EACH + 1;
-    let mut before: usize = 0;
+    let mut from: usize = 0;
     'windows: loop {
         let mut window = Window {
-            before,
-            wanted: width,
+            from,
+            end: usize::MAX,
+            seen: 0,
+            room: text.len() / BYTES_FOR_NAME,
         };
         match judge_text(alloc, &mut scratch, text, hashing, &mut window) {
             Ok(true) => return Ok(false),
@@ -186,9 +221,9 @@ pub fn spells_value(alloc: Global, text: &str) -> Result<bool, Memory>
             Err(ReadFault::NotJson) => return Ok(false),
             Err(ReadFault::Memory) => return Err(Memory),
         }
-        if window.wanted > 0 {
+        if window.seen <= window.end {
             return Ok(true);
         }
-        before = before.checked_add(width).ok_or(Memory)?;
+        from = window.end;
     }
 }

@@ -1,15 +1,16 @@
 use Rattle.std.proofs.lemmas.Grind.{common_steps}
-use Rattle.std.proofs.Common.{◌≡◌, ◌<◌, ◌∷◌, length, true, false, Some, None, Err, option_map, sym, ap, ◌∙◌, subst, arith, rules}
+use Rattle.std.proofs.Common.{◌≡◌, ◌<◌, ◌∷◌, length, Some, None, Err, option_map, ap, ◌∙◌, subst, arith, rules}
 use Rattle.json.specs.Json.{after_end_array, read_key, value}
 use Rattle.json.specs.Reads.{token_of, opens}
 use Rattle.json.proofs.Grammar.{value_is, value-begin_array, value-begin_object, read_key-shorter}
 use Rattle.serde_json.specs.Read.{of_json, converted}
 use Rattle.cadf_json.specs.declared.push.ReadFault.TheVariants.{NotJson}
+use Rattle.cadf_json.specs.Fractions.{fractions}
 use Rattle.cadf_json.proofs.Turns.{converted-array, converted-object}
 use Rattle.cadf_json.proofs.Loops.{too_deep}
 use Rattle.cadf_json.proofs.Judging.{scalar_judged, number_judged, array_judged, object_judged}
 use Rattle.cadf_json.proofs.Judging.{ItemsJudged, items_begin, item_judged, items_judged, no_items_judged}
-use Rattle.cadf_json.proofs.Judging.{members_begin, member_judged, members_judged, no_key_judged, no_member_judged, names_updated}
+use Rattle.cadf_json.proofs.Judging.{members_begin, member_judged, members_judged, no_key_judged, no_member_judged, names_updated, passed_on}
 use Rattle.cadf_json.proofs.spells.+judge_value.Goals as goal
 
 -- ---- a value
@@ -103,31 +104,17 @@ judge_members-returns-clause-ok t c =
     let l = c.members in
     let s = c.next_key.new.self in
     let over : read_key l.reader ≡ Some (None, s) = c.in-Ok.ensures.value ∙ ap (λ o. Some (option_map (λ x. x.now) o, s)) c.in_default-key.is in
-    members_judged c.args.depth c.args.reader.now c.args.window.now l.reader s l.names l.window _ l.invariant over c.is_empty.ensures
+    members_judged c.args.depth c.args.reader.now c.args.window.now l.reader s l.names l.window c.free_names.new.self _ l.invariant over c.free_names.ensures c.is_empty.ensures
 
-pub judge_members-returns-in_err-judge_value-clause-not_json : goal.judge_members-returns-in_err-judge_value-clause-not_json
-judge_members-returns-in_err-judge_value-clause-not_json t c h =
+pub judge_members-returns-in_err-left-clause-not_json : goal.judge_members-returns-in_err-left-clause-not_json
+judge_members-returns-in_err-left-clause-not_json t c h =
     let l = c.members in
     let k = c.in-Some.name in
     let s = c.next_key.new.self in
     let named : read_key l.reader ≡ Some (Some k.now, s) = c.in-Ok.ensures.value ∙ ap (λ o. Some (option_map (λ x. x.now) o, s)) c.in-Some.is in
-    let failed : Err c.in_err-judge_value.field-0.0 ≡ Err NotJson = search rules in
+    let failed : Err c.in_err-left.field-0.0 ≡ Err NotJson = search rules in
     no_member_judged c.args.depth c.args.reader.now c.args.window.now l.reader s l.names l.window k.now l.invariant named
-    (c.in_err-judge_value.ensures.not_json failed)
-
-pub judge_members-members-preserved-in_ok-insert : goal.judge_members-members-preserved-in_ok-insert
-judge_members-members-preserved-in_ok-insert t c =
-    let l = c.members in
-    let k = c.in-Some.name in
-    let s = c.next_key.new.self in
-    let named : read_key l.reader ≡ Some (Some k.now, s) = c.in-Ok.ensures.value ∙ ap (λ o. Some (option_map (λ x. x.now) o, s)) c.in-Some.is in
-    let done = c.in_ok-judge_value.ensures in
-    let sooner = read_key-shorter l.reader (Some k.now) s named in
-    let later = done.shorter in
-    let read = done.ok in
-    member_judged c.args.depth c.args.reader.now c.args.window.now l.reader s c.judge_value.new.reader l.names c.insert.new.self true l.window
-    c.judge_value.new.window k.now read.tree read.got l.invariant named read.is read.reads (sym c.if-branch.true ∙ read.left_is) read.passes
-    (omega (arith, sooner, later)) (names_updated k.now l.names c.insert.new.self true c.in_ok-insert.ensures.updates)
+    (c.in_err-left.ensures.not_json failed)
 
 pub judge_members-members-preserved : goal.judge_members-members-preserved
 judge_members-members-preserved t c =
@@ -135,10 +122,11 @@ judge_members-members-preserved t c =
     let k = c.in-Some.name in
     let s = c.next_key.new.self in
     let named : read_key l.reader ≡ Some (Some k.now, s) = c.in-Ok.ensures.value ∙ ap (λ o. Some (option_map (λ x. x.now) o, s)) c.in-Some.is in
-    let done = c.in_ok-judge_value.ensures in
     let sooner = read_key-shorter l.reader (Some k.now) s named in
-    let later = done.shorter in
-    let read = done.ok in
-    member_judged c.args.depth c.args.reader.now c.args.window.now l.reader s c.judge_value.new.reader l.names c.remove.new.self false l.window
-    c.judge_value.new.window k.now read.tree read.got l.invariant named read.is read.reads (sym c.if-branch.false ∙ read.left_is) read.passes
-    (omega (arith, sooner, later)) (names_updated k.now l.names c.remove.new.self false c.remove.ensures.updates)
+    let later = c.in_ok-left.ensures.shorter in
+    let read = c.in_ok-left.ensures.ok in
+    let settled = c.settle_name.ensures.window in
+    member_judged c.args.depth c.args.reader.now c.args.window.now l.reader s c.judge_value.new.reader l.names c.settle_name.new.names _ l.window
+    c.settle_name.new.window k.now read.tree read.got l.invariant named read.is read.reads (λ e m. read.left_is e (settled.2 e m))
+    (passed_on (fractions read.tree) l.window c.judge_value.new.window c.settle_name.new.window read.passes settled) (omega (arith, sooner, later))
+    (names_updated k.now l.names c.settle_name.new.names _ c.in_ok-settle_name.ensures.names)
