@@ -15,7 +15,7 @@ sys.dont_write_bytecode = True
 
 TOP = os.path.dirname(os.path.dirname(os.path.abspath(__file__)))
 BINARY = os.path.join(TOP, "crates", "cadf", "out", "cadf")
-sys.path.append(TOP)
+sys.path.insert(0, TOP)
 
 from tests.reference.replica_files import FIRST_LINES, lines_of
 from tests.reference.sealed_files import sealed

@@ -5,11 +5,12 @@ the kit, and the verdict on each crate.
 """
 import hashlib
 import os
-import signal
 import subprocess
 import sys
 
-signal.signal(signal.SIGCHLD, signal.SIG_DFL)  # if the caller ignores it, each program that fails seems to end well
+from build import children
+
+children.know_their_ends()
 PROGRAM = "cadf"
 DEFAULT_PROCESSOR = "x86-64-v2"
 

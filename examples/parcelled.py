@@ -14,7 +14,7 @@ import tempfile
 
 sys.dont_write_bytecode = True
 TOP = os.path.dirname(os.path.dirname(os.path.abspath(__file__)))
-sys.path.append(TOP)
+sys.path.insert(0, TOP)
 
 from tests.reference.replica_files import file_of, read_file
 

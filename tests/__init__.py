@@ -6,7 +6,11 @@ import os
 import subprocess
 import sys
 
-sys.dont_write_bytecode = True
+sys.dont_write_bytecode = True  # so this stands before what is imported
+
+from build import children
+
+children.know_their_ends()
 TOP = os.path.dirname(os.path.dirname(os.path.abspath(__file__)))
 
 

@@ -3,7 +3,9 @@ import glob
 import os
 import re
 import runpy
+import signal
 import subprocess
+import sys
 import threading
 import types
 
@@ -11,6 +13,7 @@ import pytest
 
 from tests import TOP, conftest, text_of, tracked
 from tests.conftest import SLOW
+from tests.machine import side_by_side
 
 CODE = re.compile(r"`([^`]+)`")
 STEPS = runpy.run_path(os.path.join(TOP, ".ci", "steps.py"))
@@ -86,6 +89,33 @@ def test_stages(commands, passed, failed):
     gate.run_stages(*((name, name == "proofs", {name: command}) for name, command in zip(names, commands)))
     assert [step.name for step in gate.ended if not step.status] == passed
     assert [step.name for step in gate.ended if step.status] == failed
+
+
+LOADED = """
+import runpy, signal, sys
+place = sys.argv[1]
+if place.startswith("tests/"):
+    runpy.run_module(place[:-len(".py")].replace("/", "."), run_name="loaded")
+else:
+    sys.path.insert(0, place.rpartition("/")[0])
+    runpy.run_path(place, run_name="loaded")
+sys.exit(signal.getsignal(signal.SIGCHLD) is signal.SIG_IGN)
+"""
+
+
+def loads_aware(place):
+    """Whether a program knows how each one ends that it starts, though its caller ignores SIGCHLD."""
+    loaded = subprocess.run([sys.executable, "-B", "-c", LOADED, place], cwd=TOP, check=False, stderr=subprocess.PIPE, text=True,
+                            preexec_fn=lambda: signal.signal(signal.SIGCHLD, signal.SIG_IGN))
+    return loaded.returncode == 0 or "No module named" in loaded.stderr
+
+
+@pytest.mark.needs("git")
+def test_no_failure_is_lost():
+    """Each program of the gate, the benchmarks and the tests that starts others knows how they end, whatever its caller ignores."""
+    names = [name for name in tracked() if re.match(r"(\.ci|bench|tests)/", name) and "__main__" in text_of(name) and
+             re.search(r"\bsubprocess\b|\brun_apart\b", text_of(name))]
+    assert len(names) > 20 and [name for name, is_aware in zip(names, side_by_side(loads_aware, names)) if not is_aware] == []
 
 
 def on_demand():
