@@ -17,7 +17,7 @@ import subprocess
 import tempfile
 
 from cadf_link import Store
-from cadf_site import LARGEST, PART, SHARED, UNITS, Folder, check_window, made_of_parts, split, without_facts
+from cadf_site import LARGEST, PART, SHARED, UNITS, Folder, check_window, made_of_parts, order, split, without_facts
 from cadf_toolkit import REFUSED, Fault, Input, Progress, Refusal, another_program, cadf, log_name, log_of, other_log, with_advice
 
 UNIT = re.compile(("B (%s)" % "|".join(UNITS)).encode())
@@ -39,11 +39,6 @@ def with_digest(lines):
     """The lines, with their digest line."""
     data = b"".join(line + b"\n" for line in lines)
     return data + b"Z %s\n" % hashlib.sha256(data).hexdigest().encode()
-
-
-def order(part):
-    """The place of a part: `shared` first, then windows in order of time."""
-    return part != SHARED, part
 
 
 class OfParts:
@@ -117,11 +112,6 @@ class SiteProof(OfParts):
 
 # ---- Made of a folder
 
-def canonical(index):
-    """The canonical text of the name of a folder's log."""
-    return json.dumps(index.name(), ensure_ascii=False)
-
-
 def sealed(inputs):
     """How many facts some files have together, and their root."""
     found = SEAL.fullmatch(cadf(["seal"], inputs, subprocess.PIPE))
@@ -134,7 +124,7 @@ def sealed_folder(name):
     """The seal of a folder, as it stood at one moment. Refuses a file that holds something else than its name says."""
     with Folder(name) as folder, Progress() as progress:
         index, count = folder.site(), itertools.count()
-        seal = SiteSeal(canonical(index), index.unit)
+        seal = SiteSeal(index.log, index.unit)
 
         def sealed_part(part, files):
             progress.count(next(count), "windows sealed")
@@ -249,7 +239,7 @@ def proved(facts, name):
     """The proof which facts of a file a folder has, and which it hasn't: each is looked for in the window of its instant."""
     with Folder(name) as folder:
         index = folder.site()
-        proof, asked = SiteProof(canonical(index), index.unit), by_part(facts, index.name(), index.unit)
+        proof, asked = SiteProof(index.log, index.unit), by_part(facts, index.name(), index.unit)
         with without_facts(proof.log, name) as empty:
             def proof_of_part(part, files):
                 with asked[part].opened("%s of %s" % (part, facts.name)) as own:

@@ -63,6 +63,11 @@ def entry_line(part, digest):
     return ("F %s %s\n" % (part, digest)).encode()
 
 
+def order(part):
+    """The place of a part: `shared` first, then windows in order of time."""
+    return part != SHARED, part
+
+
 class Index:
     """What the file `site` says: a log, by the canonical text of its name, a unit, and files, by part and digest.
 

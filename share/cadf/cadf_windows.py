@@ -52,11 +52,6 @@ def is_part(name, unit):
     return name == ALL if unit is None else name == SHARED or unit_of(name) == unit
 
 
-def order(part):
-    """The place of a part: `shared` first, then windows in order of time."""
-    return part != SHARED, part
-
-
 def last_digest(file):
     """The digits of the last line of an open replica file, or None if it is none."""
     size = os.fstat(file.fileno()).st_size
