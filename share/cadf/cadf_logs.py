@@ -1,4 +1,4 @@
-"""What the tools read of the texts that cadf shows: a value after another, and the instants of events."""
+"""What the tools read of the texts that cadf writes: atoms, a value after another, and the instants of events."""
 import argparse
 import codecs
 import datetime
@@ -55,6 +55,21 @@ class Range:
         """Says the range for the page's head; nothing if it is all of the log."""
         limits = " ".join("%s %s" % (word, utc(at)) for word, at in (("from", self.first), ("until before", self.until)) if at is not None)
         return limits and "Only the events %s, and the conflicts that have a value then." % limits
+
+
+# ---- Reading a replica file
+
+def atoms(lines):
+    """Yields the atoms of a replica file of format 2 in their order, as tuples of texts. ValueError: it has no last line."""
+    atom, line = [], b""
+    for line in lines:
+        if line.startswith(b"["):
+            depth, mark, text = json.loads(line)
+            atom[depth - 1:] = [text]
+            if mark == 1:
+                yield tuple(atom)
+    if not line.startswith(b"Z "):
+        raise ValueError
 
 
 # ---- Reading a canonical text value by value
