@@ -13,7 +13,7 @@ import threading
 import time
 from typing import NamedTuple
 
-from cadf_toolkit import FAILED, REFUSED, Fault, Input, is_log_name, printable, started_thread
+from cadf_toolkit import FAILED, REFUSED, Fault, Input, grouped, is_log_name, printable, started_thread
 
 VERSION = 1
 FIRST_WORD = b"CADF-SYNC "
@@ -120,20 +120,15 @@ def most_of_item(limit):
 
 
 def batches(items, limit):
-    """Yields the items in lists that are messages of at most so many bytes, and of about as many as one should have."""
-    batch, size = [], 1
-    for each in items:
-        own = len(each.line()) + each.length
-        if own + 1 > limit:
+    """The items in lists that are messages of at most so many bytes, and of about as many as one should have."""
+    def size_of(item):
+        size = len(item.line()) + item.length
+        if size + len("\n") > limit:
             raise Fault("%s: its %s is too large for a message of %d bytes: raise --limit at both ends, or have smaller windows"
-                        % (each.part, each.kind, limit), REFUSED)
-        if batch and (size + own > min(limit, ENOUGH) or len(batch) == MOST_ITEMS):
-            yield batch
-            batch, size = [], 1
-        batch.append(each)
-        size += own
-    if batch:
-        yield batch
+                        % (item.part, item.kind, limit), REFUSED)
+        return size
+
+    return grouped(items, size_of, min(limit, ENOUGH) - len("\n"), MOST_ITEMS)
 
 
 class Message(NamedTuple):

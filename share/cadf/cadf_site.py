@@ -22,8 +22,8 @@ import stat
 import subprocess
 import tempfile
 
-from cadf_toolkit import (CADF, FAILED, IN_THE_WAY, LARGEST, REFUSED, Fault, Input, Refusal, another_program, cadf, check_end, check_lock, log_name,
-                          most_files, name_shown, new_lock, open_descriptor, opened_file, other_log, say, started_cadf, sync, wait_for_lock)
+from cadf_toolkit import (CADF, FAILED, IN_THE_WAY, LARGEST, REFUSED, Fault, Input, Refusal, another_program, cadf, check_end, check_lock, grouped,
+                          log_name, most_files, name_shown, new_lock, open_descriptor, opened_file, other_log, say, started_cadf, sync, wait_for_lock)
 
 UNITS = {"month": len("2024-03"), "day": len("2024-03-01"), "hour": len("2024-03-01T12")}  # with the length of a window's name
 INDEX, LOCK, WORKING = "site", ".lock", ".new"
@@ -43,7 +43,7 @@ MOST_NEW = 400  # windows that a take begins, unless more are allowed
 TOO_MANY_NEW = "the files make more than %d new windows: if that is meant, allow it by --windows N"
 MOST_STRANGERS = 20  # that are named
 PIECE = 2 ** 16  # bytes of a line that are held at once
-MOST_AT_ONCE = 2 ** 28  # bytes of inputs that are split at once, if there are several
+MOST_AT_ONCE = 2 ** 28  # bytes of inputs that are split at once, if there are several, so that a part's file doesn't grow with their number
 MOST_SEEN = 2 ** 20  # bytes of a window's smaller files, in which a take looks for what it brings
 SEVERAL = 7  # files of a size that are joined into one
 SMALLEST = 2 ** 12  # bytes below which all files count as of one size
@@ -398,19 +398,6 @@ def split(words, inputs, keep=()):
         raise another_program("split file")
 
 
-def groups(inputs):
-    """Yields the inputs in groups that are split at once, so that a part's file doesn't grow with their number."""
-    group, size = [], 0
-    for each in inputs:
-        more = os.fstat(each.file.fileno()).st_size
-        if group and size + more > MOST_AT_ONCE:
-            yield group
-            group, size = [], 0
-        group.append(each)
-        size += more
-    yield group
-
-
 def size_class(size):
     """How often a file's size can be divided by seven; files of one class are joined."""
     count = 0
@@ -429,18 +416,6 @@ def to_join(sizes, most):
         if len(chosen) == SEVERAL and sum(sizes[digest] for digest in chosen) <= most:
             return chosen
     return None
-
-
-def piles(sizes):
-    """The files of a window, by digest and size, in piles of which each makes one file that cadf reads. The smallest first."""
-    found, size = [[]], 0
-    for digest, more in sorted(sizes.items(), key=lambda item: (item[1], item[0])):
-        if found[-1] and size + more > LARGEST:
-            found.append([])
-            size = 0
-        found[-1].append(digest)
-        size += more
-    return found
 
 
 class Taking:
@@ -659,10 +634,11 @@ class Taking:
         done, large = 0, {}
         found = {part: self.sizes(part) for part in self.index.parts()}  # each file of them has to be there
         for part, sizes in found.items():
-            for pile in piles(sizes):
-                if len(pile) > 1:
-                    self.join(part, pile)
-                    done += sum(sizes[digest] for digest in pile)
+            rising = sorted(sizes, key=lambda digest: (sizes[digest], digest))
+            for group in grouped(rising, sizes.get, LARGEST):  # each makes one file that cadf reads
+                if len(group) > 1:
+                    self.join(part, group)
+                    done += sum(sizes[digest] for digest in group)
             if len(self.digests(part)) > 1:
                 large[part] = len(self.digests(part))
             if done > MOST_SETTLED:
@@ -736,7 +712,7 @@ def take(name, inputs, unit=None, log=None, wait=None, most_new=MOST_NEW):
         if found.index is None:
             with contextlib.suppress(PermissionError):  # who may go through a folder may not read it
                 sync(os.path.dirname(os.path.abspath(name)))
-        for group in groups(inputs):
+        for group in grouped(inputs, lambda each: os.fstat(each.file.fileno()).st_size, MOST_AT_ONCE):
             by, named = (found.index.unit, found.index.name()) if found.index else (unit, log)
             found.add(["--by", by, *([] if named is None else ["--log=" + named])], group, most_new)
         found.join_by_size()

@@ -398,6 +398,20 @@ def opened_or_copied(name):
         return copy_of(file) if stat.S_ISFIFO(os.fstat(file.fileno()).st_mode) else opened_file(name)
 
 
+def grouped(items, size_of, most_bytes, most_items=sys.maxsize):
+    """Yields the items in lists of at most so many bytes and so many items. One that is larger by itself is alone in its list."""
+    group, size = [], 0
+    for each in items:
+        more = size_of(each)
+        if group and (size + more > most_bytes or len(group) == most_items):
+            yield group
+            group, size = [], 0
+        group.append(each)
+        size += more
+    if group:
+        yield group
+
+
 def most_files():
     """Has the system allow as many open files as it can, since `cadf` opens each once more. Returns how many."""
     _, most = resource.getrlimit(resource.RLIMIT_NOFILE)
