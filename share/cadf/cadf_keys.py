@@ -14,7 +14,7 @@ from typing import NamedTuple
 
 from cadf_logs import utc
 from cadf_site import CHANGED, DAMAGED, SHARED, TRIES, UNITS, Folder, is_folder, made_of_parts
-from cadf_toolkit import REFUSED, Fault, Input, cadf, in_order, most_files, opened
+from cadf_toolkit import REFUSED, Fault, Input, cadf, in_order, most_files, opened, with_digest
 
 AT_ONCE = 256  # files that one call is given, where as many may be open
 LARGEST = 2 ** 28  # bytes of windows whose common keys are put together at once
@@ -180,7 +180,7 @@ class Windows(Files):
         """Writes a replica file of these lines. Returns its name."""
         data, name = b"CADF-REPLICA 2\n" + self.head + b"".join(lines), self.new_name()
         with open(name, "xb") as output:
-            output.write(data + b"Z %s\n" % hashlib.sha256(data).hexdigest().encode())
+            output.write(with_digest(data))
         return name
 
     def common_of(self, read):

@@ -7,18 +7,16 @@ docs/FORMATS.md has the forms, and what is refused. A tool imports this as it im
   read(input, SiteSeal)         the seal that a file has
   verified(seal, facts, proof)  what a proof says of facts, under the seal of a folder
 """
-import contextlib
 import hashlib
 import itertools
 import json
 import os
 import re
 import subprocess
-import tempfile
 
 from cadf_link import Store
 from cadf_site import LARGEST, PART, SHARED, UNITS, Folder, check_window, made_of_parts, order, split, without_facts
-from cadf_toolkit import REFUSED, Fault, Input, Progress, Refusal, another_program, cadf, log_name, log_of, other_log, with_advice
+from cadf_toolkit import REFUSED, Fault, Progress, Refusal, another_program, as_input, cadf, log_name, log_of, other_log, with_advice, with_digest
 
 UNIT = re.compile(("B (%s)" % "|".join(UNITS)).encode())
 NAME_LINE = re.compile(("W (%s)" % PART).encode())
@@ -33,12 +31,6 @@ OTHER = {1: "no seal, as `cadf seal` writes it", 3: "no proof, as `cadf prove` w
 
 class Refused(Exception):
     """What is refused of a file, in the words of docs/FORMATS.md."""
-
-
-def with_digest(lines):
-    """The lines, with their digest line."""
-    data = b"".join(line + b"\n" for line in lines)
-    return data + b"Z %s\n" % hashlib.sha256(data).hexdigest().encode()
 
 
 class OfParts:
@@ -57,8 +49,8 @@ class OfParts:
 
     def bytes(self):
         """The file."""
-        lines = [self.FIRST, b"L " + self.log.encode(), b"B " + self.unit.encode()]
-        return with_digest(itertools.chain(lines, *itertools.starmap(self.lines, self.parts.items())))
+        head = b"%s\nL %s\nB %s\n" % (self.FIRST, self.log.encode(), self.unit.encode())
+        return with_digest(head + b"".join(itertools.starmap(self.lines, self.parts.items())))
 
 
 class SiteSeal(OfParts):
@@ -67,7 +59,7 @@ class SiteSeal(OfParts):
     OTHER = "no seal of a folder, as `cadf-seal SITE/` writes it"
 
     def lines(self, part, found):
-        return [b"W %s %d %s" % (part.encode(), *found)]
+        return b"W %s %d %s\n" % (part.encode(), *found)
 
     def is_last(self, line):
         """Whether the line is the digest line, right or wrong."""
@@ -81,7 +73,7 @@ class SiteSeal(OfParts):
     def seal(self, part):
         """What `cadf seal` writes of the part's files. Of a part that isn't listed there is no fact."""
         count, root = self.parts.get(part, NOTHING)
-        return with_digest([b"CADF-SEAL 1", b"L " + self.log.encode(), b"N %d" % count, b"R " + root])
+        return with_digest(b"CADF-SEAL 1\nL %s\nN %d\nR %s\n" % (self.log.encode(), count, root))
 
 
 class SiteProof(OfParts):
@@ -94,7 +86,7 @@ class SiteProof(OfParts):
         self.own = None  # the proof that is read
 
     def lines(self, part, proof):
-        return [b"W " + part.encode(), *proof[:-1].split(b"\n")]
+        return b"W %s\n%s" % (part.encode(), proof)
 
     def is_last(self, line):
         """Whether the line is the digest line, right or wrong, and not that of a proof."""
@@ -247,15 +239,6 @@ def proved(facts, name):
 
             proof.parts = made_of_parts([folder], asked, proof_of_part)
     return proof
-
-
-@contextlib.contextmanager
-def as_input(data, name):
-    """These bytes as an input of that name."""
-    with tempfile.TemporaryFile() as file:
-        file.write(data)
-        file.flush()
-        yield Input(name, file)
 
 
 def check_alike(seal, proof, name):

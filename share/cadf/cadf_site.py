@@ -22,8 +22,9 @@ import stat
 import subprocess
 import tempfile
 
-from cadf_toolkit import (CADF, FAILED, IN_THE_WAY, LARGEST, REFUSED, Fault, Input, Refusal, another_program, cadf, check_end, check_lock, grouped,
-                          log_name, most_files, name_shown, new_lock, open_descriptor, opened_file, other_log, say, started_cadf, sync, wait_for_lock)
+from cadf_toolkit import (CADF, FAILED, IN_THE_WAY, LARGEST, REFUSED, Fault, Input, Refusal, another_program, as_input, cadf, check_end, check_lock,
+                          grouped, log_name, most_files, name_shown, new_lock, open_descriptor, opened_file, other_log, say, started_cadf, sync,
+                          wait_for_lock, with_digest)
 
 UNITS = {"month": len("2024-03"), "day": len("2024-03-01"), "hour": len("2024-03-01T12")}  # with the length of a window's name
 INDEX, LOCK, WORKING = "site", ".lock", ".new"
@@ -322,14 +323,9 @@ def check_window(index, entry, file):
         raise Fault("%s: %s" % (file.name, OTHER_CONTENT), REFUSED)
 
 
-@contextlib.contextmanager
 def without_facts(log, name):
     """A replica file of the log, by its canonical text, that has no facts, as an input of that name."""
-    data = ("CADF-REPLICA 2\nL %s\n" % log).encode()
-    with tempfile.TemporaryFile() as file:
-        file.write(data + b"Z %s\n" % hashlib.sha256(data).hexdigest().encode())
-        file.flush()
-        yield Input(name, file)
+    return as_input(with_digest(("CADF-REPLICA 2\nL %s\n" % log).encode()), name)
 
 
 # ---- Taking

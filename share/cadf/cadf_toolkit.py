@@ -6,6 +6,7 @@ import argparse
 import contextlib
 import errno
 import fcntl
+import hashlib
 import io
 import json
 import os
@@ -352,6 +353,20 @@ class Input:
         """What else the file is than one of facts, or None."""
         first = self.first(LONGEST_FIRST)
         return kind_of(first) or (OF_LINES if are_lines(first) else None)
+
+
+@contextlib.contextmanager
+def as_input(data, name):
+    """These bytes as an input of that name."""
+    with tempfile.TemporaryFile() as file:
+        file.write(data)
+        file.flush()
+        yield Input(name, file)
+
+
+def with_digest(lines):
+    """The bytes of a file of these lines, with its digest line."""
+    return lines + b"Z %s\n" % hashlib.sha256(lines).hexdigest().encode()
 
 
 def kind_of(first, others=()):

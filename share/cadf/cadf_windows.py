@@ -16,7 +16,7 @@ import tempfile
 
 import cadf_site
 from cadf_link import Item, Store
-from cadf_toolkit import LAST, LAST_LINE, REFUSED, Fault, Input, Refusal, another_program, cadf, check_end, naming, opened_file, started_cadf
+from cadf_toolkit import LAST, LAST_LINE, REFUSED, Fault, Input, Refusal, another_program, cadf, check_end, naming, opened_file, started_cadf, with_digest
 
 ALL, SHARED = "all", cadf_site.SHARED
 UNITS = {length: unit for unit, length in cadf_site.UNITS.items()}
@@ -208,7 +208,7 @@ def kept_unions(folder):
         return {}
     cut = data.rfind(b"Z ")
     found = [UNION.fullmatch(line) for line in data[:cut].splitlines(True)]
-    if None in found or data[cut:] != b"Z %s\n" % hashlib.sha256(data[:cut]).hexdigest().encode():
+    if None in found or data != with_digest(data[:cut]):
         return {}
     return {each[1].decode(): each[2].decode() for each in found}
 
@@ -222,7 +222,7 @@ def keep_unions(folder, unions):
             os.unlink(working, dir_fd=folder.descriptor)  # what a call left that was killed, or found a full disk
         with os.fdopen(folder.open(working, os.O_WRONLY | os.O_CREAT | os.O_EXCL), "wb") as file:
             folder.give(file.fileno(), 0o666 & folder.found.st_mode)
-            file.write(data + b"Z %s\n" % hashlib.sha256(data).hexdigest().encode())
+            file.write(with_digest(data))
         os.rename(working, UNIONS, src_dir_fd=folder.descriptor, dst_dir_fd=folder.descriptor)
 
 
