@@ -188,6 +188,8 @@ SHAPES = {
     "tags": Shape("tags of an event", 14, lambda numbers: one_event(tags=tags(numbers))),
     "tags-shuffled": Shape("short tags in no order, their digests of two blocks", 6, lambda numbers: one_event(
         tags=shuffled(numbers), name="x" * TWO_BLOCKS), forms=DOCUMENTS, memory=SHORT),
+    "tags-alike": Shape("tags in no order, alike in their first eight bytes", 14, lambda numbers: one_event(
+        tags=["tag-tag-" + name for name in shuffled(numbers)]), forms=DOCUMENTS, memory=SHORT),
     "tags-long-id": Shape("short tags of an event, its identifier of 1,024 quotation marks", 6, lambda numbers: one_event(
         id='"' * 1024, tags=list(map(short, numbers))), forms=DOCUMENTS, memory=SHORT),
     "tags-equal": Shape("equal tags", 6, lambda numbers: one_event(tags=["tag" for _ in numbers]), forms=DOCUMENTS),

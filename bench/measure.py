@@ -152,13 +152,28 @@ CLEARED = 10 ** 6  # bytes
 CLEARS = "import sys; bytes(bytearray(b'x') * int(sys.argv[1]))"  # by memset and memcpy
 
 
-def instructions(command, statuses=(0,), settings=None):
-    """How many instructions the command executes, by cachegrind. Exits if it ends with none of these statuses."""
+# A cache of few and large blocks: a read of one that isn't held is far from what was read before it.
+FEW_BLOCKS = ("--cache-sim=yes", "--I1=32768,8,64", "--D1=32768,8,64", "--LL=131072,16,1024")
+
+
+def counted(event, command, cache=("--cache-sim=no",), statuses=(0,), settings=None):
+    """How often cachegrind counts an event in a run of the command. Exits if it ends with none of these statuses."""
     environment = {**os.environ, **(WITHOUT_REPEATS if settings is None else settings)}
     with tempfile.NamedTemporaryFile() as profile:
-        words = ["valgrind", "--tool=cachegrind", "--cache-sim=no", "--cachegrind-out-file=" + profile.name, *command]
+        words = ["valgrind", "--tool=cachegrind", *cache, "--cachegrind-out-file=" + profile.name, *command]
         run_apart(words, statuses=statuses, environment=environment)
-        return int(re.search(rb"^summary: (\d+)", profile.read(), re.MULTILINE)[1])
+        events, counts = re.search(rb"^events: (.*)\n(?s:.*)^summary: (.*)$", profile.read(), re.MULTILINE).groups()
+    return int(dict(zip(events.split(), counts.split()))[event])
+
+
+def instructions(command, statuses=(0,), settings=None):
+    """How many instructions the command executes."""
+    return counted(b"Ir", command, statuses=statuses, settings=settings)
+
+
+def far_reads(command):
+    """How many reads the command makes far from what it read before."""
+    return counted(b"DLmr", command, FEW_BLOCKS)
 
 
 def can_count():

@@ -20,7 +20,9 @@ and 80 an atom more for the commands that note atoms or keys. What is above its 
 
 --table measures seconds and counts instructions, in millions and by valgrind, with small sizes for the counts. It prints the
 twenty dearest shapes in Markdown: by instructions, by seconds and by memory. Lines of the measurements go to standard
-error. --gate counts those of the shapes of GATE, whatever else the machine does.
+error. --gate counts those of the shapes of GATE, whatever else the machine does. It also counts how often `check` of names in no
+order reads far from what it read before, of each further name. The aim is 4: names are sorted by their first eight bytes,
+which stand beside them. Names that are alike in these have to be above the aim, or the count says nothing.
 """
 import concurrent.futures
 import contextlib
@@ -30,8 +32,8 @@ import sys
 import tempfile
 from typing import NamedTuple
 
-from inputs import FILE, FILE_1, SHAPES, write_log
-from measure import are_counts_true, asked, best_of, can_count, instructions, run_apart
+from inputs import DOCUMENT, FILE, FILE_1, SHAPES, write_log
+from measure import are_counts_true, asked, best_of, can_count, far_reads, instructions, run_apart
 
 MEGABYTE = 10 ** 6
 NOISE = 1  # MB of memory by which runs differ
@@ -83,6 +85,10 @@ GATE = {
     ("chains-64", "file"): ("check", "show", "join"),
     ("chains-256", "file"): ("check", "show", "join"),
 }
+# By --gate: names in no order, which are sorted by their first eight bytes, and names that can't be. How many are in an input,
+# and the far reads that each takes at most.
+IN_NO_ORDER, ALIKE = ("tags-shuffled", "resources-shuffled", "properties-shuffled", "shuffled"), "tags-alike"
+NAMES, FAR_READS = (8000, 16000), 4
 
 
 class Point(NamedTuple):
@@ -264,6 +270,28 @@ def check_counts():
         sys.exit("counts aren't looked at: those with repeated instructions are not refused")
 
 
+def far_reads_a_name(name, binary):
+    """How many far reads `check` makes for each further name of a document of that shape."""
+    counts = []
+    for count in NAMES:
+        with tempfile.TemporaryDirectory() as folder:
+            path = os.path.join(folder, "names")
+            SHAPES[name].write(path, DOCUMENT, range(count), binary)
+            counts.append(far_reads([binary, "check", path]))
+    return (counts[1] - counts[0]) / (NAMES[1] - NAMES[0])
+
+
+def check_names(binary):
+    """Counts the far reads of names in no order, and prints them. Returns how many are above the aim."""
+    found = {name: far_reads_a_name(name, binary) for name in (*IN_NO_ORDER, ALIKE)}
+    for name, count in found.items():
+        is_above = " ABOVE" if count > FAR_READS else ""
+        print("%-18s %.2f far reads a name of %d%s%s" % (name, count, FAR_READS, is_above, ", as it has to be" if name == ALIKE else ""))
+    if found.pop(ALIKE) <= FAR_READS:
+        sys.exit("far reads aren't told: those of names that are alike in their first eight bytes are not above the aim")
+    return sum(count > FAR_READS for count in found.values())
+
+
 def main():
     options = asked(__doc__, size=4.0, runs=3, jobs=1, shapes=",".join(SHAPES), forms="document,file,file of format 1",
                     commands=",".join(COMMANDS), table=False, gate=False)
@@ -280,7 +308,7 @@ def main():
     elif options.gate:
         check_counts()
         rows, missed = measured(GATE, GATE_SIZES, True, options)
-        missed += compared(rows)
+        missed += compared(rows) + check_names(options.binary)
     else:
         sizes = [int(options.size * MEGABYTE) * times for times in (1, 2, 4)]
         rows, missed = measured(cases, sizes, False, options)
