@@ -13,7 +13,7 @@ import threading
 import time
 from typing import NamedTuple
 
-from cadf_toolkit import FAILED, REFUSED, Fault, Input, grouped, is_log_name, printable, started_thread
+from cadf_toolkit import FAILED, REFUSED, Fault, Input, grouped, is_log_name, printable, started_thread, write_all
 
 VERSION = 1
 FIRST_WORD = b"CADF-SYNC "
@@ -99,9 +99,7 @@ class Store:
 
     def put(self, part, kind, content=b""):
         """Writes an item of these bytes."""
-        file = self.begin()
-        while content:
-            content = content[os.write(file, content):]
+        write_all(self.begin(), content)
         return self.item(part, kind)
 
     def copied(self, item):
@@ -109,8 +107,7 @@ class Store:
         file = self.begin()
         check_room(self.file, item.length)
         for block in item.blocks():
-            while block:
-                block = block[os.write(file, block):]
+            write_all(file, block)
         return self.item(item.part, item.kind)
 
 

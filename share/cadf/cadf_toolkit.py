@@ -611,7 +611,13 @@ def write_fault(file):
     return ""
 
 
-# ---- Files that are replaced
+# ---- Files that are written
+
+def write_all(file, data):
+    """Writes all the bytes to an open file."""
+    while data:
+        data = data[os.write(file, data):]
+
 
 def sync(name):
     """Waits until the file, or the names in the folder, are on the disk."""

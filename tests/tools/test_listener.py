@@ -398,7 +398,7 @@ def answer(program, words):
     with contextlib.redirect_stdout(output), contextlib.redirect_stderr(error):
         try:
             sys.argv = [LISTEN, *words]
-            status = program.main()
+            status = program.ended(program.run)
         except SystemExit as end:
             status = end.code
     for number, handler in handlers.items():

@@ -190,7 +190,7 @@ LOADED = "import sys; sys.path.insert(0, %r); from tests.tools.programs import l
 
 def with_setting(reports, name, value, *words):
     """What the tool answers with another setting."""
-    script = LOADED + "m.%s = %d; sys.argv[:] = ['cadf-report', *%r]; sys.exit(m.main())" % (name, value, list(words))
+    script = LOADED + "m.%s = %d; sys.argv[:] = ['cadf-report', *%r]; sys.exit(m.ended(m.make, m.words()))" % (name, value, list(words))
     return ended(PYTHON, ["-c", script], env=reports.environment)
 
 
