@@ -32,6 +32,7 @@ PAUSE = 0.05  # seconds between two looks at a lock
 BEGUN, QUIET, BETWEEN_LINES = time.monotonic(), 2, 0.2  # seconds before progress is worth a line, and between two
 CLEARED = "\r\x1b[K"  # what empties the line of a terminal
 NOT_REGULAR = "not a regular file; what a pipe brings is taken from standard input, as `-`"
+FULL = (errno.ENOSPC, errno.EDQUOT, errno.EFBIG)  # of a write for which there is no room
 NO_ROOM = ": make room there, or name another folder by TMPDIR"
 NOT_NOW = "it can't be started now: try again, or allow more files and processes"
 IN_THE_WAY = "in the way of a new file: move it away, and make the call again"
@@ -178,7 +179,7 @@ def naming(name, numbers=None, advice=""):
 
 def naming_temporary():
     """A context in which a write that finds no room is told of the folder of temporary files, unless its file has a name."""
-    return naming(tempfile.gettempdir(), (errno.ENOSPC, errno.EDQUOT, errno.EFBIG), NO_ROOM)
+    return naming(tempfile.gettempdir(), FULL, NO_ROOM)
 
 
 class Progress:

@@ -100,7 +100,7 @@ FULL = [
     ("from-openstack --log g many.json", "cadf-from-openstack: standard output: write fault: File too large"),
     ("from-openstack --log g --split NEW many.json", "cadf-from-openstack: NEW0001.json: write fault: File too large"),
     ("from-openstack --log g --set-aside NEW page", "cadf-from-openstack: NEW: write fault: File too large"),
-    ("spool SITE MANY", "cadf-spool: many.json: waits: File too large"),
+    ("spool SITE MANY", "cadf-spool: many.json: waits: MANY: File too large: make room there"),
 ]
 # Calls, and what another program than the command doesn't write.
 ANOTHER = [
@@ -239,7 +239,7 @@ def check_full(caller, text, line, unbuffered):
     """Makes a call on a full disk: the line names what could not be written, whether output is buffered or not."""
     own, names, words = filled(text)
     status, lines = caller.run(words, own, DISK, PYTHONUNBUFFERED=unbuffered)
-    for name in ("SITE", "NEW"):
+    for name in ("SITE", "NEW", "MANY"):
         line = line.replace(name, names[name])
     line = re.escape(line).replace("TEMPORARY", re.escape(tempfile.gettempdir()))
     assert status == 3 and any(re.fullmatch(line, each) for each in lines), lines
