@@ -267,6 +267,14 @@ cadf_metrics.write(sys.argv[2], {}, [])
 """
 
 
+def test_metrics_that_cannot_be_written(sites):
+    """What was taken is said all the same: the next call finds both sites equal."""
+    sites.put("here.cadf", facts(1))
+    answer = sites.runs("cadf-sync", "--metrics=none/m.prom", "here.cadf", "there.cadf")
+    assert (answer.status, said(answer)) == (3, "cadf-sync: none/m.prom.new: No such file or directory\n")
+    assert answer.output.startswith(b"took 0 facts here, 3 there; ")
+
+
 def test_metrics_of_a_run_that_is_killed(sites):
     """A run that is killed before the rename leaves FILE.new alone, which the next one replaces. A link there is not followed."""
     share, links = os.path.join(TOP, "share", "cadf"), [sites.path / "here.cadf", sites.path / "here.cadf.before"]
@@ -1406,7 +1414,7 @@ WRONG = [
      lambda sites: test_a_caller_that_lies(sites, "facts of another log")),
     ("            if length > self.limits.limit:\n", "            if False:\n", lambda sites: test_a_far_side_that_lies(sites, "a length of 2^31")),
     ("        for _ in range(MOST_WAITS + 1):\n", "        for _ in range(MOST_WAITS + 10):\n", lambda sites: test_a_far_side_that_lies(sites, "waits")),
-    (" or len(found) == MOST_LISTED \\\n                        or before is not None and order(listed[1]) <= before:\n", ":\n",
+    (" or len(found) == MOST_LISTED \\\n                        or before is not None and cadf_site.order(listed[1]) <= before:\n", ":\n",
      lambda sites: test_a_far_side_that_lies(sites, "twice")),
     ("not is_part(listed[1], unit)", "False", lambda sites: test_a_far_side_that_lies(sites, "a window without a unit")),
     ("answer.part != asked.part or answer.kind not in ANSWERS[asked.kind] or is_early", "False",
