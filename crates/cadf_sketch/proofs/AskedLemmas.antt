@@ -1,7 +1,6 @@
 -- The sketch that is asked for is a sketch.
 use Rattle.std.proofs.lemmas.Grind.{common_steps}
-use Rattle.std.proofs.Common.{◌≡◌, ◌<◌, ◌+◌, ◌*◌, ◌/◌, ◌%◌, ◌^◌, ℕ, true, arith, rules}
-use Rattle.std.proofs.Common.{List, take, slice_index, slice_range, Option, None, Some, IfSome}
+use Rattle.std.proofs.Common.{◌≡◌, ◌<◌, ◌+◌, ◌*◌, ◌/◌, ◌%◌, ◌^◌, ℕ, true, arith, rules, slice_range, Option, None, Some, IfSome}
 use Rattle.cadf_line.specs.Digest.{IsDigest}
 use Rattle.cadf_set.specs.Inventory.{InventoryModel}
 use Rattle.cadf_inventory.specs.InventoryFile.{IsInventory, inventory_digest, inventory_text}
@@ -9,11 +8,8 @@ use Rattle.cadf_sketch.specs.Cells.{word}
 use Rattle.cadf_sketch.specs.Layouts.{IsLayout, are_cells, is_salt, layout_with}
 use Rattle.cadf_sketch.specs.SketchFile.{IsSketch}
 use Rattle.cadf_sketch.specs.Sketches.{sketch_of, asked}
-use Rattle.cadf_sketch.proofs.LineLemmas.{from_fits}
+use Rattle.cadf_sketch.proofs.LineLemmas.{from_fits, take_fits}
 use Rattle.cadf_sketch.proofs.WholeLemmas.{sha_digest, sketch_parts}
-
-take_fits : (n : ℕ) (xs : List ℕ) → ((i : ℕ) → slice_index xs i < 256) → (i : ℕ) → slice_index (take n xs) i < 256
-take_fits n xs f i = grind (arith, common_steps)
 
 first_word_fits : (n : InventoryModel) → word (inventory_digest n) 0 < 2 ^ 64
 unfolding word inventory_digest

@@ -36,11 +36,9 @@ xor_twice (x ∷ a) (y ∷ b) h =
     λ i. bits_twice x y i ∷ rest i
 
 xor_swap : (a b c : List ℕ) → each_xor (each_xor a b) c ≡ each_xor (each_xor a c) b
-xor_swap [] b c = refl
-xor_swap (x ∷ a) [] [] = refl
 xor_swap (x ∷ a) [] (z ∷ c) = refl
-xor_swap (x ∷ a) (y ∷ b) [] = refl
 xor_swap (x ∷ a) (y ∷ b) (z ∷ c) = let rest = xor_swap a b c in λ i. bits_swap x y z i ∷ rest i
+xor_swap _ _ _ = refl
 
 length-xor : (a b : List ℕ) → length a ≡ length b → length (each_xor a b) ≡ length a
 length-xor [] b h = refl

@@ -138,8 +138,7 @@ left_none all = by_members all (left all []) (λ q. sym (in_left all [] q ∙ ap
     ∙ by (set.contains all q)))
   where
     by : (a : Bool) → (a && true) ≡ a
-    by true = refl
-    by false = refl
+    by a = grind (arith, common_steps)
 
 left_fewer : (a t e : Bool) → (e ≡ true → (a && not t) ≡ true) → either (a && not t) e ≡ (a && not (e || t))
 left_fewer a t e h = grind (arith, common_steps)

@@ -1,17 +1,18 @@
 -- The result of flipping digests one after another, and of flipping them back.
 use Rattle.std.proofs.lemmas.Grind.{common_steps}
-use Rattle.std.proofs.Common.{◌≡◌, ◌∙◌, Bool, true, false, List, [], ◌∷◌, refl, sym, ap, arith}
+use Rattle.std.proofs.Common.{◌≡◌, ◌∙◌, Bool, true, false, List, [], ◌∷◌, sym, ap, arith}
 use Rattle.std.specs.Prelude.{◌||◌, ◌&&◌, not}
 use Rattle.std.specs.List.Sorted.{IsStrictlySortedBy}
 use Rattle.std.specs.FinSet.{remove, contains-remove}
 use Rattle.std.specs.Ordering.{eq_by_cmp, is_eq}
-use Rattle.std.specs.Cmp.{Equal-is, tied_itself}
+use Rattle.std.specs.Cmp.{tied_itself}
 use Rattle.std.specs.declared.cmp.Ordering.TheVariants.{Less}
 use mathlib.Core.Bool.{true≢false}
 use Rattle.cadf_join.specs.Sets as set
 use Rattle.cadf_join.specs.laws.Rising.{AllByRecursion-listed, from_list-rising, listed_any, rising_is_sorted}
 use Rattle.cadf_join.specs.laws.Contents.{text_total, text_same}
 use Rattle.cadf_join.specs.laws.Sets.{false_from}
+use Rattle.cadf_join.specs.laws.Maps.{same_text}
 use Rattle.cadf_join.specs.Contents.{Text, text_cmp}
 use Rattle.cadf_line.specs.Missing.{Digests}
 use Rattle.cadf_sketch.specs.Flips.{apart}
@@ -39,9 +40,6 @@ in_apart s t q =
 pub by_members : (s t : Digests) → ((q : Text) → set.contains s q ≡ set.contains t q) → s ≡ t
 by_members = set.same_set text_total text_same
 
-same_text : (q d : Text) → eq_by_cmp text_cmp q d ≡ true → q ≡ d
-same_text q d e = text_same q d ((Equal-is (text_cmp q d)).0 e)
-
 -- a property of d is a property of what equals d
 pub told : (s : Digests) (d q : Text) (b : Bool) → set.contains s d ≡ b → eq_by_cmp text_cmp q d ≡ true → set.contains s q ≡ b
 told s d q b h e = ap (set.contains s) (same_text q d e) ∙ h
@@ -53,8 +51,7 @@ apart_none s = by_members s (apart s (set.from_list [])) (λ q. sym (in_apart s 
     ∙ by (set.contains s q)))
   where
     by : (a : Bool) → either a false ≡ a
-    by true = refl
-    by false = refl
+    by a = grind (arith, common_steps)
 
 apart_new : (a e : Bool) → (e ≡ true → a ≡ false) → either a e ≡ (e || a)
 apart_new a e h = grind (arith, common_steps)

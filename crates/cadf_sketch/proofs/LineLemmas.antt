@@ -1,6 +1,6 @@
 -- Each line of a sketch's file decodes to the values that it encodes, and to no others.
 use Rattle.std.proofs.lemmas.Grind.{common_steps}
-use Rattle.std.proofs.Common.{◌≡◌, ℕ, ◌+◌, ◌*◌, ◌<◌, ◌⊎◌, inl, inr, zero, suc, List, [], ◌∷◌, ◌++◌, Bool, true, false, cond, length, take, drop}
+use Rattle.std.proofs.Common.{◌≡◌, ℕ, ◌+◌, ◌*◌, ◌<◌, ◌⊎◌, inl, inr, zero, suc, List, [], ◌∷◌, ◌++◌, Bool, true, cond, length, take, drop}
 use Rattle.std.proofs.Common.{Option, Some, None, refl, sym, ap, ◌∙◌, subst, arith}
 use Rattle.std.specs.Prelude.{◌^◌, decimal, nat_eq, codes, slice_index, option_map}
 use Rattle.std.specs.Int.{w64, to_be_bytes, from_be_bytes, byte_at, bytes_high_first}
@@ -31,8 +31,7 @@ begins_with x y s h = grind (arith, common_steps)
 
 module _ {A : Type 0} where
   pub chosen : (b : Bool) (o : Option A) (a : A) → cond b o None ≡ Some a → (b ≡ true) × (o ≡ Some a)
-  chosen true o a e = (refl, e)
-  chosen false o a e = absurd (cc)
+  chosen b o a e = grind (arith, common_steps)
 
 -- ---- the line of a layout and a digest
 
@@ -71,10 +70,7 @@ head-only l h e =
     )
   where
     never : (a : ℕ) → number_in [] ≡ Some a → ⊥
-    never a some = none_some (sym number_of_none ∙ some)
-      where
-        none_some : None ≡ Some a → ⊥
-        none_some q = cc
+    never a some = let q = sym number_of_none ∙ some in cc
 
     one : (t : List ℕ) → (t ≡ first_word t ++ 32 ∷ words_after t) ⊎ (words_after t ≡ []) → first_word t ≡ decimal (3 * h.layout.size)
         → words_after t ≡ decimal h.layout.salt ++ 32 ∷ encode_lower h.digest → number_in (first_word (words_after t)) ≡ Some h.layout.salt
@@ -87,10 +83,8 @@ head-only l h e =
     two t (inl cut) word rest is = cut ∙ (λ i. word i ++ 32 ∷ rest i)
     two t (inr none) word rest is =
         let some : length (encode_lower h.digest) ≡ 2 * length h.digest = length-encode_with lower_digits h.digest in
-        absurd (empty (ap length (sym none ∙ rest)) some is.size)
-      where
-        empty : 0 ≡ length (encode_lower h.digest) → length (encode_lower h.digest) ≡ 2 * length h.digest → length h.digest ≡ 32 → ⊥
-        empty p q r = omega (arith, p, q, r)
+        let p : 0 ≡ length (encode_lower h.digest) = ap length (sym none ∙ rest) in
+        absurd (omega (arith, p, some, is.size))
 
 -- ---- the line of the counts
 
@@ -107,8 +101,8 @@ unfolding counts_in_words
 tally-only l t e =
     let c = chosen (starts_with nat_eq l (codes "C ")) (counts_in_words (drop 2 l)) t e in
     let n = numbers-only 64 (drop 2 l) (t.digests ∷ t.ones) (counted-only (numbers_in 64 (drop 2 l)) t c.1) in
-    let first : n.first ≡ t.digests = first_of n.all in
-    let more : n.more ≡ t.ones = more_of n.all in (
+    let first : n.first ≡ t.digests = cc in
+    let more : n.more ≡ t.ones = cc in (
       begins_with 67 32 l c.0 ∙ ap (λ r. 67 ∷ 32 ∷ r) (n.text_is ∙ (λ i. spelled (first i) (more i))),
       record {
         digests = subst (λ m. m < 2 ^ 64) first n.first_fits;
@@ -116,12 +110,6 @@ tally-only l t e =
         ones = subst AreWords64 more n.more_fit;
       },
     )
-  where
-    first_of : {a b : ℕ} {xs ys : List ℕ} → a ∷ xs ≡ b ∷ ys → b ≡ a
-    first_of q = cc
-
-    more_of : {a b : ℕ} {xs ys : List ℕ} → a ∷ xs ≡ b ∷ ys → ys ≡ xs
-    more_of q = cc
 
 -- ---- the line of a cell
 
@@ -169,7 +157,7 @@ cell-again c is =
       check = (ap (from_be_bytes w64) (drop_back 32 c.digest check is.digest.size) ∙ from_be_bytes-to_be_bytes_8 c.check is.check) i;
     }))
 
-take_fits : (k : ℕ) (xs : List ℕ) → ((i : ℕ) → slice_index xs i < 256) → (i : ℕ) → slice_index (take k xs) i < 256
+pub take_fits : (k : ℕ) (xs : List ℕ) → ((i : ℕ) → slice_index xs i < 256) → (i : ℕ) → slice_index (take k xs) i < 256
 take_fits k xs f i = grind (arith, common_steps)
 
 drop_fits : (k : ℕ) (xs : List ℕ) → ((i : ℕ) → slice_index xs i < 256) → (i : ℕ) → slice_index (drop k xs) i < 256
@@ -204,7 +192,7 @@ pub head_uncut : (t : List ℕ) → words_after t ≡ [] → head_in_words t ≡
 unfolding head_in_words
 head_uncut t e = grind (arith, common_steps)
 
-no_digest : digest_of [] ≡ None
+pub no_digest : digest_of [] ≡ None
 no_digest = grind (arith, common_steps)
 
 unheaded : (o : Option LayoutModel) → headed o None ≡ None

@@ -1,8 +1,7 @@
 -- Numbers and the words that spell them.
 use Rattle.std.proofs.lemmas.Grind.{common_steps}
 use Rattle.std.proofs.Common.{◌≡◌, ℕ, zero, suc, ◌+◌, ◌<◌, List, [], ◌∷◌, ◌++◌, Bool, true, false, cond, length, take, drop, get_or, ◌≤◌, ◌⊎◌, inl}
-use Rattle.std.proofs.Common.{inr, Option, Some, None, Result, Ok, Err, refl, sym, ap, ◌∙◌, subst, arith, append-nil, length-drop, ◌-◌}
-use Rattle.std.proofs.Common.{rules}
+use Rattle.std.proofs.Common.{inr, Option, Some, None, Result, Ok, Err, refl, sym, ap, ◌∙◌, subst, arith, append-nil, length-drop, ◌-◌, rules}
 use Rattle.std.specs.Prelude.{◌==◌, ◌&&◌, ◌||◌, ◌^◌, not, decimal, nat_lt, flat_map, option_map, IsUtf8}
 use Rattle.std.specs.Int.{IsInRange}
 use Rattle.std.specs.List.{position_or_len, list_any}
@@ -53,17 +52,14 @@ module _ {E : Type 0} (w : List ℕ) (r : Result ℕ E) (parsed : ParsesUnsigned
   parsed_is : (n : ℕ) → n < 2 ^ 64 → w ≡ decimal n → r ≡ Ok n
   parsed_is n small e = parse-decimal 64 n w r small small e parsed
 
-  never : (s : Result ℕ E) (n : ℕ) (e : E) → s ≡ Ok n → s ≡ Err e → ⊥
-  never s n e ok err = cc
-
   pub number_not_parsed : (e : E) → r ≡ Err e → number_in w ≡ None
-  number_not_parsed e err = number_none w (λ n small is. never r n e (parsed_is n small is) err)
-
-  same : (s : Result ℕ E) (n m : ℕ) → s ≡ Ok n → s ≡ Ok m → n ≡ m
-  same s n m p q = cc
+  number_not_parsed e err = number_none w (λ n small is. let ok = parsed_is n small is in cc)
 
   pub number_not_plain : (m : ℕ) → r ≡ Ok m → (decimal m ≡ w → ⊥) → number_in w ≡ None
-  number_not_plain m ok other = number_none w (λ n small is. other (ap decimal (same r m n ok (parsed_is n small is)) ∙ sym is))
+  number_not_plain m ok other = number_none w (λ n small is.
+      let again = parsed_is n small is in
+      let same : m ≡ n = cc in
+      other (ap decimal same ∙ sym is))
 
 -- ---- the first word
 
@@ -157,7 +153,7 @@ pub numbers-only : (k : ℕ) (text ns : List ℕ) → numbers_in k text ≡ Some
 numbers-only zero text ns e =
     let p = put_some (number_in text) (Some []) ns e in
     let n = number-only text p.0 p.2 in
-    let none : [] ≡ p.1 = some_same p.3 in
+    let none : [] ≡ p.1 = cc in
     record {
       first = p.0;
       more = [];
@@ -167,9 +163,6 @@ numbers-only zero text ns e =
       more_fit = tt;
       text_is = n.0 ∙ sym (append-nil (decimal p.0));
     }
-  where
-    some_same : {ms : List ℕ} → Some [] ≡ Some ms → [] ≡ ms
-    some_same q = cc
 numbers-only (suc k) text ns e =
     let p = put_some (number_in (first_word text)) (numbers_in k (words_after text)) ns e in
     let n = number-only (first_word text) p.0 p.2 in
@@ -185,15 +178,11 @@ numbers-only (suc k) text ns e =
     }
   where
     never : (ms : List ℕ) → numbers_in k (words_after text) ≡ Some ms → words_after text ≡ [] → ⊥
-    never ms some none = none_some (sym (ap (numbers_in k) none ∙ numbers_of_none k) ∙ some)
-      where
-        none_some : None ≡ Some ms → ⊥
-        none_some q = cc
+    never ms some none = let q = sym (ap (numbers_in k) none ∙ numbers_of_none k) ∙ some in cc
 
     whole : (n m : ℕ) (ms os : List ℕ) → (text ≡ first_word text ++ 32 ∷ words_after text) ⊎ (words_after text ≡ []) → ms ≡ m ∷ os → first_word text ≡ decimal n
         → words_after text ≡ spelled m os → numbers_in k (words_after text) ≡ Some ms → text ≡ spelled n ms
-    whole n m ms os (inl cut) is word rest some =
-        cut ∙ (λ i. word i ++ 32 ∷ rest i) ∙ ap (λ l. decimal n ++ flat_map (λ m. 32 ∷ decimal m) l) (sym is)
+    whole n m ms os (inl cut) is word rest some = cut ∙ (λ i. word i ++ 32 ∷ rest i) ∙ ap (λ l. decimal n ++ flat_map (λ m. 32 ∷ decimal m) l) (sym is)
     whole n m ms os (inr none) is word rest some = absurd (never ms some none)
 
 -- ---- the first space, as it is found

@@ -1,10 +1,11 @@
 -- The places that are yet to be checked.
 use Rattle.std.proofs.lemmas.Grind.{common_steps}
 use Rattle.std.proofs.Common.{◌≡◌, ◌<◌, ◌++◌, ℕ, Bool, true, false, List, [], ◌∷◌, arith}
-use Rattle.std.specs.Prelude.{◌||◌, ◌&&◌, nat_eq}
+use Rattle.std.specs.Prelude.{◌||◌, nat_eq}
 use Rattle.std.specs.List.{list_any}
 use Rattle.std.proofs.lemmas.List.Folds.{list_any-append}
 use Rattle.std.proofs.lemmas.Bool.{eqb-true}
+use Rattle.cadf_join.specs.laws.Sets.{and_second}
 use Rattle.cadf_sketch.specs.Layouts.{LayoutModel}
 use Rattle.cadf_sketch.specs.Cells.{cell_at, is_lone, toggled}
 use Rattle.cadf_sketch.specs.Peeling.{Awaits, three_places}
@@ -17,9 +18,6 @@ or_true b = grind (arith, common_steps)
 or_three : (a b c : Bool) → (a || (b || (c || false))) ≡ (a || b || c)
 or_three a b c = grind (arith, common_steps)
 
-and_right : (a b : Bool) → (a && b) ≡ true → b ≡ true
-and_right a b h = grind (arith, common_steps)
-
 -- an element other than the last is before it
 before_last : (places : List ℕ) (place q : ℕ) → (nat_eq q place ≡ true → ⊥) → list_any (nat_eq q) (places ++ place ∷ []) ≡ true
     → list_any (nat_eq q) places ≡ true
@@ -29,4 +27,4 @@ pub awaits_taken : (layout : LayoutModel) (cells : List Cell) (pending : List �
     → is_lone (cell_at cells place) place layout ≡ true → Awaits layout cells (pending ++ place ∷ [])
     → Awaits layout (toggled cells (cell_at cells place).digest layout) (pending ++ three_places (cell_at cells place).digest layout)
 awaits_taken layout cells pending place some is awaits q h lone =
-    grind (arith, common_steps, length-toggled, list_any-append, or_three, at_turned, or_true, before_last, and_right, eqb-true)
+    grind (arith, common_steps, length-toggled, list_any-append, or_three, at_turned, or_true, before_last, and_second, eqb-true)

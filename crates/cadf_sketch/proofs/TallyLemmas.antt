@@ -81,5 +81,4 @@ added_ones bit t (d ∷ ds) k within size h =
 
 pub tallied_ones : (bit : ℕ) (t : Tally) (ds : List (List ℕ)) → bit < 64 → length t.ones ≡ 64 → get_or t.ones bit 0 ≡ 0
     → get_or (tallied_all t ds).ones bit 0 ≡ count_by (has_bit bit) ds % 2 ^ 64
-tallied_ones bit t ds within size none =
-    added_ones bit t ds 0 within size none ∙ ap (λ n. n % 2 ^ 64) (zero-add (set_in bit ds) ∙ counted bit ds)
+tallied_ones bit t ds within size none = added_ones bit t ds 0 within size none ∙ ap (λ n. n % 2 ^ 64) (zero-add (set_in bit ds) ∙ counted bit ds)

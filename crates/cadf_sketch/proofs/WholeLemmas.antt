@@ -23,6 +23,7 @@ use Rattle.cadf_sketch.specs.SketchFile.{AreWords64, IsTally, IsCell, HasParts}
 use Rattle.cadf_sketch.specs.Tallies.{with_bits, tallied, tallied_all, tally_of}
 use Rattle.cadf_sketch.specs.declared.cell.Cell.{Cell}
 use Rattle.cadf_sketch.specs.declared.tally.Tally.{Tally}
+use Rattle.cadf_sketch.proofs.TallyLemmas.{length-with_bits}
 use Rattle.cadf_sketch.proofs.CellLemmas.{length-toggled_all}
 use Rattle.cadf_sketch.proofs.LineLemmas.{append_fits, high_fits}
 
@@ -95,13 +96,9 @@ bits_fit : (ns : List ℕ) (w : ℕ) → AreWords64 (with_bits ns w)
 bits_fit [] w = tt
 bits_fit (n ∷ ns) w = (mod_below (n + w / 2 ^ length ns % 2) (2 ^ 64) (omega arith), bits_fit ns w)
 
-bits_size : (ns : List ℕ) (w : ℕ) → length (with_bits ns w) ≡ length ns
-bits_size [] w = refl
-bits_size (n ∷ ns) w = ap suc (bits_size ns w)
-
 tallied_fits : (t : Tally) (d : List ℕ) → IsTally t → IsTally (tallied t d)
 unfolding tallied
-tallied_fits t d p = grind (arith, common_steps, mod_below, bits_size, bits_fit)
+tallied_fits t d p = grind (arith, common_steps, mod_below, length-with_bits, bits_fit)
 
 all_tallied : (t : Tally) (ds : List (List ℕ)) → IsTally t → IsTally (tallied_all t ds)
 all_tallied t [] p = p

@@ -1,5 +1,4 @@
-use Rattle.std.proofs.Common.{rules}
-use Rattle.std.proofs.Common.{replicate, refl}
+use Rattle.std.proofs.Common.{rules, replicate, refl}
 use Rattle.std.proofs.lemmas.List.{get_or-replicate}
 use Rattle.cadf_join.specs.Sets.{rising}
 use Rattle.cadf_sketch.specs.Sketches.{sketch_of}

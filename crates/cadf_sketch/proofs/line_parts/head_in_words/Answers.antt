@@ -1,6 +1,5 @@
 use Rattle.std.proofs.lemmas.Grind.{common_steps}
-use Rattle.std.proofs.Common.{arith}
-use Rattle.std.proofs.Common.{sym}
+use Rattle.std.proofs.Common.{arith, sym}
 use Rattle.cadf_sketch.proofs.LineLemmas.{head_uncut, head_uncut_twice, no_layout, no_last, head_read}
 use Rattle.cadf_sketch.proofs.line_parts.head_in_words.Goals as goal
 

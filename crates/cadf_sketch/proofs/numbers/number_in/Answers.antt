@@ -1,7 +1,5 @@
-use Rattle.std.proofs.Common.{rules}
+use Rattle.std.proofs.Common.{rules, arith, sym}
 use Rattle.std.proofs.lemmas.Grind.{common_steps}
-use Rattle.std.proofs.Common.{arith}
-use Rattle.std.proofs.Common.{sym}
 use Rattle.cadf_sketch.proofs.NumberLemmas.{number-again, number_not_text, number_not_parsed, number_not_plain}
 use Rattle.cadf_sketch.proofs.numbers.number_in.Goals as goal
 

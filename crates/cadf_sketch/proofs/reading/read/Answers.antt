@@ -1,6 +1,5 @@
 use Rattle.std.proofs.lemmas.Grind.{common_steps}
-use Rattle.std.proofs.Common.{arith}
-use Rattle.std.proofs.Common.{◌∙◌, ap, sym}
+use Rattle.std.proofs.Common.{arith, ◌∙◌, ap, sym}
 use mathlib.Core.Bool.{true≢false}
 use Rattle.cadf_join.specs.Sets.{rising}
 use Rattle.cadf_sketch.specs.Tallies.{tally_of, cells_to_ask}

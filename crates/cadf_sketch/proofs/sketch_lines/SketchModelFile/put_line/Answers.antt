@@ -1,6 +1,5 @@
 use Rattle.std.proofs.lemmas.Grind.{common_steps}
-use Rattle.std.proofs.Common.{arith}
-use Rattle.std.proofs.Common.{◌≡◌, ◌∙◌, ◌∷◌, [], None, sym, subst}
+use Rattle.std.proofs.Common.{arith, ◌≡◌, ◌∙◌, ◌∷◌, [], None, sym, subst}
 use Rattle.std.specs.Prelude.{IfErr}
 use Rattle.cadf_linefile.specs.Answers.{CauseIs}
 use Rattle.cadf_linefile.proofs.WritingLemmas.{on_ok}
