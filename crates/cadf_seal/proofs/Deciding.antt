@@ -6,15 +6,15 @@ use Rattle.std.specs.List.{AllByRecursion}
 use Rattle.std.specs.List.Sorted.{IsPartitionPoint, IsPartitionedBy}
 use Rattle.std.specs.Ordering.{is_lt, is_eq}
 use Rattle.std.specs.Cmp.{tied_itself}
+use Rattle.std.proofs.lemmas.Bool.{false_from_ne_true}
 use Rattle.std.specs.declared.cmp.Ordering.{Ordering}
-use Rattle.std.specs.declared.cmp.Ordering.TheVariants.{Less, Equal, Greater}
 use Rattle.cadf_join.specs.Contents.{Text, text_cmp}
 use Rattle.cadf_join.specs.laws.Contents.{text_total, text_same}
 use Rattle.cadf_seal.specs.ProofFile.{AreRising}
 use Rattle.cadf_seal.specs.Verified.{PlacesRise, leaves_below, leaves_above, past_last, lowest_place, is_shown, state}
 use Rattle.cadf_seal.specs.declared.leaf.Leaf.{Leaf}
 use Rattle.cadf_seal.proofs.Rebuilding.{all_map}
-use Rattle.cadf_seal.proofs.Honest.{IsLess, less_trans, not_greater, not_less_itself, is_greater}
+use Rattle.cadf_seal.proofs.Honest.{IsLess, less_trans, not_greater, not_less_itself, is_greater, is_equal}
 use Rattle.cadf_seal.proofs.Splitting.{later_point, first_part, second_part}
 
 -- digests rise
@@ -34,12 +34,11 @@ some_above x ss k d low h = grind (arith, common_steps)
 module _ (f : Text) where
   parted_from : (ss : List Leaf) (i j : ℕ) (d : Leaf) → DigestsRise ss → i ≤ j → j < length ss → IsLess (slice_index_or ss j d).digest f
       → IsLess (slice_index_or ss i d).digest f
-  parted_from [] i j d rises low high h = absurd (omega (arith, high))
   parted_from (s ∷ ss) zero zero d rises low high h = h
   parted_from (s ∷ ss) zero (suc j) d rises low high h =
       less_trans s.digest (slice_index_or ss j d).digest f (some_above s.digest ss j d (omega (arith, high)) rises.0) h
-  parted_from (s ∷ ss) (suc i) zero d rises low high h = absurd (omega (arith, low))
   parted_from (s ∷ ss) (suc i) (suc j) d rises low high h = parted_from ss i j d rises.1 (omega (arith, low)) (omega (arith, high)) h
+  parted_from _ _ _ d rises low high h = absurd (omega (arith, low, high))
 
   pub digests_parted : (ss : List Leaf) → AreRising ss → IsPartitionedBy (λ s. is_lt (text_cmp s.digest f)) ss
   digests_parted ss rises i j d low high h = parted_from ss i j d (digests_rise ss rises) low high h
@@ -51,8 +50,7 @@ module _ (f : Text) where
   below_part ss i low h = first_part (λ s. is_lt (text_cmp s.digest f)) (λ s. is_lt (text_cmp f s.digest)) ss i low h
 
   either : (a b : Bool) → (a || b) ≡ false → (a ≡ false) × (b ≡ false)
-  either true b e = absurd (true≢false e)
-  either false b e = (refl, e)
+  either a b e = grind (arith, common_steps)
 
   equal_itself : (x : Text) → x ≡ f → is_eq (text_cmp x f) ≡ true
   equal_itself x e = subst (λ y. is_eq (text_cmp x y) ≡ true) e (ap is_eq (tied_itself text_total x))
@@ -73,21 +71,10 @@ module _ (f : Text) where
 
   -- whether the first leaf that isn't below is the digest
   unlike_less : (o : Ordering) → is_lt o ≡ true → is_eq o ≡ false
-  unlike_less Less e = refl
-  unlike_less Equal e = absurd (cc)
-  unlike_less Greater e = refl
+  unlike_less o e = grind (arith, common_steps)
 
   not_equal : (x : Text) → IsLess f x → is_eq (text_cmp x f) ≡ false
-  not_equal x less = by (is_eq (text_cmp x f)) refl
-    where
-      same : (o : Ordering) → is_eq o ≡ true → o ≡ Equal
-      same Less e = absurd (cc)
-      same Equal e = refl
-      same Greater e = absurd (cc)
-
-      by : (b : Bool) → is_eq (text_cmp x f) ≡ b → is_eq (text_cmp x f) ≡ false
-      by true is = absurd (not_less_itself f (subst (IsLess f) (text_same x f (same _ is)) less))
-      by false is = is
+  not_equal x less = false_from_ne_true _ (λ is. not_less_itself f (subst (IsLess f) (text_same x f (is_equal _ is)) less))
 
   none_shown : (ss : List Leaf) → AllByRecursion (λ t. IsLess f t.digest) ss → is_shown ss f ≡ false
   none_shown [] h = refl

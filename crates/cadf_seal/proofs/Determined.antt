@@ -10,6 +10,7 @@ use Rattle.sha2.proofs.Facts256.{length-sha256}
 use Rattle.cadf_join.specs.Contents.{Text}
 use Rattle.cadf_join.specs.Sets as set
 use Rattle.cadf_join.specs.Sets.{Listed, rising}
+use Rattle.cadf_join.proofs.Members.{listed_left, listed_right}
 use Rattle.cadf_set.specs.Inventory.{InventoryModel}
 use Rattle.cadf_inventory.proofs.RisingLists.{set_again}
 use Rattle.cadf_seal.specs.Tree.{tree, hashed, TextsDoNotCollide, RootDetermines}
@@ -27,15 +28,6 @@ of_halves h ds = node_text h ds ∷ hashed h (take (2 ^ h) ds) ++ hashed h (drop
 
 pub hashed_at : (h : ℕ) (ds : List Text) (b : Bool) → nat_le (length ds) (2 ^ h) ≡ b → hashed (suc h) ds ≡ (if b then hashed h ds else of_halves h ds)
 hashed_at h ds b is = ap (λ c. if c then hashed h ds else of_halves h ds) is
-
-pub listed_left : (x : Text) (xs ys : List Text) → Listed x xs → Listed x (xs ++ ys)
-listed_left x [] ys l = absurd l
-listed_left x (y ∷ xs) ys (inl e) = inl e
-listed_left x (y ∷ xs) ys (inr l) = inr (listed_left x xs ys l)
-
-pub listed_right : (x : Text) (xs ys : List Text) → Listed x ys → Listed x (xs ++ ys)
-listed_right x [] ys l = l
-listed_right x (y ∷ xs) ys l = inr (listed_right x xs ys l)
 
 -- ---- the length of a hash
 
@@ -94,8 +86,6 @@ same_leaves (suc h) ds es size some within apart is = step h (same_leaves h) ds 
 
 pub root_determines : RootDetermines
 root_determines [] [] apart size is = refl
-root_determines [] (e ∷ es) apart size is = absurd (omega (arith, size))
-root_determines (d ∷ ds) [] apart size is = absurd (omega (arith, size))
 root_determines (d ∷ ds) (e ∷ es) apart size is =
     let n = length (d ∷ ds) in
     let within = below_power n in
@@ -103,6 +93,7 @@ root_determines (d ∷ ds) (e ∷ es) apart size is =
     same_leaves n (d ∷ ds) (e ∷ es) size (omega arith) within
     (subst (λ k. TextsDoNotCollide (hashed n (d ∷ ds)) (hashed k (e ∷ es))) same apart)
     (sym (root_tree n (d ∷ ds) (omega arith) within) ∙ is ∙ root_tree n (e ∷ es) (omega arith) (omega (arith, within, size)))
+root_determines _ _ apart size is = absurd (omega (arith, size))
 
 pub seal_determines : (n m : InventoryModel)
     → TextsDoNotCollide (hashed (length (rising n.digests)) (rising n.digests)) (hashed (length (rising m.digests)) (rising m.digests))

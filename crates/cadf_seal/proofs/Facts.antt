@@ -4,7 +4,7 @@ use Rattle.std.proofs.Common.{◌≡◌, ◌∙◌, ℕ, ◌+◌, Bool, true, fa
 use Rattle.std.specs.Prelude.{option_map}
 use Rattle.std.specs.Option.{option_or}
 use Rattle.std.specs.List.{position_from, AllByRecursion}
-use Rattle.std.proofs.lemmas.Bool.{eqb-true}
+use Rattle.std.proofs.lemmas.Bool.{eqb-true, false_from_ne_true}
 use Rattle.std.proofs.lemmas.Slice.Eq.{bytes_eq-Decides}
 use Rattle.cadf_join.specs.Contents.{Text, Texts, Contents, Has}
 use Rattle.cadf_join.specs.Sets as set
@@ -18,7 +18,6 @@ use Rattle.cadf_set.specs.Inventory.{InventoryModel}
 use Rattle.cadf_sketch.specs.Answers.{inventory_of}
 use Rattle.cadf_seal.specs.Verified.{state, is_state, verify_fault_unless, is_root, text_unless, IsOf, FactsAreSo}
 use Rattle.cadf_seal.specs.declared.verify.VerifyFault.{VerifyFault}
-use Rattle.cadf_seal.proofs.Honest.{not_true}
 use Rattle.cadf_seal.proofs.Sound.{tells_truth}
 
 no_fault : (r : Option VerifyFault) (text t : List ℕ) → text_unless r text ≡ Ok t → r ≡ None
@@ -50,7 +49,7 @@ of_each P (x ∷ qs) h q (inr l) = of_each P qs h.1 q l
 
 in_set : (held : Contents) (q : Texts) (absent : Bool) → ((y : Texts) → Has held y → atom_digest q ≡ atom_digest y → q ≡ y)
     → set.contains (digests_of atom_digest held) (atom_digest q) ≡ not absent → set.contains held q ≡ not absent
-in_set held q true apart is = not_true (set.contains held q) (λ h. true≢false (sym (known_digest atom_digest held q h) ∙ is))
+in_set held q true apart is = false_from_ne_true (set.contains held q) (λ h. true≢false (sym (known_digest atom_digest held q h) ∙ is))
 in_set held q false apart is = grind (arith, common_steps, digest_of_some)
 
 pub facts_are_so : FactsAreSo

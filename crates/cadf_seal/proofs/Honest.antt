@@ -8,12 +8,13 @@ use Rattle.std.specs.Ordering.{is_lt, is_eq, ordering_reverse}
 use Rattle.std.specs.declared.cmp.Ordering.{Ordering}
 use Rattle.std.specs.declared.cmp.Ordering.TheVariants.{Less, Equal}
 use Rattle.std.specs.Cmp.{tied_itself}
-use Rattle.std.proofs.lemmas.Bool.{eq-eqb, ne_eqb}
+use Rattle.std.proofs.lemmas.Bool.{eq-eqb, ne_eqb, false_from_ne_true}
 use Rattle.sha2.specs.Sha256.{sha256}
 use Rattle.cadf_join.specs.Contents.{Text, text_cmp}
 use Rattle.cadf_join.specs.Sets as set
 use Rattle.cadf_join.specs.Sets.{Listed, rising}
 use Rattle.cadf_join.specs.laws.Contents.{text_total, text_same}
+use Rattle.cadf_join.proofs.Members.{and_both, or_cases}
 use Rattle.cadf_join.specs.laws.Rising.{rising_is_sorted, listed-rising, rising-listed}
 use Rattle.cadf_set.specs.Inventory.{InventoryModel}
 use Rattle.cadf_seal.specs.Tree.{root}
@@ -28,7 +29,7 @@ use Rattle.cadf_seal.proofs.Rebuilding.{all_map, all_kept, rebuilds}
 abbrev pub IsLess : Text → Text → Type 0
 IsLess x y = is_lt (text_cmp x y) ≡ true
 
-is_less : (o : Ordering) → is_lt o ≡ true → o ≡ Less
+pub is_less : (o : Ordering) → is_lt o ≡ true → o ≡ Less
 is_less o e = grind (arith, common_steps)
 
 pub less_trans : (x y z : Text) → IsLess x y → IsLess y z → IsLess x z
@@ -47,8 +48,7 @@ reversed_other : (o : Ordering) → is_lt o ≡ false → (o ≡ Equal → ⊥) 
 reversed_other o e other = grind (arith, common_steps)
 
 pub is_greater : (x y : Text) → is_lt (text_cmp x y) ≡ false → (x ≡ y → ⊥) → IsLess y x
-is_greater x y h other =
-    ap is_lt (text_total.antisymm y x) ∙ reversed_other (text_cmp x y) h (λ e. other (text_same x y e))
+is_greater x y h other = ap is_lt (text_total.antisymm y x) ∙ reversed_other (text_cmp x y) h (λ e. other (text_same x y e))
 
 above_trans : (before : Option Text) (d f : Text) → is_above before d ≡ true → IsLess d f → is_above before f ≡ true
 above_trans before d f h k = grind (arith, common_steps, less_trans)
@@ -72,9 +72,6 @@ below_head d ds h = grind (arith, common_steps)
 or_true : (b : Bool) → (b || true) ≡ true
 or_true b = grind (arith, common_steps)
 
-and_true : (a b : Bool) → a ≡ true → b ≡ true → (a && b) ≡ true
-and_true a b h k = ap (λ x. x && b) h ∙ k
-
 pub needs_listed : (before past_last : Option Text) (fs : List Text) (f : Text) → Listed f fs → is_above before f ≡ true → is_below past_last f ≡ true
     → needs before past_last fs ≡ true
 unfolding needs
@@ -93,7 +90,7 @@ needs_wider before past_last other more [] low high e = e
 needs_wider before past_last other more (f ∷ fs) low high e =
     elim (both_true (is_above before f) (is_below past_last f) (needs before past_last fs) e) as (λ _. ((is_above other f && is_below more f) || needs other more fs)
     ≡ true) [
-      | inl p ↦ ap (λ b. b || needs other more fs) (and_true (is_above other f) (is_below more f) (low f p.0) (high f p.1))
+      | inl p ↦ ap (λ b. b || needs other more fs) (and_both (is_above other f) (is_below more f) (low f p.0) (high f p.1))
       | inr r ↦ ap (λ b. (is_above other f && is_below more f) || b) (needs_wider before past_last other more fs low high r) ∙ or_true (is_above other f && is_below more f)
     ]
 
@@ -144,16 +141,13 @@ honest_root log (d ∷ ds) fs =
 
 -- ---- a fact that is a leaf is shown
 
-is_equal : (o : Ordering) → is_eq o ≡ true → o ≡ Equal
+pub is_equal : (o : Ordering) → is_eq o ≡ true → o ≡ Equal
 is_equal o e = grind (arith, common_steps)
 
 at_listed : (ds : List Text) (k : ℕ) → k < length ds → Listed (get_or ds k []) ds
 at_listed [] k low = absurd (omega (arith, low))
 at_listed (d ∷ ds) zero low = inl refl
 at_listed (d ∷ ds) (suc k) low = inr (at_listed ds k (omega (arith, low)))
-
-or_cases : (a b : Bool) → (a || b) ≡ true → (a ≡ true) ⊎ (b ≡ true)
-or_cases a b h = grind (arith, common_steps)
 
 pub shown_listed : (a : ℕ) (ds : List Text) (ss : List Leaf) (f : Text) → AllByRecursion (IsAt a ds) ss → is_shown ss f ≡ true → Listed f ds
 shown_listed a ds [] f at e = absurd (true≢false (sym e))
@@ -272,9 +266,6 @@ gap before i (d ∷ ds) fs f sorted low asked other =
 
 -- ---- what the proof says of a fact
 
-pub not_true : (b : Bool) → (b ≡ true → ⊥) → b ≡ false
-not_true b h = grind (arith, common_steps)
-
 all_above_none : (ds : List Text) → AllByRecursion (λ d. is_above None d ≡ true) ds
 all_above_none [] = tt
 all_above_none (d ∷ ds) = (refl, all_above_none ds)
@@ -291,7 +282,7 @@ honest_state ds fs f sorted asked false there all =
     let last : lowest_place (length ds) (leaves_above f ss) ≡ 0 + count_below f ds = ap (λ m. lowest_place m (leaves_above f ss)) (sym whole) ∙ between.1 in
     let next : past_last (leaves_below f ss) ≡ lowest_place (length ds) (leaves_above f ss) = omega (arith, between.0, last) in
     ap (λ c. if c then Some true else if nat_eq (past_last (leaves_below f ss)) (lowest_place (length ds) (leaves_above f ss)) then Some false else None)
-    (not_true (is_shown ss f) (λ e. other (shown_listed 0 ds ss f (shown_at None 0 ds fs) e)))
+    (false_from_ne_true (is_shown ss f) (λ e. other (shown_listed 0 ds ss f (shown_at None 0 ds fs) e)))
     ∙ ap (λ c. if c then Some false else None) (eq-eqb _ _ next)
 
 -- ---- facts need each shown leaf

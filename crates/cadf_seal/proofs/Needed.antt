@@ -4,6 +4,7 @@ use Rattle.std.proofs.Common.{◌≡◌, ◌∙◌, ◌<◌, ◌+◌, ℕ, Bool,
 use Rattle.std.specs.Prelude.{◌&&◌, ◌||◌, if◌then◌else◌}
 use Rattle.std.specs.List.{find, AllByRecursion}
 use Rattle.std.proofs.lemmas.List.{drop_more}
+use Rattle.std.proofs.lemmas.Bool.{false_from_ne_true}
 use Rattle.cadf_join.specs.Contents.{Text, text_cmp, is_after, next_after}
 use Rattle.cadf_join.specs.Sets.{rising}
 use Rattle.cadf_join.specs.laws.Contents.{text_total, text_same}
@@ -25,16 +26,11 @@ none_below before behind d [] h above = refl
 none_below before behind d (e ∷ ds) h above =
     (λ i. (is_above before e && low i) || needs before behind ds) ∙ swallow (is_above before e) (needs before behind ds) ∙ none_below before behind d ds h above.1
   where
-    by : (b : Bool) → is_below behind e ≡ b → is_below behind e ≡ false
-    by true is = absurd (true≢false (sym (below_less behind d e above.0 is) ∙ h))
-    by false is = is
-
     low : is_below behind e ≡ false
-    low = by (is_below behind e) refl
+    low = false_from_ne_true _ (λ is. true≢false (sym (below_less behind d e above.0 is) ∙ h))
 
     swallow : (a b : Bool) → ((a && false) || b) ≡ b
-    swallow true b = refl
-    swallow false b = refl
+    swallow a b = grind (arith, common_steps)
 
 -- whether the least of the facts above the leaf before is below the leaf behind
 abbrev pub is_found : Option Text → Option Text → Bool
@@ -78,5 +74,4 @@ module _ (ss : List Leaf) (k : ℕ) (d : Leaf) (before : Option Text) (fs : List
       ∙ ap (λ n. unneeded n (Some (get_or ss k d).digest) (drop (k + 1) ss) fs) next
 
   pub unneeded_leaf : needs before (first_digest (drop (k + 1) ss)) fs ≡ false → unneeded (k + 4) before (drop k ss) fs ≡ Some (k + 4)
-  unneeded_leaf h =
-      at_leaf ∙ ap (λ b. if b then unneeded (k + 4 + 1) (Some (get_or ss k d).digest) (drop (k + 1) ss) fs else Some (k + 4)) h
+  unneeded_leaf h = at_leaf ∙ ap (λ b. if b then unneeded (k + 4 + 1) (Some (get_or ss k d).digest) (drop (k + 1) ss) fs else Some (k + 4)) h

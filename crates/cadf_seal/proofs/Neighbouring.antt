@@ -5,11 +5,14 @@ use Rattle.std.specs.Prelude.{◌&&◌, ◌||◌, ◌⊎◌, if◌then◌else◌
 use Rattle.std.specs.List.{AllByRecursion}
 use Rattle.std.specs.List.Sorted.{IsStrictlySortedBy}
 use Rattle.std.specs.Ordering.{is_lt, ordering_reverse}
+use Rattle.std.specs.Cmp.{tied_itself}
+use Rattle.std.proofs.lemmas.Bool.{false_from_ne_true}
 use Rattle.std.specs.declared.cmp.Ordering.{Ordering}
 use Rattle.std.specs.declared.cmp.Ordering.TheVariants.{Less, Equal, Greater}
 use Rattle.cadf_join.specs.Contents.{Text, text_cmp}
 use Rattle.cadf_join.specs.Sets.{Listed}
 use Rattle.cadf_join.specs.laws.Contents.{text_total, text_same}
+use Rattle.cadf_join.proofs.Members.{or_cases, or_right}
 use Rattle.cadf_seal.specs.Facts.{AreAscending}
 use Rattle.cadf_seal.specs.Neighbours.{first_from, last_from, HasPlace, FactHasPlace, FactNeeds, FactsNeed}
 use Rattle.cadf_seal.specs.Shown.{first_leaf, is_above, is_below, needs, shown}
@@ -46,12 +49,7 @@ not_above : (a b : Text) → text_cmp a b ≡ Less → is_lt (text_cmp b a) ≡ 
 not_above a b e = ap is_lt (text_total.antisymm b a ∙ ap ordering_reverse e)
 
 not_itself : (a : Text) → is_lt (text_cmp a a) ≡ false
-not_itself a = by (text_cmp a a) (text_total.antisymm a a)
-  where
-    by : (o : Ordering) → o ≡ ordering_reverse o → is_lt o ≡ false
-    by Less e = absurd (cc)
-    by Equal e = refl
-    by Greater e = refl
+not_itself a = ap is_lt (tied_itself text_total a)
 
 middle_of : (P : Text → Type 0) (lower : List Text) (f : Text) (upper : List Text) → AllByRecursion P (lower ++ f ∷ upper) → P f
 middle_of P [] f upper h = h.0
@@ -61,11 +59,7 @@ first_below : (f : Text) (upper : List Text) → AllByRecursion (λ g. text_cmp 
 first_below f upper h = grind (arith, common_steps)
 
 still_past : (e d f : Text) → text_cmp e d ≡ Less → is_lt (text_cmp e f) ≡ false → is_lt (text_cmp d f) ≡ false
-still_past e d f after past = by (is_lt (text_cmp d f)) refl
-  where
-    by : (b : Bool) → is_lt (text_cmp d f) ≡ b → is_lt (text_cmp d f) ≡ false
-    by true q = absurd (true≢false (sym (below_both e d f after q) ∙ past))
-    by false q = q
+still_past e d f after past = false_from_ne_true _ (λ q. true≢false (sym (below_both e d f after q) ∙ past))
 
 -- ---- leaves behind the fact
 
@@ -166,12 +160,6 @@ listed_here c s x rest e is = grind (arith, common_steps)
 
 listed_cases : (c : Bool) (s x : Leaf) (rest : List Leaf) → Listed s (if c then x ∷ rest else rest) → ((c ≡ true) × (s ≡ x)) ⊎ Listed s rest
 listed_cases c s x rest given = grind (arith, common_steps)
-
-or_cases : (a b : Bool) → (a || b) ≡ true → (a ≡ true) ⊎ (b ≡ true)
-or_cases a b e = grind (arith, common_steps)
-
-or_right : (a b : Bool) → b ≡ true → (a || b) ≡ true
-or_right a b e = grind (arith, common_steps)
 
 some_needs : (before behind : Option Text) (fs : List Text) → needs before behind fs ≡ true → (f : Text) × Listed f fs × (needs before behind (f ∷ []) ≡ true)
 unfolding needs

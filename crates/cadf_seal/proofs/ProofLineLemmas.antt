@@ -23,7 +23,7 @@ use Rattle.cadf_inventory.specs.InventoryVerdict.{digest_of}
 use Rattle.cadf_inventory.proofs.DigestLines.{digest-again, digest-only, unbroken_digest_of}
 use Rattle.cadf_sketch.specs.SketchVerdict.{number_in, first_word, words_after, shape_unless}
 use Rattle.cadf_sketch.proofs.NumberLemmas.{number-again, number-only, decimal_unblank, first_is, after_is, cut_cases}
-use Rattle.cadf_sketch.proofs.LineLemmas.{chosen, begins_with}
+use Rattle.cadf_sketch.proofs.LineLemmas.{chosen, begins_with, no_digest}
 use Rattle.cadf_sketch.proofs.SketchFileLemmas.{decimal_unbroken, there, shape_none}
 use Rattle.cadf_seal.specs.SealFile.{count_line}
 use Rattle.cadf_seal.specs.SealVerdict.{sealed_count}
@@ -44,9 +44,6 @@ pub shown-again : (s : Leaf) → s.place < 2 ^ 64 → IsDigest s.digest → show
 unfolding leaf_in_words
 shown-again s small is = grind (arith, common_steps, decimal_unblank, first_is, after_is, number-again, digest-again)
 
-no_digest : digest_of [] ≡ None
-no_digest = grind (arith, common_steps)
-
 pub shown-only : (l : List ℕ) (s : Leaf) → shown_in l ≡ Some s → (l ≡ shown_line s) × (s.place < 2 ^ 64) × IsDigest s.digest
 unfolding leaf_in_words
 shown-only l s e =
@@ -57,13 +54,10 @@ shown-only l s e =
     let d = digest-only (words_after t) s.digest p.1 in
     (begins_with 80 32 l c.0 ∙ ap (λ r. 80 ∷ 32 ∷ r) (words t (cut_cases t) n.0 d.0 p.1), n.1, d.1)
   where
-    never : None ≡ Some s.digest → ⊥
-    never q = cc
-
     words : (t : List ℕ) → (t ≡ first_word t ++ 32 ∷ words_after t) ⊎ (words_after t ≡ []) → first_word t ≡ decimal s.place
         → words_after t ≡ encode_lower s.digest → digest_of (words_after t) ≡ Some s.digest → t ≡ decimal s.place ++ 32 ∷ encode_lower s.digest
     words t (inl cut) word rest some = cut ∙ (λ i. word i ++ 32 ∷ rest i)
-    words t (inr none) word rest some = absurd (never (sym no_digest ∙ ap digest_of (sym none) ∙ some))
+    words t (inr none) word rest some = let q = sym no_digest ∙ ap digest_of (sym none) ∙ some in absurd (cc)
 
 pub hidden-again : (h : Text) → IsDigest h → hidden_in (hidden_line h) ≡ Some h
 hidden-again h is = digest-again h is
@@ -83,8 +77,7 @@ module _ (t word rest : List ℕ) (a : word ≡ first_word t) (b : rest ≡ word
   no_last e = sym (undigested (number_in (first_word t))) ∙ ap (leaf_of (number_in (first_word t))) (e ∙ ap digest_of b)
     where
       undigested : (o : Option ℕ) → leaf_of o None ≡ None
-      undigested None = refl
-      undigested (Some n) = refl
+      undigested o = grind (arith, common_steps)
 
   pub leaf_read : (n : ℕ) (d : Text) → Some n ≡ number_in word → Some d ≡ digest_of rest → Some (record { place = n; digest = d }) ≡ leaf_in_words t
   unfolding leaf_in_words
@@ -157,7 +150,6 @@ stepped : (n : ℕ) (ss : List Leaf) (hs : List Text) (l : List ℕ) → HasProo
     → cause_of_line n ss hs h s ≡ None
     → (value_lines (with_shown ss h s) (with_hidden hs h) ≡ value_lines ss hs ++ l ∷ []) × HasProofParts (proof_values n (with_shown ss h s) (with_hidden hs h))
 stepped n ss hs l p (Some h) s e f c = grind (arith, common_steps, hidden-only, map_more, append_assoc, all_append)
-stepped n ss hs l p None None e f c = absurd (cc)
 stepped n ss [] l p None (Some s) e f c =
     let o = shown-only l s f in
     let t = next_of (nat_lt s.place n) (is_next (last_or None ss) s) c in
@@ -167,6 +159,7 @@ stepped n ss [] l p None (Some s) e f c =
           ∙ (λ i. sym (append-nil (map shown_line ss)) i ++ sym o.0 i ∷ []),
       record { count = p.count; leaves = all_append (IsLeafOf n) ss (s ∷ []) p.leaves (is, tt); rising = rising_more ss s p.rising t.1; hidden = tt },
     )
+stepped n ss hs l p None None e f c = absurd (cc)
 stepped n ss (h ∷ hs) l p None (Some s) e f c = absurd (cc)
 
 pub values_told : (n : ℕ) (ss more : List Leaf) (hs others : List Text) (l : List ℕ) → HasProofParts (proof_values n ss hs) → IsPut n ss hs more others l

@@ -9,12 +9,13 @@ use Rattle.std.proofs.lemmas.List.{length-take-le, get_or-take, get_or-drop}
 use Rattle.sha2.proofs.Facts256.{length-sha256}
 use Rattle.cadf_join.specs.Contents.{Text}
 use Rattle.cadf_join.specs.Sets.{Listed}
+use Rattle.cadf_join.proofs.Members.{listed_left, listed_right}
 use Rattle.cadf_seal.specs.Tree.{leaf_hash, node_hash, tree, hashed, TextsDoNotCollide}
 use Rattle.cadf_seal.specs.Shown.{until, leaves_from, hidden, Rebuilt, next_hash, node_beside, node_of, rebuilt, hash_of, rest_of_rebuilt, rehashed}
 use Rattle.cadf_seal.specs.Verified.{IsAt, PlacesRise}
 use Rattle.cadf_seal.specs.declared.leaf.Leaf.{Leaf}
 use Rattle.cadf_seal.proofs.Trees.{tree_beyond, doubled}
-use Rattle.cadf_seal.proofs.Determined.{node_text, of_halves, hashed_at, listed_left, listed_right, long, halves_of}
+use Rattle.cadf_seal.proofs.Determined.{node_text, of_halves, hashed_at, long, halves_of}
 
 -- ---- some of a list
 
@@ -149,8 +150,8 @@ one_leaf_at a ds s most at = grind (arith, common_steps)
 
 pub rebuilds : (h : ℕ) → Rebuilds h
 rebuilds zero a n ds [] more all room at = refl
-rebuilds zero a n ds (s ∷ ss) more all room at = ap (λ t. Some (t, more)) (one_leaf_at a ds s (omega (arith, room, all)) at.0)
 rebuilds (suc h) a n ds [] more all room at = refl
+rebuilds zero a n ds (s ∷ ss) more all room at = ap (λ t. Some (t, more)) (one_leaf_at a ds s (omega (arith, room, all)) at.0)
 rebuilds (suc h) a n ds (s ∷ ss) more all room at = rebuilds_step h (rebuilds h) a n ds s ss more all room at (nat_le n (2 ^ h)) refl
 
 -- ---- what is rebuilt to a tree shows leaves of that tree
@@ -192,8 +193,8 @@ long_step h are a n s ss hs y hashes e false large =
 
 are_long : (h : ℕ) → AreLong h
 are_long zero a n [] hs y hashes e = next_long hs y hashes e
-are_long zero a n (s ∷ ss) hs y hashes e = leaf_long s hs y hashes e
 are_long (suc h) a n [] hs y hashes e = next_long hs y hashes e
+are_long zero a n (s ∷ ss) hs y hashes e = leaf_long s hs y hashes e
 are_long (suc h) a n (s ∷ ss) hs y hashes e = long_step h (are_long h) a n s ss hs y hashes e (nat_le n (2 ^ h)) refl
 
 pub rise_kept : (p : Leaf → Bool) (ss : List Leaf) → PlacesRise ss → PlacesRise (filter p ss)
@@ -280,10 +281,10 @@ one_shown a n ds s (t ∷ ss) all most ins rises is = absurd (omega (arith, ins.
 
 pub shows : (h : ℕ) → Shows h
 shows zero a n ds [] hs rest all room ins rises hashes apart e = tt
+shows (suc h) a n ds [] hs rest all room ins rises hashes apart e = tt
 shows zero a n ds (s ∷ ss) hs rest all room ins rises hashes apart e =
     let hash : leaf_hash s.digest ≡ tree zero ds = ap hash_of e in
     one_shown a n ds s ss all (omega (arith, room)) ins rises
     (ap (drop 1) (apart (0 ∷ get_or ds 0 []) (0 ∷ s.digest) (inl refl) (inl refl) (sym hash)))
-shows (suc h) a n ds [] hs rest all room ins rises hashes apart e = tt
 shows (suc h) a n ds (s ∷ ss) hs rest all room ins rises hashes apart e =
     shows_step h (shows h) a n ds s ss hs rest all room ins rises hashes apart e (nat_le n (2 ^ h)) refl

@@ -6,10 +6,11 @@ use Rattle.std.specs.List.{AllByRecursion}
 use Rattle.std.specs.List.Sorted.{IsStrictlySortedBy}
 use Rattle.std.specs.Option.{option_copied}
 use Rattle.std.specs.Ordering.{is_lt}
-use Rattle.std.specs.declared.cmp.Ordering.{Ordering}
-use Rattle.std.specs.declared.cmp.Ordering.TheVariants.{Less, Equal, Greater}
+use Rattle.std.specs.declared.cmp.Ordering.TheVariants.{Less}
 use Rattle.cadf_join.specs.Contents.{Text, text_cmp}
 use Rattle.cadf_join.specs.laws.Contents.{text_total}
+use Rattle.cadf_join.specs.laws.Sets.{bool_cases}
+use Rattle.std.proofs.lemmas.Bool.{false_from_ne_true}
 use Rattle.cadf_seal.specs.Facts.{facts_left, AreAscending, facts_above}
 use Rattle.cadf_seal.specs.Shown.{first_leaf, is_below, needs, shown}
 use Rattle.cadf_seal.specs.declared.leaf.Leaf.{Leaf}
@@ -18,12 +19,7 @@ use Rattle.cadf_seal.specs.declared.shown_leaves.Facts.{Facts}
 -- ---- one fact
 
 less : (a b : Text) → is_lt (text_cmp a b) ≡ true → text_cmp a b ≡ Less
-less a b e = by (text_cmp a b) e
-  where
-    by : (o : Ordering) → is_lt o ≡ true → o ≡ Less
-    by Less e = refl
-    by Equal e = absurd (cc)
-    by Greater e = absurd (cc)
+less a b e = grind (arith, common_steps)
 
 pub below_both : (a b c : Text) → text_cmp a b ≡ Less → is_lt (text_cmp b c) ≡ true → is_lt (text_cmp a c) ≡ true
 below_both a b c p q = ap is_lt (text_total.trans a b c p (less b c q))
@@ -36,11 +32,9 @@ or_none a b e = ap (λ x. x || b) e
 none_below : (d f : Text) (fs : List Text) → is_lt (text_cmp f d) ≡ false → AllByRecursion (λ g. text_cmp f g ≡ Less) fs → needs None (Some d) fs ≡ false
 unfolding needs
 none_below d f [] e h = refl
-none_below d f (g ∷ fs) e h = or_none (is_lt (text_cmp g d)) (needs None (Some d) fs) (by (is_lt (text_cmp g d)) refl) ∙ none_below d f fs e h.1
-  where
-    by : (b : Bool) → is_lt (text_cmp g d) ≡ b → is_lt (text_cmp g d) ≡ false
-    by true q = absurd (true≢false (sym (below_both f g d h.0 q) ∙ e))
-    by false q = q
+none_below d f (g ∷ fs) e h =
+    or_none (is_lt (text_cmp g d)) (needs None (Some d) fs) (false_from_ne_true _ (λ q. true≢false (sym (below_both f g d h.0 q) ∙ e)))
+    ∙ none_below d f fs e h.1
 
 pub first_decides : (behind : Option Text) (f : Text) (fs : List Text) → AreAscending (f ∷ fs) → needs None behind (f ∷ fs) ≡ is_below behind f
 unfolding needs IsStrictlySortedBy
@@ -65,44 +59,31 @@ above_all d f fs e h = above_more d f fs e ∙ ap (λ gs. f ∷ gs) (all_above d
 pub above_ascend : (d : Text) (fs : List Text) → AreAscending fs → AreAscending (facts_above d fs)
 unfolding IsStrictlySortedBy
 above_ascend d [] h = tt
-above_ascend d (f ∷ fs) h = by (is_lt (text_cmp d f)) refl (above_ascend d fs h.1)
-  where
-    by : (b : Bool) → is_lt (text_cmp d f) ≡ b → AreAscending (facts_above d fs) → AreAscending (facts_above d (f ∷ fs))
-    by true q rest = subst AreAscending (sym (above_all d f fs q h)) h
-    by false q rest = subst AreAscending (sym (above_less d f fs q)) rest
+above_ascend d (f ∷ fs) h = bool_cases (is_lt (text_cmp d f))
+    (λ q. subst AreAscending (sym (above_all d f fs q h)) h)
+    (λ q. subst AreAscending (sym (above_less d f fs q)) (above_ascend d fs h.1))
 
 needs_above : (d : Text) (behind : Option Text) (fs : List Text) → needs (Some d) behind fs ≡ needs None behind (facts_above d fs)
 unfolding needs
 needs_above d behind [] = refl
-needs_above d behind (f ∷ fs) = by (is_lt (text_cmp d f)) refl (needs_above d behind fs)
-  where
-    by : (b : Bool) → is_lt (text_cmp d f) ≡ b → needs (Some d) behind fs ≡ needs None behind (facts_above d fs)
-        → ((is_lt (text_cmp d f) && is_below behind f) || needs (Some d) behind fs) ≡ needs None behind (facts_above d (f ∷ fs))
-    by true q rest = (λ i. (q i && is_below behind f) || rest i) ∙ ap (needs None behind) (sym (above_more d f fs q))
-    by false q rest = (λ i. (q i && is_below behind f) || rest i) ∙ ap (needs None behind) (sym (above_less d f fs q))
+needs_above d behind (f ∷ fs) = bool_cases (is_lt (text_cmp d f))
+    (λ q. (λ i. (q i && is_below behind f) || needs_above d behind fs i) ∙ ap (needs None behind) (sym (above_more d f fs q)))
+    (λ q. (λ i. (q i && is_below behind f) || needs_above d behind fs i) ∙ ap (needs None behind) (sym (above_less d f fs q)))
 
 needs_kept : (d e : Text) → text_cmp d e ≡ Less → (behind : Option Text) (fs : List Text) → needs (Some e) behind fs ≡ needs (Some e) behind (facts_above d fs)
 unfolding needs
 needs_kept d e before behind [] = refl
-needs_kept d e before behind (f ∷ fs) = by (is_lt (text_cmp d f)) refl (is_lt (text_cmp e f)) refl (needs_kept d e before behind fs)
-  where
-    by : (b : Bool) → is_lt (text_cmp d f) ≡ b → (c : Bool) → is_lt (text_cmp e f) ≡ c → needs (Some e) behind fs ≡ needs (Some e) behind (facts_above d fs)
-        → ((is_lt (text_cmp e f) && is_below behind f) || needs (Some e) behind fs) ≡ needs (Some e) behind (facts_above d (f ∷ fs))
-    by true q c r rest = ap (λ x. (is_lt (text_cmp e f) && is_below behind f) || x) rest ∙ ap (needs (Some e) behind) (sym (above_more d f fs q))
-    by false q true r rest = absurd (true≢false (sym (below_both d e f before r) ∙ q))
-    by false q false r rest = (λ i. (r i && is_below behind f) || rest i) ∙ ap (needs (Some e) behind) (sym (above_less d f fs q))
+needs_kept d e before behind (f ∷ fs) = bool_cases (is_lt (text_cmp d f))
+    (λ q. ap (λ x. (is_lt (text_cmp e f) && is_below behind f) || x) (needs_kept d e before behind fs) ∙ ap (needs (Some e) behind) (sym (above_more d f fs q)))
+    (λ q. let r : is_lt (text_cmp e f) ≡ false = false_from_ne_true _ (λ s. true≢false (sym (below_both d e f before s) ∙ q)) in
+    (λ i. (r i && is_below behind f) || needs_kept d e before behind fs i) ∙ ap (needs (Some e) behind) (sym (above_less d f fs q)))
 
 abbrev here : Bool → ℕ → Text → List Leaf
 here b i d = if b then record { place = i; digest = d } ∷ [] else []
 
 pub shown_here : (before : Option Text) (i : ℕ) (d : Text) (ds fs : List Text)
     → shown before i (d ∷ ds) fs ≡ here (needs before (first_leaf ds) fs) i d ++ shown (Some d) (suc i) ds fs
-shown_here before i d ds fs = by (needs before (first_leaf ds) fs)
-  where
-    by : (b : Bool) → (if b then record { place = i; digest = d } ∷ shown (Some d) (suc i) ds fs else shown (Some d) (suc i) ds fs)
-        ≡ here b i d ++ shown (Some d) (suc i) ds fs
-    by true = refl
-    by false = refl
+shown_here before i d ds fs = grind (arith, common_steps)
 
 kept : (d e : Text) → text_cmp d e ≡ Less → (i : ℕ) (ds fs : List Text) → AreAscending (e ∷ ds) → shown (Some e) i ds fs ≡ shown (Some e) i ds (facts_above d fs)
 unfolding IsStrictlySortedBy

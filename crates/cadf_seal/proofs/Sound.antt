@@ -3,7 +3,7 @@ use Rattle.std.proofs.lemmas.Grind.{common_steps}
 use Rattle.std.proofs.Common.{◌≡◌, ◌∙◌, ◌<◌, ◌≤◌, ◌+◌, ◌-◌, ◌^◌, ℕ, zero, suc, Bool, true, false, List, [], ◌∷◌, Some, None, length, get_or, refl, ap, sym, subst, arith, inl, inr}
 use Rattle.std.specs.Prelude.{nat_eq, if◌then◌else◌}
 use Rattle.std.specs.List.{AllByRecursion}
-use Rattle.std.proofs.lemmas.Bool.{eqb-true, ne_eqb}
+use Rattle.std.proofs.lemmas.Bool.{eqb-true, ne_eqb, false_from_ne_true}
 use Rattle.sha2.specs.Sha256.{sha256}
 use Rattle.cadf_join.specs.Contents.{Text}
 use Rattle.cadf_join.specs.Sets as set
@@ -17,7 +17,7 @@ use Rattle.cadf_seal.specs.Verified.{alone, root_from, proof_root, leaves_below,
 use Rattle.cadf_seal.specs.declared.leaf.Leaf.{Leaf}
 use Rattle.cadf_seal.proofs.Trees.{root_tree, below_power}
 use Rattle.cadf_seal.proofs.Rebuilding.{all_map, all_kept, shows}
-use Rattle.cadf_seal.proofs.Honest.{IsLess, AreSorted, not_less_itself, less_trans, sorted_above, sorted_rest, at_all, ahead_least, shown_listed, not_true}
+use Rattle.cadf_seal.proofs.Honest.{IsLess, AreSorted, not_less_itself, less_trans, sorted_above, sorted_rest, at_all, ahead_least, shown_listed}
 
 -- ---- shown leaves are leaves
 
@@ -120,6 +120,6 @@ tells_truth p n is f b e = by (is_shown p.shown f) (nat_eq (past_last (leaves_be
         listed-rising text_total text_same n.digests f (shown_listed 0 (rising n.digests) p.shown f at there) ∙ told
     by false true there next e =
         let told : false ≡ b = cc in
-        not_true (set.contains n.digests f) (λ h. no_leaf_between (rising n.digests) f (rising_is_sorted text_total text_same n.digests) p.count p.shown is.count at
+        false_from_ne_true (set.contains n.digests f) (λ h. no_leaf_between (rising n.digests) f (rising_is_sorted text_total text_same n.digests) p.count p.shown is.count at
         (eqb-true _ _ next) (rising-listed text_total text_same n.digests f h)) ∙ told
     by false false there next e = absurd (cc)

@@ -19,11 +19,10 @@ place_at_least : (m : ℕ) (ss : List Leaf) (k : ℕ) (d : Leaf) → k < length 
 place_at_least m ss k d low h = grind (arith, common_steps)
 
 in_order : (ss : List Leaf) (i j : ℕ) (d : Leaf) → PlacesRise ss → i ≤ j → j < length ss → (slice_index_or ss i d).place ≤ (slice_index_or ss j d).place
-in_order [] i j d rises low high = absurd (omega (arith, high))
 in_order (s ∷ ss) zero zero d rises low high = omega arith
 in_order (s ∷ ss) zero (suc j) d rises low high = place_at_least s.place ss j d (omega (arith, high)) rises.0
-in_order (s ∷ ss) (suc i) zero d rises low high = absurd (omega (arith, low))
 in_order (s ∷ ss) (suc i) (suc j) d rises low high = in_order ss i j d rises.1 (omega (arith, low)) (omega (arith, high))
+in_order _ _ _ d rises low high = absurd (omega (arith, low, high))
 
 pub parted : (m : ℕ) (ss : List Leaf) → PlacesRise ss → IsPartitionedBy (λ s. nat_lt s.place m) ss
 parted m ss rises i j d low high h = grind (arith, common_steps, in_order, ltb-true, lt-ltb)
@@ -51,8 +50,7 @@ module _ {A : Type 0} (p q : A → Bool) where
 
   none_first : (ss : List A) → IsPoint ss 0 → filter p ss ≡ []
   none_first [] h = refl
-  none_first (s ∷ ss) h =
-      ap (λ b. cond b (s ∷ filter p ss) (filter p ss)) (h.1 0 s (omega arith) (omega arith)) ∙ none_first ss (rest_point s ss h)
+  none_first (s ∷ ss) h = ap (λ b. cond b (s ∷ filter p ss) (filter p ss)) (h.1 0 s (omega arith) (omega arith)) ∙ none_first ss (rest_point s ss h)
 
   pub first_part : (ss : List A) (i : ℕ) → i ≤ length ss → IsPoint ss i → take i ss ≡ filter p ss
   first_part ss zero low h = sym (none_first ss h)
