@@ -16,7 +16,7 @@ use Rattle.cadf_atom.specs.Shown.{values}
 use Rattle.cadf_set.specs.Ruled.{is_conflicted}
 use Rattle.cadf_set.proofs.Again.{value_listed}
 use Rattle.cadf_log.proofs.Rising.{values_rise}
-use Rattle.cadf_log.proofs.ByKey.{listed_value}
+use Rattle.cadf_set.proofs.Membership.{listed_value}
 use Rattle.cadf_split.specs.Parts.{part_by, IsInTwoParts}
 use Rattle.cadf_split.proofs.Parts.{in_part, part_has, part_key}
 
@@ -30,10 +30,9 @@ below_is_other v w less e = true≢false (ap is_eq (sym (subst (λ y. text_cmp v
 
 two_listed : (vs : List Text) → IsStrictlySortedBy text_cmp vs → nat_le 2 (length vs) ≡ true → TwoListed vs
 unfolding IsStrictlySortedBy
-two_listed [] rises h = absurd (true≢false (sym h))
-two_listed (v ∷ []) rises h = absurd (true≢false (sym h))
 two_listed (v ∷ w ∷ vs) rises h =
     (v, (w, (below_is_other v w (AllByRecursion-listed (λ y. text_cmp v y ≡ Less) (w ∷ vs) rises.0 w (inl refl)), (inl refl, inr (inl refl)))))
+two_listed _ rises h = absurd (true≢false (sym h))
 
 listed_two : (vs : List Text) (v w : Text) → v ≢ w → Listed v vs → Listed w vs → nat_le 2 (length vs) ≡ true
 listed_two [] v w other l m = absurd l
@@ -50,8 +49,7 @@ two_values s letter name h =
 
 pub conflicted_by : (s : Contents) (letter name v w : Text) → v ≢ w → Has s (letter ∷ name ∷ v ∷ []) → Has s (letter ∷ name ∷ w ∷ [])
     → is_conflicted s letter name ≡ true
-conflicted_by s letter name v w other h g =
-    listed_two (values s letter name) v w other (value_listed s letter name v h) (value_listed s letter name w g)
+conflicted_by s letter name v w other h g = listed_two (values s letter name) v w other (value_listed s letter name v h) (value_listed s letter name w g)
 
 -- ---- in parts
 

@@ -1,7 +1,6 @@
 -- The key of an atom is that of its carrier.
 use Rattle.std.proofs.lemmas.Grind.{common_steps}
-use Rattle.std.proofs.Common.{arith}
-use Rattle.std.proofs.Common.{◌≡◌, Bool, cond, List, ◌∷◌, take}
+use Rattle.std.proofs.Common.{arith, ◌≡◌, Bool, cond, List, ◌∷◌, take}
 use Rattle.cadf_join.specs.Contents.{Text}
 use Rattle.cadf_split.specs.declared.unit.Unit.{Unit}
 use Rattle.cadf_split.specs.Parts.{IsOfCarrier}

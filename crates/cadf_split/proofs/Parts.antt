@@ -1,7 +1,6 @@
 -- Sets in parts by a key: which members a part has, and what the parts have together.
 use Rattle.std.proofs.lemmas.Grind.{common_steps}
-use Rattle.std.proofs.Common.{arith}
-use Rattle.std.proofs.Common.{◌≡◌, List, [], ◌∷◌, map, refl, sym, ap, ◌∙◌, subst, inl, inr}
+use Rattle.std.proofs.Common.{arith, ◌≡◌, List, [], ◌∷◌, map, refl, sym, ap, ◌∙◌, subst, inl, inr}
 use Rattle.std.specs.Cmp.Lexicographic.{bytes_decides}
 use Rattle.cadf_join.specs.Sets as set
 use Rattle.cadf_join.specs.Sets.{Listed, rising}
@@ -143,8 +142,7 @@ module _ (of : Texts → Text) where
 
     pub missing_of_parts : (a b : Contents) → IsGrounded a
         → union_all (map (λ k. missing (part_by of k a) (part_by of k b)) (keys_by of a)) ≡ missing a b
-    missing_of_parts a b g =
-        union_all_same _ _ (keys_by of a) (λ k. sym (part-missing k a b)) ∙ parts_within a (missing a b) (missing_within a b g)
+    missing_of_parts a b g = union_all_same _ _ (keys_by of a) (λ k. sym (part-missing k a b)) ∙ parts_within a (missing a b) (missing_within a b g)
 
     pub missing_by_within_set : (digest : Texts → Text) (a : Contents) (known : Digests) → IsGrounded a → IsWithin (missing_by digest a known) a
     missing_by_within_set digest a known g = with_carriers_least (unknown digest a known) a (g, λ q h. members.retain_has texts_total texts_same a _ q h)
