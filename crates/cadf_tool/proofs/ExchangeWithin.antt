@@ -72,19 +72,15 @@ joined_within log operands inputs h joined names low =
 
 inputs_kept : (operands : Operands) (inputs : List Loaded) → AreRead operands inputs → IsReplicaSet (union_of inputs)
 inputs_kept End [] read = kept_empty
-inputs_kept End (l ∷ ls) read = absurd read
-inputs_kept (Whole m operands) [] read = absurd read
 inputs_kept (Whole m operands) (l ∷ ls) ((bytes, made, input), read) = kept_union (atoms_loaded l) (union_of ls) (input_kept bytes l input)
     (inputs_kept operands ls read)
-inputs_kept (Part from to operands) [] read = absurd read
 inputs_kept (Part from to operands) (l ∷ ls) ((bytes, made, input), read) = kept_union (atoms_loaded l) (union_of ls) (input_kept bytes l input)
     (inputs_kept operands ls read)
-inputs_kept (PartBy from to operands) [] read = absurd read
 inputs_kept (PartBy from to operands) (l ∷ ls) ((bytes, made, input), read) = kept_union (atoms_loaded l) (union_of ls) (input_kept bytes l input)
     (inputs_kept operands ls read)
-inputs_kept (PartBySketch from to sketched read operands) [] more = absurd more
 inputs_kept (PartBySketch from to sketched read operands) (l ∷ ls) ((bytes, made, input), more) =
     kept_union (atoms_loaded l) (union_of ls) (input_kept bytes l input) (inputs_kept operands ls more)
+inputs_kept _ _ read = absurd read
 
 pub join_kept : (log : Option Text) (operands : Operands) (inputs : List Loaded) (h : ReplicaModel) → AreRead operands inputs → join_of log inputs ≡ Ok h
     → IsReplicaSet h.atoms
@@ -138,40 +134,32 @@ mutual
 
   pub names : (operands : Operands) (inputs : List Loaded) → AreRead operands inputs → first_named inputs ≡ log_in operands
   names End [] read = refl
-  names End (l ∷ ls) read = absurd read
-  names (Whole m operands) [] read = absurd read
   names (Whole m operands) (l ∷ ls) read = λ i. option_or ((read_within m l read.0).log i) (names operands ls read.1 i)
-  names (Part from to operands) [] read = absurd read
   names (Part from to operands) (l ∷ ls) read =
       let r = part_read from (λ b. IsDerived to b) l (read_within from) read.0 in
       λ i. option_or (r.log i) (names operands ls read.1 i)
-  names (PartBy from to operands) [] read = absurd read
   names (PartBy from to operands) (l ∷ ls) read =
       let r = part_by_read from (λ b. IsDerived to b) l (read_within from) read.0 in
       λ i. option_or (r.log i) (names operands ls read.1 i)
-  names (PartBySketch from to sketched read operands) [] more = absurd more
   names (PartBySketch from to sketched read operands) (l ∷ ls) more =
       let r = part_by_sketch_read from (λ b. IsDerived to b) sketched read l (read_within from) more.0 in
       λ i. option_or (r.log i) (names operands ls more.1 i)
+  names _ _ read = absurd read
 
   -- nothing else is joined
   pub inputs_within : (operands : Operands) (inputs : List Loaded) → AreRead operands inputs
       → IsWithin (union_of inputs) (brought_by (external_inputs_of operands))
   inputs_within End [] read = laws.IsWithin-refl _
-  inputs_within End (l ∷ ls) read = absurd read
-  inputs_within (Whole m operands) [] read = absurd read
   inputs_within (Whole m operands) (l ∷ ls) read = first_within m (external_inputs_of operands) l ls (read_within m l read.0) (inputs_within operands ls read.1)
-  inputs_within (Part from to operands) [] read = absurd read
   inputs_within (Part from to operands) (l ∷ ls) read =
       first_within from (external_inputs_of operands) l ls (part_read from (λ b. IsDerived to b) l (read_within from) read.0) (inputs_within operands ls read.1)
-  inputs_within (PartBy from to operands) [] read = absurd read
   inputs_within (PartBy from to operands) (l ∷ ls) read =
       first_within from (external_inputs_of operands) l ls (part_by_read from (λ b. IsDerived to b) l (read_within from) read.0)
       (inputs_within operands ls read.1)
-  inputs_within (PartBySketch from to sketched read operands) [] more = absurd more
   inputs_within (PartBySketch from to sketched read operands) (l ∷ ls) more =
       first_within from (external_inputs_of operands) l ls (part_by_sketch_read from (λ b. IsDerived to b) sketched read l (read_within from) more.0)
       (inputs_within operands ls more.1)
+  inputs_within _ _ read = absurd read
 
 pub held_within : (m : Derivation) (bytes : List ℕ) (h : ReplicaModel) → IsDerived m bytes → IsHeld bytes h → HoldsAtMost m h
 held_within m bytes h made held =

@@ -6,7 +6,7 @@ use Rattle.cadf_line.specs.Atoms.{IsGrounded}
 use Rattle.cadf_atom.specs.AtomSets.{IsReplicaSet}
 use Rattle.cadf_line.specs.Missing.{Digests, digests_of, unknown, missing_by, NoCollision}
 use Rattle.cadf_set.specs.Replica.{ReplicaModel}
-use Rattle.cadf_line.proofs.Missing.{with_carriers_grounded, with_carriers_least, unknown_has, missing_by_is}
+use Rattle.cadf_line.proofs.Missing.{with_carriers_grounded, with_carriers_least, unknown_has, missing_by_is, digest_of_some}
 use Rattle.cadf_inventory.specs.InventoryFile.{IsInventory}
 use Rattle.cadf_inventory.proofs.InventoryVerdictLemmas.{inventory-file-tells}
 use Rattle.cadf_tool.specs.declared.input.Loaded.{Loaded}
@@ -16,14 +16,15 @@ use Rattle.cadf_tool.specs.Input.{IsInput}
 use Rattle.cadf_tool.specs.Told.{log_named, atoms_loaded, IsHeld}
 use Rattle.cadf_tool.specs.Join.{is_other}
 use Rattle.cadf_tool.specs.Missing.{under_one_log}
-use Rattle.cadf_line.specs.Digest.{atom_digest}
+use Rattle.cadf_line.specs.Digest.{atom_digest, IsDigest}
 use Rattle.cadf_set.specs.Inventory.{InventoryModel, AreDigests}
 use Rattle.cadf_tool.specs.MissingBy.{inventory_model_under, inventory_model_of, missing_by_of}
 use Rattle.cadf_tool.specs.Exchange.{IsReadOf, IsInventoryReadOf}
-use Rattle.cadf_tool.proofs.DigestBytes.{are_digests}
+use Rattle.cadf_line.specs.AtomLine.{line}
+use Rattle.cadf_sketch.proofs.WholeLemmas.{sha_digest}
 use Rattle.cadf_tool.proofs.KeptInputs.{input_kept, input_grounded}
 use Rattle.cadf_tool.proofs.HeldReplicas.{held_replica}
-use Rattle.cadf_tool.proofs.InputUnions.{IsPart}
+use Rattle.cadf_tool.proofs.InputUnions.{IsPart, replica_model_under, held_same}
 
 -- ---- the inventory of an input
 
@@ -48,6 +49,9 @@ notes loaded noted e = by (log_named loaded) refl e
     by (Some name) is k =
         let same = noted_same name (digests_of atom_digest (atoms_loaded loaded)) noted k in
         record { log = is ∙ ap Some same.0; digests = same.1 }
+
+are_digests : (s : Contents) → AreDigests (digests_of atom_digest s)
+are_digests s d h = let t = digest_of_some atom_digest s d h in subst IsDigest (sym t.2) (sha_digest (line t.0))
 
 -- the inventory made from an input satisfies its invariant
 pub notes_inventory : (bytes : List ℕ) (loaded : Loaded) (noted : InventoryModel) → IsInput bytes loaded → Notes loaded noted → IsInventory noted
@@ -75,15 +79,6 @@ noted_by to noted (bytes, (other, written, read, made, is), input) =
 pub record IsPartBy (from : Loaded) (noted : InventoryModel) (part : ReplicaModel) : Type 0 where
   pub log : log_named from ≡ Some part.log
   pub atoms : part.atoms ≡ missing_by atom_digest (atoms_loaded from) noted.digests
-
-abbrev replica_model_under : Text → Contents → ReplicaModel
-replica_model_under log atoms = record { log = log; atoms = atoms }
-
-held_same : (log : Text) (atoms : Contents) (h : ReplicaModel) → ◌≡◌ {A = Result ReplicaModel ToolFault} (Ok (replica_model_under log atoms)) (Ok h)
-    → (log ≡ h.log) × (h.atoms ≡ atoms)
-held_same log atoms h e =
-    let same : replica_model_under log atoms ≡ h = cc in
-    (ap (λ (k : ReplicaModel). k.log) same, sym (ap (λ (k : ReplicaModel). k.atoms) same))
 
 pub part_by_is : (from : Loaded) (noted : InventoryModel) (part : ReplicaModel) → missing_by_of from noted ≡ Ok part → IsPartBy from noted part
 part_by_is from noted part e = by (log_named from) refl e

@@ -19,7 +19,6 @@ pub mod Unions
 pub mod UnionDeltas
 pub mod HeldReplicas
 pub mod ShownAgain
-pub mod DigestBytes
 pub mod InventoryParts
 pub mod SketchParts
 pub mod Verdicts

@@ -50,8 +50,7 @@ module _ {A M W T : Type 0} (sources : Sources A) (work : A → Result M ToolFau
 
 pub text_behind : {W : Type 0} (sink : Sink W) (old new : W) (before bytes : List ℕ) → sink.written old ≡ Some before
     → Appends (sink.written old) (sink.written new) bytes → sink.written new ≡ Some (before ++ bytes)
-text_behind sink old new before bytes begun w =
-    written_behind before (sink.written new) bytes (subst (λ o. Appends o (sink.written new) bytes) begun w)
+text_behind sink old new before bytes begun w = written_behind before (sink.written new) bytes (subst (λ o. Appends o (sink.written new) bytes) begun w)
 
 -- ---- the engines
 

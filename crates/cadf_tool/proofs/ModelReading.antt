@@ -1,9 +1,8 @@
 -- A source that is read as the file of a model.
-use Rattle.std.proofs.Common.{◌≡◌, Bool, true, false, Option, Some, None, Result, Ok, Err, refl, ap, ◌∙◌, subst, inl, inr}
+use Rattle.std.proofs.Common.{sym, ◌≡◌, Bool, true, false, Option, Some, None, Ok, refl, ap, ◌∙◌, subst, inl, inr}
 use Rattle.std.specs.Io.KnownBytes.{IsAtEnd}
 use Rattle.cadf_json.specs.Streams.{counted}
 use Rattle.cadf_linefile.specs.declared.fault.FileFault.{FileFault}
-use Rattle.cadf_linefile.specs.declared.fault.FileFault.TheVariants.{Trailing, ReadFault, Memory}
 use Rattle.cadf_linefile.specs.declared.file_feed.TheConstants.{FILE_LIMIT}
 use Rattle.cadf_linefile.proofs.ReadingLemmas.{refused_verdict}
 use Rattle.cadf_linefile.specs.ModelKind.{ModelKind, grammar_of, model_or_fault, decided_of, verdict_of, AcceptsModels}
@@ -11,30 +10,22 @@ use Rattle.cadf_linefile.specs.ModelReads.{ReadsModel}
 use Rattle.cadf_tool.specs.ModelInput.{model_spec}
 use Rattle.cadf_tool.specs.Run.{SourceTransition, IsReadAs}
 
-module _ {M : Type 0} where
-  no_fault : (m : M) (f : FileFault) → ◌≡◌ {A = Result M FileFault} (Ok m) (Err f) → ⊥
-  no_fault m f e = cc
-
-  clash : (m : M) (f : FileFault) (v : Result M FileFault) → v ≡ Ok m → v ≡ Err f → ⊥
-  clash m f v a b = cc
-
 -- a fault that is decided is the verdict, and the accepted bytes encode the model; the rest is what a reader of such files says
 module _ {M : Type 0} (k : ModelKind M) (Is : M → Type 0) (t : SourceTransition) (accepts : AcceptsModels k Is) (m : M)
     (h : ReadsModel k FILE_LIMIT t.old.left t.new.left t.old.failures t.new.failures (Ok m)) where
   unfailed : (b : Bool) → h.failed ≡ b → h.failed ≡ false
   unfailed false is = is
-  unfailed true is = elim (h.failure is) [ inl e ↦ absurd (no_fault m ReadFault e) | inr e ↦ absurd (no_fault m Trailing e) ]
+  unfailed true is = elim (h.failure is) [ inl e ↦ absurd (cc) | inr e ↦ absurd (cc) ]
 
   undecided : (o : Option FileFault) → decided_of k FILE_LIMIT h.bytes ≡ o → decided_of k FILE_LIMIT h.bytes ≡ None
   undecided None is = is
-  undecided (Some f) is = absurd (clash m f (verdict_of k FILE_LIMIT h.failed h.bytes) h.verdict
-      (ap (model_or_fault k) (refused_verdict (grammar_of k) FILE_LIMIT h.failed h.bytes f is)))
+  undecided (Some f) is = let refused = sym h.verdict ∙ ap (model_or_fault k) (refused_verdict (grammar_of k) FILE_LIMIT h.failed h.bytes f is) in absurd (cc)
 
   pub model_read : IsReadAs (model_spec k Is) t m
   model_read =
       let whole : h.failed ≡ false = unfailed h.failed refl in
       let at_end : IsAtEnd t.new.left = elim (h.end whole (undecided (decided_of k FILE_LIMIT h.bytes) refl)) [
-        | inl e ↦ absurd (no_fault m Memory e)
+        | inl e ↦ absurd (cc)
         | inr e ↦ e
       ] in
       let is = (accepts FILE_LIMIT h.bytes m).0 (subst (λ b. verdict_of k FILE_LIMIT b h.bytes ≡ Ok m) whole h.verdict) in (

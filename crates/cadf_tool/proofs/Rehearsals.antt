@@ -4,7 +4,7 @@ use Rattle.std.proofs.Common.{arith, ◌≡◌, ℕ, List, Result, Ok, Err, refl
 use Rattle.cadf_join.specs.Contents.{Text}
 use Rattle.cadf_rehearsal.specs.declared.turn.Turn.{Turn as Step}
 use Rattle.cadf_tool.specs.declared.fault.ToolFault.{ToolFault}
-use Rattle.cadf_tool.specs.Faults.{FaultStage, Reading, Working, Writing, OutOfMemoryStage, fault_stage}
+use Rattle.cadf_tool.specs.Faults.{FaultStage, Working, fault_stage}
 use Rattle.cadf_tool.specs.Rehearse.{IsScriptJudged, bytes_spec, script_spec, turns_of, played_in, final_sites}
 use Rattle.cadf_tool.specs.Run.{SourceTransition, one, IsReadAs, IsReadWithin, IsFirstFault, IsExpected}
 use Rattle.cadf_linefile.specs.declared.file_feed.TheConstants.{FILE_LIMIT}
@@ -24,13 +24,8 @@ module _ (t : SourceTransition) (bounded : IsReadWithin FILE_LIMIT t) (v : List 
 module _ (t : SourceTransition) (log : Text) (sites : ℕ) where
   refused_at : (fault : ToolFault) (s : FaultStage) → IsFirstFault (one script_spec t) turns_of fault s
       → IsFirstFault (one script_spec t) (final_sites log sites) fault s
-  refused_at fault (Reading n f) h = h
-  refused_at fault Working (a, read, e) = (a, read, stops (turns_of a) fault e)
-    where
-      stops : (r : Result (List Step) ToolFault) (fault : ToolFault) → r ≡ Err fault → played_in log sites r ≡ Err fault
-      stops r fault e = ap (played_in log sites) e
-  refused_at fault Writing h = h
-  refused_at fault OutOfMemoryStage h = h
+  refused_at fault Working (a, read, e) = (a, read, ap (played_in log sites) e)
+  refused_at fault _ h = h
 
   -- a script that is refused isn't simulated
   pub script_refused : (fault : ToolFault) → IsExpected (one script_spec t) turns_of (Err fault)

@@ -6,7 +6,6 @@ use Rattle.std.specs.Prelude.{IsTrue, is_some}
 use Rattle.std.specs.List.{filter, filter_map}
 use Rattle.cadf_join.specs.Sets as set
 use Rattle.cadf_join.specs.Sets.{Listed, rising}
-use Rattle.cadf_join.specs.laws.Rising.{listed-rising}
 use Rattle.cadf_join.specs.Contents.{Text, Texts, Contents, Has, IsWithin}
 use Rattle.cadf_join.specs.laws.Sets as laws
 use Rattle.cadf_join.specs.laws.Contents.{texts_total, texts_same}
@@ -20,17 +19,18 @@ use Rattle.cadf_set.specs.Replica.{ReplicaModel}
 use Rattle.cadf_atom.specs.Rulings.{ruling_of}
 use Rattle.cadf_line.specs.RulingTexts.{RulingParts, ruling_atom, is_value_letter, is_digest_text, value_digest}
 use Rattle.cadf_atom.specs.Shown.{strip, only, values}
-use Rattle.cadf_set.proofs.Again.{in_order_retain, value_is}
+use Rattle.cadf_set.proofs.Again.{in_order_retain}
+use Rattle.cadf_set.proofs.Membership.{listed_value}
 use Rattle.cadf_set.proofs.ContributionLaws.{kept_union, ruling_kept}
-use Rattle.cadf_line.proofs.Lists.{Some-same, filter_map_listed}
+use Rattle.cadf_line.proofs.Lists.{Some-same}
 use Rattle.cadf_atom.proofs.RulingTexts.{hex_is_digest}
 use Rattle.sha2.specs.Sha256.{sha256}
 use Rattle.cadf_tool.specs.declared.fault.ToolFault.{ToolFault}
-use Rattle.cadf_tool.specs.Faults.{FaultStage, Reading, Working, Writing, OutOfMemoryStage, fault_stage}
+use Rattle.cadf_tool.specs.Faults.{FaultStage, Working, fault_stage}
 use Rattle.cadf_tool.specs.Run.{IsWorkFaultBy, IsWorked}
 use Rattle.cadf_tool.specs.Told.{under_log}
 use Rattle.cadf_tool.specs.Rule.{value_at, ruling_on, ruling_for, ruling_at, with_ruling, ruled_in}
-use Rattle.cadf_tool.proofs.DigestBytes.{is_digest}
+use Rattle.cadf_sketch.proofs.WholeLemmas.{sha_digest}
 
 -- ---- the value at a place
 
@@ -42,11 +42,6 @@ got_listed (x ∷ vs) (suc n) v e = inr (got_listed vs n v e)
 at_listed : (vs : List Text) (place : ℕ) (v : Text) → value_at vs place ≡ Some v → Listed v vs
 at_listed vs place v e = grind (arith, common_steps, got_listed)
 
-listed_held : (s : Contents) (letter key v : Text) → Listed v (values s letter key) → Has s (letter ∷ key ∷ v ∷ [])
-listed_held s letter key v l =
-    let t = filter_map_listed (λ q. only (strip (letter ∷ key ∷ []) q)) (rising s) v l in
-    subst (Has s) (value_is letter key t.0 v t.2) (listed-rising texts_total texts_same s t.0 t.1)
-
 -- ---- the ruling for a value in the set
 
 -- a property of every atom of three texts
@@ -54,7 +49,7 @@ pub held_passes : (letter key v : Text) → IsAtom atom_rules (letter ∷ key �
 held_passes _ key _' given = grind (arith, common_steps)
 
 digest_is : (value : Text) → is_digest_text (value_digest value) ≡ true
-digest_is value = let d = is_digest value in hex_is_digest (sha256 value) d.size d.bytes
+digest_is value = let d = sha_digest value in hex_is_digest (sha256 value) d.size d.bytes
 
 pub ruling_is : (letter key value : Text) → IsAtom atom_rules (letter ∷ key ∷ value ∷ []) → IsRuling (ruling_on letter key value)
 ruling_is letter key value atom = grind (arith, common_steps, held_passes, digest_is)
@@ -74,7 +69,7 @@ same_held h k e = cc
 
 pub ruled_is : (letter key : Text) (place : ℕ) (named : Option Text) (s : Contents) (h : ReplicaModel)
     → ruled_in letter key place (under_log named s) ≡ Ok h → IsRuled letter key place named s h
-ruled_is letter key place named s h e = grind (arith, common_steps, same_held, listed_held, at_listed)
+ruled_is letter key place named s h e = grind (arith, common_steps, same_held, listed_value, at_listed)
 
 pub ruled_kept : (letter key : Text) (place : ℕ) (named : Option Text) (s : Contents) (h : ReplicaModel) → IsReplicaSet s
     → IsRuled letter key place named s h → IsReplicaSet h.atoms
@@ -185,7 +180,5 @@ ruling_refused h letter key text place fault same worked =
   where
     at : (s : FaultStage) → IsWorkFaultBy {M = RulingParts} (λ r. ruling_at h.atoms letter key place ≡ r) fault s
         → IsWorkFaultBy {M = ReplicaModel} (λ r. with_ruling h (ruling_at h.atoms letter key place) ≡ r) fault s
-    at (Reading n f) w = w
     at Working w = ap (with_ruling h) w
-    at Writing w = w
-    at OutOfMemoryStage w = w
+    at _ w = w

@@ -7,13 +7,8 @@ use Rattle.cadf_tool.specs.Run.{Sources, both, IsFirstFault, IsFirstFaultBy, IsU
 
 module _ {A M : Type 0} (sources : Sources A) (work : A → Result M ToolFault → Type 0) where
   not_read_at : (fault : ToolFault) (s : FaultStage) → IsFirstFault sources Ok fault s → IsFirstFaultBy sources work fault s
-  not_read_at fault (Reading n f) h = h
-  not_read_at fault Working (a, read, e) = absurd (never a e)
-    where
-      never : (a : A) → ◌≡◌ {A = Result A ToolFault} (Ok a) (Err fault) → ⊥
-      never a e = cc
-  not_read_at fault Writing h = h
-  not_read_at fault OutOfMemoryStage h = h
+  not_read_at fault Working (a, read, e) = absurd (cc)
+  not_read_at fault _ h = h
 
   -- if not all sources are read, the fault of the source is the expected result
   pub not_read : (fault : ToolFault) → sources.bounded → IsUnread sources fault → IsExpectedBy sources work (Err fault)
@@ -30,8 +25,7 @@ module _ {A M : Type 0} (sources : Sources A) (work : A → Result M ToolFault �
   pub worked : (a : A) (expected : Result M ToolFault) → sources.bounded → sources.are a → sources.unfailed
       → IsWorkedBy (work a) expected → IsExpectedBy sources work expected
   worked a (Ok made) bounded read unfailed w = record { is = (a, read, w); bounded = bounded }
-  worked a (Err fault) bounded read unfailed w =
-      record { is = not_worked a fault (fault_stage fault) read unfailed w; bounded = bounded }
+  worked a (Err fault) bounded read unfailed w = record { is = not_worked a fault (fault_stage fault) read unfailed w; bounded = bounded }
 
 -- ---- sources after others
 
@@ -46,33 +40,25 @@ module _ {A B M : Type 0} (first : Sources A) (second : Sources B) (work : A × 
   first_not_read_at : (fault : ToolFault) (s : FaultStage) → second.unread → second.unfailed → IsFirstFault first Ok fault s
       → IsFirstFaultBy (both first second) work fault s
   first_not_read_at fault (Reading n f) unread unfailed (is, refused) = (is, inl (refused, unread))
-  first_not_read_at fault Working unread unfailed (a, are, e) = absurd (never a e)
-    where
-      never : (a : A) → ◌≡◌ {A = Result A ToolFault} (Ok a) (Err fault) → ⊥
-      never a e = cc
+  first_not_read_at fault Working unread unfailed (a, are, e) = absurd (cc)
   first_not_read_at fault Writing unread unfailed h = h
   first_not_read_at fault OutOfMemoryStage unread unfailed h = (h, unfailed)
 
   -- not all of the first were read, and none of the second
   pub first_not_read : (fault : ToolFault) → second.unread → second.unfailed → IsUnread first fault → IsExpectedBy (both first second) work (Err fault)
-  first_not_read fault unread unfailed h =
-      record { is = first_not_read_at fault (fault_stage fault) unread unfailed h; bounded = (within, within') }
+  first_not_read fault unread unfailed h = record { is = first_not_read_at fault (fault_stage fault) unread unfailed h; bounded = (within, within') }
 
   second_not_read_at : (a : A) (fault : ToolFault) (s : FaultStage) → first.are a → first.unfailed → IsFirstFault second Ok fault s
       → IsFirstFaultBy (both first second) work fault s
   second_not_read_at a fault (Reading n f) read unfailed (is, refused) = (is, inr ((a, read), refused))
-  second_not_read_at a fault Working read unfailed (b, are, e) = absurd (never b e)
-    where
-      never : (b : B) → ◌≡◌ {A = Result B ToolFault} (Ok b) (Err fault) → ⊥
-      never b e = cc
+  second_not_read_at a fault Working read unfailed (b, are, e) = absurd (cc)
   second_not_read_at a fault Writing read unfailed h = h
   second_not_read_at a fault OutOfMemoryStage read unfailed h = (unfailed, h)
 
   -- the first were read, and not all of the second
   pub second_not_read : (a : A) (fault : ToolFault) → first.are a → first.unfailed → IsUnread second fault
       → IsExpectedBy (both first second) work (Err fault)
-  second_not_read a fault read unfailed h =
-      record { is = second_not_read_at a fault (fault_stage fault) read unfailed h; bounded = (within, within') }
+  second_not_read a fault read unfailed h = record { is = second_not_read_at a fault (fault_stage fault) read unfailed h; bounded = (within, within') }
 
   -- there was no memory
   pub both_starved : (fault : ToolFault) → fault ≡ Memory → first.unfailed → second.unfailed → IsExpectedBy (both first second) work (Err fault)

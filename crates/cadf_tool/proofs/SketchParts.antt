@@ -31,16 +31,10 @@ pub sketched_is : (cells salt : Option ℕ) (loaded : Loaded) (sketch : SketchMo
     → (noted : InventoryModel) × (inventory_model_of loaded ≡ Ok noted) × (sketch ≡ asked noted (unwrap_or cells default_cells) salt)
 sketched_is cells salt loaded sketch e = by (inventory_model_of loaded) refl e
   where
-    same_sketch : (s : SketchModel) → ◌≡◌ {A = Result SketchModel ToolFault} (Ok s) (Ok sketch) → sketch ≡ s
-    same_sketch s e = cc
-
-    no_sketch : (fault : ToolFault) → ◌≡◌ {A = Result SketchModel ToolFault} (Err fault) (Ok sketch) → ⊥
-    no_sketch fault e = cc
-
     by : (r : Result InventoryModel ToolFault) → inventory_model_of loaded ≡ r → sketch_of_result cells salt r ≡ Ok sketch
         → (noted : InventoryModel) × (inventory_model_of loaded ≡ Ok noted) × (sketch ≡ asked noted (unwrap_or cells default_cells) salt)
-    by (Ok noted) is k = (noted, is, same_sketch (asked noted (unwrap_or cells default_cells) salt) k)
-    by (Err fault) is k = absurd (no_sketch fault k)
+    by (Ok noted) is k = let same : sketch ≡ asked noted (unwrap_or cells default_cells) salt = cc in (noted, is, same)
+    by (Err fault) is k = absurd (cc)
 
 cells_asked : (cells : Option ℕ) → IfSome cells (λ n. are_cells n ≡ true) → are_cells (unwrap_or cells default_cells) ≡ true
 cells_asked cells h = grind (arith, common_steps)
@@ -87,10 +81,7 @@ pub answer_read : (from : Loaded) (sketch : SketchModel) (part : ReplicaModel) �
     → (read : InventoryModel) × IsPartByRead from sketch read part
 answer_read from sketch part answer = by (replica_model_of from) refl answer
   where
-    never : (fault : ToolFault) → ◌≡◌ {A = Result ReplicaModel ToolFault} (Ok part) (Err fault) → ⊥
-    never fault e = cc
-
     by : (r : Result ReplicaModel ToolFault) → replica_model_of from ≡ r → IsAnswerOfResult 2 sketch r (Ok part)
         → (read : InventoryModel) × IsPartByRead from sketch read part
     by (Ok held) is k = (k.theirs, (held, is, k, refl))
-    by (Err fault) is k = absurd (never fault k)
+    by (Err fault) is k = absurd (cc)

@@ -13,10 +13,10 @@ use Rattle.cadf_sketch.specs.Sketches.{SketchModel}
 use Rattle.cadf_tool.specs.declared.input.Loaded.{Loaded}
 use Rattle.cadf_tool.specs.declared.input.Loaded.TheVariants.{Replica}
 use Rattle.cadf_tool.specs.declared.fault.ToolFault.{ToolFault}
-use Rattle.cadf_tool.specs.declared.fault.ToolFault.TheVariants.{NoLog, OtherLog}
+use Rattle.cadf_tool.specs.declared.fault.ToolFault.TheVariants.{OtherLog}
 use Rattle.cadf_tool.specs.declared.join_state.JoinState.{JoinState}
 use Rattle.cadf_tool.specs.declared.join_state.JoinState.TheVariants.{Unnamed, Given, United, Other}
-use Rattle.cadf_tool.specs.Faults.{FaultStage, Reading, Working, Writing, OutOfMemoryStage, fault_stage}
+use Rattle.cadf_tool.specs.Faults.{FaultStage, Working, fault_stage}
 use Rattle.cadf_tool.specs.Join.{first_named, is_other, union_of, unless_other, join_in, join_from, join_of, on_ok}
 use Rattle.cadf_tool.specs.JoinState.{IsNamed, IsJoinState, log_joined}
 use Rattle.cadf_tool.specs.Missing.{under_one_log_at, missing_of, delta_between, if_named, part_of_unions}
@@ -42,20 +42,11 @@ module _ (froms tos : List Loaded) (from : JoinState) (joined : IsJoinState 1 No
   log_is : (h : ReplicaModel) → join_of None froms ≡ Ok h → log_joined from ≡ Some h.log
   log_is h e = by from joined
     where
-      differ : (fault : ToolFault) → ◌≡◌ {A = Result ReplicaModel ToolFault} (Err fault) (Ok h) → ⊥
-      differ fault f = cc
-
-      absent : (k : ReplicaModel) → ◌≡◌ {A = Option Text} None (Some k.log) → ⊥
-      absent k f = cc
-
-      same : (k : ReplicaModel) → ◌≡◌ {A = Result ReplicaModel ToolFault} (Ok k) (Ok h) → k ≡ h
-      same k f = cc
-
       by : (s : JoinState) → IsJoinState 1 None froms s → log_joined s ≡ Some h.log
-      by (Unnamed ds) j = absurd (differ NoLog (sym (ap (λ o. join_in 1 o froms) j.0) ∙ e))
-      by (Given k) j = absurd (absent k j.0)
-      by (United k) j = ap (λ (m : ReplicaModel). Some m.log) (same k (sym j.0 ∙ e))
-      by (Other n) j = absurd (differ (OtherLog n) (sym j ∙ e))
+      by (Unnamed ds) j = let f = sym (ap (λ o. join_in 1 o froms) j.0) ∙ e in absurd (cc)
+      by (Given k) j = let f = j.0 in absurd (cc)
+      by (United k) j = let f = sym j.0 ∙ e in let same : k ≡ h = cc in ap (λ (m : ReplicaModel). Some m.log) same
+      by (Other n) j = let f = sym j ∙ e in absurd (cc)
 
   module _ (h : ReplicaModel) (e : join_of None froms ≡ Ok h) where
     delta_is : IsNamed tos → part_of_unions (froms, tos) ≡ delta_of next tos h
@@ -73,8 +64,7 @@ module _ (froms tos : List Loaded) (from : JoinState) (joined : IsJoinState 1 No
         delta_is (other_named next (log_joined from) tos n t) ∙ ap (λ r. on_ok r (λ m. missing_of (Replica h) (Replica m))) is
 
   pub from_refused : (fault : ToolFault) → IsNamed tos → IsWorked (join_of None froms) (Err fault) → IsWorked (part_of_unions (froms, tos)) (Err fault)
-  from_refused fault named w =
-      subst (λ r. IsWorked r (Err fault)) (sym (named_to named)) (on_fault (λ h. delta_of next tos h) (join_of None froms) fault w)
+  from_refused fault named w = subst (λ r. IsWorked r (Err fault)) (sym (named_to named)) (on_fault (λ h. delta_of next tos h) (join_of None froms) fault w)
 
 -- ---- a delta against an inventory
 
@@ -101,10 +91,8 @@ module _ (froms : List Loaded) (number : ℕ) (sketch : SketchModel) (is : numbe
   by_no_sketch fault w = at (fault_stage fault) w
     where
       at : (s : FaultStage) → IsWorkFaultBy (λ r. join_of None froms ≡ r) fault s → IsWorkFaultBy (IsPartOfUnionBySketch (froms, sketch)) fault s
-      at (Reading n f) h = h
       at Working h = subst (λ r. IsAnswerOfResult (length froms + 1) sketch r (Err fault)) (sym h) refl
-      at Writing h = h
-      at OutOfMemoryStage h = h
+      at _ h = h
 
 -- ---- one input each
 
@@ -145,11 +133,9 @@ part_one f t =
 
     by : (o p : Option Text) → log_named t ≡ p → if_named (option_or p None) (on_ok (under_log o (atoms_loaded f)) (λ h. delta_of 2 (t ∷ []) h))
         ≡ under_one_log_at 2 o p (missing (atoms_loaded f) (atoms_loaded t))
-    by None None is = refl
     by None (Some x) is = refl
-    by (Some log) None is = refl
-    by (Some log) (Some x) is =
-        both_named log x (is_other log (Some x)) is refl
+    by (Some log) (Some x) is = both_named log x (is_other log (Some x)) is refl
+    by _ _ is = refl
 
 pub part_by_one : (f : Loaded) (noted : InventoryModel) → part_by_union (f ∷ [], noted) ≡ part_by (f, noted)
 part_by_one f noted =

@@ -10,7 +10,7 @@ use Rattle.cadf_set.specs.Replica.{ReplicaModel}
 use Rattle.cadf_tool.specs.declared.input.Loaded.{Loaded}
 use Rattle.cadf_tool.specs.declared.input.Loaded.TheVariants.{Replica}
 use Rattle.cadf_tool.specs.declared.fault.ToolFault.{ToolFault}
-use Rattle.cadf_tool.specs.Faults.{FaultStage, Reading, Working, Writing, OutOfMemoryStage, fault_stage}
+use Rattle.cadf_tool.specs.Faults.{FaultStage, Working, fault_stage}
 use Rattle.cadf_tool.specs.Join.{is_other, join_in, join_from, join_of, on_ok, of_union}
 use Rattle.cadf_tool.specs.Run.{SourceTransition, Sources, one, all, input_spec, IsValueOf, IsFirstFaultBy, IsExpected, IsWorkFaultBy, IsWorked}
 use Rattle.cadf_tool.specs.Run.{IsToldBy, IsRun}
@@ -31,10 +31,8 @@ module _ {H M : Type 0} (work : H → Result M ToolFault) where
   on_fault before fault w = at (fault_stage fault) w
     where
       at : (s : FaultStage) → IsWorkFaultBy (λ r. before ≡ r) fault s → IsWorkFaultBy (λ r. on_ok before work ≡ r) fault s
-      at (Reading n f) h = h
       at Working h = ap (λ x. on_ok x work) h
-      at Writing h = h
-      at OutOfMemoryStage h = h
+      at _ h = h
 
 -- ---- a run, by what was read and what was made of it
 
@@ -61,10 +59,8 @@ module _ {A H M W T : Type 0} (sources : Sources A) (read : A → Result H ToolF
   }
     where
       at : (s : FaultStage) → IsFirstFaultBy sources (IsValueOf read) fault s → IsFirstFaultBy sources (IsValueOf whole) fault s
-      at (Reading n f) h = h
       at Working (a, are, e) = (a, are, is a ∙ ap (λ r. on_ok r work) e)
-      at Writing h = h
-      at OutOfMemoryStage h = h
+      at _ h = h
 
 -- ---- the work on one input
 
@@ -105,5 +101,4 @@ module _ {M W T : Type 0} (work : Loaded → Result M ToolFault) (tell : M → T
 
     pub one_refused : (fault : ToolFault) → new ≡ old → IsExpected (one input_spec t) replica_model_of (Err fault)
         → IsRun {T = T} (one input_spec t) work tell sink old new (Err fault)
-    one_refused fault same expected =
-        refused_run (one input_spec t) replica_model_of (λ k. work (Replica k)) work via tell sink old new fault same expected
+    one_refused fault same expected = refused_run (one input_spec t) replica_model_of (λ k. work (Replica k)) work via tell sink old new fault same expected

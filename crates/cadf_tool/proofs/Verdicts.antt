@@ -6,8 +6,7 @@ use Rattle.cadf_seal.specs.ProofFile.{ProofModel}
 use Rattle.cadf_seal.specs.SealFile.{SealModel}
 use Rattle.cadf_tool.specs.declared.input.Loaded.{Loaded}
 use Rattle.cadf_tool.specs.declared.fault.ToolFault.{ToolFault}
-use Rattle.cadf_tool.specs.Run.{SourceTransition, one, both, with_number, input_spec, IsReadAs, IsReadWithin, IsUnread, IsValueOf, IsExpected}
-use Rattle.cadf_tool.specs.Run.{IsWorked}
+use Rattle.cadf_tool.specs.Run.{SourceTransition, one, both, with_number, input_spec, IsReadAs, IsReadWithin, IsUnread, IsValueOf, IsExpected, IsWorked}
 use Rattle.cadf_tool.specs.ModelInput.{seal_spec, proof_spec}
 use Rattle.cadf_tool.specs.Verify.{sources_of, verdict_of}
 use Rattle.cadf_tool.proofs.Runs.{both_worked, second_not_read}
