@@ -33,9 +33,8 @@ ended bytes = record { left = Some []; failures = 0; reads = 0 }
 
 are_loaded : (inputs : List (List ℕ)) (ls : List Loaded) → AreInputs inputs ls → AreLoaded (map unread inputs) (map ended inputs) ls
 are_loaded [] [] h = tt
-are_loaded [] (l ∷ ls) h = absurd h
-are_loaded (b ∷ bs) [] h = absurd h
 are_loaded (b ∷ bs) (l ∷ ls) h = (((b, (sym (append-nil b), refl, h.0)), refl), are_loaded bs ls h.1)
+are_loaded _ _ h = absurd h
 
 -- ---- the engines
 

@@ -28,11 +28,10 @@ module _ {S : Type 0} (source : Source S) where
   pub none_failed : ((s : S) → source.failures s ≡ 0) → (ss rs : List S) → AreReadWithin (map source.reads ss) (map source.reads rs)
       → NoneFailed (map (source_state source) ss) (map (source_state source) rs)
   none_failed never [] [] h = refl
-  none_failed never [] (r ∷ rs) h = absurd h
-  none_failed never (s ∷ ss) [] h = absurd h
   none_failed never (s ∷ ss) (r ∷ rs) h =
       same_lists (source.failures r) (source.failures s) (map (λ (s : SourceState). s.failures) (map (source_state source) rs))
       (map (λ (s : SourceState). s.failures) (map (source_state source) ss)) (never r ∙ sym (never s)) (none_failed never ss rs h.1)
+  none_failed never _ _ h = absurd h
 
 -- ---- there was no memory before a source was read
 

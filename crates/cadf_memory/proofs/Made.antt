@@ -1,7 +1,6 @@
 -- What a run on bytes in memory hands out in a buffer.
 use Rattle.std.proofs.lemmas.Grind.{common_steps}
-use Rattle.std.proofs.Common.{arith}
-use Rattle.std.proofs.Common.{◌≡◌, ℕ, List, [], ◌∷◌, ◌++◌, length, map, Option, Some, Result, Ok, Err, refl, ap, ◌∙◌, subst}
+use Rattle.std.proofs.Common.{arith, ◌≡◌, ℕ, List, [], ◌∷◌, ◌++◌, length, map, Option, Some, Result, Ok, Err, refl, ap, ◌∙◌, subst}
 use Rattle.std.specs.Io.KnownBytes.{Appends}
 use Rattle.cadf_json.specs.declared.stream.Sink.{Ghosts as Sink}
 use Rattle.cadf_json.specs.declared.stream.Source.{Ghosts as Source}
@@ -16,6 +15,7 @@ use Rattle.cadf_memory.specs.Buffers.{buffer_name, buffer_before, buffer_text}
 use Rattle.cadf_memory.specs.Handed.{handed, IsHandedOut}
 use Rattle.cadf_memory.specs.Made.{IsMadeBy, IsMadeOf, IsMadeOfTwoBy, IsMadeOfThree, IsMadeOfAll, IsMadeOfOneAndAll, AreInputs}
 use Rattle.cadf_memory.specs.Refused.{three_sources}
+use Rattle.cadf_tool.proofs.LoadedLists.{head_same, tail_same, no_tail, no_head}
 use Rattle.cadf_memory.proofs.Framed.{frame, name_kept, before_kept, text_added}
 
 -- what was read of bytes that are known is what they are
@@ -25,32 +25,17 @@ read_of reader t bytes given value (g, f) = grind (arith, common_steps)
 
 -- ---- inputs in a list
 
-head_same : {S : Type 0} (x y : S) (xs ys : List S) → x ∷ xs ≡ y ∷ ys → x ≡ y
-head_same x y xs ys e = cc
-
-tail_same : {S : Type 0} (x y : S) (xs ys : List S) → x ∷ xs ≡ y ∷ ys → xs ≡ ys
-tail_same x y xs ys e = cc
-
-no_tail : {S : Type 0} (x : S) (xs : List S) → [] ≡ x ∷ xs → ⊥
-no_tail x xs e = cc
-
-no_head : {S : Type 0} (x : S) (xs : List S) → x ∷ xs ≡ [] → ⊥
-no_head x xs e = cc
-
 abbrev left_of : SourceState → Option (List ℕ)
 left_of s = s.left
 
 are_inputs : (old new : List SourceState) (bytes : List (List ℕ)) (ls : List Loaded) → map left_of old ≡ map Some bytes
     → AreLoaded old new ls → AreInputs bytes ls
 are_inputs [] [] [] [] e h = tt
-are_inputs [] [] [] (l ∷ ls) e h = absurd h
 are_inputs [] [] (b ∷ bs) ls e h = absurd (no_tail (Some b) (map Some bs) e)
-are_inputs [] (n ∷ ns) bytes ls e h = absurd h
-are_inputs (o ∷ os) [] bytes ls e h = absurd h
-are_inputs (o ∷ os) (n ∷ ns) bytes [] e h = absurd h
 are_inputs (o ∷ os) (n ∷ ns) [] (l ∷ ls) e h = absurd (no_head (left_of o) (map left_of os) e)
 are_inputs (o ∷ os) (n ∷ ns) (b ∷ bs) (l ∷ ls) e h =
     grind (arith, common_steps, read_of, head_same, tail_same, (are_inputs os ns bs ls (tail_same (left_of o) (Some b) (map left_of os) (map Some bs) e) h.1))
+are_inputs _ _ _ _ e h = absurd h
 
 -- ---- runs
 
@@ -59,9 +44,6 @@ module _ {M W V : Type 0} (tell : M → Text) (sink : Sink W) (old new : W) (v :
     (was : sink.written old ≡ Some (frame b)) (is : sink.written new ≡ Some (frame c))
     (first last : List ℕ) (told : ℕ) (before : buffer_before b ≡ first) (empty : buffer_text b ≡ [])
     (count : told ≡ length (buffer_text c)) (back : buffer_name c ≡ buffer_name b → last ≡ c.output.now) where
-  never : (fault : ToolFault) → ◌≡◌ {A = Result V ToolFault} (Ok v) (Err fault) → ⊥
-  never fault e = cc
-
   whole : (text : Text) → IsWritten {T = V} sink old new text (Ok v) → frame c ≡ frame b ++ text
   whole text w =
       subst (λ (x : Option (List ℕ)). Appends x (Some (frame c)) text) was
@@ -85,7 +67,7 @@ module _ {M W V : Type 0} (tell : M → Text) (sink : Sink W) (old new : W) (v :
         → IsAnswer tell sink old new expected (Ok v) → IsHandedOut (IsMadeBy encoded work tell) first last told
     of_expected (Ok made) (value, are, e) w =
         out (IsMadeBy encoded work tell) (tell made) w (record { value = value; input = read value are; made = made; worked = e; told = refl })
-    of_expected (Err fault) d w = absurd (never fault w.0)
+    of_expected (Err fault) d w = let e = w.0 in absurd (cc)
 
     by_run : IsRunBy sources work tell sink old new (Ok v) → IsHandedOut (IsMadeBy encoded work tell) first last told
     by_run r = of_expected r.expected r.first.is r.answer

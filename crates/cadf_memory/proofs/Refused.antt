@@ -1,15 +1,13 @@
 -- Why a run on bytes in memory gave up.
 use Rattle.std.proofs.lemmas.Grind.{common_steps}
-use Rattle.std.proofs.Common.{arith}
-use Rattle.std.proofs.Common.{◌≡◌, ℕ, List, map, Some, Result, Ok, Err, ◌⊎◌, inl, inr, sym, ◌∙◌, subst}
+use Rattle.std.proofs.Common.{arith, ◌≡◌, ℕ, List, map, Some, Result, Ok, Err, ◌⊎◌, inl, inr, sym, ◌∙◌, subst}
 use Rattle.cadf_json.specs.declared.stream.Sink.{Ghosts as Sink}
 use Rattle.cadf_json.specs.declared.stream.Source.{Ghosts as Source}
 use Rattle.cadf_join.specs.Contents.{Text}
 use Rattle.cadf_tool.specs.declared.input.Loaded.{Loaded}
 use Rattle.cadf_tool.specs.declared.fault.ToolFault.{ToolFault}
-use Rattle.cadf_tool.specs.declared.fault.ToolFault.TheVariants.{Input, NoLog, OtherLog, TooFewCells, Script, Rehearse, NoValue, Unverified}
 use Rattle.cadf_tool.specs.declared.fault.ToolFault.TheVariants.{ReadFault, WriteFault, Memory}
-use Rattle.cadf_tool.specs.Faults.{FaultStage, Reading, Working, Writing, OutOfMemoryStage, fault_stage}
+use Rattle.cadf_tool.specs.Faults.{FaultStage, Reading, fault_stage}
 use Rattle.cadf_tool.specs.Inputs.{SourceState, source_state}
 use Rattle.cadf_tool.specs.Run.{SourceTransition, InputSpec, Sources, one, two, both, all, all_from, IsValueOf, IsFirstFaultBy, IsFirstFault}
 use Rattle.cadf_tool.specs.Run.{IsExpectedOfBy, IsAnswer, IsRunBy, IsRun}
@@ -23,17 +21,9 @@ module _ {A M : Type 0} (sources : Sources A) (work : A → Result M ToolFault �
 
   -- what comes first is no failed write, and is answered as it is, but for a failed read
   kept : sources.unfailed → (fault : ToolFault) → IsFirst fault → IsFirst (fault_in_memory_of fault)
-  kept unfailed (Input n f) h = h
-  kept unfailed NoLog h = h
-  kept unfailed (OtherLog n) h = h
-  kept unfailed (TooFewCells n cells) h = h
-  kept unfailed (Script line) h = h
-  kept unfailed (Rehearse f) h = h
-  kept unfailed NoValue h = h
-  kept unfailed (Unverified f) h = h
   kept unfailed (ReadFault n) h = unfailed
   kept unfailed WriteFault h = absurd h
-  kept unfailed Memory h = h
+  kept unfailed _ h = h
 
   -- the work was done, and there was no memory for its text
   starved : sources.unfailed → (fault : ToolFault) → (fault ≡ WriteFault) ⊎ (fault ≡ Memory) → IsFirst (fault_in_memory_of fault)
@@ -41,13 +31,11 @@ module _ {A M : Type 0} (sources : Sources A) (work : A → Result M ToolFault �
   starved unfailed fault (inr e) = subst (λ (f : ToolFault). IsFirst (fault_in_memory_of f)) (sym e) unfailed
 
   module _ (V : Type 0) {W : Type 0} (tell : M → Text) (sink : Sink W) (old new : W) (fault : ToolFault) where
-    same_fault : (f : ToolFault) → ◌≡◌ {A = Result V ToolFault} (Err fault) (Err f) → fault ≡ f
-    same_fault f e = cc
-
     first_at : sources.unfailed → (expected : Result M ToolFault) → IsExpectedOfBy sources work expected
         → IsAnswer {T = V} tell sink old new expected (Err fault) → IsFirst (fault_in_memory_of fault)
     first_at unfailed (Ok made) d w = starved unfailed fault w.only
-    first_at unfailed (Err f) d w = subst (λ (f : ToolFault). IsFirst (fault_in_memory_of f)) (sym (same_fault f w.0)) (kept unfailed f d)
+    first_at unfailed (Err f) d w =
+        let e = w.0 in let same : fault ≡ f = cc in subst (λ (f : ToolFault). IsFirst (fault_in_memory_of f)) (sym same) (kept unfailed f d)
 
     -- no read failed
     first_of : (sources.bounded → sources.unfailed) → IsRunBy {T = V} sources work tell sink old new (Err fault) → IsFirst (fault_in_memory_of fault)
@@ -58,17 +46,13 @@ module _ {S M : Type 0} (source : Source S) (ss rs : List S) (work : List Loaded
   seen_at : (fault : ToolFault) (s : FaultStage) → IsFirstFault (all source ss rs) work fault s
       → IsFirstFault (seen_from 1 (map (source_state source) ss) (map (source_state source) rs)) work fault s
   seen_at fault (Reading n f) h = h
-  seen_at fault Working h = h
-  seen_at fault Writing h = h
-  seen_at fault OutOfMemoryStage h = h
+  seen_at fault _ h = h
 
 module _ {A S M : Type 0} (first : Sources A) (source : Source S) (ss rs : List S) (work : A × List Loaded → Result M ToolFault) where
   seen_after : (fault : ToolFault) (s : FaultStage) → IsFirstFault (both first (all_from 2 source ss rs)) work fault s
       → IsFirstFault (both first (seen_from 2 (map (source_state source) ss) (map (source_state source) rs))) work fault s
   seen_after fault (Reading n f) h = h
-  seen_after fault Working h = h
-  seen_after fault Writing h = h
-  seen_after fault OutOfMemoryStage h = h
+  seen_after fault _ h = h
 
 by_first : {S A M : Type 0} (fault result : ToolFault) → result ≡ fault_in_memory_of fault → (IsSeen : S → Type 0) (sources : S → Sources A)
     (work : A → Result M ToolFault → Type 0) (s : S) → IsSeen s → IsFirst (sources s) work (fault_in_memory_of fault) → IsFirstBy IsSeen sources work result

@@ -1,6 +1,5 @@
 use Rattle.std.proofs.lemmas.Grind.{common_steps}
-use Rattle.std.proofs.Common.{arith}
-use Rattle.std.proofs.Common.{Some, ap, refl, rules, map, ◌∙◌}
+use Rattle.std.proofs.Common.{arith, Some, ap, refl, rules, map, ◌∙◌}
 use Rattle.cadf_tool.specs.Join.{join_of}
 use Rattle.cadf_tool.specs.WrittenFile.{written_file}
 use Rattle.cadf_memory.specs.Memory.{slice_left}

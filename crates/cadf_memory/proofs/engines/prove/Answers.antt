@@ -1,6 +1,5 @@
 use Rattle.std.proofs.lemmas.Grind.{common_steps}
-use Rattle.std.proofs.Common.{arith}
-use Rattle.std.proofs.Common.{Some, ap, refl, rules, map, ◌∙◌}
+use Rattle.std.proofs.Common.{arith, Some, ap, refl, rules, map, ◌∙◌}
 use Rattle.cadf_seal.specs.ProofFile.{proof_file}
 use Rattle.cadf_tool.specs.Prove.{proof_of_union}
 use Rattle.cadf_tool.specs.Run.{input_spec}

@@ -1,6 +1,5 @@
 use Rattle.std.proofs.lemmas.Grind.{common_steps}
-use Rattle.std.proofs.Common.{arith}
-use Rattle.std.proofs.Common.{Some, ap, refl, rules, map, ◌∙◌}
+use Rattle.std.proofs.Common.{arith, Some, ap, refl, rules, map, ◌∙◌}
 use Rattle.cadf_tool.specs.Join.{join_of}
 use Rattle.cadf_split.specs.Split.{split_text}
 use Rattle.cadf_memory.specs.Memory.{slice_left}
