@@ -1,4 +1,4 @@
-"""Calls of JSON values, of sources and sinks, of digests and of times, with what they answer."""
+"""Calls of JSON values, of sources and sinks, and of times, with what they answer."""
 from tests.tables.texts import nested
 
 # What is asked of a value.
@@ -32,14 +32,11 @@ CALLS = {
     "read_by_std": ["FromStd::new", "FromStd::into_inner"],
     "write_all": ["write_all", "Sink::write"],
     "write_by_std": ["FromStd::new", "FromStd::into_inner"],
-    # A text that is hashed in pieces of so many bytes.
-    "digest": [],
-    "repeated digest": [],
     "time": ["Stamp::read", "Stamp::instant", "Stamp::offset", "Stamp::text"],
 }
 
-CANONICAL, VALUES, STREAMS, LINES, TIMES = (
-    "Canonical JSON text", "ARCHITECTURE: Values", "ARCHITECTURE: Sources and sinks", "Files of lines", "Times")
+CANONICAL, VALUES, STREAMS, TIMES = (
+    "Canonical JSON text", "ARCHITECTURE: Values", "ARCHITECTURE: Sources and sinks", "Times")
 
 # Texts of JSON, and the canonical texts of what they spell.
 SPELLED = [
@@ -252,28 +249,6 @@ def writes():
         yield piece, "never", 0, ["ok", BYTES]
         yield piece, "refuses", count + 1, ["ok", BYTES]
 
-# Texts and their digests by SHA-256: the examples of FIPS 180-4.
-DIGESTS = [
-    ("", "e3b0c44298fc1c149afbf4c8996fb92427ae41e4649b934ca495991b7852b855"),
-    ("abc", "ba7816bf8f01cfea414140de5dae2223b00361a396177a9cb410ff61f20015ad"),
-    ("abcdbcdecdefdefgefghfghighijhijkijkljklmklmnlmnomnopnopq", "248d6a61d20638b8e5c026930c3e6039a33ce45964ff2167f6ecedd419db06c1"),
-]
-# A million times the letter a, the last of these examples.
-MILLION = "cdc76e5c9914fb9281a1c7e284d73e67f1809a48a497200e046d39ccc7112cd0"
-# The digests of texts of so many bytes, about the ends of blocks of 64 bytes and of groups of eight.
-LETTERS = bytes(65 + place % 53 for place in range(513))
-DIGESTS_OF_LETTERS = [
-    (55, "7f33e584200c39f17c5094cc3aefa3dbcc4265ba2fdaca9f474b659965270ede"),
-    (56, "6b64011ad92c59c0b6bfa22d41cd50ee65dccfd1b47571bb08efedd5216cf1ef"),
-    (63, "6076e14266c7ad58f20454df5cea9431023255f4f1428c2f9fe8baf3085fe27c"),
-    (64, "4d5a1ef9872322d488d174bcf287c2b30b54ee0720b21d052572866015014290"),
-    (119, "233a79f482883018bc84a5a903afbd1484276a8c3329ccfe3f2be9ff2e3f5a67"),
-    (120, "84ce94dbbe3bec416ee1b109b2e6c33f0847c42afa5d8f4eccc79ddf2c38a147"),
-    (511, "b4f7de6b2c4bcb20721a988c2c7ba3b69fa773008248c7a3ecb191cea1e10b8a"),
-    (512, "42afe58727a6c101d4ecabbde8b727168df8c6dadefb7556612f576b4759615e"),
-    (513, "60fa7fa54d17b9c967126ee5dc97320142fb352c0562c48f209f359bd50d419e"),
-]
-
 # Times: their instants in nanoseconds since 1970, their offsets in minutes, and their canonical spellings.
 SPELLED_TIMES = [
     ("2024-03-01T12:00:00Z", 1709294400 * 10**9, 0, "2024-03-01T12:00:00Z"),
@@ -402,17 +377,6 @@ def streams():
     yield "write_by_std", [BYTES, 3], ["err", "WriteFault", BYTES[:3]], STREAMS
 
 
-def digests():
-    """Digests of texts: whole, and in pieces that end before, at and after the end of eight blocks."""
-    for text, digest in DIGESTS:
-        for piece in (1, 64, 512):
-            yield "digest", [text, piece], ["digest", bytes.fromhex(digest)], LINES
-    for length, digest in DIGESTS_OF_LETTERS:
-        for piece in (1, 7, 511, 512, 513):
-            yield "digest", [LETTERS[:length], piece], ["digest", bytes.fromhex(digest)], LINES
-    yield "repeated", ["digest", "", "a", 10**6, ""], ["digest", bytes.fromhex(MILLION)], LINES
-
-
 def times():
     """Times, and texts that are none."""
     for text, instant, offset, spelled in SPELLED_TIMES:
@@ -420,4 +384,4 @@ def times():
     for text, fault in NO_TIMES:
         yield "time", [text], ["err", fault], TIMES
 
-ROWS = [row for rows in (values, looks, objects, spelled, made, passed, streams, digests, times) for row in rows()]
+ROWS = [row for rows in (values, looks, objects, spelled, made, passed, streams, times) for row in rows()]

@@ -1,8 +1,7 @@
-//! Calls of JSON values, of sources and sinks, of digests and of times.
+//! Calls of JSON values, of sources and sinks, and of times.
 #![tactic(auto)]
 
 mod apart;
-mod digests;
 mod looks;
 mod passes;
 mod quotes;
@@ -29,7 +28,6 @@ pub fn answered(alloc: Global, call: &Call) -> Result<String, Memory> {
         "read_by_std" => streams::by_std(alloc, call),
         "write_all" => writers::whole(alloc, call),
         "write_by_std" => writers::by_std(alloc, call),
-        "digest" => digests::in_pieces(alloc, call),
         "time" => times::read(alloc, call.text(1)),
         "repeated" => repeated(alloc, call),
         _ => calls::answer(alloc, "no such call", &[]),
@@ -42,7 +40,6 @@ fn repeated(alloc: Global, call: &Call) -> Result<String, Memory> {
     match call.text(1) {
         "value" => looks::value_kind(alloc, bytes.as_slice()),
         "apart" => apart::read(alloc, bytes.as_slice()),
-        "digest" => digests::whole(alloc, bytes.as_slice()),
         _ => calls::answer(alloc, "no such call", &[]),
     }
 }

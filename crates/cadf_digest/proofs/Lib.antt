@@ -1,4 +1,0 @@
-mod Choices
-mod Holding
-mod Lanes
-mod TermLemmas
