@@ -22,22 +22,14 @@ pub enum Command {
 fn command_named(word: &[u8]) -> Option<Command>
     ensures { MatchOption result ((c : CommandOf) → word.now ≢ word_of c) (λ c. word.now ≡ word_of c) }
 {
-    if word == b"learn".as_slice() {
-        return Some(Command::Learn);
+    match word {
+        b"learn" => Some(Command::Learn),
+        b"ask" => Some(Command::Ask),
+        b"answer" => Some(Command::Answer),
+        b"send" => Some(Command::Send),
+        b"deliver" => Some(Command::Deliver),
+        _ => None,
     }
-    if word == b"ask".as_slice() {
-        return Some(Command::Ask);
-    }
-    if word == b"answer".as_slice() {
-        return Some(Command::Answer);
-    }
-    if word == b"send".as_slice() {
-        return Some(Command::Send);
-    }
-    if word == b"deliver".as_slice() {
-        return Some(Command::Deliver);
-    }
-    None
 }
 
 /// Reads the document that the text encodes. `None` if it encodes none.
@@ -70,29 +62,21 @@ fn learn(alloc: Global, words: &[u8]) -> Result<Option<Turn>, Memory>
 fn ask(words: &[u8]) -> Option<Turn>
     ensures { HasArguments CommandOf.Ask words.now result }
 {
-    let Some(site) = number(words) else {
-        return None;
-    };
-    Some(Turn::Ask(site))
+    Some(Turn::Ask(number(words)?))
 }
 
 /// Reads the turn `send`: a site. `None` if the words are no such turn.
 fn send(words: &[u8]) -> Option<Turn>
     ensures { HasArguments CommandOf.Send words.now result }
 {
-    let Some(site) = number(words) else {
-        return None;
-    };
-    Some(Turn::Send(site))
+    Some(Turn::Send(number(words)?))
 }
 
 /// Reads the turn `answer`: a site, then a message. `None` if the words are no such turn.
 fn answer(words: &[u8]) -> Option<Turn>
     ensures { HasArguments CommandOf.Answer words.now result }
 {
-    let Some((site, message)) = two_numbers(words) else {
-        return None;
-    };
+    let (site, message) = two_numbers(words)?;
     Some(Turn::Answer(site, message))
 }
 
@@ -100,9 +84,7 @@ fn answer(words: &[u8]) -> Option<Turn>
 fn deliver(words: &[u8]) -> Option<Turn>
     ensures { HasArguments CommandOf.Deliver words.now result }
 {
-    let Some((message, site)) = two_numbers(words) else {
-        return None;
-    };
+    let (message, site) = two_numbers(words)?;
     Some(Turn::Deliver(message, site))
 }
 

@@ -72,29 +72,17 @@ pub(crate) fn number(word: &[u8]) -> Option<usize>
 pub(crate) fn two_numbers(words: &[u8]) -> Option<(usize, usize)>
     ensures { MatchOption result ((m n : ℕ) → ¬ AreTwo words.now m n) (λ p. AreTwo words.now p.0 p.1) }
 {
-    let Some(cut) = cut_at_blank(words) else {
-        return None;
-    };
-    let Some(first) = number(cut.word) else {
-        return None;
-    };
-    let Some(second) = number(cut.rest) else {
-        return None;
-    };
-    Some((first, second))
+    let cut = cut_at_blank(words)?;
+    Some((number(cut.word)?, number(cut.rest)?))
 }
 
 /// Reads the number before the first space, and returns it with the text after the space. `None` if the words are
 /// anything else.
+#[tactic(auto, using(crate::proofs::Cuts::no_site_uncut, crate::proofs::Cuts::no_site_number))]
 pub(crate) fn site_and_text(words: &[u8]) -> Option<(usize, &[u8])>
     ensures { MatchOption result ((n : ℕ) (text : List ℕ) → ¬ IsSiteAndText words.now n text)
         (λ p. IsSiteAndText words.now p.0 p.1.now) }
 {
-    let Some(cut) = cut_at_blank(words) else {
-        return None;
-    };
-    let Some(site) = number(cut.word) else {
-        return None;
-    };
-    Some((site, cut.rest))
+    let cut = cut_at_blank(words)?;
+    Some((number(cut.word)?, cut.rest))
 }
