@@ -30,15 +30,9 @@ pub enum Told {
 fn leaf_in_words(words: &[u8]) -> Option<Leaf>
     ensures { result ≡ leaf_in_words words.now }
 {
-    let Some(at) = memchr(b' ', words) else {
-        return None;
-    };
-    let Some(place) = number_in(&words[..at]) else {
-        return None;
-    };
-    let Some(digest) = digest_of(&words[at + 1..]) else {
-        return None;
-    };
+    let at = memchr(b' ', words)?;
+    let place = number_in(&words[..at])?;
+    let digest = digest_of(&words[at + 1..])?;
     Some(Leaf { place, digest })
 }
 

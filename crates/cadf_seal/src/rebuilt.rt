@@ -25,10 +25,8 @@ pub(crate) fn root_of_proof(proof: &Proof) -> Option<[u8; 32]>
     if proof.count() == 0 {
         return alone(Sha256::digest(b""), hashes);
     }
-    match rebuilt(64, 0, proof.count(), proof.shown(), hashes) {
-        Some(all) => alone(all.hash, all.rest),
-        None => None,
-    }
+    let all = rebuilt(64, 0, proof.count(), proof.shown(), hashes)?;
+    alone(all.hash, all.rest)
 }
 
 /// Returns the hash if no other is left, else `None`.
@@ -66,12 +64,8 @@ fn rebuilt<'a>(
     }
     let middle = place + half;
     let (before, others) = shown_around(shown, middle);
-    let Some(left) = rebuilt(height - 1, place, half, before, hashes) else {
-        return None;
-    };
-    let Some(right) = rebuilt(height - 1, middle, count - half, others, left.rest) else {
-        return None;
-    };
+    let left = rebuilt(height - 1, place, half, before, hashes)?;
+    let right = rebuilt(height - 1, middle, count - half, others, left.rest)?;
     let hash = hash_of_node(&left.hash, &right.hash);
     Some(Subtree {
         hash,

@@ -17,44 +17,24 @@ use std::alloc::Global;
 fn layout_in(cells: &[u8], salt: &[u8]) -> Option<Layout>
     ensures { result ≡ laid_out (number_in cells.now) (number_in salt.now) }
 {
-    let Some(cells) = number_in(cells) else {
-        return None;
-    };
-    let Some(salt) = number_in(salt) else {
-        return None;
-    };
-    layout_of(cells, salt)
+    layout_of(number_in(cells)?, number_in(salt)?)
 }
 
 /// Returns the layout of that many cells with that salt. `None` if there is none.
 fn layout_of(cells: u64, salt: u64) -> Option<Layout>
     ensures { result ≡ layout_of cells salt }
 {
-    let Some(cells) = Cells::of(cells) else {
-        return None;
-    };
-    let Some(salt) = Salt::of(salt) else {
-        return None;
-    };
-    Some(Layout::of(cells, salt))
+    Some(Layout::of(Cells::of(cells)?, Salt::of(salt)?))
 }
 
 /// Decodes the number of cells, the salt and the digest. `None` for any other words.
 fn head_in_words(words: &[u8]) -> Option<Head>
     ensures { result ≡ head_in_words words.now }
 {
-    let Some(cells) = cut_at_blank(words) else {
-        return None;
-    };
-    let Some(salt) = cut_at_blank(cells.rest) else {
-        return None;
-    };
-    let Some(layout) = layout_in(cells.word, salt.word) else {
-        return None;
-    };
-    let Some(digest) = digest_of(salt.rest) else {
-        return None;
-    };
+    let cells = cut_at_blank(words)?;
+    let salt = cut_at_blank(cells.rest)?;
+    let layout = layout_in(cells.word, salt.word)?;
+    let digest = digest_of(salt.rest)?;
     Some(Head { layout, digest })
 }
 

@@ -19,9 +19,7 @@ pub(crate) struct Cut<'a> {
 pub(crate) fn cut_at_blank(text: &[u8]) -> Option<Cut<'_>>
     ensures { IsCutAt text.now result }
 {
-    let Some(at) = memchr(b' ', text) else {
-        return None;
-    };
+    let at = memchr(b' ', text)?;
     Some(Cut {
         word: &text[..at],
         rest: &text[at + 1..],

@@ -34,9 +34,7 @@ fn put_cell(cells: &mut Vec<Cell>, head: &Head, line: &[u8]) -> Result<(), LineF
     if cells.len() >= head.layout.cells() {
         return Err(LineFault::Here(Cause::Shape));
     }
-    let Some(cell) = cell_in(line) else {
-        return Err(LineFault::Here(Cause::Shape));
-    };
+    let cell = cell_in(line).ok_or(LineFault::Here(Cause::Shape))?;
     cells.push(cell)?;
     Ok(())
 }

@@ -12,15 +12,15 @@ returns-then-count-eq0 c = grind (arith, common_steps, root_without)
 pub rebuilt-requires-clause-rising : goal.rebuilt-requires-clause-rising
 rebuilt-requires-clause-rising c = subst PlacesRise (sym c.shown.ensures) (places_rise c.args.proof.now.shown c.type_invariant.ensures.parts.rising)
 
-pub returns-in-Some : goal.returns-in-Some
-returns-in-Some c =
-    c.alone-in-Some.ensures
-    ∙ ap root_from c.in-Some.ensures
+pub returns : goal.returns
+returns c =
+    c.alone-2.ensures
+    ∙ ap root_from c.in_ok-all.ensures
     ∙ (λ i. root_from (rebuilt 64 0 (c.count-2.ensures i) (c.shown.ensures i) (c.hidden-hashes.ensures i)))
     ∙ sym (root_with c.args.proof.now (omega (arith, c.count.ensures, c.if-count-eq0.false)) (omega (arith, c.type_invariant.ensures.parts.count)))
 
-pub returns-in-None : goal.returns-in-None
-returns-in-None c =
-    ap root_from c.in-None.ensures
+pub returns-in_err-all : goal.returns-in_err-all
+returns-in_err-all c =
+    c.from_residual.ensures ∙ ap root_from c.in_err-all.ensures
     ∙ (λ i. root_from (rebuilt 64 0 (c.count-2.ensures i) (c.shown.ensures i) (c.hidden-hashes.ensures i)))
     ∙ sym (root_with c.args.proof.now (omega (arith, c.count.ensures, c.if-count-eq0.false)) (omega (arith, c.type_invariant.ensures.parts.count)))
