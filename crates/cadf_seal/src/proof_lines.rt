@@ -40,22 +40,14 @@ fn leaf_in_words(words: &[u8]) -> Option<Leaf>
 fn shown_in(line: &[u8]) -> Option<Leaf>
     ensures { result ≡ shown_in line.now }
 {
-    if line.starts_with(b"P ") {
-        leaf_in_words(&line[2..])
-    } else {
-        None
-    }
+    leaf_in_words(line.strip_prefix(b"P ")?)
 }
 
 /// Decodes the line of a hash. `None` if it is no such line.
 fn hidden_in(line: &[u8]) -> Option<[u8; 32]>
     ensures { result ≡ hidden_in line.now }
 {
-    if line.starts_with(b"H ") {
-        digest_of(&line[2..])
-    } else {
-        None
-    }
+    digest_of(line.strip_prefix(b"H ")?)
 }
 
 /// Appends the leaf or the hash of a line, if it may come next.

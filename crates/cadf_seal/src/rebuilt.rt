@@ -33,7 +33,7 @@ pub(crate) fn root_of_proof(proof: &Proof) -> Option<[u8; 32]>
 fn alone(hash: [u8; 32], rest: &[[u8; 32]]) -> Option<[u8; 32]>
     ensures { result ≡ alone hash rest.now }
 {
-    if rest.is_empty() { Some(hash) } else { None }
+    rest.is_empty().then_some(hash)
 }
 
 /// Computes the hash of the `count` leaves from `place` on, in a tree that has room for 2 to the power of `height`, by

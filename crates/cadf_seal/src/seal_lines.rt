@@ -27,22 +27,14 @@ pub enum Told {
 pub(crate) fn count_in(line: &[u8]) -> Option<u64>
     ensures { result ≡ sealed_count line.now }
 {
-    if line.starts_with(b"N ") {
-        number_in(&line[2..])
-    } else {
-        None
-    }
+    number_in(line.strip_prefix(b"N ")?)
 }
 
 /// Decodes the line of the root. `None` if it is no such line.
 fn root_in(line: &[u8]) -> Option<[u8; 32]>
     ensures { result ≡ root_in line.now }
 {
-    if line.starts_with(b"R ") {
-        digest_of(&line[2..])
-    } else {
-        None
-    }
+    digest_of(line.strip_prefix(b"R ")?)
 }
 
 /// Decodes the next line after the log line.

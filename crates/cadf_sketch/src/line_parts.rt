@@ -42,11 +42,7 @@ fn head_in_words(words: &[u8]) -> Option<Head>
 pub(crate) fn head_in(line: &[u8]) -> Option<Head>
     ensures { result ≡ head_in line.now }
 {
-    if line.starts_with(b"S ") {
-        head_in_words(&line[2..])
-    } else {
-        None
-    }
+    head_in_words(line.strip_prefix(b"S ")?)
 }
 
 /// Makes the counts from 65 numbers: the number of digests, then one for each bit.
@@ -110,9 +106,5 @@ pub(crate) fn cell_in(line: &[u8]) -> Option<Cell>
     if hex::encode_to_slice(&bytes, &mut text).is_err() {
         return None;
     }
-    if line == text.as_slice() {
-        Some(cell_of_bytes(&bytes))
-    } else {
-        None
-    }
+    (line == text.as_slice()).then_some(cell_of_bytes(&bytes))
 }
