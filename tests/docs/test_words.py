@@ -6,7 +6,7 @@ import pytest
 from tests import text_of
 from tests.command.commands import COMMANDS
 from tests.library.declarations import declared
-from tests.tables.completions import COMMANDS as NAMES, PARTS, WORDS, operands, options
+from tests.tables.completions import COMMANDS as NAMES, TABLE, WORDS, operands, options
 
 # How each kind of word is written in a synopsis.
 SHOWN = {"File": "{0}", "Files": "{0}...", "Text": "{0}", "Option": "[--{0} {1}]", "Unit": "--{0} UNIT", "More": "[--{0} FILE]...", "Flag": "[--{0}]"}
@@ -37,7 +37,8 @@ def synopses():
 
 def test_table():
     """All of the table was read."""
-    assert len(NAMES) == PARTS[0].count('"') // 4 and sum(map(len, WORDS.values())) == PARTS[1].count("Kind::")
+    assert len(NAMES) == TABLE.count("&[") - 1
+    assert len({word for words in WORDS.values() for word in words}) == TABLE.count("Kind::")
 
 
 def test_manual():

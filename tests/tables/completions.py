@@ -5,13 +5,12 @@ from typing import NamedTuple
 
 from tests import TOP, text_of
 
-COMMAND = re.compile(r'\(\s*"([a-z-]+)",\s*"([^"]*)",?\s*\)')
-WORD = re.compile(r'\(\s*"([a-z-]+)",\s*"([A-Za-z-]+)",\s*Kind::(\w+)(?:\("(\w+)"\))?,\s*"([^"]*)",?\s*\)')
+COMMAND = re.compile(r'\(\s*"([a-z-]+)",\s*"([^"]*)",\s*&\[(.*?)\],?\s*\)', re.DOTALL)
+WORD = r'\(\s*"([A-Za-z-]+)",\s*Kind::(\w+)(?:\("(\w+)"\))?,\s*"([^"]*)",?\s*\)'
 OPTIONS = ("Option", "Unit", "More", "Flag")
 
 
 class Word(NamedTuple):
-    owner: str
     name: str
     kind: str
     value: str  # how the help names what an option takes
@@ -22,11 +21,14 @@ class Word(NamedTuple):
         return UNITS if self.kind == "Unit" else " ".join(re.findall(r"\b[A-Z]\b", self.help)) if self.name == "LETTER" else ""
 
 
-# The text of each part of the table: the commands, their words, and the units.
-PARTS = [part.split("];\n")[0] for part in re.split(r"\nconst [A-Z]+: ", text_of("crates", "cadf_words", "src", "table.rt"))[1:]]
-COMMANDS = dict(COMMAND.findall(PARTS[0]))
-WORDS = {name: [Word(*word) for word in WORD.findall(PARTS[1]) if word[0] == name] for name in COMMANDS}
-UNITS = " ".join(re.findall(r'"(\w+)"', PARTS[2]))
+# The text of the table, and the words in it that several commands take, by the names of their constants.
+TABLE, REST = text_of("crates", "cadf_words", "src", "table.rt").split("/// The units of time.\n")
+SHARED = {name: Word(*word) for name, *word in re.findall(r"const ([A-Z_]+): Word = " + WORD, TABLE)}
+FOUND = COMMAND.findall(TABLE)
+COMMANDS = {name: about for name, about, _ in FOUND}
+WORDS = {name: [SHARED[shared] if shared else Word(*word) for *word, shared in re.findall(WORD + r"|\b([A-Z_]+)\b", words)]
+         for name, _, words in FOUND}
+UNITS = " ".join(re.findall(r'"(\w+)"', REST.split("];\n")[0]))
 
 BASH = """\
 # Completion of cadf's words for bash. `python3 -m tests.tables.make` makes it of the words of cadf itself.

@@ -22,234 +22,193 @@ enum Kind {
     Flag,
 }
 
-/// Each command, and its help.
-const COMMANDS: [(&str, &str); 14] = [
-    ("join", "Merges the inputs into one replica file"),
+/// A word of a command: its name, how it is given, and its help.
+type Word = (&'static str, Kind, &'static str);
+
+const INPUTS: Word = ("FILE", Kind::Files, "Replica files, logs or events");
+
+const FROM: Word = ("FROM", Kind::File, "The sender's file");
+
+const MORE_FROM: Word = ("from", Kind::More, "A further file of the sender's");
+
+const LOG: Word = (
+    "log",
+    Kind::Option("ID"),
+    "The log's identifier, else that of the first input that names one",
+);
+
+const FACTS: Word = (
+    "FACTS",
+    Kind::File,
+    "What is asked for: a log, an event or a replica file",
+);
+
+/// Each command: its name, its help, and its words in their order.
+const COMMANDS: [(&str, &str, &[Word]); 14] = [
+    (
+        "join",
+        "Merges the inputs into one replica file",
+        &[LOG, INPUTS],
+    ),
     (
         "split",
         "Merges the inputs, and writes a replica file for each month, day or hour",
+        &[
+            ("by", Kind::Unit, "How long a part is, in UTC"),
+            LOG,
+            INPUTS,
+        ],
     ),
     (
         "missing",
         "Writes the facts of FROM that TO lacks, as a replica file",
+        &[
+            FROM,
+            ("TO", Kind::File, "The receiver's file, as it is or was"),
+            MORE_FROM,
+            ("to", Kind::More, "A further file of the receiver's"),
+        ],
     ),
     (
         "missing-by",
         "Writes the facts of FROM that INVENTORY doesn't list, as a replica file",
+        &[
+            FROM,
+            (
+                "INVENTORY",
+                Kind::File,
+                "The receiver's inventory, as it is or was",
+            ),
+            MORE_FROM,
+        ],
     ),
-    ("inventory", "Lists the digests of all facts in the files"),
+    (
+        "inventory",
+        "Lists the digests of all facts in the files",
+        &[INPUTS],
+    ),
     (
         "sketch",
         "Writes a short sketch of the digests of all facts in the files",
+        &[
+            (
+                "cells",
+                Kind::Option("N"),
+                "How many cells, a multiple of 3 from 3 to 12582912, else 198",
+            ),
+            (
+                "salt",
+                Kind::Option("A"),
+                "An odd number below 2^64, else one that follows from the digests",
+            ),
+            INPUTS,
+        ],
     ),
     (
         "missing-by-sketch",
         "Writes the facts of FROM that the site of SKETCH lacks, as a replica file",
+        &[
+            FROM,
+            (
+                "SKETCH",
+                Kind::File,
+                "The receiver's sketch, as it is or was",
+            ),
+            MORE_FROM,
+        ],
     ),
     (
         "seal",
         "Writes the number of facts in the files, and one hash of all of them",
+        &[INPUTS],
     ),
     (
         "prove",
         "Writes a proof of which FACTS are in the files, and which are not",
+        &[FACTS, INPUTS],
     ),
     (
         "verify",
         "Checks FACTS against SEAL by PROOF, without the files",
+        &[
+            (
+                "absent",
+                Kind::Flag,
+                "Check that none of the facts is in the sealed files",
+            ),
+            ("SEAL", Kind::File, "The seal of the files"),
+            FACTS,
+            (
+                "PROOF",
+                Kind::File,
+                "The proof that was made for these facts",
+            ),
+        ],
     ),
-    ("rule", "Merges the inputs, and adds a ruling on a conflict"),
+    (
+        "rule",
+        "Merges the inputs, and adds a ruling on a conflict",
+        &[
+            (
+                "LETTER",
+                Kind::Text,
+                "The key's kind: E event, G geolocation, M metric, P property, R resource",
+            ),
+            (
+                "KEY",
+                Kind::Text,
+                "The identifier or the name that has several values",
+            ),
+            (
+                "PLACE",
+                Kind::Text,
+                "Which of them is to be shown, from 1 in their order",
+            ),
+            INPUTS,
+        ],
+    ),
     (
         "rehearse",
         "Simulates a schedule, and counts the facts that each site ends with",
-    ),
-    ("show", "Prints the log in the files as JSON"),
-    (
-        "check",
-        "Reads the files whole, and counts their facts and their conflicts",
-    ),
-];
-
-/// Each word of a command, in their order: the command, the word's name, how it is given, and its help.
-const WORDS: [(&str, &str, Kind, &str); 36] = [
-    (
-        "join",
-        "log",
-        Kind::Option("ID"),
-        "The log's identifier, else that of the first input that names one",
-    ),
-    ("join", "FILE", Kind::Files, "Replica files, logs or events"),
-    ("split", "by", Kind::Unit, "How long a part is, in UTC"),
-    (
-        "split",
-        "log",
-        Kind::Option("ID"),
-        "The log's identifier, else that of the first input that names one",
-    ),
-    (
-        "split",
-        "FILE",
-        Kind::Files,
-        "Replica files, logs or events",
-    ),
-    ("missing", "FROM", Kind::File, "The sender's file"),
-    (
-        "missing",
-        "TO",
-        Kind::File,
-        "The receiver's file, as it is or was",
-    ),
-    (
-        "missing",
-        "from",
-        Kind::More,
-        "A further file of the sender's",
-    ),
-    (
-        "missing",
-        "to",
-        Kind::More,
-        "A further file of the receiver's",
-    ),
-    ("missing-by", "FROM", Kind::File, "The sender's file"),
-    (
-        "missing-by",
-        "INVENTORY",
-        Kind::File,
-        "The receiver's inventory, as it is or was",
-    ),
-    (
-        "missing-by",
-        "from",
-        Kind::More,
-        "A further file of the sender's",
-    ),
-    (
-        "inventory",
-        "FILE",
-        Kind::Files,
-        "Replica files, logs or events",
-    ),
-    (
-        "sketch",
-        "cells",
-        Kind::Option("N"),
-        "How many cells, a multiple of 3 from 3 to 12582912, else 198",
-    ),
-    (
-        "sketch",
-        "salt",
-        Kind::Option("A"),
-        "An odd number below 2^64, else one that follows from the digests",
-    ),
-    (
-        "sketch",
-        "FILE",
-        Kind::Files,
-        "Replica files, logs or events",
-    ),
-    ("missing-by-sketch", "FROM", Kind::File, "The sender's file"),
-    (
-        "missing-by-sketch",
-        "SKETCH",
-        Kind::File,
-        "The receiver's sketch, as it is or was",
-    ),
-    (
-        "missing-by-sketch",
-        "from",
-        Kind::More,
-        "A further file of the sender's",
-    ),
-    ("seal", "FILE", Kind::Files, "Replica files, logs or events"),
-    (
-        "prove",
-        "FACTS",
-        Kind::File,
-        "What is asked for: a log, an event or a replica file",
-    ),
-    (
-        "prove",
-        "FILE",
-        Kind::Files,
-        "Replica files, logs or events",
-    ),
-    (
-        "verify",
-        "absent",
-        Kind::Flag,
-        "Check that none of the facts is in the sealed files",
-    ),
-    ("verify", "SEAL", Kind::File, "The seal of the files"),
-    (
-        "verify",
-        "FACTS",
-        Kind::File,
-        "What is asked for: a log, an event or a replica file",
-    ),
-    (
-        "verify",
-        "PROOF",
-        Kind::File,
-        "The proof that was made for these facts",
-    ),
-    (
-        "rule",
-        "LETTER",
-        Kind::Text,
-        "The key's kind: E event, G geolocation, M metric, P property, R resource",
-    ),
-    (
-        "rule",
-        "KEY",
-        Kind::Text,
-        "The identifier or the name that has several values",
-    ),
-    (
-        "rule",
-        "PLACE",
-        Kind::Text,
-        "Which of them is to be shown, from 1 in their order",
-    ),
-    ("rule", "FILE", Kind::Files, "Replica files, logs or events"),
-    (
-        "rehearse",
-        "LOG",
-        Kind::Text,
-        "The identifier of the log that the sites keep",
-    ),
-    (
-        "rehearse",
-        "SITES",
-        Kind::Text,
-        "How many sites there are, 1 to 64",
-    ),
-    (
-        "rehearse",
-        "SCRIPT",
-        Kind::File,
-        "What the sites learn and send each other, a turn a line",
+        &[
+            (
+                "LOG",
+                Kind::Text,
+                "The identifier of the log that the sites keep",
+            ),
+            ("SITES", Kind::Text, "How many sites there are, 1 to 64"),
+            (
+                "SCRIPT",
+                Kind::File,
+                "What the sites learn and send each other, a turn a line",
+            ),
+        ],
     ),
     (
         "show",
-        "conflicts",
-        Kind::Flag,
-        "Print the keys with several values instead",
+        "Prints the log in the files as JSON",
+        &[
+            (
+                "conflicts",
+                Kind::Flag,
+                "Print the keys with several values instead",
+            ),
+            INPUTS,
+        ],
     ),
-    ("show", "FILE", Kind::Files, "Replica files, logs or events"),
     (
         "check",
-        "FILE",
-        Kind::Files,
-        "Replica files, logs or events",
+        "Reads the files whole, and counts their facts and their conflicts",
+        &[INPUTS],
     ),
 ];
 
 /// The units of time.
 const UNITS: [&str; 3] = ["month", "day", "hour"];
 
-/// Makes the argument of that name.
-fn argument<'a>(alloc: Global, name: &'a str, kind: Kind, help: &'a str) -> Arg<'a> {
+/// Makes the argument of a word.
+fn argument<'a>(alloc: Global, word: Word) -> Arg<'a> {
+    let (name, kind, help) = word;
     let argument = Arg::new(alloc, name).help(help);
     match kind {
         Kind::File => argument.required(true),
@@ -273,12 +232,15 @@ fn argument<'a>(alloc: Global, name: &'a str, kind: Kind, help: &'a str) -> Arg<
 }
 
 /// Makes the command of that name, with its words.
-fn subcommand<'a>(alloc: Global, name: &'a str, about: &'a str) -> Result<Command<'a>, Error> {
+fn subcommand<'a>(
+    alloc: Global,
+    name: &'a str,
+    about: &'a str,
+    words: &[Word],
+) -> Result<Command<'a>, Error> {
     let mut command = Command::new(alloc, name).about(about);
-    for (owner, word, kind, help) in WORDS {
-        if owner == name {
-            command = command.arg(argument(alloc, word, kind, help))?;
-        }
+    for word in words {
+        command = command.arg(argument(alloc, *word))?;
     }
     Ok(command)
 }
@@ -289,8 +251,8 @@ pub(crate) fn command<'a>(alloc: Global) -> Result<Command<'a>, Error> {
         .version("0.1.0")
         .about("Keeps replicas of a CADF log and makes them converge")
         .subcommand_required(true);
-    for (name, about) in COMMANDS {
-        command = command.subcommand(subcommand(alloc, name, about)?)?;
+    for (name, about, words) in COMMANDS {
+        command = command.subcommand(subcommand(alloc, name, about, words)?)?;
     }
     Ok(command)
 }
