@@ -7,10 +7,6 @@ from tests.reference.sketch_files import (
     BELOW, CHECK_BITS, MOST_CELLS, Layout, Sketch, check_of, counts_of, file_digest, sketch_file, sketch_of, sketch_with, turn,
 )
 
-SALTS = [b"0", b"2", b"01", b"-1", b"+1", b"", b"18446744073709551614", b"18446744073709551616", b"18446744073709551617",
-             b"36893488147419103233", b"x", b"0x1"]
-ODD_COUNTS = [b"00", b"01", b"-1", b"", b"x", b"18446744073709551616", b"99999999999999999999", b"18446744073709551615",
-              b"4294967296", b"0"]
 SALTS = [1, 3, 2 ** 63 + 1, 2 ** 64 - 1]
 
 
