@@ -29,6 +29,7 @@ sys.dont_write_bytecode = True  # nothing is written beside the sources; so this
 TOP = os.path.dirname(os.path.dirname(os.path.abspath(__file__)))
 sys.path.insert(0, TOP)
 
+from build import record
 from build.proving import JOB_MEMORY, PROOF_MEMORY, free_memory
 from tests import text_of
 
@@ -267,8 +268,7 @@ class Gate:
 
     def table(self, begun, may_skip):
         """Prints the whole as a table, with the kit. Returns the exit status."""
-        kit = subprocess.run(["rt", "version"], capture_output=True, text=True).stdout.strip()
-        print("\n%s, %d processors" % (kit, os.cpu_count()))
+        print("\n%s, %d processors" % (record.answer(["rt", "version"], TOP) or "without the kit", os.cpu_count()))
         for step in self.ended:
             print(step.line())
         used = sum(step.processors for step in self.ended)

@@ -91,6 +91,15 @@ def test_stages(commands, passed, failed):
     assert [step.name for step in gate.ended if step.status] == failed
 
 
+def test_table_without_the_kit(monkeypatch, tmp_path, capsys):
+    """Steps that need no kit are told where `rt` isn't on PATH."""
+    gate = STEPS["Gate"]()
+    gate.run_all({"first": "/bin/true"}, False)
+    monkeypatch.setenv("PATH", str(tmp_path))
+    assert gate.table(0, True) == 0
+    assert capsys.readouterr().out.endswith("\n1 passed, 0 failed, 0 skipped\n")
+
+
 LOADED = """
 import runpy, signal, sys
 place = sys.argv[1]
