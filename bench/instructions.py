@@ -6,8 +6,9 @@
 BINARY is crates/cadf/out/cadf unless given. The inputs are those of bench/show.py (a log document of 10 MB) and of
 bench/files.py (two replica files of so many atoms each that share half of them; `inventory` and `seal` read the first).
 A line has the command, its input, and millions of instructions of each BINARY; then the ratios of the first to each
-other one. With --profile it has, of the first BINARY, the crates (or libc) that take most, each with its share in percent. Counts depend neither on other load nor on the processor's speed. They need valgrind; the script says so if
-it is not there.
+other one. With --profile it has, of the first BINARY, the crates (or libc) that take most, each with its share in
+percent. Counts depend neither on other load nor on the processor's speed. They need valgrind; the script says so if it
+is not there.
 """
 import collections
 import os

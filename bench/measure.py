@@ -238,11 +238,10 @@ def atoms_of(number):
     return [carrier, carrier + ("C", step), carrier + ("T", "correlation_id?value=" + key[20:52])]
 
 
-def replica_file(path, log, events, version=1):
-    """Writes the replica file of these events' atoms in that format, and returns how many atoms it has."""
+def replica_file(path, log, events, version):
+    """Writes the replica file of these events' atoms in that format."""
     atoms = [atom for event in events for atom in atoms_of(event)]
     written_apart(lambda: write_replica(path, log, atoms, version))
-    return len(atoms)
 
 
 def two_sites(folder, atoms):
