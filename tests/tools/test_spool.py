@@ -507,6 +507,19 @@ def test_full_disk(spools, limit):
     spools.leaves(folder, spools.joined(document("e1", "e2")), **names_in("taken", ["a.jsonl", "b.json"]), **names_in("set-aside", ["c.json", "c.json.reason"]))
 
 
+@pytest.mark.needs("unshare")
+def test_full_spool(spools):
+    """The disk of the spool has no room for a document: the line names the document by a path that leads to that disk."""
+    folder = spools.site()
+    script = "mount -t tmpfs -o size=64k,mode=700 none spool && : >spool/a.jsonl && head -c 65536 /dev/zero >spool/.full && exec \"$@\""
+    done = ended("unshare", ["-rm", "sh", "-c", script, "-", sys.executable, spools.tool, "--log", "g", "s.cadf", "spool"],
+                 cwd=folder, env={**os.environ, "CADF": spools.cadf})
+    if b"unshare:" in done.error or b"mount:" in done.error:
+        pytest.skip("no file system of one's own can be mounted")
+    waits = "a.jsonl: waits: cadf-from-openstack: spool/taking/.work/0-0001.json: write fault: No space left on device"
+    assert (done.status, done.error.decode().splitlines()) == (3, ["cadf-spool: " + waits, "cadf-spool: taken 0, set aside 0, waiting 1"])
+
+
 def test_stopped(spools):
     """Asked to end while `cadf` joins, it ends what it has started, and leaves nothing of it; the next run takes the files."""
     folder = spools.site(**{"a.json": document("e1")})
