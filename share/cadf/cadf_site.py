@@ -199,7 +199,7 @@ class Folder:
         except FileNotFoundError:
             raise
         except OSError as fault:
-            said = {errno.ELOOP: "a symbolic link, which no file of a site is", errno.EINVAL: NO_FILE, errno.EISDIR: NO_FILE}.get(fault.errno, fault.strerror)
+            said = NO_FILE if fault.errno in (errno.ELOOP, errno.EINVAL, errno.EISDIR) else fault.strerror
             raise Fault("%s: %s" % (self.shown(name), said)) from None
 
     def input(self, name):

@@ -881,7 +881,7 @@ def replaced(path):
 
 
 DAMAGES = {"changed": (changed, DAMAGED), "gone": (os.unlink, "not there: the site is damaged: "), "another": (replaced, "it holds something else than its name says: "),
-           "a link": (linked, "a symbolic link, ")}
+           "a link": (linked, "not a regular file: the site is damaged: ")}
 
 
 @pytest.mark.parametrize("way, damaged, kind", [

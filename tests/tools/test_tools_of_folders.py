@@ -135,7 +135,7 @@ def test_which_names_all_that_is_damaged(sites):
     other.write_bytes(other.read_bytes().replace(b"read", b"reap"))
     status, output, said = sites.run("which", "north")
     assert (status, output, len(said)) == (3, "", 4) and said[3] == "north: not all of its files can be read"
-    for line, file, part in zip(said, (link, one, other), ("a symbolic link", "not there: the site is damaged", "digest: the file is damaged")):
+    for line, file, part in zip(said, (link, one, other), ("not a regular file: the site is damaged", "not there: the site is damaged", "digest: the file is damaged")):
         assert line.startswith("north/%s: %s" % (file.name, part))
 
 
