@@ -604,7 +604,6 @@ CALLS = {
     "a shell's words": (b"id\n", 1, "no first line of cadf-sync"),
     "no line feed": (b"CADF-SYNC 1 {}", 3, "cut in a line"),
     "too long": (b"C" * 40000, 1, "no first line of cadf-sync"),
-    "version 2": (b"CADF-SYNC 2 {}\n", 1, "speaks version 2"),
     "no site": (hello(site=None), 1, "another site"),
     "another site": (hello(site="/etc/passwd"), 1, "another site"),
     "a site above": (hello(site="../here.cadf"), 1, "another site"),
@@ -643,6 +642,13 @@ def test_a_caller_that_lies(sites, kind):
     assert answer.status == status and part in answer.output.decode(), answer
     assert answer.error == b"" and (b"fault" in answer.output.splitlines()[0] or b"\nfault " in answer.output)
     assert sorted((each.name, each.read_bytes()) for each in sites.path.iterdir()) == before
+
+
+def test_a_caller_of_a_later_version(sites):
+    """It is answered in the version that both speak."""
+    sites.put("here.cadf", facts(1))
+    answer = sites.served(hello().replace(b"CADF-SYNC 1", b"CADF-SYNC 2") + message(b"list"))
+    assert answer.status == 0 and answer.output.startswith(b"CADF-SYNC 1 {") and b"\nlist 71\nW all " in answer.output, answer
 
 
 @pytest.mark.parametrize("between, part", [((), b"shared"), (((b"2024-03-02", b"tell", b"3"),), b"2024-03-02"), (((b"shared", b"whole", b""),), b"2024-03-02")])
