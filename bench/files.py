@@ -14,7 +14,7 @@ import os
 import sys
 import tempfile
 
-from measure import Trial, asked, atoms_of, best_of, check_same_bytes, run_apart, tell, two_sites, write_replica
+from measure import LOG, Trial, asked, atoms_of, best_of, check_same_bytes, run_apart, tell, two_sites, write_replica
 from peer import SQLITE, found, has, rust
 
 HASHES = {"sha256sum": "sha256sum", "openssl": "openssl dgst -sha256"}
@@ -92,7 +92,7 @@ class TwoSites(Trial):
         """The facts of one event and one of them, each in a file, by what they are."""
         event = atoms_of(self.atoms // 9)
         for name, atoms in (("an event", event), ("a fact", event[:1])):
-            write_replica(self.path(name), "openstack:audit", atoms)
+            write_replica(self.path(name), LOG, atoms)
             yield name, self.path(name)
 
     def seal(self):

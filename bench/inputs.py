@@ -4,10 +4,9 @@ import os
 import random
 from typing import Callable, NamedTuple, Optional
 
-from measure import key_of, run_apart, sealed_lines, spelled, write_replica, written_apart
+from measure import LOG, key_of, run_apart, sealed_lines, spelled, write_replica, written_apart
 from show import event
 
-LOG = "openstack:audit"
 PLAIN = "".join(chr(code) for code in range(0x21, 0x7F) if chr(code) not in '"\\')
 DOCUMENT, FILE, FILE_1 = "document", "file", "file of format 1"  # a file is of format 2 unless its form says otherwise
 EVENT = {"id": "e1", "eventType": "activity", "eventTime": "2024-03-01T12:00:00Z", "action": "read",

@@ -14,6 +14,7 @@ from typing import NamedTuple
 sys.dont_write_bytecode = True
 
 TOP = os.path.dirname(os.path.dirname(os.path.abspath(__file__)))
+LOG = "openstack:audit"
 BINARY = os.path.join(TOP, "crates", "cadf", "out", "cadf")
 sys.path.insert(0, TOP)
 
@@ -250,7 +251,7 @@ def two_sites(folder, atoms):
     files = {version: [os.path.join(folder, "%s.%d" % (name, version)) for name in ("first", "second")] for version in FIRST_LINES}
     for version, paths in files.items():
         for path, start in zip(paths, (0, events // 2)):
-            replica_file(path, "openstack:audit", range(start, start + events), version)
+            replica_file(path, LOG, range(start, start + events), version)
     return files
 
 

@@ -21,14 +21,13 @@ import subprocess
 import sys
 import tempfile
 
-from measure import Trial, asked, atoms_of, check_same_bytes, rdiff, run_apart, tell, write_replica, written_apart
+from measure import LOG, Trial, asked, atoms_of, check_same_bytes, rdiff, run_apart, tell, write_replica, written_apart
 
 from tests.generated.odd_sketches import path
 from tests.reference.sketch_files import (
     CELLS, CHECK_BITS, Layout, Sketch, check_of, counts_of, file_digest, sketch_file, turn,
 )
 
-LOG = "openstack:audit"
 TOO_FEW = b"cadf: input 2: too few cells: ask for "
 DIFFERENCES = (0, 10, 100, 1000, None)  # None: a tenth of the facts
 BLOCKS = {"rdiff": [], "rdiff -b 1024": ["-b", "1024"]}
