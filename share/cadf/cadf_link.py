@@ -13,15 +13,15 @@ import threading
 import time
 from typing import NamedTuple
 
-from cadf_toolkit import FAILED, REFUSED, Fault, Input, grouped, is_log_name, printable, started_thread, write_all
+from cadf_site import PART
+from cadf_toolkit import FAILED, LARGEST, REFUSED, Fault, Input, grouped, is_log_name, printable, started_thread, write_all
 
 VERSION = 1
 FIRST_WORD = b"CADF-SYNC "
 FIRST = re.compile(rb"CADF-SYNC ([1-9][0-9]{0,5}) (\{.*\})")
 HEAD = re.compile(rb"([a-z]{1,16}) (0|[1-9][0-9]{0,9})")
-PART = r"shared|all|\d{4}-\d\d(?:-\d\d(?:T\d\d)?)?"
-ENTRY = re.compile(("(" + PART + r") ([a-z]{1,16}) (0|[1-9][0-9]{0,9})\n").encode())
-LEAST, LARGEST = 2 ** 10, 2 ** 30  # bytes of a message at most, as of a file that cadf reads
+ENTRY = re.compile((r"(all|%s) ([a-z]{1,16}) (0|[1-9][0-9]{0,9})\n" % PART).encode())
+LEAST = 2 ** 10  # bytes, below which no limit of a message may be
 ENOUGH = 2 ** 24  # bytes after which another message begins: what it brought is taken before a link may be cut
 LONGEST = 86400  # seconds of silence
 LONGEST_FIRST, LONGEST_HEAD, LONGEST_ENTRY = 2 ** 15, 32, 64  # bytes of a line
@@ -326,9 +326,9 @@ class Link:
         if self.faults:
             raise self.faults[0]
 
-    def asked(self, word, answer, content=b"", items=()):
+    def asked(self, word, answer, items):
         """Sends a request and reads its answer meanwhile, which has that word."""
-        with self.beside(lambda: self.send_message(word, content, items)) as (thread, faults):
+        with self.beside(lambda: self.send_message(word, items=items)) as (thread, faults):
             found = self.answer(answer)
             thread.join(self.limits.timeout)
             is_early = thread.is_alive()

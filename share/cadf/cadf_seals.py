@@ -15,8 +15,9 @@ import re
 import subprocess
 
 from cadf_link import Store
-from cadf_site import LARGEST, PART, SHARED, UNITS, Folder, check_window, made_of_parts, order, split, without_facts
+from cadf_site import LARGEST, PART, UNITS, Folder, check_window, made_of_parts, order, other_unit, split, without_facts
 from cadf_toolkit import REFUSED, Fault, Progress, Refusal, another_program, as_input, cadf, log_name, log_of, other_log, with_advice, with_digest
+from cadf_windows import is_part
 
 UNIT = re.compile(("B (%s)" % "|".join(UNITS)).encode())
 NAME_LINE = re.compile(("W (%s)" % PART).encode())
@@ -42,10 +43,6 @@ class OfParts:
     def name(self):
         """The log's name."""
         return json.loads(self.log)
-
-    def has(self, part):
-        """Whether parts by its unit may have this name."""
-        return part == SHARED or re.fullmatch(PART, part) is not None and len(part) == UNITS[self.unit]
 
     def bytes(self):
         """The file."""
@@ -178,7 +175,7 @@ def part_in(line, pattern, number, kept):
     """What the line of that number has of a part, which comes after those that are kept."""
     found = pattern.fullmatch(line)
     part = found[1].decode() if found else ""
-    if not kept.has(part) or any(int(count) >= MOST for count in found.groups()[1:2]):
+    if not is_part(part, kept.unit) or any(int(count) >= MOST for count in found.groups()[1:2]):
         raise Refused("line %d: shape" % number)
     if kept.parts and order(part) <= order(next(reversed(kept.parts))):
         raise Refused("line %d: order" % number)
@@ -246,7 +243,7 @@ def check_alike(seal, proof, name):
     if proof.log != seal.log:
         raise Fault("%s: %s" % (name, other_log(proof.name())), REFUSED)
     if proof.unit != seal.unit:
-        raise Fault("%s: other unit: its windows are a %s each, and not a %s" % (name, proof.unit, seal.unit), REFUSED)
+        raise Fault("%s: %s" % (name, other_unit(proof.unit, seal.unit)), REFUSED)
 
 
 def check_parts(asked, proof, name):

@@ -22,19 +22,19 @@ import stat
 import subprocess
 import tempfile
 
-from cadf_toolkit import (CADF, FAILED, IN_THE_WAY, LARGEST, REFUSED, Fault, Input, Refusal, another_program, as_input, cadf, check_end, check_lock,
-                          grouped, log_name, most_files, name_shown, new_lock, open_descriptor, opened_file, other_log, say, started_cadf, sync,
+from cadf_toolkit import (CADF, FAILED, IN_THE_WAY, LARGEST, LAST, REFUSED, Fault, Input, Refusal, another_program, as_input, cadf, check_end, check_lock,
+                          grouped, last_digest, log_name, most_files, name_shown, new_lock, open_descriptor, opened_file, other_log, say, started_cadf, sync,
                           wait_for_lock, with_digest)
 
 UNITS = {"month": len("2024-03"), "day": len("2024-03-01"), "hour": len("2024-03-01T12")}  # with the length of a window's name
 INDEX, LOCK, WORKING = "site", ".lock", ".new"
 HEAD = re.compile(rb"CADF-SITE 1\nL (.*)\nB (month|day|hour)\n")
 SHARED = "shared"
-PART = r"(?:shared|[0-9]{4}-[0-9]{2}(?:-[0-9]{2}(?:T[0-9]{2})?)?)"
+WINDOW = r"[0-9]{4}-[0-9]{2}(?:-[0-9]{2}(?:T[0-9]{2})?)?"
+PART = r"(?:%s|%s)" % (SHARED, WINDOW)
 DIGITS = r"[0-9a-f]{64}"
 ENTRY = re.compile(("F (%s) %s\n" % (PART, DIGITS)).encode())
 NAME_LINE = re.compile(("P (%s)\n" % PART).encode())  # of a split file
-LAST_LINE = re.compile(("Z (%s)\n" % DIGITS).encode())
 WINDOW_FILE = re.compile(r"%s\.%s\.cadf" % (PART, DIGITS))
 NOTHING = 3  # lines of a replica file without facts
 LONGEST_INDEX = 2 ** 28  # bytes
@@ -67,6 +67,11 @@ def entry_line(part, digest):
 def order(part):
     """The place of a part: `shared` first, then windows in order of time."""
     return part != SHARED, part
+
+
+def other_unit(unit, wanted):
+    """Why what has windows of that unit is refused."""
+    return "other unit: its windows are one %s each, and not one %s" % (unit, wanted)
 
 
 class Index:
@@ -373,7 +378,7 @@ class Parts:
         """Writes the part's file, a piece of a line at a time. Returns the digest on its last line."""
         for piece in iter(lambda: self.stream.readline(PIECE), b""):
             output.write(piece)
-            found = LAST_LINE.fullmatch(piece)  # no other line ends so
+            found = LAST.fullmatch(piece)  # no other line ends so
             if found:
                 self.hash.update(piece)
                 return found[1].decode()
@@ -610,8 +615,7 @@ class Taking:
         with self.files(part, digests) as inputs, self.new_file() as output:
             self.cadf(["join"], inputs, output.fileno())
         with self.folder.input(WORKING).file as file:
-            file.seek(-len("\n") - 64, os.SEEK_END)
-            digest = file.read(64).decode()
+            digest = last_digest(file)
         self.name(file_name(part, digest))
         self.changed[part] = [each for each in self.digests(part) if each not in (*digests, digest)] + [digest]
 
@@ -667,7 +671,7 @@ def check(folder, index, unit, log):
     if index is None and unit is None:
         raise folder.no_site()
     if index and unit not in (None, index.unit):
-        raise Fault("%s: other unit: its windows are a %s each, and not a %s" % (folder.shown(), index.unit, unit), REFUSED)
+        raise Fault("%s: %s" % (folder.shown(), other_unit(index.unit, unit)), REFUSED)
     if index and log not in (None, index.name()):
         raise Fault("%s: %s" % (folder.shown(), other_log(index.name())), REFUSED)
 

@@ -370,6 +370,13 @@ def with_digest(lines):
     return lines + b"Z %s\n" % hashlib.sha256(lines).hexdigest().encode()
 
 
+def last_digest(file):
+    """The digits of the last line of an open replica file, or None if it is none."""
+    size = os.fstat(file.fileno()).st_size
+    found = LAST.fullmatch(os.pread(file.fileno(), LAST_LINE, max(0, size - LAST_LINE)))
+    return found[1].decode() if found else None
+
+
 def kind_of(first, others=()):
     """What else than facts begins with these bytes, or than what is read in place of facts, or None."""
     return next((words for begin, words in {**OTHER_KINDS, **dict(others)}.items() if first.startswith(begin)), None)
@@ -476,7 +483,7 @@ def with_advice(text):
     return next(("%s: %s" % (text, advice) for begin, advice in ADVICE.items() if text.startswith(begin)), text)
 
 
-def explained(said, which=None):
+def explained(said, which):
     """What `cadf` said of an input, or what else than a file of facts it is, with what to do next."""
     is_lost = which and said == "not JSON" and which.name.endswith(".cadf")  # as a site's file that a shell has emptied
     return (which.kind() if which and OF_NO_KIND.match(said) else None) or (said + ": " + DAMAGED if is_lost else with_advice(said))
@@ -622,11 +629,8 @@ def write_all(file, data):
 
 def sync(name):
     """Waits until the file, or the names in the folder, are on the disk."""
-    file = os.open(name, os.O_RDONLY)
-    try:
+    with open_descriptor(os.open(name, os.O_RDONLY)) as file:
         os.fsync(file)
-    finally:
-        os.close(file)
 
 
 @contextlib.contextmanager

@@ -16,11 +16,11 @@ import tempfile
 
 import cadf_site
 from cadf_link import Item, Store
-from cadf_toolkit import LAST, LAST_LINE, REFUSED, Fault, Input, Refusal, another_program, cadf, check_end, naming, opened_file, started_cadf, with_digest
+from cadf_toolkit import (LAST, LAST_LINE, REFUSED, Fault, Input, Refusal, another_program, cadf, check_end, last_digest, naming, opened_file, started_cadf,
+                          with_digest)
 
 ALL, SHARED = "all", cadf_site.SHARED
 UNITS = {length: unit for unit, length in cadf_site.UNITS.items()}
-WINDOW = re.compile(r"\d{4}-\d\d(?:-\d\d(?:T\d\d)?)?", re.ASCII)
 UNIONS = ".unions"
 UNION = re.compile(rb"U ([0-9a-f]{64}) ([0-9a-f]{64})\n")
 SECOND = b"CADF-REPLICA 2\n"
@@ -33,7 +33,7 @@ TOO_FEW = "too few cells: ask for "
 
 def unit_of(window):
     """The unit of a window of that name, or None."""
-    return UNITS.get(len(window)) if WINDOW.fullmatch(window) else None
+    return UNITS.get(len(window)) if re.fullmatch(cadf_site.WINDOW, window) else None
 
 
 def is_time(window):
@@ -50,13 +50,6 @@ def is_time(window):
 def is_part(name, unit):
     """Whether parts by that unit may have this name."""
     return name == ALL if unit is None else name == SHARED or unit_of(name) == unit
-
-
-def last_digest(file):
-    """The digits of the last line of an open replica file, or None if it is none."""
-    size = os.fstat(file.fileno()).st_size
-    found = LAST.fullmatch(os.pread(file.fileno(), LAST_LINE, max(0, size - LAST_LINE)))
-    return found[1].decode() if found else None
 
 
 def check_digest(input, digest):

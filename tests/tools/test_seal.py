@@ -175,7 +175,7 @@ def test_windows(seals):
 def test_no_window_of_the_unit(seals, part):
     seals.put("seal", site_seal_of("g", set(), "day"))
     status, output, said = seals.run("--window", part, "seal")
-    assert (status, output, len(said)) == (1, b"", 1) and said[0].startswith("cadf-seal: seal: its windows are a day each, and ") and said[0].isprintable()
+    assert (status, output, len(said)) == (1, b"", 1) and said[0].startswith("cadf-seal: seal: its windows are one day each, and ") and said[0].isprintable()
 
 
 def test_page():
@@ -223,7 +223,7 @@ def test_compare_of_others(seals):
     for name, head in old.items():
         seals.put(name, with_digest(head.encode()))
     assert seals.run("--compare", "log", "site") == (1, b"", ['cadf-seal: site: other log: "g": one site has one log; `cadf check FILE` says which log a file is of'])
-    assert seals.run("--compare", "unit", "site") == (1, b"", ["cadf-seal: site: other unit: its windows are a day each, and not a hour"])
+    assert seals.run("--compare", "unit", "site") == (1, b"", ["cadf-seal: site: other unit: its windows are one day each, and not one hour"])
 
 
 # ---- What is refused

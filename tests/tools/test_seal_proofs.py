@@ -211,7 +211,7 @@ def test_others(proofs):
     proof = proofs.proves(ASKED)
     log = "other log: %s: one site has one log; `cadf check FILE` says which log a file is of"
     assert proofs.says(ASKED, with_parts(head=PROOF_HEAD.replace('"g"', '"h"'))) == (1, b"", ["cadf-seal: proof: " + log % '"h"'])
-    assert proofs.says(ASKED, with_parts(head=PROOF_HEAD.replace("day", "month"))) == (1, b"", ["cadf-seal: proof: other unit: its windows are a month each, and not a day"])
+    assert proofs.says(ASKED, with_parts(head=PROOF_HEAD.replace("day", "month"))) == (1, b"", ["cadf-seal: proof: other unit: its windows are one month each, and not one day"])
     status, output, said = proofs.says(dict(ASKED, id="h"), proof)
     assert (status, output) == (1, b"") and said[0].startswith("cadf-seal: facts: other log")
     inner = with_parts(*((name, sealed(data.replace(b'"g"', b'"h"').splitlines()[:-1])) for name, data in parts_in(proof).items()))

@@ -354,7 +354,7 @@ def test_a_file_that_is_full_names_the_call(tmp_path, right, wrong, status, said
 # ---- Refusals, and what is odd in the folder
 
 @pytest.mark.parametrize("options, value, status, said", [
-    (["--by", "hour"], dict(contents(1), events=7), 1, "other unit: its windows are a day each, and not a hour"),
+    (["--by", "hour"], dict(contents(1), events=7), 1, "other unit: its windows are one day each, and not one hour"),
     ([], dict(contents(1), id="h"), 1, "2.json: other log"),
     (["--log", "h"], dict(contents(1), events=7), 1, 'other log: "g"'),
     (["--windows", "0"], contents(2), 1, "more than 0 new windows"),
@@ -767,7 +767,7 @@ REMOVES_ALL = ("now = self.folder.index()\n                for name in self.made
 
 @pytest.mark.parametrize("check, right, wrong", [
     (test_a_take_writes_the_windows_of_what_it_takes, "give(file, 0o666 & self.folder.found.st_mode)", "give(file, 0o644)"),
-    (test_a_long_line_is_written_by_pieces, "found = LAST_LINE.fullmatch(piece)", 'found = re.match(rb"Z (.*)", piece)'),
+    (test_a_long_line_is_written_by_pieces, "found = LAST.fullmatch(piece)", 'found = re.match(rb"Z (.*)", piece)'),
     (test_what_is_held_already_changes_nothing, "digest in sizes or self.is_held(part, sizes, size)", "False"),
     (test_what_is_held_already_changes_nothing, '.count(b"\\n") == NOTHING', '.count(b"\\n") >= NOTHING'),
     (test_a_settled_folder_is_a_function_of_its_facts, "for each in self.digests(part) if each not in (*digests, digest)]", "for each in self.digests(part)]"),
@@ -775,7 +775,7 @@ REMOVES_ALL = ("now = self.folder.index()\n                for name in self.made
     (test_a_take_that_fails_removes_nothing_that_it_has_not_made, *REMOVES_ALL),
     (test_files_stay_until_the_new_site_is_on_the_disk, *REMOVES_ALL),
     (test_a_lost_index_loses_no_window, "if self.index is None and set(left) - {WORKING}:", "if False:"),
-    (test_strangers_are_named_and_passed_over, 'PART = r"(?:shared|[0-9]{4}', 'PART = r"(?:shared|[0-9]{4}|\\d{7}'),
+    (test_strangers_are_named_and_passed_over, 'WINDOW = r"[0-9]{4}', 'WINDOW = r"[0-9]{4}|\\d{7}'),
     (test_strangers_are_named_and_passed_over, 'not file.name.startswith(".") and', ""),
 ])
 def test_a_wrong_version_is_caught(tmp_path, check, right, wrong):
