@@ -18,7 +18,7 @@ import tempfile
 
 from tests import TOP, text_of
 
-FOLDERS = [os.path.join(TOP, "crates", "cadf", "out"), os.path.join(TOP, "tools")]
+BUILT = os.path.join(TOP, "crates", "cadf", "out")
 NOT_EVERYWHERE = ("jq", "ssh-keygen")
 
 
@@ -92,9 +92,9 @@ def idle_lines(page):
     return [line for block in apart for _, line in block if not can_run(line)]
 
 
-def run_block(page, block, folder):
+def run_block(page, block, folder, built):
     """Runs the block's commands; the number of them."""
-    path = os.pathsep.join(FOLDERS + [os.environ["PATH"]])
+    path = os.pathsep.join([built, os.path.join(TOP, "tools"), os.environ["PATH"]])
     count = 0
     for count, (number, command, shown) in enumerate(calls(block), 1):
         done = subprocess.run(["bash", "-c", command], cwd=folder, env=dict(os.environ, PATH=path, TOP=TOP),
@@ -107,8 +107,9 @@ def run_block(page, block, folder):
     return count
 
 
-def run_page(page):
-    """Runs the page's blocks; the number of commands, and the programs that are not here, whose blocks were left out."""
+def run_page(page, built=BUILT):
+    """Runs the page's blocks, by the command in that folder; the number of commands, and the programs that are not here, whose
+    blocks were left out."""
     count, absent = 0, set()
     with tempfile.TemporaryDirectory() as folder:
         for block in blocks(page):
@@ -116,7 +117,7 @@ def run_page(page):
             if program:
                 absent.add(program)
             else:
-                count += run_block(page, block, folder)
+                count += run_block(page, block, folder, built)
     return count, absent
 
 

@@ -13,7 +13,7 @@ RIGHT = "    $ printf 'a\\nb\\nc\\n'\n    a\n    ..\n    $ cat <<'END'\n    x\n 
 def test_page(cadf, name):
     path = os.path.join(TOP, name)
     assert shown.idle_lines(path) == []
-    count, absent = shown.run_page(path)
+    count, absent = shown.run_page(path, os.path.dirname(cadf))
     assert count > 0
     if absent:
         pytest.skip("blocks of %s run %s, which isn't there" % (name, " and ".join(sorted(absent))))
