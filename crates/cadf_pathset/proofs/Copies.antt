@@ -7,8 +7,9 @@ use Rattle.std.specs.List.{AllByRecursion, filter}
 use Rattle.std.specs.List.Sorted.{IsStrictlySortedBy}
 use Rattle.std.specs.declared.cmp.Ordering.{Ordering}
 use Rattle.std.specs.declared.cmp.Ordering.TheVariants.{Less, Equal, Greater}
-use Rattle.std.specs.Ordering.{match_ordering}
+use Rattle.std.specs.Ordering.{match_ordering, ordering_reverse}
 use Rattle.cadf_join.specs.Contents.{Texts, texts_cmp}
+use Rattle.cadf_join.specs.laws.Contents.{texts_total}
 use Rattle.cadf_pathset.specs.Lists.{chosen_of, last_of}
 use Rattle.cadf_pathset.specs.Merge.{sorted_without}
 use Rattle.cadf_pathset.specs.Nodes.{Agree, IsLine, last_node, list_at, lists_at, place, shared}
@@ -95,11 +96,8 @@ chosen_rises (b ∷ bs) [] h = tt
 chosen_rises (true ∷ bs) (l ∷ ls) h = (all_chosen (λ x. texts_cmp l x ≡ Less) bs ls h.0, chosen_rises bs ls h.1)
 chosen_rises (false ∷ bs) (l ∷ ls) h = chosen_rises bs ls h.1
 
-pub agree_at : (n : ℕ) (p q a b : Texts) → Agree n p q → p ≡ a → q ≡ b → Agree n a b
-agree_at n p q a b h e f = subst (λ z. Agree n a z) f (subst (λ z. Agree n z q) e h)
-
-pub order_at : (p q a b : Texts) (r s : Ordering) → p ≡ a → q ≡ b → r ≡ texts_cmp p q → r ≡ s → texts_cmp a b ≡ s
-order_at p q a b r s e f o is = (λ i. texts_cmp (sym e i) (sym f i)) ∙ sym o ∙ is
+pub order_turned : (p a b : Texts) (r s : Ordering) → p ≡ a → r ≡ texts_cmp b p → r ≡ s → texts_cmp a b ≡ ordering_reverse s
+order_turned p a b r s e o is = texts_total.antisymm a b ∙ ap ordering_reverse (ap (texts_cmp b) (sym e) ∙ sym o ∙ is)
 
 -- the steps of a difference
 module _ (acc total : List Texts) (more others : Bool) (a b : Place) (is : more ≡ true) (are : others ≡ true)

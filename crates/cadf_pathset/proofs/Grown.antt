@@ -1,11 +1,10 @@
 -- Lists that were appended to, and the character boundaries of a text that was appended to.
 use Rattle.std.proofs.lemmas.Grind.{common_steps}
-use Rattle.std.proofs.Common.{◌≡◌, ℕ, Bool, true, false, List, [], ◌∷◌, ◌++◌, refl, sym, ap, ◌∙◌, length, take, drop, map, arith}
+use Rattle.std.proofs.Common.{◌≡◌, ℕ, List, [], ◌∷◌, ◌++◌, refl, sym, ap, ◌∙◌, length, take, drop, map, arith}
 use Rattle.std.proofs.lemmas.List.{length-append, take-append-drop, take-append-le}
 use Rattle.std.proofs.lemmas.Str.{IsUtf8-take, IsCharBoundary-from_take}
 use Rattle.std.specs.List.{AllByRecursion}
 use Rattle.std.specs.Str.{IsUtf8, IsCharBoundary}
-use Rattle.cadf_pathset.specs.Walks.{Place, Moves, lists_ahead}
 
 pub all_more : {A : Type 0} (P : A → Type 0) (xs : List A) (x : A) → AllByRecursion P xs → P x → AllByRecursion P (xs ++ x ∷ [])
 all_more P [] x h p = (p, tt)
@@ -29,8 +28,3 @@ boundary_grown bs ds n u v b = grind (arith, common_steps, IsCharBoundary-from_t
 module _ {A : Type 0} (xs ys : List A) (kept : take (length xs) ys ≡ xs) where
   pub grown_by : ys ≡ xs ++ drop (length xs) ys
   grown_by = sym (take-append-drop (length xs) ys) ∙ ap (λ z. z ++ drop (length xs) ys) kept
-
--- the list at a cursor and those after it were ahead before
-pub ahead-moved : (more : Bool) (old new : Place) → Moves more old new → lists_ahead more new ≡ old.1
-ahead-moved true old new h = sym h
-ahead-moved false old new h = sym h

@@ -1,22 +1,21 @@
 -- The result of a binary search in strictly ascending lists.
 use Rattle.std.proofs.lemmas.Grind.{common_steps}
 use Rattle.std.proofs.Common.{◌≡◌, ℕ, ◌+◌, ◌-◌, ◌≤◌, ◌<◌, Bool, true, false, List, [], ◌∷◌, ◌++◌}
-use Rattle.std.proofs.Common.{refl, sym, ap, ◌∙◌, subst, suc, zero, length, take, drop, get_or, ◌||◌, arith, Some}
-use Rattle.std.proofs.Math.Numerals.{add-one}
-use Rattle.std.proofs.Math.Seq.{take-suc}
+use Rattle.std.proofs.Common.{refl, sym, ap, ◌∙◌, suc, zero, length, take, drop, get_or, ◌||◌, arith, Some}
 use mathlib.Core.Bool.{true≢false}
 use Rattle.std.specs.declared.cmp.Ordering.{Ordering}
 use Rattle.std.specs.declared.cmp.Ordering.TheVariants.{Less, Equal, Greater}
 use Rattle.std.specs.Ordering.{match_ordering, ordering_then, ordering_reverse, eq_by_cmp, is_eq, is_lt}
-use Rattle.std.specs.Cmp.{Equal-is, tied_itself}
+use Rattle.std.specs.Cmp.{tied_itself}
 use Rattle.std.specs.List.{AllByRecursion, list_any}
 use Rattle.std.specs.List.Sorted.{IsStrictlySortedBy}
 use Rattle.cadf_join.specs.laws.Sets as sets
-use Rattle.cadf_join.specs.Contents.{Texts, is_after, text_cmp, texts_cmp}
-use Rattle.cadf_join.specs.laws.Contents.{text_total, text_same, texts_total, texts_same, contents_same}
+use Rattle.std.specs.Prelude.{Result, Ok, Err, IfOk, IfErr, is_ok}
+use Rattle.cadf_join.specs.Contents.{Texts, Contents, is_after, text_cmp, texts_cmp}
+use Rattle.cadf_join.specs.laws.Contents.{text_total, text_same, texts_total, contents_same}
 use Rattle.cadf_join.specs.Sets as set
 use Rattle.cadf_join.specs.Sets.{contains-from_list, contains-insert}
-use Rattle.cadf_pathset.proofs.Grown.{all_more, all_turned}
+use Rattle.cadf_pathset.proofs.Grown.{all_turned}
 use Rattle.cadf_pathset.proofs.Inserts.{all_put}
 use Rattle.cadf_pathset.specs.Lists.{prefix_cmp, is_before, last_of, last_starts_with}
 
@@ -94,34 +93,11 @@ pub ends_behind_at : (ls : List Texts) (p : Texts) → (ls ≡ [] → ⊥) → i
 ends_behind_at [] p some = absurd (some refl)
 ends_behind_at (l ∷ ls) p some = grind (arith, common_steps, last_at)
 
-pub less_is_before : (a q : Texts) → texts_cmp a q ≡ Less → is_before q false a ≡ true
-less_is_before [] [] h = grind (arith, common_steps)
-less_is_before [] (t ∷ q) h = refl
-less_is_before (u ∷ a) [] h = grind (arith, common_steps)
-less_is_before (u ∷ a) (t ∷ q) h = grind (arith, common_steps, (less_is_before a q))
-
-pub before_is_less : (a q : Texts) → is_before q false a ≡ true → texts_cmp a q ≡ Less
-before_is_less a [] h = absurd (true≢false (sym h))
-before_is_less [] (t ∷ q) h = refl
-before_is_less (u ∷ a) (t ∷ q) h = grind (arith, common_steps, (before_is_less a q))
-
 pub turned : (a q : Texts) → texts_cmp a q ≡ Greater → texts_cmp q a ≡ Less
 turned a q h = texts_total.antisymm q a ∙ ap ordering_reverse h
 
--- the lists from the bound on are above the list, if the first of them is another
-above_bound : (q : Texts) (xs : List Texts) → IsStrictlySortedBy texts_cmp xs → AllByRecursion (λ l. is_before q false l ≡ false) xs
-    → (texts_cmp (get_or xs 0 []) q ≡ Equal → 0 < length xs → ⊥) → AllByRecursion (λ l. texts_cmp q l ≡ Less) xs
-unfolding IsStrictlySortedBy
-above_bound q [] s h other = tt
-above_bound q (x ∷ xs) s h other = by (texts_cmp x q) refl
-  where
-    first : texts_cmp q x ≡ Less → AllByRecursion (λ l. texts_cmp q l ≡ Less) (x ∷ xs)
-    first less = (less, all_turned (λ y. texts_cmp x y ≡ Less) (λ l. texts_cmp q l ≡ Less) xs (λ y below. texts_total.trans q x y less below) s.0)
-
-    by : (r : Ordering) → texts_cmp x q ≡ r → AllByRecursion (λ l. texts_cmp q l ≡ Less) (x ∷ xs)
-    by Less e = absurd (true≢false (sym (less_is_before x q e) ∙ h.0))
-    by Equal e = absurd (other e (omega arith))
-    by Greater e = first (turned x q e)
+not_after : (x q : Texts) → texts_cmp x q ≡ Less → is_after texts_cmp (Some q) x ≡ false
+not_after x q h = ap is_lt (texts_total.antisymm q x ∙ ap ordering_reverse h)
 
 pub drop_sorted : (xs : List Texts) (n : ℕ) → IsStrictlySortedBy texts_cmp xs → IsStrictlySortedBy texts_cmp (drop n xs)
 unfolding IsStrictlySortedBy
@@ -135,27 +111,13 @@ first_dropped (x ∷ xs) zero = refl
 first_dropped [] (suc n) = refl
 first_dropped (x ∷ xs) (suc n) = first_dropped xs n
 
-some_dropped : (xs : List Texts) (n : ℕ) → 0 < length (drop n xs) → n < length xs
-some_dropped xs zero h = h
-some_dropped [] (suc n) h = absurd (omega (arith, h))
-some_dropped (x ∷ xs) (suc n) h = let rest = some_dropped xs n h in omega (arith, rest)
-
-pub below_place : (q : Texts) (xs : List Texts) → AllByRecursion (λ l. is_before q false l ≡ true) xs → AllByRecursion (λ l. texts_cmp l q ≡ Less) xs
-below_place q xs h = all_turned (λ l. is_before q false l ≡ true) (λ l. texts_cmp l q ≡ Less) xs (λ x k. before_is_less x q k) h
-
-pub above_place : (q : Texts) (xs : List Texts) (n : ℕ) → IsStrictlySortedBy texts_cmp xs → AllByRecursion (λ l. is_before q false l ≡ false) (drop n xs)
-    → (n < length xs → eq_by_cmp texts_cmp (get_or xs n []) q ≡ true → ⊥) → AllByRecursion (λ l. texts_cmp q l ≡ Less) (drop n xs)
-above_place q xs n s h other = grind (arith, common_steps, above_bound, drop_sorted, some_dropped, first_dropped)
-
-pub found_at : (q : Texts) (xs : List Texts) (n : ℕ) → n < length xs → eq_by_cmp texts_cmp (get_or xs n []) q ≡ true
-    → list_any (eq_by_cmp texts_cmp q) xs ≡ true
-found_at q [] n l e = absurd (omega (arith, l))
-found_at q (x ∷ xs) zero l e =
-    let same : x ≡ q = texts_same x q ((Equal-is (texts_cmp x q)).0 e) in
+found_at : (q : Texts) (xs : List Texts) (n : ℕ) → n < length xs → get_or xs n [] ≡ q → list_any (eq_by_cmp texts_cmp q) xs ≡ true
+found_at q [] n l same = absurd (omega (arith, l))
+found_at q (x ∷ xs) zero l same =
     sets.or_left (eq_by_cmp texts_cmp q x) _ (ap (λ z. eq_by_cmp texts_cmp q z) same ∙ ap is_eq (tied_itself texts_total q))
-found_at q (x ∷ xs) (suc n) l e = sets.or_right (eq_by_cmp texts_cmp q x) _ (found_at q xs n (omega (arith, l)) e)
+found_at q (x ∷ xs) (suc n) l same = sets.or_right (eq_by_cmp texts_cmp q x) _ (found_at q xs n (omega (arith, l)) same)
 
-pub not_there : (q : Texts) (xs : List Texts) (n : ℕ) → AllByRecursion (λ l. texts_cmp l q ≡ Less) (take n xs)
+not_there : (q : Texts) (xs : List Texts) (n : ℕ) → AllByRecursion (λ l. texts_cmp l q ≡ Less) (take n xs)
     → AllByRecursion (λ l. texts_cmp q l ≡ Less) (drop n xs)
     → list_any (eq_by_cmp texts_cmp q) xs ≡ false
 not_there q [] n below above = refl
@@ -181,32 +143,43 @@ put_is_insert xs n q = contents_same _ _ (λ x.
     contains-from_list texts_total (take n xs ++ q ∷ drop n xs) x ∙ any_put (eq_by_cmp texts_cmp x) xs n q
     ∙ ap (λ b. eq_by_cmp texts_cmp x q || b) (sym (contains-from_list texts_total xs x)) ∙ sym (contains-insert texts_total (set.from_list xs) q x))
 
--- the first index above a list: its own index, or the next one if it is present
-pub not_after : (q : Texts) (xs : List Texts) → AllByRecursion (λ l. is_before q false l ≡ true) xs
-    → AllByRecursion (λ l. is_after texts_cmp (Some q) l ≡ false) xs
-not_after q xs h = all_turned (λ l. is_before q false l ≡ true) (λ l. is_after texts_cmp (Some q) l ≡ false) xs
-    (λ x k. ap is_lt (texts_total.antisymm q x ∙ ap ordering_reverse (before_is_less x q k))) h
+module _ (q : Texts) (xs : List Texts) (s : IsStrictlySortedBy texts_cmp xs) (n : ℕ) (l : n < length xs) where
+  -- the lists up to one that is below q, and those from one on that is above q
+  pub below_here : texts_cmp (get_or xs n []) q ≡ Less → (k : ℕ) → k < n + 1 → texts_cmp (get_or xs k []) q ≡ Less
+  below_here e k b = at_or_below k n b
+      (λ same. ap (λ i. texts_cmp (get_or xs i []) q) same ∙ e)
+      (λ lower. texts_total.trans (get_or xs k []) (get_or xs n []) q (rising_at xs k n s lower l) e)
 
-module _ (q : Texts) (xs : List Texts) (n : ℕ) (s : IsStrictlySortedBy texts_cmp xs) where
-  pub after_place : AllByRecursion (λ l. is_before q false l ≡ false) (drop n xs) → (n < length xs → eq_by_cmp texts_cmp (get_or xs n []) q ≡ true → ⊥)
-      → AllByRecursion (λ l. is_after texts_cmp (Some q) l ≡ true) (drop n xs)
-  after_place h other = all_turned (λ l. texts_cmp q l ≡ Less) (λ l. is_after texts_cmp (Some q) l ≡ true) (drop n xs) (λ x k. ap is_lt k)
-      (above_place q xs n s h other)
+  pub above_here : texts_cmp (get_or xs n []) q ≡ Greater → (k : ℕ) → n ≤ k → k < length xs → texts_cmp q (get_or xs k []) ≡ Less
+  above_here e k b m = at_or_below n k (omega (arith, b))
+      (λ same. ap (λ i. texts_cmp q (get_or xs i [])) (sym same) ∙ turned (get_or xs n []) q e)
+      (λ higher. texts_total.trans q (get_or xs n []) (get_or xs k []) (turned (get_or xs n []) q e) (rising_at xs n k s higher m))
 
-  module _ (l : n < length xs) (e : eq_by_cmp texts_cmp (get_or xs n []) q ≡ true) where
-    same : get_or xs n [] ≡ q
-    same = texts_same (get_or xs n []) q ((Equal-is (texts_cmp (get_or xs n []) q)).0 e)
-
-    pub not_after_it : AllByRecursion (λ x. is_before q false x ≡ true) (take n xs) → AllByRecursion (λ x. is_after texts_cmp (Some q) x ≡ false)
-        (take (n + 1) xs)
-    not_after_it h =
-        subst (AllByRecursion (λ x. is_after texts_cmp (Some q) x ≡ false)) (sym (ap (λ k. take k xs) (add-one n) ∙ take-suc xs n [] l))
-        (all_more (λ x. is_after texts_cmp (Some q) x ≡ false) (take n xs) (get_or xs n []) (not_after q (take n xs) h)
-        (ap (λ z. is_lt (texts_cmp q z)) same ∙ ap is_lt (tied_itself texts_total q)))
+  -- those up to q itself, and those above it
+  module _ (same : get_or xs n [] ≡ q) where
+    pub not_after_it : AllByRecursion (λ x. is_after texts_cmp (Some q) x ≡ false) (take (n + 1) xs)
+    not_after_it = all_taken (λ x. is_after texts_cmp (Some q) x ≡ false) xs (n + 1) (omega (arith, l)) (λ i b. at_or_below i n b
+        (λ e. ap (λ j. is_lt (texts_cmp q (get_or xs j []))) e ∙ ap (λ z. is_lt (texts_cmp q z)) same ∙ ap is_lt (tied_itself texts_total q))
+        (λ lower. not_after (get_or xs i []) q (ap (texts_cmp (get_or xs i [])) (sym same) ∙ rising_at xs i n s lower l)))
 
     pub after_it : AllByRecursion (λ x. is_after texts_cmp (Some q) x ≡ true) (drop (n + 1) xs)
     after_it = all_dropped (λ x. is_after texts_cmp (Some q) x ≡ true) xs (n + 1)
         (λ i b m. ap is_lt (sym (ap (λ z. texts_cmp z (get_or xs i [])) same) ∙ rising_at xs n i s (omega (arith, b)) m))
+
+pub none_after : (q : Texts) (xs : List Texts) → AllByRecursion (λ l. texts_cmp l q ≡ Less) xs → AllByRecursion (λ l. is_after texts_cmp (Some q) l ≡ false) xs
+none_after q xs h = all_turned (λ l. texts_cmp l q ≡ Less) (λ l. is_after texts_cmp (Some q) l ≡ false) xs (λ x k. not_after x q k) h
+
+pub all_after : (q : Texts) (xs : List Texts) → AllByRecursion (λ l. texts_cmp q l ≡ Less) xs → AllByRecursion (λ l. is_after texts_cmp (Some q) l ≡ true) xs
+all_after q xs h = all_turned (λ l. texts_cmp q l ≡ Less) (λ l. is_after texts_cmp (Some q) l ≡ true) xs (λ x k. ap is_lt k) h
+
+-- whether a search has found the list is whether the set has it
+pub found_is_held : (q : Texts) (xs : List Texts) (s : Contents) (r : Result ℕ ℕ) → set.from_list {R = texts_cmp} xs ≡ s
+    → IfOk r (λ n. (n < length xs) × (get_or xs n [] ≡ q)) → IfErr r (λ n. AllByRecursion (λ l. texts_cmp l q ≡ Less) (take n xs))
+    → IfErr r (λ n. AllByRecursion (λ l. texts_cmp q l ≡ Less) (drop n xs)) → is_ok r ≡ set.contains s q
+found_is_held q xs s (Ok n) view held below above =
+    sym (found_at q xs n held.0 held.1) ∙ sym (contains-from_list texts_total xs q) ∙ ap (λ z. set.contains z q) view
+found_is_held q xs s (Err n) view held below above =
+    sym (not_there q xs n below above) ∙ sym (contains-from_list texts_total xs q) ∙ ap (λ z. set.contains z q) view
 
 pub each_passes : {A : Type 0} (P : A → Type 0) (xs : List A) → ((x : A) → P x) → AllByRecursion P xs
 each_passes P [] h = tt

@@ -1,7 +1,6 @@
 -- Cursors that visit lists in order.
 --     Place                  the list at which a cursor is, and the lists after it
 --     Advances found a b     a cursor moved to the next list, which has `found` texts in common with the one before, or there is none
---     Moves more a b         the same, without that number
 --     Steps more a b n m     the same; m is the minimum of n and the number of texts in common, or n if there is no next list
 --     lists_ahead more a     the list at which a cursor is, if it is at one, and those after it
 --     Entered, IsLinePrefix  the invariants of a merge, below
@@ -15,10 +14,6 @@ Place = Texts × List Texts
 abbrev pub Advances : Option ℕ → Place → Place → Type 0
 Advances (Some n) old new = (old.1 ≡ new.0 ∷ new.1) × (n ≡ shared new.0 old.0)
 Advances None old new = (old.1 ≡ []) × (new ≡ old)
-
-abbrev pub Moves : Bool → Place → Place → Type 0
-Moves true old new = old.1 ≡ new.0 ∷ new.1
-Moves false old new = old.1 ≡ []
 
 abbrev pub Steps : Bool → Place → Place → ℕ → ℕ → Type 0
 Steps true old new n m = (old.1 ≡ new.0 ∷ new.1) × (m ≡ min n (shared new.0 old.0))

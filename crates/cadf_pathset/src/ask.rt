@@ -22,10 +22,7 @@ impl PathSet {
     pub fn holds(&self, list: &[String]) -> bool
         ensures { result ≡ set.contains self.now (chain_texts list.now) }
     {
-        match self.rows.place(list) {
-            Some(_) => false,
-            None => true,
-        }
+        self.rows.seek(list).is_ok()
     }
 
     /// Compares the list at that index, in order, with another. Returns the order, and a number of first texts that
@@ -52,10 +49,10 @@ impl PathSet {
     {
         let at = self.rows.after(given);
         let mut cursor = self.rows.cursor_from(at);
-        if cursor.next()? {
-            return Ok(Some(continued(self.alloc, &[], cursor.path())?));
+        match cursor.advance()? {
+            Some(_) => Ok(Some(continued(self.alloc, &[], cursor.path())?)),
+            None => Ok(None),
         }
-        Ok(None)
     }
 
     /// Returns the least of the texts that follow the prefix directly and are above the given one. For `None`, the

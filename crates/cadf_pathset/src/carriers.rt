@@ -31,10 +31,8 @@ fn carriers_of<C: Carrier>(alloc: Global, rows: &PathVec) -> Result<PathVec, Mem
     ensures { IfOk result (λ all. all ≡ carriers_in C.carrier [] rows.now) }
 {
     let mut copier = Copier::new(alloc, rows.cursor());
-    let mut more = copier.next()?;
-    while more {
+    while let Some(_) = copier.advance()? {
         copier.copy_if_above(C::length(copier.path()))?;
-        more = copier.next()?;
     }
     Ok(copier.into_copies())
 }

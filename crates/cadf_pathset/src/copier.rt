@@ -2,7 +2,7 @@
 ghost use Rattle.std.specs.Prelude.{◌≡◌, ◌≤◌, ◌++◌, [], ◌∷◌, OnOk, IfOk, cond, length, take};
 ghost use Rattle.cadf_join.specs.Prefixes.{texts_at};
 ghost use Rattle.cadf_pathset.specs.Lists.{chosen_of, is_above_last};
-ghost use Rattle.cadf_pathset.specs.Walks.{Moves, Steps, lists_ahead};
+ghost use Rattle.cadf_pathset.specs.Walks.{Advances};
 
 use crate::Memory;
 use crate::cursor::Cursor;
@@ -54,33 +54,23 @@ impl<'a> Copier<'a> {
         self.cursor.path()
     }
 
-    /// Moves to the next list, and returns whether there is one. If the list before shared its first `agreed` texts
-    /// with another list, `agreed` becomes the number that the next one is known to share with it.
-    pub fn step(&mut self, agreed: &mut usize) -> Result<bool, Memory>
-        ensures place { IfOk result (λ more. Steps more self.old.0 self.new.0 agreed.old agreed.new) }
+    /// Moves to the next list. Returns how many first texts it shares with the list before, or with the empty list.
+    /// `None` if there is no next list.
+    pub fn advance(&mut self) -> Result<Option<usize>, Memory>
+        ensures place { IfOk result (λ found. Advances found self.old.0 self.new.0) }
         ensures same { self.new.1 ≡ self.old.1 }
     {
         match self.cursor.advance() {
             Ok(Some(shared)) => {
                 self.shared = self.shared.min(shared);
-                *agreed = (*agreed).min(shared);
-                Ok(true)
+                Ok(Some(shared))
             }
-            Ok(None) => Ok(false),
+            Ok(None) => Ok(None),
             Err(fault) => {
                 self.shared = 0;
                 Err(fault)
             }
         }
-    }
-
-    /// Moves to the next list, and returns whether there is one.
-    pub fn next(&mut self) -> Result<bool, Memory>
-        ensures place { IfOk result (λ more. Moves more self.old.0 self.new.0) }
-        ensures same { self.new.1 ≡ self.old.1 }
-    {
-        let mut agreed: usize = 0;
-        self.step(&mut agreed)
     }
 
     /// Copies the list at the cursor.
@@ -110,18 +100,6 @@ impl<'a> Copier<'a> {
         Ok(())
     }
 
-    /// Copies the list at the cursor, if `at_list`, and all lists after it.
-    pub fn copy_rest(&mut self, at_list: bool) -> Result<(), Memory>
-        ensures { OnOk result (self.new.1 ≡ self.old.1 ++ lists_ahead at_list self.old.0) }
-    {
-        let mut more = at_list;
-        while more {
-            self.copy()?;
-            more = self.next()?;
-        }
-        Ok(())
-    }
-
     /// Returns the copies.
     pub fn into_copies(self) -> PathVec
         ensures { result ≡ self.entry.1 }
@@ -136,7 +114,7 @@ pub(crate) fn chosen(alloc: Global, rows: &PathVec, flags: &[bool]) -> Result<Pa
 {
     let mut copier = Copier::new(alloc, rows.cursor());
     for flag in flags {
-        if !copier.next()? {
+        if copier.advance()?.is_none() {
             return Ok(copier.into_copies());
         }
         if *flag {

@@ -1,13 +1,15 @@
 //! Visits lists in order.
 ghost use Rattle.std.specs.Prelude.{◌≡◌, ◌≤◌, [], OnOk, IfOk, length};
+ghost use Rattle.cadf_join.specs.Contents.{texts_cmp};
 ghost use Rattle.cadf_join.specs.Prefixes.{texts_at};
-ghost use Rattle.cadf_pathset.specs.Nodes.{AreThere, IsLine, list_at, lists_at, shared};
-ghost use Rattle.cadf_pathset.specs.Walks.{Advances, Moves, Steps};
+ghost use Rattle.cadf_pathset.specs.Nodes.{Agree, AreThere, IsLine, list_at, lists_at, shared};
+ghost use Rattle.cadf_pathset.specs.Walks.{Advances};
 
 use crate::Memory;
 use crate::lines::{cmp_from, follow, spell};
 use crate::nodes::Nodes;
 use std::alloc::Global;
+use std::cmp::Ordering;
 use std::marker::Model;
 
 /// A cursor: the list at which it is, and the lists after it.
@@ -85,28 +87,14 @@ impl<'a> Cursor<'a> {
         }
     }
 
-    /// Moves to the next list, and returns whether there is one.
-    pub fn next(&mut self) -> Result<bool, Memory>
-        ensures { IfOk result (λ more. Moves more self.old self.new) }
+    /// Compares the list at the cursor with another, with which it is known to share its first `known` texts. Returns
+    /// the order, and a number of first texts that both share.
+    pub fn cmp(&self, list: &[&str], known: usize) -> (Ordering, usize)
+        requires { Agree known self.now.0 (texts_at list.now) }
+        ensures order { result.0 ≡ texts_cmp self.now.0 (texts_at list.now) }
+        ensures agreed { Agree result.1 self.now.0 (texts_at list.now) }
     {
-        match self.advance()? {
-            Some(_) => Ok(true),
-            None => Ok(false),
-        }
-    }
-
-    /// Moves to the next list, and returns whether there is one. If the list before shared its first `agreed` texts
-    /// with another list, `agreed` becomes the number that the next one is known to share with it.
-    pub fn step(&mut self, agreed: &mut usize) -> Result<bool, Memory>
-        ensures { IfOk result (λ more. Steps more self.old self.new agreed.old agreed.new) }
-    {
-        match self.advance()? {
-            Some(shared) => {
-                *agreed = (*agreed).min(shared);
-                Ok(true)
-            }
-            None => Ok(false),
-        }
+        cmp_from(self.nodes, self.line.as_slice(), list, known)
     }
 }
 

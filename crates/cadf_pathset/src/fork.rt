@@ -81,16 +81,6 @@ pub(crate) fn known_behind(nodes: &Nodes, node: usize, line: &[usize]) -> usize
     }
 }
 
-/// Compares the lists of two nodes. Climbs no further than their nearest common ancestor.
-pub(crate) fn node_cmp(nodes: &Nodes, node: usize, other: usize) -> Ordering
-    requires ours { node ≤ length nodes.now }
-    requires theirs { other ≤ length nodes.now }
-    ensures { result ≡ texts_cmp (list_at nodes.now node) (list_at nodes.now other) }
-{
-    let mut fork = Fork::unknown();
-    parting_cmp(nodes, node, other, &mut fork)
-}
-
 /// Compares the lists of two nodes: at once if the fork decides, otherwise by a search for the nodes at which they
 /// diverge.
 pub(crate) fn next_cmp(nodes: &Nodes, node: usize, other: usize, fork: &mut Fork) -> Ordering
@@ -143,7 +133,7 @@ fn sibling_fork(nodes: &Nodes, node: usize, other: usize) -> Fork
 
 /// Compares the lists of two nodes, and finds the nodes at which they diverge. The difference nearest to the root
 /// decides: it is at two children of one parent, unless these have the same text.
-fn parting_cmp(nodes: &Nodes, node: usize, other: usize, fork: &mut Fork) -> Ordering
+pub(crate) fn parting_cmp(nodes: &Nodes, node: usize, other: usize, fork: &mut Fork) -> Ordering
     requires ours { node ≤ length nodes.now }
     requires theirs { other ≤ length nodes.now }
     ensures order { result ≡ texts_cmp (list_at nodes.now node) (list_at nodes.now other) }

@@ -1,5 +1,5 @@
 //! Lines: the nodes of the first 1, 2, .. texts of a list.
-ghost use Rattle.std.specs.Prelude.{◌≡◌, ◌<◌, ◌≤◌, ◌+◌, ◌++◌, [], ◌∷◌, List, OnOk, OnErr, IfOk, true, length, map, take, drop, get_or};
+ghost use Rattle.std.specs.Prelude.{◌≡◌, ◌<◌, ◌≤◌, ◌+◌, ◌++◌, [], ◌∷◌, List, OnOk, OnErr, IfOk, true, length, map, take, drop};
 ghost use Rattle.std.specs.Ordering.{is_eq};
 ghost use Rattle.cadf_join.specs.Contents.{Texts, texts_cmp};
 ghost use Rattle.cadf_join.specs.Prefixes.{texts_at};
@@ -146,48 +146,8 @@ pub(crate) fn extend<W: AsText>(
     Ok(())
 }
 
-/// Replaces the line by that of the node. After an `Err` it is the line of the empty list.
-pub(crate) fn lead(
-    nodes: &Nodes,
-    node: usize,
-    line: &mut Vec<usize>,
-    up: &mut Vec<usize>,
-) -> Result<(), Memory>
-    requires there { node ≤ length nodes.now }
-    requires line { IsLine nodes.now line.old.items (place nodes.now line.old.items) }
-    ensures { IsLine nodes.now line.new.items (place nodes.now line.new.items) }
-{
-    match follow(nodes, node, line, up) {
-        Ok(_) => Ok(()),
-        Err(fault) => {
-            line.clear();
-            Err(fault)
-        }
-    }
-}
-
-/// Replaces the line by that of the path, with new nodes after the texts that both share, and returns the path's node.
-/// The first `known` texts are known to be shared.
-fn line_to<W: AsText>(
-    nodes: &mut Nodes,
-    line: &mut Vec<usize>,
-    path: &[W],
-    known: usize,
-) -> Result<usize, Memory>
-    requires line { IsLine nodes.old line.old.items (place nodes.old line.old.items) }
-    requires known { Agree known (place nodes.old line.old.items) (map W.bytes path.now) }
-    ensures kept { take (length nodes.old) nodes.new ≡ nodes.old }
-    ensures line { IsLine nodes.new line.new.items (place nodes.new line.new.items) }
-    ensures there { IfOk result (λ n. n ≤ length nodes.new) }
-    ensures list { IfOk result (λ n. list_at nodes.new n ≡ map W.bytes path.now) }
-{
-    let (_, agreed) = cmp_from(&*nodes, line.as_slice(), path, known);
-    line.truncate(agreed);
-    extend(nodes, line, path)?;
-    Ok(end_of(line.as_slice()))
-}
-
-/// Replaces the line by that of the path, like `line_to`, and inserts the path's node at index `at` of the numbers.
+/// Replaces the line by that of the path, with new nodes after the texts that both share, and inserts the path's node
+/// at index `at` of the numbers. The first `known` texts are known to be shared.
 fn put<W: AsText>(
     nodes: &mut Nodes,
     line: &mut Vec<usize>,
@@ -207,8 +167,10 @@ fn put<W: AsText>(
         ≡ take at (lists_at nodes.old numbers.old.items) ++ map W.bytes path.now ∷ drop at (lists_at nodes.old numbers.old.items)) }
     ensures err { OnErr result (numbers.new.items ≡ numbers.old.items) }
 {
-    let number = line_to(nodes, line, path, known)?;
-    numbers.insert(at, number)?;
+    let (_, agreed) = cmp_from(&*nodes, line.as_slice(), path, known);
+    line.truncate(agreed);
+    extend(nodes, line, path)?;
+    numbers.insert(at, end_of(line.as_slice()))?;
     Ok(())
 }
 

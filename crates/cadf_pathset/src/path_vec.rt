@@ -1,15 +1,14 @@
 //! A vector of lists of texts that share the storage of common prefixes.
-ghost use Rattle.std.specs.Prelude.{◌≡◌, ◌≤◌, ◌+◌, ◌<◌, ◌++◌, [], ◌∷◌, ◌↔◌, OnOk, OnErr, IfErr, IfOk, IfSome, IsTrue, None, Some, true, false};
+ghost use Rattle.std.specs.Prelude.{◌≡◌, ◌≤◌, ◌+◌, ◌<◌, ◌++◌, [], ◌∷◌, ◌↔◌, OnOk, OnErr, IfErr, IfOk, IsTrue, None, Some, true, false};
 ghost use Rattle.std.specs.Prelude.{length, take, drop, get_or, map, slice_get};
-ghost use Rattle.std.specs.Cmp.Lexicographic.{pointwise};
-ghost use Rattle.std.specs.List.{AllByRecursion, cons_option, list_any};
+ghost use Rattle.std.specs.List.{AllByRecursion, cons_option};
 ghost use Rattle.std.specs.declared.cmp.Ordering.TheVariants.{Less};
 ghost use Rattle.std.specs.List.Sorted.{IsStrictlySortedBy};
 ghost use Rattle.std.specs.Option.{option_copied, option_map};
-ghost use Rattle.std.specs.Ordering.{eq_by_cmp, is_eq, is_lt};
+ghost use Rattle.std.specs.Ordering.{is_eq, is_lt};
 ghost use Rattle.cadf_join.specs.Contents.{is_after, texts_cmp};
 ghost use Rattle.cadf_join.specs.Prefixes.{chain_texts, texts_at};
-ghost use Rattle.cadf_pathset.specs.Lists.{at_places, last_of, last_starts_with, is_above_last, is_before, prefix_cmp};
+ghost use Rattle.cadf_pathset.specs.Lists.{at_places, last_of, last_starts_with, is_above_last, prefix_cmp};
 ghost use Rattle.cadf_pathset.specs.Nodes.{Agree, AreThere, lists_at};
 ghost use Rattle.cadf_join.specs.Sets as set;
 ghost use Rattle.cadf_pathset.specs.Merge.{sorted_merge};
@@ -18,7 +17,7 @@ ghost use Rattle.cadf_pathset.specs.Sections.{suffixes_behind};
 use crate::as_text::AsText;
 use crate::compare::{begins_with, list_cmp, same_list};
 use crate::cursor::Cursor;
-use crate::lines::{cmp_from, is_of_last, known_of, lead, line_starts_with, put_or_restore};
+use crate::lines::{cmp_from, follow, is_of_last, known_of, line_starts_with, put_or_restore};
 use crate::nodes::{Nodes, common_depth};
 use crate::sort::sorted;
 use crate::suffix_range::SuffixRange;
@@ -28,6 +27,7 @@ use crate::{Memory, Visitor};
 use std::alloc::Global;
 use std::cmp::Ordering;
 use std::marker::Model;
+use std::mem::replace;
 
 /// Lists of texts, each as the number of its last node. Lists with a common prefix share its nodes.
 #[derive(Drop)]
@@ -97,8 +97,10 @@ impl PathVec {
         ensures err { OnErr result (self.new ≡ self.old) }
     {
         let near = nearest(&self.nodes, self.numbers.as_slice(), at, path);
+        let mut line = replace(&mut self.line, Vec::new(self.alloc));
         let mut up = Vec::new(self.alloc);
-        lead(&self.nodes, near, &mut self.line, &mut up)?;
+        follow(&self.nodes, near, &mut line, &mut up)?;
+        self.line = line;
         put_or_restore(
             &mut self.nodes,
             &mut self.line,
@@ -239,14 +241,15 @@ impl PathVec {
         range
     }
 
-    /// Returns the index of the first list that is not below this one, and a number of first texts that the two share.
-    /// Binary search, which skips the texts that the lists at both bounds share with this one.
-    fn seek<W: AsText>(&self, list: &[W]) -> (usize, usize)
+    /// Returns the index of this list, or else of the first list above it. Binary search, which skips the texts that
+    /// the lists at both bounds share with this one.
+    pub fn seek<W: AsText>(&self, list: &[W]) -> Result<usize, usize>
         requires { IsStrictlySortedBy texts_cmp self.now }
-        ensures within { result.0 ≤ length self.now }
-        ensures below { AllByRecursion (λ l. is_before (map W.bytes list.now) false l ≡ true) (take result.0 self.now) }
-        ensures above { AllByRecursion (λ l. is_before (map W.bytes list.now) false l ≡ false) (drop result.0 self.now) }
-        ensures near { result.0 < length self.now → Agree result.1 (get_or self.now result.0 []) (map W.bytes list.now) }
+        ensures held { IfOk result (λ at. (at < length self.now) × (get_or self.now at [] ≡ map W.bytes list.now)) }
+        ensures small { IfOk result (λ at. at < 18446744073709551615) }
+        ensures within { IfErr result (λ at. at ≤ length self.now) }
+        ensures below { IfErr result (λ at. AllByRecursion (λ l. texts_cmp l (map W.bytes list.now) ≡ Less) (take at self.now)) }
+        ensures above { IfErr result (λ at. AllByRecursion (λ l. texts_cmp (map W.bytes list.now) l ≡ Less) (drop at self.now)) }
     {
         let mut low: usize = 0;
         let mut high = self.count();
@@ -255,54 +258,19 @@ impl PathVec {
         while low < high {
             let middle = low + (high - low) / 2;
             let (order, agreed) = self.cmp_at(middle, list, front.min(back));
-            if order.is_lt() {
-                low = middle + 1;
-                front = agreed;
-            } else {
-                high = middle;
-                back = agreed;
+            match order {
+                Ordering::Less => {
+                    low = middle + 1;
+                    front = agreed;
+                }
+                Ordering::Equal => return Ok(middle),
+                Ordering::Greater => {
+                    high = middle;
+                    back = agreed;
+                }
             }
         }
-        (low, back)
-    }
-
-    /// Returns whether the list at that index is this one, with which it is known to share its first `known` texts.
-    fn is_at<W: AsText>(&self, number: usize, list: &[W], known: usize) -> bool
-        requires within { number < length self.now }
-        requires known { Agree known (get_or self.now number []) (map W.bytes list.now) }
-        ensures { result ≡ eq_by_cmp texts_cmp (get_or self.now number []) (map W.bytes list.now) }
-    {
-        let (order, _) = self.cmp_at(number, list, known);
-        order.is_eq()
-    }
-
-    /// Returns the index at which the list is to be inserted. `None` if the set has it.
-    pub fn place<W: AsText>(&self, list: &[W]) -> Option<usize>
-        requires { IsStrictlySortedBy texts_cmp self.now }
-        ensures held { result ≡ None → list_any (eq_by_cmp texts_cmp (map W.bytes list.now)) self.now ≡ true }
-        ensures within { IfSome result (λ at. at ≤ length self.now) }
-        ensures below { IfSome result (λ at. AllByRecursion (λ l. texts_cmp l (map W.bytes list.now) ≡ Less) (take at self.now)) }
-        ensures above { IfSome result (λ at. AllByRecursion (λ l. texts_cmp (map W.bytes list.now) l ≡ Less) (drop at self.now)) }
-    {
-        let (at, near) = self.seek(list);
-        if at < self.count() && self.is_at(at, list, near) {
-            return None;
-        }
-        Some(at)
-    }
-
-    /// Returns the index of the first list above this one.
-    pub fn above<W: AsText>(&self, list: &[W]) -> usize
-        requires { IsStrictlySortedBy texts_cmp self.now }
-        ensures within { result ≤ length self.now }
-        ensures below { AllByRecursion (λ l. is_after texts_cmp (Some (map W.bytes list.now)) l ≡ false) (take result self.now) }
-        ensures above { AllByRecursion (λ l. is_after texts_cmp (Some (map W.bytes list.now)) l ≡ true) (drop result self.now) }
-    {
-        let (at, near) = self.seek(list);
-        if at < self.count() && self.is_at(at, list, near) {
-            return at + 1;
-        }
-        at
+        Err(low)
     }
 
     /// Returns the index of the first list above the given one. For `None`, that of the first list.
@@ -313,7 +281,10 @@ impl PathVec {
         ensures above { AllByRecursion (λ l. is_after texts_cmp (option_map chain_texts (option_copied given.entry)) l ≡ true) (drop result self.now) }
     {
         match given {
-            Some(list) => self.above(list),
+            Some(list) => match self.seek(list) {
+                Ok(at) => at + 1,
+                Err(at) => at,
+            },
             None => 0,
         }
     }

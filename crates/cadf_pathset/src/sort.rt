@@ -7,7 +7,7 @@ ghost use Rattle.cadf_pathset.specs.Nodes.{AreThere, lists_at};
 ghost use Rattle.cadf_pathset.specs.Merge.{sorted_merge};
 
 use crate::Memory;
-use crate::fork::{Fork, next_cmp, node_cmp};
+use crate::fork::{Fork, next_cmp, parting_cmp};
 use crate::nodes::Nodes;
 use std::alloc::Global;
 use std::cmp::Ordering;
@@ -18,14 +18,14 @@ fn is_rising(nodes: &Nodes, numbers: &[usize]) -> bool
     ensures rises { result ≡ true → IsStrictlySortedBy texts_cmp (lists_at nodes.now numbers.now) }
     ensures several { result ≡ false → 2 ≤ length numbers.now }
 {
+    let mut fork = Fork::unknown();
     let mut rest = numbers;
     while rest.len() >= 2 {
         let (_, more) = rest.split_at(1);
-        match node_cmp(nodes, rest[0], more[0]) {
-            Ordering::Less => rest = more,
-            Ordering::Equal => return false,
-            Ordering::Greater => return false,
+        if !parting_cmp(nodes, rest[0], more[0], &mut fork).is_lt() {
+            return false;
         }
+        rest = more;
     }
     true
 }

@@ -3,7 +3,6 @@ ghost use Rattle.std.specs.Prelude.{◌≡◌, ◌≤◌, ◌<◌, ◌-◌, ◌+
 ghost use Rattle.std.specs.List.{AllByRecursion};
 ghost use Rattle.std.specs.List.Sorted.{IsStrictlySortedBy};
 ghost use Rattle.std.specs.declared.cmp.Ordering.TheVariants.{Less};
-ghost use Rattle.cadf_pathset.specs.Lists.{is_before};
 ghost use Rattle.cadf_join.specs.Contents.{texts_cmp};
 ghost use Rattle.cadf_join.specs.Prefixes.{texts_at};
 ghost use Rattle.cadf_pathset.specs.Merge.{sorted_merge};
@@ -90,7 +89,7 @@ fn gallop(nodes: &Nodes, numbers: &[usize], from: usize, path: &[&str], out: &[u
     ensures from { from ≤ result }
     ensures within { result ≤ length numbers.now }
     ensures below { (k : ℕ) → from ≤ k → k < result
-        → is_before (texts_at path.now) false (get_or (lists_at nodes.now numbers.now) k []) ≡ true }
+        → texts_cmp (get_or (lists_at nodes.now numbers.now) k []) (texts_at path.now) ≡ Less }
 {
     let mut low = from;
     let mut step: usize = 1;

@@ -1,10 +1,9 @@
 use Rattle.std.proofs.Common.{◌≡◌, [], length}
 use Rattle.cadf_pathset.specs.Carriers.{carriers_in}
-use Rattle.cadf_pathset.specs.Walks.{lists_ahead}
 use Rattle.cadf_pathset.proofs.carriers.carriers_of.Given as goal
 
-abbrev pub invariant-loop-more : goal.invariant-loop-more
-invariant-loop-more g l = carriers_in g.C.Carrier.carrier l.copier.1 (lists_ahead l.more l.copier.0) ≡ carriers_in g.C.Carrier.carrier [] l.rows
+abbrev pub invariant-loop-copier : goal.invariant-loop-copier
+invariant-loop-copier g l = carriers_in g.C.Carrier.carrier l.copier.1 l.copier.0.1 ≡ carriers_in g.C.Carrier.carrier [] l.rows
 
-abbrev pub decreases-loop-more : goal.decreases-loop-more
-decreases-loop-more g l = length (lists_ahead l.more l.copier.0)
+abbrev pub decreases-loop-copier : goal.decreases-loop-copier
+decreases-loop-copier g l = length l.copier.0.1

@@ -4,5 +4,5 @@ use Rattle.std.proofs.lemmas.List.{append-nil}
 use Rattle.cadf_pathset.proofs.Copies.{chosen_none}
 use Rattle.cadf_pathset.proofs.copier.chosen.Goals as goal
 
-pub returns-then-not-branch : goal.returns-then-not-branch
-returns-then-not-branch c = grind (arith, common_steps, append-nil, chosen_none)
+pub returns-then-is_none : goal.returns-then-is_none
+returns-then-is_none c = grind (arith, common_steps, append-nil, chosen_none)

@@ -3,6 +3,7 @@ use Rattle.std.proofs.Common.{ap, sym, subst, ◌∙◌, arith, length}
 use Rattle.std.proofs.lemmas.List.{length-drop}
 use Rattle.std.specs.List.{AllByRecursion}
 use Rattle.cadf_pathset.specs.Nodes.{IsThere, list_at}
+use Rattle.cadf_pathset.proofs.Bounds.{is_less}
 use Rattle.cadf_pathset.proofs.Narrowed.{all_of_last}
 use Rattle.cadf_pathset.proofs.Sorts.{first_rises, one_rises}
 use Rattle.cadf_pathset.proofs.sort.is_rising.Goals as goal
@@ -14,7 +15,7 @@ loop-rest-preserved c =
     let shorter = ap length c.split_at.ensures.back ∙ length-drop 1 rest in
     record {
       rises = λ s. c.loop-rest.invariant.rises (first_rises (list_at c.args.nodes.now) rest c.split_at.result.1.now _ _ c.split_at.ensures.back
-          c.loop-rest-test.true (sym c.node_cmp.ensures ∙ c.in-Less.is) s);
+          c.loop-rest-test.true (sym c.parting_cmp.ensures.order ∙ is_less c.parting_cmp.result (sym c.is_lt.ensures ∙ c.if-not-is_lt.false)) s);
       there = subst (AllByRecursion (IsThere c.args.nodes.now)) (sym c.split_at.ensures.back)
           (all_of_last (IsThere c.args.nodes.now) rest 1 c.loop-rest.invariant.there);
       within = omega (arith, within, shorter);

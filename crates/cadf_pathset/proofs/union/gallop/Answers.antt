@@ -3,7 +3,8 @@ use Rattle.std.proofs.lemmas.List.{get_or-map, length-map}
 use Rattle.cadf_join.specs.Contents.{texts_cmp}
 use Rattle.cadf_join.specs.Prefixes.{texts_at}
 use Rattle.cadf_pathset.specs.Nodes.{list_at, lists_at}
-use Rattle.cadf_pathset.proofs.Bounds.{up_to_here}
+use Rattle.cadf_pathset.proofs.Bounds.{is_less}
+use Rattle.cadf_pathset.proofs.Halving.{below_here}
 use Rattle.cadf_pathset.proofs.union.gallop.Goals as goal
 
 pub loop-step-preserved : goal.loop-step-preserved
@@ -24,6 +25,7 @@ loop-step-preserved c =
       behind = omega (arith, b);
       within = omega (arith, fits);
       some = omega (arith, x, s);
-      below = λ k f g. up_to_here q (lists_at ls ns) c.requires.rises 0 j c.list_cmp-order.result.0 c.is_lt.result (omega (arith, fits, m)) c.is_lt.ensures
-          (c.list_cmp-order.ensures.order ∙ ap (λ z. texts_cmp z q) (sym (get_or-map (list_at ls) ns j 0 [] fits))) c.if-not-is_lt.false k g;
+      below = λ k f g. below_here q (lists_at ls ns) c.requires.rises j (omega (arith, fits, m))
+          (ap (λ z. texts_cmp z q) (get_or-map (list_at ls) ns j 0 [] fits) ∙ sym c.list_cmp-order.ensures.order
+          ∙ is_less c.list_cmp-order.result.0 (sym c.is_lt.ensures ∙ c.if-not-is_lt.false)) k g;
     }

@@ -1,5 +1,5 @@
 use Rattle.std.proofs.lemmas.Grind.{common_steps}
-use Rattle.std.proofs.Common.{◌≡◌, ◌+◌, ◌++◌, ◌∷◌, [], Some, ap, sym, subst, ◌∙◌, take, length, arith}
+use Rattle.std.proofs.Common.{◌≡◌, ◌++◌, ◌∷◌, [], Some, ap, sym, subst, ◌∙◌, take, length, arith}
 use Rattle.std.proofs.lemmas.List.{append-nil, length-map, take_all}
 use Rattle.cadf_join.specs.Prefixes.{continued, texts_at}
 use Rattle.cadf_join.proofs.Outcome as outcome

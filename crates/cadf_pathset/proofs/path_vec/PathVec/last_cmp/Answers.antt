@@ -1,5 +1,5 @@
 use Rattle.std.proofs.lemmas.Grind.{common_steps}
-use Rattle.std.proofs.Common.{◌-◌, arith}
+use Rattle.std.proofs.Common.{arith}
 use Rattle.cadf_pathset.proofs.Copies.{last_got}
 use Rattle.cadf_pathset.proofs.path_vec.PathVec.last_cmp.Goals as goal
 

@@ -1,8 +1,10 @@
-use Rattle.std.proofs.Common.{◌≡◌, ◌+◌, ◌-◌, ◌/◌, ℕ, [], true, false, get_or, arith, subst, map}
-use Rattle.cadf_pathset.specs.Lists.{is_before}
-use Rattle.cadf_pathset.proofs.Halving.{all_taken, all_dropped}
+use Rattle.std.proofs.Common.{◌≡◌, ◌+◌, ◌-◌, ◌/◌, ◌∙◌, ℕ, [], get_or, arith, subst, sym, map}
+use Rattle.std.specs.declared.cmp.Ordering.TheVariants.{Less}
+use Rattle.cadf_join.specs.Contents.{texts_cmp}
+use Rattle.cadf_join.specs.laws.Contents.{texts_same}
 use Rattle.cadf_pathset.specs.Nodes.{Agree}
-use Rattle.cadf_pathset.proofs.Bounds.{from_here, known_between, up_to_here}
+use Rattle.cadf_pathset.proofs.Bounds.{known_between}
+use Rattle.cadf_pathset.proofs.Halving.{above_here, all_dropped, all_taken, below_here}
 use Rattle.cadf_pathset.proofs.path_vec.PathVec.seek.Goals as goal
 
 pub cmp_at-order-requires-clause-known : goal.cmp_at-order-requires-clause-known
@@ -14,8 +16,8 @@ cmp_at-order-requires-clause-known g c =
     known_between (map g.W.AsText.bytes c.args.list.now) c.args.self.now c.requires c.loop-low.low c.loop-low.high m c.loop-low.front c.loop-low.back c.min.result
     h.front h.back (omega (arith, w, t)) (omega (arith, w, t)) c.min.ensures
 
-pub loop-low-preserved-then-is_lt : goal.loop-low-preserved-then-is_lt
-loop-low-preserved-then-is_lt g c =
+pub loop-low-preserved-in-Less : goal.loop-low-preserved-in-Less
+loop-low-preserved-in-Less g c =
     let h = c.loop-low.invariant in
     let w = h.within in
     let e = h.ends in
@@ -26,8 +28,7 @@ loop-low-preserved-then-is_lt g c =
     record {
       within = omega (arith, w, e, t);
       ends = e;
-      below = up_to_here q c.args.self.now c.requires c.loop-low.low m c.cmp_at-order.result.0 c.is_lt.result (omega (arith, w, e, t)) c.is_lt.ensures
-          c.cmp_at-order.ensures.order c.if-is_lt.true;
+      below = below_here q c.args.self.now c.requires m (omega (arith, w, e, t)) (sym c.cmp_at-order.ensures.order ∙ c.in-Less.is);
       above = h.above;
       front = λ some. (omega arith, subst (λ k. Agree c.cmp_at-order.result.1 (get_or c.args.self.now k []) q) one c.cmp_at-order.ensures.agreed);
       back = h.back;
@@ -45,16 +46,23 @@ loop-low-preserved g c =
       within = omega (arith, w, e, t);
       ends = omega (arith, w, e, t);
       below = h.below;
-      above = from_here q c.args.self.now c.requires c.loop-low.low m c.cmp_at-order.result.0 c.is_lt.result (omega (arith, w, e, t)) c.is_lt.ensures
-          c.cmp_at-order.ensures.order c.if-is_lt.false;
+      above = above_here q c.args.self.now c.requires m (omega (arith, w, e, t)) (sym c.cmp_at-order.ensures.order ∙ c.in-Greater.is);
       front = h.front;
       back = λ some. (omega (arith, w, e, t), c.cmp_at-order.ensures.agreed);
     }
 
+pub returns-in-Equal-clause-held : goal.returns-in-Equal-clause-held
+returns-in-Equal-clause-held g c =
+    let w = c.loop-low.invariant.within in
+    let e = c.loop-low.invariant.ends in
+    let t = c.loop-low-test.true in
+    let q = map g.W.AsText.bytes c.args.list.now in
+    (omega (arith, w, e, t), texts_same _ q (sym c.cmp_at-order.ensures.order ∙ c.in-Equal.is))
+
 pub returns-clause-below : goal.returns-clause-below
-returns-clause-below g c = all_taken (λ l. is_before (map g.W.AsText.bytes c.args.list.now) false l ≡ true) c.args.self.now c.loop-low.low
+returns-clause-below g c = all_taken (λ l. texts_cmp l (map g.W.AsText.bytes c.args.list.now) ≡ Less) c.args.self.now c.loop-low.low
     (let w = c.loop-low.invariant.within in let e = c.loop-low.invariant.ends in omega (arith, w, e)) c.loop-low.invariant.below
 
 pub returns-clause-above : goal.returns-clause-above
-returns-clause-above g c = all_dropped (λ l. is_before (map g.W.AsText.bytes c.args.list.now) false l ≡ false) c.args.self.now c.loop-low.low
+returns-clause-above g c = all_dropped (λ l. texts_cmp (map g.W.AsText.bytes c.args.list.now) l ≡ Less) c.args.self.now c.loop-low.low
     (λ i b l. c.loop-low.invariant.above i (let t = c.loop-low-test.false in omega (arith, b, t)) l)

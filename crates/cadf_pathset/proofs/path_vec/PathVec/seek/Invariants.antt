@@ -1,5 +1,6 @@
-use Rattle.std.proofs.Common.{◌≡◌, ◌≤◌, ◌<◌, ◌-◌, ℕ, true, false, [], length, get_or, map}
-use Rattle.cadf_pathset.specs.Lists.{is_before}
+use Rattle.std.proofs.Common.{◌≡◌, ◌≤◌, ◌<◌, ◌-◌, ℕ, [], length, get_or, map}
+use Rattle.std.specs.declared.cmp.Ordering.TheVariants.{Less}
+use Rattle.cadf_join.specs.Contents.{texts_cmp}
 use Rattle.cadf_pathset.specs.Nodes.{Agree}
 use Rattle.cadf_pathset.proofs.path_vec.PathVec.seek.Given as goal
 
@@ -7,8 +8,8 @@ abbrev pub invariant-loop-low : goal.invariant-loop-low
 invariant-loop-low g l = record {
   within : l.low ≤ l.high;
   ends : l.high ≤ length l.self;
-  below : (k : ℕ) → k < l.low → is_before (map g.W.AsText.bytes l.list) false (get_or l.self k []) ≡ true;
-  above : (k : ℕ) → l.high ≤ k → k < length l.self → is_before (map g.W.AsText.bytes l.list) false (get_or l.self k []) ≡ false;
+  below : (k : ℕ) → k < l.low → texts_cmp (get_or l.self k []) (map g.W.AsText.bytes l.list) ≡ Less;
+  above : (k : ℕ) → l.high ≤ k → k < length l.self → texts_cmp (map g.W.AsText.bytes l.list) (get_or l.self k []) ≡ Less;
   front : 0 < l.front → (0 < l.low) × Agree l.front (get_or l.self (l.low - 1) []) (map g.W.AsText.bytes l.list);
   back : 0 < l.back → (l.high < length l.self) × Agree l.back (get_or l.self l.high []) (map g.W.AsText.bytes l.list);
 }

@@ -2,7 +2,7 @@ use Rattle.std.proofs.Common.{[], Some, subst}
 use Rattle.cadf_pathset.specs.Lists.{last_of}
 use Rattle.cadf_pathset.specs.Walks.{Advances}
 use Rattle.cadf_pathset.proofs.Copies.{advanced_agrees}
-use Rattle.cadf_pathset.proofs.copier.Copier.step.Goals as goal
+use Rattle.cadf_pathset.proofs.copier.Copier.advance.Goals as goal
 
 pub invariant_of-self : goal.invariant_of-self
 invariant_of-self c =
