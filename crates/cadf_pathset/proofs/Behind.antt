@@ -15,10 +15,10 @@ use Rattle.cadf_join.specs.laws.Contents.{text_total, text_same, texts_total, te
 use Rattle.cadf_join.specs.Maps.{firsts, heads}
 use Rattle.cadf_join.specs.Prefixes.{texts_at}
 use Rattle.cadf_join.specs.Sets as set
-use Rattle.cadf_join.specs.laws.Rising.{from_list-rising, rising-from_list, rising_is_sorted}
+use Rattle.cadf_join.specs.laws.Rising.{rising-from_list, rising_is_sorted}
 use Rattle.cadf_join.proofs.Risings.{rising-section}
 use Rattle.cadf_pathset.specs.Lists.{first_text, is_before, strip}
-use Rattle.cadf_pathset.specs.Sections.{suffixes_behind, suffixes_after}
+use Rattle.cadf_pathset.specs.Sections.{suffixes_after}
 use Rattle.cadf_pathset.proofs.Firsts.{DoesNotFall, find_rising}
 use Rattle.cadf_pathset.proofs.Halving.{first_dropped}
 
@@ -138,12 +138,10 @@ firsts_do_not_fall [] s = tt
 firsts_do_not_fall ([] ∷ ls) s = firsts_do_not_fall ls s.1
 firsts_do_not_fall ((t ∷ c) ∷ ls) s = (not_below t c ls s.0, firsts_do_not_fall ls s.1)
 
-pub next_is : (ls : List Texts) → IsStrictlySortedBy texts_cmp ls → (g : Option Text)
-    → next_after (heads (set.from_list ls)) g ≡ find (is_after text_cmp g) (firsts ls)
+pub next_is : (s : Contents) (g : Option Text) → next_after (heads s) g ≡ find (is_after text_cmp g) (firsts (set.rising s))
 unfolding heads
-next_is ls s g =
-    ap (λ xs. find (is_after text_cmp g) (set.rising {R = text_cmp} (set.from_list (firsts xs)))) (rising-from_list texts_total texts_same ls s)
-    ∙ find_rising text_total text_same (is_after text_cmp g) (firsts ls) (firsts_do_not_fall ls s)
+next_is s g = find_rising text_total text_same (is_after text_cmp g) (firsts (set.rising s))
+    (firsts_do_not_fall (set.rising s) (rising_is_sorted texts_total texts_same s))
 
 pub section_of : (t : Text) (ls : List Texts) → IsStrictlySortedBy texts_cmp ls → suffixes_of (set.from_list ls) t ≡ set.from_list (tails_of t ls)
 unfolding suffixes_of
@@ -153,14 +151,6 @@ pub rests_rise : (t : Text) (ls : List Texts) → IsStrictlySortedBy texts_cmp l
 rests_rise t ls s =
     subst (IsStrictlySortedBy texts_cmp) (rising-section (set.from_list ls) t ∙ ap (tails_of t) (rising-from_list texts_total texts_same ls s))
     (rising_is_sorted texts_total texts_same (suffixes_of (set.from_list ls) t))
-
-pub behind_rises : (p : Texts) (ls : List Texts) → IsStrictlySortedBy texts_cmp ls → IsStrictlySortedBy texts_cmp (suffixes_behind p ls)
-behind_rises [] ls s = s
-behind_rises (t ∷ p) ls s = behind_rises p (tails_of t ls) (rests_rise t ls s)
-
-pub sections_of : (p : Texts) (ls : List Texts) → IsStrictlySortedBy texts_cmp ls → suffixes_after (set.from_list ls) p ≡ set.from_list (suffixes_behind p ls)
-sections_of [] ls s = refl
-sections_of (t ∷ p) ls s = ap (λ z. suffixes_after z p) (section_of t ls s) ∙ sections_of p (tails_of t ls) (rests_rise t ls s)
 
 strip_rests : (t : Text) (p : Texts) (ls : List Texts) → filter_map (strip p) (tails_of t ls) ≡ filter_map (strip (t ∷ p)) ls
 strip_rests t p [] = refl
@@ -179,21 +169,10 @@ filter_all : (ls : List Texts) → filter_map (strip []) ls ≡ ls
 filter_all [] = refl
 filter_all (l ∷ ls) = ap (λ z. l ∷ z) (filter_all ls)
 
-pub behind_strip : (p : Texts) (ls : List Texts) → suffixes_behind p ls ≡ filter_map (strip p) ls
-behind_strip [] ls = sym (filter_all ls)
-behind_strip (t ∷ p) ls = behind_strip p (tails_of t ls) ∙ strip_rests t p ls
-
 pub rising_strip : (p : Texts) (s : Contents) → set.rising (suffixes_after s p) ≡ filter_map (strip p) (set.rising s)
-rising_strip p s =
-    let ls = set.rising s in
-    let sorted = rising_is_sorted texts_total texts_same s in
-    ap (λ z. set.rising (suffixes_after z p)) (sym (from_list-rising texts_total texts_same s)) ∙ ap set.rising (sections_of p ls sorted)
-    ∙ rising-from_list texts_total texts_same (suffixes_behind p ls) (behind_rises p ls sorted) ∙ behind_strip p ls
+rising_strip [] s = sym (filter_all (set.rising s))
+rising_strip (t ∷ p) s = rising_strip p (suffixes_of s t) ∙ ap (filter_map (strip p)) (rising-section s t) ∙ strip_rests t p (set.rising s)
 
-pub part_is : (p : Texts) (ls : List Texts) → IsStrictlySortedBy texts_cmp ls → (part : List Texts) (s : Contents) → part ≡ suffixes_behind p ls → set.from_list ls ≡ s
-    → set.from_list part ≡ suffixes_after s p
-part_is p ls sorted part s is view = ap set.from_list is ∙ sym (sections_of p ls sorted) ∙ ap (λ z. suffixes_after z p) view
-
-pub behind_first : (prefix : List (Bor Text)) (i : ℕ) (part below : List Texts) (otherwise : Bor Text) → i < length prefix
-    → below ≡ tails_of (get_or prefix i otherwise).now part → suffixes_behind (texts_at (drop (i + 1) prefix)) below ≡ suffixes_behind (texts_at (drop i prefix)) part
-behind_first prefix i part below otherwise h is = grind (arith, common_steps, at_drop_more)
+pub after_first : (prefix : List (Bor Text)) (i : ℕ) (part below : Contents) (otherwise : Bor Text) → i < length prefix
+    → below ≡ suffixes_of part (get_or prefix i otherwise).now → suffixes_after below (texts_at (drop (i + 1) prefix)) ≡ suffixes_after part (texts_at (drop i prefix))
+after_first prefix i part below otherwise h is = grind (arith, common_steps, at_drop_more)

@@ -14,7 +14,7 @@ use Rattle.std.specs.List.{AllByRecursion}
 use Rattle.std.specs.List.Sorted.{IsStrictlySortedBy}
 use Rattle.cadf_join.specs.Contents.{Text, Texts, Contents, text_cmp, texts_cmp, suffixes_of, tails_of}
 use Rattle.cadf_join.specs.laws.Contents.{text_total, text_same, texts_total, texts_same}
-use Rattle.cadf_join.specs.laws.Rising.{rising-from_list, rising_is_sorted}
+use Rattle.cadf_join.specs.laws.Rising.{from_list-rising, rising-from_list, rising_is_sorted}
 use Rattle.cadf_join.specs.laws.Sets as sets
 use Rattle.cadf_join.specs.Maps.{firsts, heads}
 use Rattle.cadf_join.specs.Sets as set
@@ -184,48 +184,41 @@ module _ (t : Text) where
       (sorted_head t (children rest) higher) j)
       ∙ ap (λ ks. (t, set.from_list (tails_of t ls)) ∷ map (λ k. (k, suffixes_of (set.from_list rest) k)) ks) (sym (children_are rest rest_rises)))
 
--- lists that the set s has; that of index i begins with t, and none before it has a first text
-module _ (t : Text) (s : Contents) (ls : List Texts) (rises : IsStrictlySortedBy texts_cmp ls) (view : set.from_list ls ≡ s) (i : ℕ) (few : i ≤ 1)
-    (empty : i ≡ 1 → first_text (get_or (set.rising s) 0 []) ≡ None) (text : first_text (get_or (set.rising s) i []) ≡ Some t) where
-  same : (j : ℕ) → first_text (get_or ls j []) ≡ first_text (get_or (set.rising s) j [])
-  same j = ap (λ (z : List Texts). first_text (get_or z j [])) (sym (rising-from_list texts_total texts_same ls rises) ∙ ap set.rising view)
+-- the list of index i begins with t, and none before it has a first text
+module _ (t : Text) (s : Contents) (i : ℕ) (few : i ≤ 1) (empty : i ≡ 1 → first_text (get_or (set.rising s) 0 []) ≡ None)
+    (text : first_text (get_or (set.rising s) i []) ≡ Some t) where
+  rises : IsStrictlySortedBy texts_cmp (set.rising s)
+  rises = rising_is_sorted texts_total texts_same s
 
-  begins_at : first_text (get_or ls i []) ≡ Some t
-  begins_at = same i ∙ text
+  pub within_lists : i + 1 ≤ length (set.rising s)
+  within_lists = let in_them = begins_within t (set.rising s) i text in omega (arith, in_them)
 
-  skips : i ≡ 1 → first_text (get_or ls 0 []) ≡ None
-  skips one = same 0 ∙ empty one
+  pub none_passed : (k : ℕ) → k < i + 1 → is_before (t ∷ []) true (get_or (set.rising s) k []) ≡ true
+  none_passed = all_before (set.rising s) rises (t ∷ []) true i (begins_within t (set.rising s) i text)
+      (begins_before t (get_or (set.rising s) i []) text)
 
-  pub within_lists : i + 1 ≤ length ls
-  within_lists = let in_them = begins_within t ls i begins_at in omega (arith, in_them)
+  module _ (n : ℕ) (from : i + 1 ≤ n) (below : AllByRecursion (λ l. is_before (t ∷ []) true l ≡ true) (take n (set.rising s)))
+      (above : AllByRecursion (λ l. is_before (t ∷ []) true l ≡ false) (drop n (set.rising s))) where
+    behind_is : map (λ l. drop 1 l) (drop i (take n (set.rising s))) ≡ tails_of t (set.rising s)
+    behind_is = section_between t (set.rising s) i n below above (none_below t (set.rising s) i few empty) (not_below t (set.rising s) rises i text)
 
-  pub none_passed : (k : ℕ) → k < i + 1 → is_before (t ∷ []) true (get_or ls k []) ≡ true
-  none_passed = all_before ls rises (t ∷ []) true i (begins_within t ls i begins_at) (begins_before t (get_or ls i []) begins_at)
+    pub part_rises : IsStrictlySortedBy texts_cmp (map (λ l. drop 1 l) (drop i (take n (set.rising s))))
+    part_rises = subst (IsStrictlySortedBy texts_cmp) (sym behind_is) (rests_rise t (set.rising s) rises)
 
-  module _ (n : ℕ) (from : i + 1 ≤ n) (below : AllByRecursion (λ l. is_before (t ∷ []) true l ≡ true) (take n ls))
-      (above : AllByRecursion (λ l. is_before (t ∷ []) true l ≡ false) (drop n ls)) (part rest : List Texts)
-      (part_is : part ≡ map (λ l. drop 1 l) (drop i (take n ls))) where
-    behind_is : part ≡ tails_of t ls
-    behind_is = part_is ∙ section_between t ls i n below above (none_below t ls i few skips) (not_below t ls rises i begins_at)
-
-    pub part_rises : IsStrictlySortedBy texts_cmp part
-    part_rises = subst (IsStrictlySortedBy texts_cmp) (sym behind_is) (rests_rise t ls rises)
-
-    module _ (rest_is : rest ≡ drop n ls) where
-      pub rest_rises : IsStrictlySortedBy texts_cmp rest
-      rest_rises = subst (IsStrictlySortedBy texts_cmp) (sym rest_is) (drop_sorted ls n rises)
-
-      pub sections_are : (t, set.from_list part) ∷ sections_of (set.from_list rest) ≡ sections_of s
-      sections_are =
-          (λ j. (t, set.from_list (behind_is j)) ∷ sections_of (set.from_list (rest_is j)))
-          ∙ sections-some t ls rises i n (omega (arith, from)) few skips begins_at below above ∙ ap sections_of view
+    pub sections_are : (t, set.from_list (map (λ l. drop 1 l) (drop i (take n (set.rising s))))) ∷ sections_of (set.from_list (drop n (set.rising s)))
+        ≡ sections_of s
+    sections_are =
+        (λ j. (t, set.from_list (behind_is j)) ∷ sections_of (set.from_list (drop n (set.rising s))))
+        ∙ sections-some t (set.rising s) rises i n (omega (arith, from)) few empty text below above
+        ∙ ap sections_of (from_list-rising texts_total texts_same s)
 
 -- lists without first texts have no sections
-pub sections-none : (ls : List Texts) → IsStrictlySortedBy texts_cmp ls → first_text (get_or ls 0 []) ≡ None → first_text (get_or ls 1 []) ≡ None
-    → [] ≡ sections_of (set.from_list ls)
-sections-none ls s first second =
-    ap (map (λ k. (k, suffixes_of (set.from_list ls) k)))
-    (sym (children_are ls s ∙ ap (λ ts. set.rising (set.from_list {R = text_cmp} ts)) (no_first ls s first second) ∙ children-nil))
+pub sections-none : (s : Contents) → first_text (get_or (set.rising s) 0 []) ≡ None → first_text (get_or (set.rising s) 1 []) ≡ None → [] ≡ sections_of s
+unfolding heads
+sections-none s first second =
+    ap (map (λ k. (k, suffixes_of s k)))
+    (sym (ap (λ ts. set.rising (set.from_list {R = text_cmp} ts)) (no_first (set.rising s) (rising_is_sorted texts_total texts_same s) first second)
+    ∙ children-nil))
 
 -- ---- the count of first texts
 

@@ -1,7 +1,12 @@
 -- The lists between two bounds, each without one further text, are the suffixes after a text.
-use Rattle.std.proofs.Common.{◌≡◌, ℕ, suc, zero, true, false, List, [], ◌∷◌, refl, sym, ap, ◌∙◌, subst, take, drop, map}
+use Rattle.std.proofs.Common.{◌≡◌, ℕ, suc, zero, true, false, List, [], ◌∷◌, refl, sym, ap, ◌∙◌, subst, length, take, drop, map}
 use Rattle.std.specs.List.{AllByRecursion, take-map, drop-map}
-use Rattle.cadf_join.specs.Contents.{Text, Texts, tails_of}
+use Rattle.std.specs.List.Sorted.{IsStrictlySortedBy}
+use Rattle.std.proofs.lemmas.List.{length-map}
+use Rattle.cadf_join.specs.Contents.{Text, Texts, Contents, tails_of, texts_cmp}
+use Rattle.cadf_join.specs.Sets as set
+use Rattle.cadf_join.specs.laws.Contents.{texts_total, texts_same}
+use Rattle.cadf_join.specs.laws.Rising.{rising-from_list}
 use Rattle.cadf_pathset.specs.Lists.{is_before}
 use Rattle.cadf_pathset.specs.Nodes.{rest_of, IsThere}
 use Rattle.cadf_pathset.proofs.Behind.{rests_between, rests_from, rests_up_to}
@@ -28,6 +33,18 @@ last_of_front P xs zero high h = all_of_first P xs high h
 last_of_front P xs (suc low) zero h = tt
 last_of_front P [] (suc low) (suc high) h = tt
 last_of_front P (x ∷ xs) (suc low) (suc high) h = last_of_front P xs low high h
+
+-- the lists of the nodes are those of the set, in order
+module _ (ts : List Texts) (d : ℕ) (numbers : List ℕ) (s : Contents) (rises : IsStrictlySortedBy texts_cmp (map (rest_of ts d) numbers))
+    (view : set.from_list (map (rest_of ts d) numbers) ≡ s) where
+  pub shown : map (rest_of ts d) numbers ≡ set.rising s
+  shown = sym (rising-from_list texts_total texts_same (map (rest_of ts d) numbers) rises) ∙ ap set.rising view
+
+  pub shown_from : (n : ℕ) (rest : List ℕ) → rest ≡ drop n numbers → map (rest_of ts d) rest ≡ drop n (set.rising s)
+  shown_from n rest is = ap (map (rest_of ts d)) is ∙ sym (drop-map (rest_of ts d) n numbers) ∙ ap (drop n) shown
+
+  pub shown_count : length numbers ≡ length (set.rising s)
+  shown_count = sym (length-map numbers (rest_of ts d)) ∙ ap length shown
 
 map_twice : {A B C : Type 0} (f : A → B) (g : B → C) (xs : List A) → map (λ x. g (f x)) xs ≡ map g (map f xs)
 map_twice f g [] = refl

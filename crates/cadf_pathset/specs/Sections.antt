@@ -1,10 +1,9 @@
 -- The suffixes that follow a list of texts in a set.
 --     suffixes_after s p  the suffixes, after p, of the lists of s that begin with p
---     suffixes_behind p ls  the same of a list of lists
 --     sections_of s         the first texts of the lists of s, ascending, each with the suffixes that follow it
 --     sections_from f       the same: that of the least first text, and those above it
 use Rattle.std.specs.Prelude.{List, [], ◌∷◌, map, Option, Some, None}
-use Rattle.cadf_join.specs.Contents.{Text, Texts, Contents, suffixes_of, tails_of}
+use Rattle.cadf_join.specs.Contents.{Text, Texts, Contents, suffixes_of}
 use Rattle.cadf_join.specs.Maps.{heads}
 use Rattle.cadf_join.specs.Sets as set
 use Rattle.cadf_pathset.specs.declared.suffix_set.Section as held
@@ -12,10 +11,6 @@ use Rattle.cadf_pathset.specs.declared.suffix_set.Section as held
 abbrev pub suffixes_after : Contents → Texts → Contents
 suffixes_after s [] = s
 suffixes_after s (t ∷ p) = suffixes_after (suffixes_of s t) p
-
-abbrev pub suffixes_behind : Texts → List Texts → List Texts
-suffixes_behind [] ls = ls
-suffixes_behind (t ∷ p) ls = suffixes_behind p (tails_of t ls)
 
 abbrev pub sections_of : Contents → List (Text × Contents)
 sections_of s = map (λ t. (t, suffixes_of s t)) (set.rising (heads s))

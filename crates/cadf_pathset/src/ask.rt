@@ -96,9 +96,9 @@ impl PathSet {
     pub fn longest_suffix(&self, prefix: &[&str]) -> Result<Option<Vec<String>>, Memory>
         ensures { IfOk result (λ found. texts_found found ≡ longest_of (filter_map (strip (texts_at prefix.now)) (set.rising self.now))) }
     {
-        let range = self.rows.suffixes(prefix);
-        match range.longest() {
-            Some(number) => Ok(Some(range.to_strings(self.alloc, number)?)),
+        let suffixes = self.suffix_set(prefix);
+        match suffixes.longest() {
+            Some(number) => Ok(Some(suffixes.to_strings(number)?)),
             None => Ok(None),
         }
     }

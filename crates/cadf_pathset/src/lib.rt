@@ -18,7 +18,6 @@ mod path_set;
 mod path_vec;
 mod pool;
 mod sort;
-mod suffix_range;
 mod suffix_set;
 mod union;
 mod walk;

@@ -12,7 +12,6 @@ ghost use Rattle.cadf_pathset.specs.Lists.{at_places, last_of, last_starts_with,
 ghost use Rattle.cadf_pathset.specs.Nodes.{Agree, AreThere, lists_at};
 ghost use Rattle.cadf_join.specs.Sets as set;
 ghost use Rattle.cadf_pathset.specs.Merge.{sorted_merge};
-ghost use Rattle.cadf_pathset.specs.Sections.{suffixes_behind};
 
 use crate::as_text::AsText;
 use crate::compare::{begins_with, list_cmp, same_list};
@@ -20,7 +19,7 @@ use crate::cursor::Cursor;
 use crate::lines::{cmp_from, follow, is_of_last, known_of, line_starts_with, put_or_restore};
 use crate::nodes::{Nodes, common_depth};
 use crate::sort::sorted;
-use crate::suffix_range::SuffixRange;
+use crate::suffix_set::SuffixSet;
 use crate::union::merge_into;
 use crate::walk::visit_all;
 use crate::{Memory, Visitor};
@@ -222,23 +221,11 @@ impl PathVec {
     }
 
     /// Borrows all lists as suffixes of the empty prefix.
-    pub fn whole(&self) -> SuffixRange<'_>
-        ensures { result ≡ self.now }
-    {
-        SuffixRange::new(&self.nodes, self.numbers.as_slice(), 0)
-    }
-
-    /// Borrows the suffixes after the prefix.
-    pub fn suffixes(&self, prefix: &[&str]) -> SuffixRange<'_>
+    pub fn whole(&self) -> SuffixSet<'_>
         requires { IsStrictlySortedBy texts_cmp self.now }
-        ensures behind { result ≡ suffixes_behind (texts_at prefix.now) self.now }
-        ensures rising { IsStrictlySortedBy texts_cmp result }
+        ensures { result ≡ set.from_list self.now }
     {
-        let mut range = self.whole();
-        for text in prefix {
-            range = range.section(*text);
-        }
-        range
+        SuffixSet::new(self.alloc, &self.nodes, self.numbers.as_slice(), 0)
     }
 
     /// Returns the index of this list, or else of the first list above it. Binary search, which skips the texts that

@@ -1,24 +1,30 @@
 //! The suffixes after a prefix in a set, borrowed from the set.
-ghost use Rattle.std.specs.Prelude.{◌≡◌, ◌≤◌, [], IfOk, Some, None, length, get_or, nat_le};
+ghost use Rattle.std.specs.Prelude.{◌≡◌, ◌≤◌, ◌<◌, ℕ, [], ◌∷◌, IfOk, Some, None, true, false, length, take, drop, get_or, map, nat_le};
+ghost use Rattle.std.specs.List.{AllByRecursion, find};
 ghost use Rattle.std.specs.List.Sorted.{IsStrictlySortedBy};
 ghost use Rattle.std.specs.Option.{option_copied, option_map};
-ghost use Rattle.cadf_join.specs.Contents.{next_after, suffixes_of, texts_cmp};
-ghost use Rattle.cadf_join.specs.Longest.{longest_of};
-ghost use Rattle.cadf_join.specs.Maps.{heads};
-ghost use Rattle.cadf_join.specs.Prefixes.{all_texts};
+ghost use Rattle.cadf_join.specs.Contents.{is_after, next_after, suffixes_of, text_cmp, texts_cmp};
+ghost use Rattle.cadf_join.specs.Longest.{longer_than, longest_of};
+ghost use Rattle.cadf_join.specs.Maps.{firsts, heads};
+ghost use Rattle.cadf_join.specs.Prefixes.{all_texts, chain_texts};
 ghost use Rattle.cadf_join.specs.Sets as set;
-ghost use Rattle.cadf_pathset.specs.Lists.{first_text};
+ghost use Rattle.cadf_pathset.specs.Lists.{first_text, is_before, prefix_cmp};
+ghost use Rattle.cadf_pathset.specs.Nodes.{AreThere, rest_of};
 ghost use Rattle.cadf_pathset.specs.Sections.{sections_from, sections_of};
 
 use crate::Memory;
-use crate::suffix_range::SuffixRange;
+use crate::nodes::{Nodes, copy_after, depth, text_after, text_at};
 use std::alloc::Global;
+use std::cmp::Ordering;
 use std::marker::Model;
 
-/// The suffixes after a prefix in a set, borrowed from the set. No text is copied.
+/// The suffixes after a prefix in a set, borrowed from the set: a range of its lists, each without its first texts. No
+/// text is copied.
 #[derive(Drop)]
 pub struct SuffixSet<'a> {
-    range: SuffixRange<'a>,
+    nodes: &'a Nodes,
+    numbers: &'a [usize],
+    depth: usize,
     alloc: Global,
 }
 
@@ -31,44 +37,58 @@ pub struct Section<'a> {
 }
 
 impl<'a> Model for SuffixSet<'a> {
+    ghost use Rattle.std.specs.Prelude.{map};
+    ghost use Rattle.std.specs.List.Sorted.{IsStrictlySortedBy};
     ghost use Rattle.cadf_join.specs.Contents.{Contents, texts_cmp};
     ghost use Rattle.cadf_join.specs.Prefixes.{contents_code};
     ghost use Rattle.cadf_join.specs.Sets as set;
-    ghost use Rattle.std.specs.List.Sorted.{IsStrictlySortedBy};
+    ghost use Rattle.cadf_pathset.specs.Nodes.{AreThere, rest_of};
 
     ghost Value = { Contents };
 
     ghost coded = { contents_code };
 
-    ghost view = { λ s. set.from_list s.range };
+    ghost view = { λ s. set.from_list (map (rest_of s.nodes.now s.depth) s.numbers.now) };
 
-    ghost invariant = { λ s. IsStrictlySortedBy texts_cmp s.range };
+    ghost invariant = { λ s. AreThere s.nodes.now s.numbers.now × IsStrictlySortedBy texts_cmp (map (rest_of s.nodes.now s.depth) s.numbers.now) };
 }
 
 impl<'a> SuffixSet<'a> {
-    /// Wraps the suffixes of the range.
-    pub(crate) fn new(alloc: Global, range: SuffixRange<'a>) -> SuffixSet<'a>
-        requires { IsStrictlySortedBy texts_cmp range }
-        ensures { result ≡ set.from_list range.entry }
+    /// Makes the set of the nodes' lists, each without its first `depth` texts.
+    pub(crate) fn new(
+        alloc: Global,
+        nodes: &'a Nodes,
+        numbers: &'a [usize],
+        depth: usize,
+    ) -> SuffixSet<'a>
+        requires there { AreThere nodes.now numbers.now }
+        requires rising { IsStrictlySortedBy texts_cmp (map (rest_of nodes.now depth) numbers.now) }
+        ensures { result ≡ set.from_list (map (rest_of nodes.now depth) numbers.now) }
     {
-        SuffixSet { range, alloc }
+        SuffixSet {
+            nodes,
+            numbers,
+            depth,
+            alloc,
+        }
     }
 
     /// Returns the suffixes that follow the text: those that begin with it, without it. Binary search.
     pub fn section(&self, text: &str) -> SuffixSet<'a>
         ensures { result ≡ suffixes_of self.now text.now }
     {
-        SuffixSet::new(self.alloc, self.range.section(text))
+        let low = self.binary_search(text, false, 0, self.count());
+        self.between(low, self.gallop(text, low))
     }
 
     /// Returns the section of the least first text. `None` if there is no first text. Galloping search.
     pub fn first_section(&self) -> Option<Section<'a>>
         ensures { sections_from result ≡ sections_of self.now }
     {
-        if let Some(text) = self.range.text(0) {
+        if let Some(text) = self.text(0) {
             return Some(self.section_at(text, 0));
         }
-        match self.range.text(1) {
+        match self.text(1) {
             Some(text) => Some(self.section_at(text, 1)),
             None => None,
         }
@@ -81,12 +101,38 @@ impl<'a> SuffixSet<'a> {
         requires empty { number ≡ 1 → first_text (get_or (set.rising self.now) 0 []) ≡ None }
         ensures { sections_from (Some result) ≡ sections_of self.now }
     {
-        let high = self.range.gallop(text, number + 1);
+        let high = self.gallop(text, number + 1);
         Section {
             text,
-            behind: SuffixSet::new(self.alloc, self.range.between(number, high)),
-            above: SuffixSet::new(self.alloc, self.range.above(high)),
+            behind: self.between(number, high),
+            above: self.above(high),
         }
+    }
+
+    /// Returns the suffixes from index `low` to `high`, each without its first text.
+    fn between(&self, low: usize, high: usize) -> SuffixSet<'a>
+        requires order { low ≤ high }
+        requires within { high ≤ length (set.rising self.now) }
+        requires rising { IsStrictlySortedBy texts_cmp (map (λ l. drop 1 l) (drop low (take high (set.rising self.now)))) }
+        ensures { result ≡ set.from_list (map (λ l. drop 1 l) (drop low (take high (set.rising self.now)))) }
+    {
+        let (front, _) = self.numbers.split_at(high);
+        let (_, numbers) = front.split_at(low);
+        SuffixSet::new(
+            self.alloc,
+            self.nodes,
+            numbers,
+            self.nodes.next_depth(self.depth),
+        )
+    }
+
+    /// Returns the suffixes from that index on.
+    fn above(&self, number: usize) -> SuffixSet<'a>
+        requires { number ≤ length (set.rising self.now) }
+        ensures { result ≡ set.from_list (drop number (set.rising self.now)) }
+    {
+        let (_, numbers) = self.numbers.split_at(number);
+        SuffixSet::new(self.alloc, self.nodes, numbers, self.depth)
     }
 
     /// Returns whether there are two or more different first texts.
@@ -100,44 +146,175 @@ impl<'a> SuffixSet<'a> {
     }
 
     /// Returns the least first text above the given one. For `None`, the least of all. Binary search.
-    pub fn next_child(&self, text: Option<&str>) -> Option<&'a str>
+    pub(crate) fn next_child(&self, text: Option<&str>) -> Option<&'a str>
         ensures { option_copied result ≡ next_after (heads self.now) (option_copied text.entry) }
     {
-        self.range.next_child(text)
+        match text {
+            Some(text) => self.text(self.binary_search(text, true, 0, self.count())),
+            None => self.least_text(),
+        }
+    }
+
+    /// Returns the least first text.
+    fn least_text(&self) -> Option<&'a str>
+        ensures { option_copied result ≡ find (is_after text_cmp None) (firsts (set.rising self.now)) }
+    {
+        match self.text(0) {
+            Some(text) => Some(text),
+            None => self.text(1),
+        }
+    }
+
+    /// Returns the index, from `from` on, of the first suffix above those that begin with the text. Galloping search:
+    /// fast if it is close to `from`.
+    fn gallop(&self, text: &str, from: usize) -> usize
+        requires within { from ≤ length (set.rising self.now) }
+        requires below { (k : ℕ) → k < from → is_before (text.now ∷ []) true (get_or (set.rising self.now) k []) ≡ true }
+        ensures from { from ≤ result }
+        ensures within { result ≤ length (set.rising self.now) }
+        ensures below { AllByRecursion (λ l. is_before (text.now ∷ []) true l ≡ true) (take result (set.rising self.now)) }
+        ensures above { AllByRecursion (λ l. is_before (text.now ∷ []) true l ≡ false) (drop result (set.rising self.now)) }
+    {
+        let mut low = from;
+        let mut step: usize = 1;
+        while step <= self.count() - low {
+            let probe = low + (step - 1);
+            if !self.is_before(probe, text, true) {
+                return self.binary_search(text, true, low, probe);
+            }
+            low = probe + 1;
+            step = step.saturating_mul(2);
+        }
+        self.binary_search(text, true, low, self.count())
+    }
+
+    /// Returns the index, from `low` to `high`, of the first suffix that begins with the text or is above those that
+    /// do; if `passed`, of the first above them. Binary search.
+    fn binary_search(&self, text: &str, passed: bool, low: usize, high: usize) -> usize
+        requires order { low ≤ high }
+        requires ends { high ≤ length (set.rising self.now) }
+        requires below { (k : ℕ) → k < low → is_before (text.now ∷ []) passed (get_or (set.rising self.now) k []) ≡ true }
+        requires above { (k : ℕ) → high ≤ k → k < length (set.rising self.now) → is_before (text.now ∷ []) passed (get_or (set.rising self.now) k []) ≡ false }
+        ensures from { low ≤ result }
+        ensures within { result ≤ length (set.rising self.now) }
+        ensures below { AllByRecursion (λ l. is_before (text.now ∷ []) passed l ≡ true) (take result (set.rising self.now)) }
+        ensures above { AllByRecursion (λ l. is_before (text.now ∷ []) passed l ≡ false) (drop result (set.rising self.now)) }
+    {
+        let mut low = low;
+        let mut high = high;
+        while low < high {
+            let middle = low + (high - low) / 2;
+            if self.is_before(middle, text, passed) {
+                low = middle + 1;
+            } else {
+                high = middle;
+            }
+        }
+        low
+    }
+
+    /// Returns whether the suffix at that index is below those that begin with the text. One that begins with it counts
+    /// too, if `passed`.
+    fn is_before(&self, number: usize, text: &str, passed: bool) -> bool
+        ensures { result ≡ is_before (text.now ∷ []) passed (get_or (set.rising self.now) number []) }
+    {
+        match self.text_cmp(number, text) {
+            Ordering::Less => true,
+            Ordering::Equal => passed,
+            Ordering::Greater => false,
+        }
+    }
+
+    /// Compares the first text of the suffix at that index with the text. An empty suffix is less.
+    fn text_cmp(&self, number: usize, text: &str) -> Ordering
+        ensures { result ≡ prefix_cmp (get_or (set.rising self.now) number []) (text.now ∷ []) }
+    {
+        match self.text(number) {
+            Some(first) => first.cmp(text),
+            None => Ordering::Less,
+        }
+    }
+
+    /// Returns the first text of the suffix at that index. `None` if the suffix is empty, or there is none.
+    fn text(&self, number: usize) -> Option<&'a str>
+        ensures { option_copied result ≡ first_text (get_or (set.rising self.now) number []) }
+    {
+        match self.numbers.get(number) {
+            Some(node) => text_after(self.nodes, *node, self.depth),
+            None => None,
+        }
     }
 
     /// Counts the suffixes.
     pub fn count(&self) -> usize
         ensures { result ≡ length (set.rising self.now) }
     {
-        self.range.count()
+        self.numbers.len()
     }
 
     /// Counts the texts of the suffix at that index.
     pub fn length(&self, number: usize) -> usize
         ensures { result ≡ length (get_or (set.rising self.now) number []) }
     {
-        self.range.length(number)
+        match self.numbers.get(number) {
+            Some(node) => depth(self.nodes, *node).saturating_sub(self.depth),
+            None => 0,
+        }
     }
 
     /// Returns the text at index `place` of the suffix at index `number`. The empty text if there is none.
     pub fn text_at(&self, number: usize, place: usize) -> &'a str
         ensures { result.now ≡ get_or (get_or (set.rising self.now) number []) place [] }
     {
-        self.range.text_at(number, place)
+        match self.numbers.get(number) {
+            Some(node) => text_at(self.nodes, *node, self.depth, place),
+            None => "",
+        }
     }
 
     /// Returns the index of the longest suffix, the first of equally long ones. `None` if there are no suffixes.
     pub fn longest(&self) -> Option<usize>
         ensures { option_map (λ n. get_or (set.rising self.now) n []) result ≡ longest_of (set.rising self.now) }
     {
-        self.range.longest()
+        let mut best = None;
+        let mut number = 0;
+        while number < self.count() {
+            if self.is_longer(number, best) {
+                best = Some(number);
+            }
+            number += 1;
+        }
+        best
+    }
+
+    /// Returns whether the suffix at that index is longer than the best so far, or there is none so far.
+    fn is_longer(&self, number: usize, best: Option<usize>) -> bool
+        ensures { result ≡ longer_than (option_map (λ n. get_or (set.rising self.now) n []) best) (get_or (set.rising self.now) number []) }
+    {
+        match best {
+            Some(best) => self.length(best) < self.length(number),
+            None => true,
+        }
+    }
+
+    /// Copies the suffix at that index. Copies nothing if there is none.
+    pub(crate) fn to_strings(&self, number: usize) -> Result<Vec<String>, Memory>
+        ensures { IfOk result (λ list. chain_texts list.items ≡ get_or (set.rising self.now) number []) }
+    {
+        match self.numbers.get(number) {
+            Some(node) => copy_after(self.alloc, self.nodes, *node, self.depth),
+            None => Ok(Vec::new(self.alloc)),
+        }
     }
 
     /// Copies the suffixes, in order.
     pub fn lists(&self) -> Result<Vec<Vec<String>>, Memory>
         ensures { IfOk result (λ lists. all_texts lists.items ≡ set.rising self.now) }
     {
-        self.range.copy_all(self.alloc)
+        let mut lists = Vec::with_capacity(self.alloc, self.count())?;
+        for node in self.numbers {
+            lists.push(copy_after(self.alloc, self.nodes, *node, self.depth)?)?;
+        }
+        Ok(lists)
     }
 }

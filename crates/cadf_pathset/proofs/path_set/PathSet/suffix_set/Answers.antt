@@ -1,7 +1,12 @@
 use Rattle.std.proofs.lemmas.Grind.{common_steps}
-use Rattle.std.proofs.Common.{arith}
-use Rattle.cadf_pathset.proofs.Behind.{part_is}
+use Rattle.std.proofs.Common.{◌∙◌, ap, arith}
+use Rattle.cadf_join.specs.Prefixes.{texts_at}
+use Rattle.cadf_pathset.specs.Sections.{suffixes_after}
+use Rattle.cadf_pathset.proofs.Behind.{after_first}
 use Rattle.cadf_pathset.proofs.path_set.PathSet.suffix_set.Goals as goal
 
-pub returns : goal.returns
-returns c = grind (arith, common_steps, part_is)
+pub loop-text-init : goal.loop-text-init
+loop-text-init c = ap (λ s. suffixes_after s (texts_at c.args.prefix.now)) (c.whole-suffixes.ensures ∙ c.self.view_is)
+
+pub loop-text-preserved : goal.loop-text-preserved
+loop-text-preserved c = grind (arith, common_steps, after_first)

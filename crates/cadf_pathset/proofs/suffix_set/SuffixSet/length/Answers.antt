@@ -1,10 +1,10 @@
-use Rattle.std.proofs.Common.{[], length, get_or, ap, sym, ◌∙◌}
-use Rattle.cadf_join.specs.laws.Contents.{texts_total, texts_same}
-use Rattle.cadf_join.specs.laws.Rising.{rising-from_list}
-use Rattle.cadf_join.specs.Sets as set
+use Rattle.std.proofs.lemmas.Grind.{common_steps}
+use Rattle.std.proofs.Common.{arith}
+use Rattle.cadf_pathset.proofs.Narrowed.{shown}
 use Rattle.cadf_pathset.proofs.suffix_set.SuffixSet.length.Goals as goal
 
-pub returns : goal.returns
-returns c =
-    c.length.ensures ∙ ap (λ ls. length (get_or ls c.args.number []))
-    (sym (rising-from_list texts_total texts_same c.self.inside.range c.self.invariant) ∙ ap set.rising c.self.view_is)
+pub returns-in-Some : goal.returns-in-Some
+returns-in-Some c = rw (← shown c.self.inside.nodes.now c.self.inside.depth c.self.inside.numbers.now c.args.self.now c.self.invariant.1 c.self.view_is) (grind (arith, common_steps))
+
+pub returns-in-None : goal.returns-in-None
+returns-in-None c = rw (← shown c.self.inside.nodes.now c.self.inside.depth c.self.inside.numbers.now c.args.self.now c.self.invariant.1 c.self.view_is) (grind (arith, common_steps))

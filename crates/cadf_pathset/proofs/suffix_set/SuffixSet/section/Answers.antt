@@ -1,12 +1,22 @@
-use Rattle.std.proofs.lemmas.Grind.{common_steps}
-use Rattle.std.proofs.Common.{sym, subst, arith}
+use Rattle.std.proofs.Common.{◌∙◌, ap, subst, sym}
 use Rattle.std.specs.List.Sorted.{IsStrictlySortedBy}
-use Rattle.cadf_join.specs.Contents.{texts_cmp}
-use Rattle.cadf_pathset.proofs.Behind.{rests_rise, section_of}
+use Rattle.cadf_join.specs.Contents.{suffixes_of, texts_cmp}
+use Rattle.cadf_join.specs.Sets as set
+use Rattle.cadf_join.specs.laws.Contents.{texts_total, texts_same}
+use Rattle.cadf_join.specs.laws.Rising.{rising_is_sorted}
+use Rattle.cadf_pathset.proofs.Behind.{rests_rise}
+use Rattle.cadf_pathset.proofs.Narrowed.{section_between}
 use Rattle.cadf_pathset.proofs.suffix_set.SuffixSet.section.Goals as goal
 
-pub new-requires : goal.new-requires
-new-requires c = subst (IsStrictlySortedBy texts_cmp) (sym c.section.ensures) (rests_rise c.args.text.now c.self.inside.range c.self.invariant)
+pub between-requires-clause-rising : goal.between-requires-clause-rising
+between-requires-clause-rising c =
+    subst (IsStrictlySortedBy texts_cmp) (sym (section_between c.args.text.now (set.rising c.args.self.now) _ _ c.gallop.ensures.below c.gallop.ensures.above
+    c.binary_search-low.ensures.below c.binary_search-low.ensures.above))
+    (rests_rise c.args.text.now (set.rising c.args.self.now) (rising_is_sorted texts_total texts_same c.args.self.now))
 
 pub returns : goal.returns
-returns c = grind (arith, common_steps, section_of)
+unfolding suffixes_of
+returns c =
+    c.between.ensures
+    ∙ ap set.from_list (section_between c.args.text.now (set.rising c.args.self.now) _ _ c.gallop.ensures.below c.gallop.ensures.above
+    c.binary_search-low.ensures.below c.binary_search-low.ensures.above)

@@ -1,6 +1,9 @@
 use Rattle.std.proofs.Common.{◌∷◌, [], true, arith, sym, ◌∙◌}
+use Rattle.cadf_join.specs.Sets as set
+use Rattle.cadf_join.specs.laws.Contents.{texts_total, texts_same}
+use Rattle.cadf_join.specs.laws.Rising.{rising_is_sorted}
 use Rattle.cadf_pathset.proofs.Halving.{all_before, none_before}
-use Rattle.cadf_pathset.proofs.suffix_range.SuffixRange.gallop.Goals as goal
+use Rattle.cadf_pathset.proofs.suffix_set.SuffixSet.gallop.Goals as goal
 
 pub binary_search-requires-clause-above : goal.binary_search-requires-clause-above
 binary_search-requires-clause-above c =
@@ -8,7 +11,7 @@ binary_search-requires-clause-above c =
     let s = c.loop-step.invariant.some in
     let t = c.loop-step-test.true in
     let n = c.count.ensures in
-    none_before c.args.self.now c.requires.rising (c.args.text.now ∷ []) true _ (omega (arith, w, s, t, n))
+    none_before (set.rising c.args.self.now) (rising_is_sorted texts_total texts_same c.args.self.now) (c.args.text.now ∷ []) true _ (omega (arith, w, s, t, n))
     (sym c.is_before.ensures ∙ c.if-not-is_before.true)
 
 pub loop-step-preserved : goal.loop-step-preserved
@@ -23,6 +26,6 @@ loop-step-preserved c =
       from = omega (arith, f, s);
       within = omega (arith, w, s, t, n);
       some = omega (arith, s, m);
-      below = all_before c.args.self.now c.requires.rising (c.args.text.now ∷ []) true _ (omega (arith, w, s, t, n))
+      below = all_before (set.rising c.args.self.now) (rising_is_sorted texts_total texts_same c.args.self.now) (c.args.text.now ∷ []) true _ (omega (arith, w, s, t, n))
           (sym c.is_before.ensures ∙ c.if-not-is_before.false);
     }

@@ -1,7 +1,0 @@
-use Rattle.std.proofs.Common.{◌≡◌, ◌++◌, drop, map}
-use Rattle.cadf_join.specs.Prefixes.{all_texts}
-use Rattle.cadf_pathset.specs.Nodes.{rest_of}
-use Rattle.cadf_pathset.proofs.suffix_range.SuffixRange.copy_all.Given as goal
-
-abbrev pub invariant-loop-node : goal.invariant-loop-node
-invariant-loop-node l = all_texts l.lists.items ++ map (rest_of l.self-inside.nodes.now l.self-inside.depth) (drop l.node-index l.node-items) ≡ l.self
