@@ -1,13 +1,13 @@
 -- A climb from a node, beside a list.
 use Rattle.std.proofs.lemmas.Grind.{common_steps}
-use Rattle.std.proofs.Common.{◌≡◌, ℕ, ◌+◌, ◌-◌, ◌<◌, ◌≤◌, min, [], ◌∷◌, ◌++◌, sym, ap, ◌∙◌, subst, length, take, get_or, arith}
+use Rattle.std.proofs.Common.{◌≡◌, ℕ, ◌+◌, ◌-◌, ◌<◌, ◌≤◌, min, [], ◌∷◌, ◌++◌, sym, ap, ◌∙◌, length, take, get_or, arith}
 use Rattle.std.proofs.lemmas.List.{length-take, take-take, take_at, take_min}
 use Rattle.std.specs.declared.cmp.Ordering.{Ordering}
 use Rattle.std.specs.declared.cmp.Ordering.TheVariants.{Less, Equal, Greater}
 use Rattle.cadf_join.specs.Contents.{Text, Texts, text_cmp, texts_cmp}
 use Rattle.std.specs.Ordering.{ordering_then}
-use Rattle.cadf_pathset.specs.Nodes.{Agree, last_text}
-use Rattle.cadf_pathset.proofs.Agreement.{agree_less, agree_more}
+use Rattle.cadf_pathset.specs.Nodes.{Agree, last_text, shared}
+use Rattle.cadf_pathset.proofs.Agreement.{agree_less, agree_more, parted}
 use Rattle.cadf_pathset.proofs.Arena.{last_of_push}
 use Rattle.cadf_pathset.proofs.Compared.{less_is_not, greater_is_not}
 use Rattle.cadf_pathset.proofs.Orders.{cmp_same, front_more}
@@ -25,10 +25,13 @@ front_fits a l d front long = let x = ap length front in let y = length-take d a
 pub last_front : (a l : Texts) (d : ℕ) → 0 < d → d ≤ length a → l ≡ take d a → last_text l ≡ get_or a (d - 1) []
 last_front a l d some fits front = grind (arith, common_steps, front_more, last_of_push)
 
-pub shares_step : (a b : Texts) (d agreed next : ℕ) (r : Ordering) → (Agree d a b → Agree agreed a b) → 0 < d → d ≤ length a → d ≤ length b
-    → text_cmp (get_or a (d - 1) []) (get_or b (d - 1) []) ≡ r → (r ≡ Equal → next ≡ agreed) → ((r ≡ Equal → ⊥) → next ≡ d - 1) → Agree (d - 1) a b → Agree next a b
-shares_step a b d agreed next Less h some x y e same here g = subst (λ k. Agree k a b) (sym (here less_is_not)) g
-shares_step a b d agreed next Greater h some x y e same here g = subst (λ k. Agree k a b) (sym (here greater_is_not)) g
+pub shares_step : (a b : Texts) (d agreed next : ℕ) (r : Ordering) → (Agree d a b → agreed ≡ shared a b) → 0 < d → d ≤ length a → d ≤ length b
+    → text_cmp (get_or a (d - 1) []) (get_or b (d - 1) []) ≡ r → (r ≡ Equal → next ≡ agreed) → ((r ≡ Equal → ⊥) → next ≡ d - 1) → Agree (d - 1) a b
+    → next ≡ shared a b
+shares_step a b d agreed next Less h some x y e same here g =
+    here less_is_not ∙ sym (parted (d - 1) a b Less g (omega (arith, some, x)) (omega (arith, some, y)) e less_is_not).1
+shares_step a b d agreed next Greater h some x y e same here g =
+    here greater_is_not ∙ sym (parted (d - 1) a b Greater g (omega (arith, some, x)) (omega (arith, some, y)) e greater_is_not).1
 shares_step a b d agreed next Equal h some x y e same here g = grind (arith, common_steps, agree_more)
 
 pub text_up : (a l : Texts) (i : ℕ) → i < length a → l ≡ take (i + 1) a → last_text l ≡ get_or a i []

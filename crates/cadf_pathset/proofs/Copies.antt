@@ -1,6 +1,6 @@
 -- The texts that lists share which are visited and copied.
 use Rattle.std.proofs.lemmas.Grind.{common_steps}
-use Rattle.std.proofs.Common.{◌≡◌, ℕ, Bool, true, false, cond, ◌≤◌, ◌<◌, ◌-◌, nat_eq, get_or, List, [], ◌∷◌, ◌++◌, refl, sym, ap, ◌∙◌, subst, suc, zero, length, min, map, take, arith}
+use Rattle.std.proofs.Common.{◌≡◌, ℕ, Bool, true, false, cond, ◌≤◌, ◌<◌, ◌-◌, nat_eq, get_or, List, [], ◌∷◌, ◌++◌, refl, sym, ap, ◌∙◌, subst, length, min, map, take, arith}
 use Rattle.std.proofs.lemmas.List.{append_assoc, length-take-le, take-take}
 use Rattle.std.proofs.lemmas.Bool.Decides.{nat_tests}
 use Rattle.std.specs.List.{AllByRecursion, filter}
@@ -12,12 +12,11 @@ use Rattle.cadf_join.specs.Contents.{Texts, texts_cmp}
 use Rattle.cadf_join.specs.laws.Contents.{texts_total}
 use Rattle.cadf_pathset.specs.Lists.{chosen_of, last_of}
 use Rattle.cadf_pathset.specs.Merge.{sorted_without}
-use Rattle.cadf_pathset.specs.Nodes.{Agree, IsLine, last_node, list_at, lists_at, place, shared}
+use Rattle.cadf_pathset.specs.Nodes.{Agree, last_node, list_at, lists_at, place, shared}
 use Rattle.cadf_pathset.specs.Walks.{Place, Steps, lists_ahead}
 use Rattle.cadf_pathset.proofs.Agreement.{agree_less, agree_through, agree_turned}
 use Rattle.cadf_pathset.proofs.CarrierLists.{last-more}
 use Rattle.cadf_pathset.proofs.Merging.{agree_shared}
-use Rattle.cadf_pathset.proofs.Threads.{line_cut, place_of}
 
 pub stepped_ahead : (more : Bool) (a b : Place) (n m : ℕ) → Steps more a b n m → lists_ahead more b ≡ a.1
 stepped_ahead true a b n m h = sym h.0
@@ -62,17 +61,6 @@ last_from l (k ∷ ls) = last_from k ls
 pub last_got : (ls : List Texts) → 0 < length ls → get_or ls (length ls - 1) [] ≡ last_of [] ls
 last_got [] h = absurd (omega (arith, h))
 last_got (l ∷ ls) h = grind (arith, common_steps, last_from)
-
-take_least : (k m : ℕ) (l : Texts) → k ≡ min (length l) m → take k l ≡ take m l
-take_least k zero l e = let z : k ≡ 0 = omega (arith, e) in ap (λ j. take j l) z
-take_least k (suc m) [] e = let z : k ≡ 0 = omega (arith, e) in ap (λ j. take j []) z
-take_least zero (suc m) (t ∷ l) e = absurd (omega (arith, e))
-take_least (suc k) (suc m) (t ∷ l) e = ap (λ z. t ∷ z) (take_least k m l (omega (arith, e)))
-
--- the line of the first texts of a list, as many as another has
-pub front_place : (ls : List Texts) (ns ms : List ℕ) (k m : ℕ) → IsLine ls ns (place ls ns) → k ≡ min (length ns) m → ms ≡ take k ns
-    → place ls ms ≡ take m (place ls ns)
-front_place ls ns ms k m h e cut = grind (arith, common_steps, place_of, line_cut, take_least)
 
 pub chosen_none : (bs : List Bool) → chosen_of bs [] ≡ []
 chosen_none [] = refl

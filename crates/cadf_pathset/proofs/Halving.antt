@@ -1,6 +1,6 @@
 -- The result of a binary search in strictly ascending lists.
 use Rattle.std.proofs.lemmas.Grind.{common_steps}
-use Rattle.std.proofs.Common.{◌≡◌, ℕ, ◌+◌, ◌-◌, ◌≤◌, ◌<◌, Bool, true, false, List, [], ◌∷◌, ◌++◌}
+use Rattle.std.proofs.Common.{◌≡◌, ℕ, ◌+◌, ◌≤◌, ◌<◌, Bool, true, false, List, [], ◌∷◌, ◌++◌}
 use Rattle.std.proofs.Common.{refl, sym, ap, ◌∙◌, suc, zero, length, take, drop, get_or, ◌||◌, arith, Some}
 use mathlib.Core.Bool.{true≢false}
 use Rattle.std.specs.declared.cmp.Ordering.{Ordering}
@@ -17,7 +17,7 @@ use Rattle.cadf_join.specs.Sets as set
 use Rattle.cadf_join.specs.Sets.{contains-from_list, contains-insert}
 use Rattle.cadf_pathset.proofs.Grown.{all_turned}
 use Rattle.cadf_pathset.proofs.Inserts.{all_put}
-use Rattle.cadf_pathset.specs.Lists.{prefix_cmp, is_before, last_of, last_starts_with}
+use Rattle.cadf_pathset.specs.Lists.{prefix_cmp, is_before}
 
 -- lists below a list that is before the bound are before the bound
 pub before_below : (p : Texts) (more : Bool) (a b : Texts) → texts_cmp a b ≡ Less → is_before p more b ≡ true → is_before p more a ≡ true
@@ -84,14 +84,6 @@ all_dropped P [] zero h = tt
 all_dropped P [] (suc n) h = tt
 all_dropped P (x ∷ xs) zero h = (h 0 (omega arith) (omega arith), all_dropped P xs zero (λ i b l. h (suc i) (omega arith) (omega (arith, l))))
 all_dropped P (x ∷ xs) (suc n) h = all_dropped P xs n (λ i b l. h (suc i) (omega (arith, b)) (omega (arith, l)))
-
-last_at : (l : Texts) (ls : List Texts) → get_or (l ∷ ls) (length ls) [] ≡ last_of l ls
-last_at l [] = refl
-last_at l (k ∷ ls) = last_at k ls
-
-pub ends_behind_at : (ls : List Texts) (p : Texts) → (ls ≡ [] → ⊥) → is_eq (prefix_cmp (get_or ls (length ls - 1) []) p) ≡ last_starts_with ls p
-ends_behind_at [] p some = absurd (some refl)
-ends_behind_at (l ∷ ls) p some = grind (arith, common_steps, last_at)
 
 pub turned : (a q : Texts) → texts_cmp a q ≡ Greater → texts_cmp q a ≡ Less
 turned a q h = texts_total.antisymm q a ∙ ap ordering_reverse h

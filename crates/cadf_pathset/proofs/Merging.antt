@@ -55,6 +55,9 @@ agree_shared (t ∷ a) (u ∷ b) = by (agree_shared a b) (text_cmp t u) refl
           same = ap (λ k. take k (t ∷ a)) one ∙ (λ i. text_same t u e i ∷ rest.same i) ∙ ap (λ k. take k (u ∷ b)) (sym one);
         }
 
+pub agree_as : (a b : Texts) (n : ℕ) → n ≡ shared a b → Agree n a b
+agree_as a b n is = subst (λ k. Agree k a b) (sym is) (agree_shared a b)
+
 -- a line of the first texts of one list, cut to those that another shares
 pub line_shared : (ls : List Texts) (ns : List ℕ) (a b : Texts) (s : ℕ) → IsLine ls ns (take (length ns) a) → Agree s a b
     → IsLine ls (take s ns) (take (length (take s ns)) b)

@@ -1,16 +1,13 @@
 -- A path whose suffix is replaced by a list that shares first texts with it.
 use Rattle.std.proofs.lemmas.Grind.{common_steps}
 use Rattle.std.proofs.Common.{◌≡◌, ℕ, ◌+◌, ◌≤◌, List, [], ◌∷◌, ◌++◌, sym, ap, subst, Some, ◌∙◌, suc, zero, append_assoc, length, take, drop, arith}
-use Rattle.std.proofs.lemmas.List.{length-append, length-map, length-take-le, map-append, take-append-drop, take-append-le, take-take, take-map, drop-map, take_at}
+use Rattle.std.proofs.lemmas.List.{length-append, length-map, map-append, take-append-drop, take-map, drop-map, take_at}
 use Rattle.std.specs.Borrow.{Bor}
 use Rattle.cadf_join.specs.Contents.{Texts}
 use Rattle.cadf_join.specs.Prefixes.{texts_at}
 use Rattle.cadf_pathset.specs.Nodes.{Agree}
 use Rattle.cadf_pathset.specs.Walks.{Advances, Place}
 use Rattle.cadf_pathset.proofs.Merging.{agree_shared}
-
-pub front_stays : {A : Type 0} (xs ys : List A) (n k : ℕ) → n + k ≤ length xs → take n (take (n + k) xs ++ ys) ≡ take n xs
-front_stays xs ys n k h = grind (arith, common_steps, length-take-le, take-append-le, take-take)
 
 front_both : (p c : Texts) (n k : ℕ) → n ≡ length p → take (n + k) (p ++ c) ≡ p ++ take k c
 front_both [] c n k e = let same : n + k ≡ k = omega (arith, e) in ap (λ j. take j c) same

@@ -1,16 +1,46 @@
 -- The suffixes of lists, by their first texts.
 use Rattle.std.proofs.lemmas.Grind.{common_steps}
-use Rattle.std.proofs.Common.{◌≡◌, ℕ, ◌+◌, ◌≤◌, [], ◌∷◌, None, refl, sym, ap, ◌∙◌, suc, zero}
-use Rattle.std.proofs.Common.{length, take, drop, get_or, arith}
+use Rattle.std.proofs.Common.{◌≡◌, ℕ, ◌+◌, ◌≤◌, List, [], ◌∷◌, Option, Some, None, refl, sym, ap, ◌∙◌, suc, zero}
+use Rattle.std.proofs.Common.{length, drop, get_or, arith}
 use Rattle.std.proofs.lemmas.List.{drop-drop}
-use Rattle.cadf_join.specs.Contents.{Texts, texts_cmp}
-use Rattle.cadf_pathset.specs.Lists.{first_text, prefix_cmp}
+use Rattle.cadf_join.specs.Contents.{Text, Texts, text_cmp}
+use Rattle.std.specs.Borrow.{Bor}
+use Rattle.std.specs.Prelude.{nat_eq}
+use Rattle.std.specs.Option.{option_copied, unwrap_or}
+use Rattle.std.specs.declared.cmp.Ordering.{Ordering}
+use Rattle.std.specs.declared.cmp.Ordering.TheVariants.{Less, Equal, Greater}
+use Rattle.std.specs.Ordering.{is_eq, match_ordering}
+use Rattle.std.proofs.lemmas.Bool.Decides.{nat_tests}
+use Rattle.cadf_pathset.specs.Lists.{first_text, last_of, last_starts_with, prefix_cmp}
+use Rattle.cadf_pathset.specs.Nodes.{shared}
 
--- a list begins with a prefix if and only if its first texts, as many, are the prefix
-pub prefix_by_cmp : (l p : Texts) → texts_cmp (take (length p) l) p ≡ prefix_cmp l p
-prefix_by_cmp l [] = refl
-prefix_by_cmp [] (t ∷ p) = refl
-prefix_by_cmp (u ∷ l) (t ∷ p) = grind (arith, common_steps, (prefix_by_cmp l p))
+-- a list begins with a prefix if and only if it shares all of its texts
+prefix_by_shared : (l p : Texts) → is_eq (prefix_cmp l p) ≡ nat_eq (shared l p) (length p)
+prefix_by_shared [] [] = refl
+prefix_by_shared (u ∷ l) [] = refl
+prefix_by_shared [] (t ∷ p) = grind (arith, common_steps, nat_tests)
+prefix_by_shared (u ∷ l) (t ∷ p) = by (text_cmp u t) (prefix_by_shared l p)
+  where
+    by : (r : Ordering) → is_eq (prefix_cmp l p) ≡ nat_eq (shared l p) (length p)
+        → is_eq (match_ordering r Less (prefix_cmp l p) Greater) ≡ nat_eq (match_ordering r 0 (shared l p + 1) 0) (suc (length p))
+    by Less h = grind (arith, common_steps, nat_tests)
+    by Equal h = grind (arith, common_steps, nat_tests)
+    by Greater h = grind (arith, common_steps, nat_tests)
+
+pub last_begins : (ls : List Texts) (p : Texts) → (ls ≡ [] → ⊥) → nat_eq (shared (last_of [] ls) p) (length p) ≡ last_starts_with ls p
+last_begins [] p some = absurd (some refl)
+last_begins (l ∷ ls) p some = sym (prefix_by_shared (last_of l ls) p)
+
+first_at : (l : Texts) (i : ℕ) → unwrap_or (first_text (drop i l)) [] ≡ get_or l i []
+first_at [] zero = refl
+first_at [] (suc i) = refl
+first_at (t ∷ l) zero = refl
+first_at (t ∷ l) (suc i) = first_at l i
+
+pub first_or_none : (o : Option (Bor Text)) (l : Texts) (i : ℕ) (other : Bor Text) → option_copied o ≡ first_text (drop i l) → other.now ≡ []
+    → (unwrap_or o other).now ≡ get_or l i []
+first_or_none None l i other h none = none ∙ ap (λ o. unwrap_or o []) h ∙ first_at l i
+first_or_none (Some t) l i other h none = ap (λ o. unwrap_or o []) h ∙ first_at l i
 
 pub dropped_all : (l : Texts) (n : ℕ) → length l ≤ n → drop n l ≡ []
 dropped_all [] zero h = refl
@@ -18,18 +48,8 @@ dropped_all [] (suc n) h = refl
 dropped_all (t ∷ l) zero h = absurd (omega (arith, h))
 dropped_all (t ∷ l) (suc n) h = dropped_all l n (omega (arith, h))
 
-pub none_after : (l : Texts) (n : ℕ) → length l ≤ n → None ≡ first_text (drop n l)
-none_after l n h = sym (ap first_text (dropped_all l n h))
-
 pub drop_one_more : (l : Texts) (n : ℕ) → drop (n + 1) l ≡ drop 1 (drop n l)
 drop_one_more l n = sym (drop-drop 1 n l)
 
 pub drop_past : (l : Texts) (n : ℕ) → length l ≤ n → drop n l ≡ drop 1 (drop n l)
 drop_past l n h = dropped_all l n h ∙ sym (ap (drop 1) (dropped_all l n h))
-
-pub none_at : (l : Texts) (n i : ℕ) → length l ≤ n + i → [] ≡ get_or (drop n l) i []
-none_at [] zero i h = refl
-none_at [] (suc n) i h = refl
-none_at (t ∷ l) zero zero h = absurd (omega (arith, h))
-none_at (t ∷ l) zero (suc i) h = none_at l zero i (omega (arith, h))
-none_at (t ∷ l) (suc n) i h = none_at l n i (omega (arith, h))

@@ -50,7 +50,7 @@ impl PathSet {
         let at = self.rows.after(given);
         let mut cursor = self.rows.cursor_from(at);
         match cursor.advance()? {
-            Some(_) => Ok(Some(continued(self.alloc, &[], cursor.path())?)),
+            Some(_) => Ok(Some(continued(self.rows.alloc(), &[], cursor.path())?)),
             None => Ok(None),
         }
     }
@@ -67,10 +67,10 @@ impl PathSet {
     pub fn child_texts(&self, prefix: &[&str]) -> Result<Vec<String>, Memory>
         ensures { IfOk result (λ found. map string_bytes found.items ≡ set.rising (heads (suffixes_after self.now (texts_at prefix.now)))) }
     {
-        let mut texts = Vec::new(self.alloc);
+        let mut texts = Vec::new(self.rows.alloc());
         let mut next = self.suffix_set(prefix).first_section();
         while let Some(first) = next {
-            texts.push(String::from_str(self.alloc, first.text)?)?;
+            texts.push(String::from_str(self.rows.alloc(), first.text)?)?;
             next = first.above.first_section();
         }
         Ok(texts)

@@ -14,7 +14,6 @@ use std::marker::Model;
 #[derive(Drop)]
 pub struct PathSetBuilder {
     rows: PathVec,
-    alloc: Global,
 }
 
 impl Model for PathSetBuilder {
@@ -40,7 +39,6 @@ impl PathSetBuilder {
     {
         PathSetBuilder {
             rows: PathVec::new(alloc),
-            alloc,
         }
     }
 
@@ -60,9 +58,6 @@ impl PathSetBuilder {
     {
         let mut rows = self.rows;
         rows.sort()?;
-        Ok(PathSet {
-            rows,
-            alloc: self.alloc,
-        })
+        Ok(PathSet { rows })
     }
 }

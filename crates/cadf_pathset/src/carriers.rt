@@ -10,7 +10,6 @@ ghost use Rattle.cadf_pathset.specs.Carriers.{carriers_in, with_carriers_by};
 use crate::Memory;
 use crate::copier::Copier;
 use crate::path_vec::PathVec;
-use std::alloc::Global;
 
 /// Determines the carrier of each list: a prefix of the list, or the whole list.
 pub trait Carrier {
@@ -27,10 +26,10 @@ pub trait Carrier {
 }
 
 /// Returns the carriers of the lists, ascending, each once.
-fn carriers_of<C: Carrier>(alloc: Global, rows: &PathVec) -> Result<PathVec, Memory>
+fn carriers_of<C: Carrier>(rows: &PathVec) -> Result<PathVec, Memory>
     ensures { IfOk result (λ all. all ≡ carriers_in C.carrier [] rows.now) }
 {
-    let mut copier = Copier::new(alloc, rows.cursor());
+    let mut copier = Copier::new(rows.alloc(), rows.cursor());
     while let Some(_) = copier.advance()? {
         copier.copy_if_above(C::length(copier.path()))?;
     }
@@ -38,12 +37,12 @@ fn carriers_of<C: Carrier>(alloc: Global, rows: &PathVec) -> Result<PathVec, Mem
 }
 
 /// Returns the lists, which are strictly ascending, with their carriers, in order.
-pub(crate) fn with_carriers<C: Carrier>(alloc: Global, lists: PathVec) -> Result<PathVec, Memory>
+pub(crate) fn with_carriers<C: Carrier>(lists: PathVec) -> Result<PathVec, Memory>
     requires { IsStrictlySortedBy texts_cmp lists }
     ensures rising { IfOk result (λ all. IsStrictlySortedBy texts_cmp all) }
     ensures set { IfOk result (λ all. set.from_list {R = texts_cmp} all ≡ with_carriers_by C.carrier (set.from_list lists)) }
 {
-    let carriers = carriers_of::<C>(alloc, &lists)?;
+    let carriers = carriers_of::<C>(&lists)?;
     let mut all = lists;
     all.join(&carriers)?;
     Ok(all)

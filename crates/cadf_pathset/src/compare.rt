@@ -1,9 +1,7 @@
 //! Compares the lists of nodes, without allocation and without recursion.
 ghost use Rattle.std.specs.Prelude.{◌≡◌, ◌≤◌, ◌↔◌, IsTrue, length, map};
 ghost use Rattle.cadf_join.specs.Contents.{texts_cmp};
-ghost use Rattle.std.specs.Ordering.{is_eq};
-ghost use Rattle.cadf_pathset.specs.Lists.{prefix_cmp};
-ghost use Rattle.cadf_pathset.specs.Nodes.{Agree, list_at};
+ghost use Rattle.cadf_pathset.specs.Nodes.{Agree, list_at, shared};
 
 use crate::as_text::{AsText, text_at};
 use crate::nodes::{Nodes, ancestor, depth};
@@ -14,7 +12,7 @@ use std::cmp::Ordering;
 const NEAR: usize = 8;
 
 /// Compares the node's list with another, if both are known to share their first `known` texts. Returns the order, and
-/// a number of first texts that both share.
+/// how many first texts they share.
 pub(crate) fn list_cmp<W: AsText>(
     nodes: &Nodes,
     node: usize,
@@ -24,7 +22,7 @@ pub(crate) fn list_cmp<W: AsText>(
     requires there { node ≤ length nodes.now }
     requires known { Agree known (list_at nodes.now node) (map W.bytes list.now) }
     ensures order { result.0 ≡ texts_cmp (list_at nodes.now node) (map W.bytes list.now) }
-    ensures agreed { Agree result.1 (list_at nodes.now node) (map W.bytes list.now) }
+    ensures agreed { result.1 ≡ shared (list_at nodes.now node) (map W.bytes list.now) }
 {
     let has = depth(nodes, node);
     if has.min(list.len()) - known > NEAR {
@@ -45,7 +43,7 @@ fn cmp_down<W: AsText>(
     requires has { has ≡ length (list_at nodes.now node) }
     requires known { Agree known (list_at nodes.now node) (map W.bytes list.now) }
     ensures order { result.0 ≡ texts_cmp (list_at nodes.now node) (map W.bytes list.now) }
-    ensures agreed { Agree result.1 (list_at nodes.now node) (map W.bytes list.now) }
+    ensures agreed { result.1 ≡ shared (list_at nodes.now node) (map W.bytes list.now) }
 {
     let mut agreed = known;
     while agreed < has && agreed < list.len() {
@@ -80,7 +78,7 @@ fn cmp_up<W: AsText>(
     requires has { has ≡ length (list_at nodes.now node) }
     requires known { Agree known (list_at nodes.now node) (map W.bytes list.now) }
     ensures order { result.0 ≡ texts_cmp (list_at nodes.now node) (map W.bytes list.now) }
-    ensures agreed { Agree result.1 (list_at nodes.now node) (map W.bytes list.now) }
+    ensures agreed { result.1 ≡ shared (list_at nodes.now node) (map W.bytes list.now) }
 {
     let mut found = has.cmp(&list.len());
     let mut at = ancestor(nodes, node, has, list.len());
@@ -94,16 +92,6 @@ fn cmp_up<W: AsText>(
         at = nodes.parent(at);
     }
     (found, agreed)
-}
-
-/// Returns whether the node's list begins with the prefix.
-pub(crate) fn begins_with<W: AsText>(nodes: &Nodes, node: usize, prefix: &[W]) -> bool
-    requires { node ≤ length nodes.now }
-    ensures { result ≡ is_eq (prefix_cmp (list_at nodes.now node) (map W.bytes prefix.now)) }
-{
-    let front = ancestor(nodes, node, depth(nodes, node), prefix.len());
-    let (order, _) = list_cmp(nodes, front, prefix, 0);
-    order.is_eq()
 }
 
 /// Returns whether nodes of two arenas have the same list, if their lists are known to share their first `known` texts.

@@ -109,10 +109,10 @@ impl<'a> Copier<'a> {
 }
 
 /// Returns the lists whose flags are set. Flags and lists are in the same order.
-pub(crate) fn chosen(alloc: Global, rows: &PathVec, flags: &[bool]) -> Result<PathVec, Memory>
+pub(crate) fn chosen(rows: &PathVec, flags: &[bool]) -> Result<PathVec, Memory>
     ensures { IfOk result (λ some. some ≡ chosen_of flags.now rows.now) }
 {
-    let mut copier = Copier::new(alloc, rows.cursor());
+    let mut copier = Copier::new(rows.alloc(), rows.cursor());
     for flag in flags {
         if copier.advance()?.is_none() {
             return Ok(copier.into_copies());

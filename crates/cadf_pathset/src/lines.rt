@@ -1,9 +1,8 @@
 //! Lines: the nodes of the first 1, 2, .. texts of a list.
 ghost use Rattle.std.specs.Prelude.{◌≡◌, ◌<◌, ◌≤◌, ◌+◌, ◌++◌, [], ◌∷◌, List, OnOk, OnErr, IfOk, true, length, map, take, drop};
-ghost use Rattle.std.specs.Ordering.{is_eq};
 ghost use Rattle.cadf_join.specs.Contents.{Texts, texts_cmp};
 ghost use Rattle.cadf_join.specs.Prefixes.{texts_at};
-ghost use Rattle.cadf_pathset.specs.Lists.{last_of, prefix_cmp};
+ghost use Rattle.cadf_pathset.specs.Lists.{last_of};
 ghost use Rattle.cadf_pathset.specs.Nodes.{Agree, AreThere, IsClimb, IsLine, last_node, list_at, lists_at, place, shared};
 
 use crate::Memory;
@@ -221,14 +220,4 @@ pub(crate) fn known_of(line: &[usize], numbers: &[usize], shared: usize) -> usiz
     ensures { (ls : List Texts) (p : Texts) → Agree shared (last_of [] (lists_at ls numbers.now)) p → Agree result (place ls line.now) p }
 {
     if is_of_last(line, numbers) { shared } else { 0 }
-}
-
-/// Returns whether the line's list begins with the prefix.
-pub(crate) fn line_starts_with<W: AsText>(nodes: &Nodes, line: &[usize], prefix: &[W]) -> bool
-    requires { IsLine nodes.now line.now (place nodes.now line.now) }
-    ensures { result ≡ is_eq (prefix_cmp (place nodes.now line.now) (map W.bytes prefix.now)) }
-{
-    let (front, _) = line.split_at(line.len().min(prefix.len()));
-    let (order, _) = cmp_from(nodes, front, prefix, 0);
-    order.is_eq()
 }

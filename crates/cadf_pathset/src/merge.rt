@@ -8,7 +8,6 @@ use crate::Memory;
 use crate::copier::Copier;
 use crate::cursor::Cursor;
 use crate::path_vec::PathVec;
-use std::alloc::Global;
 use std::cmp::Ordering;
 
 /// Returns whether there is a next list, of a cursor that has moved to it. If the list before shared its first `agreed`
@@ -55,10 +54,10 @@ fn copy_lacking(ours: &mut Copier<'_>, theirs: &mut Cursor<'_>) -> Result<(), Me
 }
 
 /// Returns the lists of the first set that the second lacks.
-pub(crate) fn without(alloc: Global, a: &PathVec, b: &PathVec) -> Result<PathVec, Memory>
+pub(crate) fn without(a: &PathVec, b: &PathVec) -> Result<PathVec, Memory>
     ensures { IfOk result (λ left. left ≡ sorted_without texts_cmp a.now b.now) }
 {
-    let mut ours = Copier::new(alloc, a.cursor());
+    let mut ours = Copier::new(a.alloc(), a.cursor());
     let mut theirs = b.cursor();
     copy_lacking(&mut ours, &mut theirs)?;
     Ok(ours.into_copies())

@@ -1,5 +1,5 @@
 //! An arena of nodes, each of which adds one text to the list of its parent.
-ghost use Rattle.std.specs.Prelude.{◌≡◌, ◌<◌, ◌≤◌, ◌+◌, ◌++◌, [], ◌∷◌, ℕ, OnOk, OnErr, IfOk, length, take, drop, get_or};
+ghost use Rattle.std.specs.Prelude.{◌≡◌, ◌<◌, ◌≤◌, ◌+◌, ◌++◌, [], ◌∷◌, ℕ, OnOk, OnErr, IfOk, length, take, drop};
 ghost use Rattle.std.specs.Option.{option_copied};
 ghost use Rattle.cadf_join.specs.Prefixes.{chain_texts};
 ghost use Rattle.cadf_pathset.specs.Lists.{first_text};
@@ -153,32 +153,16 @@ pub(crate) fn common_depth(nodes: &Nodes, node: usize, other: usize) -> usize
     depth(nodes, a)
 }
 
-/// Returns the text at index `skipped` of the node's list. `None` if the list is shorter.
-pub(crate) fn text_after(nodes: &Nodes, node: usize, skipped: usize) -> Option<&str>
+/// Returns the text at index `place` of the node's list without its first `skipped` texts. `None` if there is none.
+pub(crate) fn text_at(nodes: &Nodes, node: usize, skipped: usize, place: usize) -> Option<&str>
     requires { node ≤ length nodes.now }
-    ensures { option_copied result ≡ first_text (rest_of nodes.now skipped node) }
+    ensures { option_copied result ≡ first_text (drop place (rest_of nodes.now skipped node)) }
 {
     let has = depth(nodes, node);
-    if skipped < has {
-        return Some(nodes.text(ancestor(nodes, node, has, skipped + 1)));
+    if has.saturating_sub(skipped) <= place {
+        return None;
     }
-    None
-}
-
-/// Returns the text at index `place` of the node's list without its first `skipped` texts. The empty text if there is
-/// none.
-pub(crate) fn text_at(nodes: &Nodes, node: usize, skipped: usize, place: usize) -> &str
-    requires { node ≤ length nodes.now }
-    ensures { result.now ≡ get_or (rest_of nodes.now skipped node) place [] }
-{
-    let has = depth(nodes, node);
-    if has <= skipped {
-        return "";
-    }
-    if has - skipped <= place {
-        return "";
-    }
-    nodes.text(ancestor(nodes, node, has, skipped + place + 1))
+    Some(nodes.text(ancestor(nodes, node, has, skipped + place + 1)))
 }
 
 /// Copies the texts of the node's list from index `skipped` on.

@@ -5,18 +5,18 @@ ghost use Rattle.std.specs.List.{AllByRecursion, cons_option};
 ghost use Rattle.std.specs.declared.cmp.Ordering.TheVariants.{Less};
 ghost use Rattle.std.specs.List.Sorted.{IsStrictlySortedBy};
 ghost use Rattle.std.specs.Option.{option_copied, option_map};
-ghost use Rattle.std.specs.Ordering.{is_eq, is_lt};
+ghost use Rattle.std.specs.Ordering.{is_lt};
 ghost use Rattle.cadf_join.specs.Contents.{is_after, texts_cmp};
 ghost use Rattle.cadf_join.specs.Prefixes.{chain_texts, texts_at};
-ghost use Rattle.cadf_pathset.specs.Lists.{at_places, last_of, last_starts_with, is_above_last, prefix_cmp};
-ghost use Rattle.cadf_pathset.specs.Nodes.{Agree, AreThere, lists_at};
+ghost use Rattle.cadf_pathset.specs.Lists.{at_places, last_of, last_starts_with, is_above_last};
+ghost use Rattle.cadf_pathset.specs.Nodes.{Agree, AreThere, lists_at, shared};
 ghost use Rattle.cadf_join.specs.Sets as set;
 ghost use Rattle.cadf_pathset.specs.Merge.{sorted_merge};
 
 use crate::as_text::AsText;
-use crate::compare::{begins_with, list_cmp, same_list};
+use crate::compare::{list_cmp, same_list};
 use crate::cursor::Cursor;
-use crate::lines::{cmp_from, follow, is_of_last, known_of, line_starts_with, put_or_restore};
+use crate::lines::{cmp_from, follow, is_of_last, known_of, put_or_restore};
 use crate::nodes::{Nodes, common_depth};
 use crate::sort::sorted;
 use crate::suffix_set::SuffixSet;
@@ -61,6 +61,11 @@ impl PathVec {
             line: Vec::new(alloc),
             alloc,
         }
+    }
+
+    /// Returns the allocator.
+    pub fn alloc(&self) -> Global {
+        self.alloc
     }
 
     /// Appends the list. After an `Err` the lists are as before.
@@ -119,21 +124,8 @@ impl PathVec {
         if self.is_empty() {
             return true;
         }
-        self.last_cmp(path, shared).is_lt()
-    }
-
-    /// Compares the last list with another, with which it is known to share its first `shared` texts.
-    fn last_cmp<W: AsText>(&self, path: &[W], shared: usize) -> Ordering
-        requires some { 0 < length self.now }
-        requires shared { Agree shared (last_of [] self.now) (map W.bytes path.now) }
-        ensures { result ≡ texts_cmp (last_of [] self.now) (map W.bytes path.now) }
-    {
-        if is_of_last(self.line.as_slice(), self.numbers.as_slice()) {
-            let (order, _) = cmp_from(&self.nodes, self.line.as_slice(), path, shared);
-            return order;
-        }
-        let (order, _) = self.cmp_at(self.count() - 1, path, shared);
-        order
+        let (order, _) = self.last_cmp(path, shared);
+        order.is_lt()
     }
 
     /// Returns whether the last list begins with the prefix.
@@ -143,27 +135,31 @@ impl PathVec {
         if self.is_empty() {
             return false;
         }
-        if is_of_last(self.line.as_slice(), self.numbers.as_slice()) {
-            return line_starts_with(&self.nodes, self.line.as_slice(), prefix);
-        }
-        self.is_behind(self.count() - 1, prefix)
+        let (_, agreed) = self.last_cmp(prefix, 0);
+        agreed == prefix.len()
     }
 
-    /// Returns whether the list at that index begins with the prefix.
-    fn is_behind<W: AsText>(&self, number: usize, prefix: &[W]) -> bool
-        requires { number < length self.now }
-        ensures { result ≡ is_eq (prefix_cmp (get_or self.now number []) (map W.bytes prefix.now)) }
+    /// Compares the last list with another, with which it is known to share its first `known` texts. Returns the order,
+    /// and how many first texts they share.
+    fn last_cmp<W: AsText>(&self, path: &[W], known: usize) -> (Ordering, usize)
+        requires some { 0 < length self.now }
+        requires known { Agree known (last_of [] self.now) (map W.bytes path.now) }
+        ensures order { result.0 ≡ texts_cmp (last_of [] self.now) (map W.bytes path.now) }
+        ensures agreed { result.1 ≡ shared (last_of [] self.now) (map W.bytes path.now) }
     {
-        begins_with(&self.nodes, self.numbers[number], prefix)
+        if is_of_last(self.line.as_slice(), self.numbers.as_slice()) {
+            return cmp_from(&self.nodes, self.line.as_slice(), path, known);
+        }
+        self.cmp_at(self.count() - 1, path, known)
     }
 
     /// Compares the list at that index with another, with which it is known to share its first `known` texts. Returns
-    /// the order, and a number of first texts that both share.
+    /// the order, and how many first texts they share.
     pub fn cmp_at<W: AsText>(&self, number: usize, list: &[W], known: usize) -> (Ordering, usize)
         requires within { number < length self.now }
         requires known { Agree known (get_or self.now number []) (map W.bytes list.now) }
         ensures order { result.0 ≡ texts_cmp (get_or self.now number []) (map W.bytes list.now) }
-        ensures agreed { Agree result.1 (get_or self.now number []) (map W.bytes list.now) }
+        ensures agreed { result.1 ≡ shared (get_or self.now number []) (map W.bytes list.now) }
     {
         list_cmp(&self.nodes, self.numbers[number], list, known)
     }

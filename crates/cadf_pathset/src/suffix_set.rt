@@ -13,7 +13,7 @@ ghost use Rattle.cadf_pathset.specs.Nodes.{AreThere, rest_of};
 ghost use Rattle.cadf_pathset.specs.Sections.{sections_from, sections_of};
 
 use crate::Memory;
-use crate::nodes::{Nodes, copy_after, depth, text_after, text_at};
+use crate::nodes::{Nodes, copy_after, depth, text_at};
 use std::alloc::Global;
 use std::cmp::Ordering;
 use std::marker::Model;
@@ -239,8 +239,15 @@ impl<'a> SuffixSet<'a> {
     fn text(&self, number: usize) -> Option<&'a str>
         ensures { option_copied result ≡ first_text (get_or (set.rising self.now) number []) }
     {
+        self.text_of(number, 0)
+    }
+
+    /// Returns the text at index `place` of the suffix at index `number`. `None` if there is none.
+    fn text_of(&self, number: usize, place: usize) -> Option<&'a str>
+        ensures { option_copied result ≡ first_text (drop place (get_or (set.rising self.now) number [])) }
+    {
         match self.numbers.get(number) {
-            Some(node) => text_after(self.nodes, *node, self.depth),
+            Some(node) => text_at(self.nodes, *node, self.depth, place),
             None => None,
         }
     }
@@ -266,10 +273,7 @@ impl<'a> SuffixSet<'a> {
     pub fn text_at(&self, number: usize, place: usize) -> &'a str
         ensures { result.now ≡ get_or (get_or (set.rising self.now) number []) place [] }
     {
-        match self.numbers.get(number) {
-            Some(node) => text_at(self.nodes, *node, self.depth, place),
-            None => "",
-        }
+        self.text_of(number, place).unwrap_or("")
     }
 
     /// Returns the index of the longest suffix, the first of equally long ones. `None` if there are no suffixes.

@@ -15,7 +15,17 @@ returns-in-Less-clause-order g c =
     let fits : c.loop-agreed.agreed < length l = omega (arith, t, has) in
     sym (list_parts l (map g.W.AsText.bytes c.args.list.now) (length c.args.list.now) (length-map c.args.list.now g.W.AsText.bytes) c.loop-agreed.agreed c.loop-agreed.invariant fits c.if-agreed-list.true c.text.result.now c.text_at.result.now _
     (c.text.ensures ∙ text_up l (list_at c.args.nodes.now c.ancestor-at.result) c.loop-agreed.agreed fits c.ancestor-at.ensures.list) c.text_at.ensures
-    c.in-Less.ensures less_is_not)
+    c.in-Less.ensures less_is_not).0
+
+pub returns-in-Less-clause-agreed : goal.returns-in-Less-clause-agreed
+returns-in-Less-clause-agreed g c =
+    let l : Texts = list_at c.args.nodes.now c.args.node in
+    let t = c.loop-agreed-test.true in
+    let has = c.requires.has in
+    let fits : c.loop-agreed.agreed < length l = omega (arith, t, has) in
+    sym (list_parts l (map g.W.AsText.bytes c.args.list.now) (length c.args.list.now) (length-map c.args.list.now g.W.AsText.bytes) c.loop-agreed.agreed c.loop-agreed.invariant fits c.if-agreed-list.true c.text.result.now c.text_at.result.now _
+    (c.text.ensures ∙ text_up l (list_at c.args.nodes.now c.ancestor-at.result) c.loop-agreed.agreed fits c.ancestor-at.ensures.list) c.text_at.ensures
+    c.in-Less.ensures less_is_not).1
 
 pub returns-in-Greater-clause-order : goal.returns-in-Greater-clause-order
 returns-in-Greater-clause-order g c =
@@ -25,7 +35,17 @@ returns-in-Greater-clause-order g c =
     let fits : c.loop-agreed.agreed < length l = omega (arith, t, has) in
     sym (list_parts l (map g.W.AsText.bytes c.args.list.now) (length c.args.list.now) (length-map c.args.list.now g.W.AsText.bytes) c.loop-agreed.agreed c.loop-agreed.invariant fits c.if-agreed-list.true c.text.result.now c.text_at.result.now _
     (c.text.ensures ∙ text_up l (list_at c.args.nodes.now c.ancestor-at.result) c.loop-agreed.agreed fits c.ancestor-at.ensures.list) c.text_at.ensures
-    c.in-Greater.ensures greater_is_not)
+    c.in-Greater.ensures greater_is_not).0
+
+pub returns-in-Greater-clause-agreed : goal.returns-in-Greater-clause-agreed
+returns-in-Greater-clause-agreed g c =
+    let l : Texts = list_at c.args.nodes.now c.args.node in
+    let t = c.loop-agreed-test.true in
+    let has = c.requires.has in
+    let fits : c.loop-agreed.agreed < length l = omega (arith, t, has) in
+    sym (list_parts l (map g.W.AsText.bytes c.args.list.now) (length c.args.list.now) (length-map c.args.list.now g.W.AsText.bytes) c.loop-agreed.agreed c.loop-agreed.invariant fits c.if-agreed-list.true c.text.result.now c.text_at.result.now _
+    (c.text.ensures ∙ text_up l (list_at c.args.nodes.now c.ancestor-at.result) c.loop-agreed.agreed fits c.ancestor-at.ensures.list) c.text_at.ensures
+    c.in-Greater.ensures greater_is_not).1
 
 pub loop-agreed-preserved : goal.loop-agreed-preserved
 loop-agreed-preserved g c =
@@ -39,3 +59,6 @@ loop-agreed-preserved g c =
 
 pub returns-clause-order : goal.returns-clause-order
 returns-clause-order g c = grind (arith, common_steps, list_ends, length-map)
+
+pub returns-clause-agreed : goal.returns-clause-agreed
+returns-clause-agreed g c = grind (arith, common_steps, list_ends, length-map)

@@ -3,10 +3,10 @@ use Rattle.std.proofs.Common.{◌≡◌, ◌<◌, ◌-◌, length, map, take, ge
 use Rattle.std.specs.Ordering.{ordering_then}
 use Rattle.std.proofs.lemmas.List.{length-map, length-take, length-take-le}
 use Rattle.cadf_join.specs.Contents.{Texts, text_cmp}
-use Rattle.cadf_pathset.specs.Nodes.{list_at, last_text}
+use Rattle.cadf_pathset.specs.Nodes.{Agree, list_at, last_text, shared}
 use Rattle.cadf_pathset.proofs.Arena.{one_longer}
 use Rattle.cadf_pathset.proofs.Orders.{cmp_start, cmp_up, front_more}
-use Rattle.cadf_pathset.proofs.Agreement.{agree_less}
+use Rattle.cadf_pathset.proofs.Agreement.{agree_less, ended}
 use Rattle.cadf_pathset.proofs.Climbs.{cmp_known, front_fits, front_least, front_up, last_front, shares_step}
 use Rattle.cadf_pathset.proofs.compare.cmp_up.Goals as goal
 
@@ -17,6 +17,8 @@ loop-depth-init g c =
     let m : length b ≡ length c.args.list.now = length-map c.args.list.now g.W.AsText.bytes in
     let has = c.requires.has in
     let low = c.min-depth.ensures in
+    let shares : Agree c.min-depth.result a b → c.min-depth.result ≡ shared a b =
+    λ g. sym (ended c.min-depth.result a b g (omega (arith, low, has, m))).1 in
     grind (arith, common_steps, length-take, cmp_start, front_least)
 
 pub loop-depth-preserved : goal.loop-depth-preserved

@@ -1,7 +1,7 @@
 use Rattle.std.proofs.Common.{◌≡◌, ◌≤◌, length, map, take}
 use Rattle.std.specs.Ordering.{ordering_then}
 use Rattle.cadf_join.specs.Contents.{texts_cmp}
-use Rattle.cadf_pathset.specs.Nodes.{Agree, list_at}
+use Rattle.cadf_pathset.specs.Nodes.{Agree, list_at, shared}
 use Rattle.cadf_pathset.proofs.compare.cmp_up.Given as goal
 
 abbrev pub invariant-loop-depth : goal.invariant-loop-depth
@@ -12,7 +12,7 @@ invariant-loop-depth g l = record {
   order : texts_cmp (list_at l.nodes l.node) (map g.W.AsText.bytes l.list)
       ≡ ordering_then (texts_cmp (list_at l.nodes l.at) (take l.depth (map g.W.AsText.bytes l.list))) l.found;
   front : list_at l.nodes l.at ≡ take l.depth (list_at l.nodes l.node);
-  shares : Agree l.depth (list_at l.nodes l.node) (map g.W.AsText.bytes l.list) → Agree l.agreed (list_at l.nodes l.node) (map g.W.AsText.bytes l.list);
+  shares : Agree l.depth (list_at l.nodes l.node) (map g.W.AsText.bytes l.list) → l.agreed ≡ shared (list_at l.nodes l.node) (map g.W.AsText.bytes l.list);
 }
 
 abbrev pub decreases-loop-depth : goal.decreases-loop-depth

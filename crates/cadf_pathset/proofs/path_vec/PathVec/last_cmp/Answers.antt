@@ -3,8 +3,8 @@ use Rattle.std.proofs.Common.{arith}
 use Rattle.cadf_pathset.proofs.Copies.{last_got}
 use Rattle.cadf_pathset.proofs.path_vec.PathVec.last_cmp.Goals as goal
 
-pub cmp_at-order-requires-clause-known : goal.cmp_at-order-requires-clause-known
-cmp_at-order-requires-clause-known g c = grind (arith, common_steps, last_got)
+pub cmp_at-requires-clause-known : goal.cmp_at-requires-clause-known
+cmp_at-requires-clause-known g c = grind (arith, common_steps, last_got)
 
 pub returns : goal.returns
 returns g c = grind (arith, common_steps, last_got)

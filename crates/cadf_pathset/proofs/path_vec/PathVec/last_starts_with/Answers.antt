@@ -1,7 +1,8 @@
 use Rattle.std.proofs.lemmas.Grind.{common_steps}
 use Rattle.std.proofs.Common.{arith}
-use Rattle.cadf_pathset.proofs.Halving.{ends_behind_at}
+use Rattle.std.proofs.lemmas.List.{length-map}
+use Rattle.cadf_pathset.proofs.Suffixes.{last_begins}
 use Rattle.cadf_pathset.proofs.path_vec.PathVec.last_starts_with.Goals as goal
 
 pub returns : goal.returns
-returns g c = grind (arith, common_steps, ends_behind_at)
+returns g c = grind (arith, common_steps, last_begins, length-map)

@@ -5,6 +5,7 @@ use Rattle.cadf_join.specs.laws.Contents.{texts_same}
 use Rattle.cadf_pathset.specs.Nodes.{Agree}
 use Rattle.cadf_pathset.proofs.Bounds.{known_between}
 use Rattle.cadf_pathset.proofs.Halving.{above_here, all_dropped, all_taken, below_here}
+use Rattle.cadf_pathset.proofs.Merging.{agree_as}
 use Rattle.cadf_pathset.proofs.path_vec.PathVec.seek.Goals as goal
 
 pub cmp_at-order-requires-clause-known : goal.cmp_at-order-requires-clause-known
@@ -25,12 +26,13 @@ loop-low-preserved-in-Less g c =
     let q = map g.W.AsText.bytes c.args.list.now in
     let m : ℕ = c.loop-low.low + (c.loop-low.high - c.loop-low.low) / 2 in
     let one : m ≡ (m + 1) - 1 = omega arith in
+    let both = agree_as (get_or c.args.self.now m []) q c.cmp_at-order.result.1 c.cmp_at-order.ensures.agreed in
     record {
       within = omega (arith, w, e, t);
       ends = e;
       below = below_here q c.args.self.now c.requires m (omega (arith, w, e, t)) (sym c.cmp_at-order.ensures.order ∙ c.in-Less.is);
       above = h.above;
-      front = λ some. (omega arith, subst (λ k. Agree c.cmp_at-order.result.1 (get_or c.args.self.now k []) q) one c.cmp_at-order.ensures.agreed);
+      front = λ some. (omega arith, subst (λ k. Agree c.cmp_at-order.result.1 (get_or c.args.self.now k []) q) one both);
       back = h.back;
     }
 
@@ -42,13 +44,14 @@ loop-low-preserved g c =
     let t = c.loop-low-test.true in
     let q = map g.W.AsText.bytes c.args.list.now in
     let m : ℕ = c.loop-low.low + (c.loop-low.high - c.loop-low.low) / 2 in
+    let both = agree_as (get_or c.args.self.now m []) q c.cmp_at-order.result.1 c.cmp_at-order.ensures.agreed in
     record {
       within = omega (arith, w, e, t);
       ends = omega (arith, w, e, t);
       below = h.below;
       above = above_here q c.args.self.now c.requires m (omega (arith, w, e, t)) (sym c.cmp_at-order.ensures.order ∙ c.in-Greater.is);
       front = h.front;
-      back = λ some. (omega (arith, w, e, t), c.cmp_at-order.ensures.agreed);
+      back = λ some. (omega (arith, w, e, t), both);
     }
 
 pub returns-in-Equal-clause-held : goal.returns-in-Equal-clause-held

@@ -1,10 +1,7 @@
 use Rattle.std.proofs.lemmas.Grind.{common_steps}
 use Rattle.std.proofs.Common.{arith}
-use Rattle.cadf_pathset.proofs.Narrowed.{shown}
+use Rattle.cadf_pathset.proofs.Suffixes.{first_or_none}
 use Rattle.cadf_pathset.proofs.suffix_set.SuffixSet.text_at.Goals as goal
 
-pub returns-in-Some : goal.returns-in-Some
-returns-in-Some c = rw (← shown c.self.inside.nodes.now c.self.inside.depth c.self.inside.numbers.now c.args.self.now c.self.invariant.1 c.self.view_is) (grind (arith, common_steps))
-
-pub returns-in-None : goal.returns-in-None
-returns-in-None c = rw (← shown c.self.inside.nodes.now c.self.inside.depth c.self.inside.numbers.now c.args.self.now c.self.invariant.1 c.self.view_is) (grind (arith, common_steps))
+pub returns : goal.returns
+returns c = grind (arith, common_steps, first_or_none)

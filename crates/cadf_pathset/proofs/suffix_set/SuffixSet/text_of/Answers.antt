@@ -1,7 +1,7 @@
 use Rattle.std.proofs.lemmas.Grind.{common_steps}
 use Rattle.std.proofs.Common.{arith}
 use Rattle.cadf_pathset.proofs.Narrowed.{shown}
-use Rattle.cadf_pathset.proofs.suffix_set.SuffixSet.text.Goals as goal
+use Rattle.cadf_pathset.proofs.suffix_set.SuffixSet.text_of.Goals as goal
 
 pub returns-in-Some : goal.returns-in-Some
 returns-in-Some c = rw (← shown c.self.inside.nodes.now c.self.inside.depth c.self.inside.numbers.now c.args.self.now c.self.invariant.1 c.self.view_is) (grind (arith, common_steps))
