@@ -13,8 +13,7 @@ ghost use Rattle.cadf_pathset.specs.Nodes.{IsComparison};
 ghost use Rattle.cadf_pathset.specs.Sections.{suffixes_after};
 
 use crate::Memory;
-use crate::order::continued;
-use crate::path_set::PathSet;
+use crate::path_set::{PathSet, continued};
 use std::cmp::Ordering;
 
 impl PathSet {

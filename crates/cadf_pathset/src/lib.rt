@@ -13,7 +13,6 @@ pub mod laws;
 mod lines;
 mod merge;
 mod nodes;
-mod order;
 mod path_set;
 mod path_vec;
 mod pool;

@@ -115,19 +115,6 @@ pub(crate) fn spell<'a>(
     Ok(())
 }
 
-/// Appends a node after the line's last.
-pub(crate) fn grow(nodes: &mut Nodes, line: &mut Vec<usize>, text: &str) -> Result<(), Memory>
-    requires { IsLine nodes.old line.old.items (place nodes.old line.old.items) }
-    ensures kept { take (length nodes.old) nodes.new ≡ nodes.old }
-    ensures line { IsLine nodes.new line.new.items (place nodes.new line.new.items) }
-    ensures ok { OnOk result (place nodes.new line.new.items ≡ place nodes.old line.old.items ++ text.now ∷ []) }
-    ensures err { OnErr result (place nodes.new line.new.items ≡ place nodes.old line.old.items) }
-{
-    let number = nodes.push(end_of(line.as_slice()), text)?;
-    line.push(number)?;
-    Ok(())
-}
-
 /// Extends the line of a prefix of the path to the line of the whole path, by new nodes.
 pub(crate) fn extend<W: AsText>(
     nodes: &mut Nodes,
@@ -140,7 +127,8 @@ pub(crate) fn extend<W: AsText>(
     ensures ok { OnOk result (place nodes.new line.new.items ≡ map W.bytes path.now) }
 {
     while line.len() < path.len() {
-        grow(nodes, line, text_at(path, line.len()))?;
+        let number = nodes.push(end_of(line.as_slice()), text_at(path, line.len()))?;
+        line.push(number)?;
     }
     Ok(())
 }
@@ -212,12 +200,4 @@ pub(crate) fn is_of_last(line: &[usize], numbers: &[usize]) -> bool
         [] => line.is_empty(),
         [.., last] => end_of(line) == *last,
     }
-}
-
-/// Returns how many first texts the line's list is known to share with a path, of which the last node's list shares
-/// `shared`.
-pub(crate) fn known_of(line: &[usize], numbers: &[usize], shared: usize) -> usize
-    ensures { (ls : List Texts) (p : Texts) → Agree shared (last_of [] (lists_at ls numbers.now)) p → Agree result (place ls line.now) p }
-{
-    if is_of_last(line, numbers) { shared } else { 0 }
 }

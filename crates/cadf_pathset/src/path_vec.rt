@@ -16,7 +16,7 @@ ghost use Rattle.cadf_pathset.specs.Merge.{sorted_merge};
 use crate::as_text::AsText;
 use crate::compare::{list_cmp, same_list};
 use crate::cursor::Cursor;
-use crate::lines::{cmp_from, follow, is_of_last, known_of, put_or_restore};
+use crate::lines::{cmp_from, follow, is_of_last, put_or_restore};
 use crate::nodes::{Nodes, common_depth};
 use crate::sort::sorted;
 use crate::suffix_set::SuffixSet;
@@ -68,21 +68,14 @@ impl PathVec {
         self.alloc
     }
 
-    /// Appends the list. After an `Err` the lists are as before.
-    pub fn push(&mut self, path: &[&str]) -> Result<(), Memory>
-        ensures ok { OnOk result (self.new ≡ self.old ++ texts_at path.now ∷ []) }
-        ensures err { OnErr result (self.new ≡ self.old) }
-    {
-        self.push_after(path, 0)
-    }
-
     /// Appends the list, whose first `shared` texts are those of the last one. After an `Err` the lists are as before.
     pub fn push_after<W: AsText>(&mut self, path: &[W], shared: usize) -> Result<(), Memory>
         requires { Agree shared (last_of [] self.old) (map W.bytes path.now) }
         ensures ok { OnOk result (self.new ≡ self.old ++ map W.bytes path.now ∷ []) }
         ensures err { OnErr result (self.new ≡ self.old) }
     {
-        let known = known_of(self.line.as_slice(), self.numbers.as_slice(), shared);
+        let is_last = is_of_last(self.line.as_slice(), self.numbers.as_slice());
+        let known = if is_last { shared } else { 0 };
         let at = self.numbers.len();
         put_or_restore(
             &mut self.nodes,

@@ -1,5 +1,5 @@
 //! The union of two sets of lists, within the nodes of the first.
-ghost use Rattle.std.specs.Prelude.{◌≡◌, ◌≤◌, ◌<◌, ◌-◌, ◌++◌, [], ◌∷◌, ℕ, OnOk, OnErr, IfOk, length, take, drop, get_or, true, false};
+ghost use Rattle.std.specs.Prelude.{◌≡◌, ◌≤◌, ◌<◌, ◌-◌, ◌++◌, [], ◌∷◌, OnOk, OnErr, IfOk, length, take, drop, true, false};
 ghost use Rattle.std.specs.List.{AllByRecursion};
 ghost use Rattle.std.specs.List.Sorted.{IsStrictlySortedBy};
 ghost use Rattle.std.specs.declared.cmp.Ordering.TheVariants.{Less};
@@ -79,35 +79,8 @@ fn append(
     Ok(())
 }
 
-/// Returns an index from `from` on: the lists of ours from `from` up to it are below theirs, which begins with the list
-/// of the line `out`. Galloping search.
-fn gallop(nodes: &Nodes, numbers: &[usize], from: usize, path: &[&str], out: &[usize]) -> usize
-    requires there { AreThere nodes.now numbers.now }
-    requires rises { IsStrictlySortedBy texts_cmp (lists_at nodes.now numbers.now) }
-    requires within { from ≤ length numbers.now }
-    requires line { IsLine nodes.now out.now (take (length out.now) (texts_at path.now)) }
-    ensures from { from ≤ result }
-    ensures within { result ≤ length numbers.now }
-    ensures below { (k : ℕ) → from ≤ k → k < result
-        → texts_cmp (get_or (lists_at nodes.now numbers.now) k []) (texts_at path.now) ≡ Less }
-{
-    let mut low = from;
-    let mut step: usize = 1;
-    while step <= numbers.len() - low {
-        let probe = low + (step - 1);
-        let known = known_behind(nodes, numbers[probe], out);
-        let (order, _) = list_cmp(nodes, numbers[probe], path, known);
-        if !order.is_lt() {
-            return low;
-        }
-        low = probe + 1;
-        step = step.saturating_mul(2);
-    }
-    low
-}
-
 /// Appends those of our lists that a galloping search finds below theirs, except the last of them. Returns the index of
-/// our next list.
+/// our next list. Theirs begins with the list of the line `out`.
 fn skip(
     nodes: &Nodes,
     numbers: &[usize],
@@ -129,9 +102,19 @@ fn skip(
     ensures below { IfOk result (λ to. AllByRecursion (λ l. texts_cmp l (texts_at path.now) ≡ Less)
         (take (to - at) (drop at (lists_at nodes.now numbers.now)))) }
 {
-    let last = gallop(nodes, numbers, at, path, out)
-        .saturating_sub(1)
-        .max(at);
+    let mut low = at;
+    let mut step: usize = 1;
+    while step <= numbers.len() - low {
+        let probe = low + (step - 1);
+        let known = known_behind(nodes, numbers[probe], out);
+        let (order, _) = list_cmp(nodes, numbers[probe], path, known);
+        if !order.is_lt() {
+            break;
+        }
+        low = probe + 1;
+        step = step.saturating_mul(2);
+    }
+    let last = low.saturating_sub(1).max(at);
     let (front, _) = numbers.split_at(last);
     let (_, part) = front.split_at(at);
     all.extend_from_slice(part)?;

@@ -1,19 +1,44 @@
-use Rattle.std.proofs.Common.{arith}
-use Rattle.std.proofs.lemmas.List.{length-map}
+use Rattle.std.proofs.Common.{◌+◌, ◌-◌, ◌<◌, ℕ, [], length, arith, ap, sym, ◌∙◌}
+use Rattle.std.proofs.lemmas.List.{get_or-map, length-map}
+use Rattle.cadf_join.specs.Contents.{texts_cmp}
 use Rattle.cadf_join.specs.Prefixes.{texts_at}
 use Rattle.cadf_pathset.specs.Nodes.{list_at, lists_at}
-use Rattle.cadf_pathset.proofs.Bounds.{below_range}
+use Rattle.cadf_pathset.proofs.Bounds.{below_range, is_less}
+use Rattle.cadf_pathset.proofs.Halving.{below_here}
 use Rattle.cadf_pathset.proofs.union.skip.Goals as goal
+
+pub loop-step-preserved : goal.loop-step-preserved
+loop-step-preserved c =
+    let h = c.loop-step.invariant in
+    let ls = c.args.nodes.now in
+    let ns = c.args.numbers.now in
+    let q = texts_at c.args.path.now in
+    let j : ℕ = c.loop-step.low + (c.loop-step.step - 1) in
+    let b = h.behind in
+    let w = h.within in
+    let s = h.some in
+    let t = c.loop-step-test.true in
+    let m = length-map ns (list_at ls) in
+    let x = c.saturating_mul-step.ensures in
+    let fits : j < length ns = omega (arith, w, s, t) in
+    record {
+      behind = omega (arith, b);
+      within = omega (arith, fits);
+      some = omega (arith, x, s);
+      below = λ k f g. below_here q (lists_at ls ns) c.requires.rises j (omega (arith, fits, m))
+          (ap (λ z. texts_cmp z q) (get_or-map (list_at ls) ns j 0 [] fits) ∙ sym c.list_cmp-order.ensures.order
+          ∙ is_less c.list_cmp-order.result.0 (sym c.is_lt.ensures ∙ c.if-not-is_lt.false)) k g;
+    }
 
 pub returns-clause-below : goal.returns-clause-below
 returns-clause-below c =
     let ls = c.args.nodes.now in
     let ns = c.args.numbers.now in
     let m = length-map ns (list_at ls) in
-    let w = c.gallop.ensures.within in
-    let from = c.gallop.ensures.from in
+    let w = c.loop-step.invariant.within in
+    let from = c.loop-step.invariant.behind in
     let s = c.saturating_sub.ensures in
     let e = c.max-last.ensures in
     let r = c.requires.within in
     below_range (texts_at c.args.path.now) (lists_at ls ns) c.args.at c.max-last.result (omega (arith, e)) (omega (arith, m, w, s, e, r))
-    (λ k f g. c.gallop.ensures.below k f (omega (arith, f, g, s, e)))
+    (λ k f g. c.loop-step.invariant.below k f (omega (arith, f, g, s, e)))

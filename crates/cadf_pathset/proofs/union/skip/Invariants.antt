@@ -3,14 +3,14 @@ use Rattle.cadf_join.specs.Prefixes.{texts_at}
 use Rattle.std.specs.declared.cmp.Ordering.TheVariants.{Less}
 use Rattle.cadf_join.specs.Contents.{texts_cmp}
 use Rattle.cadf_pathset.specs.Nodes.{lists_at}
-use Rattle.cadf_pathset.proofs.union.gallop.Given as goal
+use Rattle.cadf_pathset.proofs.union.skip.Given as goal
 
 abbrev pub invariant-loop-step : goal.invariant-loop-step
 invariant-loop-step l = record {
-  behind : l.from ≤ l.low;
+  behind : l.at ≤ l.low;
   within : l.low ≤ length l.numbers;
   some : 0 < l.step;
-  below : (k : ℕ) → l.from ≤ k → k < l.low → texts_cmp (get_or (lists_at l.nodes l.numbers) k []) (texts_at l.path) ≡ Less;
+  below : (k : ℕ) → l.at ≤ k → k < l.low → texts_cmp (get_or (lists_at l.nodes l.numbers) k []) (texts_at l.path) ≡ Less;
 }
 
 abbrev pub decreases-loop-step : goal.decreases-loop-step
