@@ -6,7 +6,7 @@ ghost use Rattle.cadf_pathset.specs.Nodes.{Agree, AreThere, IsLine, list_at, lis
 ghost use Rattle.cadf_pathset.specs.Walks.{Advances};
 
 use crate::Memory;
-use crate::lines::{cmp_from, follow, spell};
+use crate::lines::{cmp_from, follow};
 use crate::nodes::Nodes;
 use std::alloc::Global;
 use std::cmp::Ordering;
@@ -115,6 +115,8 @@ fn advance<'a>(
     let common = follow(nodes, number, line, up)?;
     let (_, shared) = cmp_from(nodes, line.as_slice(), path.as_slice(), common);
     path.truncate(common);
-    spell(nodes, line.as_slice(), path)?;
+    while path.len() < line.len() {
+        path.push(nodes.text(line[path.len()]))?;
+    }
     Ok(shared)
 }

@@ -43,17 +43,6 @@ impl Fork {
             Fork { a, b, order }
         }
     }
-
-    /// Returns whether the lists of the two nodes begin with those of the fork's nodes, so that the fork decides their
-    /// order.
-    fn decides(self, nodes: &Nodes, node: usize, other: usize) -> bool
-        requires ours { node ≤ length nodes.now }
-        requires theirs { other ≤ length nodes.now }
-        requires known { IsFork nodes.now self }
-        ensures { result ≡ true → self.order ≡ texts_cmp (list_at nodes.now node) (list_at nodes.now other) }
-    {
-        !self.order.is_eq() && goes_on(nodes, node, self.a) && goes_on(nodes, other, self.b)
-    }
 }
 
 /// Returns whether `front` is an ancestor of the node, or the node itself: the node's list then begins with that of
@@ -81,8 +70,8 @@ pub(crate) fn known_behind(nodes: &Nodes, node: usize, line: &[usize]) -> usize
     }
 }
 
-/// Compares the lists of two nodes: at once if the fork decides, otherwise by a search for the nodes at which they
-/// diverge.
+/// Compares the lists of two nodes: at once if they begin with those of the fork's nodes, otherwise by a search for the
+/// nodes at which they diverge.
 pub(crate) fn next_cmp(nodes: &Nodes, node: usize, other: usize, fork: &mut Fork) -> Ordering
     requires ours { node ≤ length nodes.now }
     requires theirs { other ≤ length nodes.now }
@@ -91,7 +80,7 @@ pub(crate) fn next_cmp(nodes: &Nodes, node: usize, other: usize, fork: &mut Fork
     ensures known { IsFork nodes.now fork.new }
 {
     let known = *fork;
-    if known.decides(nodes, node, other) {
+    if !known.order.is_eq() && goes_on(nodes, node, known.a) && goes_on(nodes, other, known.b) {
         return known.order;
     }
     parting_cmp(nodes, node, other, fork)

@@ -1,9 +1,8 @@
 //! Lines: the nodes of the first 1, 2, .. texts of a list.
 ghost use Rattle.std.specs.Prelude.{◌≡◌, ◌<◌, ◌≤◌, ◌+◌, ◌++◌, [], ◌∷◌, List, OnOk, OnErr, IfOk, true, length, map, take, drop};
 ghost use Rattle.cadf_join.specs.Contents.{Texts, texts_cmp};
-ghost use Rattle.cadf_join.specs.Prefixes.{texts_at};
 ghost use Rattle.cadf_pathset.specs.Lists.{last_of};
-ghost use Rattle.cadf_pathset.specs.Nodes.{Agree, AreThere, IsClimb, IsLine, last_node, list_at, lists_at, place, shared};
+ghost use Rattle.cadf_pathset.specs.Nodes.{Agree, AreThere, IsLine, last_node, list_at, lists_at, place, shared};
 
 use crate::Memory;
 use crate::as_text::{AsText, text_at};
@@ -20,40 +19,9 @@ pub(crate) fn end_of(line: &[usize]) -> usize
     }
 }
 
-/// Truncates the line to the ancestors that it shares with the node. Collects in `up` the nodes below them, from the
-/// node upwards. Since parents have smaller numbers than their children, it steps back from the greater number.
-fn climb(
-    nodes: &Nodes,
-    node: usize,
-    line: &mut Vec<usize>,
-    up: &mut Vec<usize>,
-) -> Result<(), Memory>
-    requires there { node ≤ length nodes.now }
-    requires line { IsLine nodes.now line.old.items (place nodes.now line.old.items) }
-    requires empty { up.old.items ≡ [] }
-    ensures cut { line.new.items ≡ take (length line.new.items) line.old.items }
-    ensures climbed { OnOk result (IsClimb nodes.now up.new.items (list_at nodes.now node) (length line.new.items)) }
-    ensures common { OnOk result (Agree (length line.new.items) (place nodes.now line.old.items) (list_at nodes.now node)) }
-{
-    let mut at = node;
-    while at > 0 {
-        let top = end_of(line.as_slice());
-        if top == at {
-            return Ok(());
-        }
-        if top > at {
-            line.pop();
-        } else {
-            up.push(at)?;
-            at = nodes.parent(at);
-        }
-    }
-    line.clear();
-    Ok(())
-}
-
-/// Replaces the line by that of the node, and returns how many nodes of the line it kept. After an `Err` the line is
-/// that of no list.
+/// Replaces the line by that of the node, and returns how many nodes of the line it kept: the ancestors that both share.
+/// Since parents have smaller numbers than their children, it steps back from the greater number. `up` collects the nodes
+/// below those ancestors. After an `Err` the line is that of no list.
 pub(crate) fn follow(
     nodes: &Nodes,
     node: usize,
@@ -66,7 +34,17 @@ pub(crate) fn follow(
     ensures common { IfOk result (λ n. Agree n (place nodes.now line.old.items) (list_at nodes.now node)) }
 {
     up.clear();
-    climb(nodes, node, line, up)?;
+    let mut at = node;
+    let mut top = end_of(line.as_slice());
+    while at != top {
+        if top > at {
+            line.pop();
+            top = end_of(line.as_slice());
+        } else {
+            up.push(at)?;
+            at = nodes.parent(at);
+        }
+    }
     let common = line.len();
     while let Some(next) = up.pop() {
         line.push(next)?;
@@ -97,22 +75,6 @@ pub(crate) fn cmp_from<W: AsText>(
         }
     }
     (line.len().cmp(&path.len()), agreed)
-}
-
-/// Appends to the path the texts of the line's list that follow it.
-pub(crate) fn spell<'a>(
-    nodes: &'a Nodes,
-    line: &[usize],
-    path: &mut Vec<&'a str>,
-) -> Result<(), Memory>
-    requires line { IsLine nodes.now line.now (place nodes.now line.now) }
-    requires front { texts_at path.old.items ≡ take (length path.old.items) (place nodes.now line.now) }
-    ensures { OnOk result (texts_at path.new.items ≡ place nodes.now line.now) }
-{
-    while path.len() < line.len() {
-        path.push(nodes.text(line[path.len()]))?;
-    }
-    Ok(())
 }
 
 /// Extends the line of a prefix of the path to the line of the whole path, by new nodes.

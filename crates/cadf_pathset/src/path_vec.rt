@@ -165,8 +165,7 @@ impl PathVec {
         ensures ok { OnOk result (self.new ≡ sorted_merge texts_cmp true self.old other.now) }
         ensures err { OnErr result (self.new ≡ self.old) }
     {
-        let numbers = merge_into(self.alloc, &mut self.nodes, self.numbers.as_slice(), other)?;
-        self.numbers = numbers;
+        self.numbers = merge_into(self.alloc, &mut self.nodes, self.numbers.as_slice(), other)?;
         Ok(())
     }
 
@@ -175,8 +174,7 @@ impl PathVec {
         ensures rises { OnOk result (IsStrictlySortedBy texts_cmp self.new) }
         ensures same { OnOk result (set.from_list {R = texts_cmp} self.new ≡ set.from_list self.old) }
     {
-        let numbers = sorted(self.alloc, &self.nodes, self.numbers.as_slice())?;
-        self.numbers = numbers;
+        self.numbers = sorted(self.alloc, &self.nodes, self.numbers.as_slice())?;
         Ok(())
     }
 

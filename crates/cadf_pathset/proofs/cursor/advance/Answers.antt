@@ -4,5 +4,5 @@ use Rattle.cadf_pathset.proofs.Threads.{place_of}
 use Rattle.cadf_pathset.proofs.Compared.{cut_path}
 use Rattle.cadf_pathset.proofs.cursor.advance.Goals as goal
 
-pub spell-requires-clause-front : goal.spell-requires-clause-front
-spell-requires-clause-front c = grind (arith, common_steps, place_of, cut_path)
+pub loop-path-init : goal.loop-path-init
+loop-path-init c = grind (arith, common_steps, place_of, cut_path)

@@ -8,10 +8,10 @@ loop-next-preserved c =
     let h = c.loop-next.invariant in
     let ls = c.args.nodes.now in
     let l = list_at c.args.nodes.now c.args.node in
-    let more = c.in_ok-push.ensures.items in
+    let more = c.in_ok-push-2.ensures.items in
     record {
-      climbed = subst (λ z. IsClimb ls c.pop.new.self.items l (length z)) (sym more)
-          (climb_less ls c.loop-next.up.items c.pop.new.self.items c.loop-next.line.items l c.in-Some.next h.climbed h.line c.in-Some.ensures.items);
+      climbed = subst (λ z. IsClimb ls c.pop-in-loop-next.new.self.items l (length z)) (sym more)
+          (climb_less ls c.loop-next.up.items c.pop-in-loop-next.new.self.items c.loop-next.line.items l c.in-Some.next h.climbed h.line c.in-Some.ensures.items);
       line = subst (λ z. IsLine ls z (take (length z) l)) (sym more)
-          (climb_line ls c.loop-next.up.items c.pop.new.self.items c.loop-next.line.items l c.in-Some.next h.climbed h.line c.in-Some.ensures.items);
+          (climb_line ls c.loop-next.up.items c.pop-in-loop-next.new.self.items c.loop-next.line.items l c.in-Some.next h.climbed h.line c.in-Some.ensures.items);
     }
