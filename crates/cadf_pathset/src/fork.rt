@@ -1,12 +1,11 @@
 //! The order of the lists of two nodes, and the nodes at which they diverge: lists that extend those of such nodes have
 //! the same order.
-ghost use Rattle.std.specs.Prelude.{◌≡◌, ◌≤◌, ◌++◌, true, length, take};
+ghost use Rattle.std.specs.Prelude.{◌≡◌, ◌≤◌, ◌++◌, true, length};
 ghost use Rattle.std.specs.declared.cmp.Ordering.TheVariants.{Equal};
 ghost use Rattle.cadf_join.specs.Contents.{Texts, texts_cmp};
 ghost use Rattle.cadf_pathset.specs.Fork.{IsFork};
-ghost use Rattle.cadf_pathset.specs.Nodes.{Agree, IsLine, list_at};
+ghost use Rattle.cadf_pathset.specs.Nodes.{list_at};
 
-use crate::lines::end_of;
 use crate::nodes::{Nodes, ancestor, depth};
 use std::cmp::Ordering;
 
@@ -47,7 +46,7 @@ impl Fork {
 
 /// Returns whether `front` is an ancestor of the node, or the node itself: the node's list then begins with that of
 /// `front`.
-fn goes_on(nodes: &Nodes, node: usize, front: usize) -> bool
+pub(crate) fn goes_on(nodes: &Nodes, node: usize, front: usize) -> bool
     requires { node ≤ length nodes.now }
     ensures { result ≡ true → (rest : Texts) × (list_at nodes.now node ≡ list_at nodes.now front ++ rest) }
 {
@@ -56,18 +55,6 @@ fn goes_on(nodes: &Nodes, node: usize, front: usize) -> bool
         at = nodes.parent(at);
     }
     at == front
-}
-
-/// Returns how many first texts the node's list is known to share with each list that begins with the line's.
-pub(crate) fn known_behind(nodes: &Nodes, node: usize, line: &[usize]) -> usize
-    requires { node ≤ length nodes.now }
-    ensures { (p : Texts) → IsLine nodes.now line.now (take (length line.now) p) → Agree result (list_at nodes.now node) p }
-{
-    if goes_on(nodes, node, end_of(line)) {
-        line.len()
-    } else {
-        0
-    }
 }
 
 /// Compares the lists of two nodes: at once if they begin with those of the fork's nodes, otherwise by a search for the

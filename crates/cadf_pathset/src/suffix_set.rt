@@ -1,14 +1,14 @@
 //! The suffixes after a prefix in a set, borrowed from the set.
 ghost use Rattle.std.specs.Prelude.{◌≡◌, ◌≤◌, ◌<◌, ℕ, [], ◌∷◌, IfOk, Some, None, true, false, length, take, drop, get_or, map, nat_le};
-ghost use Rattle.std.specs.List.{AllByRecursion, find};
+ghost use Rattle.std.specs.List.{AllByRecursion};
 ghost use Rattle.std.specs.List.Sorted.{IsStrictlySortedBy};
 ghost use Rattle.std.specs.Option.{option_copied, option_map};
-ghost use Rattle.cadf_join.specs.Contents.{is_after, next_after, suffixes_of, text_cmp, texts_cmp};
+ghost use Rattle.cadf_join.specs.Contents.{next_after, suffixes_of, texts_cmp};
 ghost use Rattle.cadf_join.specs.Longest.{longer_than, longest_of};
-ghost use Rattle.cadf_join.specs.Maps.{firsts, heads};
+ghost use Rattle.cadf_join.specs.Maps.{heads};
 ghost use Rattle.cadf_join.specs.Prefixes.{all_texts, chain_texts};
 ghost use Rattle.cadf_join.specs.Sets as set;
-ghost use Rattle.cadf_pathset.specs.Lists.{first_text, is_before, prefix_cmp};
+ghost use Rattle.cadf_pathset.specs.Lists.{first_text, is_before};
 ghost use Rattle.cadf_pathset.specs.Nodes.{AreThere, rest_of};
 ghost use Rattle.cadf_pathset.specs.Sections.{sections_from, sections_of};
 
@@ -151,17 +151,10 @@ impl<'a> SuffixSet<'a> {
     {
         match text {
             Some(text) => self.text(self.binary_search(text, true, 0, self.count())),
-            None => self.least_text(),
-        }
-    }
-
-    /// Returns the least first text.
-    fn least_text(&self) -> Option<&'a str>
-        ensures { option_copied result ≡ find (is_after text_cmp None) (firsts (set.rising self.now)) }
-    {
-        match self.text(0) {
-            Some(text) => Some(text),
-            None => self.text(1),
+            None => match self.text(0) {
+                Some(text) => Some(text),
+                None => self.text(1),
+            },
         }
     }
 
@@ -214,24 +207,17 @@ impl<'a> SuffixSet<'a> {
     }
 
     /// Returns whether the suffix at that index is below those that begin with the text. One that begins with it counts
-    /// too, if `passed`.
+    /// too, if `passed`. An empty suffix is below.
     fn is_before(&self, number: usize, text: &str, passed: bool) -> bool
         ensures { result ≡ is_before (text.now ∷ []) passed (get_or (set.rising self.now) number []) }
     {
-        match self.text_cmp(number, text) {
-            Ordering::Less => true,
-            Ordering::Equal => passed,
-            Ordering::Greater => false,
-        }
-    }
-
-    /// Compares the first text of the suffix at that index with the text. An empty suffix is less.
-    fn text_cmp(&self, number: usize, text: &str) -> Ordering
-        ensures { result ≡ prefix_cmp (get_or (set.rising self.now) number []) (text.now ∷ []) }
-    {
         match self.text(number) {
-            Some(first) => first.cmp(text),
-            None => Ordering::Less,
+            Some(first) => match first.cmp(text) {
+                Ordering::Less => true,
+                Ordering::Equal => passed,
+                Ordering::Greater => false,
+            },
+            None => true,
         }
     }
 

@@ -12,7 +12,7 @@ ghost use Rattle.cadf_pathset.specs.Walks.{Entered, IsLinePrefix};
 use crate::Memory;
 use crate::compare::list_cmp;
 use crate::cursor::Cursor;
-use crate::fork::known_behind;
+use crate::fork::goes_on;
 use crate::lines::{cmp_from, end_of, extend, follow};
 use crate::nodes::Nodes;
 use crate::path_vec::PathVec;
@@ -106,7 +106,8 @@ fn skip(
     let mut step: usize = 1;
     while step <= numbers.len() - low {
         let probe = low + (step - 1);
-        let known = known_behind(nodes, numbers[probe], out);
+        let is_behind = goes_on(nodes, numbers[probe], end_of(out));
+        let known = if is_behind { out.len() } else { 0 };
         let (order, _) = list_cmp(nodes, numbers[probe], path, known);
         if !order.is_lt() {
             break;
@@ -124,37 +125,52 @@ fn skip(
 /// After this many comparisons of our lists in a row, a galloping search begins.
 const LONG: usize = 8;
 
-/// Appends to `all` our lists and those after the cursor, each once, in order. Copies no text of ours, and appends no
-/// node for a text that an adjacent list of ours has.
+/// Returns our lists and theirs, each once, in order. Copies no text of ours, and appends no node for a text that an
+/// adjacent list of ours has.
 fn merge(
+    alloc: Global,
     nodes: &mut Nodes,
     numbers: &[usize],
-    cursor: &mut Cursor<'_>,
-    line: &mut Vec<usize>,
-    up: &mut Vec<usize>,
-    out: &mut Vec<usize>,
-    all: &mut Vec<usize>,
-) -> Result<(), Memory>
+    other: &PathVec,
+) -> Result<Vec<usize>, Memory>
     requires there { AreThere nodes.old numbers.now }
     requires rises { IsStrictlySortedBy texts_cmp (lists_at nodes.old numbers.now) }
-    requires front { IsLinePrefix nodes.old line.old.items out.old.items 0 cursor.old.0 }
-    requires before { AreThere nodes.old all.old.items }
     ensures kept { take (length nodes.old) nodes.new ≡ nodes.old }
-    ensures there { OnOk result (AreThere nodes.new all.new.items) }
-    ensures merged { OnOk result (lists_at nodes.new all.new.items
-        ≡ lists_at nodes.old all.old.items ++ sorted_merge texts_cmp true (lists_at nodes.old numbers.now) cursor.old.1) }
+    ensures there { IfOk result (λ all. AreThere nodes.new all.items) }
+    ensures merged { IfOk result (λ all. lists_at nodes.new all.items
+        ≡ sorted_merge texts_cmp true (lists_at nodes.old numbers.now) other.now) }
 {
+    let mut all = Vec::with_capacity(alloc, numbers.len().saturating_add(other.count()))?;
+    let mut line = Vec::new(alloc);
+    let mut up = Vec::new(alloc);
+    let mut out = Vec::new(alloc);
+    let mut cursor = other.cursor();
     let mut agreed: usize = 0;
     let mut at: usize = 0;
     let mut run: usize = 0;
-    let mut more = enter(cursor, out, &mut agreed)?;
+    let mut more = enter(&mut cursor, &mut out, &mut agreed)?;
     while more {
         if run == LONG {
-            at = skip(&*nodes, numbers, at, cursor.path(), out.as_slice(), all)?;
+            at = skip(
+                &*nodes,
+                numbers,
+                at,
+                cursor.path(),
+                out.as_slice(),
+                &mut all,
+            )?;
             run = 0;
         } else if at < numbers.len() {
             let number = numbers[at];
-            let order = compare(&*nodes, number, line, up, out, &mut agreed, cursor.path())?;
+            let order = compare(
+                &*nodes,
+                number,
+                &mut line,
+                &mut up,
+                &mut out,
+                &mut agreed,
+                cursor.path(),
+            )?;
             match order {
                 Ordering::Less => {
                     all.push(number)?;
@@ -165,22 +181,22 @@ fn merge(
                     all.push(number)?;
                     at += 1;
                     run = 0;
-                    more = enter(cursor, out, &mut agreed)?;
+                    more = enter(&mut cursor, &mut out, &mut agreed)?;
                 }
                 Ordering::Greater => {
                     run = 0;
-                    append(nodes, out, cursor.path(), all)?;
-                    more = enter(cursor, out, &mut agreed)?;
+                    append(nodes, &mut out, cursor.path(), &mut all)?;
+                    more = enter(&mut cursor, &mut out, &mut agreed)?;
                 }
             }
         } else {
-            append(nodes, out, cursor.path(), all)?;
-            more = enter(cursor, out, &mut agreed)?;
+            append(nodes, &mut out, cursor.path(), &mut all)?;
+            more = enter(&mut cursor, &mut out, &mut agreed)?;
         }
     }
     let (_, rest) = numbers.split_at(at);
     all.extend_from_slice(rest)?;
-    Ok(())
+    Ok(all)
 }
 
 /// Returns the lists of both, each once, in order, with nodes of our arena. After an `Err` our nodes are as before.
@@ -199,21 +215,8 @@ pub(crate) fn merge_into(
     ensures err { OnErr result (nodes.new ≡ nodes.old) }
 {
     let count = nodes.count();
-    let mut all = Vec::with_capacity(alloc, numbers.len().saturating_add(other.count()))?;
-    let mut line = Vec::new(alloc);
-    let mut up = Vec::new(alloc);
-    let mut out = Vec::new(alloc);
-    let mut cursor = other.cursor();
-    match merge(
-        nodes,
-        numbers,
-        &mut cursor,
-        &mut line,
-        &mut up,
-        &mut out,
-        &mut all,
-    ) {
-        Ok(()) => Ok(all),
+    match merge(alloc, nodes, numbers, other) {
+        Ok(all) => Ok(all),
         Err(fault) => {
             nodes.truncate(count);
             Err(fault)

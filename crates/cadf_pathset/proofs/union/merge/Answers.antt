@@ -1,13 +1,14 @@
 use Rattle.std.proofs.lemmas.Grind.{common_steps}
-use Rattle.std.proofs.Common.{◌≡◌, ◌≤◌, ◌-◌, ◌++◌, ℕ, length, take, drop, get_or, arith, ap, subst, refl, ◌∙◌}
+use Rattle.std.proofs.Common.{◌≡◌, ◌≤◌, ◌-◌, ◌++◌, ℕ, length, take, drop, get_or, arith, ap, subst, refl, sym, ◌∙◌}
 use Rattle.std.proofs.lemmas.List.{take_all}
 use Rattle.std.specs.declared.cmp.Ordering.TheVariants.{Less, Equal, Greater}
 use Rattle.std.specs.List.{AllByRecursion}
 use Rattle.cadf_join.specs.Contents.{texts_cmp}
 use Rattle.cadf_join.specs.Prefixes.{texts_at}
 use Rattle.cadf_pathset.specs.Merge.{sorted_merge}
-use Rattle.cadf_pathset.specs.Nodes.{lists_at}
-use Rattle.cadf_pathset.proofs.Threads.{kept_again, lists_kept, there_kept}
+use Rattle.cadf_pathset.specs.Nodes.{AreThere, IsLine, lists_at, place}
+use Rattle.cadf_pathset.specs.Walks.{IsLinePrefix}
+use Rattle.cadf_pathset.proofs.Threads.{agree_none, kept_again, lists_kept, no_line, root_line, there_kept}
 use Rattle.cadf_pathset.proofs.Merging.{entered_ahead, front_ours, front_theirs, order_is, ours_put, ours_there, rest_put, theirs_put, turn_skip}
 use Rattle.cadf_pathset.proofs.Merging.{there_at, there_both, there_drop, turn_alone, turn_equal, turn_greater}
 use Rattle.cadf_pathset.proofs.union.merge.Goals as goal
@@ -15,18 +16,25 @@ use Rattle.cadf_pathset.proofs.union.merge.Goals as goal
 pub loop-more-init : goal.loop-more-init
 loop-more-init c =
     let ls = c.args.nodes.now in
-    let old = c.args.cursor.now in
+    let old = c.cursor-cursor.result in
     let new = c.enter.new.cursor in
+    let line = c.new-line.result.items in
+    let out = c.new-out.result.items in
     let moved = c.in_ok-more.ensures in
+    let front : IsLinePrefix ls line out 0 old.0 = record {
+      line = root_line ls line c.new-line.ensures.items;
+      agrees = agree_none (place ls line) old.0;
+      out = subst (λ ms. IsLine ls ms (take (length ms) old.0)) (sym c.new-out.ensures.items) (no_line ls);
+    } in
     record {
       kept = take_all (length ls) ls (omega arith);
       within = omega arith;
       short = omega arith;
-      there = c.requires.before;
-      front = front_ours c.in_ok-more.more ls c.args.line.now.items c.args.out.now.items c.enter.new.out.items 0 c.enter.new.agreed old new old.0 refl
-          c.requires.front moved;
-      lists = ap (λ z. lists_at ls c.args.all.now.items ++ sorted_merge texts_cmp Rattle.std.proofs.Common.true (lists_at ls c.args.numbers.now) z)
-          (entered_ahead c.in_ok-more.more old new c.args.out.now.items c.enter.new.out.items 0 c.enter.new.agreed moved);
+      there = subst (AreThere ls) (sym c.in_ok-all.ensures.items) tt;
+      front = front_ours c.in_ok-more.more ls line out c.enter.new.out.items 0 c.enter.new.agreed old new old.0 refl front moved;
+      lists = (λ i. lists_at ls (c.in_ok-all.ensures.items i) ++ sorted_merge texts_cmp Rattle.std.proofs.Common.true (lists_at ls c.args.numbers.now)
+          (entered_ahead c.in_ok-more.more old new out c.enter.new.out.items 0 c.enter.new.agreed moved i))
+          ∙ ap (sorted_merge texts_cmp Rattle.std.proofs.Common.true (lists_at ls c.args.numbers.now)) c.cursor-cursor.ensures.ahead;
     }
 
 pub loop-more-preserved-in-Equal : goal.loop-more-preserved-in-Equal
@@ -40,7 +48,7 @@ loop-more-preserved-in-Equal c =
     let there : n ≤ length first = there_at first ns c.loop-more.at c.requires.there lt in
     let moved = c.in_ok-more-in-Equal.ensures in
     let put = c.in_ok-push-in-Equal.ensures.items in
-    let total = lists_at first c.args.all.now.items ++ sorted_merge texts_cmp Rattle.std.proofs.Common.true (lists_at first ns) c.args.cursor.now.1 in
+    let total = sorted_merge texts_cmp Rattle.std.proofs.Common.true (lists_at first ns) c.args.other.now in
     record {
       kept = h.kept;
       within = omega (arith, lt);
@@ -70,7 +78,7 @@ loop-more-preserved-in-Greater c =
     let there : n ≤ length first = there_at first ns c.loop-more.at c.requires.there lt in
     let moved = c.in_ok-more-in-Greater.ensures in
     let put = c.in_ok-append-in-Greater.ensures in
-    let total = lists_at first c.args.all.now.items ++ sorted_merge texts_cmp Rattle.std.proofs.Common.true (lists_at first ns) c.args.cursor.now.1 in
+    let total = sorted_merge texts_cmp Rattle.std.proofs.Common.true (lists_at first ns) c.args.other.now in
     record {
       kept = kept_again first ls us h.kept put.kept;
       within = h.within;
@@ -98,7 +106,7 @@ loop-more-preserved c =
     let ns = c.args.numbers.now in
     let moved = c.in_ok-more-2.ensures in
     let put = c.in_ok-append.ensures in
-    let total = lists_at first c.args.all.now.items ++ sorted_merge texts_cmp Rattle.std.proofs.Common.true (lists_at first ns) c.args.cursor.now.1 in
+    let total = sorted_merge texts_cmp Rattle.std.proofs.Common.true (lists_at first ns) c.args.other.now in
     record {
       kept = kept_again first ls us h.kept put.kept;
       within = h.within;
@@ -140,7 +148,7 @@ loop-more-preserved-then-run-eq-LONG c =
     let same = lists_kept first ls h.kept ns c.requires.there in
     let to = c.in_ok-at.at in
     let put = c.in_ok-at.ensures in
-    let total = lists_at first c.args.all.now.items ++ sorted_merge texts_cmp Rattle.std.proofs.Common.true (lists_at first ns) c.args.cursor.now.1 in
+    let total = sorted_merge texts_cmp Rattle.std.proofs.Common.true (lists_at first ns) c.args.other.now in
     record {
       kept = h.kept;
       within = put.within;

@@ -13,7 +13,7 @@ invariant-loop-more l = record {
   there : AreThere l.nodes l.all.items;
   front : IsLinePrefix l.nodes l.line.items l.out.items l.agreed l.cursor.0;
   lists : lists_at l.nodes l.all.items ++ sorted_merge texts_cmp true (lists_at l.fn.nodes (drop l.at l.numbers)) (lists_ahead l.more l.cursor)
-      ≡ lists_at l.fn.nodes l.fn.all.items ++ sorted_merge texts_cmp true (lists_at l.fn.nodes l.numbers) l.fn.cursor.1;
+      ≡ sorted_merge texts_cmp true (lists_at l.fn.nodes l.numbers) l.other;
 }
 
 abbrev pub decreases-loop-more : goal.decreases-loop-more
