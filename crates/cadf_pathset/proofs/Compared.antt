@@ -1,11 +1,12 @@
 -- A line's list and a path, compared at one text.
 use Rattle.std.proofs.lemmas.Grind.{common_steps}
-use Rattle.std.proofs.Common.{◌≡◌, ℕ, ◌+◌, ◌<◌, ◌≤◌, min, List, [], sym, ◌∙◌, length, take, get_or, arith}
+use Rattle.std.proofs.Common.{◌≡◌, ℕ, ◌+◌, ◌<◌, ◌≤◌, min, List, [], true, false, ap, sym, ◌∙◌, length, take, get_or, arith}
 use Rattle.std.specs.Borrow.{Bor}
 use Rattle.std.proofs.lemmas.List.{length-map, length-take, take-map}
 use Rattle.std.specs.declared.cmp.Ordering.{Ordering}
 use Rattle.std.specs.declared.cmp.Ordering.TheVariants.{Less, Equal, Greater}
-use Rattle.std.specs.Ordering.{nat_cmp}
+use mathlib.Core.Bool.{true≢false}
+use Rattle.std.specs.Ordering.{is_eq, nat_cmp}
 use Rattle.cadf_join.specs.Contents.{Text, Texts, text_cmp, texts_cmp}
 use Rattle.cadf_join.specs.Prefixes.{texts_at}
 use Rattle.cadf_pathset.specs.Nodes.{Agree, IsLine, last_text, list_at, place, shared}
@@ -17,6 +18,12 @@ less_is_not e = cc
 
 pub greater_is_not : Greater ≡ Equal → ⊥
 greater_is_not e = cc
+
+pub is_equal : (r : Ordering) → is_eq r ≡ true → r ≡ Equal
+is_equal r h = grind (arith, common_steps)
+
+pub not_equal : (r : Ordering) → is_eq r ≡ false → r ≡ Equal → ⊥
+not_equal r h e = true≢false (sym (ap is_eq e) ∙ h)
 
 module _ (ls : List Texts) (ns : List ℕ) (q : Texts) (len : ℕ) (long : length q ≡ len) (i : ℕ) (h : IsLine ls ns (place ls ns)) (k : Agree i (place ls ns) q) where
   module _ (b : i < length ns) (d : i < len) (t u : Text) (r : Ordering) (ours : t ≡ last_text (list_at ls (get_or ns i 0)))

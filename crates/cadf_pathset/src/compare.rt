@@ -48,11 +48,11 @@ fn cmp_down<W: AsText>(
     let mut agreed = known;
     while agreed < has && agreed < list.len() {
         let at = ancestor(nodes, node, has, agreed + 1);
-        match nodes.text(at).cmp(text_at(list, agreed)) {
-            Ordering::Less => return (Ordering::Less, agreed),
-            Ordering::Equal => agreed += 1,
-            Ordering::Greater => return (Ordering::Greater, agreed),
+        let order = nodes.text(at).cmp(text_at(list, agreed));
+        if !order.is_eq() {
+            return (order, agreed);
         }
+        agreed += 1;
     }
     (has.cmp(&list.len()), agreed)
 }

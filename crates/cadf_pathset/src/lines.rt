@@ -68,11 +68,11 @@ pub(crate) fn cmp_from<W: AsText>(
 {
     let mut agreed = known;
     while agreed < line.len() && agreed < path.len() {
-        match nodes.text(line[agreed]).cmp(text_at(path, agreed)) {
-            Ordering::Less => return (Ordering::Less, agreed),
-            Ordering::Equal => agreed += 1,
-            Ordering::Greater => return (Ordering::Greater, agreed),
+        let order = nodes.text(line[agreed]).cmp(text_at(path, agreed));
+        if !order.is_eq() {
+            return (order, agreed);
         }
+        agreed += 1;
     }
     (line.len().cmp(&path.len()), agreed)
 }
