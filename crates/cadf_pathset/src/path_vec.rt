@@ -270,16 +270,31 @@ impl PathVec {
         self.numbers.is_empty()
     }
 
-    /// Returns whether both have the same lists.
+    /// Returns whether both have the same lists. What two lists share with those before them isn't compared again.
     pub fn same(&self, other: &PathVec) -> bool
         ensures { IsTrue result ↔ (self.now ≡ other.now) }
     {
-        same_lists(
-            &self.nodes,
-            self.numbers.as_slice(),
-            &other.nodes,
-            other.numbers.as_slice(),
-        )
+        let mut left = self.numbers.as_slice();
+        let mut rest = other.numbers.as_slice();
+        let mut last: usize = 0;
+        let mut its_last: usize = 0;
+        while let [number, numbers @ ..] = left {
+            match rest {
+                [it, its @ ..] => {
+                    let ours = common_depth(&self.nodes, last, *number);
+                    let known = ours.min(common_depth(&other.nodes, its_last, *it));
+                    if !same_list(&self.nodes, *number, &other.nodes, *it, known) {
+                        return false;
+                    }
+                    last = *number;
+                    its_last = *it;
+                    left = numbers;
+                    rest = its;
+                }
+                [] => return false,
+            }
+        }
+        rest.is_empty()
     }
 
     /// Counts the lists.
@@ -312,36 +327,6 @@ fn push_at(numbers: &[usize], place: usize, found: &mut Vec<usize>) -> Result<()
         }
         None => Ok(()),
     }
-}
-
-/// Returns whether the nodes of two arenas have the same lists, pair by pair. What two lists share with those before
-/// them isn't compared again.
-fn same_lists(nodes: &Nodes, numbers: &[usize], others: &Nodes, its: &[usize]) -> bool
-    requires ours { AreThere nodes.now numbers.now }
-    requires theirs { AreThere others.now its.now }
-    ensures { IsTrue result ↔ (lists_at nodes.now numbers.now ≡ lists_at others.now its.now) }
-{
-    let mut left = numbers;
-    let mut rest = its;
-    let mut last: usize = 0;
-    let mut its_last: usize = 0;
-    while let [number, numbers @ ..] = left {
-        match rest {
-            [it, its @ ..] => {
-                let ours = common_depth(nodes, last, *number);
-                let known = ours.min(common_depth(others, its_last, *it));
-                if !same_list(nodes, *number, others, *it, known) {
-                    return false;
-                }
-                last = *number;
-                its_last = *it;
-                left = numbers;
-                rest = its;
-            }
-            [] => return false,
-        }
-    }
-    rest.is_empty()
 }
 
 /// Finds the lists before and after that index, and returns the node of the one that shares more texts with the path.
