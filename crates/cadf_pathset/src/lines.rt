@@ -19,9 +19,9 @@ pub(crate) fn end_of(line: &[usize]) -> usize
     }
 }
 
-/// Replaces the line by that of the node, and returns how many nodes of the line it kept: the ancestors that both share.
-/// Since parents have smaller numbers than their children, it steps back from the greater number. `up` collects the nodes
-/// below those ancestors. After an `Err` the line is that of no list.
+/// Replaces the line by that of the node, and returns how many nodes of the line it kept: the ancestors that both
+/// share. Since parents have smaller numbers than their children, it steps back from the greater number. Collects in
+/// `up` the nodes below those ancestors. After an `Err` the line is that of no list.
 pub(crate) fn follow(
     nodes: &Nodes,
     node: usize,

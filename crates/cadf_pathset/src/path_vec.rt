@@ -195,8 +195,8 @@ impl PathVec {
         Cursor::new(self.alloc, &self.nodes, numbers)
     }
 
-    /// Passes the lists at these indices, in the order of the indices, to the visitor, like `Walk::walk`. Passes over an
-    /// index that is too great.
+    /// Passes the lists at these indices, in the order of the indices, to the visitor, like `Walk::walk`. Passes over
+    /// an index that is too great.
     pub fn walk_at<S: Visitor>(&self, places: &[usize], visitor: &mut S) -> Result<(), S::Fault>
         ensures shown { OnOk result (S.takes visitor.old (at_places places.now self.now) visitor.new) }
         ensures stopped { IfErr result (λ f. S.stops visitor.old (at_places places.now self.now) f visitor.new) }
