@@ -6,3 +6,6 @@ use Rattle.cadf_pathset.proofs.cursor.advance.Goals as goal
 
 pub loop-path-init : goal.loop-path-init
 loop-path-init c = grind (arith, common_steps, place_of, cut_path)
+
+pub loop-path-preserved : goal.loop-path-preserved
+loop-path-preserved c = grind (arith, common_steps)

@@ -2,7 +2,7 @@ use Rattle.std.proofs.lemmas.Grind.{common_steps}
 use Rattle.std.proofs.Common.{◌≡◌, ◌++◌, ◌∷◌, ◌∙◌, [], ap, arith, length, map, take}
 use Rattle.std.proofs.lemmas.List.{length-map}
 use Rattle.cadf_pathset.specs.Nodes.{IsLine, last_node, list_at, place}
-use Rattle.cadf_pathset.proofs.Threads.{kept_again, kept_more, line_grown, line_on, place_of, self_line}
+use Rattle.cadf_pathset.proofs.Threads.{kept_again, kept_more, line_grown, line_kept, line_on, place_of, self_line}
 use Rattle.cadf_pathset.proofs.lines.extend.Goals as goal
 
 pub loop-nodes-preserved : goal.loop-nodes-preserved
@@ -18,3 +18,14 @@ loop-nodes-preserved g c =
     (self_line ls ns (take (length ns) (map g.W.AsText.bytes c.args.path.now)) h) (c.end_of.ensures ∙ ap last_node c.as_slice.ensures.value)
     c.in_ok-number.ensures.ok c.in_ok-number.ensures.number c.in_ok-push.ensures.items in
     grind (arith, common_steps, place_of, self_line, length-map, kept_again, line_on)
+
+pub returns-in_err-push-clause-line : goal.returns-in_err-push-clause-line
+returns-in_err-push-clause-line g c =
+    let ls = c.loop-nodes.nodes in
+    let us = c.push.new.self in
+    let ns = c.loop-nodes.line.items in
+    let l = take (length ns) (map g.W.AsText.bytes c.args.path.now) in
+    let kept : take (length ls) us ≡ ls = ap (take (length ls)) c.in_ok-number.ensures.ok
+    ∙ kept_more ls ((list_at ls c.end_of.result ++ c.text_at.result.now ∷ []) ∷ []) in
+    let line = self_line us ns l (line_kept ls us kept ns l c.loop-nodes.invariant.line) in
+    grind (arith, common_steps)

@@ -1,4 +1,5 @@
-use Rattle.std.proofs.Common.{length, take, subst, sym}
+use Rattle.std.proofs.lemmas.Grind.{common_steps}
+use Rattle.std.proofs.Common.{arith, length, take, subst, sym}
 use Rattle.cadf_pathset.specs.Nodes.{IsClimb, IsLine, list_at}
 use Rattle.cadf_pathset.proofs.Threads.{climb_less, climb_line}
 use Rattle.cadf_pathset.proofs.lines.follow.Goals as goal
@@ -15,3 +16,12 @@ loop-next-preserved c =
       line = subst (λ z. IsLine ls z (take (length z) l)) (sym more)
           (climb_line ls c.loop-next.up.items c.pop-in-loop-next.new.self.items c.loop-next.line.items l c.in-Some.next h.climbed h.line c.in-Some.ensures.items);
     }
+
+pub loop-at-preserved : goal.loop-at-preserved
+loop-at-preserved c = grind (arith, common_steps)
+
+pub loop-next-init : goal.loop-next-init
+loop-next-init c = grind (arith, common_steps)
+
+pub returns-clause-common : goal.returns-clause-common
+returns-clause-common c = grind (arith, common_steps)
