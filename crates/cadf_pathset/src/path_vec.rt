@@ -1,5 +1,5 @@
 //! A vector of lists of texts that share the storage of common prefixes.
-ghost use Rattle.std.specs.Prelude.{◌≡◌, ◌≤◌, ◌+◌, ◌<◌, ◌++◌, [], ◌∷◌, ◌↔◌, OnOk, OnErr, IfErr, IfOk, IsTrue, None, Some, true, false};
+ghost use Rattle.std.specs.Prelude.{◌≡◌, ◌≤◌, ◌+◌, ◌<◌, ◌^◌, ◌++◌, [], ◌∷◌, ◌↔◌, OnOk, OnErr, IfErr, IfOk, IsTrue, None, Some, true, false};
 ghost use Rattle.std.specs.Prelude.{length, take, drop, get_or, map, slice_get};
 ghost use Rattle.std.specs.List.{AllByRecursion, cons_option};
 ghost use Rattle.std.specs.declared.cmp.Ordering.TheVariants.{Less};
@@ -220,7 +220,7 @@ impl PathVec {
     pub fn seek<W: AsText>(&self, list: &[W]) -> Result<usize, usize>
         requires { IsStrictlySortedBy texts_cmp self.now }
         ensures held { IfOk result (λ at. (at < length self.now) × (get_or self.now at [] ≡ map W.bytes list.now)) }
-        ensures small { IfOk result (λ at. at < 18446744073709551615) }
+        ensures small { IfOk result (λ at. at + 1 < 2 ^ 64) }
         ensures within { IfErr result (λ at. at ≤ length self.now) }
         ensures below { IfErr result (λ at. AllByRecursion (λ l. texts_cmp l (map W.bytes list.now) ≡ Less) (take at self.now)) }
         ensures above { IfErr result (λ at. AllByRecursion (λ l. texts_cmp (map W.bytes list.now) l ≡ Less) (drop at self.now)) }
