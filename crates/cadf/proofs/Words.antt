@@ -1,7 +1,8 @@
 -- The words of a command line that are numbers and letters.
 use Rattle.std.proofs.Common.{◌≡◌, ◌≢◌, ℕ, zero, suc, ◌<◌, ◌≤◌, Bool, true, false, ◌||◌, List, [], ◌∷◌, get_or, Result, Ok, Err, refl, sym, ap, ◌∙◌}
-use Rattle.std.proofs.Common.{subst, arith, true≢false}
+use Rattle.std.proofs.Common.{subst, arith, true≢false, MatchOption}
 use Rattle.std.specs.Prelude.{◌^◌, decimal, encode_utf8}
+use Rattle.std.specs.Result.{result_ok}
 use Rattle.std.specs.Char.{IsScalar}
 use Rattle.std.specs.Str.Parse.{AllDigits, digits_value, ParsesUnsigned}
 use Rattle.std.proofs.lemmas.Str.Parse.{IsNumeralModel, numerals_by_value, tells_digits, parse_plain}
@@ -37,17 +38,14 @@ positive : (n : ℕ) (w : List ℕ) → decimal n ≡ w → begins_plainly w ≡
 positive zero w is plain = absurd (true≢false (sym plain ∙ ap begins_plainly (sym is ∙ decimal_digit 0 (omega arith))))
 positive (suc n) w is plain = omega arith
 
-pub is_number : {E : Type 0} (w : List ℕ) (r : Result ℕ E) (n : ℕ) → r ≡ Ok n → begins_plainly w ≡ true → ParsesUnsigned 64 10 w r → IsArgumentNumber w n
-is_number {E} w r n e plain parsed =
-    let ok = parse_plain own {E = E} 64 w (Ok n) (subst (ParsesUnsigned {E = E} 64 10 w) e parsed) (unsigned w plain) in
+pub number_parsed : {E : Type 0} (w : List ℕ) (r : Result ℕ E) → begins_plainly w ≡ true → ParsesUnsigned 64 10 w r
+    → MatchOption (result_ok r) ((n : ℕ) → ¬ IsArgumentNumber w n) (IsArgumentNumber w)
+number_parsed {E} w (Ok n) plain parsed =
+    let ok = parse_plain own {E = E} 64 w (Ok n) parsed (unsigned w plain) in
     let is : decimal n ≡ w = ap decimal ok.1 ∙ decimal-digits_value own w ok.0.0 ok.0.1 (λ z. absurd (nonzero w plain z)) ok.0.2 in
     (positive n w is plain, subst (λ v. v < 2 ^ 64) (sym ok.1) ok.0.2, sym is)
-
-pub not_number : {E : Type 0} (w : List ℕ) (r : Result ℕ E) (e : E) → r ≡ Err e → ParsesUnsigned 64 10 w r → (n : ℕ) → ¬ IsArgumentNumber w n
-not_number {E} w r e failed parsed n (some, small, is) = never r n e (parse-decimal 64 n w r small small is parsed) failed
-  where
-    never : (r : Result ℕ E) (n : ℕ) (e : E) → r ≡ Ok n → r ≡ Err e → ⊥
-    never r n e ok err = cc
+number_parsed {E} w (Err e) plain parsed =
+    λ n h. let other : ◌≡◌ {A = Result ℕ E} (Err e) (Ok n) = parse-decimal 64 n w (Err e) h.1 h.1 h.2 parsed in absurd (cc)
 
 -- ---- letters
 

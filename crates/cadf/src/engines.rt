@@ -112,8 +112,8 @@ fn sketch<W: Sink>(
     paths: &[&str],
     output: &mut W,
 ) -> Result<(), Stop> {
-    let cells = cells_given(options[0])?;
-    let salt = salt_given(options[1])?;
+    let cells = options[0].map(cells_given).transpose()?;
+    let salt = options[1].map(salt_given).transpose()?;
     union(rt, &SketchEngine { cells, salt }, paths, output)
 }
 

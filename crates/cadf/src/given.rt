@@ -12,10 +12,7 @@ use std::alloc::Global;
 
 /// Reads the identifier of the log, if one is given. `LogName`: it is no name.
 pub(crate) fn log_given(alloc: Global, word: Option<&str>) -> Result<Option<Name>, ArgumentFault> {
-    match word {
-        Some(word) => Ok(Some(read_log(alloc, word)?)),
-        None => Ok(None),
-    }
+    word.map(|word| read_log(alloc, word)).transpose()
 }
 
 /// Returns whether the word begins with neither a sign nor a zero.
@@ -35,18 +32,12 @@ fn number_given(word: &str) -> Option<u64>
     if !is_plain(word.as_bytes()) {
         return None;
     }
-    match word.parse::<u64>() {
-        Ok(number) => Some(number),
-        Err(_) => None,
-    }
+    word.parse::<u64>().ok()
 }
 
 /// Reads the number of sites of a rehearsal. `Sites`: it isn't 1 to 64.
 pub(crate) fn sites_given(word: &str) -> Result<usize, ArgumentFault> {
-    match number_given(word) {
-        Some(sites) => check_sites(sites),
-        None => Err(ArgumentFault::Sites),
-    }
+    check_sites(number_given(word).ok_or(ArgumentFault::Sites)?)
 }
 
 /// Reads the letter of a kind of keys. `Letter`: the word is no such letter.
@@ -63,30 +54,15 @@ pub(crate) fn letter_given(word: &str) -> Result<char, ArgumentFault>
 
 /// Reads the place of a value, from 1. `Place`: it isn't 1 to 999,999,999.
 pub(crate) fn place_given(word: &str) -> Result<u64, ArgumentFault> {
-    match number_given(word) {
-        Some(place) => check_place(place),
-        None => Err(ArgumentFault::Place),
-    }
+    check_place(number_given(word).ok_or(ArgumentFault::Place)?)
 }
 
-/// Reads the number of cells of a sketch, if one is given. `Cells`: it isn't a multiple of 3 from 3 to 12,582,912.
-pub(crate) fn cells_given(word: Option<&str>) -> Result<Option<Cells>, ArgumentFault> {
-    let Some(word) = word else {
-        return Ok(None);
-    };
-    match number_given(word) {
-        Some(cells) => Ok(Some(check_cells(cells)?)),
-        None => Err(ArgumentFault::Cells),
-    }
+/// Reads the number of cells of a sketch. `Cells`: it isn't a multiple of 3 from 3 to 12,582,912.
+pub(crate) fn cells_given(word: &str) -> Result<Cells, ArgumentFault> {
+    check_cells(number_given(word).ok_or(ArgumentFault::Cells)?)
 }
 
-/// Reads the salt of a sketch, if one is given. `Salt`: it isn't an odd number below 2^64.
-pub(crate) fn salt_given(word: Option<&str>) -> Result<Option<Salt>, ArgumentFault> {
-    let Some(word) = word else {
-        return Ok(None);
-    };
-    match number_given(word) {
-        Some(salt) => Ok(Some(check_salt(salt)?)),
-        None => Err(ArgumentFault::Salt),
-    }
+/// Reads the salt of a sketch. `Salt`: it isn't an odd number below 2^64.
+pub(crate) fn salt_given(word: &str) -> Result<Salt, ArgumentFault> {
+    check_salt(number_given(word).ok_or(ArgumentFault::Salt)?)
 }

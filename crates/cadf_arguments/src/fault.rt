@@ -35,11 +35,8 @@ impl ArgumentFault {
         ensures refused { 1 ≤ result }
     {
         match self {
-            ArgumentFault::LogName | ArgumentFault::Sites | ArgumentFault::Letter => 2,
-            ArgumentFault::Key | ArgumentFault::Place => 2,
-            ArgumentFault::Cells | ArgumentFault::Salt => 2,
-            ArgumentFault::Unit => 2,
             ArgumentFault::Memory => 4,
+            _ => 2,
         }
     }
 

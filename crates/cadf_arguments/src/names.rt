@@ -9,7 +9,7 @@ use cadf_event::{Name, is_valid_name};
 use std::alloc::Global;
 
 /// Reads the text as a name. `refusal`: it is none. `Memory`: it is one, and an allocation failed.
-fn read_name(alloc: Global, text: &str, refusal: ArgumentFault) -> Result<Name, ArgumentFault>
+pub fn read_name(alloc: Global, text: &str, refusal: ArgumentFault) -> Result<Name, ArgumentFault>
     ensures ok { IfOk result (λ name. name ≡ text.now) }
     ensures named { IfOk result (λ _. is_name text.now ≡ true) }
     ensures err { IfErr result (λ f. f ≡ (if is_name text.now then ArgumentFault.Memory else refusal)) }

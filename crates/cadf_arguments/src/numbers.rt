@@ -42,10 +42,7 @@ pub fn check_cells(cells: u64) -> Result<Cells, ArgumentFault>
     ensures ok { IfOk result (λ count. count ≡ cells) }
     ensures err { IfErr result (λ f. f ≡ ArgumentFault.Cells) }
 {
-    match Cells::of(cells) {
-        Some(cells) => Ok(cells),
-        None => Err(ArgumentFault::Cells),
-    }
+    Cells::of(cells).ok_or(ArgumentFault::Cells)
 }
 
 /// Returns the salt of a sketch. `Salt`: it isn't odd.
@@ -54,8 +51,5 @@ pub fn check_salt(salt: u64) -> Result<Salt, ArgumentFault>
     ensures ok { IfOk result (λ n. n ≡ salt) }
     ensures err { IfErr result (λ f. f ≡ ArgumentFault.Salt) }
 {
-    match Salt::of(salt) {
-        Some(salt) => Ok(salt),
-        None => Err(ArgumentFault::Salt),
-    }
+    Salt::of(salt).ok_or(ArgumentFault::Salt)
 }

@@ -10,14 +10,10 @@ pub fn read_unit(word: &[u8]) -> Result<Unit, ArgumentFault>
     ensures ok { IfOk result (λ unit. unit_named word.now ≡ Some unit) }
     ensures err { IfErr result (λ f. (f ≡ ArgumentFault.Unit) × (unit_named word.now ≡ None)) }
 {
-    if word == b"month".as_slice() {
-        return Ok(Unit::Month);
+    match word {
+        b"month" => Ok(Unit::Month),
+        b"day" => Ok(Unit::Day),
+        b"hour" => Ok(Unit::Hour),
+        _ => Err(ArgumentFault::Unit),
     }
-    if word == b"day".as_slice() {
-        return Ok(Unit::Day);
-    }
-    if word == b"hour".as_slice() {
-        return Ok(Unit::Hour);
-    }
-    Err(ArgumentFault::Unit)
 }
