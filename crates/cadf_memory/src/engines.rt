@@ -22,7 +22,7 @@ ghost use Rattle.cadf_memory.specs.Made.{IsMadeOf, IsMadeOfTwo, IsMadeOfTwoBy, I
 ghost use Rattle.cadf_memory.specs.Refused.{is_of_memory, IsFirstOf, IsFirstOfTwo, IsFirstOfTwoBy, IsFirstOfThree, IsFirstOfAll, IsFirstOfOneAndAll};
 
 use crate::buffer::Buffer;
-use crate::output::fault_in_memory;
+use crate::output::answer;
 use crate::slice_source::SliceSource;
 use cadf_event::Name;
 use cadf_tool::{
@@ -44,10 +44,7 @@ pub fn over_one<E: Engine>(
 {
     let mut source = SliceSource::new(input);
     let mut buffer = Buffer::new(output);
-    match run_one(alloc, engine, &mut source, &mut buffer) {
-        Ok(()) => Ok(buffer.length()),
-        Err(fault) => Err(fault_in_memory(fault)),
-    }
+    answer(run_one(alloc, engine, &mut source, &mut buffer), &buffer)
 }
 
 /// Writes the line that says what the input holds.
@@ -58,10 +55,7 @@ pub fn check(alloc: Global, input: &[u8], output: &mut [u8]) -> Result<usize, To
 {
     let mut source = SliceSource::new(input);
     let mut buffer = Buffer::new(output);
-    match run_check(alloc, &mut source, &mut buffer) {
-        Ok(()) => Ok(buffer.length()),
-        Err(fault) => Err(fault_in_memory(fault)),
-    }
+    answer(run_check(alloc, &mut source, &mut buffer), &buffer)
 }
 
 /// Writes a line for each fact of `facts`, if the proof shows under the seal that each is in the sealed set; with
@@ -83,17 +77,15 @@ pub fn verify<'b>(
     let mut second = SliceSource::new(facts);
     let mut third = SliceSource::new(proof);
     let mut buffer = Buffer::new(output);
-    match run_verify(
+    let run = run_verify(
         alloc,
         &mut first,
         &mut second,
         &mut third,
         absent,
         &mut buffer,
-    ) {
-        Ok(()) => Ok(buffer.length()),
-        Err(fault) => Err(fault_in_memory(fault)),
-    }
+    );
+    answer(run, &buffer)
 }
 
 /// Writes a line for each site of the log after the schedule of the script.
@@ -110,10 +102,8 @@ pub fn rehearse(
 {
     let mut source = SliceSource::new(script);
     let mut buffer = Buffer::new(output);
-    match run_rehearse(alloc, log, sites, &mut source, &mut buffer) {
-        Ok(()) => Ok(buffer.length()),
-        Err(fault) => Err(fault_in_memory(fault)),
-    }
+    let run = run_rehearse(alloc, log, sites, &mut source, &mut buffer);
+    answer(run, &buffer)
 }
 
 /// Writes the replica file of what `to` lacks of `from`. Inputs count from 1: `from` is the first.
@@ -125,10 +115,8 @@ pub fn missing(alloc: Global, from: &[u8], to: &[u8], output: &mut [u8]) -> Resu
     let mut first = SliceSource::new(from);
     let mut second = SliceSource::new(to);
     let mut buffer = Buffer::new(output);
-    match run_missing(alloc, &mut first, &mut second, &mut buffer) {
-        Ok(()) => Ok(buffer.length()),
-        Err(fault) => Err(fault_in_memory(fault)),
-    }
+    let run = run_missing(alloc, &mut first, &mut second, &mut buffer);
+    answer(run, &buffer)
 }
 
 /// Writes the replica file of what `from` has beyond the inventory. Inputs count from 1: `from` is the first.
@@ -145,10 +133,8 @@ pub fn missing_by(
     let mut first = SliceSource::new(from);
     let mut second = SliceSource::new(inventory);
     let mut buffer = Buffer::new(output);
-    match run_missing_by(alloc, &mut first, &mut second, &mut buffer) {
-        Ok(()) => Ok(buffer.length()),
-        Err(fault) => Err(fault_in_memory(fault)),
-    }
+    let run = run_missing_by(alloc, &mut first, &mut second, &mut buffer);
+    answer(run, &buffer)
 }
 
 /// Writes the replica file of what `from` has beyond the sketch. Inputs count from 1: `from` is the first.
@@ -165,10 +151,8 @@ pub fn missing_by_sketch(
     let mut first = SliceSource::new(from);
     let mut second = SliceSource::new(sketch);
     let mut buffer = Buffer::new(output);
-    match run_missing_by_sketch(alloc, &mut first, &mut second, &mut buffer) {
-        Ok(()) => Ok(buffer.length()),
-        Err(fault) => Err(fault_in_memory(fault)),
-    }
+    let run = run_missing_by_sketch(alloc, &mut first, &mut second, &mut buffer);
+    answer(run, &buffer)
 }
 
 /// Bytes of the caller's: an address and a length, as C has them.
@@ -202,10 +186,8 @@ pub fn join(
 {
     let mut sources = sources(alloc, inputs)?;
     let mut buffer = Buffer::new(output);
-    match run_join(alloc, log, sources.as_mut_slice(), &mut buffer) {
-        Ok(()) => Ok(buffer.length()),
-        Err(fault) => Err(fault_in_memory(fault)),
-    }
+    let run = run_join(alloc, log, sources.as_mut_slice(), &mut buffer);
+    answer(run, &buffer)
 }
 
 /// Writes the split file by that unit of what all inputs contribute, under the given log or else the first that an
@@ -223,10 +205,8 @@ pub fn split(
 {
     let mut sources = sources(alloc, inputs)?;
     let mut buffer = Buffer::new(output);
-    match run_split(alloc, unit, log, sources.as_mut_slice(), &mut buffer) {
-        Ok(()) => Ok(buffer.length()),
-        Err(fault) => Err(fault_in_memory(fault)),
-    }
+    let run = run_split(alloc, unit, log, sources.as_mut_slice(), &mut buffer);
+    answer(run, &buffer)
 }
 
 /// Writes the proof file, under the seal of all inputs, for the facts of `facts`, which is counted first.
@@ -243,8 +223,6 @@ pub fn prove<'b>(
     let mut sources = sources(alloc, inputs)?;
     let mut first = SliceSource::new(facts);
     let mut buffer = Buffer::new(output);
-    match run_prove(alloc, &mut first, sources.as_mut_slice(), &mut buffer) {
-        Ok(()) => Ok(buffer.length()),
-        Err(fault) => Err(fault_in_memory(fault)),
-    }
+    let run = run_prove(alloc, &mut first, sources.as_mut_slice(), &mut buffer);
+    answer(run, &buffer)
 }

@@ -6,13 +6,13 @@ use Rattle.cadf_memory.proofs.Made.{run_made_two}
 use Rattle.cadf_memory.proofs.Refused.{run_refused_two}
 use Rattle.cadf_memory.proofs.engines.missing.Goals as goal
 
-pub returns-in-Ok-clause-ok : goal.returns-in-Ok-clause-ok
-returns-in-Ok-clause-ok c =
-    run_made_two written_file _ _ _ _ c.new-buffer.result c.run_missing.new.output refl refl _ _ _ c.new-buffer.ensures.before c.new-buffer.ensures.text
-    c.length.ensures (λ same. search rules) input_spec input_spec (IsValueOf delta_between) _ _ _ _
-    (ap Some c.new-first.ensures) (ap Some c.new-second.ensures) c.in-Ok.ensures
+pub returns-clause-ok : goal.returns-clause-ok
+returns-clause-ok c =
+    run_made_two written_file _ _ _ _ c.new-buffer.result c.run_missing-run.new.output refl refl _ _ _ c.new-buffer.ensures.before c.new-buffer.ensures.text
+    c.answer.ensures.same (λ same. search rules) input_spec input_spec (IsValueOf delta_between) _ _ _ _
+    (ap Some c.new-first.ensures) (ap Some c.new-second.ensures) c.run_missing-run.ensures
 
-pub returns-in-Err-clause-err : goal.returns-in-Err-clause-err
-returns-in-Err-clause-err c =
-    run_refused_two written_file _ _ _ c.in-Err.fault c.fault_in_memory.result c.fault_in_memory.ensures.same input_spec input_spec (IsValueOf delta_between) _ _ _ _
-    (ap Some c.new-first.ensures) (ap Some c.new-second.ensures) refl refl refl refl c.in-Err.ensures
+pub returns-clause-err : goal.returns-clause-err
+returns-clause-err c =
+    run_refused_two written_file _ _ _ _ c.run_missing-run.new.output c.answer.result c.answer.ensures.same input_spec input_spec (IsValueOf delta_between) _ _ _ _
+    (ap Some c.new-first.ensures) (ap Some c.new-second.ensures) refl refl refl refl c.run_missing-run.ensures

@@ -12,18 +12,18 @@ use Rattle.cadf_memory.proofs.engines.split.Goals as goal
 pub returns-in_err-sources-clause-err : goal.returns-in_err-sources-clause-err
 returns-in_err-sources-clause-err c = grind (arith, common_steps, err_from_is_err_and, refused_unread)
 
-pub returns-in-Ok-clause-ok : goal.returns-in-Ok-clause-ok
-returns-in-Ok-clause-ok c =
-    run_made_all (split_text _) _ _ _ _ c.new-buffer.result c.run_split.new.output refl refl _ _ _ c.new-buffer.ensures.before c.new-buffer.ensures.text
-    c.length.ensures (λ same. search rules) _ (join_of _)
-    c.as_mut_slice.result.now c.run_split.new.inputs _
+pub returns-clause-ok : goal.returns-clause-ok
+returns-clause-ok c =
+    run_made_all (split_text _) _ _ _ _ c.new-buffer.result c.run_split-run.new.output refl refl _ _ _ c.new-buffer.ensures.before c.new-buffer.ensures.text
+    c.answer.ensures.same (λ same. search rules) _ (join_of _)
+    c.as_mut_slice.result.now c.run_split-run.new.inputs _
     (lefts _ slice_left (λ s. refl) c.as_mut_slice.result.now
-    ∙ ap (map Some) (ap (map slice_left) c.as_mut_slice.ensures.value ∙ c.in_ok-sources.ensures)) c.in-Ok.ensures
+    ∙ ap (map Some) (ap (map slice_left) c.as_mut_slice.ensures.value ∙ c.in_ok-sources.ensures)) c.run_split-run.ensures
 
 pub returns-clause-err : goal.returns-clause-err
 returns-clause-err c =
-    run_refused_all (split_text _) _ _ _ c.in-Err.fault c.fault_in_memory.result c.fault_in_memory.ensures.same _ (join_of _)
-    c.as_mut_slice.result.now c.run_split.new.inputs _
+    run_refused_all (split_text _) _ _ _ _ c.run_split-run.new.output c.answer.result c.answer.ensures.same _ (join_of _)
+    c.as_mut_slice.result.now c.run_split-run.new.inputs _
     (lefts _ slice_left (λ s. refl) c.as_mut_slice.result.now
     ∙ ap (map Some) (ap (map slice_left) c.as_mut_slice.ensures.value ∙ c.in_ok-sources.ensures))
-    (λ s. refl) c.in-Err.ensures
+    (λ s. refl) c.run_split-run.ensures

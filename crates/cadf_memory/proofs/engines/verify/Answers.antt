@@ -6,14 +6,14 @@ use Rattle.cadf_memory.proofs.Made.{run_made_three}
 use Rattle.cadf_memory.proofs.Refused.{run_refused_three}
 use Rattle.cadf_memory.proofs.engines.verify.Goals as goal
 
-pub returns-in-Ok-clause-ok : goal.returns-in-Ok-clause-ok
-returns-in-Ok-clause-ok c =
-    run_made_three (λ text. text) _ _ _ _ c.new-buffer.result c.run_verify.new.output refl refl _ _ _ c.new-buffer.ensures.before
-    c.new-buffer.ensures.text c.length.ensures (λ same. search rules) seal_spec input_spec proof_spec (verdict_of _) _ _ _ _ _ _
-    (ap Some c.new-first.ensures) (ap Some c.new-second.ensures) (ap Some c.new-third.ensures) c.in-Ok.ensures.verdict
+pub returns-clause-ok : goal.returns-clause-ok
+returns-clause-ok c =
+    run_made_three (λ text. text) _ _ _ _ c.new-buffer.result c.run_verify-run.new.output refl refl _ _ _ c.new-buffer.ensures.before
+    c.new-buffer.ensures.text c.answer.ensures.same (λ same. search rules) seal_spec input_spec proof_spec (verdict_of _) _ _ _ _ _ _
+    (ap Some c.new-first.ensures) (ap Some c.new-second.ensures) (ap Some c.new-third.ensures) c.run_verify-run.ensures.verdict
 
-pub returns-in-Err-clause-err : goal.returns-in-Err-clause-err
-returns-in-Err-clause-err c =
-    run_refused_three (λ text. text) _ _ _ c.in-Err.fault c.fault_in_memory.result c.fault_in_memory.ensures.same seal_spec input_spec proof_spec (verdict_of _)
+pub returns-clause-err : goal.returns-clause-err
+returns-clause-err c =
+    run_refused_three (λ text. text) _ _ _ _ c.run_verify-run.new.output c.answer.result c.answer.ensures.same seal_spec input_spec proof_spec (verdict_of _)
     _ _ _ _ _ _ (ap Some c.new-first.ensures) (ap Some c.new-second.ensures) (ap Some c.new-third.ensures) refl refl refl refl refl refl
-    c.in-Err.ensures.verdict
+    c.run_verify-run.ensures.verdict
