@@ -5,31 +5,20 @@ ghost use Rattle.cadf_sketch.specs.Layouts.{are_cells, is_salt};
 ghost use Rattle.cadf_c.specs.Arguments.{log_given, number_given, spells_name, unless, log_refused, split_refused, ruling_refused, rehearsal_refused, sketch_refused, IsArgumentFault};
 
 use cadf_arguments::{
-    ArgumentFault, check_cells, check_letter, check_place, check_salt, check_sites, read_key,
-    read_log, read_unit,
+    ArgumentFault, check_cells, check_letter, check_place, check_salt, check_sites, read_name,
+    read_unit,
 };
 use cadf_memory::{Cells, Name, Salt, Unit};
 use std::alloc::Global;
 
-/// Reads the bytes as the identifier of a log. `LogName`: they are no name, or not UTF-8.
-fn log_of_bytes(alloc: Global, bytes: &[u8]) -> Result<Name, ArgumentFault>
+/// Reads the bytes as a name. `refusal`: they are none, or not UTF-8.
+fn name_of_bytes(alloc: Global, bytes: &[u8], refusal: ArgumentFault) -> Result<Name, ArgumentFault>
     ensures ok { IfOk result (λ name. (name ≡ bytes.now) × (spells_name bytes.now ≡ true)) }
-    ensures err { IfErr result (IsArgumentFault (unless (spells_name bytes.now) ArgumentFault.LogName None)) }
+    ensures err { IfErr result (IsArgumentFault (unless (spells_name bytes.now) refusal None)) }
 {
     match str::from_utf8(bytes) {
-        Ok(text) => read_log(alloc, text),
-        Err(_) => Err(ArgumentFault::LogName),
-    }
-}
-
-/// Reads the bytes as a key. `Key`: they are no name, or not UTF-8.
-fn key_of_bytes(alloc: Global, bytes: &[u8]) -> Result<Name, ArgumentFault>
-    ensures ok { IfOk result (λ name. (name ≡ bytes.now) × (spells_name bytes.now ≡ true)) }
-    ensures err { IfErr result (IsArgumentFault (unless (spells_name bytes.now) ArgumentFault.Key None)) }
-{
-    match str::from_utf8(bytes) {
-        Ok(text) => read_key(alloc, text),
-        Err(_) => Err(ArgumentFault::Key),
+        Ok(text) => read_name(alloc, text, refusal),
+        Err(_) => Err(refusal),
     }
 }
 
@@ -41,7 +30,7 @@ pub(crate) fn log_if_any(alloc: Global, bytes: &[u8]) -> Result<Option<Name>, Ar
     if bytes.is_empty() {
         return Ok(None);
     }
-    Ok(Some(log_of_bytes(alloc, bytes)?))
+    Ok(Some(name_of_bytes(alloc, bytes, ArgumentFault::LogName)?))
 }
 
 /// Returns the unit and the log of a split; they are checked in this order.
@@ -71,7 +60,7 @@ pub(crate) fn ruling_given(
     ensures err { IfErr result (IsArgumentFault (ruling_refused letter key.now place)) }
 {
     let letter = check_letter(char::from(letter))?;
-    let key = key_of_bytes(alloc, key)?;
+    let key = name_of_bytes(alloc, key, ArgumentFault::Key)?;
     let place = check_place(place)?;
     Ok((letter, key, place))
 }
@@ -86,7 +75,7 @@ pub(crate) fn rehearsal_given(
     ensures accepts { IfOk result (λ _. rehearsal_refused log.now sites ≡ None) }
     ensures err { IfErr result (IsArgumentFault (rehearsal_refused log.now sites)) }
 {
-    let log = log_of_bytes(alloc, log)?;
+    let log = name_of_bytes(alloc, log, ArgumentFault::LogName)?;
     let sites = check_sites(sites)?;
     Ok((log, sites))
 }
