@@ -1,6 +1,6 @@
 -- A script that is read and simulated.
 use Rattle.std.proofs.lemmas.Grind.{common_steps}
-use Rattle.std.proofs.Common.{arith, ◌≡◌, ℕ, List, Result, Ok, Err, refl, ap}
+use Rattle.std.proofs.Common.{arith, ℕ, List, Result, Ok, Err, refl, ap}
 use Rattle.cadf_join.specs.Contents.{Text}
 use Rattle.cadf_rehearsal.specs.declared.turn.Turn.{Turn as Step}
 use Rattle.cadf_tool.specs.declared.fault.ToolFault.{ToolFault}

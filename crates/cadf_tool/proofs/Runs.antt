@@ -1,31 +1,29 @@
 -- The parts of a run, combined.
-use Rattle.std.proofs.Common.{◌≡◌, Result, Ok, Err, sym, subst, inl, inr}
+use Rattle.std.proofs.Common.{◌≡◌, Result, Ok, Err, refl, sym, subst, inl, inr}
+use Rattle.cadf_json.specs.declared.stream.Sink.{Ghosts as Sink}
+use Rattle.cadf_join.specs.Contents.{Text}
 use Rattle.cadf_tool.specs.declared.fault.ToolFault.{ToolFault}
 use Rattle.cadf_tool.specs.declared.fault.ToolFault.TheVariants.{Memory}
 use Rattle.cadf_tool.specs.Faults.{FaultStage, Reading, Working, Writing, OutOfMemoryStage, fault_stage}
-use Rattle.cadf_tool.specs.Run.{Sources, both, IsFirstFault, IsFirstFaultBy, IsUnread, IsExpectedBy, IsWorkFaultBy, IsWorkedBy}
+use Rattle.cadf_tool.specs.Run.{Sources, both, IsFirstFault, IsFirstFaultBy, IsUnread, IsExpectedBy, IsWorkFaultBy, IsWorkedBy, IsRunBy}
 
 module _ {A M : Type 0} (sources : Sources A) (work : A → Result M ToolFault → Type 0) where
-  not_read_at : (fault : ToolFault) (s : FaultStage) → IsFirstFault sources Ok fault s → IsFirstFaultBy sources work fault s
-  not_read_at fault Working (a, read, e) = absurd (cc)
-  not_read_at fault _ h = h
-
-  -- if not all sources are read, the fault of the source is the expected result
-  pub not_read : (fault : ToolFault) → sources.bounded → IsUnread sources fault → IsExpectedBy sources work (Err fault)
-  not_read fault bounded h = record { is = not_read_at fault (fault_stage fault) h; bounded = bounded }
-
   not_worked : (a : A) (fault : ToolFault) (s : FaultStage) → sources.are a → sources.unfailed
       → IsWorkFaultBy (work a) fault s → IsFirstFaultBy sources work fault s
-  not_worked a fault (Reading n f) read unfailed h = absurd h
   not_worked a fault Working read unfailed h = (a, read, h)
-  not_worked a fault Writing read unfailed h = h
   not_worked a fault OutOfMemoryStage read unfailed h = unfailed
+  not_worked a fault _ read unfailed h = absurd h
 
   -- the work on sources that were read
   pub worked : (a : A) (expected : Result M ToolFault) → sources.bounded → sources.are a → sources.unfailed
       → IsWorkedBy (work a) expected → IsExpectedBy sources work expected
   worked a (Ok made) bounded read unfailed w = record { is = (a, read, w); bounded = bounded }
   worked a (Err fault) bounded read unfailed w = record { is = not_worked a fault (fault_stage fault) read unfailed w; bounded = bounded }
+
+-- if there is nothing to write, nothing is written
+pub stopped : {A M W T : Type 0} {sources : Sources A} {work : A → Result M ToolFault → Type 0} {tell : M → Text} {sink : Sink W} {old : W}
+    {fault : ToolFault} → IsExpectedBy sources work (Err fault) → IsRunBy {T = T} sources work tell sink old old (Err fault)
+stopped {fault = fault} first = record { expected = Err fault; first = first; answer = (refl, refl) }
 
 -- ---- sources after others
 

@@ -5,11 +5,11 @@ ghost use Rattle.cadf_tool.specs.declared.input.Loaded.{Loaded};
 ghost use Rattle.cadf_tool.specs.ModelInput.{inventory_spec};
 ghost use Rattle.cadf_tool.specs.JoinState.{IsJoinState};
 ghost use Rattle.cadf_tool.specs.MissingBy.{part_by, part_by_union};
-ghost use Rattle.cadf_tool.specs.Run.{all, both, with_number, two, transition_of, input_spec, IsExpected, IsWorked, IsRun};
+ghost use Rattle.cadf_tool.specs.Run.{all, both, with_number, two, transition_of, input_spec, IsWorked, IsRun};
 
 use crate::fault::ToolFault;
 use crate::inputs::load_inventory;
-use crate::join::{next, union_with, write_file};
+use crate::join::{next, union_with, write_result};
 use crate::join_state::JoinState;
 use cadf_json::{Sink, Source};
 use cadf_set::{Inventory, Replica, ReplicaFault};
@@ -25,39 +25,8 @@ fn part(number: usize, from: JoinState, inventory: &Inventory) -> Result<Replica
     match from.missing_by(inventory) {
         Ok(part) => Ok(part),
         Err(ReplicaFault::OtherLog) => Err(ToolFault::OtherLog(number)),
-        Err(ReplicaFault::Ungrounded) => unreachable!(),
-        Err(ReplicaFault::Memory) => Err(ToolFault::Memory),
+        Err(_) => Err(ToolFault::Memory),
     }
-}
-
-/// Loads both inputs, the second as an inventory file, and returns the delta of the first for the second.
-fn missing_by<R: Source>(
-    alloc: Global,
-    from: &mut R,
-    inventory: &mut R,
-) -> Result<Replica, ToolFault>
-    ensures { IsExpected (two input_spec (transition_of R.Source from.old from.new) inventory_spec (transition_of R.Source inventory.old inventory.new))
-        part_by result }
-{
-    let first = next(alloc, JoinState::new(alloc, None), 1, from, None)?;
-    let noted = load_inventory(alloc, 2, inventory)?;
-    part(2, first, &noted)
-}
-
-/// Loads all inputs, the last as an inventory file, and returns the delta of the union of the others for it.
-fn missing_by_union<R: Source>(
-    alloc: Global,
-    from: &mut [R],
-    inventory: &mut R,
-) -> Result<Replica, ToolFault>
-    requires { length from.old + 1 < 2 ^ 64 }
-    ensures { IsExpected (both (all R.Source from.old from.new)
-        (with_number (length from.old + 1) inventory_spec (transition_of R.Source inventory.old inventory.new))) part_by_union result }
-{
-    let number = from.len() + 1;
-    let union = union_with(alloc, JoinState::new(alloc, None), 1, from, None)?;
-    let noted = load_inventory(alloc, number, inventory)?;
-    part(number, union, &noted)
 }
 
 /// Writes the replica file of the delta of `from` against `inventory`: the least replica that has each atom whose
@@ -72,8 +41,9 @@ pub fn run_missing_by<R: Source, W: Sink>(
     ensures { IsRun (two input_spec (transition_of R.Source from.old from.new) inventory_spec (transition_of R.Source inventory.old inventory.new))
         part_by written_file W.Sink output.old output.new result }
 {
-    let part = missing_by(alloc, from, inventory)?;
-    write_file(alloc, &part, output)
+    let first = next(alloc, JoinState::new(alloc, None), 1, from, None)?;
+    let noted = load_inventory(alloc, 2, inventory)?;
+    write_result(alloc, part(2, first, &noted), output)
 }
 
 /// Writes the replica file of the delta of the union of all `from` against `inventory`, which is counted last. `Err`:
@@ -89,6 +59,8 @@ pub fn run_missing_by_union<R: Source, W: Sink>(
         (with_number (length from.old + 1) inventory_spec (transition_of R.Source inventory.old inventory.new)))
         part_by_union written_file W.Sink output.old output.new result }
 {
-    let part = missing_by_union(alloc, from, inventory)?;
-    write_file(alloc, &part, output)
+    let number = from.len() + 1;
+    let union = union_with(alloc, JoinState::new(alloc, None), 1, from, None)?;
+    let noted = load_inventory(alloc, number, inventory)?;
+    write_result(alloc, part(number, union, &noted), output)
 }

@@ -5,11 +5,11 @@ ghost use Rattle.cadf_tool.specs.declared.input.Loaded.{Loaded};
 ghost use Rattle.cadf_tool.specs.JoinState.{IsJoinState};
 ghost use Rattle.cadf_tool.specs.Sketch.{IsPartBySketch, IsPartOfUnionBySketch};
 ghost use Rattle.cadf_tool.specs.ModelInput.{sketch_spec};
-ghost use Rattle.cadf_tool.specs.Run.{all, both, with_number, two, transition_of, input_spec, IsExpectedBy, IsWorkedBy, IsRunBy};
+ghost use Rattle.cadf_tool.specs.Run.{all, both, with_number, two, transition_of, input_spec, IsWorkedBy, IsRunBy};
 
 use crate::fault::ToolFault;
 use crate::inputs::load_model;
-use crate::join::{next, union_with, write_file};
+use crate::join::{next, union_with, write_result};
 use crate::join_state::JoinState;
 use cadf_json::{Sink, Source};
 use cadf_set::Replica;
@@ -36,32 +36,6 @@ fn part(
     }
 }
 
-/// Loads both inputs, the second as a sketch file, and returns the delta of the first for the second.
-fn load_part<R: Source>(alloc: Global, from: &mut R, sketch: &mut R) -> Result<Replica, ToolFault>
-    ensures { IsExpectedBy (two input_spec (transition_of R.Source from.old from.new) sketch_spec (transition_of R.Source sketch.old sketch.new))
-        IsPartBySketch result }
-{
-    let first = next(alloc, JoinState::new(alloc, None), 1, from, None)?;
-    let read = load_model(alloc, 2, sketch)?;
-    part(alloc, 2, first, &read)
-}
-
-/// Loads all inputs, the last as a sketch file, and returns the delta of the union of the others for it.
-fn load_part_of_union<R: Source>(
-    alloc: Global,
-    from: &mut [R],
-    sketch: &mut R,
-) -> Result<Replica, ToolFault>
-    requires { length from.old + 1 < 2 ^ 64 }
-    ensures { IsExpectedBy (both (all R.Source from.old from.new)
-        (with_number (length from.old + 1) sketch_spec (transition_of R.Source sketch.old sketch.new))) IsPartOfUnionBySketch result }
-{
-    let number = from.len() + 1;
-    let union = union_with(alloc, JoinState::new(alloc, None), 1, from, None)?;
-    let read = load_model(alloc, number, sketch)?;
-    part(alloc, number, union, &read)
-}
-
 /// Writes the replica file of the delta of `from` against `sketch`: what `run_missing_by` writes for the inventory that
 /// was sketched. Inputs are counted from 1: `from` is the first. The second is read as a sketch file, whatever bytes it
 /// begins with. `Err`: why nothing was written, or only a prefix.
@@ -74,8 +48,9 @@ pub fn run_missing_by_sketch<R: Source, W: Sink>(
     ensures { IsRunBy (two input_spec (transition_of R.Source from.old from.new) sketch_spec (transition_of R.Source sketch.old sketch.new))
         IsPartBySketch written_file W.Sink output.old output.new result }
 {
-    let part = load_part(alloc, from, sketch)?;
-    write_file(alloc, &part, output)
+    let first = next(alloc, JoinState::new(alloc, None), 1, from, None)?;
+    let read = load_model(alloc, 2, sketch)?;
+    write_result(alloc, part(alloc, 2, first, &read), output)
 }
 
 /// Writes the replica file of the delta of the union of all `from` against `sketch`, which is counted last. `Err`: why
@@ -91,6 +66,8 @@ pub fn run_missing_by_sketch_union<R: Source, W: Sink>(
         (with_number (length from.old + 1) sketch_spec (transition_of R.Source sketch.old sketch.new)))
         IsPartOfUnionBySketch written_file W.Sink output.old output.new result }
 {
-    let part = load_part_of_union(alloc, from, sketch)?;
-    write_file(alloc, &part, output)
+    let number = from.len() + 1;
+    let union = union_with(alloc, JoinState::new(alloc, None), 1, from, None)?;
+    let read = load_model(alloc, number, sketch)?;
+    write_result(alloc, part(alloc, number, union, &read), output)
 }

@@ -1,11 +1,10 @@
 //! The engine of `prove`: the proof of which facts of an input are in a union of others, as a proof file.
-ghost use Rattle.std.specs.Prelude.{◌≡◌, ◌+◌, ◌≤◌, ◌^◌, length, List, None, IfOk};
-ghost use Rattle.cadf_seal.specs.ProofFile.{proof_of, proof_file};
-ghost use Rattle.cadf_sketch.specs.Answers.{inventory_of};
+ghost use Rattle.std.specs.Prelude.{◌+◌, ◌≤◌, ◌^◌, length, List, None};
+ghost use Rattle.cadf_seal.specs.ProofFile.{proof_file};
 ghost use Rattle.cadf_tool.specs.declared.input.Loaded.{Loaded};
 ghost use Rattle.cadf_tool.specs.JoinState.{IsJoinState};
 ghost use Rattle.cadf_tool.specs.Prove.{proof_for, proof_of_union};
-ghost use Rattle.cadf_tool.specs.Run.{one, all_from, both, transition_of, input_spec, IsExpected, IsWorked, IsRun};
+ghost use Rattle.cadf_tool.specs.Run.{one, all_from, both, transition_of, input_spec, IsWorked, IsRun};
 
 use crate::facts::facts_under;
 use crate::fault::{ToolFault, answered};
@@ -13,20 +12,11 @@ use crate::input::Loaded;
 use crate::inputs::load_one;
 use crate::join::union_with;
 use crate::join_state::JoinState;
-use cadf_json::{Memory, Sink, Source};
+use cadf_json::{Sink, Source};
 use cadf_linefile::write_model;
 use cadf_seal::Proof;
 use cadf_set::Replica;
 use std::alloc::Global;
-
-/// Makes the proof, by the inventory of `held`, for that of `facts`. `Memory` if an allocation fails.
-fn proof_of(alloc: Global, facts: &Replica, held: &Replica) -> Result<Proof, Memory>
-    ensures { IfOk result (λ proof. proof ≡ proof_of (inventory_of facts.now) (inventory_of held.now)) }
-{
-    let asked = facts.inventory()?;
-    let inventory = held.inventory()?;
-    Proof::of(alloc, &asked, &inventory)
-}
 
 /// Makes the proof, by the inventory of `held`, for what the first input contributes to its log. `OtherLog` if that
 /// input names another log.
@@ -34,7 +24,9 @@ fn proof_for(alloc: Global, held: &Replica, facts: Loaded) -> Result<Proof, Tool
     ensures { IsWorked (proof_for held.now facts) result }
 {
     let facts = facts_under(alloc, 1, held.log().copy(alloc)?, facts)?;
-    Ok(proof_of(alloc, &facts, held)?)
+    let asked = facts.inventory()?;
+    let inventory = held.inventory()?;
+    Ok(Proof::of(alloc, &asked, &inventory)?)
 }
 
 /// Makes the same proof, by the inventory of the union. `NoLog`: no input of the union names a log. `OtherLog`: one
@@ -44,17 +36,6 @@ fn proof_by(alloc: Global, union: JoinState, facts: Loaded) -> Result<Proof, Too
 {
     let held = union.end()?;
     proof_for(alloc, &held, facts)
-}
-
-/// Loads all inputs, and makes the proof for the first by the union of the others.
-fn prove<R: Source>(alloc: Global, facts: &mut R, inputs: &mut [R]) -> Result<Proof, ToolFault>
-    requires { length inputs.old + 2 ≤ 2 ^ 64 }
-    ensures { IsExpected (both (one input_spec (transition_of R.Source facts.old facts.new)) (all_from 2 R.Source inputs.old inputs.new))
-        proof_of_union result }
-{
-    let asked = load_one(alloc, 1, facts, None)?;
-    let union = union_with(alloc, JoinState::new(alloc, None), 2, inputs, None)?;
-    proof_by(alloc, union, asked)
 }
 
 /// Writes the proof file for what `facts` contributes, under the seal of the union of `inputs`: which of it is in the
@@ -70,6 +51,8 @@ pub fn run_prove<R: Source, W: Sink>(
     ensures { IsRun (both (one input_spec (transition_of R.Source facts.old facts.new)) (all_from 2 R.Source inputs.old inputs.new))
         proof_of_union proof_file W.Sink output.old output.new result }
 {
-    let proof = prove(alloc, facts, inputs)?;
+    let asked = load_one(alloc, 1, facts, None)?;
+    let union = union_with(alloc, JoinState::new(alloc, None), 2, inputs, None)?;
+    let proof = proof_by(alloc, union, asked)?;
     answered(write_model(alloc, &proof, output))
 }

@@ -2,7 +2,7 @@
 ghost use Rattle.std.specs.Prelude.{◌≡◌, IfOk, IfErr, Ok, string_bytes};
 ghost use Rattle.cadf_tool.specs.Rehearse.{bytes_spec, script_spec, turns_of, replicas_after, final_sites as played_of};
 ghost use Rattle.cadf_tool.specs.Run.{one, transition_of, IsReadAs, IsReadWithin, IsUnread, IsExpected, IsWorked, IsWritten, IsRun};
-ghost use Rattle.cadf_tool.specs.Sites.{is_same, place_of as place_in, site_line, sites_text as text_of_sites};
+ghost use Rattle.cadf_tool.specs.Sites.{is_same, place_of as place_in, sites_text as text_of_sites};
 
 use crate::FILE_LIMIT;
 use crate::fault::ToolFault;
@@ -53,21 +53,6 @@ fn left(alloc: Global, log: &Name, sites: usize, turns: &[Turn]) -> Result<Vec<R
     }
 }
 
-/// Reads a script, and returns the replicas of the sites after its last turn. `Err`: the script is refused, or a turn
-/// of it fails.
-fn final_sites<R: Source>(
-    alloc: Global,
-    log: &Name,
-    sites: usize,
-    script: &mut R,
-) -> Result<Vec<Replica>, ToolFault>
-    ensures ok { IfOk result (λ v. IsExpected (one script_spec (transition_of R.Source script.old script.new)) (played_of log.now sites) (Ok v.items)) }
-    ensures err { IfErr result (λ f. IsExpected (one script_spec (transition_of R.Source script.old script.new)) (played_of log.now sites) (Err f)) }
-{
-    let turns = turns(alloc, script)?;
-    left(alloc, log, sites, turns.as_slice())
-}
-
 /// Returns whether both have the same log and the same atoms.
 fn are_same(site: &Replica, other: &Replica) -> bool
     ensures { result ≡ is_same site.now other.now }
@@ -87,13 +72,6 @@ fn place_of(site: &Replica, sites: &[Replica]) -> usize
     sites.len()
 }
 
-/// Formats the line of a site.
-fn line(alloc: Global, site: usize, atoms: u64, same: usize) -> Result<String, Memory>
-    ensures { IfOk result (λ line. string_bytes line ≡ site_line site atoms same) }
-{
-    format!(in alloc; "site {site} atoms {atoms} as {same}\n")
-}
-
 /// Formats the lines of all sites.
 #[tactic(auto, unfolding(crate::specs::Sites::sites_text))]
 fn lines(alloc: Global, sites: &[Replica]) -> Result<String, Memory>
@@ -101,7 +79,9 @@ fn lines(alloc: Global, sites: &[Replica]) -> Result<String, Memory>
 {
     let mut text = String::new(alloc);
     for (i, site) in sites.iter().enumerate() {
-        let line = line(alloc, i, site.atom_count(), place_of(site, sites))?;
+        let atoms = site.atom_count();
+        let same = place_of(site, sites);
+        let line = format!(in alloc; "site {i} atoms {atoms} as {same}\n")?;
         text.push_str(line.as_str())?;
     }
     Ok(text)
@@ -134,6 +114,7 @@ pub fn run_rehearse<R: Source, W: Sink>(
     // All lines are in memory before they are written.
     ensures memory { result ≡ Err ToolFault.Memory → output.new ≡ output.old }
 {
-    let left = final_sites(alloc, log, sites, script)?;
+    let turns = turns(alloc, script)?;
+    let left = left(alloc, log, sites, turns.as_slice())?;
     write_lines(alloc, left.as_slice(), output)
 }

@@ -1,25 +1,15 @@
 //! The engine of `seal`: the seal of the inventory of the union of inputs, as a seal file.
-ghost use Rattle.std.specs.Prelude.{◌≡◌, IfOk};
-ghost use Rattle.cadf_seal.specs.SealFile.{seal_of, seal_file};
-ghost use Rattle.cadf_sketch.specs.Answers.{inventory_of};
+ghost use Rattle.cadf_seal.specs.SealFile.{seal_file};
 ghost use Rattle.cadf_tool.specs.Seal.{seal_model_of};
 ghost use Rattle.cadf_tool.specs.laws.Engines.{of_seal};
 
 use crate::engine::Engine;
 use crate::fault::{ToolFault, answered};
-use cadf_json::{Memory, Sink};
+use cadf_json::Sink;
 use cadf_linefile::write_model;
 use cadf_seal::Seal;
 use cadf_set::Replica;
 use std::alloc::Global;
-
-/// Makes the seal of the replica's inventory. `Memory` if an allocation fails.
-fn seal_of(alloc: Global, replica: &Replica) -> Result<Seal, Memory>
-    ensures { IfOk result (λ seal. seal ≡ seal_of (inventory_of replica.now)) }
-{
-    let inventory = replica.inventory()?;
-    Seal::of(alloc, &inventory)
-}
 
 /// Makes the seal of a replica's inventory, and writes its file: its log, how many atoms it has, and the root of the tree
 /// over their digests.
@@ -36,7 +26,8 @@ impl Engine for SealEngine {
     ghost of_replica = { λ _. of_seal };
 
     fn make(&self, alloc: Global, replica: Replica) -> Result<Seal, ToolFault> {
-        Ok(seal_of(alloc, &replica)?)
+        let inventory = replica.inventory()?;
+        Ok(Seal::of(alloc, &inventory)?)
     }
 
     fn write<W: Sink>(&self, alloc: Global, made: &Seal, output: &mut W) -> Result<(), ToolFault> {

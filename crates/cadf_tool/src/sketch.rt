@@ -1,34 +1,15 @@
 //! The engine of `sketch`: a short sketch of the inventory of the union of inputs, as a sketch file.
-ghost use Rattle.std.specs.Prelude.{◌≡◌, IfOk, unwrap_or};
-ghost use Rattle.cadf_sketch.specs.Answers.{inventory_of};
-ghost use Rattle.cadf_sketch.specs.Layouts.{default_cells};
 ghost use Rattle.cadf_sketch.specs.SketchFile.{sketch_file};
-ghost use Rattle.cadf_sketch.specs.Sketches.{asked};
 ghost use Rattle.cadf_tool.specs.Sketch.{sketch_model_of};
 ghost use Rattle.cadf_tool.specs.laws.Engines.{of_sketch};
 
 use crate::engine::Engine;
 use crate::fault::{ToolFault, answered};
-use cadf_json::{Memory, Sink};
+use cadf_json::Sink;
 use cadf_linefile::write_model;
 use cadf_set::Replica;
 use cadf_sketch::{Cells, Salt, Sketch};
 use std::alloc::Global;
-
-/// Makes the sketch of the replica's inventory: of `Cells::by_default` if no number is given, with the inventory's own
-/// salt if none is given. `Memory` if an allocation fails.
-fn sketch_of(
-    alloc: Global,
-    cells: Option<Cells>,
-    salt: Option<Salt>,
-    replica: &Replica,
-) -> Result<Sketch, Memory>
-    ensures { IfOk result (λ sketch. sketch ≡ asked (inventory_of replica.now) (unwrap_or cells default_cells) salt) }
-{
-    let inventory = replica.inventory()?;
-    let cells = cells.unwrap_or(Cells::by_default());
-    Sketch::of(alloc, &inventory, cells, salt)
-}
 
 /// Makes the sketch of a replica's inventory, with the cells and the salt that are given, and writes its file. The number
 /// of cells is `Cells::by_default` if none is given. If no salt is given, the inventory's digest determines it, so that one
@@ -49,7 +30,9 @@ impl Engine for SketchEngine {
     ghost of_replica = { λ e. of_sketch e.cells e.salt };
 
     fn make(&self, alloc: Global, replica: Replica) -> Result<Sketch, ToolFault> {
-        Ok(sketch_of(alloc, self.cells, self.salt, &replica)?)
+        let inventory = replica.inventory()?;
+        let cells = self.cells.unwrap_or(Cells::by_default());
+        Ok(Sketch::of(alloc, &inventory, cells, self.salt)?)
     }
 
     fn write<W: Sink>(

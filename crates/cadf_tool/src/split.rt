@@ -1,27 +1,14 @@
 //! The engine of `split`: joins inputs into one replica, and writes its split file.
 ghost use Rattle.cadf_split.specs.Split.{split_text};
 ghost use Rattle.cadf_tool.specs.Join.{join_of};
-ghost use Rattle.cadf_tool.specs.Run.{all, IsWritten, IsRun};
+ghost use Rattle.cadf_tool.specs.Run.{all, IsRun};
 
 use crate::fault::{ToolFault, answered};
 use crate::join::join;
 use cadf_event::Name;
 use cadf_json::{Sink, Source};
-use cadf_set::Replica;
 use cadf_split::{Unit, write_split};
 use std::alloc::Global;
-
-/// Writes the split file of the replica. `WriteFault` if a write fails, `Memory` if an allocation fails.
-fn write_parts<W: Sink>(
-    alloc: Global,
-    unit: Unit,
-    replica: &Replica,
-    output: &mut W,
-) -> Result<(), ToolFault>
-    ensures { IsWritten W.Sink output.old output.new (split_text unit replica.now) result }
-{
-    answered(write_split(alloc, unit, replica, output))
-}
 
 /// Writes the split file by that unit of the union of all inputs, with the given log or, if none is given, the first
 /// that an input names. Writes nothing before all inputs are accepted. `Err`: why nothing was written, or only a prefix.
@@ -36,5 +23,5 @@ pub fn run_split<R: Source, W: Sink>(
         W.Sink output.old output.new result }
 {
     let replica = join(alloc, log, inputs)?;
-    write_parts(alloc, unit, &replica, output)
+    answered(write_split(alloc, unit, &replica, output))
 }

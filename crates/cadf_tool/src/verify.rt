@@ -1,7 +1,7 @@
 //! The engine of `verify`: what a proof says, under a seal, of the facts of an input.
 ghost use Rattle.std.specs.Prelude.{◌≡◌, Ok, Err, IfOk, IfErr};
-ghost use Rattle.cadf_tool.specs.Run.{transition_of, IsExpected, IsWorked, IsRun};
-ghost use Rattle.cadf_tool.specs.Verify.{verdict_lines, verdict_of, sources_of};
+ghost use Rattle.cadf_tool.specs.Run.{transition_of, IsWorked, IsRun};
+ghost use Rattle.cadf_tool.specs.Verify.{verdict_of, sources_of};
 
 use crate::facts::facts_under;
 use crate::fault::ToolFault;
@@ -9,30 +9,7 @@ use crate::input::Loaded;
 use crate::inputs::{load_model, load_one};
 use cadf_json::{Sink, Source};
 use cadf_seal::{FactLines, Proof, Seal, VerifyFault, verified};
-use cadf_set::Replica;
 use std::alloc::Global;
-
-/// Makes a line for each fact, which is as asked. `OtherLog`: the proof is of another log than the seal. `Unverified`:
-/// the proof is refused, or a fact isn't as asked. `Memory` if an allocation fails.
-fn lines(
-    alloc: Global,
-    absent: bool,
-    seal: &Seal,
-    facts: &Replica,
-    proof: &Proof,
-) -> Result<FactLines, ToolFault>
-    ensures ok { IfOk result (λ text. verdict_lines absent seal.now facts.now proof.now ≡ Ok text) }
-    ensures err { IfErr result (λ fault. IsWorked (verdict_lines absent seal.now facts.now proof.now) (Err fault)) }
-{
-    if proof.log().as_str() != seal.log().as_str() {
-        return Err(ToolFault::OtherLog(3));
-    }
-    match verified(alloc, seal, facts, proof, absent) {
-        Ok(lines) => Ok(lines),
-        Err(VerifyFault::Memory) => Err(ToolFault::Memory),
-        Err(fault) => Err(ToolFault::Unverified(fault)),
-    }
-}
 
 /// Takes the facts under the log of the seal, and makes their lines. `OtherLog`: the facts name another log, or the
 /// proof does. `Unverified`: the proof is refused, or a fact isn't as asked. `Memory` if an allocation fails.
@@ -47,26 +24,14 @@ fn verdict(
     ensures err { IfErr result (λ fault. IsWorked (verdict_of absent (seal.now, (facts, proof.now))) (Err fault)) }
 {
     let facts = facts_under(alloc, 2, seal.log().copy(alloc)?, facts)?;
-    lines(alloc, absent, seal, &facts, proof)
-}
-
-/// Loads all inputs, and makes the lines of the facts.
-fn verify<R: Source>(
-    alloc: Global,
-    seal: &mut R,
-    facts: &mut R,
-    proof: &mut R,
-    absent: bool,
-) -> Result<FactLines, ToolFault>
-    ensures ok { IfOk result (λ text. IsExpected (sources_of (transition_of R.Source seal.old seal.new) (transition_of R.Source facts.old facts.new)
-        (transition_of R.Source proof.old proof.new)) (verdict_of absent) (Ok text)) }
-    ensures err { IfErr result (λ fault. IsExpected (sources_of (transition_of R.Source seal.old seal.new) (transition_of R.Source facts.old facts.new)
-        (transition_of R.Source proof.old proof.new)) (verdict_of absent) (Err fault)) }
-{
-    let seal = load_model(alloc, 1, seal)?;
-    let loaded = load_one(alloc, 2, facts, None)?;
-    let proof = load_model(alloc, 3, proof)?;
-    verdict(alloc, absent, &seal, loaded, &proof)
+    if proof.log().as_str() != seal.log().as_str() {
+        return Err(ToolFault::OtherLog(3));
+    }
+    match verified(alloc, seal, &facts, proof, absent) {
+        Ok(lines) => Ok(lines),
+        Err(VerifyFault::Memory) => Err(ToolFault::Memory),
+        Err(fault) => Err(ToolFault::Unverified(fault)),
+    }
 }
 
 /// Writes a line for each fact of `facts`, in the order of atoms, if the proof shows under the seal that each is in the
@@ -85,7 +50,10 @@ pub fn run_verify<R: Source, W: Sink>(
     // All lines are made before they are written.
     ensures memory { result ≡ Err ToolFault.Memory → output.new ≡ output.old }
 {
-    let lines = verify(alloc, seal, facts, proof, absent)?;
+    let seal = load_model(alloc, 1, seal)?;
+    let loaded = load_one(alloc, 2, facts, None)?;
+    let proof = load_model(alloc, 3, proof)?;
+    let lines = verdict(alloc, absent, &seal, loaded, &proof)?;
     match lines.write(output) {
         Ok(()) => Ok(()),
         Err(_) => Err(ToolFault::WriteFault),
