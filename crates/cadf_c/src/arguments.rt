@@ -1,7 +1,6 @@
 //! Arguments that are no inputs, as C hands them over. `Err`: the first that is refused, or `Memory`.
-ghost use Rattle.std.specs.Prelude.{◌≡◌, ◌||◌, nat_eq, true, false, Some, None, IfOk, IfErr};
+ghost use Rattle.std.specs.Prelude.{◌≡◌, true, Some, None, IfOk, IfErr};
 ghost use Rattle.cadf_arguments.specs.Arguments.{unit_named};
-ghost use Rattle.cadf_sketch.specs.Layouts.{are_cells, is_salt};
 ghost use Rattle.cadf_c.specs.Arguments.{log_given, number_given, spells_name, unless, log_refused, split_refused, ruling_refused, rehearsal_refused, sketch_refused, IsArgumentFault};
 
 use cadf_arguments::{
@@ -80,29 +79,7 @@ pub(crate) fn rehearsal_given(
     Ok((log, sites))
 }
 
-/// Returns the number of cells of a sketch. 0 is none.
-fn cells_if_any(cells: u64) -> Result<Option<Cells>, ArgumentFault>
-    ensures ok { IfOk result (λ given. (given ≡ number_given cells) × ((nat_eq cells 0 || are_cells cells) ≡ true)) }
-    ensures err { IfErr result (λ fault. (fault ≡ ArgumentFault.Cells) × ((nat_eq cells 0 || are_cells cells) ≡ false)) }
-{
-    if cells == 0 {
-        return Ok(None);
-    }
-    Ok(Some(check_cells(cells)?))
-}
-
-/// Returns the salt of a sketch. 0 is none.
-fn salt_if_any(salt: u64) -> Result<Option<Salt>, ArgumentFault>
-    ensures ok { IfOk result (λ given. (given ≡ number_given salt) × ((nat_eq salt 0 || is_salt salt) ≡ true)) }
-    ensures err { IfErr result (λ fault. (fault ≡ ArgumentFault.Salt) × ((nat_eq salt 0 || is_salt salt) ≡ false)) }
-{
-    if salt == 0 {
-        return Ok(None);
-    }
-    Ok(Some(check_salt(salt)?))
-}
-
-/// Returns the number of cells and the salt of a sketch; they are checked in this order.
+/// Returns the number of cells and the salt of a sketch, of which 0 is none; they are checked in this order.
 pub(crate) fn sketch_given(
     cells: u64,
     salt: u64,
@@ -111,7 +88,7 @@ pub(crate) fn sketch_given(
     ensures accepts { IfOk result (λ _. sketch_refused cells salt ≡ None) }
     ensures err { IfErr result (IsArgumentFault (sketch_refused cells salt)) }
 {
-    let cells = cells_if_any(cells)?;
-    let salt = salt_if_any(salt)?;
+    let cells = (cells != 0).then(|| check_cells(cells)).transpose()?;
+    let salt = (salt != 0).then(|| check_salt(salt)).transpose()?;
     Ok((cells, salt))
 }
