@@ -1,5 +1,5 @@
 -- A source that is read as the file of a model.
-use Rattle.std.proofs.Common.{sym, ◌≡◌, Bool, true, false, Option, Some, None, Ok, refl, ap, ◌∙◌, subst, inl, inr}
+use Rattle.std.proofs.Common.{sym, ◌≡◌, Bool, true, false, Option, Some, None, Result, Ok, Err, IfOk, IsErrAnd, MatchResult, refl, ap, ◌∙◌, subst, inl, inr}
 use Rattle.std.specs.Io.KnownBytes.{IsAtEnd}
 use Rattle.cadf_json.specs.Streams.{counted}
 use Rattle.cadf_linefile.specs.declared.fault.FileFault.{FileFault}
@@ -7,6 +7,7 @@ use Rattle.cadf_linefile.specs.declared.file_feed.TheConstants.{FILE_LIMIT}
 use Rattle.cadf_linefile.proofs.ReadingLemmas.{refused_verdict}
 use Rattle.cadf_linefile.specs.ModelKind.{ModelKind, grammar_of, model_or_fault, decided_of, verdict_of, AcceptsModels}
 use Rattle.cadf_linefile.specs.ModelReads.{ReadsModel}
+use Rattle.cadf_tool.specs.declared.fault.ToolFault.{ToolFault}
 use Rattle.cadf_tool.specs.ModelInput.{model_spec}
 use Rattle.cadf_tool.specs.Run.{SourceTransition, IsReadAs}
 
@@ -32,3 +33,11 @@ module _ {M : Type 0} (k : ModelKind M) (Is : M → Type 0) (t : SourceTransitio
         (h.bytes, (h.consumed, at_end, record { is = is.0; within = is.1; holds = is.2 })),
         h.failures ∙ ap (λ b. counted b t.old.failures) whole,
       )
+
+-- whatever a refusal is made into
+pub if_model_read : {M : Type 0} (k : ModelKind M) (Is : M → Type 0) (t : SourceTransition) → AcceptsModels k Is → (read : Result M FileFault)
+    (result : Result M ToolFault) (Q : FileFault → ToolFault → Type 0) → ReadsModel k FILE_LIMIT t.old.left t.new.left t.old.failures t.new.failures read
+    → MatchResult read (λ m. result ≡ Ok m) (λ f. IsErrAnd result (Q f)) → IfOk result (IsReadAs (model_spec k Is) t)
+if_model_read k Is t accepts (Ok m) result Q h same = subst (λ r. IfOk r (IsReadAs (model_spec k Is) t)) (sym same) (model_read k Is t accepts m h)
+if_model_read k Is t accepts (Err f) (Ok m) Q h failed = absurd failed
+if_model_read k Is t accepts (Err f) (Err e) Q h failed = tt
