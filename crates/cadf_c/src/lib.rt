@@ -1,5 +1,5 @@
 //! The engines over bytes in memory, for C. bindings/c/cadf.h declares them and says what each caller owes.
-#![tactic(auto, using(crate::proofs::Statuses::refused, crate::proofs::Statuses::answered, crate::proofs::Statuses::argument_refused))]
+#![tactic(auto)]
 
 ghost use Rattle.std.specs.Prelude.{◌≡◌, pos, Some, None, encode_utf8};
 ghost use Rattle.cadf_inventory.specs.InventoryFile.{inventory_file};
@@ -57,6 +57,7 @@ pub extern "C" fn cadf_version() -> u32 {
 }
 
 /// Hands out the log of the input, or with `conflicts` the list of its conflicts.
+#[tactic(auto, using(crate::proofs::Statuses::refused, crate::proofs::Statuses::answered, crate::proofs::Statuses::argument_refused))]
 #[unsafe(no_mangle)]
 pub extern "C" fn cadf_show(
     alloc: Global,
@@ -76,6 +77,7 @@ pub extern "C" fn cadf_show(
 }
 
 /// Hands out the line that says what the input holds.
+#[tactic(auto, using(crate::proofs::Statuses::refused, crate::proofs::Statuses::answered, crate::proofs::Statuses::argument_refused))]
 #[unsafe(no_mangle)]
 pub extern "C" fn cadf_check(
     alloc: Global,
@@ -94,6 +96,7 @@ pub extern "C" fn cadf_check(
 }
 
 /// Hands out the inventory file of the input.
+#[tactic(auto, using(crate::proofs::Statuses::refused, crate::proofs::Statuses::answered, crate::proofs::Statuses::argument_refused))]
 #[unsafe(no_mangle)]
 pub extern "C" fn cadf_inventory(
     alloc: Global,
@@ -112,6 +115,7 @@ pub extern "C" fn cadf_inventory(
 }
 
 /// Hands out the seal file of the input.
+#[tactic(auto, using(crate::proofs::Statuses::refused, crate::proofs::Statuses::answered, crate::proofs::Statuses::argument_refused))]
 #[unsafe(no_mangle)]
 pub extern "C" fn cadf_seal(
     alloc: Global,
@@ -130,6 +134,7 @@ pub extern "C" fn cadf_seal(
 }
 
 /// Hands out the proof file, under the seal of all inputs, for the facts of `facts`, which is counted first.
+#[tactic(auto, using(crate::proofs::Statuses::refused, crate::proofs::Statuses::answered, crate::proofs::Statuses::argument_refused))]
 #[unsafe(no_mangle)]
 pub extern "C" fn cadf_prove(
     alloc: Global,
@@ -150,6 +155,7 @@ pub extern "C" fn cadf_prove(
 
 /// Hands out a line for each fact of `facts`, if the proof shows under the seal that each is in the sealed set; with
 /// `absent`, that none is.
+#[tactic(auto, using(crate::proofs::Statuses::refused, crate::proofs::Statuses::answered, crate::proofs::Statuses::argument_refused))]
 #[unsafe(no_mangle)]
 pub extern "C" fn cadf_verify(
     alloc: Global,
@@ -172,6 +178,7 @@ pub extern "C" fn cadf_verify(
 }
 
 /// Hands out the replica file of what `to` lacks of `from`.
+#[tactic(auto, using(crate::proofs::Statuses::refused, crate::proofs::Statuses::answered, crate::proofs::Statuses::argument_refused))]
 #[unsafe(no_mangle)]
 pub extern "C" fn cadf_missing(
     alloc: Global,
@@ -191,6 +198,7 @@ pub extern "C" fn cadf_missing(
 }
 
 /// Hands out the replica file of what `from` has beyond the inventory.
+#[tactic(auto, using(crate::proofs::Statuses::refused, crate::proofs::Statuses::answered, crate::proofs::Statuses::argument_refused))]
 #[unsafe(no_mangle)]
 pub extern "C" fn cadf_missing_by(
     alloc: Global,
@@ -211,6 +219,7 @@ pub extern "C" fn cadf_missing_by(
 
 /// Hands out the replica file of the input with one ruling more, for the value at that place of the key's
 /// values. Places count from 1.
+#[tactic(auto, using(crate::proofs::Statuses::refused, crate::proofs::Statuses::answered, crate::proofs::Statuses::argument_refused))]
 #[unsafe(no_mangle)]
 pub extern "C" fn cadf_rule(
     alloc: Global,
@@ -243,6 +252,7 @@ pub extern "C" fn cadf_rule(
 }
 
 /// Hands out a line for each site of the log after the schedule of the script.
+#[tactic(auto, using(crate::proofs::Statuses::refused, crate::proofs::Statuses::answered, crate::proofs::Statuses::argument_refused))]
 #[unsafe(no_mangle)]
 pub extern "C" fn cadf_rehearse(
     alloc: Global,
@@ -268,6 +278,7 @@ pub extern "C" fn cadf_rehearse(
 }
 
 /// Hands out the sketch file of the input: of so many cells, 0 for 198, and with that salt, 0 for the input's own.
+#[tactic(auto, using(crate::proofs::Statuses::refused, crate::proofs::Statuses::answered, crate::proofs::Statuses::argument_refused))]
 #[unsafe(no_mangle)]
 pub extern "C" fn cadf_sketch(
     alloc: Global,
@@ -293,6 +304,7 @@ pub extern "C" fn cadf_sketch(
 }
 
 /// Hands out the replica file of what `from` has beyond the sketch.
+#[tactic(auto, using(crate::proofs::Statuses::refused, crate::proofs::Statuses::answered, crate::proofs::Statuses::argument_refused))]
 #[unsafe(no_mangle)]
 pub extern "C" fn cadf_missing_by_sketch(
     alloc: Global,
@@ -313,6 +325,7 @@ pub extern "C" fn cadf_missing_by_sketch(
 
 /// Hands out the replica file of what all inputs contribute, under the given log or else the first that an
 /// input names. A log of no bytes is none.
+#[tactic(auto, using(crate::proofs::Statuses::refused, crate::proofs::Statuses::answered, crate::proofs::Statuses::argument_refused))]
 #[unsafe(no_mangle)]
 pub extern "C" fn cadf_join(
     alloc: Global,
@@ -337,6 +350,7 @@ pub extern "C" fn cadf_join(
 }
 
 /// Hands out the split file of what all inputs contribute, by the unit that has that word. The log is that of `cadf_join`.
+#[tactic(auto, using(crate::proofs::Statuses::refused, crate::proofs::Statuses::answered, crate::proofs::Statuses::argument_refused))]
 #[unsafe(no_mangle)]
 pub extern "C" fn cadf_split(
     alloc: Global,
