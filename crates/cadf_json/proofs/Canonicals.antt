@@ -84,10 +84,10 @@ not_respelled n s h (d, v, deep, e) =
 pub not_ordered : (m n : ℕ) (s : List ℕ) → ((d : Data) → IsValue d → depth d ≤ n → depth d ≤ m) → IsUnordered m (tokens s) → ¬ IsCanonicalWithin n s
 not_ordered m n s within h (d, v, deep, e) = h (outline d) [] (canonical_value m s d v (within d v deep) e) (normal_outline d v.0)
 
-pub not_ended : (m n : ℕ) (s : List ℕ) (t : Token) (r : List Token) → ((d : Data) → IsValue d → depth d ≤ n → depth d ≤ m) → IsOrdered m (tokens s) (t ∷ r)
+pub not_ended : (m n : ℕ) (s : List ℕ) (r : List Token) → ((d : Data) → IsValue d → depth d ≤ n → depth d ≤ m) → IsOrdered m (tokens s) r → r ≢ []
     → ¬ IsCanonicalWithin n s
-not_ended m n s t r within h (d, v, deep, e) =
-    let other : ◌≡◌ {A = Option (json.Json × List Token)} (Some (outline d, [])) (Some (h.0, t ∷ r)) =
+not_ended m n s r within h more (d, v, deep, e) =
+    let other : ◌≡◌ {A = Option (json.Json × List Token)} (Some (outline d, [])) (Some (h.0, r)) =
     sym (canonical_value m s d v (within d v deep) e) ∙ h.1 in
     grind (arith, common_steps)
 

@@ -3,7 +3,8 @@
 --     ItemsStand t ds xs    those of the items, one after another
 --     MembersStand t ms xs  a text and a value for each member, in this order
 --     decode t xs           the first value that the nodes are
-use Rattle.std.specs.Prelude.{◌≡◌, ◌⊎◌, ℕ, zero, suc, ◌≤◌, List, [], ◌∷◌, ◌++◌, length, slice_range, Bool, true, false, ◌||◌}
+use Rattle.std.specs.Prelude.{◌≡◌, ◌⊎◌, ℕ, zero, suc, ◌≤◌, List, [], ◌∷◌, ◌++◌, length, slice_range, Bool, true, false}
+use Rattle.std.specs.List.{list_any}
 use Rattle.serde_json.specs.Data.{Num, Data, null, boolean, number, string, array, object, Items, no_items, item, Members, no_members, member, put}
 use Rattle.serde_json.specs.Find.{is_float}
 use Rattle.serde_json.specs.Written.{number_text}
@@ -159,8 +160,7 @@ is_fraction (Array e) = false
 is_fraction (Object e) = false
 
 abbrev pub have_fraction : List Node → Bool
-have_fraction [] = false
-have_fraction (x ∷ xs) = is_fraction x || have_fraction xs
+have_fraction xs = list_any is_fraction xs
 
 -- ---- a value whose numbers are whole
 

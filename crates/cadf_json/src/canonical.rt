@@ -1,6 +1,6 @@
 //! Checks whether a text is canonical, without building a tree.
 
-ghost use Rattle.std.specs.Prelude.{◌≡◌, ◌≢◌, ◌<◌, ◌&&◌, [], length, true, false, IfOk, option_map, string_bytes};
+ghost use Rattle.std.specs.Prelude.{◌≡◌, ◌≢◌, ◌<◌, ◌&&◌, length, true, false, IfOk, option_map};
 ghost use Rattle.json.specs.Lex.{tokens};
 ghost use Rattle.json.specs.Print.{print, ArePrintable};
 ghost use Rattle.cadf_json.specs.Canonical.{IsCanonicalWithin, IsOrdered, IsUnordered, AreItemsOrdered, AreItemsUnordered};
@@ -11,7 +11,6 @@ use crate::number::is_whole;
 use crate::read::MAX_DEPTH;
 use json::{Reader, Scratch, Token, Writer};
 use std::alloc::Global;
-use std::cmp::Ordering;
 
 /// Returns whether the next value is in order: its numbers are whole and in canonical spelling, and the names of each
 /// object are strictly ascending. Lists and objects may nest `depth` deep.
@@ -30,18 +29,8 @@ fn is_ordered(reader: &mut Reader<'_>, depth: usize) -> bool
         Token::Bool(_) => true,
         Token::Null => true,
         Token::EndObject | Token::EndArray | Token::Key(_) | Token::Bad => false,
-        Token::BeginArray => {
-            if depth == 0 {
-                return false;
-            }
-            are_items_ordered(reader, depth - 1)
-        }
-        Token::BeginObject => {
-            if depth == 0 {
-                return false;
-            }
-            are_members_ordered(reader, depth - 1)
-        }
+        Token::BeginArray => depth > 0 && are_items_ordered(reader, depth - 1),
+        Token::BeginObject => depth > 0 && are_members_ordered(reader, depth - 1),
     }
 }
 
@@ -92,11 +81,7 @@ fn is_above(last: Option<&str>, name: &str) -> bool
     ensures { result ≡ is_name_above (option_map (λ s. s.now) last.entry) name.now }
 {
     match last {
-        Some(last) => match last.cmp(name) {
-            Ordering::Less => true,
-            Ordering::Equal => false,
-            Ordering::Greater => false,
-        },
+        Some(last) => last < name,
         None => true,
     }
 }
@@ -106,17 +91,6 @@ pub(crate) fn rises_to(rising: bool, last: Option<&str>, name: &str) -> bool
     ensures { result ≡ rising && is_name_above (option_map (λ s. s.now) last.entry) name.now }
 {
     rising && is_above(last, name)
-}
-
-/// Returns all the text that was written.
-fn finished(writer: Writer) -> String
-    requires { writer.before ≡ [] }
-    ensures { string_bytes result ≡ print writer.tokens }
-{
-    match String::from_utf8(writer.into_inner()) {
-        Ok(text) => text,
-        Err(_) => unreachable!(),
-    }
 }
 
 /// Returns whether the text is exactly what its tokens are encoded as: without whitespace, and with canonical escapes.
@@ -132,7 +106,7 @@ fn is_respelled(alloc: Global, scratch: &mut Scratch, text: &str) -> Result<bool
             token => writer.token(token)?,
         }
     }
-    Ok(finished(writer).as_str() == text)
+    Ok(writer.into_inner().as_slice() == text.as_bytes())
 }
 
 /// Returns whether the text is the canonical text of a value that nests at most `depth` deep. Needs memory for two
@@ -149,8 +123,5 @@ pub fn is_canonical(alloc: Global, text: &str, depth: u8) -> Result<bool, Memory
     if !is_ordered(&mut reader, usize::from(depth).min(MAX_DEPTH)) {
         return Ok(false);
     }
-    match reader.next() {
-        Some(_) => Ok(false),
-        None => Ok(true),
-    }
+    Ok(reader.next().is_none())
 }

@@ -74,8 +74,5 @@ pub fn front_of(text: &[u8]) -> u64
 fn byte_at(text: &[u8], place: usize) -> u8
     ensures { result ≡ get_or text.now place 0 }
 {
-    match text.get(place) {
-        Some(byte) => *byte,
-        None => 0,
-    }
+    *text.get(place).unwrap_or(&0)
 }

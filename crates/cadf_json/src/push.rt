@@ -50,10 +50,7 @@ pub(crate) fn push_text(text: &str, texts: &mut Vec<u8>) -> Result<Place, AllocE
     ensures place { IfOk result (λ p. IsTextAt texts.new.items p text.now) }
 {
     let start = texts.len();
-    if start > MOST {
-        return Err(AllocError);
-    }
-    if text.len() > MOST - start {
+    if start > MOST || text.len() > MOST - start {
         return Err(AllocError);
     }
     texts.extend_from_slice(text.as_bytes())?;

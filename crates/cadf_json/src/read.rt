@@ -31,21 +31,14 @@ pub(crate) fn read_value(
         Token::Number(text) => push_number(text, nodes, texts)?,
         Token::Bool(b) => nodes.push(Node::Bool(b))?,
         Token::Null => nodes.push(Node::Null)?,
-        Token::EndObject | Token::EndArray | Token::Key(_) | Token::Bad => {
-            return Err(ReadFault::NotJson);
-        }
-        Token::BeginArray => {
-            if depth == 0 {
-                return Err(ReadFault::NotJson);
-            }
-            return Ok(read_items(reader, depth - 1, nodes, texts)?);
-        }
-        Token::BeginObject => {
-            if depth == 0 {
-                return Err(ReadFault::NotJson);
-            }
-            return Ok(read_members(reader, depth - 1, nodes, texts)?);
-        }
+        Token::BeginArray if depth > 0 => return Ok(read_items(reader, depth - 1, nodes, texts)?),
+        Token::BeginObject if depth > 0 => return Ok(read_members(
+            reader,
+            depth - 1,
+            nodes,
+            texts,
+        )?),
+        _ => return Err(ReadFault::NotJson),
     }
     Ok(true)
 }

@@ -92,19 +92,13 @@ fn judge_value(
     match token {
         Token::String(_) | Token::Bool(_) | Token::Null => Ok(false),
         Token::Number(text) => Ok(judge_number(text, window)?),
-        Token::EndObject | Token::EndArray | Token::Key(_) | Token::Bad => Err(ReadFault::NotJson),
-        Token::BeginArray => {
-            if depth == 0 {
-                return Err(ReadFault::NotJson);
-            }
+        Token::BeginArray if depth > 0 => {
             Ok(judge_items(alloc, reader, depth - 1, hashing, window)?)
         }
-        Token::BeginObject => {
-            if depth == 0 {
-                return Err(ReadFault::NotJson);
-            }
+        Token::BeginObject if depth > 0 => {
             Ok(judge_members(alloc, reader, depth - 1, hashing, window)?)
         }
+        _ => Err(ReadFault::NotJson),
     }
 }
 

@@ -1,14 +1,13 @@
 //! The canonical text, from the nodes.
-ghost use Rattle.std.specs.Prelude.{◌≡◌, ◌≤◌, ◌++◌, IsUtf8, OnOk, false, is_some, length};
+ghost use Rattle.std.specs.Prelude.{◌≡◌, ◌≤◌, ◌++◌, IsUtf8, OnOk, length};
 ghost use Rattle.serde_json.specs.Data.{array, object};
-ghost use Rattle.serde_json.specs.Find.{as_array};
-ghost use Rattle.cadf_json.specs.Parts.{is_object, items_in, members_in};
+ghost use Rattle.cadf_json.specs.Parts.{items_in, members_in};
 ghost use Rattle.cadf_json.specs.Value.{text as text_of};
 ghost use Rattle.cadf_json.specs.Flat.{text_at as bytes_at};
 
 use crate::Memory;
 use crate::node::{Node, Place};
-use crate::spelling::{push_bool, push_comma_if, push_quoted};
+use crate::spelling::{push_comma_if, push_quoted};
 use crate::view::View;
 use std::alloc::Global;
 
@@ -17,26 +16,15 @@ use std::alloc::Global;
 pub(crate) fn write_value(alloc: Global, view: &View<'_>, out: &mut Vec<u8>) -> Result<(), Memory>
     ensures { OnOk result (out.new.items ≡ out.old.items ++ text_of view.now) }
 {
-    if view.is_list() {
-        write_items(alloc, view, out)
-    } else if view.is_object() {
-        write_members(alloc, view, out)
-    } else {
-        write_scalar(alloc, view, out)
-    }
-}
-
-/// Appends the canonical text of a part that is no list and no object.
-fn write_scalar(alloc: Global, view: &View<'_>, out: &mut Vec<u8>) -> Result<(), Memory>
-    requires { (is_some (as_array view.now) ≡ false) × (is_object view.now ≡ false) }
-    ensures { OnOk result (out.new.items ≡ out.old.items ++ text_of view.now) }
-{
     match view.nodes[0] {
         Node::Null => out.extend_from_slice(b"null"),
-        Node::Bool(b) => push_bool(b, out),
+        Node::Bool(true) => out.extend_from_slice(b"true"),
+        Node::Bool(false) => out.extend_from_slice(b"false"),
         Node::Whole(place) => out.extend_from_slice(bytes_of(view.texts, place)),
         Node::Text(place) => push_quoted(alloc, as_text(bytes_of(view.texts, place)), out),
-        Node::Fraction | Node::Array(_) | Node::Object(_) => Ok(()),
+        Node::Array(_) => write_items(alloc, view, out),
+        Node::Object(_) => write_members(alloc, view, out),
+        Node::Fraction => Ok(()),
     }
 }
 

@@ -12,13 +12,13 @@ use Rattle.cadf_json.proofs.canonical.+is_ordered.Goals as goal
 pub is_ordered-returns-in_default-clause-no : goal.is_ordered-returns-in_default-clause-no
 is_ordered-returns-in_default-clause-no t c h = grind (arith, common_steps, none_unordered, value_is)
 
-pub is_ordered-returns-then-depth-eq0-clause-no : goal.is_ordered-returns-then-depth-eq0-clause-no
+pub is_ordered-returns-else-depth-gt0-clause-no : goal.is_ordered-returns-else-depth-gt0-clause-no
 unfolding value
-is_ordered-returns-then-depth-eq0-clause-no t c h = grind (arith, common_steps, none_unordered)
+is_ordered-returns-else-depth-gt0-clause-no t c h = grind (arith, common_steps, none_unordered)
 
-pub is_ordered-returns-then-depth-eq0-2-clause-no : goal.is_ordered-returns-then-depth-eq0-2-clause-no
+pub is_ordered-returns-else-depth-gt0-2-clause-no : goal.is_ordered-returns-else-depth-gt0-2-clause-no
 unfolding value
-is_ordered-returns-then-depth-eq0-2-clause-no t c h = grind (arith, common_steps, none_unordered)
+is_ordered-returns-else-depth-gt0-2-clause-no t c h = grind (arith, common_steps, none_unordered)
 
 pub is_ordered-returns-in-String-clause-yes : goal.is_ordered-returns-in-String-clause-yes
 is_ordered-returns-in-String-clause-yes t c h =
@@ -49,23 +49,23 @@ is_ordered-returns-in-Null-clause-yes t c h =
 pub is_ordered-returns-in-EndObject-clause-no : goal.is_ordered-returns-in-EndObject-clause-no
 is_ordered-returns-in-EndObject-clause-no t c h = grind (arith, common_steps, none_unordered, value_is)
 
-pub is_ordered-returns-else-depth-eq0-clause-yes : goal.is_ordered-returns-else-depth-eq0-clause-yes
-is_ordered-returns-else-depth-eq0-clause-yes t c h =
+pub is_ordered-returns-then-depth-gt0-clause-yes : goal.is_ordered-returns-then-depth-gt0-clause-yes
+is_ordered-returns-then-depth-gt0-clause-yes t c h =
     let is = c.in-Some.ensures.value ∙ ap (λ k. token_of k ∷ c.next.new.self) c.in-BeginArray.is in
     array_ordered c.args.depth c.args.reader.now c.next.new.self c.are_items_ordered.new.reader (omega arith) is (c.are_items_ordered.ensures.yes h)
 
-pub is_ordered-returns-else-depth-eq0-clause-no : goal.is_ordered-returns-else-depth-eq0-clause-no
-is_ordered-returns-else-depth-eq0-clause-no t c h =
+pub is_ordered-returns-then-depth-gt0-clause-no : goal.is_ordered-returns-then-depth-gt0-clause-no
+is_ordered-returns-then-depth-gt0-clause-no t c h =
     let is = c.in-Some.ensures.value ∙ ap (λ k. token_of k ∷ c.next.new.self) c.in-BeginArray.is in
     array_unordered c.args.depth c.args.reader.now c.next.new.self (omega arith) is (c.are_items_ordered.ensures.no h)
 
-pub is_ordered-returns-else-depth-eq0-2-clause-yes : goal.is_ordered-returns-else-depth-eq0-2-clause-yes
-is_ordered-returns-else-depth-eq0-2-clause-yes t c h =
+pub is_ordered-returns-then-depth-gt0-2-clause-yes : goal.is_ordered-returns-then-depth-gt0-2-clause-yes
+is_ordered-returns-then-depth-gt0-2-clause-yes t c h =
     let is = c.in-Some.ensures.value ∙ ap (λ k. token_of k ∷ c.next.new.self) c.in-BeginObject.is in
     object_ordered c.args.depth c.args.reader.now c.next.new.self c.are_members_ordered.new.reader (omega arith) is (c.are_members_ordered.ensures.yes h)
 
-pub is_ordered-returns-else-depth-eq0-2-clause-no : goal.is_ordered-returns-else-depth-eq0-2-clause-no
-is_ordered-returns-else-depth-eq0-2-clause-no t c h =
+pub is_ordered-returns-then-depth-gt0-2-clause-no : goal.is_ordered-returns-then-depth-gt0-2-clause-no
+is_ordered-returns-then-depth-gt0-2-clause-no t c h =
     let is = c.in-Some.ensures.value ∙ ap (λ k. token_of k ∷ c.next.new.self) c.in-BeginObject.is in
     object_unordered c.args.depth c.args.reader.now c.next.new.self (omega arith) is (c.are_members_ordered.ensures.no h)
 

@@ -23,17 +23,17 @@ use Rattle.cadf_json.proofs.read.+read_value.Goals as goal
 pub read_value-returns-in_default-clause-not_json : goal.read_value-returns-in_default-clause-not_json
 read_value-returns-in_default-clause-not_json t c h = grind (arith, common_steps, value_is)
 
-pub read_value-returns-in-EndObject-clause-not_json : goal.read_value-returns-in-EndObject-clause-not_json
-read_value-returns-in-EndObject-clause-not_json t c h = grind (arith, common_steps, value_is)
+pub read_value-returns-in_default-token-3-clause-not_json : goal.read_value-returns-in_default-token-3-clause-not_json
+read_value-returns-in_default-token-3-clause-not_json t c h = grind (arith, common_steps, value_is, too_deep, opens)
 
 pub read_value-returns-in_err-push_number-in-Number-clause-not_json : goal.read_value-returns-in_err-push_number-in-Number-clause-not_json
 read_value-returns-in_err-push_number-in-Number-clause-not_json t c h = grind (arith, common_steps, value_is, option_map)
 
-pub read_value-returns-then-depth-eq0-clause-not_json : goal.read_value-returns-then-depth-eq0-clause-not_json
-read_value-returns-then-depth-eq0-clause-not_json t c h = grind (arith, common_steps, too_deep, opens)
+pub read_value-returns-in_default-token-clause-not_json : goal.read_value-returns-in_default-token-clause-not_json
+read_value-returns-in_default-token-clause-not_json t c h = grind (arith, common_steps, value_is, too_deep, opens)
 
-pub read_value-returns-then-depth-eq0-2-clause-not_json : goal.read_value-returns-then-depth-eq0-2-clause-not_json
-read_value-returns-then-depth-eq0-2-clause-not_json t c h = grind (arith, common_steps, too_deep, opens)
+pub read_value-returns-in_default-token-2-clause-not_json : goal.read_value-returns-in_default-token-2-clause-not_json
+read_value-returns-in_default-token-2-clause-not_json t c h = grind (arith, common_steps, value_is, too_deep, opens)
 
 pub read_value-returns-in_err-read_items-in-BeginArray-clause-not_json : goal.read_value-returns-in_err-read_items-in-BeginArray-clause-not_json
 read_value-returns-in_err-read_items-in-BeginArray-clause-not_json t c h = grind (arith, common_steps, value-begin_array, converted-array)

@@ -18,17 +18,17 @@ use Rattle.cadf_json.proofs.spells.+judge_value.Goals as goal
 pub judge_value-returns-in_default-clause-not_json : goal.judge_value-returns-in_default-clause-not_json
 judge_value-returns-in_default-clause-not_json t c h = grind (arith, common_steps, value_is)
 
-pub judge_value-returns-in-EndObject-clause-not_json : goal.judge_value-returns-in-EndObject-clause-not_json
-judge_value-returns-in-EndObject-clause-not_json t c h = grind (arith, common_steps, value_is)
+pub judge_value-returns-in_default-token-3-clause-not_json : goal.judge_value-returns-in_default-token-3-clause-not_json
+judge_value-returns-in_default-token-3-clause-not_json t c h = grind (arith, common_steps, value_is, too_deep, opens)
 
 pub judge_value-returns-in_err-judge_number-in-Number-clause-not_json : goal.judge_value-returns-in_err-judge_number-in-Number-clause-not_json
 judge_value-returns-in_err-judge_number-in-Number-clause-not_json t c h = grind (arith, common_steps, value_is, option_map)
 
-pub judge_value-returns-then-depth-eq0-clause-not_json : goal.judge_value-returns-then-depth-eq0-clause-not_json
-judge_value-returns-then-depth-eq0-clause-not_json t c h = grind (arith, common_steps, too_deep, opens)
+pub judge_value-returns-in_default-token-clause-not_json : goal.judge_value-returns-in_default-token-clause-not_json
+judge_value-returns-in_default-token-clause-not_json t c h = grind (arith, common_steps, value_is, too_deep, opens)
 
-pub judge_value-returns-then-depth-eq0-2-clause-not_json : goal.judge_value-returns-then-depth-eq0-2-clause-not_json
-judge_value-returns-then-depth-eq0-2-clause-not_json t c h = grind (arith, common_steps, too_deep, opens)
+pub judge_value-returns-in_default-token-2-clause-not_json : goal.judge_value-returns-in_default-token-2-clause-not_json
+judge_value-returns-in_default-token-2-clause-not_json t c h = grind (arith, common_steps, value_is, too_deep, opens)
 
 pub judge_value-returns-in_err-judge_items-in-BeginArray-clause-not_json : goal.judge_value-returns-in_err-judge_items-in-BeginArray-clause-not_json
 judge_value-returns-in_err-judge_items-in-BeginArray-clause-not_json t c h = grind (arith, common_steps, value-begin_array, converted-array)
