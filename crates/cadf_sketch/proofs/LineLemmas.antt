@@ -5,6 +5,7 @@ use Rattle.std.proofs.Common.{Option, Some, None, refl, sym, ap, ◌∙◌, subs
 use Rattle.std.specs.Prelude.{◌^◌, decimal, nat_eq, codes, slice_index, option_map}
 use Rattle.std.specs.Int.{w64, to_be_bytes, from_be_bytes, byte_at, bytes_high_first}
 use Rattle.std.specs.List.{starts_with}
+use Rattle.std.specs.Str.{bytes_eq}
 use Rattle.std.proofs.lemmas.Nat.{from_be_bytes-to_be_bytes_8, be_bytes_8}
 use Rattle.std.proofs.lemmas.List.{take-append-drop, length-append, length-drop, length-take-le}
 use Rattle.std.proofs.Math.Seq.{take-append_seam, drop-append_seam}
@@ -30,6 +31,12 @@ pub begins_with : (x y : ℕ) (s : List ℕ) → starts_with nat_eq s (x ∷ y �
 begins_with x y s h = grind (arith, common_steps)
 
 module _ {A : Type 0} where
+  pub prefixed : (f : List ℕ → Option A) (x y : ℕ) (s w : List ℕ) → bytes_eq (take 2 s) (x ∷ y ∷ []) ≡ true → w ≡ drop 2 s
+      → f w ≡ cond (starts_with nat_eq s (x ∷ y ∷ [])) (f (drop 2 s)) None
+  prefixed f x y [] w h e = grind (arith, common_steps)
+  prefixed f x y (a ∷ []) w h e = grind (arith, common_steps)
+  prefixed f x y (a ∷ b ∷ s) w h e = grind (arith, common_steps)
+
   pub chosen : (b : Bool) (o : Option A) (a : A) → cond b o None ≡ Some a → (b ≡ true) × (o ≡ Some a)
   chosen b o a e = grind (arith, common_steps)
 

@@ -6,6 +6,9 @@ use Rattle.std.specs.Prelude.{◌==◌, ◌&&◌, ◌||◌, ◌^◌, not, decima
 use Rattle.std.specs.Int.{IsInRange}
 use Rattle.std.specs.List.{position_or_len, list_any}
 use Rattle.std.specs.Str.Parse.{AllDigits, digits_value, ParsesUnsigned}
+use Rattle.std.specs.Bool.{Decides, then_some}
+use Rattle.std.specs.Result.{result_ok}
+use Rattle.std.specs.Str.{bytes_eq}
 use Rattle.std.proofs.lemmas.Slice.Eq.{bytes_eq-Decides}
 use Rattle.std.proofs.lemmas.Str.Parse.{IsNumeralModel, numerals_by_value, tells_digits}
 use Rattle.std.proofs.lemmas.Fmt.{digits_decimal, digits_value-decimal, parse-decimal, IsAscii-decimal, decimal_nonempty}
@@ -60,6 +63,16 @@ module _ {E : Type 0} (w : List ℕ) (r : Result ℕ E) (parsed : ParsesUnsigned
       let again = parsed_is n small is in
       let same : m ≡ n = cc in
       other (ap decimal same ∙ sym is))
+
+  pub number_read : (m : ℕ) → m < 2 ^ 64 → Some m ≡ result_ok r → then_some (bytes_eq w (decimal m)) m ≡ number_in w
+  number_read m small found = by (bytes_eq w (decimal m)) (bytes_eq-Decides w (decimal m))
+    where
+      ok : r ≡ Ok m
+      ok = grind (arith, common_steps)
+
+      by : (b : Bool) → Decides b (w ≡ decimal m) → then_some b m ≡ number_in w
+      by true d = grind (arith, common_steps, number-again)
+      by false d = grind (arith, common_steps, number_not_plain)
 
 -- ---- the first word
 

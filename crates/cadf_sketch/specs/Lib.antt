@@ -10,4 +10,3 @@ pub mod SketchLines
 pub mod SketchVerdict
 pub mod Sketches
 pub mod Tallies
-pub mod Words

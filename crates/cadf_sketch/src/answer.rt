@@ -18,9 +18,7 @@ fn inventory_of(alloc: Global, replica: &Replica, digests: &[[u8; 32]]) -> Resul
     ensures { IfOk result (λ own. own ≡ inventory_of replica.now) }
 {
     let log = replica.log().copy(alloc)?;
-    let copied = Vec::from_slice(alloc, digests)?;
-    let own = Inventory::of(alloc, log, copied)?;
-    Ok(own)
+    Inventory::of(alloc, log, Vec::from_slice(alloc, digests)?)
 }
 
 /// Returns the least replica that has the atoms whose digest the sketched inventory lacks. Each atom is hashed once.

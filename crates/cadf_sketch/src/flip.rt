@@ -1,25 +1,10 @@
 //! Flips digests in an inventory.
-ghost use Rattle.std.specs.Prelude.{◌≡◌, ◌∷◌, [], OnOk, IfOk};
-ghost use Rattle.std.specs.List.{AllByRecursion};
+ghost use Rattle.std.specs.Prelude.{◌≡◌, ◌∷◌, [], OnOk};
 ghost use Rattle.cadf_join.specs.Sets as set;
-ghost use Rattle.cadf_line.specs.Digest.{IsDigest};
 ghost use Rattle.cadf_sketch.specs.Flips.{apart};
 
 use cadf_json::Memory;
 use cadf_set::Inventory;
-use std::alloc::Global;
-
-/// Makes an inventory of the same log with these digests.
-pub(crate) fn of_taken(
-    alloc: Global,
-    own: &Inventory,
-    taken: Vec<[u8; 32]>,
-) -> Result<Inventory, Memory>
-    requires { AllByRecursion IsDigest taken.items }
-    ensures { IfOk result (λ i. i ≡ record { log = own.now.log; digests = set.from_list taken.items }) }
-{
-    Inventory::of(alloc, own.log().copy(alloc)?, taken)
-}
 
 /// Removes the digest if the inventory has it, otherwise adds it.
 fn flip_one(inventory: &mut Inventory, digest: &[u8; 32]) -> Result<(), Memory>
@@ -30,8 +15,7 @@ fn flip_one(inventory: &mut Inventory, digest: &[u8; 32]) -> Result<(), Memory>
         inventory.remove(digest);
         return Ok(());
     }
-    inventory.put(digest)?;
-    Ok(())
+    inventory.put(digest)
 }
 
 /// Removes those of the digests that the inventory has, and adds the others.

@@ -25,7 +25,7 @@ pub use laws::{
     read_is_what_was_sketched, sketch_file_is_injective, sketch_is_read_back,
 };
 pub use layout::{Cells, Layout, Salt};
-pub use numbers::number_in;
+pub use numbers::{cut_at_blank, number_in};
 pub use reading::{ReadFault, read};
 pub use sketch::Sketch;
 pub use tally::Tally;

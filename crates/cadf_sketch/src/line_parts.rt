@@ -1,8 +1,7 @@
 //! Decodes the lines of a sketch's file.
 
 ghost use Rattle.std.specs.Prelude.{◌≡◌, ◌∷◌, IfOk, length};
-ghost use Rattle.cadf_sketch.specs.Layouts.{layout_of};
-ghost use Rattle.cadf_sketch.specs.SketchVerdict.{head_in, head_in_words, laid_out, number_in, tally_in, counts_in_words, cell_in, cell_of_bytes};
+ghost use Rattle.cadf_sketch.specs.SketchVerdict.{head_in, laid_out, number_in, tally_in, cell_in, cell_of_bytes};
 
 use crate::cell::Cell;
 use crate::head::Head;
@@ -17,32 +16,21 @@ use std::alloc::Global;
 fn layout_in(cells: &[u8], salt: &[u8]) -> Option<Layout>
     ensures { result ≡ laid_out (number_in cells.now) (number_in salt.now) }
 {
-    layout_of(number_in(cells)?, number_in(salt)?)
-}
-
-/// Returns the layout of that many cells with that salt. `None` if there is none.
-fn layout_of(cells: u64, salt: u64) -> Option<Layout>
-    ensures { result ≡ layout_of cells salt }
-{
-    Some(Layout::of(Cells::of(cells)?, Salt::of(salt)?))
-}
-
-/// Decodes the number of cells, the salt and the digest. `None` for any other words.
-fn head_in_words(words: &[u8]) -> Option<Head>
-    ensures { result ≡ head_in_words words.now }
-{
-    let cells = cut_at_blank(words)?;
-    let salt = cut_at_blank(cells.rest)?;
-    let layout = layout_in(cells.word, salt.word)?;
-    let digest = digest_of(salt.rest)?;
-    Some(Head { layout, digest })
+    let cells = Cells::of(number_in(cells)?)?;
+    let salt = Salt::of(number_in(salt)?)?;
+    Some(Layout::of(cells, salt))
 }
 
 /// Decodes the line with the number of cells, the salt and the digest. `None` if it is no such line.
 pub(crate) fn head_in(line: &[u8]) -> Option<Head>
     ensures { result ≡ head_in line.now }
 {
-    head_in_words(line.strip_prefix(b"S ")?)
+    let words = line.strip_prefix(b"S ")?;
+    let (cells, words) = cut_at_blank(words)?;
+    let (salt, digest) = cut_at_blank(words)?;
+    let layout = layout_in(cells, salt)?;
+    let digest = digest_of(digest)?;
+    Some(Head { layout, digest })
 }
 
 /// Makes the counts from 65 numbers: the number of digests, then one for each bit.
@@ -58,25 +46,17 @@ fn tally_of(numbers: &[u64]) -> Tally
     }
 }
 
-/// Decodes the counts. `None` if the words are not 65 numbers.
-fn tally_in_words(alloc: Global, words: &[u8]) -> Result<Option<Tally>, Memory>
-    ensures { IfOk result (λ found. found ≡ counts_in_words words.now) }
-{
-    let Some(numbers) = numbers_in(alloc, words, 64)? else {
-        return Ok(None);
-    };
-    Ok(Some(tally_of(numbers.as_slice())))
-}
-
 /// Decodes the line of the counts. `None` if it is no such line.
 pub(crate) fn tally_in(alloc: Global, line: &[u8]) -> Result<Option<Tally>, Memory>
     ensures { IfOk result (λ found. found ≡ tally_in line.now) }
 {
-    if line.starts_with(b"C ") {
-        tally_in_words(alloc, &line[2..])
-    } else {
-        Ok(None)
-    }
+    let Some(words) = line.strip_prefix(b"C ") else {
+        return Ok(None);
+    };
+    let Some(numbers) = numbers_in(alloc, words, 64)? else {
+        return Ok(None);
+    };
+    Ok(Some(tally_of(numbers.as_slice())))
 }
 
 /// Returns the cell of these bytes: its digest, and its check.
@@ -99,12 +79,8 @@ pub(crate) fn cell_in(line: &[u8]) -> Option<Cell>
     ensures { result ≡ cell_in line.now }
 {
     let mut bytes = [0u8; 40];
-    if hex::decode_to_slice(line, &mut bytes).is_err() {
-        return None;
-    }
+    hex::decode_to_slice(line, &mut bytes).ok()?;
     let mut text = [0u8; 80];
-    if hex::encode_to_slice(&bytes, &mut text).is_err() {
-        return None;
-    }
+    hex::encode_to_slice(&bytes, &mut text).ok()?;
     (line == text.as_slice()).then_some(cell_of_bytes(&bytes))
 }

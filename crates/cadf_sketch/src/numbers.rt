@@ -1,54 +1,27 @@
 //! Decimal numbers, separated by spaces.
 
-ghost use Rattle.std.specs.Prelude.{◌≡◌, ◌↔◌, IfOk, IsTrue, decimal, option_map};
-ghost use Rattle.cadf_sketch.specs.SketchVerdict.{number_in, numbers_in};
-ghost use Rattle.cadf_sketch.specs.Words.{IsCutAt};
+ghost use Rattle.std.specs.Prelude.{◌≡◌, ◌↔◌, [], IfOk, IsTrue, MatchOption, decimal, option_map};
+ghost use Rattle.cadf_sketch.specs.SketchVerdict.{number_in, numbers_in, first_word, words_after};
 
 use cadf_json::Memory;
 use memchr::memchr;
 use std::alloc::Global;
 
-/// The bytes before the first space, and the bytes after it.
-#[derive(Clone, Copy)]
-pub(crate) struct Cut<'a> {
-    pub(crate) word: &'a [u8],
-    pub(crate) rest: &'a [u8],
-}
-
-/// Splits the text at its first space. `None` if it has none.
-pub(crate) fn cut_at_blank(text: &[u8]) -> Option<Cut<'_>>
-    ensures { IsCutAt text.now result }
+/// Returns the bytes before the first space, and those after it. `None` if there is no space.
+pub fn cut_at_blank(text: &[u8]) -> Option<(&[u8], &[u8])>
+    ensures { MatchOption result (words_after text.now ≡ []) (λ cut. (cut.0.now ≡ first_word text.now) × (cut.1.now ≡ words_after text.now)) }
 {
     let at = memchr(b' ', text)?;
-    Some(Cut {
-        word: &text[..at],
-        rest: &text[at + 1..],
-    })
+    Some((&text[..at], &text[at + 1..]))
 }
 
 /// Returns the number of 64 bits whose decimal digits are the word. `None` if there is none.
 pub fn number_in(word: &[u8]) -> Option<u64>
     ensures { result ≡ number_in word.now }
 {
-    let Ok(text) = str::from_utf8(word) else {
-        return None;
-    };
-    let Ok(number) = text.parse::<u64>() else {
-        return None;
-    };
-    if spells(word, number) {
-        Some(number)
-    } else {
-        None
-    }
-}
-
-/// Returns whether the word is the decimal spelling of the number.
-fn spells(word: &[u8], number: u64) -> bool
-    ensures { IsTrue result ↔ (word.now ≡ decimal number) }
-{
+    let number = str::from_utf8(word).ok()?.parse::<u64>().ok()?;
     let mut buffer = itoa::Buffer::new();
-    word == buffer.format(number).as_bytes()
+    (word == buffer.format(number).as_bytes()).then_some(number)
 }
 
 /// Reads `count + 1` numbers, separated by single spaces. `None` for any other text.
@@ -62,14 +35,14 @@ pub(crate) fn numbers_in(
     let mut numbers = Vec::new(alloc);
     let mut rest = text;
     'words: while numbers.len() < count {
-        let Some(cut) = cut_at_blank(rest) else {
+        let Some((word, others)) = cut_at_blank(rest) else {
             return Ok(None);
         };
-        let Some(number) = number_in(cut.word) else {
+        let Some(number) = number_in(word) else {
             return Ok(None);
         };
         numbers.push(number)?;
-        rest = cut.rest;
+        rest = others;
     }
     let Some(last) = number_in(rest) else {
         return Ok(None);

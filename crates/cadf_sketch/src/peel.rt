@@ -23,17 +23,6 @@ fn all_places(alloc: Global, count: usize) -> Result<Vec<usize>, Memory>
     Ok(places)
 }
 
-/// Adds the places of the digest's three cells.
-fn push_places(pending: &mut Vec<usize>, digest: &[u8; 32], layout: Layout) -> Result<(), Memory>
-    ensures items { OnOk result (pending.new.items ≡ pending.old.items ++ three_places digest.now layout) }
-    ensures below { OnOk result (ArePlaces (3 * layout.size) pending.old.items → ArePlaces (3 * layout.size) pending.new.items) }
-{
-    pending.push(place_in(0, digest, layout))?;
-    pending.push(place_in(1, digest, layout))?;
-    pending.push(place_in(2, digest, layout))?;
-    Ok(())
-}
-
 /// Removes the digest of the cell at that place from its three cells, if it is lone there, and appends their places to
 /// `pending`.
 fn take_lone(
@@ -58,7 +47,9 @@ fn take_lone(
     }
     taken.push(cell.digest)?;
     toggle(cells, &cell.digest, layout);
-    push_places(pending, &cell.digest, layout)?;
+    pending.push(place_in(0, &cell.digest, layout))?;
+    pending.push(place_in(1, &cell.digest, layout))?;
+    pending.push(place_in(2, &cell.digest, layout))?;
     Ok(())
 }
 

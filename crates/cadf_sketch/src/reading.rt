@@ -1,13 +1,10 @@
 //! Finds the inventory of which a sketch was made.
-ghost use Rattle.std.specs.Prelude.{◌≡◌, ◌*◌, ◌↔◌, IfOk, IfErr, IsTrue, OnOk, vec_len};
-ghost use Rattle.cadf_join.specs.Sets.{rising};
+ghost use Rattle.std.specs.Prelude.{◌≡◌, IfOk, IfErr, OnOk};
 ghost use Rattle.cadf_inventory.specs.InventoryFile.{inventory_digest};
 ghost use Rattle.cadf_sketch.specs.Flips.{apart};
-ghost use Rattle.cadf_sketch.specs.Tallies.{tally_of, cells_to_ask};
-ghost use Rattle.cadf_sketch.specs.Refusals.{differing, IsPeeled, IsReadFault};
+ghost use Rattle.cadf_sketch.specs.Refusals.{IsPeeled, IsReadFault};
 
-use crate::cell::Cell;
-use crate::flip::{flip, of_taken};
+use crate::flip::flip;
 use crate::peel::peel;
 use crate::sketch::{Sketch, tally, toggle_all};
 use cadf_inventory::inventory_digest;
@@ -41,16 +38,6 @@ impl From<Memory> for ReadFault {
     }
 }
 
-/// Returns the sketch's cells with the own digests XORed in: those of both sides cancel.
-fn differing(alloc: Global, own: &Inventory, sketch: &Sketch) -> Result<Vec<Cell>, Memory>
-    ensures cells { IfOk result (λ cells. cells.items ≡ differing own.now sketch.now) }
-    ensures length { IfOk result (λ cells. vec_len cells ≡ 3 * sketch.now.layout.size) }
-{
-    let mut cells = Vec::from_slice(alloc, sketch.cells())?;
-    toggle_all(&mut cells, own, sketch.layout());
-    Ok(cells)
-}
-
 /// Flips the digests that peeling finds in the own inventory, and returns them. Flipping them again restores it.
 fn flip_peeled(alloc: Global, own: &mut Inventory, sketch: &Sketch) -> Result<Inventory, Memory>
     ensures log { own.new.log ≡ own.old.log }
@@ -59,34 +46,13 @@ fn flip_peeled(alloc: Global, own: &mut Inventory, sketch: &Sketch) -> Result<In
 {
     own.type_invariant();
     sketch.type_invariant();
-    let mut cells = differing(alloc, own, sketch)?;
+    let mut cells = Vec::from_slice(alloc, sketch.cells())?;
+    toggle_all(&mut cells, own, sketch.layout());
     let found = peel(alloc, &mut cells, sketch.layout())?;
     drop(cells);
-    let taken = of_taken(alloc, own, found)?;
+    let taken = Inventory::of(alloc, own.log().copy(alloc)?, found)?;
     flip(own, &taken)?;
     Ok(taken)
-}
-
-/// Returns whether the inventory is the sketched one, by the digest of its file.
-fn is_of(alloc: Global, sketch: &Sketch, theirs: &Inventory) -> Result<bool, Memory>
-    ensures { IfOk result (λ is. IsTrue is ↔ (inventory_digest theirs.now ≡ sketch.now.digest)) }
-{
-    let digest = inventory_digest(alloc, theirs)?;
-    Ok(digest == *sketch.digest())
-}
-
-/// Returns whether both have the same log.
-fn is_log_of(own: &Inventory, sketch: &Sketch) -> bool
-    ensures { IsTrue result ↔ (own.now.log ≡ sketch.now.log) }
-{
-    own.log().as_str() == sketch.log().as_str()
-}
-
-/// Estimates how many cells are enough for the digests that differ.
-fn cells_to_ask(own: &Inventory, sketch: &Sketch) -> u32
-    ensures { result ≡ cells_to_ask (tally_of (rising own.now.digests)) sketch.now.tally }
-{
-    tally(own).cells_to_ask(sketch.tally())
 }
 
 /// Turns the own inventory into the one of which the sketch was made. Only one inventory is in memory.
@@ -100,15 +66,14 @@ pub fn read(alloc: Global, own: Inventory, sketch: &Sketch) -> Result<Inventory,
     ensures digest { IfOk result (λ theirs. inventory_digest theirs ≡ sketch.now.digest) }
     ensures err { IfErr result (IsReadFault own sketch.now) }
 {
-    if !is_log_of(&own, sketch) {
+    if own.log().as_str() != sketch.log().as_str() {
         return Err(ReadFault::OtherLog);
     }
     let mut theirs = own;
     let taken = flip_peeled(alloc, &mut theirs, sketch)?;
-    let found = is_of(alloc, sketch, &theirs)?;
-    if found {
+    if inventory_digest(alloc, &theirs)? == *sketch.digest() {
         return Ok(theirs);
     }
     flip(&mut theirs, &taken)?;
-    Err(ReadFault::TooFewCells(cells_to_ask(&theirs, sketch)))
+    Err(ReadFault::TooFewCells(tally(&theirs).cells_to_ask(sketch.tally())))
 }

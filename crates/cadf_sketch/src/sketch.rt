@@ -1,16 +1,13 @@
 //! A sketch of an inventory.
 ghost use Rattle.std.specs.Prelude.{◌≡◌, ◌*◌, IfOk, length};
 ghost use Rattle.cadf_join.specs.Sets.{rising};
-ghost use Rattle.cadf_inventory.specs.InventoryFile.{inventory_digest};
 ghost use Rattle.cadf_sketch.specs.Cells.{toggled_all};
 ghost use Rattle.cadf_event.specs.Known.{IsNameText};
 ghost use Rattle.cadf_sketch.specs.SketchFile.{HasParts};
-ghost use Rattle.cadf_sketch.specs.Sketches.{sketch_of, asked};
-ghost use Rattle.cadf_sketch.specs.SketchVerdict.{sketch_of_parts};
+ghost use Rattle.cadf_sketch.specs.Sketches.{asked};
 ghost use Rattle.cadf_sketch.specs.Tallies.{tally_of};
 
 use crate::cell::Cell;
-use crate::head::Head;
 use crate::layout::{Cells, Layout, Salt};
 use crate::tally::Tally;
 use crate::toggle::toggle;
@@ -24,11 +21,11 @@ use std::marker::Model;
 /// A sketch of an inventory: its log, its digest, counts of its digests, and the cells of three tables.
 #[derive(Drop)]
 pub struct Sketch {
-    log: Name,
-    layout: Layout,
-    digest: [u8; 32],
-    tally: Tally,
-    cells: Vec<Cell>,
+    pub(crate) log: Name,
+    pub(crate) layout: Layout,
+    pub(crate) digest: [u8; 32],
+    pub(crate) tally: Tally,
+    pub(crate) cells: Vec<Cell>,
 }
 
 impl Model for Sketch {
@@ -78,22 +75,9 @@ impl Sketch {
     ) -> Result<Sketch, Memory>
         ensures { IfOk result (λ s. s ≡ asked inventory.now cells salt) }
     {
-        let digest = inventory_digest(alloc, inventory)?;
-        let salt = salt.unwrap_or(Salt::of_digest(&digest));
-        Sketch::laid_out(alloc, inventory, Layout::of(cells, salt), digest)
-    }
-
-    /// Makes the sketch of the inventory, whose digest is given.
-    fn laid_out(
-        alloc: Global,
-        inventory: &Inventory,
-        layout: Layout,
-        digest: [u8; 32],
-    ) -> Result<Sketch, Memory>
-        requires { digest ≡ inventory_digest inventory.now }
-        ensures { IfOk result (λ s. s ≡ sketch_of inventory.now layout) }
-    {
         inventory.type_invariant();
+        let digest = inventory_digest(alloc, inventory)?;
+        let layout = Layout::of(cells, salt.unwrap_or(Salt::of_digest(&digest)));
         layout.type_invariant();
         let mut cells = Vec::from_elem(alloc, Cell::EMPTY, layout.cells())?;
         toggle_all(&mut cells, inventory, layout);
@@ -104,21 +88,6 @@ impl Sketch {
             tally: tally(inventory),
             cells,
         })
-    }
-
-    /// Makes the sketch of these parts.
-    pub(crate) fn from_parts(log: Name, head: Head, tally: Tally, cells: Vec<Cell>) -> Sketch
-        requires { HasParts (sketch_of_parts log head tally cells.items) }
-        ensures { result ≡ sketch_of_parts log head tally cells.items }
-    {
-        let Head { layout, digest } = head;
-        Sketch {
-            log,
-            layout,
-            digest,
-            tally,
-            cells,
-        }
     }
 
     /// States the type invariant of a sketch. Does nothing.

@@ -69,17 +69,13 @@ impl ModelFile for Sketch {
     fn put_line(alloc: Global, told: &mut Told, line: &[u8]) -> Result<(), LineFault> {
         match told {
             Told::Nothing => {
-                let Some(head) = head_in(line) else {
-                    return Err(LineFault::Here(Cause::Shape));
-                };
+                let head = head_in(line).ok_or(LineFault::Here(Cause::Shape))?;
                 *told = Told::Beginning(head);
                 Ok(())
             }
             Told::Beginning(head) => {
                 let head = *head;
-                let Some(tally) = tally_in(alloc, line)? else {
-                    return Err(LineFault::Here(Cause::Shape));
-                };
+                let tally = tally_in(alloc, line)?.ok_or(LineFault::Here(Cause::Shape))?;
                 *told = Told::Cells(head, tally, Vec::new(alloc));
                 Ok(())
             }
@@ -96,7 +92,16 @@ impl ModelFile for Sketch {
 
     fn of_lines(name: Name, told: Told) -> Sketch {
         match told {
-            Told::Cells(head, tally, cells) => Sketch::from_parts(name, head, tally, cells),
+            Told::Cells(head, tally, cells) => {
+                let Head { layout, digest } = head;
+                Sketch {
+                    log: name,
+                    layout,
+                    digest,
+                    tally,
+                    cells,
+                }
+            }
             _ => unreachable!(),
         }
     }

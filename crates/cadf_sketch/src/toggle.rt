@@ -1,17 +1,9 @@
 //! Mixes digests into the cells of a sketch by XOR, which adds or removes them.
-ghost use Rattle.std.specs.Prelude.{◌≡◌, ◌<◌, ◌*◌, ◌^◌, length};
-ghost use Rattle.cadf_sketch.specs.Cells.{mixed_at, toggled};
+ghost use Rattle.std.specs.Prelude.{◌≡◌, ◌*◌, length};
+ghost use Rattle.cadf_sketch.specs.Cells.{toggled};
 
 use crate::cell::{Cell, place_in};
 use crate::layout::Layout;
-
-/// Mixes the digest into the cell at that place by XOR.
-fn mix_at(cells: &mut [Cell], place: usize, digest: &[u8; 32])
-    requires { place < length cells.old }
-    ensures { cells.new ≡ mixed_at cells.old place digest.now }
-{
-    cells[place].mix(digest);
-}
 
 /// Mixes the digest into its cell of each table by XOR.
 #[tactic(auto, unfolding(crate::specs::Cells::toggled))]
@@ -19,7 +11,7 @@ pub(crate) fn toggle(cells: &mut [Cell], digest: &[u8; 32], layout: Layout)
     requires cells { length cells.old ≡ 3 * layout.size }
     ensures { cells.new ≡ toggled cells.old digest.now layout }
 {
-    mix_at(cells, place_in(0, digest, layout), digest);
-    mix_at(cells, place_in(1, digest, layout), digest);
-    mix_at(cells, place_in(2, digest, layout), digest);
+    cells[place_in(0, digest, layout)].mix(digest);
+    cells[place_in(1, digest, layout)].mix(digest);
+    cells[place_in(2, digest, layout)].mix(digest);
 }

@@ -5,4 +5,4 @@ pub returns-in_err-at : goal.returns-in_err-at
 returns-in_err-at c = rw c.from_residual.ensures (none_after c.args.text.now c.in_err-at.ensures)
 
 pub returns : goal.returns
-returns c = let p = cut_of c.args.text.now c.in_ok-at.at c.in_ok-at.ensures in record { word = p.0; rest = p.1 }
+returns c = cut_of c.args.text.now c.in_ok-at.at c.in_ok-at.ensures

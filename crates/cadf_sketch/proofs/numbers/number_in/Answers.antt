@@ -1,16 +1,23 @@
-use Rattle.std.proofs.Common.{rules, arith, sym}
 use Rattle.std.proofs.lemmas.Grind.{common_steps}
-use Rattle.cadf_sketch.proofs.NumberLemmas.{number-again, number_not_text, number_not_parsed, number_not_plain}
+use Rattle.std.proofs.Common.{◌≡◌, ◌<◌, ◌^◌, ◌∙◌, ap, subst, arith}
+use Rattle.std.specs.Bool.{then_some}
+use Rattle.std.specs.Str.{bytes_eq}
+use Rattle.std.specs.Str.Parse.{ParsesUnsigned}
+use Rattle.cadf_sketch.proofs.NumberLemmas.{number_not_text, number_not_parsed, number_read}
 use Rattle.cadf_sketch.proofs.numbers.number_in.Goals as goal
 
-pub returns-in_default : goal.returns-in_default
-returns-in_default c = sym (number_not_text c.args.word.now c.in_default.ensures.cases.0)
+pub returns-in_err-ok : goal.returns-in_err-ok
+returns-in_err-ok c = grind (arith, common_steps, number_not_text)
 
-pub returns-in_default-parse : goal.returns-in_default-parse
-returns-in_default-parse c = search (rules, number_not_parsed)
+pub returns-in_err-number : goal.returns-in_err-number
+returns-in_err-number c = grind (arith, common_steps, number_not_parsed)
 
-pub returns-then-spells : goal.returns-then-spells
-returns-then-spells c = grind (arith, common_steps, number-again)
-
-pub returns-else-spells : goal.returns-else-spells
-returns-else-spells c = grind (arith, common_steps, number_not_plain)
+pub returns : goal.returns
+returns c =
+    let word = c.args.word.now in
+    let n = c.in_ok-number.number in
+    let text : c.in_ok-ok.field-0.now ≡ word = grind (arith, common_steps) in
+    let small : n < 2 ^ 64 = grind (arith, common_steps) in
+    c.then_some.ensures
+    ∙ ap (λ b. then_some b n) (c.eq.ensures ∙ ap (bytes_eq word) (c.as_bytes.ensures.value ∙ c.format.ensures.text))
+    ∙ number_read word c.parse.result (subst (λ t. ParsesUnsigned 64 10 t c.parse.result) text c.parse.ensures.value.0) n small c.in_ok-number.ensures.value

@@ -14,8 +14,8 @@ words-preserved c =
     let one : vec_len c.push.new.self ≡ suc len = omega (arith, c.in_ok-push.ensures.len) in
     record {
       within = omega (arith, one, more);
-      all = (λ i. put_all (c.in_ok-push.ensures.items i) (numbers_in (c.args.count - one i) c.in-Some.cut.rest.now))
-          ∙ sym (number_put c.words.numbers.items c.args.count len c.words.rest.now c.in-Some.cut.word.now c.in-Some.cut.rest.now more c.in-Some.ensures.word
-          c.in-Some.ensures.rest c.in-Some-number_in.number c.in-Some-number_in.ensures)
+      all = (λ i. put_all (c.in_ok-push.ensures.items i) (numbers_in (c.args.count - one i) c.in-Some.others.now))
+          ∙ sym (number_put c.words.numbers.items c.args.count len c.words.rest.now c.in-Some.word.now c.in-Some.others.now more c.in-Some.ensures.0
+          c.in-Some.ensures.1 c.in-Some-number_in.number c.in-Some-number_in.ensures)
           ∙ c.words.invariant.all;
     }

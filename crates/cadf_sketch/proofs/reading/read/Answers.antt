@@ -1,21 +1,27 @@
 use Rattle.std.proofs.lemmas.Grind.{common_steps}
-use Rattle.std.proofs.Common.{arith, ◌∙◌, ap, sym}
-use mathlib.Core.Bool.{true≢false}
+use Rattle.std.proofs.Common.{arith, ◌∙◌, ap}
+use Rattle.std.proofs.lemmas.Slice.Eq.{bytes_eq-Decides}
 use Rattle.cadf_join.specs.Sets.{rising}
 use Rattle.cadf_sketch.specs.Tallies.{tally_of, cells_to_ask}
 use Rattle.cadf_sketch.proofs.reading.read.Goals as goal
 
-pub returns-then-found-clause-log : goal.returns-then-found-clause-log
-returns-then-found-clause-log c = grind (arith, common_steps)
+pub returns-then-ne-clause-err : goal.returns-then-ne-clause-err
+returns-then-ne-clause-err c = grind (arith, common_steps, bytes_eq-Decides)
+
+pub returns-then-eq-clause-log : goal.returns-then-eq-clause-log
+returns-then-eq-clause-log c = grind (arith, common_steps, bytes_eq-Decides)
+
+pub returns-then-eq-clause-digest : goal.returns-then-eq-clause-digest
+returns-then-eq-clause-digest c = grind (arith, common_steps, bytes_eq-Decides)
 
 pub returns-clause-err : goal.returns-clause-err
 returns-clause-err c =
     let back = c.in_ok-flip.ensures.ok ∙ c.in_ok-taken.ensures.back in (
       record {
-        log = c.is_log_of.ensures.0 c.if-not-is_log_of.false;
+        log = grind (arith, common_steps, bytes_eq-Decides);
         theirs = c.flip_peeled.new.own;
         peeled = c.in_ok-taken.ensures.peeled;
-        other = λ same. true≢false (sym (c.in_ok-found.ensures.1 same) ∙ c.if-found.false);
+        other = grind (arith, common_steps, bytes_eq-Decides);
       },
-      c.cells_to_ask.ensures ∙ ap (λ s. cells_to_ask (tally_of (rising s)) c.args.sketch.now.tally) back,
+      c.cells_to_ask.ensures ∙ (λ i. cells_to_ask ((c.tally.ensures ∙ ap (λ s. tally_of (rising s)) back) i) (c.tally-2.ensures i)),
     )

@@ -9,17 +9,19 @@ use Rattle.cadf_sketch.specs.SketchVerdict.{cause_after}
 use Rattle.cadf_sketch.proofs.ToldLemmas.{head_told, lines_told, tally_told, cell_cause, cell_told}
 use Rattle.cadf_sketch.proofs.sketch_lines.SketchModelFile.put_line.Goals as goal
 
-pub returns-in-Some-clause-ok : goal.returns-in-Some-clause-ok
-returns-in-Some-clause-ok c = rw c.in-Nothing.is (head_told c.args.line.now c.in-Some.head c.in-Some.ensures)
+pub returns-in_ok-head-in-Nothing-clause-ok : goal.returns-in_ok-head-in-Nothing-clause-ok
+returns-in_ok-head-in-Nothing-clause-ok c =
+    let found = c.in_ok-head-in-Nothing in
+    rw c.in-Nothing.is (head_told c.args.line.now found.head (sym found.ensures.ok_part ∙ c.head_in.ensures))
 
-pub returns-in-Some-2-clause-ok : goal.returns-in-Some-2-clause-ok
-returns-in-Some-2-clause-ok c =
+pub returns-in_ok-tally-in-Beginning-clause-ok : goal.returns-in_ok-tally-in-Beginning-clause-ok
+returns-in_ok-tally-in-Beginning-clause-ok c =
     let h = c.in-Beginning.head in
     let l = c.args.line.now in
-    let t = c.in-Some-2.tally in
+    let t = c.in_ok-tally-in-Beginning.tally in
     rw c.in-Beginning.is
     (subst (λ cs. (cause_after (head_line h ∷ []) l ≡ None) × (lines_told h t cs ≡ head_line h ∷ l ∷ []) × AreCellsOf h t cs) (sym c.new.ensures.items)
-    (tally_told h l t (subst AreTold c.in-Beginning.is c.requires) (sym c.in-Some-2.is ∙ c.in_ok-tally-in-Beginning.ensures)))
+    (tally_told h l t (subst AreTold c.in-Beginning.is c.requires) (sym c.in_ok-tally-in-Beginning.ensures.ok_part ∙ c.in_ok-tally_in-in-Beginning.ensures)))
 
 pub returns-in-Cells-clause-ok : goal.returns-in-Cells-clause-ok
 returns-in-Cells-clause-ok c = grind (arith, common_steps, on_ok, cell_told)

@@ -3,7 +3,7 @@ use Rattle.std.proofs.Common.{arith}
 use Rattle.std.proofs.lemmas.List.{with_items_is}
 use Rattle.cadf_sketch.specs.Sketches.{cells_of, sketch_of}
 use Rattle.cadf_sketch.proofs.WholeLemmas.{sketch_parts}
-use Rattle.cadf_sketch.proofs.sketch.Sketch.laid_out.Goals as goal
+use Rattle.cadf_sketch.proofs.sketch.Sketch.of.Goals as goal
 
 pub invariant_of-result : goal.invariant_of-result
 unfolding sketch_of cells_of
