@@ -1,7 +1,8 @@
 -- The shown leaves before a place and the others, as the parts of a list; and the hash of a tree, one step at a time.
 use Rattle.std.proofs.lemmas.Grind.{common_steps}
 use Rattle.std.proofs.Common.{◌≡◌, ◌∙◌, ◌<◌, ◌≤◌, ◌+◌, ◌-◌, ◌^◌, ℕ, zero, suc, Bool, true, false, cond, List, [], ◌∷◌, ◌≢◌, length, take, drop, refl, ap, sym, arith, length-drop}
-use Rattle.std.specs.Prelude.{nat_le, nat_lt, slice_index_or, if◌then◌else◌}
+use Rattle.std.specs.Prelude.{nat_le, nat_lt, ◌==◌, slice_index_or, if◌then◌else◌}
+use Rattle.std.specs.Bool.{then_some}
 use Rattle.std.specs.List.{filter, AllByRecursion}
 use Rattle.std.specs.List.Sorted.{IsPartitionPoint, IsPartitionedBy}
 use Rattle.std.proofs.lemmas.Bool.{le-leb, lt-leb, lt-ltb, ltb-true, ltb-false, eq-eqb, ne_eqb}
@@ -109,6 +110,10 @@ rebuilt_heights h k a n ss hs low high =
     sym (rebuilt_any k h a n ss hs low) ∙ ap (λ m. rebuilt m a n ss hs) other ∙ rebuilt_any h k a n ss hs high
 
 -- ---- the root
+
+pub alone_if : (b : Bool) (h : Text) (hs : List Text) → b ≡ (length hs == 0) → then_some b h ≡ alone h hs
+alone_if b h [] e = grind (arith, common_steps)
+alone_if b h (x ∷ hs) e = grind (arith, common_steps)
 
 pub root_without : (p : ProofModel) → p.count ≡ 0 → proof_root p ≡ alone (sha256 []) p.hidden
 unfolding proof_root

@@ -1,11 +1,9 @@
 -- The lines of a seal's file that have been read so far, and the values decoded from them.
 --     told_lines told          the lines after the log line that have these values
 --     AreTold told             the invariant of the values so far
---     IsMore told l more       the line l is allowed next, and `more` has its value too
-use Rattle.std.specs.Prelude.{◌≡◌, ◌<◌, ◌^◌, ℕ, List, [], ◌∷◌, ◌++◌, None}
+use Rattle.std.specs.Prelude.{◌<◌, ◌^◌, ℕ, List, [], ◌∷◌}
 use Rattle.cadf_line.specs.Digest.{IsDigest}
 use Rattle.cadf_seal.specs.SealFile.{count_line, root_line}
-use Rattle.cadf_seal.specs.SealVerdict.{cause_after}
 use Rattle.cadf_seal.specs.declared.seal_lines.Told.{Told}
 use Rattle.cadf_seal.specs.declared.seal_lines.Told.TheVariants.{Nothing, Count, Whole}
 
@@ -18,7 +16,3 @@ abbrev pub AreTold : Told → Type 0
 AreTold Nothing = Unit {0}
 AreTold (Count count) = count < 2 ^ 64
 AreTold (Whole count root) = (count < 2 ^ 64) × IsDigest root
-
--- the line is allowed after those so far, and `more` are the values with that of the line
-abbrev pub IsMore : Told → List ℕ → Told → Type 0
-IsMore told line more = (cause_after (told_lines told) line ≡ None) × (told_lines more ≡ told_lines told ++ line ∷ []) × AreTold more

@@ -16,10 +16,10 @@ use std::marker::Model;
 /// has, the leaves of its tree that are shown, and the hashes of the greatest subtrees without such a leaf.
 #[derive(Drop)]
 pub struct Proof {
-    log: Name,
-    count: u64,
-    shown: Vec<Leaf>,
-    hidden: Vec<[u8; 32]>,
+    pub(crate) log: Name,
+    pub(crate) count: u64,
+    pub(crate) shown: Vec<Leaf>,
+    pub(crate) hidden: Vec<[u8; 32]>,
 }
 
 impl Model for Proof {
@@ -45,25 +45,12 @@ impl Proof {
         let count = inventory.digests().len() as u64;
         let shown = shown_for(alloc, facts, inventory)?;
         let hidden = hidden_for(alloc, inventory, shown.as_slice())?;
-        Ok(Proof::from_parts(log, count, shown, hidden))
-    }
-
-    /// Makes the proof of these parts.
-    pub(crate) fn from_parts(
-        log: Name,
-        count: u64,
-        shown: Vec<Leaf>,
-        hidden: Vec<[u8; 32]>,
-    ) -> Proof
-        requires { HasProofParts (record { log = log; count = count; shown = shown.items; hidden = hidden.items }) }
-        ensures { result ≡ record { log = log; count = count; shown = shown.items; hidden = hidden.items } }
-    {
-        Proof {
+        Ok(Proof {
             log,
             count,
             shown,
             hidden,
-        }
+        })
     }
 
     /// States the type invariant of a proof. Does nothing.

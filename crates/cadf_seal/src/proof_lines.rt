@@ -4,7 +4,7 @@ ghost use Rattle.std.specs.Prelude.{◌≡◌, IfOk, IfErr, OnOk, None, refl};
 ghost use Rattle.std.specs.List.{last_or};
 ghost use Rattle.cadf_linefile.specs.Answers.{CauseIs};
 ghost use Rattle.cadf_seal.specs.ProofFile.{proof_lines, shown_line, IsProof};
-ghost use Rattle.cadf_seal.specs.ProofVerdict.{proof_kind, cause_of_line, cause_of_leaf, is_next, leaf_in_words, shown_in, hidden_in};
+ghost use Rattle.cadf_seal.specs.ProofVerdict.{proof_kind, cause_of_line, is_next, shown_in, hidden_in};
 ghost use Rattle.cadf_seal.specs.ProofLines.{told_lines, AreTold, IsPut};
 
 use crate::leaf::Leaf;
@@ -15,8 +15,7 @@ use cadf_event::Name;
 use cadf_inventory::digest_of;
 use cadf_json::Memory;
 use cadf_linefile::{Cause, LineFault, ModelFile};
-use cadf_sketch::number_in;
-use memchr::memchr;
+use cadf_sketch::{cut_at_blank, number_in};
 use std::alloc::Global;
 
 /// The values decoded from the lines after the log line, so far.
@@ -26,21 +25,15 @@ pub enum Told {
     Values(u64, Vec<Leaf>, Vec<[u8; 32]>),
 }
 
-/// Decodes a place and a digest. `None` for any other words.
-fn leaf_in_words(words: &[u8]) -> Option<Leaf>
-    ensures { result ≡ leaf_in_words words.now }
-{
-    let at = memchr(b' ', words)?;
-    let place = number_in(&words[..at])?;
-    let digest = digest_of(&words[at + 1..])?;
-    Some(Leaf { place, digest })
-}
-
 /// Decodes the line of a leaf that is shown. `None` if it is no such line.
 fn shown_in(line: &[u8]) -> Option<Leaf>
     ensures { result ≡ shown_in line.now }
 {
-    leaf_in_words(line.strip_prefix(b"P ")?)
+    let words = line.strip_prefix(b"P ")?;
+    let (place, digest) = cut_at_blank(words)?;
+    let place = number_in(place)?;
+    let digest = digest_of(digest)?;
+    Some(Leaf { place, digest })
 }
 
 /// Decodes the line of a hash. `None` if it is no such line.
@@ -64,28 +57,15 @@ fn put_shown_or_hidden(
         hidden.push(hash)?;
         return Ok(());
     }
-    let Some(leaf) = shown_in(line) else {
+    let leaf = shown_in(line).ok_or(LineFault::Here(Cause::Shape))?;
+    if leaf.place >= count || !hidden.is_empty() {
         return Err(LineFault::Here(Cause::Shape));
-    };
-    if let Some(cause) = cause_of_leaf(count, shown.as_slice(), hidden.as_slice(), &leaf) {
-        return Err(LineFault::Here(cause));
+    }
+    if !is_next(shown.as_slice(), &leaf) {
+        return Err(LineFault::Here(Cause::Order));
     }
     shown.push(leaf)?;
     Ok(())
-}
-
-/// Returns what is wrong with a leaf after these leaves and hashes, of `count` leaves. `None`: nothing.
-fn cause_of_leaf(count: u64, shown: &[Leaf], hidden: &[[u8; 32]], leaf: &Leaf) -> Option<Cause>
-    ensures { result ≡ cause_of_leaf count shown.now hidden.now leaf.now }
-{
-    if leaf.place >= count || !hidden.is_empty() {
-        return Some(Cause::Shape);
-    }
-    if is_next(shown, leaf) {
-        None
-    } else {
-        Some(Cause::Order)
-    }
 }
 
 /// Returns whether the place and the digest of the leaf are above those of the last one, if there is one.
@@ -102,12 +82,9 @@ fn is_next(shown: &[Leaf], leaf: &Leaf) -> bool
 fn shown_line(alloc: Global, leaf: &Leaf) -> Result<Vec<u8>, Memory>
     ensures { IfOk result (λ line. line.items ≡ shown_line leaf.now) }
 {
-    let mut buffer = itoa::Buffer::new();
-    let mut line = Vec::from_slice(alloc, b"P ")?;
-    line.extend_from_slice(buffer.format(leaf.place).as_bytes())?;
-    line.push(b' ')?;
-    line.extend_from_slice(hex::encode(alloc, &leaf.digest)?.as_bytes())?;
-    Ok(line)
+    let place = leaf.place;
+    let digest = hex::encode(alloc, &leaf.digest)?;
+    Ok(format!(in alloc; "P {place} {digest}")?.into_bytes())
 }
 
 impl ModelFile for Proof {
@@ -140,9 +117,7 @@ impl ModelFile for Proof {
     fn put_line(alloc: Global, told: &mut Told, line: &[u8]) -> Result<(), LineFault> {
         match told {
             Told::Nothing => {
-                let Some(count) = count_in(line) else {
-                    return Err(LineFault::Here(Cause::Shape));
-                };
+                let count = count_in(line).ok_or(LineFault::Here(Cause::Shape))?;
                 *told = Told::Values(count, Vec::new(alloc), Vec::new(alloc));
                 Ok(())
             }
@@ -156,7 +131,12 @@ impl ModelFile for Proof {
 
     fn of_lines(name: Name, told: Told) -> Proof {
         match told {
-            Told::Values(count, shown, hidden) => Proof::from_parts(name, count, shown, hidden),
+            Told::Values(count, shown, hidden) => Proof {
+                log: name,
+                count,
+                shown,
+                hidden,
+            },
             Told::Nothing => unreachable!(),
         }
     }

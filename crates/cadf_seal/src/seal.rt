@@ -13,9 +13,9 @@ use std::marker::Model;
 /// A seal of an inventory: its log, how many digests it has, and the root of the tree over them.
 #[derive(Drop)]
 pub struct Seal {
-    log: Name,
-    count: u64,
-    root: [u8; 32],
+    pub(crate) log: Name,
+    pub(crate) count: u64,
+    pub(crate) root: [u8; 32],
 }
 
 impl Model for Seal {
@@ -37,14 +37,8 @@ impl Seal {
     {
         let log = inventory.log().copy(alloc)?;
         let count = inventory.digests().len() as u64;
-        Ok(Seal::from_parts(log, count, root_of(inventory)))
-    }
-
-    /// Makes the seal of these parts.
-    pub(crate) fn from_parts(log: Name, count: u64, root: [u8; 32]) -> Seal
-        ensures { result ≡ record { log = log; count = count; root = root } }
-    {
-        Seal { log, count, root }
+        let root = root_of(inventory);
+        Ok(Seal { log, count, root })
     }
 
     /// States the type invariant of a seal. Does nothing.

@@ -1,10 +1,9 @@
 //! The file of a seal.
 
-ghost use Rattle.std.specs.Prelude.{◌≡◌, IfOk, IfErr, refl};
-ghost use Rattle.cadf_linefile.specs.Answers.{CauseIs};
+ghost use Rattle.std.specs.Prelude.{◌≡◌, refl};
 ghost use Rattle.cadf_seal.specs.SealFile.{seal_lines, IsSeal};
-ghost use Rattle.cadf_seal.specs.SealVerdict.{seal_kind, cause_after, sealed_count, root_in};
-ghost use Rattle.cadf_seal.specs.SealLines.{told_lines, AreTold, IsMore};
+ghost use Rattle.cadf_seal.specs.SealVerdict.{seal_kind, sealed_count, root_in};
+ghost use Rattle.cadf_seal.specs.SealLines.{told_lines, AreTold};
 
 use crate::seal::Seal;
 use crate::seal_write::{count_line, digest_line};
@@ -37,25 +36,6 @@ fn root_in(line: &[u8]) -> Option<[u8; 32]>
     digest_of(line.strip_prefix(b"R ")?)
 }
 
-/// Decodes the next line after the log line.
-fn told_more(told: &Told, line: &[u8]) -> Result<Told, LineFault>
-    requires { AreTold told.now }
-    ensures ok { IfOk result (IsMore told.now line.now) }
-    ensures err { IfErr result (λ e. CauseIs e (cause_after (told_lines told.now) line.now)) }
-{
-    match told {
-        Told::Nothing => match count_in(line) {
-            Some(count) => Ok(Told::Count(count)),
-            None => Err(LineFault::Here(Cause::Shape)),
-        },
-        Told::Count(count) => match root_in(line) {
-            Some(root) => Ok(Told::Whole(*count, root)),
-            None => Err(LineFault::Here(Cause::Shape)),
-        },
-        Told::Whole(_, _) => Err(LineFault::Here(Cause::Shape)),
-    }
-}
-
 impl ModelFile for Seal {
     ghost kind = { seal_kind };
 
@@ -84,8 +64,19 @@ impl ModelFile for Seal {
     }
 
     fn put_line(_alloc: Global, told: &mut Told, line: &[u8]) -> Result<(), LineFault> {
-        *told = told_more(told, line)?;
-        Ok(())
+        match told {
+            Told::Nothing => {
+                let count = count_in(line).ok_or(LineFault::Here(Cause::Shape))?;
+                *told = Told::Count(count);
+                Ok(())
+            }
+            Told::Count(count) => {
+                let root = root_in(line).ok_or(LineFault::Here(Cause::Shape))?;
+                *told = Told::Whole(*count, root);
+                Ok(())
+            }
+            Told::Whole(_, _) => Err(LineFault::Here(Cause::Shape)),
+        }
     }
 
     fn is_whole(told: &Told) -> bool {
@@ -94,7 +85,11 @@ impl ModelFile for Seal {
 
     fn of_lines(name: Name, told: Told) -> Seal {
         match told {
-            Told::Whole(count, root) => Seal::from_parts(name, count, root),
+            Told::Whole(count, root) => Seal {
+                log: name,
+                count,
+                root,
+            },
             _ => unreachable!(),
         }
     }

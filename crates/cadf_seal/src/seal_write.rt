@@ -11,10 +11,7 @@ use std::alloc::Global;
 pub(crate) fn count_line(alloc: Global, count: u64) -> Result<Vec<u8>, Memory>
     ensures { IfOk result (λ line. line.items ≡ count_line count) }
 {
-    let mut buffer = itoa::Buffer::new();
-    let mut line = Vec::from_slice(alloc, b"N ")?;
-    line.extend_from_slice(buffer.format(count).as_bytes())?;
-    Ok(line)
+    Ok(format!(in alloc; "N {count}")?.into_bytes())
 }
 
 /// Makes a line of a digest, which begins with the mark.

@@ -1,7 +1,6 @@
 //! The leaves of a tree that facts need.
 ghost use Rattle.std.specs.Prelude.{◌≡◌, ◌++◌, ◌∷◌, [], None, IfOk, OnOk, if◌then◌else◌};
 ghost use Rattle.std.specs.Option.{option_copied};
-ghost use Rattle.cadf_join.specs.Sets.{rising};
 ghost use Rattle.cadf_seal.specs.Facts.{facts_left, AreAscending, facts_above};
 ghost use Rattle.cadf_seal.specs.ProofFile.{shown_for};
 ghost use Rattle.cadf_seal.specs.Shown.{needs};
@@ -17,15 +16,6 @@ use std::collections::btree_set::Iter;
 pub(crate) struct Facts<'a> {
     next: Option<&'a [u8; 32]>,
     rest: Iter<'a, [u8; 32]>,
-}
-
-/// Returns the facts of the inventory.
-fn facts_of(facts: &Inventory) -> Facts<'_>
-    ensures { facts_left result ≡ rising facts.now.digests }
-{
-    let mut rest = facts.digests();
-    let next = rest.next();
-    Facts { next, rest }
 }
 
 impl<'a> Facts<'a> {
@@ -77,7 +67,9 @@ pub(crate) fn shown_for(
 ) -> Result<Vec<Leaf>, Memory>
     ensures { IfOk result (λ shown. shown.items ≡ shown_for facts.now inventory.now) }
 {
-    let mut facts = facts_of(facts);
+    let mut rest = facts.digests();
+    let next = rest.next();
+    let mut facts = Facts { next, rest };
     let mut behind = inventory.digests();
     let _first = behind.next();
     let mut shown = Vec::new(alloc);

@@ -171,8 +171,5 @@ fn key_of<'a>(list: &[&'a str]) -> &'a str
 fn text_at<'a>(list: &[&'a str], place: usize) -> &'a str
     ensures { result.now ≡ get_or (texts_at list.now) place [] }
 {
-    match list.get(place) {
-        Some(text) => text,
-        None => "",
-    }
+    list.get(place).copied().unwrap_or("")
 }

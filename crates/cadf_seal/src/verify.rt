@@ -126,31 +126,13 @@ fn ahead(count: u64, shown: &[Leaf]) -> u64
     }
 }
 
-/// Returns whether two answers are the same.
-fn is_state(found: Option<bool>, wanted: Option<bool>) -> bool
-    ensures { result ≡ is_state found wanted }
-{
-    match (found, wanted) {
-        (None, None) => true,
-        (Some(a), Some(b)) => a == b,
-        _ => false,
-    }
-}
-
-/// Returns whether this is what the proof says of the digest.
-fn tells(proof: &Proof, digest: &[u8; 32], wanted: Option<bool>) -> bool
-    ensures { result ≡ is_state (state proof.now.count proof.now.shown digest.now) wanted }
-{
-    proof.type_invariant();
-    is_state(state(proof.count(), proof.shown(), digest), wanted)
-}
-
 /// Finds the first of the digests of which the proof tells this, counted from 1.
 fn first_with(wanted: Option<bool>, proof: &Proof, digests: &[[u8; 32]]) -> Option<u64>
     ensures { result ≡ first_with wanted proof.now digests.now }
 {
+    proof.type_invariant();
     for index in 0..digests.len() {
-        if tells(proof, &digests[index], wanted) {
+        if state(proof.count(), proof.shown(), &digests[index]) == wanted {
             return Some(index as u64 + 1);
         }
     }
@@ -236,20 +218,9 @@ fn refusal_of_root(seal: &Seal, proof: &Proof) -> Option<VerifyFault>
     if proof.count() != seal.count() {
         return Some(VerifyFault::OtherCount);
     }
-    if is_root(root_of_proof(proof), seal.root()) {
-        None
-    } else {
-        Some(VerifyFault::OtherRoot)
-    }
-}
-
-/// Returns whether the hash was found, and is the root.
-fn is_root(found: Option<[u8; 32]>, root: &[u8; 32]) -> bool
-    ensures { result ≡ is_root found root.now }
-{
-    match found {
-        Some(hash) => hash.as_slice() == root.as_slice(),
-        None => false,
+    match root_of_proof(proof) {
+        Some(root) if root == *seal.root() => None,
+        _ => Some(VerifyFault::OtherRoot),
     }
 }
 
@@ -267,22 +238,11 @@ fn refusal_of_facts(
         return Ok(Some(VerifyFault::NotShown(number)));
     }
     let other = first_with(Some(absent), proof, digests.as_slice());
-    let inventory = inventory_of(alloc, facts, digests)?;
+    let inventory = Inventory::of(alloc, facts.log().copy(alloc)?, digests)?;
     if let Some(line) = first_unneeded(proof.shown(), &inventory) {
         return Ok(Some(VerifyFault::NotNeeded(line)));
     }
     Ok(not_as_asked(absent, other))
-}
-
-/// Makes the inventory of the facts from their digests.
-fn inventory_of(alloc: Global, facts: &Replica, digests: Vec<[u8; 32]>) -> Result<Inventory, Memory>
-    requires atoms { digests.items ≡ map atom_digest (rising facts.now.atoms) }
-    requires each { AllByRecursion IsDigest digests.items }
-    ensures { IfOk result (λ own. own.digests ≡ digests_of atom_digest facts.now.atoms) }
-{
-    let log = facts.log().copy(alloc)?;
-    let own = Inventory::of(alloc, log, digests)?;
-    Ok(own)
 }
 
 /// Returns that the fact of this number, if there is one, isn't as asked.

@@ -1,19 +1,20 @@
 use Rattle.std.proofs.lemmas.Grind.{common_steps}
-use Rattle.std.proofs.Common.{arith}
-use Rattle.cadf_sketch.proofs.NumberLemmas.{cut_of, none_after}
+use Rattle.std.proofs.Common.{◌∙◌, arith}
+use Rattle.cadf_sketch.proofs.LineLemmas.{prefixed}
+use Rattle.cadf_seal.specs.ProofVerdict.{leaf_in_words}
 use Rattle.cadf_seal.proofs.ProofLineLemmas.{no_words, no_place, no_last, leaf_read}
-use Rattle.cadf_seal.proofs.proof_lines.leaf_in_words.Goals as goal
-
-pub returns-in_err-at : goal.returns-in_err-at
-returns-in_err-at c = grind (arith, common_steps, none_after, no_words)
+use Rattle.cadf_seal.proofs.proof_lines.shown_in.Goals as goal
 
 pub returns-in_err-place : goal.returns-in_err-place
-returns-in_err-place c = grind (arith, common_steps, cut_of, no_place)
+returns-in_err-place c = grind (arith, common_steps, no_words)
+
+pub returns-in_err-place-2 : goal.returns-in_err-place-2
+returns-in_err-place-2 c = grind (arith, common_steps, no_place)
 
 pub returns-in_err-digest : goal.returns-in_err-digest
-returns-in_err-digest c = grind (arith, common_steps, cut_of, no_last)
+returns-in_err-digest c = grind (arith, common_steps, no_last)
 
 pub returns : goal.returns
 returns c =
-    let p = cut_of c.args.words.now c.in_ok-at.at c.in_ok-at.ensures in
-    leaf_read c.args.words.now _ _ p.0 p.1 c.in_ok-place.place c.in_ok-digest.digest c.in_ok-place.ensures c.in_ok-digest.ensures
+    leaf_read _ _ _ c.in_ok-place.ensures.0 c.in_ok-place.ensures.1 _ _ c.in_ok-place-2.ensures c.in_ok-digest.ensures
+    ∙ prefixed leaf_in_words 80 32 c.args.line.now c.in_ok-words.words.now c.in_ok-words.ensures.cases.0 c.in_ok-words.ensures.cases.1

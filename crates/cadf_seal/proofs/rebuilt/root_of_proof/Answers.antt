@@ -3,7 +3,7 @@ use Rattle.std.proofs.Common.{◌∙◌, arith, sym, subst, ap}
 use Rattle.cadf_seal.specs.Shown.{rebuilt}
 use Rattle.cadf_seal.specs.Verified.{root_from, PlacesRise}
 use Rattle.cadf_seal.proofs.Sound.{places_rise}
-use Rattle.cadf_seal.proofs.Splitting.{root_without, root_with}
+use Rattle.cadf_seal.proofs.Splitting.{alone_if, root_without, root_with}
 use Rattle.cadf_seal.proofs.rebuilt.root_of_proof.Goals as goal
 
 pub returns-then-count-eq0 : goal.returns-then-count-eq0
@@ -14,13 +14,14 @@ rebuilt-requires-clause-rising c = subst PlacesRise (sym c.shown.ensures) (place
 
 pub returns : goal.returns
 returns c =
-    c.alone-2.ensures
-    ∙ ap root_from c.in_ok-all.ensures
+    c.then_some-2.ensures
+    ∙ alone_if _ _ _ c.is_empty-2.ensures
+    ∙ ap root_from c.in_ok-root.ensures
     ∙ (λ i. root_from (rebuilt 64 0 (c.count-2.ensures i) (c.shown.ensures i) (c.hidden-hashes.ensures i)))
     ∙ sym (root_with c.args.proof.now (omega (arith, c.count.ensures, c.if-count-eq0.false)) (omega (arith, c.type_invariant.ensures.parts.count)))
 
-pub returns-in_err-all : goal.returns-in_err-all
-returns-in_err-all c =
-    c.from_residual.ensures ∙ ap root_from c.in_err-all.ensures
+pub returns-in_err-root : goal.returns-in_err-root
+returns-in_err-root c =
+    c.from_residual.ensures ∙ ap root_from c.in_err-root.ensures
     ∙ (λ i. root_from (rebuilt 64 0 (c.count-2.ensures i) (c.shown.ensures i) (c.hidden-hashes.ensures i)))
     ∙ sym (root_with c.args.proof.now (omega (arith, c.count.ensures, c.if-count-eq0.false)) (omega (arith, c.type_invariant.ensures.parts.count)))

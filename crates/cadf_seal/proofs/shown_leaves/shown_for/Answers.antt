@@ -2,17 +2,18 @@ use Rattle.std.proofs.Common.{◌∙◌, ◌++◌, None, drop, length, sym, ap, 
 use Rattle.cadf_inventory.proofs.RisingLists.{rising_set}
 use Rattle.cadf_seal.specs.Facts.{facts_left, AreAscending}
 use Rattle.cadf_seal.specs.Shown.{first_leaf, needs, shown}
-use Rattle.cadf_seal.proofs.ShownLemmas.{shown_more, head_of, rest_of, tail_ascends, above_ascend}
+use Rattle.cadf_seal.proofs.ShownLemmas.{shown_more, head_of, rest_of, tail_ascends, above_ascend, next_left}
 use Rattle.cadf_seal.proofs.shown_leaves.shown_for.Goals as goal
 
 pub loop-leaf-init : goal.loop-leaf-init
 loop-leaf-init c =
-    let all = c.into_iter-leaf-iterator.ensures.into_iter_gives ∙ c.digests-leaf-items.ensures.digests in (
-      (λ i. c.new-shown.ensures.items i ++ shown None 0 (all i) (c.facts_of-facts.ensures i)),
+    let all = c.into_iter-leaf-iterator.ensures.into_iter_gives ∙ c.digests-leaf-items.ensures.digests in
+    let facts = next_left c.digests-rest.result c.next-next.new.self c.next-next.result c.next-next.ensures.steps ∙ c.digests-rest.ensures.digests in (
+      (λ i. c.new-shown.ensures.items i ++ shown None 0 (all i) (facts i)),
       rest_of c.digests-behind.result c.next-first.new.self c.next-first.result c.next-first.ensures.steps
           ∙ ap (drop 1) (c.digests-behind.ensures.digests ∙ sym all),
       subst AreAscending (sym all) (rising_set c.args.inventory.now.digests),
-      subst AreAscending (sym c.facts_of-facts.ensures) (rising_set c.args.facts.now.digests),
+      subst AreAscending (sym facts) (rising_set c.args.facts.now.digests),
       omega (arith, ap length all),
     )
 

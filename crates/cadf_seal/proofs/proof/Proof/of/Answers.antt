@@ -12,8 +12,8 @@ hidden_for-requires c =
     subst AreRising (sym (c.as_slice.ensures.value ∙ c.in_ok-shown.ensures))
     (shown_rise 0 None (rising leaves) (rising c.args.facts.now.digests) (rising_set leaves))
 
-pub from_parts-requires : goal.from_parts-requires
-from_parts-requires c =
+pub invariant_of-result : goal.invariant_of-result
+invariant_of-result c =
     let n = c.args.inventory.now in
     let count = ap length c.digests.ensures.digests in
     let log = c.in_ok-log.ensures ∙ c.log.ensures in

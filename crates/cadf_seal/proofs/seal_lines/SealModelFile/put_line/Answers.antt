@@ -1,5 +1,8 @@
+use Rattle.std.proofs.Common.{◌∙◌, sym}
 use Rattle.cadf_seal.proofs.SealLemmas.{count_told}
-use Rattle.cadf_seal.proofs.seal_lines.told_more.Goals as goal
+use Rattle.cadf_seal.proofs.seal_lines.SealModelFile.put_line.Goals as goal
 
-pub returns-in-Some-clause-ok : goal.returns-in-Some-clause-ok
-returns-in-Some-clause-ok c = rw c.in-Nothing.is (count_told c.args.line.now c.in-Some.count c.in-Some.ensures)
+pub returns-in_ok-count-in-Nothing-clause-ok : goal.returns-in_ok-count-in-Nothing-clause-ok
+returns-in_ok-count-in-Nothing-clause-ok c =
+    let found = c.in_ok-count-in-Nothing in
+    rw c.in-Nothing.is (count_told c.args.line.now found.count (sym found.ensures.ok_part ∙ c.count_in.ensures))

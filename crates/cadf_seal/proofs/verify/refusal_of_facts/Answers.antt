@@ -1,0 +1,10 @@
+use Rattle.std.proofs.lemmas.Grind.{common_steps}
+use Rattle.std.proofs.Common.{arith}
+use Rattle.cadf_line.proofs.SpelledLines.{noted_rising}
+use Rattle.cadf_seal.proofs.verify.refusal_of_facts.Goals as goal
+
+pub returns-in-Some-first_unneeded : goal.returns-in-Some-first_unneeded
+returns-in-Some-first_unneeded c = grind (arith, common_steps, noted_rising)
+
+pub returns : goal.returns
+returns c = grind (arith, common_steps, noted_rising)
