@@ -1,13 +1,13 @@
 //! A node of a tree of prefixes.
 ghost use Rattle.std.specs.Prelude.{◌≡◌, ◌++◌, [], ◌∷◌, ◌↔◌, OnOk, OnErr, IfOk, IsTrue, length, not, map};
 ghost use Rattle.cadf_join.specs.Sets as set;
-ghost use Rattle.cadf_join.specs.Contents.{IsBetween, IsWithin, under, suffixes_of};
+ghost use Rattle.cadf_join.specs.Contents.{IsBetween, IsWithin, under, suffixes_of, Contents};
 ghost use Rattle.std.specs.Option.{option_copied, option_map};
-ghost use Rattle.cadf_join.specs.Maps.{held};
+ghost use Rattle.cadf_join.specs.Maps.{held, map_of};
 ghost use Rattle.std.specs.List.{find};
-ghost use Rattle.cadf_join.specs.Prefixes.{chain_texts, all_texts, texts_found, continued, saturated, chains};
-ghost use Rattle.cadf_join.specs.Prefixes.{Follows, is_from};
+ghost use Rattle.cadf_join.specs.Prefixes.{chain_texts, all_texts, texts_found, continued, saturated, chains, Follows, is_from, chains_from, contents_code, height, IsTidy};
 ghost use Rattle.cadf_join.specs.Longest.{longest, longest_with, longer_than};
+ghost use Rattle.cadf_join.specs.laws.Prefixes.{children_are_shorter};
 
 use crate::Memory;
 use crate::prefix::copy_texts;
@@ -25,10 +25,6 @@ pub struct Node {
 }
 
 impl Model for Node {
-    ghost use Rattle.cadf_join.specs.Contents.{Contents};
-    ghost use Rattle.cadf_join.specs.Maps.{map_of};
-    ghost use Rattle.cadf_join.specs.Prefixes.{chains_from, contents_code, height, IsTidy};
-
     ghost Value = { Contents };
 
     ghost coded = { contents_code };
@@ -38,8 +34,6 @@ impl Model for Node {
     ghost invariant = { λ n. IsTidy n.next.entries };
 
     ghost size = { height };
-
-    ghost use Rattle.cadf_join.specs.laws.Prefixes.{children_are_shorter};
 
     ghost size_decreases = { λ a h. children_are_shorter a.ends a.next.entries h };
 }

@@ -1,11 +1,10 @@
 //! A map from texts to values of `Join`.
-ghost use Rattle.std.specs.Prelude.{◌≡◌, OnOk, OnErr, IfSome, IsSome};
+ghost use Rattle.std.specs.Prelude.{◌≡◌, OnOk, OnErr, IfSome, IsSome, IfOk, IsTrue, ◌↔◌, Some, None, Ok, true, false};
 ghost use Rattle.std.specs.Option.{option_copied};
 ghost use Rattle.std.specs.FinMap as fin;
-ghost use Rattle.std.specs.Prelude.{IfOk, IsTrue, ◌↔◌, Some, None, Ok, true, false};
 ghost use Rattle.cadf_join.specs.Sets as set;
 ghost use Rattle.cadf_join.specs.Contents.{Text, IsBetween, under, suffixes_of, next_after};
-ghost use Rattle.cadf_join.specs.Maps.{contents_at, held, heads, HasKeyed, NoneIsEmpty};
+ghost use Rattle.cadf_join.specs.Maps.{contents_at, held, heads, HasKeyed, NoneIsEmpty, MapValue, map_code, map_of};
 ghost use Rattle.cadf_join.specs.laws.Maps.{joined_keyed, Puts, PartMissing};
 
 use crate::prefix::copy_with_text;
@@ -24,8 +23,6 @@ pub struct JoinMap<V: Join> {
 }
 
 impl<V: Join> Model for JoinMap<V> {
-    ghost use Rattle.cadf_join.specs.Maps.{MapValue, map_code, map_of, NoneIsEmpty};
-
     ghost Value = { MapValue V };
 
     ghost coded = { map_code V.code };

@@ -1,8 +1,8 @@
 //! A set of texts.
-ghost use Rattle.std.specs.Prelude.{◌≡◌, OnOk, OnErr, IfOk, not};
+ghost use Rattle.std.specs.Prelude.{◌≡◌, OnOk, OnErr, IfOk, not, map, string_bytes};
 ghost use Rattle.cadf_join.specs.Sets as set;
 ghost use Rattle.std.specs.Option.{option_copied};
-ghost use Rattle.cadf_join.specs.Contents.{text_cmp, singles, HasSingles, next_after, is_after};
+ghost use Rattle.cadf_join.specs.Contents.{text_cmp, singles, HasSingles, next_after, is_after, TextSetValue, text_set_code};
 ghost use Rattle.cadf_join.specs.laws.Contents.{singles_are_single};
 
 use crate::prefix::copy_with_text;
@@ -19,10 +19,6 @@ pub struct TextSet {
 }
 
 impl Model for TextSet {
-    ghost use Rattle.std.specs.Prelude.{map, string_bytes};
-    ghost use Rattle.cadf_join.specs.Sets as set;
-    ghost use Rattle.cadf_join.specs.Contents.{TextSetValue, text_set_code};
-
     ghost Value = { TextSetValue };
 
     ghost coded = { text_set_code };

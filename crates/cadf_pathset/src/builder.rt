@@ -1,8 +1,11 @@
 //! Builds a set from lists in any order.
 ghost use Rattle.std.specs.Prelude.{◌≡◌, [], OnOk, OnErr, IfOk};
 ghost use Rattle.cadf_join.specs.Sets as set;
-ghost use Rattle.cadf_join.specs.Prefixes.{texts_at};
+ghost use Rattle.cadf_join.specs.Prefixes.{texts_at, contents_code};
 ghost use Rattle.cadf_pathset.specs.Nodes.{Agree};
+ghost use Rattle.std.specs.Coded.{coded_ℕ, coded_list, coded×};
+ghost use Rattle.cadf_join.specs.Contents.{Contents, Texts};
+ghost use Rattle.cadf_pathset.specs.Lists.{last_of};
 
 use crate::Memory;
 use crate::path_set::PathSet;
@@ -17,13 +20,6 @@ pub struct PathSetBuilder {
 }
 
 impl Model for PathSetBuilder {
-    ghost use Rattle.std.specs.Prelude.{[]};
-    ghost use Rattle.std.specs.Coded.{coded_ℕ, coded_list, coded×};
-    ghost use Rattle.cadf_join.specs.Contents.{Contents, Texts};
-    ghost use Rattle.cadf_join.specs.Prefixes.{contents_code};
-    ghost use Rattle.cadf_join.specs.Sets as set;
-    ghost use Rattle.cadf_pathset.specs.Lists.{last_of};
-
     // The set of the lists, and the list appended last.
     ghost Value = { Contents × Texts };
 

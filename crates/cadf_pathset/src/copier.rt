@@ -1,8 +1,10 @@
 //! Copies some of the lists that a cursor visits.
-ghost use Rattle.std.specs.Prelude.{◌≡◌, ◌≤◌, ◌++◌, [], ◌∷◌, OnOk, IfOk, cond, length, take};
+ghost use Rattle.std.specs.Prelude.{◌≡◌, ◌≤◌, ◌++◌, [], ◌∷◌, OnOk, IfOk, cond, length, take, List};
 ghost use Rattle.cadf_join.specs.Prefixes.{texts_at};
-ghost use Rattle.cadf_pathset.specs.Lists.{chosen_of, is_above_last};
-ghost use Rattle.cadf_pathset.specs.Walks.{Advances};
+ghost use Rattle.cadf_pathset.specs.Lists.{chosen_of, is_above_last, last_of};
+ghost use Rattle.cadf_pathset.specs.Walks.{Advances, Place};
+ghost use Rattle.cadf_join.specs.Contents.{Texts};
+ghost use Rattle.cadf_pathset.specs.Nodes.{Agree};
 
 use crate::Memory;
 use crate::cursor::Cursor;
@@ -21,12 +23,6 @@ pub(crate) struct Copier<'a> {
 }
 
 impl<'a> Model for Copier<'a> {
-    ghost use Rattle.std.specs.Prelude.{List, []};
-    ghost use Rattle.cadf_join.specs.Contents.{Texts};
-    ghost use Rattle.cadf_pathset.specs.Lists.{last_of};
-    ghost use Rattle.cadf_pathset.specs.Nodes.{Agree};
-    ghost use Rattle.cadf_pathset.specs.Walks.{Place};
-
     ghost Value = { Place × List Texts };
 
     ghost view = { λ c. (c.cursor, c.copies) };

@@ -3,7 +3,7 @@ ghost use Rattle.std.specs.Prelude.{◌≡◌, ◌≤◌, [], OnOk, IfOk, length
 ghost use Rattle.cadf_join.specs.Contents.{texts_cmp};
 ghost use Rattle.cadf_join.specs.Prefixes.{texts_at};
 ghost use Rattle.cadf_pathset.specs.Nodes.{Agree, AreThere, IsLine, list_at, lists_at, shared};
-ghost use Rattle.cadf_pathset.specs.Walks.{Advances};
+ghost use Rattle.cadf_pathset.specs.Walks.{Advances, Place};
 
 use crate::Memory;
 use crate::lines::{cmp_from, follow};
@@ -23,11 +23,6 @@ pub struct Cursor<'a> {
 }
 
 impl<'a> Model for Cursor<'a> {
-    ghost use Rattle.std.specs.Prelude.{◌≡◌};
-    ghost use Rattle.cadf_join.specs.Prefixes.{texts_at};
-    ghost use Rattle.cadf_pathset.specs.Walks.{Place};
-    ghost use Rattle.cadf_pathset.specs.Nodes.{AreThere, IsLine, lists_at};
-
     ghost Value = { Place };
 
     ghost view = { λ c. (texts_at c.path.items, lists_at c.nodes.now c.numbers.now) };

@@ -1,9 +1,10 @@
 //! An arena of nodes, each of which adds one text to the list of its parent.
-ghost use Rattle.std.specs.Prelude.{◌≡◌, ◌<◌, ◌≤◌, ◌+◌, ◌++◌, [], ◌∷◌, ℕ, OnOk, OnErr, IfOk, length, take, drop};
+ghost use Rattle.std.specs.Prelude.{◌≡◌, ◌<◌, ◌≤◌, ◌+◌, ◌++◌, [], ◌∷◌, ℕ, OnOk, OnErr, IfOk, length, take, drop, List};
 ghost use Rattle.std.specs.Option.{option_copied};
 ghost use Rattle.cadf_join.specs.Prefixes.{chain_texts};
 ghost use Rattle.cadf_pathset.specs.Lists.{first_text};
-ghost use Rattle.cadf_pathset.specs.Nodes.{Agree, last_text, list_at, rest_of};
+ghost use Rattle.cadf_pathset.specs.Nodes.{Agree, last_text, list_at, rest_of, AreNodes, lists};
+ghost use Rattle.cadf_join.specs.Contents.{Texts};
 
 use crate::Memory;
 use crate::pool::Pool;
@@ -19,10 +20,6 @@ pub struct Nodes {
 }
 
 impl Model for Nodes {
-    ghost use Rattle.std.specs.Prelude.{◌≡◌, List, length};
-    ghost use Rattle.cadf_join.specs.Contents.{Texts};
-    ghost use Rattle.cadf_pathset.specs.Nodes.{AreNodes, lists};
-
     ghost Value = { List Texts };
 
     ghost view = { λ n. lists n.parents.items n.texts };

@@ -1,15 +1,14 @@
 //! A vector of lists of texts that share the storage of common prefixes.
-ghost use Rattle.std.specs.Prelude.{◌≡◌, ◌≤◌, ◌+◌, ◌<◌, ◌^◌, ◌++◌, [], ◌∷◌, ◌↔◌, OnOk, OnErr, IfErr, IfOk, IsTrue, None, Some, true, false};
-ghost use Rattle.std.specs.Prelude.{length, take, drop, get_or, map, slice_get};
+ghost use Rattle.std.specs.Prelude.{◌≡◌, ◌≤◌, ◌+◌, ◌<◌, ◌^◌, ◌++◌, [], ◌∷◌, ◌↔◌, OnOk, OnErr, IfErr, IfOk, IsTrue, None, Some, true, false, length, take, drop, get_or, map, slice_get, List};
 ghost use Rattle.std.specs.List.{AllByRecursion, cons_option};
 ghost use Rattle.std.specs.declared.cmp.Ordering.TheVariants.{Less};
 ghost use Rattle.std.specs.List.Sorted.{IsStrictlySortedBy};
 ghost use Rattle.std.specs.Option.{option_copied, option_map};
 ghost use Rattle.std.specs.Ordering.{is_lt};
-ghost use Rattle.cadf_join.specs.Contents.{is_after, texts_cmp};
+ghost use Rattle.cadf_join.specs.Contents.{is_after, texts_cmp, Texts};
 ghost use Rattle.cadf_join.specs.Prefixes.{chain_texts, texts_at};
 ghost use Rattle.cadf_pathset.specs.Lists.{at_places, last_of, last_starts_with, is_above_last};
-ghost use Rattle.cadf_pathset.specs.Nodes.{Agree, AreThere, lists_at, shared};
+ghost use Rattle.cadf_pathset.specs.Nodes.{Agree, AreThere, lists_at, shared, IsLine, place};
 ghost use Rattle.cadf_join.specs.Sets as set;
 ghost use Rattle.cadf_pathset.specs.Merge.{sorted_merge};
 
@@ -39,10 +38,6 @@ pub struct PathVec {
 }
 
 impl Model for PathVec {
-    ghost use Rattle.std.specs.Prelude.{List};
-    ghost use Rattle.cadf_join.specs.Contents.{Texts};
-    ghost use Rattle.cadf_pathset.specs.Nodes.{AreThere, IsLine, lists_at, place};
-
     ghost Value = { List Texts };
 
     ghost view = { λ v. lists_at v.nodes v.numbers.items };

@@ -1,5 +1,7 @@
 //! Texts in one block of bytes, in the order in which they were appended.
-ghost use Rattle.std.specs.Prelude.{◌≡◌, ◌<◌, ◌≤◌, ◌++◌, [], ◌∷◌, OnOk, OnErr, length, take, get_or};
+ghost use Rattle.std.specs.Prelude.{◌≡◌, ◌<◌, ◌≤◌, ◌++◌, [], ◌∷◌, OnOk, OnErr, length, take, get_or, string_bytes};
+ghost use Rattle.cadf_join.specs.Contents.{Texts};
+ghost use Rattle.cadf_pathset.specs.Block.{AreEnds, texts_from};
 
 use crate::Memory;
 use std::alloc::Global;
@@ -13,10 +15,6 @@ pub(crate) struct Pool {
 }
 
 impl Model for Pool {
-    ghost use Rattle.std.specs.Prelude.{string_bytes};
-    ghost use Rattle.cadf_join.specs.Contents.{Texts};
-    ghost use Rattle.cadf_pathset.specs.Block.{AreEnds, texts_from};
-
     ghost Value = { Texts };
 
     ghost view = { λ p. texts_from 0 p.ends.items (string_bytes p.block) };
