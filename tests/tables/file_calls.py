@@ -16,7 +16,6 @@ from tests.tables.texts import (
 CALLS = {
     "read": ["read_replica", "read_file", "LineDecoder::start", "LineDecoder::new", "LineDecoder::accept", "LineDecoder::cause_of_previous",
              "next_path_kind"],
-    "read_beside": ["read_replica_beside"],
     "each_failing_read": ["read_replica"],
     "each_prefix": ["read_replica"],
     "each_bit": ["read_replica"],
@@ -365,18 +364,6 @@ for text in (X, X_2):
     ROWS.append(("each_prefix", [LIMIT, 7, 0, text], refused("Truncated") + [len(text)], REFUSAL))
 for text in (CHAINED, CHAINED_2):
     ROWS.append(("each_bit", [*WHOLE, text], ["ok", 8 * len(text)], REFUSAL))
-
-# Files that are read beside a replica that is held: it has all atoms of the sets, some of them, or none.
-EVERY = sorted({atom for atoms, _ in SETS for atom in atoms}, key=lambda atom: [text.encode() for text in json.loads(atom)])
-HELD = replica(*EVERY)
-for atoms, nodes in SETS:
-    for held in (HELD, X, CHAINED, NOTHING, ""):
-        ROWS.append(("read_beside", [LIMIT, 7, 0, held, replica(*atoms)], read(atoms), ONE))
-        ROWS.append(("read_beside", [LIMIT, 7, 0, held, tree(*nodes)], read(atoms), TWO))
-for held in (X, CHAINED, NOTHING):
-    ROWS.append(("read_beside", [*WHOLE, held, HELD], read(EVERY), ONE))
-for text, fault in DAMAGED:
-    ROWS.append(("read_beside", [*WHOLE, HELD, text], refused(fault), REFUSAL))
 
 # Readers that fail: what was read before decides, or else the failed read does. A byte is read at a time.
 TWICE, LETTER_TWICE = one(C1, C1), two(E, E)

@@ -11,7 +11,6 @@
 --     Agree n a b                                   both lists have n texts or more, and the same first n
 --     IsClimb ls up l d                             the nodes up have as lists l, l without its last text, .. down to d + 1 texts
 --     shared a b                                    the length of the longest common prefix of two lists
---     IsComparison ls i l found                     the order of the list at the index i and of l, and a number of first texts that agree
 use Rattle.std.specs.Prelude.{◌≡◌, ℕ, ◌+◌, ◌-◌, ◌<◌, ◌≤◌, List, [], ◌∷◌, ◌++◌, length, take, drop, get_or, map, Option, Some, None}
 use Rattle.std.specs.List.{AllByRecursion}
 use Rattle.std.specs.declared.cmp.Ordering.{Ordering}
@@ -77,7 +76,3 @@ abbrev pub shared : Texts → Texts → ℕ
 shared [] b = 0
 shared (t ∷ a) [] = 0
 shared (t ∷ a) (u ∷ b) = match_ordering (text_cmp t u) 0 (shared a b + 1) 0
-
-abbrev pub IsComparison : List Texts → ℕ → Texts → Option (Ordering × ℕ) → Type 0
-IsComparison ls i l None = length ls ≤ i
-IsComparison ls i l (Some found) = (i < length ls) × ((found.0 ≡ texts_cmp (get_or ls i []) l) × Agree found.1 (get_or ls i []) l)

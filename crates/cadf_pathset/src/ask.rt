@@ -9,12 +9,10 @@ ghost use Rattle.cadf_join.specs.Maps.{heads};
 ghost use Rattle.cadf_join.specs.Prefixes.{chain_texts, saturated, texts_at, texts_found};
 ghost use Rattle.cadf_join.specs.MultiValued.{multi_valued_keys};
 ghost use Rattle.cadf_pathset.specs.Lists.{last_starts_with, strip};
-ghost use Rattle.cadf_pathset.specs.Nodes.{IsComparison};
 ghost use Rattle.cadf_pathset.specs.Sections.{suffixes_after};
 
 use crate::Memory;
 use crate::path_set::{PathSet, continued};
-use std::cmp::Ordering;
 
 impl PathSet {
     /// Returns whether the list is a member.
@@ -22,17 +20,6 @@ impl PathSet {
         ensures { result ≡ set.contains self.now (chain_texts list.now) }
     {
         self.rows.seek(list).is_ok()
-    }
-
-    /// Compares the list at that index, in order, with another. Returns the order, and a number of first texts that
-    /// both share. `None` if there are no more lists.
-    pub fn cmp_at(&self, number: usize, list: &[&str]) -> Option<(Ordering, usize)>
-        ensures { IsComparison (set.rising self.now) number (texts_at list.now) result }
-    {
-        if number >= self.rows.count() {
-            return None;
-        }
-        Some(self.rows.cmp_at(number, list, 0))
     }
 
     /// Returns whether the last of the lists in order begins with the prefix. Compares with that list alone.

@@ -41,7 +41,7 @@ pub fn run_missing_by<R: Source, W: Sink>(
     ensures { IsRun (two input_spec (transition_of R.Source from.old from.new) inventory_spec (transition_of R.Source inventory.old inventory.new))
         part_by written_file W.Sink output.old output.new result }
 {
-    let first = next(alloc, JoinState::new(alloc, None), 1, from, None)?;
+    let first = next(alloc, JoinState::new(alloc, None), 1, from)?;
     let noted = load_inventory(alloc, 2, inventory)?;
     write_result(alloc, part(2, first, &noted), output)
 }
@@ -60,7 +60,7 @@ pub fn run_missing_by_union<R: Source, W: Sink>(
         part_by_union written_file W.Sink output.old output.new result }
 {
     let number = from.len() + 1;
-    let union = union_with(alloc, JoinState::new(alloc, None), 1, from, None)?;
+    let union = union_with(alloc, JoinState::new(alloc, None), 1, from)?;
     let noted = load_inventory(alloc, number, inventory)?;
     write_result(alloc, part(number, union, &noted), output)
 }

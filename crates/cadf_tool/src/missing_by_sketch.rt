@@ -48,7 +48,7 @@ pub fn run_missing_by_sketch<R: Source, W: Sink>(
     ensures { IsRunBy (two input_spec (transition_of R.Source from.old from.new) sketch_spec (transition_of R.Source sketch.old sketch.new))
         IsPartBySketch written_file W.Sink output.old output.new result }
 {
-    let first = next(alloc, JoinState::new(alloc, None), 1, from, None)?;
+    let first = next(alloc, JoinState::new(alloc, None), 1, from)?;
     let read = load_model(alloc, 2, sketch)?;
     write_result(alloc, part(alloc, 2, first, &read), output)
 }
@@ -67,7 +67,7 @@ pub fn run_missing_by_sketch_union<R: Source, W: Sink>(
         IsPartOfUnionBySketch written_file W.Sink output.old output.new result }
 {
     let number = from.len() + 1;
-    let union = union_with(alloc, JoinState::new(alloc, None), 1, from, None)?;
+    let union = union_with(alloc, JoinState::new(alloc, None), 1, from)?;
     let read = load_model(alloc, number, sketch)?;
     write_result(alloc, part(alloc, number, union, &read), output)
 }

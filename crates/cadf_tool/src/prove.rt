@@ -51,8 +51,8 @@ pub fn run_prove<R: Source, W: Sink>(
     ensures { IsRun (both (one input_spec (transition_of R.Source facts.old facts.new)) (all_from 2 R.Source inputs.old inputs.new))
         proof_of_union proof_file W.Sink output.old output.new result }
 {
-    let asked = load_one(alloc, 1, facts, None)?;
-    let union = union_with(alloc, JoinState::new(alloc, None), 2, inputs, None)?;
+    let asked = load_one(alloc, 1, facts)?;
+    let union = union_with(alloc, JoinState::new(alloc, None), 2, inputs)?;
     let proof = proof_by(alloc, union, asked)?;
     answered(write_model(alloc, &proof, output))
 }

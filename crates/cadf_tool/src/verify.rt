@@ -51,7 +51,7 @@ pub fn run_verify<R: Source, W: Sink>(
     ensures memory { result ≡ Err ToolFault.Memory → output.new ≡ output.old }
 {
     let seal = load_model(alloc, 1, seal)?;
-    let loaded = load_one(alloc, 2, facts, None)?;
+    let loaded = load_one(alloc, 2, facts)?;
     let proof = load_model(alloc, 3, proof)?;
     let lines = verdict(alloc, absent, &seal, loaded, &proof)?;
     match lines.write(output) {

@@ -13,7 +13,7 @@ use std::alloc::Global;
 fn fed(feed: &mut ReplicaFeed, piece: &[u8]) -> Result<(), FileFault>
     ensures { OnOk result (feed.new.refused ≡ None) }
 {
-    feed.feed(None, piece)
+    feed.feed(piece)
 }
 
 /// Adds an answer after others.
@@ -62,7 +62,7 @@ fn read_after(
 ) -> Result<Replica, FileFault> {
     let mut feed = ReplicaFeed::new(alloc, reading.limit);
     match fed(&mut feed, start) {
-        Ok(()) => read_rest(feed, None, &mut reading.source(rest)),
+        Ok(()) => read_rest(feed, &mut reading.source(rest)),
         Err(fault) => Err(fault),
     }
 }

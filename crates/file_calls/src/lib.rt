@@ -21,7 +21,6 @@ use std::alloc::Global;
 pub fn answered(alloc: Global, call: &Call) -> Result<String, Memory> {
     match call.name() {
         "read" => reads::read(alloc, call),
-        "read_beside" => reads::read_beside(alloc, call),
         "each_failing_read" => sweeps::each_failing_read(alloc, call),
         "each_prefix" => sweeps::each_prefix(alloc, call),
         "each_bit" => sweeps::each_bit(alloc, call),

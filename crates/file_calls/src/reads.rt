@@ -1,7 +1,7 @@
 //! Replica files that are read.
 
 use crate::replicas::shown;
-use cadf_file::{FileFault, read_replica, read_replica_beside};
+use cadf_file::{FileFault, read_replica};
 use cadf_json::Memory;
 use cadf_replica::Replica;
 use calls::{Call, MemorySource, refused};
@@ -53,17 +53,4 @@ pub(crate) fn read_answer(
 /// Answers `read`: a reading and a file.
 pub(crate) fn read(alloc: Global, call: &Call) -> Result<String, Memory> {
     read_answer(alloc, read_in(alloc, Reading::of(call), call.bytes(4)))
-}
-
-/// Answers `read_beside`: a reading, a file whose replica is held if it is accepted, and the file that is read.
-pub(crate) fn read_beside(alloc: Global, call: &Call) -> Result<String, Memory> {
-    let reading = Reading::of(call);
-    let held = read_in(alloc, reading, call.bytes(4)).ok();
-    let read = read_replica_beside(
-        alloc,
-        &mut reading.source(call.bytes(5)),
-        reading.limit,
-        held.as_ref(),
-    );
-    read_answer(alloc, read)
 }
