@@ -240,7 +240,3 @@ module _ {V : Type 0} (items : V → List ℕ) (t : List ℕ) (o : Option V) (al
   counts_size v e =
       let n = numbers-only 64 t (items v) (sym all ∙ ap (option_map items) e) in
       ap length n.all ∙ ap suc n.size
-
-pub cell_other : (l : List ℕ) → if_spelled l (decode_sized l 40) ≡ None → None ≡ cell_in l
-unfolding cell_in
-cell_other l e = ap (option_map cell_of_bytes) (sym e)

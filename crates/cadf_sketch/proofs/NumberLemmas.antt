@@ -233,7 +233,3 @@ module _ (xs : List ℕ) (count len : ℕ) (rest word after : List ℕ) (more : 
 
 pub blank_missing : (xs : List ℕ) (count len : ℕ) (rest : List ℕ) → len < count → words_after rest ≡ [] → put_all xs (numbers_in (count - len) rest) ≡ None
 blank_missing xs count len rest more none = search (rules, numbers_uncut)
-
-module _ (xs : List ℕ) (count len : ℕ) (rest : List ℕ) (most : len ≤ count) (all : count ≤ len) where
-  done : count - len ≡ 0
-  done = omega (arith, all)

@@ -1,6 +1,5 @@
 -- The lines of a sketch, by their places, and the line of its counts.
-use Rattle.std.proofs.Common.{◌≡◌, ◌∙◌, ◌-◌, ◌<◌, ◌≤◌, ℕ, suc, List, [], ◌∷◌, length, map, get_or, sym, ap, arith}
-use Rattle.std.specs.Prelude.{decimal, flat_map}
+use Rattle.std.proofs.Common.{◌≡◌, ◌∙◌, ◌-◌, ◌<◌, ◌≤◌, ℕ, suc, [], length, map, get_or, sym, ap, arith}
 use Rattle.std.proofs.lemmas.List.{get_or-map, length-map}
 use Rattle.cadf_sketch.specs.SketchFile.{cell_line, cell_lines}
 use Rattle.cadf_sketch.specs.Sketches.{SketchModel}
@@ -14,8 +13,3 @@ cell_there s place none after there =
     let all : place < suc (suc (length (map cell_line s.cells))) = there in
     let within : place - 2 < length s.cells = omega (arith, after, all, length-map s.cells cell_line) in
     sym (get_or-map cell_line s.cells (place - 2) none [] within) ∙ ap (λ i. get_or (cell_lines s) i []) at
-
--- ---- the line of the counts
-
-abbrev after : List ℕ → List ℕ
-after ns = flat_map (λ m. 32 ∷ decimal m) ns
