@@ -12,9 +12,10 @@ The pages are README, CONTRIBUTING, docs/*.md, the manual page and the README of
 - Each command that the page shows is run by somebody: the lines `$ command` by `tests/docs/test_shown.py`. A command of
   a block ```sh is a script of the repository, or a line of tests/docs/elsewhere names the script that runs it.
 
-README has at most 200 lines of at most 120 characters. docs/ARCHITECTURE.md has the picture of the crates that
-crates.txt makes, and its layers have each crate of the product once, with none that it depends on above it. Each link of every Markdown file into the repository leads to a file, and to a heading of it. Before
-all this the script refuses wrong pages of its own, one for each fault.
+README has at most 200 lines. Lines have at most 120 characters, those of other pages than README but for tables and
+code. docs/ARCHITECTURE.md has the picture of the crates that crates.txt makes, and its layers have each crate of the
+product once, with none that it depends on above it. Each link of every Markdown file into the repository leads to a
+file, and to a heading of it. Before all this the script refuses wrong pages of its own, one for each fault.
 """
 import os
 import re
@@ -27,7 +28,7 @@ from tests import TOP, text_of, tracked
 from tests.docs import shown
 
 MOST_WORDS = 60
-MOST_README = (200, 120)  # lines, and characters of a line
+MOST_LINES, WIDTH = 200, 120  # of README; of a line
 PAGES = re.compile(r"(README|CONTRIBUTING|docs/\w+|examples/vectors/README)\.md|share/man/man1/cadf\.1")
 PROGRAMS = re.compile(r"(?:tools|share/cadf)/.*")
 LINK = re.compile(r"\]\(([^)#\s]*)(?:#([^)\s]*))?\)")
@@ -186,11 +187,17 @@ def stale_commands(names):
             yield "tests/docs/elsewhere: %s is no step of the gate, and CONTRIBUTING doesn't have it on demand" % script
 
 
-def long_readme(name, text):
-    """A line for a README that is too long or too wide."""
-    found = len(text.splitlines()), max(map(len, text.splitlines()))
-    if name == "README.md" and any(each > most for each, most in zip(found, MOST_README)):
-        yield "%s: %d lines of at most %d characters: it may have %d of %d" % (name, *found, *MOST_README)
+def long_or_wide(name, text):
+    """A line for a README that is too long, and for each line that is too wide: of another page than README no code and no row."""
+    lines, in_code = text.splitlines(), False
+    if name == "README.md" and len(lines) > MOST_LINES:
+        yield "%s: %d lines: it may have %d" % (name, len(lines), MOST_LINES)
+    for number, line in enumerate(lines if name.endswith(".md") and PAGES.fullmatch(name) else [], 1):
+        is_fence = line.lstrip().startswith("```")
+        is_apart = in_code or is_fence or line.startswith(("    ", "|"))
+        in_code ^= is_fence
+        if len(line) > WIDTH and (name == "README.md" or not is_apart):
+            yield "%s:%d: %d characters: it may have %d" % (name, number, len(line), WIDTH)
 
 
 def dependencies():
@@ -249,7 +256,7 @@ def wrong_layers(name, text):
             yield "%s: %s is above %s, which depends on it" % (name, other, crate)
 
 
-FAULTS = (long_sentences, phrases, dead_links, idle_commands, wrong_picture, wrong_layers, long_readme)
+FAULTS = (long_sentences, phrases, dead_links, idle_commands, wrong_picture, wrong_layers, long_or_wide)
 LONG = " ".join(["word"] * MOST_WORDS)
 BOXES = "docs/ARCHITECTURE.md"
 PRODUCT = [name for name in crates_of(TOP) if name.startswith("cadf")]  # each after those that it depends on
@@ -272,6 +279,7 @@ TRIALS = [
     (BOXES, RIGHT.replace("| cadf_words |", "| |").replace("+--+", "+--+\n| cadf_words |\n+--+", 1), (0, 0, 0, 0, 0, 1, 0)),
     ("README.md", "x\n\n" * 101, (0, 0, 0, 0, 0, 0, 1)),
     ("README.md", "    " + "x" * 117 + "\n", (0, 0, 0, 0, 0, 0, 1)),
+    ("docs/WIDE.md", "%s\n\n    %s\n\n| %s |\n\n```\n%s\n```\n" % (("x" * 121,) * 4), (0, 0, 0, 0, 0, 0, 1)),
 ]
 
 
