@@ -178,7 +178,8 @@ impl<'v> View<'v> {
     }
 
     /// Encodes the canonical text of an object without the members of these names, and with this text at that name if
-    /// the object has it. Anything else counts as an object without members. `Memory` if an allocation fails.
+    /// the object has it. Anything else counts as an object without members. `Memory` if an allocation fails. The text
+    /// may have room to spare: whoever keeps it gives that back.
     pub fn rewritten_text(
         &self,
         alloc: Global,
@@ -193,9 +194,7 @@ impl<'v> View<'v> {
         let mut out = Vec::with_capacity(alloc, self.room())?;
         out.push(b'{')?;
         push_members(alloc, &mut out, self.members(), left_out, name, text)?;
-        let mut text = unsafe { String::from_utf8_unchecked(out) };
-        text.shrink_to_fit();
-        Ok(text)
+        Ok(unsafe { String::from_utf8_unchecked(out) })
     }
 
     /// Estimates how many bytes the text has, up to a kilobyte: a short text is then encoded without growing.

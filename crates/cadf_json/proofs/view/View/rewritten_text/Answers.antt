@@ -8,8 +8,8 @@ use Rattle.cadf_json.proofs.TextBytes.{text_utf8}
 use Rattle.cadf_json.proofs.Walking.{are_members_in}
 use Rattle.cadf_json.proofs.view.View.rewritten_text.Goals as goal
 
-pub from_utf8_unchecked-text-requires : goal.from_utf8_unchecked-text-requires
-from_utf8_unchecked-text-requires c =
+pub from_utf8_unchecked-requires : goal.from_utf8_unchecked-requires
+from_utf8_unchecked-requires c =
     let names = texts_of c.args.left_out.now in
     let own = subst AreMembers (sym c.members.ensures.members) (are_members_in c.args.self.now c.type_invariant.ensures) in
     let kept = AreMembers-without names c.members.result own in
