@@ -103,7 +103,7 @@ fn put_parts(alloc: Global, ours: &mut Replica, atom: &Atom) -> Result<String, M
 
 /// Answers whether the atom was appended, or why not, and the replica after it.
 fn push_if_last(alloc: Global, ours: &mut Replica, atom: &Atom) -> Result<String, Memory> {
-    match ours.push_if_last(atom.parts()) {
+    match ours.push_if_last(atom.parts(), 0) {
         Ok(true) => told::replica(alloc, ours),
         Ok(false) => answer(alloc, "not above", &[]),
         Err(fault) => told::kept(alloc, fault, ours),
