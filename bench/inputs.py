@@ -174,6 +174,8 @@ def line_after_blank(numbers):
 
 TINY = 12  # bytes of memory a byte of tiny objects and fractions
 SHORT = 25  # of short names
+LINE = 12  # of a refused line: the line is read as a value
+NESTED_LINE = 15  # of one whose nodes are also copied in order
 TWO_BLOCKS = 38  # bytes of a member by which the line of a tag ends in a second block of SHA-256
 TREE = 140  # where they are read into a tree of values
 DOCUMENTS, FILES = (DOCUMENT,), (FILE,)
@@ -236,7 +238,7 @@ SHAPES = {
     "nested-fraction": Shape("a list of `0` in 125 such objects, beside a fraction, refused", 2, lambda numbers: a_property(
         nested_falling(numbers, 125) + ',"y":1.5'), forms=DOCUMENTS, is_refused=True),
     "nested-line": Shape("a line of a list of `0` in 125 such objects, refused", 2, lines=lambda numbers: [
-        nested_falling(numbers, 125)], forms=FILES, is_refused=True, memory=4),
+        nested_falling(numbers, 125)], forms=FILES, is_refused=True, memory=NESTED_LINE),
     "tiny": Shape("`{\"a\":1}` in a property", 8, **in_a_property(tiny), memory=TINY),
     "tiny-event": Shape("`{\"a\":1}` in an event", 8, lambda numbers: with_list(tiny(numbers)), forms=DOCUMENTS,
                         memory=TINY),
@@ -252,14 +254,14 @@ SHAPES = {
                        is_refused=True, memory=TINY),
     "overwritten": Shape("`{\"\":0}` beside a fraction that is overwritten", 7, overwritten, forms=DOCUMENTS,
                          memory=TREE),
-    "line": Shape("a line of `{\"\":0}`, refused", 7, lines=line, forms=FILES, is_refused=True, memory=4),
+    "line": Shape("a line of `{\"\":0}`, refused", 7, lines=line, forms=FILES, is_refused=True, memory=LINE),
     "line-blank": Shape("a line of `0` after a blank, refused", 2, lines=line_after_blank, forms=FILES,
-                        is_refused=True, memory=4),
+                        is_refused=True, memory=LINE),
     "line-fraction": Shape("a line of `0` behind a fraction, refused", 2, lines=lambda numbers: [
-        "[1.5,%s]" % ",".join("0" for _ in numbers)], forms=FILES, is_refused=True, memory=4),
+        "[1.5,%s]" % ",".join("0" for _ in numbers)], forms=FILES, is_refused=True, memory=LINE),
     "line-replaced": Shape("a line of members `-0` in no order, each of which a later one replaces, refused", 17, lines=lambda numbers: [
-        replaced_members(shuffled(numbers))], forms=FILES, is_refused=True, memory=4),
+        replaced_members(shuffled(numbers))], forms=FILES, is_refused=True, memory=LINE),
     "line-rising": Shape("a line of members `-0` in rising order, each of which a later one replaces, refused", 17, lines=lambda numbers: [
-        replaced_members(sorted(map(short, numbers)))], forms=FILES, is_refused=True, memory=4),
+        replaced_members(sorted(map(short, numbers)))], forms=FILES, is_refused=True, memory=LINE),
     "line-1": Shape("a line of `{\"\":0}`, refused", 7, lines=line, forms=(FILE_1,), is_refused=True, memory=TINY),
 }

@@ -8,7 +8,7 @@ use Rattle.serde_json.specs.Find.{is_float}
 use Rattle.serde_json.specs.Written.{has_float, items_have_float, members_have_float}
 use Rattle.cadf_json.specs.Value.{IsWholeNumber, IsWhole}
 use Rattle.cadf_json.proofs.Passing.{followed}
-use Rattle.cadf_json.proofs.Settled.{number_in_is}
+use Rattle.cadf_json.proofs.Texts.{number_in_is}
 use Rattle.cadf_json.proofs.Texts.{has_float-IsWhole}
 use Rattle.cadf_json.specs.declared.node.Node.{Node}
 use Rattle.cadf_json.specs.Flat.{text_at, NumberStands, Stands, ItemsStand, MembersStand, items_count, members_count}
@@ -37,7 +37,7 @@ later_flattened (member k d ms) es = later_flattened ms es
 module _ (t : List ℕ) where
   number_values : (n : Num) (xs ys : List Node) → NumberStands t n xs → is_float n ≡ false → node_values t (xs ++ ys) ≡ item (number n) (node_values t ys)
   number_values n xs ys (inl (p, (is, at, whole))) f =
-      ap (λ zs. node_values t (zs ++ ys)) is ∙ ap (λ m. item (number m) (node_values t ys)) (number_in_is (text_at t p) (n, whole, at.is))
+      ap (λ zs. node_values t (zs ++ ys)) is ∙ ap (λ m. item (number m) (node_values t ys)) (number_in_is (text_at t p) n whole at.is)
   number_values n xs ys (inr (is, odd)) f = absurd cc
 
   mutual

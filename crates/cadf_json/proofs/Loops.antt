@@ -11,7 +11,7 @@ use Rattle.json.specs.Reads.{opens}
 use Rattle.json.proofs.Grammar.{items_fail, items_more, members_fail, members_more, members_no_key}
 use Rattle.serde_json.specs.Data.{Data, array, object, Items, no_items, Members, no_members, member, put}
 use Rattle.serde_json.specs.Read.{of_json, of_items, of_members, converted}
-use Rattle.cadf_json.specs.Canonical.{is_name_above}
+use Rattle.cadf_json.specs.Reading.{is_name_above}
 use Rattle.cadf_json.proofs.Orders.{AreBelow, joined, push_if_last, AreBelow-further, AreBelow-joined}
 use Rattle.cadf_json.proofs.Passing.{followed, followed-none, with_last, further as further_items, parsed_none}
 use Rattle.std.proofs.lemmas.Bool.{and_parts}

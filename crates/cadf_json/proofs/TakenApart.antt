@@ -14,7 +14,7 @@ use Rattle.serde_json.specs.Read.{of_json, of_members, converted}
 use Rattle.serde_json.specs.Written.{has_float, members_have_float}
 use Rattle.serde_json.proofs.Views.{get_member-put}
 use Rattle.cadf_json.specs.Apart.{a_fraction, emptied, emptied_at, emptied_in, AreTaken, TookItems}
-use Rattle.cadf_json.specs.Canonical.{is_name_above}
+use Rattle.cadf_json.specs.Reading.{is_name_above}
 use Rattle.cadf_json.specs.Flat.{TextStands, put_all}
 use Rattle.cadf_json.specs.Rewritten.{is_one_of, without}
 use Rattle.cadf_json.specs.Reading.{Grown, StandsAsRead}

@@ -3,13 +3,14 @@
 --     ItemsStand t ds xs    those of the items, one after another
 --     MembersStand t ms xs  a text and a value for each member, in this order
 --     decode t xs           the first value that the nodes are
-use Rattle.std.specs.Prelude.{◌≡◌, ◌⊎◌, ℕ, zero, suc, ◌≤◌, List, [], ◌∷◌, ◌++◌, length, slice_range, Bool, true, false}
+use Rattle.std.specs.Prelude.{◌≡◌, ◌⊎◌, ℕ, zero, suc, ◌≤◌, List, [], ◌∷◌, ◌++◌, length, slice_range, Bool, true, false, unwrap_or}
 use Rattle.std.specs.List.{list_any}
-use Rattle.serde_json.specs.Data.{Num, Data, null, boolean, number, string, array, object, Items, no_items, item, Members, no_members, member, put}
+use Rattle.serde_json.specs.Data.{Num, unsigned, Data, null, boolean, number, string, array, object, Items, no_items, item, Members, no_members, member}
+use Rattle.serde_json.specs.Data.{put}
 use Rattle.serde_json.specs.Find.{is_float}
+use Rattle.serde_json.specs.Read.{number_of}
 use Rattle.serde_json.specs.Written.{number_text}
 use Rattle.cadf_json.specs.Value.{IsWholeNumber, IsValue}
-use Rattle.cadf_json.specs.Tree.{number_in}
 use Rattle.cadf_json.specs.declared.node.Place.{Place}
 use Rattle.cadf_json.specs.declared.node.Extent.{Extent}
 use Rattle.cadf_json.specs.declared.node.Node.{Node}
@@ -103,6 +104,9 @@ later_members zero ds = ds
 later_members (suc n) no_items = no_items
 later_members (suc n) (item k no_items) = no_items
 later_members (suc n) (item k (item d ds)) = later_members n ds
+
+abbrev pub number_in : List ℕ → Num
+number_in s = unwrap_or (number_of s) (unsigned 0)
 
 abbrev pub with_node : List ℕ → Node → Items → Items
 with_node t Null ds = item null ds

@@ -1,7 +1,7 @@
 -- What is appended as tokens are read: the nodes and the texts of the values.
-use Rattle.std.specs.Prelude.{◌≡◌, ℕ, ◌<◌, ◌≤◌, List, [], ◌∷◌, ◌++◌, length, Bool, true, false, Some, None, ⊤}
+use Rattle.std.specs.Prelude.{◌≡◌, ℕ, ◌<◌, ◌≤◌, List, [], ◌∷◌, ◌++◌, length, Bool, true, false, Option, Some, None, ⊤}
 use Rattle.std.specs.Prelude.{if◌then◌else◌}
-use Rattle.std.specs.Ordering.{nat_cmp}
+use Rattle.std.specs.Ordering.{nat_cmp, is_lt}
 use Rattle.std.specs.Cmp.Lexicographic.{slice_cmp}
 use Rattle.std.specs.FinMap.Entries as entries
 use Rattle.std.specs.Str.{bytes_eq}
@@ -51,6 +51,11 @@ AreMembersRead rising depth ts rest old new t u =
 
 abbrev pub AreNoMembers : ℕ → List Token → Type 0
 AreNoMembers depth ts = converted (λ ms. of_members ms no_members) (members (value depth) (length ts) ts) ≡ None
+
+-- the name is above the last one, if there is one
+abbrev pub is_name_above : Option (List ℕ) → List ℕ → Bool
+is_name_above None k = true
+is_name_above (Some l) k = is_lt (slice_cmp nat_cmp l k)
 
 abbrev pub IsNumberRead : List ℕ → List Node → List Node → List ℕ → List ℕ → Type 0
 IsNumberRead s old new t u = (n : Num) × ((number_of s ≡ Some n) × Grown (λ u xs. NumberStands u n xs) old new t u)

@@ -7,11 +7,10 @@ ghost use Rattle.cadf_json.specs.TokenUtf8.{HaveUtf8};
 ghost use Rattle.cadf_json.specs.Value.{IsValue};
 
 use crate::Memory;
-use crate::canonical::rises_to;
 use crate::node::{Extent, Node};
 use crate::order::put_in_order;
 use crate::push::{ReadFault, extent_from, push_string};
-use crate::read::{MAX_DEPTH, read_value};
+use crate::read::{MAX_DEPTH, read_value, rises_to};
 use crate::value::{Json, JsonFault, has_fraction};
 use crate::view::View;
 use json::{Reader, Scratch, Token};

@@ -3,13 +3,11 @@
 #![tactic(auto)]
 
 mod apart;
-mod canonical;
 mod depth;
 mod front;
 mod items;
 mod laws;
 mod members;
-mod name_hashing;
 mod node;
 mod number;
 mod order;
@@ -18,7 +16,6 @@ mod push;
 mod read;
 mod rewrite;
 mod spelling;
-mod spells;
 mod stream;
 mod transfer;
 mod value;
@@ -27,7 +24,6 @@ mod walk;
 mod write;
 
 pub use crate::apart::ItemVisitor;
-pub use crate::canonical::is_canonical;
 pub use crate::front::front_of;
 pub use crate::items::Items;
 pub use crate::laws::{
@@ -37,9 +33,8 @@ pub use crate::laws::{
 pub use crate::members::{Member, Members};
 pub use crate::plain_run::plain_length;
 pub use crate::spelling::push_quoted;
-pub use crate::spells::spells_value;
 pub use crate::stream::{Failed, FromStd, Sink, Source};
 pub use crate::transfer::{OutFault, ReadLimitFault, read_rest, read_to_limit, write_all};
-pub use crate::value::{Json, JsonFault, quoted};
+pub use crate::value::{Json, JsonFault, is_canonical, quoted, spells_value};
 pub use crate::view::View;
 pub use std::alloc::AllocError as Memory;

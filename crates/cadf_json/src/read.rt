@@ -1,8 +1,7 @@
 //! The one descent from tokens to nodes.
-ghost use Rattle.std.specs.Prelude.{◌≡◌, ◌<◌, length, IfOk, OnOk};
-ghost use Rattle.cadf_json.specs.Reading.{ReadsValue, IsNoValue, AreItemsRead, AreNoItems, AreMembersRead, AreNoMembers};
+ghost use Rattle.std.specs.Prelude.{◌≡◌, ◌<◌, ◌&&◌, length, option_map, IfOk, OnOk};
+ghost use Rattle.cadf_json.specs.Reading.{ReadsValue, IsNoValue, AreItemsRead, AreNoItems, AreMembersRead, AreNoMembers, is_name_above};
 
-use crate::canonical::rises_to;
 use crate::node::Node;
 use crate::push::{ReadFault, extent_from, push_number, push_string};
 use json::{Reader, Token};
@@ -109,4 +108,14 @@ fn read_members<'a>(
     let extent = extent_from(nodes, at, count)?;
     nodes[at] = Node::Object(extent);
     Ok(rising)
+}
+
+/// Returns whether the names rise, if they did up to the last one.
+pub(crate) fn rises_to(rising: bool, last: Option<&str>, name: &str) -> bool
+    ensures { result ≡ rising && is_name_above (option_map (λ s. s.now) last.entry) name.now }
+{
+    match last {
+        Some(last) => rising && last < name,
+        None => rising,
+    }
 }

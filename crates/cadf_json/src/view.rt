@@ -171,7 +171,7 @@ impl<'v> View<'v> {
     }
 
     /// Returns whether lists and objects nest deeper than the limit. A part of no more nodes than that doesn't.
-    fn nests_deeper(&self, limit: u8) -> bool
+    pub(crate) fn nests_deeper(&self, limit: u8) -> bool
         ensures { result ≡ not (nat_le (nesting self.now) limit) }
     {
         self.nodes.len() > limit as usize && self.depth() > limit

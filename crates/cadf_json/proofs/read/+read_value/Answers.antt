@@ -10,7 +10,7 @@ use Rattle.cadf_json.specs.declared.node.Node.TheVariants.{Array, Object}
 use Rattle.cadf_json.specs.declared.push.ReadFault.TheVariants.{NotJson}
 use Rattle.json.specs.Reads.{opens}
 use Rattle.std.proofs.lemmas.Bool.{and_parts}
-use Rattle.cadf_json.specs.Canonical.{is_name_above}
+use Rattle.cadf_json.specs.Reading.{is_name_above}
 use Rattle.cadf_json.specs.Flat.{put_all}
 use Rattle.serde_json.specs.Data.{no_members}
 use Rattle.cadf_json.proofs.Settling.{scalar}
