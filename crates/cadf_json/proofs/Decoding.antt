@@ -1,18 +1,17 @@
 -- The value that nodes are is determined by them, and so is whether a number of it isn't whole.
 use Rattle.std.proofs.lemmas.Grind.{common_steps}
-use Rattle.std.proofs.Common.{◌≡◌, ℕ, List, [], ◌++◌, Bool, false, ◌||◌, refl, sym, ap, ap₂, ◌∙◌, inl, inr, append_assoc, append-nil, arith}
+use Rattle.std.proofs.Common.{◌≡◌, ℕ, List, [], ◌++◌, Bool, false, ◌||◌, refl, sym, ap, ap₂, ◌∙◌, subst, inl, inr, append_assoc, append-nil, arith}
 use Rattle.std.proofs.lemmas.Bool.{or_parts}
 use Rattle.std.proofs.Math.Bool.{or-false}
 use Rattle.serde_json.specs.Data.{Num, Data, null, boolean, number, string, array, object, Items, no_items, item, Members, no_members, member}
 use Rattle.serde_json.specs.Find.{is_float}
 use Rattle.serde_json.specs.Written.{has_float, items_have_float, members_have_float}
-use Rattle.cadf_json.specs.Value.{IsWholeNumber, IsWhole}
+use Rattle.cadf_json.specs.Value.{IsWholeNumber, IsWhole, IsValue}
 use Rattle.cadf_json.proofs.Passing.{followed}
-use Rattle.cadf_json.proofs.Texts.{number_in_is}
-use Rattle.cadf_json.proofs.Texts.{has_float-IsWhole}
+use Rattle.cadf_json.proofs.Texts.{number_in_is, has_float-IsWhole}
 use Rattle.cadf_json.specs.declared.node.Node.{Node}
 use Rattle.cadf_json.specs.Flat.{text_at, NumberStands, Stands, ItemsStand, MembersStand, items_count, members_count}
-use Rattle.cadf_json.specs.Flat.{first_items, later_items, first_members, later_members, node_values, first_value, decode, have_fraction}
+use Rattle.cadf_json.specs.Flat.{first_items, later_items, first_members, later_members, node_values, first_value, decode, have_fraction, IsSettled, IsFlatValue}
 
 first_followed : (ds es : Items) → first_items (items_count ds) (followed ds es) ≡ ds
 first_followed no_items es = refl
@@ -112,3 +111,6 @@ module _ (t : List ℕ) where
 
   pub fraction_is : (d : Data) (xs : List Node) → Stands t d xs → have_fraction xs ≡ has_float d
   fraction_is d xs h = ap have_fraction (sym (append-nil xs)) ∙ fraction_of d xs [] h ∙ or-false (has_float d)
+
+pub flat_value : (t : List ℕ) (d : Data) (xs : List Node) → IsSettled t d xs → IsValue d → IsFlatValue t xs
+flat_value t d xs s v = (inr (subst (λ e. Stands t e xs) (sym s.decodes) s.stands), subst IsValue (sym s.decodes) v)

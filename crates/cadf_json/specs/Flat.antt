@@ -9,7 +9,7 @@ use Rattle.serde_json.specs.Data.{Num, unsigned, Data, null, boolean, number, st
 use Rattle.serde_json.specs.Data.{put}
 use Rattle.serde_json.specs.Find.{is_float}
 use Rattle.serde_json.specs.Read.{number_of}
-use Rattle.serde_json.specs.Written.{number_text}
+use Rattle.serde_json.specs.Written.{number_text, has_float}
 use Rattle.cadf_json.specs.Value.{IsWholeNumber, IsValue}
 use Rattle.cadf_json.specs.declared.node.Place.{Place}
 use Rattle.cadf_json.specs.declared.node.Extent.{Extent}
@@ -167,6 +167,12 @@ abbrev pub have_fraction : List Node → Bool
 have_fraction xs = list_any is_fraction xs
 
 -- ---- a value whose numbers are whole
+
+-- the nodes are those of the value, and its numbers are whole
+pub record IsSettled (t : List ℕ) (d : Data) (xs : List Node) : Type 0 where
+  pub stands : Stands t d xs
+  pub is_whole : has_float d ≡ false
+  pub decodes : decode t xs ≡ d
 
 -- the nodes are those of a value whose numbers are whole, or there are none yet: `null`
 abbrev pub IsFlatValue : List ℕ → List Node → Type 0

@@ -8,10 +8,10 @@ ghost use Rattle.cadf_json.specs.Value.{IsValue};
 
 use crate::Memory;
 use crate::node::{Extent, Node};
-use crate::order::put_in_order;
-use crate::push::{ReadFault, extent_from, push_string};
+use crate::order::settle;
+use crate::push::{extent_from, push_string};
 use crate::read::{MAX_DEPTH, read_value, rises_to};
-use crate::value::{Json, JsonFault, has_fraction};
+use crate::value::{Json, JsonFault};
 use crate::view::View;
 use json::{Reader, Scratch, Token};
 use std::alloc::Global;
@@ -30,15 +30,14 @@ pub trait ItemVisitor {
         ensures { OnOk result ((ds : List Data) → took self.old ds → took self.new (ds ++ item.now ∷ [])) };
 }
 
-/// Passes the items up to the closing bracket to the visitor, each in place of the one before. `NotJson` if one of them
-/// is no value, or a number isn't whole.
+/// Passes the items up to the closing bracket to the visitor, each in place of the one before.
 fn pass_items<T: ItemVisitor>(
     alloc: Global,
     reader: &mut Reader<'_>,
     depth: usize,
     item: &mut Json,
     taker: &mut T,
-) -> Result<(), ReadFault>
+) -> Result<(), JsonFault>
     requires depth { depth ≤ 127 }
     requires utf8 { HaveUtf8 reader.old }
     ensures ok { OnOk result (PassesItems T.took taker.new depth reader.old reader.new) }
@@ -46,11 +45,8 @@ fn pass_items<T: ItemVisitor>(
 {
     taker.begin();
     'items: while !reader.take_end_array() {
-        match item.read_next(alloc, reader, depth) {
-            Ok(()) => taker.take(&item.view())?,
-            Err(JsonFault::Memory) => return Err(ReadFault::Memory),
-            Err(_) => return Err(ReadFault::NotJson),
-        }
+        item.read_next(alloc, reader, depth)?;
+        taker.take(&item.view())?;
     }
     Ok(())
 }
@@ -63,17 +59,17 @@ fn pass_list<T: ItemVisitor>(
     item: &mut Json,
     taker: &mut T,
     nodes: &mut Vec<Node>,
-) -> Result<(), ReadFault>
+) -> Result<(), JsonFault>
     requires depth { depth ≤ 127 }
     requires utf8 { HaveUtf8 reader.old }
     ensures ok { OnOk result (PassesList T.took taker.new depth reader.old reader.new nodes.old.items nodes.new.items) }
     ensures shorter { OnOk result (length reader.new < length reader.old) }
 {
     let Some(Token::BeginArray) = reader.next() else {
-        return Err(ReadFault::NotJson);
+        return Err(JsonFault::NotJson);
     };
     if depth == 0 {
-        return Err(ReadFault::NotJson);
+        return Err(JsonFault::NotJson);
     }
     pass_items(alloc, reader, depth - 1, item, taker)?;
     nodes.push(Node::Array(Extent { size: 1, count: 0 }))?;
@@ -90,7 +86,7 @@ fn pass_members<'a, T: ItemVisitor>(
     taker: &mut T,
     nodes: &mut Vec<Node>,
     texts: &mut Vec<u8>,
-) -> Result<bool, ReadFault>
+) -> Result<bool, JsonFault>
     requires depth { depth ≤ 127 }
     requires utf8 { HaveUtf8 reader.old }
     ensures { IfOk result (λ rising.
@@ -104,13 +100,13 @@ fn pass_members<'a, T: ItemVisitor>(
     let mut rising = true;
     'members: loop {
         let Ok(key) = reader.next_key() else {
-            return Err(ReadFault::NotJson);
+            return Err(JsonFault::NotJson);
         };
         let Some(key) = key else {
             break;
         };
         if count == u32::MAX {
-            return Err(ReadFault::Memory);
+            return Err(JsonFault::Memory);
         }
         count += 1;
         rising = rises_to(rising, last, key);
@@ -137,27 +133,23 @@ fn read_flat_apart<T: ItemVisitor>(
     nodes: &mut Vec<Node>,
     texts: &mut Vec<u8>,
     spare: &mut Vec<Node>,
-) -> Result<(), ReadFault>
+) -> Result<(), JsonFault>
     requires { nodes.old.items ≡ [] }
     ensures ok { OnOk result (IsApart T.took taker.new bytes.now name.now (decode texts.new.items nodes.new.items)) }
     ensures flat { OnOk result (IsFlatValue texts.new.items nodes.new.items) }
 {
     let Ok(text) = str::from_utf8(bytes) else {
-        return Err(ReadFault::NotJson);
+        return Err(JsonFault::NotJson);
     };
     let mut reader = Reader::new(text, scratch)?;
     let Some(Token::BeginObject) = reader.next() else {
-        return Err(ReadFault::NotJson);
+        return Err(JsonFault::NotJson);
     };
     let rising = pass_members(alloc, &mut reader, MAX_DEPTH - 1, name, taker, nodes, texts)?;
     if reader.next().is_some() {
-        return Err(ReadFault::NotJson);
+        return Err(JsonFault::NotJson);
     }
-    put_in_order(alloc, rising, nodes, texts, spare)?;
-    if has_fraction(nodes.as_slice()) {
-        return Err(ReadFault::NotJson);
-    }
-    Ok(())
+    settle(alloc, rising, nodes, texts, spare)
 }
 
 impl Json {
@@ -191,8 +183,8 @@ impl Json {
         }
         match read {
             Ok(()) => Ok(true),
-            Err(ReadFault::NotJson) => Ok(false),
-            Err(ReadFault::Memory) => Err(Memory),
+            Err(JsonFault::Memory) => Err(Memory),
+            Err(_) => Ok(false),
         }
     }
 }

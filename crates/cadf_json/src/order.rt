@@ -1,12 +1,15 @@
 //! The members of each object in the order of their names.
-ghost use Rattle.std.specs.Prelude.{◌≡◌, [], OnOk, IfOk, length};
+ghost use Rattle.std.specs.Prelude.{◌≡◌, ◌≢◌, [], true, OnOk, IfOk, length};
 ghost use Rattle.serde_json.specs.Data.{Data, Items, array, object, Members, no_members};
-ghost use Rattle.cadf_json.specs.Flat.{Stands, ItemsStand, MembersStand, put_all, items_count, settled, settled_items, settled_members};
+ghost use Rattle.serde_json.specs.Written.{has_float};
+ghost use Rattle.cadf_json.specs.Flat.{Stands, ItemsStand, MembersStand, IsSettled, have_fraction, put_all, items_count, settled, settled_items};
+ghost use Rattle.cadf_json.specs.Flat.{settled_members};
 ghost use Rattle.cadf_json.specs.Reading.{StandsAsRead, Copied, AreNamed, put_named, is_replaced as is_replaced_by, lasts};
 
 use crate::front::Fronted;
 use crate::node::Node;
 use crate::push::extent_from;
+use crate::value::JsonFault;
 use crate::walk::first_member;
 use std::alloc::{AllocError, Global};
 
@@ -20,9 +23,36 @@ struct Named<'v> {
     nodes: &'v [Node],
 }
 
+/// Puts the members of each object in order. `NotWhole` if a number that is left isn't whole.
+pub(crate) fn settle(
+    alloc: Global,
+    rising: bool,
+    nodes: &mut Vec<Node>,
+    texts: &Vec<u8>,
+    spare: &mut Vec<Node>,
+) -> Result<(), JsonFault>
+    requires { (d : Data) × StandsAsRead rising texts.now.items d nodes.old.items }
+    ensures ok { OnOk result ((d : Data) → StandsAsRead rising texts.now.items d nodes.old.items → IsSettled texts.now.items d nodes.new.items) }
+    ensures not_whole { result ≡ Err JsonFault.NotWhole → (d : Data) → StandsAsRead rising texts.now.items d nodes.old.items → has_float d ≡ true }
+    ensures others { (result ≢ Err JsonFault.NotJson) × (result ≢ Err JsonFault.NotCanonical) }
+{
+    put_in_order(alloc, rising, nodes, texts, spare)?;
+    if has_fraction(nodes.as_slice()) {
+        return Err(JsonFault::NotWhole);
+    }
+    Ok(())
+}
+
+/// Returns whether a number isn't whole.
+fn has_fraction(nodes: &[Node]) -> bool
+    ensures { result ≡ have_fraction nodes.now }
+{
+    nodes.iter().any(|node| matches!(node, Node::Fraction))
+}
+
 /// Puts the members of each object in the order of their names, unless all rise; of two with the same name the later one
 /// stays.
-pub(crate) fn put_in_order(
+fn put_in_order(
     alloc: Global,
     rising: bool,
     nodes: &mut Vec<Node>,

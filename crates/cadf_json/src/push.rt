@@ -1,5 +1,5 @@
 //! Nodes and decoded texts, appended.
-ghost use Rattle.std.specs.Prelude.{◌≡◌, ◌-◌, ◌≤◌, ◌++◌, None, IfOk, OnOk, vec_len};
+ghost use Rattle.std.specs.Prelude.{◌≡◌, ◌≢◌, ◌-◌, ◌≤◌, ◌++◌, None, IfOk, OnOk, vec_len};
 ghost use Rattle.serde_json.specs.Data.{Num};
 ghost use Rattle.serde_json.specs.Read.{number_of};
 ghost use Rattle.serde_json.specs.Written.{number_text};
@@ -9,36 +9,8 @@ ghost use Rattle.cadf_json.specs.Reading.{Grown, IsNumberRead};
 
 use crate::node::{Extent, Node, Place};
 use crate::number::Number;
-use std::alloc::{AllocError, AllocFailed};
-
-/// Why no value was read.
-#[derive(Clone, Copy, Debug, Drop)]
-pub(crate) enum ReadFault {
-    NotJson,
-    Memory,
-}
-
-impl From<AllocError> for ReadFault {
-    ghost use Rattle.std.specs.Prelude.{◌≡◌};
-    ghost use Rattle.cadf_json.specs.declared.push.ReadFault.TheVariants.{Memory as OutOfMemory};
-
-    ghost from_gives = { λ _ e. e ≡ OutOfMemory };
-
-    fn from(_refused: AllocError) -> ReadFault {
-        ReadFault::Memory
-    }
-}
-
-impl<T: Drop> From<AllocFailed<T>> for ReadFault {
-    ghost use Rattle.std.specs.Prelude.{◌≡◌};
-    ghost use Rattle.cadf_json.specs.declared.push.ReadFault.TheVariants.{Memory as OutOfMemory};
-
-    ghost from_gives = { λ _ e. e ≡ OutOfMemory };
-
-    fn from(_refused: AllocFailed<T>) -> ReadFault {
-        ReadFault::Memory
-    }
-}
+use crate::value::JsonFault;
+use std::alloc::AllocError;
 
 /// The greatest length of the texts, and the greatest number of nodes.
 pub(crate) const MOST: usize = u32::MAX as usize;
@@ -79,16 +51,17 @@ pub(crate) fn push_number(
     text: &str,
     nodes: &mut Vec<Node>,
     texts: &mut Vec<u8>,
-) -> Result<(), ReadFault>
+) -> Result<(), JsonFault>
     ensures ok { OnOk result (IsNumberRead text.now nodes.old.items nodes.new.items texts.old.items texts.new.items) }
-    ensures not_json { result ≡ Err ReadFault.NotJson → number_of text.now ≡ None }
+    ensures not_json { result ≡ Err JsonFault.NotJson → number_of text.now ≡ None }
+    ensures others { (result ≢ Err JsonFault.NotWhole) × (result ≢ Err JsonFault.NotCanonical) }
 {
     let mut buffer = itoa::Buffer::new();
     match Number::parse(text) {
         Some(Number::Unsigned(n)) => Ok(push_whole(buffer.format(n), nodes, texts)?),
         Some(Number::Negative(n)) => Ok(push_whole(buffer.format(n), nodes, texts)?),
         Some(Number::Float(_)) => Ok(nodes.push(Node::Fraction)?),
-        None => Err(ReadFault::NotJson),
+        None => Err(JsonFault::NotJson),
     }
 }
 

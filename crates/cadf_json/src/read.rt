@@ -1,9 +1,10 @@
 //! The one descent from tokens to nodes.
-ghost use Rattle.std.specs.Prelude.{◌≡◌, ◌<◌, ◌&&◌, length, option_map, IfOk, OnOk};
+ghost use Rattle.std.specs.Prelude.{◌≡◌, ◌≢◌, ◌<◌, ◌&&◌, length, option_map, IfOk, OnOk};
 ghost use Rattle.cadf_json.specs.Reading.{ReadsValue, IsNoValue, AreItemsRead, AreNoItems, AreMembersRead, AreNoMembers, is_name_above};
 
 use crate::node::Node;
-use crate::push::{ReadFault, extent_from, push_number, push_string};
+use crate::push::{extent_from, push_number, push_string};
+use crate::value::JsonFault;
 use json::{Reader, Token};
 
 /// How deep lists and objects may nest.
@@ -17,13 +18,14 @@ pub(crate) fn read_value(
     depth: usize,
     nodes: &mut Vec<Node>,
     texts: &mut Vec<u8>,
-) -> Result<bool, ReadFault>
+) -> Result<bool, JsonFault>
     ensures ok { IfOk result (λ rising. ReadsValue rising depth reader.old reader.new nodes.old.items nodes.new.items texts.old.items texts.new.items) }
-    ensures not_json { result ≡ Err ReadFault.NotJson → IsNoValue depth reader.old }
+    ensures not_json { result ≡ Err JsonFault.NotJson → IsNoValue depth reader.old }
+    ensures others { (result ≢ Err JsonFault.NotWhole) × (result ≢ Err JsonFault.NotCanonical) }
     ensures shorter { OnOk result (length reader.new < length reader.old) }
 {
     let Some(token) = reader.next() else {
-        return Err(ReadFault::NotJson);
+        return Err(JsonFault::NotJson);
     };
     match token {
         Token::String(text) => push_string(text, nodes, texts)?,
@@ -37,7 +39,7 @@ pub(crate) fn read_value(
             nodes,
             texts,
         )?),
-        _ => return Err(ReadFault::NotJson),
+        _ => return Err(JsonFault::NotJson),
     }
     Ok(true)
 }
@@ -50,9 +52,10 @@ fn read_items(
     depth: usize,
     nodes: &mut Vec<Node>,
     texts: &mut Vec<u8>,
-) -> Result<bool, ReadFault>
+) -> Result<bool, JsonFault>
     ensures ok { IfOk result (λ rising. AreItemsRead rising depth reader.old reader.new nodes.old.items nodes.new.items texts.old.items texts.new.items) }
-    ensures not_json { result ≡ Err ReadFault.NotJson → AreNoItems depth reader.old }
+    ensures not_json { result ≡ Err JsonFault.NotJson → AreNoItems depth reader.old }
+    ensures others { (result ≢ Err JsonFault.NotWhole) × (result ≢ Err JsonFault.NotCanonical) }
     ensures shorter { OnOk result (length reader.new < length reader.old) }
 {
     let at = nodes.len();
@@ -62,7 +65,7 @@ fn read_items(
     'items: while !reader.take_end_array() {
         rising = read_value(reader, depth, nodes, texts)? & rising;
         if count == u32::MAX {
-            return Err(ReadFault::Memory);
+            return Err(JsonFault::Memory);
         }
         count += 1;
     }
@@ -79,9 +82,10 @@ fn read_members<'a>(
     depth: usize,
     nodes: &mut Vec<Node>,
     texts: &mut Vec<u8>,
-) -> Result<bool, ReadFault>
+) -> Result<bool, JsonFault>
     ensures ok { IfOk result (λ rising. AreMembersRead rising depth reader.old reader.new nodes.old.items nodes.new.items texts.old.items texts.new.items) }
-    ensures not_json { result ≡ Err ReadFault.NotJson → AreNoMembers depth reader.old }
+    ensures not_json { result ≡ Err JsonFault.NotJson → AreNoMembers depth reader.old }
+    ensures others { (result ≢ Err JsonFault.NotWhole) × (result ≢ Err JsonFault.NotCanonical) }
     ensures shorter { OnOk result (length reader.new < length reader.old) }
 {
     let at = nodes.len();
@@ -91,7 +95,7 @@ fn read_members<'a>(
     let mut rising = true;
     'members: loop {
         let Ok(key) = reader.next_key() else {
-            return Err(ReadFault::NotJson);
+            return Err(JsonFault::NotJson);
         };
         let Some(name) = key else {
             break;
@@ -100,7 +104,7 @@ fn read_members<'a>(
         push_string(name, nodes, texts)?;
         rising = read_value(reader, depth, nodes, texts)? & rising;
         if count == u32::MAX {
-            return Err(ReadFault::Memory);
+            return Err(JsonFault::Memory);
         }
         count += 1;
         last = Some(name);

@@ -16,8 +16,8 @@ items-preserved g c =
     let going : (after_end_array l.reader ≡ None) × (c.take_end_array.new.self ≡ l.reader) = grind arith in
     let item = c.read_next.new.self in
     let r = c.read_next.new.reader in
-    let less : length r < length l.reader = rw (← going.1) c.in-Ok.ensures.shorter in
-    let read = rw going.1 at c.in-Ok.ensures.ok in
+    let less : length r < length l.reader = rw (← going.1) c.in_ok-read_next.ensures.shorter in
+    let read = rw going.1 at c.in_ok-read_next.ensures.ok in
     grind (arith, common_steps, passing_more, has_float-IsWhole, rest_utf8)
 
 pub returns-clause-ok : goal.returns-clause-ok

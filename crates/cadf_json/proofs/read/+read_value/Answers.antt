@@ -7,7 +7,7 @@ use Rattle.serde_json.specs.Data.{null, boolean, number, string}
 use Rattle.serde_json.specs.Read.{of_json, converted}
 use Rattle.cadf_json.proofs.Turns.{converted-array, converted-object}
 use Rattle.cadf_json.specs.declared.node.Node.TheVariants.{Array, Object}
-use Rattle.cadf_json.specs.declared.push.ReadFault.TheVariants.{NotJson}
+use Rattle.cadf_json.specs.declared.value.JsonFault.TheVariants.{NotJson}
 use Rattle.json.specs.Reads.{opens}
 use Rattle.std.proofs.lemmas.Bool.{and_parts}
 use Rattle.cadf_json.specs.Reading.{is_name_above}
