@@ -4,10 +4,10 @@ use Rattle.std.specs.Float.{binary64}
 use Rattle.std.specs.Float.Ieee.{of_int}
 use Rattle.std.specs.Str.{bytes_eq}
 use Rattle.json.specs.Token.{Token}
-use Rattle.json.specs.Json.{value, items, members}
+use Rattle.json.specs.Json.{value, members}
 use Rattle.serde_json.specs.Data.{Data, float, null, boolean, number, string, array, object, Items, no_items, Members, no_members, member}
 use Rattle.serde_json.specs.Find.{get_member}
-use Rattle.serde_json.specs.Read.{of_json, of_items, of_members, converted}
+use Rattle.serde_json.specs.Read.{of_json, of_members, converted}
 use Rattle.serde_json.specs.Written.{items_have_float}
 use Rattle.cadf_json.specs.declared.node.Node.{Node}
 use Rattle.cadf_json.specs.declared.node.Node.TheVariants.{Array}
@@ -48,11 +48,6 @@ TookItems took t (Some (number n)) = ⊥
 TookItems took t (Some (string s)) = ⊥
 TookItems took t (Some (array ds)) = AreTaken took t ds
 TookItems took t (Some (object ms)) = ⊥
-
--- the items that the tokens begin with, up to the closing bracket, were taken
-abbrev pub PassesItems : {T : Type 0} → (T → List Data → Type 0) → T → ℕ → List Token → List Token → Type 0
-PassesItems took t depth ts rest =
-    (ds : Items) × (AreTaken took t ds × (converted of_items (items (value depth) (length ts) ts) ≡ Some (ds, rest)))
 
 -- the items of the list that the tokens begin with were taken, and the list was appended without them
 abbrev pub PassesList : {T : Type 0} → (T → List Data → Type 0) → T → ℕ → List Token → List Token → List Node → List Node → Type 0

@@ -1,7 +1,7 @@
 //! The reading of an object with the items of one list apart: a visitor takes them, and no value keeps them.
 ghost use Rattle.std.specs.Prelude.{◌≡◌, ◌<◌, ◌≤◌, ◌++◌, ◌∷◌, [], List, length, true, IfOk, OnOk};
 ghost use Rattle.serde_json.specs.Data.{Data};
-ghost use Rattle.cadf_json.specs.Apart.{PassesItems, PassesList, AppendsMembers, IsApart};
+ghost use Rattle.cadf_json.specs.Apart.{PassesList, AppendsMembers, IsApart};
 ghost use Rattle.cadf_json.specs.Flat.{decode, IsFlatValue};
 ghost use Rattle.cadf_json.specs.TokenUtf8.{HaveUtf8};
 ghost use Rattle.cadf_json.specs.Value.{IsValue};
@@ -30,28 +30,8 @@ pub trait ItemVisitor {
         ensures { OnOk result ((ds : List Data) → took self.old ds → took self.new (ds ++ item.now ∷ [])) };
 }
 
-/// Passes the items up to the closing bracket to the visitor, each in place of the one before.
-fn pass_items<T: ItemVisitor>(
-    alloc: Global,
-    reader: &mut Reader<'_>,
-    depth: usize,
-    item: &mut Json,
-    taker: &mut T,
-) -> Result<(), JsonFault>
-    requires depth { depth ≤ 127 }
-    requires utf8 { HaveUtf8 reader.old }
-    ensures ok { OnOk result (PassesItems T.took taker.new depth reader.old reader.new) }
-    ensures shorter { OnOk result (length reader.new < length reader.old) }
-{
-    taker.begin();
-    'items: while !reader.take_end_array() {
-        item.read_next(alloc, reader, depth)?;
-        taker.take(&item.view())?;
-    }
-    Ok(())
-}
-
-/// Passes the items of the next list to the visitor, and appends the list without them. `NotJson` if no list comes next.
+/// Passes the items of the next list to the visitor, each in place of the one before, and appends the list without them.
+/// `NotJson` if no list comes next.
 fn pass_list<T: ItemVisitor>(
     alloc: Global,
     reader: &mut Reader<'_>,
@@ -71,7 +51,11 @@ fn pass_list<T: ItemVisitor>(
     if depth == 0 {
         return Err(JsonFault::NotJson);
     }
-    pass_items(alloc, reader, depth - 1, item, taker)?;
+    taker.begin();
+    'items: while !reader.take_end_array() {
+        item.read_next(alloc, reader, depth - 1)?;
+        taker.take(&item.view())?;
+    }
     nodes.push(Node::Array(Extent { size: 1, count: 0 }))?;
     Ok(())
 }
