@@ -9,7 +9,7 @@ ghost use Rattle.cadf_json.specs.Value.{IsValue};
 use crate::Memory;
 use crate::node::{Extent, Node};
 use crate::order::settle;
-use crate::push::{extent_from, push_string};
+use crate::push::{Flat, extent_from, push_string};
 use crate::read::{MAX_DEPTH, read_value, rises_to};
 use crate::value::{Json, JsonFault};
 use crate::view::View;
@@ -68,16 +68,15 @@ fn pass_members<'a, T: ItemVisitor>(
     depth: usize,
     name: &str,
     taker: &mut T,
-    nodes: &mut Vec<Node>,
-    texts: &mut Vec<u8>,
+    flat: &mut Flat,
 ) -> Result<bool, JsonFault>
     requires depth { depth ≤ 127 }
     requires utf8 { HaveUtf8 reader.old }
     ensures { IfOk result (λ rising.
-        AppendsMembers T.took taker.new name.now rising depth reader.old reader.new nodes.old.items nodes.new.items texts.old.items texts.new.items) }
+        AppendsMembers T.took taker.new name.now rising depth reader.old reader.new flat.old.nodes.items flat.new.nodes.items flat.old.texts.items flat.new.texts.items) }
 {
-    let at = nodes.len();
-    nodes.push(Node::Null)?;
+    let at = flat.nodes.len();
+    flat.nodes.push(Node::Null)?;
     let mut item = Json::new(alloc);
     let mut count: u32 = 0;
     let mut last: Option<&'a str> = None;
@@ -95,15 +94,15 @@ fn pass_members<'a, T: ItemVisitor>(
         count += 1;
         rising = rises_to(rising, last, key);
         last = Some(key);
-        push_string(key, nodes, texts)?;
+        push_string(key, flat)?;
         if key == name {
-            pass_list(alloc, reader, depth, &mut item, taker, nodes)?;
+            pass_list(alloc, reader, depth, &mut item, taker, &mut flat.nodes)?;
         } else {
-            rising = read_value(reader, depth, nodes, texts)? & rising;
+            rising = read_value(reader, depth, flat)? & rising;
         }
     }
-    let extent = extent_from(nodes, at, count)?;
-    nodes[at] = Node::Object(extent);
+    let extent = extent_from(&flat.nodes, at, count)?;
+    flat.nodes[at] = Node::Object(extent);
     Ok(rising)
 }
 
@@ -114,13 +113,11 @@ fn read_flat_apart<T: ItemVisitor>(
     bytes: &[u8],
     name: &str,
     taker: &mut T,
-    nodes: &mut Vec<Node>,
-    texts: &mut Vec<u8>,
-    spare: &mut Vec<Node>,
+    flat: &mut Flat,
 ) -> Result<(), JsonFault>
-    requires { nodes.old.items ≡ [] }
-    ensures ok { OnOk result (IsApart T.took taker.new bytes.now name.now (decode texts.new.items nodes.new.items)) }
-    ensures flat { OnOk result (IsFlatValue texts.new.items nodes.new.items) }
+    requires { flat.old.nodes.items ≡ [] }
+    ensures ok { OnOk result (IsApart T.took taker.new bytes.now name.now (decode flat.new.texts.items flat.new.nodes.items)) }
+    ensures flat { OnOk result (IsFlatValue flat.new.texts.items flat.new.nodes.items) }
 {
     let Ok(text) = str::from_utf8(bytes) else {
         return Err(JsonFault::NotJson);
@@ -129,11 +126,11 @@ fn read_flat_apart<T: ItemVisitor>(
     let Some(Token::BeginObject) = reader.next() else {
         return Err(JsonFault::NotJson);
     };
-    let rising = pass_members(alloc, &mut reader, MAX_DEPTH - 1, name, taker, nodes, texts)?;
+    let rising = pass_members(alloc, &mut reader, MAX_DEPTH - 1, name, taker, flat)?;
     if reader.next().is_some() {
         return Err(JsonFault::NotJson);
     }
-    settle(alloc, rising, nodes, texts, spare)
+    settle(alloc, rising, flat)
 }
 
 impl Json {
@@ -150,20 +147,11 @@ impl Json {
         ensures apart { IfOk result (λ b. b ≡ true → IsApart T.took taker.new bytes.now name.now self.new) }
         ensures value { IsValue self.new }
     {
-        self.nodes.clear();
-        self.texts.clear();
-        let read = read_flat_apart(
-            alloc,
-            scratch,
-            bytes,
-            name,
-            taker,
-            &mut self.nodes,
-            &mut self.texts,
-            &mut self.spare,
-        );
+        self.flat.nodes.clear();
+        self.flat.texts.clear();
+        let read = read_flat_apart(alloc, scratch, bytes, name, taker, &mut self.flat);
         if read.is_err() {
-            self.nodes.clear();
+            self.flat.nodes.clear();
         }
         match read {
             Ok(()) => Ok(true),

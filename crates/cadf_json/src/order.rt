@@ -8,10 +8,11 @@ ghost use Rattle.cadf_json.specs.Reading.{StandsAsRead, Copied, AreNamed, put_na
 
 use crate::front::Fronted;
 use crate::node::Node;
-use crate::push::extent_from;
+use crate::push::{Flat, extent_from};
 use crate::value::JsonFault;
 use crate::walk::first_member;
 use std::alloc::{AllocError, Global};
+use std::mem::swap;
 
 /// Memory for more nodes isn't kept.
 const MOST_SPARE: usize = 1 << 12;
@@ -24,20 +25,14 @@ struct Named<'v> {
 }
 
 /// Puts the members of each object in order. `NotWhole` if a number that is left isn't whole.
-pub(crate) fn settle(
-    alloc: Global,
-    rising: bool,
-    nodes: &mut Vec<Node>,
-    texts: &Vec<u8>,
-    spare: &mut Vec<Node>,
-) -> Result<(), JsonFault>
-    requires { (d : Data) × StandsAsRead rising texts.now.items d nodes.old.items }
-    ensures ok { OnOk result ((d : Data) → StandsAsRead rising texts.now.items d nodes.old.items → IsSettled texts.now.items d nodes.new.items) }
-    ensures not_whole { result ≡ Err JsonFault.NotWhole → (d : Data) → StandsAsRead rising texts.now.items d nodes.old.items → has_float d ≡ true }
+pub(crate) fn settle(alloc: Global, rising: bool, flat: &mut Flat) -> Result<(), JsonFault>
+    requires { (d : Data) × StandsAsRead rising flat.old.texts.items d flat.old.nodes.items }
+    ensures ok { OnOk result ((d : Data) → StandsAsRead rising flat.old.texts.items d flat.old.nodes.items → IsSettled flat.new.texts.items d flat.new.nodes.items) }
+    ensures not_whole { result ≡ Err JsonFault.NotWhole → (d : Data) → StandsAsRead rising flat.old.texts.items d flat.old.nodes.items → has_float d ≡ true }
     ensures others { (result ≢ Err JsonFault.NotJson) × (result ≢ Err JsonFault.NotCanonical) }
 {
-    put_in_order(alloc, rising, nodes, texts, spare)?;
-    if has_fraction(nodes.as_slice()) {
+    put_in_order(alloc, rising, flat)?;
+    if has_fraction(flat.nodes.as_slice()) {
         return Err(JsonFault::NotWhole);
     }
     Ok(())
@@ -52,25 +47,23 @@ fn has_fraction(nodes: &[Node]) -> bool
 
 /// Puts the members of each object in the order of their names, unless all rise; of two with the same name the later one
 /// stays.
-fn put_in_order(
-    alloc: Global,
-    rising: bool,
-    nodes: &mut Vec<Node>,
-    texts: &Vec<u8>,
-    spare: &mut Vec<Node>,
-) -> Result<(), AllocError>
-    requires { (d : Data) × StandsAsRead rising texts.now.items d nodes.old.items }
-    ensures { OnOk result ((d : Data) → StandsAsRead rising texts.now.items d nodes.old.items → Stands texts.now.items d nodes.new.items) }
+fn put_in_order(alloc: Global, rising: bool, flat: &mut Flat) -> Result<(), AllocError>
+    requires { (d : Data) × StandsAsRead rising flat.old.texts.items d flat.old.nodes.items }
+    ensures { OnOk result ((d : Data) → StandsAsRead rising flat.old.texts.items d flat.old.nodes.items → Stands flat.new.texts.items d flat.new.nodes.items) }
 {
     if rising {
         return Ok(());
     }
-    spare.clear();
-    spare.reserve(nodes.len())?;
-    copy_value(alloc, nodes.as_slice(), texts.as_slice(), spare)?;
-    nodes.clear();
-    nodes.extend_from_slice(spare.as_slice())?;
-    free_if_large(alloc, spare);
+    flat.spare.clear();
+    flat.spare.reserve(flat.nodes.len())?;
+    copy_value(
+        alloc,
+        flat.nodes.as_slice(),
+        flat.texts.as_slice(),
+        &mut flat.spare,
+    )?;
+    swap(&mut flat.nodes, &mut flat.spare);
+    free_if_large(alloc, &mut flat.spare);
     Ok(())
 }
 

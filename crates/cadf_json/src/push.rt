@@ -12,6 +12,15 @@ use crate::number::Number;
 use crate::value::JsonFault;
 use std::alloc::AllocError;
 
+/// The nodes of a value, and its decoded texts.
+#[derive(Drop)]
+pub(crate) struct Flat {
+    pub(crate) nodes: Vec<Node>,
+    pub(crate) texts: Vec<u8>,
+    /// The memory in which members are put in order.
+    pub(crate) spare: Vec<Node>,
+}
+
 /// The greatest length of the texts, and the greatest number of nodes.
 pub(crate) const MOST: usize = u32::MAX as usize;
 
@@ -34,44 +43,36 @@ pub(crate) fn push_text(text: &str, texts: &mut Vec<u8>) -> Result<Place, AllocE
 
 /// Appends a text and its node.
 #[inline(always)]
-pub(crate) fn push_string(
-    text: &str,
-    nodes: &mut Vec<Node>,
-    texts: &mut Vec<u8>,
-) -> Result<(), AllocError>
-    ensures { OnOk result (Grown (λ u xs. TextStands u text.now xs) nodes.old.items nodes.new.items texts.old.items texts.new.items) }
+pub(crate) fn push_string(text: &str, flat: &mut Flat) -> Result<(), AllocError>
+    ensures { OnOk result (Grown (λ u xs. TextStands u text.now xs) flat.old.nodes.items flat.new.nodes.items flat.old.texts.items flat.new.texts.items) }
 {
-    let place = push_text(text, texts)?;
-    nodes.push(Node::Text(place))?;
+    let place = push_text(text, &mut flat.texts)?;
+    flat.nodes.push(Node::Text(place))?;
     Ok(())
 }
 
 /// Appends a number. `NotJson` if it has no value.
-pub(crate) fn push_number(
-    text: &str,
-    nodes: &mut Vec<Node>,
-    texts: &mut Vec<u8>,
-) -> Result<(), JsonFault>
-    ensures ok { OnOk result (IsNumberRead text.now nodes.old.items nodes.new.items texts.old.items texts.new.items) }
+pub(crate) fn push_number(text: &str, flat: &mut Flat) -> Result<(), JsonFault>
+    ensures ok { OnOk result (IsNumberRead text.now flat.old.nodes.items flat.new.nodes.items flat.old.texts.items flat.new.texts.items) }
     ensures not_json { result ≡ Err JsonFault.NotJson → number_of text.now ≡ None }
     ensures others { (result ≢ Err JsonFault.NotWhole) × (result ≢ Err JsonFault.NotCanonical) }
 {
     let mut buffer = itoa::Buffer::new();
     match Number::parse(text) {
-        Some(Number::Unsigned(n)) => Ok(push_whole(buffer.format(n), nodes, texts)?),
-        Some(Number::Negative(n)) => Ok(push_whole(buffer.format(n), nodes, texts)?),
-        Some(Number::Float(_)) => Ok(nodes.push(Node::Fraction)?),
+        Some(Number::Unsigned(n)) => Ok(push_whole(buffer.format(n), flat)?),
+        Some(Number::Negative(n)) => Ok(push_whole(buffer.format(n), flat)?),
+        Some(Number::Float(_)) => Ok(flat.nodes.push(Node::Fraction)?),
         None => Err(JsonFault::NotJson),
     }
 }
 
 /// Appends a whole number in canonical spelling.
-fn push_whole(spelled: &str, nodes: &mut Vec<Node>, texts: &mut Vec<u8>) -> Result<(), AllocError>
+fn push_whole(spelled: &str, flat: &mut Flat) -> Result<(), AllocError>
     ensures { OnOk result ((n : Num) → IsWholeNumber n → spelled.now ≡ number_text n
-        → Grown (λ u xs. NumberStands u n xs) nodes.old.items nodes.new.items texts.old.items texts.new.items) }
+        → Grown (λ u xs. NumberStands u n xs) flat.old.nodes.items flat.new.nodes.items flat.old.texts.items flat.new.texts.items) }
 {
-    let place = push_text(spelled, texts)?;
-    nodes.push(Node::Whole(place))?;
+    let place = push_text(spelled, &mut flat.texts)?;
+    flat.nodes.push(Node::Whole(place))?;
     Ok(())
 }
 

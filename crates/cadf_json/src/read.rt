@@ -3,7 +3,7 @@ ghost use Rattle.std.specs.Prelude.{◌≡◌, ◌≢◌, ◌<◌, ◌&&◌, len
 ghost use Rattle.cadf_json.specs.Reading.{ReadsValue, IsNoValue, AreItemsRead, AreNoItems, AreMembersRead, AreNoMembers, is_name_above};
 
 use crate::node::Node;
-use crate::push::{extent_from, push_number, push_string};
+use crate::push::{Flat, extent_from, push_number, push_string};
 use crate::value::JsonFault;
 use json::{Reader, Token};
 
@@ -16,10 +16,9 @@ pub(crate) const MAX_DEPTH: usize = 127;
 pub(crate) fn read_value(
     reader: &mut Reader<'_>,
     depth: usize,
-    nodes: &mut Vec<Node>,
-    texts: &mut Vec<u8>,
+    flat: &mut Flat,
 ) -> Result<bool, JsonFault>
-    ensures ok { IfOk result (λ rising. ReadsValue rising depth reader.old reader.new nodes.old.items nodes.new.items texts.old.items texts.new.items) }
+    ensures ok { IfOk result (λ rising. ReadsValue rising depth reader.old reader.new flat.old.nodes.items flat.new.nodes.items flat.old.texts.items flat.new.texts.items) }
     ensures not_json { result ≡ Err JsonFault.NotJson → IsNoValue depth reader.old }
     ensures others { (result ≢ Err JsonFault.NotWhole) × (result ≢ Err JsonFault.NotCanonical) }
     ensures shorter { OnOk result (length reader.new < length reader.old) }
@@ -28,17 +27,12 @@ pub(crate) fn read_value(
         return Err(JsonFault::NotJson);
     };
     match token {
-        Token::String(text) => push_string(text, nodes, texts)?,
-        Token::Number(text) => push_number(text, nodes, texts)?,
-        Token::Bool(b) => nodes.push(Node::Bool(b))?,
-        Token::Null => nodes.push(Node::Null)?,
-        Token::BeginArray if depth > 0 => return Ok(read_items(reader, depth - 1, nodes, texts)?),
-        Token::BeginObject if depth > 0 => return Ok(read_members(
-            reader,
-            depth - 1,
-            nodes,
-            texts,
-        )?),
+        Token::String(text) => push_string(text, flat)?,
+        Token::Number(text) => push_number(text, flat)?,
+        Token::Bool(b) => flat.nodes.push(Node::Bool(b))?,
+        Token::Null => flat.nodes.push(Node::Null)?,
+        Token::BeginArray if depth > 0 => return Ok(read_items(reader, depth - 1, flat)?),
+        Token::BeginObject if depth > 0 => return Ok(read_members(reader, depth - 1, flat)?),
         _ => return Err(JsonFault::NotJson),
     }
     Ok(true)
@@ -47,30 +41,25 @@ pub(crate) fn read_value(
 /// Appends a list of the next items, the opening bracket of which was read.
 #[cycle(read_value)]
 #[inline(never)]
-fn read_items(
-    reader: &mut Reader<'_>,
-    depth: usize,
-    nodes: &mut Vec<Node>,
-    texts: &mut Vec<u8>,
-) -> Result<bool, JsonFault>
-    ensures ok { IfOk result (λ rising. AreItemsRead rising depth reader.old reader.new nodes.old.items nodes.new.items texts.old.items texts.new.items) }
+fn read_items(reader: &mut Reader<'_>, depth: usize, flat: &mut Flat) -> Result<bool, JsonFault>
+    ensures ok { IfOk result (λ rising. AreItemsRead rising depth reader.old reader.new flat.old.nodes.items flat.new.nodes.items flat.old.texts.items flat.new.texts.items) }
     ensures not_json { result ≡ Err JsonFault.NotJson → AreNoItems depth reader.old }
     ensures others { (result ≢ Err JsonFault.NotWhole) × (result ≢ Err JsonFault.NotCanonical) }
     ensures shorter { OnOk result (length reader.new < length reader.old) }
 {
-    let at = nodes.len();
-    nodes.push(Node::Null)?;
+    let at = flat.nodes.len();
+    flat.nodes.push(Node::Null)?;
     let mut count: u32 = 0;
     let mut rising = true;
     'items: while !reader.take_end_array() {
-        rising = read_value(reader, depth, nodes, texts)? & rising;
+        rising = read_value(reader, depth, flat)? & rising;
         if count == u32::MAX {
             return Err(JsonFault::Memory);
         }
         count += 1;
     }
-    let extent = extent_from(nodes, at, count)?;
-    nodes[at] = Node::Array(extent);
+    let extent = extent_from(&flat.nodes, at, count)?;
+    flat.nodes[at] = Node::Array(extent);
     Ok(rising)
 }
 
@@ -80,16 +69,15 @@ fn read_items(
 fn read_members<'a>(
     reader: &mut Reader<'a>,
     depth: usize,
-    nodes: &mut Vec<Node>,
-    texts: &mut Vec<u8>,
+    flat: &mut Flat,
 ) -> Result<bool, JsonFault>
-    ensures ok { IfOk result (λ rising. AreMembersRead rising depth reader.old reader.new nodes.old.items nodes.new.items texts.old.items texts.new.items) }
+    ensures ok { IfOk result (λ rising. AreMembersRead rising depth reader.old reader.new flat.old.nodes.items flat.new.nodes.items flat.old.texts.items flat.new.texts.items) }
     ensures not_json { result ≡ Err JsonFault.NotJson → AreNoMembers depth reader.old }
     ensures others { (result ≢ Err JsonFault.NotWhole) × (result ≢ Err JsonFault.NotCanonical) }
     ensures shorter { OnOk result (length reader.new < length reader.old) }
 {
-    let at = nodes.len();
-    nodes.push(Node::Null)?;
+    let at = flat.nodes.len();
+    flat.nodes.push(Node::Null)?;
     let mut count: u32 = 0;
     let mut last: Option<&'a str> = None;
     let mut rising = true;
@@ -101,16 +89,16 @@ fn read_members<'a>(
             break;
         };
         rising = rises_to(rising, last, name);
-        push_string(name, nodes, texts)?;
-        rising = read_value(reader, depth, nodes, texts)? & rising;
+        push_string(name, flat)?;
+        rising = read_value(reader, depth, flat)? & rising;
         if count == u32::MAX {
             return Err(JsonFault::Memory);
         }
         count += 1;
         last = Some(name);
     }
-    let extent = extent_from(nodes, at, count)?;
-    nodes[at] = Node::Object(extent);
+    let extent = extent_from(&flat.nodes, at, count)?;
+    flat.nodes[at] = Node::Object(extent);
     Ok(rising)
 }
 

@@ -19,9 +19,9 @@ returns g c =
     let l = c.members in
     let s = c.next_key.new.self in
     let over : read_key l.reader ≡ Some (None, s) = c.in-Ok.ensures.value ∙ ap (λ o. Some (option_map (λ x. x.now) o, s)) c.in_default-key.is in
-    let len = l.nodes.ok.0 in
-    apart_over g.T.ItemVisitor.took c.args.name.now (value c.args.depth) c.args.reader.now c.args.nodes.now.items c.args.texts.now.items l.taker l.reader s
-    l.nodes.items (set l.nodes.items c.len-at.result (Object c.in_ok-extent.extent)) l.texts.items l.count c.len-at.result l.nodes.len
+    let len = l.flat.nodes.ok.0 in
+    apart_over g.T.ItemVisitor.took c.args.name.now (value c.args.depth) c.args.reader.now c.args.flat.now.nodes.items c.args.flat.now.texts.items l.taker l.reader s
+    l.flat.nodes.items (set l.flat.nodes.items c.len-at.result (Object c.in_ok-extent.extent)) l.flat.texts.items l.count c.len-at.result l.flat.nodes.len
     (option_map (λ x. x.now) l.last) l.rising c.in_ok-extent.extent l.invariant.0 over l.invariant.1 (omega (arith, len)) c.in_ok-extent.ensures refl
 
 pub members-preserved : goal.members-preserved
@@ -31,8 +31,8 @@ members-preserved g c =
     let l = c.members in
     let p = value c.args.depth in
     let start = c.args.reader.now in
-    let old = c.args.nodes.now.items in
-    let u = c.args.texts.now.items in
+    let old = c.args.flat.now.nodes.items in
+    let u = c.args.flat.now.texts.items in
     let last = option_map (λ x. x.now) l.last in
     let k = c.in-Some.key in
     let s = c.next_key.new.self in
@@ -44,10 +44,10 @@ members-preserved g c =
     let later = done.shorter in
     let less : length r < length l.reader = omega (arith, sooner, later) in
     let read = done.ok in (
-      subst (λ b. Apart took l.taker name p start r old c.read_value.new.nodes.items u c.read_value.new.texts.items (l.count + 1) (Some k.now)
+      subst (λ b. Apart took l.taker name p start r old c.read_value.new.flat.nodes.items u c.read_value.new.flat.texts.items (l.count + 1) (Some k.now)
           (c.in_ok-rising.field-0 && b)) (sym c.rises_to-rising.ensures)
-          (apart_other took name p start old u l.taker l.reader s r l.nodes.items c.push_string.new.nodes.items c.read_value.new.nodes.items l.texts.items
-          c.push_string.new.texts.items c.read_value.new.texts.items l.count last l.rising _ k.now read.0 l.invariant.0 other named c.in_ok-push_string.ensures
+          (apart_other took name p start old u l.taker l.reader s r l.flat.nodes.items c.push_string.new.flat.nodes.items c.read_value.new.flat.nodes.items l.flat.texts.items
+          c.push_string.new.flat.texts.items c.read_value.new.flat.texts.items l.count last l.rising _ k.now read.0 l.invariant.0 other named c.in_ok-push_string.ensures
           read.1.0 read.1.1 less),
       l.invariant.1,
       rest_utf8 c.args.depth s r read.0 (key_utf8 l.reader s (Some k.now) l.invariant.2 named) read.1.0,
@@ -60,8 +60,8 @@ members-preserved-in_ok-pass_list g c =
     let l = c.members in
     let p = value c.args.depth in
     let start = c.args.reader.now in
-    let old = c.args.nodes.now.items in
-    let u = c.args.texts.now.items in
+    let old = c.args.flat.now.nodes.items in
+    let u = c.args.flat.now.texts.items in
     let last = option_map (λ x. x.now) l.last in
     let k = c.in-Some.key in
     let s = c.next_key.new.self in
@@ -73,13 +73,13 @@ members-preserved-in_ok-pass_list g c =
     let later = done.shorter in
     let less : length r < length l.reader = omega (arith, sooner, later) in
     let list = done.ok in
-    let w = c.push_string.new.texts.items in
-    let grown : Grown (λ u xs. StandsAsRead true u (array no_items) xs) c.push_string.new.nodes.items c.pass_list.new.nodes.items w w =
+    let w = c.push_string.new.flat.texts.items in
+    let grown : Grown (λ u xs. StandsAsRead true u (array no_items) xs) c.push_string.new.flat.nodes.items c.pass_list.new.nodes.items w w =
     scalar (array no_items) refl (record { xs = _ ∷ []; more = []; nodes = list.1.2; texts = sym (append-nil w); stands = (_, ([], (refl, (refl, refl), refl))) }) in (
       subst (λ b. Apart took c.pass_list.new.taker name p start r old c.pass_list.new.nodes.items u w (l.count + 1) (Some k.now) b)
           (sym c.rises_to-rising.ensures)
-          (apart_list took name p start old u l.taker c.pass_list.new.taker l.reader s r l.nodes.items c.push_string.new.nodes.items
-          c.pass_list.new.nodes.items l.texts.items w w l.count last l.rising k.now list.0 l.invariant.0 equal named c.in_ok-push_string.ensures
+          (apart_list took name p start old u l.taker c.pass_list.new.taker l.reader s r l.flat.nodes.items c.push_string.new.flat.nodes.items
+          c.pass_list.new.nodes.items l.flat.texts.items w w l.count last l.rising k.now list.0 l.invariant.0 equal named c.in_ok-push_string.ensures
           list.1.1 grown less list.1.0),
       l.invariant.1,
       rest_utf8 c.args.depth s r (array list.0) (key_utf8 l.reader s (Some k.now) l.invariant.2 named) list.1.1,

@@ -97,7 +97,7 @@ read_items-returns-in_err-rising-clause-not_json t c h =
     let l = c.items in
     let going : (after_end_array l.reader ≡ None) × (c.take_end_array.new.self ≡ l.reader) = grind arith in
     let failed : Err c.in_err-rising.field-0.0 ≡ Err NotJson = search rules in
-    no_items_here (value c.args.depth) c.args.reader.now c.args.nodes.now.items c.args.texts.now.items l.reader l.nodes.items l.texts.items l.count l.rising l.invariant.0
+    no_items_here (value c.args.depth) c.args.reader.now c.args.flat.now.nodes.items c.args.flat.now.texts.items l.reader l.flat.nodes.items l.flat.texts.items l.count l.rising l.invariant.0
     going.0 (subst (λ ts. converted of_json (value c.args.depth ts) ≡ None) going.1 (c.in_err-rising.ensures.not_json failed))
 
 pub read_items-items-preserved : goal.read_items-items-preserved
@@ -109,17 +109,17 @@ read_items-items-preserved t c =
     let r = c.read_value.new.reader in
     let less : length r < length l.reader = rw (← going.1) done.shorter in
     let read = done.ok in (
-      one_more_item p c.args.reader.now c.args.nodes.now.items c.args.texts.now.items l.reader r l.nodes.items c.read_value.new.nodes.items l.texts.items
-          c.read_value.new.texts.items l.count l.rising _ read.0 l.invariant.0 going.0 (rw (← going.1) read.1.0) read.1.1 less,
+      one_more_item p c.args.reader.now c.args.flat.now.nodes.items c.args.flat.now.texts.items l.reader r l.flat.nodes.items c.read_value.new.flat.nodes.items l.flat.texts.items
+          c.read_value.new.flat.texts.items l.count l.rising _ read.0 l.invariant.0 going.0 (rw (← going.1) read.1.0) read.1.1 less,
       l.invariant.1,
     )
 
 pub read_items-returns-clause-ok : goal.read_items-returns-clause-ok
 read_items-returns-clause-ok t c =
     let l = c.items in
-    let len = l.nodes.ok.0 in
-    all_items (value c.args.depth) c.args.reader.now c.args.nodes.now.items c.args.texts.now.items l.reader c.take_end_array.new.self l.nodes.items
-    (set l.nodes.items c.len-at.result (Array c.in_ok-extent.extent)) l.texts.items l.count c.len-at.result l.nodes.len l.rising c.in_ok-extent.extent l.invariant.0 (grind arith)
+    let len = l.flat.nodes.ok.0 in
+    all_items (value c.args.depth) c.args.reader.now c.args.flat.now.nodes.items c.args.flat.now.texts.items l.reader c.take_end_array.new.self l.flat.nodes.items
+    (set l.flat.nodes.items c.len-at.result (Array c.in_ok-extent.extent)) l.flat.texts.items l.count c.len-at.result l.flat.nodes.len l.rising c.in_ok-extent.extent l.invariant.0 (grind arith)
     l.invariant.1 (omega (arith, len)) c.in_ok-extent.ensures refl
 
 -- ---- members
@@ -131,7 +131,7 @@ pub read_members-returns-in_default-clause-not_json : goal.read_members-returns-
 read_members-returns-in_default-clause-not_json t c h =
     let l = c.members in
     let key : read_key l.reader ≡ None = grind arith in
-    no_key_here (λ ms. ms) (value c.args.depth) c.args.reader.now c.args.nodes.now.items c.args.texts.now.items l.reader l.nodes.items l.texts.items l.count
+    no_key_here (λ ms. ms) (value c.args.depth) c.args.reader.now c.args.flat.now.nodes.items c.args.flat.now.texts.items l.reader l.flat.nodes.items l.flat.texts.items l.count
     (option_map (λ x. x.now) l.last) l.rising l.invariant.0 key
 
 pub read_members-returns-clause-ok : goal.read_members-returns-clause-ok
@@ -139,10 +139,10 @@ read_members-returns-clause-ok t c =
     let l = c.members in
     let s = c.next_key.new.self in
     let over : read_key l.reader ≡ Some (None, s) = c.in-Ok.ensures.value ∙ ap (λ o. Some (option_map (λ x. x.now) o, s)) c.in_default-key.is in
-    let len = l.nodes.ok.0 in (
+    let len = l.flat.nodes.ok.0 in (
       put_all l.invariant.0.got no_members,
-      all_members (λ ms. ms) (value c.args.depth) c.args.reader.now c.args.nodes.now.items c.args.texts.now.items l.reader s l.nodes.items
-          (set l.nodes.items c.len-at.result (Object c.in_ok-extent.extent)) l.texts.items l.count c.len-at.result l.nodes.len
+      all_members (λ ms. ms) (value c.args.depth) c.args.reader.now c.args.flat.now.nodes.items c.args.flat.now.texts.items l.reader s l.flat.nodes.items
+          (set l.flat.nodes.items c.len-at.result (Object c.in_ok-extent.extent)) l.flat.texts.items l.count c.len-at.result l.flat.nodes.len
           (option_map (λ x. x.now) l.last) l.rising c.in_ok-extent.extent l.invariant.0 over l.invariant.1 (omega (arith, len)) c.in_ok-extent.ensures refl,
     )
 
@@ -153,7 +153,7 @@ read_members-returns-in_err-rising-clause-not_json t c h =
     let s = c.next_key.new.self in
     let named : read_key l.reader ≡ Some (Some k.now, s) = c.in-Ok.ensures.value ∙ ap (λ o. Some (option_map (λ x. x.now) o, s)) c.in-Some.is in
     let failed : Err c.in_err-rising.field-0.0 ≡ Err NotJson = search rules in
-    no_member_here (λ ms. ms) (value c.args.depth) c.args.reader.now c.args.nodes.now.items c.args.texts.now.items l.reader s l.nodes.items l.texts.items l.count
+    no_member_here (λ ms. ms) (value c.args.depth) c.args.reader.now c.args.flat.now.nodes.items c.args.flat.now.texts.items l.reader s l.flat.nodes.items l.flat.texts.items l.count
     (option_map (λ x. x.now) l.last) l.rising k.now l.invariant.0 named (c.in_err-rising.ensures.not_json failed)
 
 pub read_members-members-preserved : goal.read_members-members-preserved
@@ -161,8 +161,8 @@ read_members-members-preserved t c =
     let l = c.members in
     let p = value c.args.depth in
     let start = c.args.reader.now in
-    let old = c.args.nodes.now.items in
-    let u = c.args.texts.now.items in
+    let old = c.args.flat.now.nodes.items in
+    let u = c.args.flat.now.texts.items in
     let last = option_map (λ x. x.now) l.last in
     let k = c.in-Some.name in
     let s = c.next_key.new.self in
@@ -173,10 +173,10 @@ read_members-members-preserved t c =
     let later = done.shorter in
     let less : length r < length l.reader = omega (arith, sooner, later) in
     let read = done.ok in (
-      subst (λ b. MembersRead (λ ms. ms) p start r old c.read_value.new.nodes.items u c.read_value.new.texts.items (l.count + 1) (Some k.now) (c.in_ok-rising.field-0 && b))
+      subst (λ b. MembersRead (λ ms. ms) p start r old c.read_value.new.flat.nodes.items u c.read_value.new.flat.texts.items (l.count + 1) (Some k.now) (c.in_ok-rising.field-0 && b))
           (sym c.rises_to-rising.ensures)
-          (one_more_member (λ ms. ms) p start old u l.reader s r l.nodes.items c.push_string.new.nodes.items c.read_value.new.nodes.items l.texts.items
-          c.push_string.new.texts.items c.read_value.new.texts.items l.count last l.rising _ _ k.now read.0 read.0 l.invariant.0 named
+          (one_more_member (λ ms. ms) p start old u l.reader s r l.flat.nodes.items c.push_string.new.flat.nodes.items c.read_value.new.flat.nodes.items l.flat.texts.items
+          c.push_string.new.flat.texts.items c.read_value.new.flat.texts.items l.count last l.rising _ _ k.now read.0 read.0 l.invariant.0 named
           c.in_ok-push_string.ensures read.1.0 read.1.1 less refl (and_parts c.in_ok-rising.field-0 (l.rising && is_name_above last k.now))),
       l.invariant.1,
     )
