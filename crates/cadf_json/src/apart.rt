@@ -106,18 +106,17 @@ fn pass_members<'a, T: ItemVisitor>(
     Ok(rising)
 }
 
-/// Reads the object that the bytes spell into empty vectors, but passes the items of the list `name` to the visitor.
+/// Reads the object that the bytes spell into this memory, but passes the items of the list `name` to the visitor.
 fn read_flat_apart<T: ItemVisitor>(
     alloc: Global,
     scratch: &mut Scratch,
     bytes: &[u8],
     name: &str,
     taker: &mut T,
-    flat: &mut Flat,
-) -> Result<(), JsonFault>
-    requires { flat.old.nodes.items ≡ [] }
-    ensures ok { OnOk result (IsApart T.took taker.new bytes.now name.now (decode flat.new.texts.items flat.new.nodes.items)) }
-    ensures flat { OnOk result (IsFlatValue flat.new.texts.items flat.new.nodes.items) }
+    mut flat: Flat,
+) -> Result<Json, JsonFault>
+    requires { flat.nodes.items ≡ [] }
+    ensures { IfOk result (λ j. IsApart T.took taker.new bytes.now name.now j) }
 {
     let Ok(text) = str::from_utf8(bytes) else {
         return Err(JsonFault::NotJson);
@@ -126,11 +125,12 @@ fn read_flat_apart<T: ItemVisitor>(
     let Some(Token::BeginObject) = reader.next() else {
         return Err(JsonFault::NotJson);
     };
-    let rising = pass_members(alloc, &mut reader, MAX_DEPTH - 1, name, taker, flat)?;
+    let rising = pass_members(alloc, &mut reader, MAX_DEPTH - 1, name, taker, &mut flat)?;
     if reader.next().is_some() {
         return Err(JsonFault::NotJson);
     }
-    settle(alloc, rising, flat)
+    settle(alloc, rising, &mut flat)?;
+    Ok(Json { flat })
 }
 
 impl Json {
@@ -147,14 +147,12 @@ impl Json {
         ensures apart { IfOk result (λ b. b ≡ true → IsApart T.took taker.new bytes.now name.now self.new) }
         ensures value { IsValue self.new }
     {
-        self.flat.nodes.clear();
-        self.flat.texts.clear();
-        let read = read_flat_apart(alloc, scratch, bytes, name, taker, &mut self.flat);
-        if read.is_err() {
-            self.flat.nodes.clear();
-        }
-        match read {
-            Ok(()) => Ok(true),
+        let flat = self.emptied(alloc);
+        match read_flat_apart(alloc, scratch, bytes, name, taker, flat) {
+            Ok(json) => {
+                *self = json;
+                Ok(true)
+            }
             Err(JsonFault::Memory) => Err(Memory),
             Err(_) => Ok(false),
         }

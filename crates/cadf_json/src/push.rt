@@ -1,5 +1,5 @@
 //! Nodes and decoded texts, appended.
-ghost use Rattle.std.specs.Prelude.{◌≡◌, ◌≢◌, ◌-◌, ◌≤◌, ◌++◌, None, IfOk, OnOk, vec_len};
+ghost use Rattle.std.specs.Prelude.{◌≡◌, ◌≢◌, ◌-◌, ◌≤◌, ◌++◌, [], None, IfOk, OnOk, vec_len};
 ghost use Rattle.serde_json.specs.Data.{Num};
 ghost use Rattle.serde_json.specs.Read.{number_of};
 ghost use Rattle.serde_json.specs.Written.{number_text};
@@ -10,7 +10,7 @@ ghost use Rattle.cadf_json.specs.Reading.{Grown, IsNumberRead};
 use crate::node::{Extent, Node, Place};
 use crate::number::Number;
 use crate::value::JsonFault;
-use std::alloc::AllocError;
+use std::alloc::{AllocError, Global};
 
 /// The nodes of a value, and its decoded texts.
 #[derive(Drop)]
@@ -19,6 +19,19 @@ pub(crate) struct Flat {
     pub(crate) texts: Vec<u8>,
     /// The memory in which members are put in order.
     pub(crate) spare: Vec<Node>,
+}
+
+impl Flat {
+    /// Makes no nodes, without allocating.
+    pub(crate) fn new(alloc: Global) -> Flat
+        ensures { result.nodes.items ≡ [] }
+    {
+        Flat {
+            nodes: Vec::new(alloc),
+            texts: Vec::new(alloc),
+            spare: Vec::new(alloc),
+        }
+    }
 }
 
 /// The greatest length of the texts, and the greatest number of nodes.

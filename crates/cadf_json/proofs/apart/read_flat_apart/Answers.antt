@@ -1,6 +1,5 @@
 use Rattle.std.proofs.lemmas.Grind.{common_steps}
 use Rattle.std.proofs.Common.{◌≡◌, [], ◌∷◌, length, Some, IsUtf8, sym, ap, ◌∙◌, arith, rules}
-use Rattle.std.proofs.lemmas.Result.{on_ok_weaker}
 use Rattle.json.specs.Token.{Token}
 use Rattle.json.specs.Lex.{tokens}
 use Rattle.json.specs.Json.{parse_map, members, value}
@@ -22,8 +21,8 @@ pass_members-requires-clause-utf8 g c = grind (arith, common_steps, tokens_utf8)
 pub settle-requires : goal.settle-requires
 settle-requires g c = grind (arith, common_steps, from_none)
 
-pub returns-clause-ok : goal.returns-clause-ok
-returns-clause-ok g c =
+pub returns : goal.returns
+returns g c =
     let bytes = c.args.bytes.now in
     let same : c.in-Ok.text.now ≡ bytes = search rules in
     let utf8 : IsUtf8 bytes = search rules in
@@ -36,12 +35,11 @@ returns-clause-ok g c =
     ∙ converted-object (members (value 126) (length rest) rest) in
     let whole = opened ∙ ap (parse_map object) got.1.0 ∙ ap (λ r. Some (object ms, r)) none in
     let e = object (emptied_in c.args.name.now ms) in
-    on_ok_weaker c.settle.result (λ settled. let s = settled e (from_none c.in_ok-rising.rising e c.requires got.1.2) in
-    (ms, ((utf8, whole_read (value 127 (tokens bytes)) (object ms) whole, sym (float_in c.args.name.now ms) ∙ s.is_whole), s.decodes, got.1.1)))
-    c.settle.ensures.ok
+    let s = c.in_ok-settle.ensures.ok e (from_none c.in_ok-rising.rising e c.requires got.1.2) in
+    (ms, ((utf8, whole_read (value 127 (tokens bytes)) (object ms) whole, sym (float_in c.args.name.now ms) ∙ s.is_whole), s.decodes, got.1.1))
 
-pub returns-clause-flat : goal.returns-clause-flat
-returns-clause-flat g c =
+pub invariant_of-result : goal.invariant_of-result
+invariant_of-result g c =
     let bytes = c.args.bytes.now in
     let same : c.in-Ok.text.now ≡ bytes = search rules in
     let utf8 : IsUtf8 bytes = search rules in
@@ -55,6 +53,6 @@ returns-clause-flat g c =
     ∙ converted-object (members (value 126) (length rest) rest) in
     let whole = whole_read (value 127 (tokens bytes)) (object ms) (opened ∙ ap (parse_map object) got.1.0 ∙ ap (λ r. Some (object ms, r)) none) in
     let e = object (emptied_in name ms) in
-    on_ok_weaker c.settle.result (λ settled. let s = settled e (from_none c.in_ok-rising.rising e c.requires got.1.2) in
+    let s = c.in_ok-settle.ensures.ok e (from_none c.in_ok-rising.rising e c.requires got.1.2) in
     let no_float = sym (float_in name ms) ∙ s.is_whole in
-    flat_value _ e _ s (value_in name ms (spelled_is_value bytes (object ms) (utf8, whole, no_float)) no_float)) c.settle.ensures.ok
+    flat_value _ e _ s (value_in name ms (spelled_is_value bytes (object ms) (utf8, whole, no_float)) no_float)

@@ -1,7 +1,7 @@
-use Rattle.std.proofs.Common.{◌≡◌, [], Some, IsUtf8, sym, ap, ◌∙◌, arith, rules}
-use Rattle.std.proofs.lemmas.Result.{on_ok_weaker}
+use Rattle.std.proofs.Common.{◌≡◌, [], Some, Err, IsUtf8, sym, ap, ◌∙◌, arith, rules}
 use Rattle.json.specs.Lex.{tokens}
 use Rattle.serde_json.specs.Written.{has_float}
+use Rattle.cadf_json.specs.declared.value.JsonFault.TheVariants.{NotWhole}
 use Rattle.cadf_json.proofs.Decoding.{flat_value}
 use Rattle.cadf_json.proofs.Settling.{from_none}
 use Rattle.cadf_json.proofs.Spelled.{spelled_is_value}
@@ -9,38 +9,43 @@ use Rattle.cadf_json.proofs.Whole.{text_read}
 use Rattle.cadf_json.proofs.value.read_flat.Goals as goal
 
 pub settle-requires : goal.settle-requires
-settle-requires c = let got = c.in_ok-rising.ensures.ok in (got.0, from_none c.in_ok-rising.rising got.0 c.requires got.1.1)
+settle-requires c =
+    let got = c.in_ok-rising.ensures.ok in
+    let empty : c.reserve-2.new.self.items ≡ [] = search rules in
+    (got.0, from_none c.in_ok-rising.rising got.0 empty got.1.1)
 
-pub returns-clause-not_whole : goal.returns-clause-not_whole
-returns-clause-not_whole c h =
+pub returns-in_err-settle-clause-not_whole : goal.returns-in_err-settle-clause-not_whole
+returns-in_err-settle-clause-not_whole c h =
     let bytes = c.args.bytes.now in
     let same : c.in-Ok.text.now ≡ bytes = search rules in
     let utf8 : IsUtf8 bytes = search rules in
+    let empty : c.reserve-2.new.self.items ≡ [] = search rules in
     let got = c.in_ok-rising.ensures.ok in
     let none : c.read_value.new.reader ≡ [] = grind arith in
     let whole = text_read bytes got.0 _ _ (c.in_ok-reader.ensures.ok ∙ ap tokens same) got.1.0 none in
-    (got.0, utf8, whole, c.settle.ensures.not_whole h got.0 (from_none c.in_ok-rising.rising got.0 c.requires got.1.1))
+    let failed : Err c.in_err-settle.field-0.0 ≡ Err NotWhole = search rules in
+    (got.0, utf8, whole, c.in_err-settle.ensures.not_whole failed got.0 (from_none c.in_ok-rising.rising got.0 empty got.1.1))
 
 pub returns-clause-ok : goal.returns-clause-ok
 returns-clause-ok c =
     let bytes = c.args.bytes.now in
     let same : c.in-Ok.text.now ≡ bytes = search rules in
     let utf8 : IsUtf8 bytes = search rules in
+    let empty : c.reserve-2.new.self.items ≡ [] = search rules in
     let got = c.in_ok-rising.ensures.ok in
     let none : c.read_value.new.reader ≡ [] = grind arith in
     let whole = text_read bytes got.0 _ _ (c.in_ok-reader.ensures.ok ∙ ap tokens same) got.1.0 none in
-    let stood = from_none c.in_ok-rising.rising got.0 c.requires got.1.1 in
-    on_ok_weaker c.settle.result (λ settled. let s = settled got.0 stood in (utf8, whole ∙ ap Some (sym s.decodes), ap has_float s.decodes ∙ s.is_whole))
-    c.settle.ensures.ok
+    let s = c.in_ok-settle.ensures.ok got.0 (from_none c.in_ok-rising.rising got.0 empty got.1.1) in
+    (utf8, whole ∙ ap Some (sym s.decodes), ap has_float s.decodes ∙ s.is_whole)
 
-pub returns-clause-flat : goal.returns-clause-flat
-returns-clause-flat c =
+pub invariant_of-result : goal.invariant_of-result
+invariant_of-result c =
     let bytes = c.args.bytes.now in
     let same : c.in-Ok.text.now ≡ bytes = search rules in
     let utf8 : IsUtf8 bytes = search rules in
+    let empty : c.reserve-2.new.self.items ≡ [] = search rules in
     let got = c.in_ok-rising.ensures.ok in
     let none : c.read_value.new.reader ≡ [] = grind arith in
     let whole = text_read bytes got.0 _ _ (c.in_ok-reader.ensures.ok ∙ ap tokens same) got.1.0 none in
-    let stood = from_none c.in_ok-rising.rising got.0 c.requires got.1.1 in
-    on_ok_weaker c.settle.result (λ settled. let s = settled got.0 stood in flat_value _ got.0 _ s (spelled_is_value bytes got.0 (utf8, whole, s.is_whole)))
-    c.settle.ensures.ok
+    let s = c.in_ok-settle.ensures.ok got.0 (from_none c.in_ok-rising.rising got.0 empty got.1.1) in
+    flat_value _ got.0 _ s (spelled_is_value bytes got.0 (utf8, whole, s.is_whole))
