@@ -5,9 +5,7 @@
 mod apart;
 mod depth;
 mod front;
-mod items;
 mod laws;
-mod members;
 mod node;
 mod number;
 mod order;
@@ -25,16 +23,15 @@ mod write;
 
 pub use crate::apart::ItemVisitor;
 pub use crate::front::front_of;
-pub use crate::items::Items;
 pub use crate::laws::{
     bytes_spell_values, depth_limit_is_127, text_is_injective, text_is_one_line,
     text_spells_its_value,
 };
-pub use crate::members::{Member, Members};
 pub use crate::plain_run::plain_length;
 pub use crate::spelling::push_quoted;
 pub use crate::stream::{Failed, FromStd, Sink, Source};
 pub use crate::transfer::{OutFault, ReadLimitFault, read_rest, read_to_limit, write_all};
 pub use crate::value::{Json, JsonFault, is_canonical, quoted, spells_value};
 pub use crate::view::View;
+pub use crate::walk::{Items, Member, Members};
 pub use std::alloc::AllocError as Memory;

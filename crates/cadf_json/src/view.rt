@@ -9,10 +9,9 @@ ghost use Rattle.cadf_json.specs.Flat.{decode, Stands};
 
 use crate::Memory;
 use crate::depth::depth_of;
-use crate::items::Items;
-use crate::members::Members;
 use crate::node::Node;
 use crate::rewrite::push_members;
+use crate::walk::{Items, Members};
 use crate::write::{as_text, bytes_of, write_value};
 use std::alloc::Global;
 use std::marker::Model;
@@ -40,14 +39,6 @@ impl<'v> Model for View<'v> {
 }
 
 impl<'v> View<'v> {
-    /// Borrows the nodes and the texts of a value.
-    pub(crate) fn of(nodes: &'v [Node], texts: &'v [u8]) -> View<'v>
-        requires { Stands texts.now (decode texts.now nodes.now) nodes.now × IsValue (decode texts.now nodes.now) }
-        ensures { result ≡ decode texts.now nodes.now }
-    {
-        View { nodes, texts }
-    }
-
     /// Returns the text, or `None` if the part is no text.
     pub fn as_text(&self) -> Option<&'v str>
         ensures { option_map (λ s. s.now) result ≡ as_str self.now }
@@ -109,9 +100,12 @@ impl<'v> View<'v> {
         ensures { result ≡ items_in self.now }
     {
         if self.is_list() {
-            Items::of(&self.nodes[1..], self.texts)
+            Items {
+                nodes: &self.nodes[1..],
+                texts: self.texts,
+            }
         } else {
-            Items::of(&self.nodes[..0], self.texts)
+            Items::empty()
         }
     }
 
@@ -120,9 +114,15 @@ impl<'v> View<'v> {
         ensures members { result ≡ members_in self.now }
     {
         if self.is_object() {
-            Members::of(&self.nodes[1..], self.texts)
+            Members {
+                nodes: &self.nodes[1..],
+                texts: self.texts,
+            }
         } else {
-            Members::of(&self.nodes[..0], self.texts)
+            Members {
+                nodes: &[],
+                texts: &[],
+            }
         }
     }
 

@@ -3,8 +3,8 @@ use Rattle.std.proofs.Common.{is_some, arith}
 use Rattle.cadf_json.proofs.Walking.{list_parts}
 use Rattle.cadf_json.proofs.view.View.items.Goals as goal
 
-pub of-requires : goal.of-requires
-of-requires c = grind (arith, common_steps, is_some, list_parts)
+pub invariant_of-result : goal.invariant_of-result
+invariant_of-result c = grind (arith, common_steps, is_some, list_parts)
 
 pub returns-then-is_list : goal.returns-then-is_list
 returns-then-is_list c = grind (arith, common_steps, is_some, list_parts)

@@ -4,13 +4,13 @@ use Rattle.cadf_json.specs.Flat.{decode, Stands}
 use Rattle.cadf_json.specs.Value.{IsValue}
 use Rattle.cadf_json.specs.Walks.{AreItemsLeft}
 use Rattle.cadf_json.proofs.Walking.{next_item}
-use Rattle.cadf_json.proofs.items.ItemsIterator.next.Goals as goal
+use Rattle.cadf_json.proofs.walk.ItemsIterator.next.Goals as goal
 
 pub split_at-requires : goal.split_at-requires
 split_at-requires c = grind (arith, common_steps, next_item)
 
-pub of-requires : goal.of-requires
-of-requires c =
+pub invariant_of-result : goal.invariant_of-result
+invariant_of-result c =
     let t = c.self.inside.texts.now in
     let n = next_item t c.self.inside.nodes.now c.size.result (grind arith) c.self.invariant c.size.ensures.value in
     subst (λ xs. Stands t (decode t xs) xs × IsValue (decode t xs)) (sym c.split_at.ensures.front) n.value
@@ -28,4 +28,4 @@ returns-clause-steps c =
     grind (arith, common_steps)
 
 pub returns-clause-goes : goal.returns-clause-goes
-returns-clause-goes c = grind (arith, common_steps, returns-clause-steps)
+returns-clause-goes c = rw (returns-clause-steps c).0 (omega arith)

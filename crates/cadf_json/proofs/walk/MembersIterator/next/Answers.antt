@@ -1,7 +1,7 @@
 use Rattle.std.proofs.lemmas.Grind.{common_steps}
 use Rattle.std.proofs.Common.{arith}
 use Rattle.cadf_json.proofs.Walking.{any_member, next_member}
-use Rattle.cadf_json.proofs.members.MembersIterator.next.Goals as goal
+use Rattle.cadf_json.proofs.walk.MembersIterator.next.Goals as goal
 
 pub first_member-first-requires : goal.first_member-first-requires
 first_member-first-requires c = grind (arith, common_steps, any_member)
@@ -10,8 +10,8 @@ pub as_text-requires : goal.as_text-requires
 as_text-requires c =
     (next_member c.self.inside.texts.now c.self.inside.nodes.now c.first_member-first.result (grind arith) c.self.invariant c.first_member-first.ensures).utf8
 
-pub of-requires : goal.of-requires
-of-requires c =
+pub invariant_of-result : goal.invariant_of-result
+invariant_of-result c =
     (next_member c.self.inside.texts.now c.self.inside.nodes.now c.first_member-first.result (grind arith) c.self.invariant c.first_member-first.ensures).value
 
 pub invariant_of-self : goal.invariant_of-self
@@ -26,4 +26,4 @@ returns-clause-steps c =
     grind (arith, common_steps)
 
 pub returns-clause-goes : goal.returns-clause-goes
-returns-clause-goes c = grind (arith, common_steps, returns-clause-steps)
+returns-clause-goes c = rw (returns-clause-steps c).0 (omega arith)
