@@ -1,8 +1,11 @@
--- How deep the parts of a value nest, and how many lists and objects they have.
-use Rattle.std.proofs.Common.{ℕ, suc, ◌+◌, ◌≤◌, List, length, ap, arith, length-append}
+-- How deep the parts of a value nest, and how many they are, lists and objects counted twice.
+use Rattle.std.proofs.Common.{◌≡◌, ℕ, suc, ◌+◌, ◌≤◌, max, is_some, true, List, length, ap, arith, length-append}
+use Rattle.std.proofs.lemmas.Grind.{common_steps}
 use Rattle.serde_json.specs.Data.{Data, null, boolean, number, string, array, object, Items, no_items, item, Members, no_members, member, depth, items_depth, members_depth}
 use Rattle.cadf_json.specs.declared.node.Node.{Node}
 use Rattle.cadf_json.specs.Flat.{Stands, ItemsStand, MembersStand}
+use Rattle.serde_json.specs.Find.{as_array}
+use Rattle.cadf_json.specs.Parts.{is_object, items_in, members_in}
 
 abbrev mutual
   pub weight : Data → ℕ
@@ -15,11 +18,23 @@ abbrev mutual
 
   pub items_weight : Items → ℕ
   items_weight no_items = 0
-  items_weight (item d ds) = weight d + items_weight ds
+  items_weight (item d ds) = suc (weight d + items_weight ds)
 
   pub members_weight : Members → ℕ
   members_weight no_members = 0
-  members_weight (member k d ms) = weight d + members_weight ms
+  members_weight (member k d ms) = suc (weight d + members_weight ms)
+
+pub items_weigh : (d : Data) → items_weight (items_in d) ≤ weight d
+items_weigh d = grind (arith, common_steps)
+
+pub members_weigh : (d : Data) → members_weight (members_in d) ≤ weight d
+members_weigh d = grind (arith, common_steps)
+
+pub list_nests : (d : Data) → is_some (as_array d) ≡ true → depth d ≡ suc (max (items_depth (items_in d)) (members_depth (members_in d)))
+list_nests d h = grind (arith, common_steps)
+
+pub object_nests : (d : Data) → is_object d ≡ true → depth d ≡ suc (max (items_depth (items_in d)) (members_depth (members_in d)))
+object_nests d h = grind (arith, common_steps)
 
 -- a value nests no deeper than it has nodes
 mutual

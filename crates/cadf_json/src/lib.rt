@@ -3,7 +3,6 @@
 #![tactic(auto)]
 
 mod apart;
-mod depth;
 mod front;
 mod laws;
 mod node;

@@ -8,7 +8,6 @@ ghost use Rattle.cadf_json.specs.Value.{IsValue, text as text_of};
 ghost use Rattle.cadf_json.specs.Flat.{decode, Stands};
 
 use crate::Memory;
-use crate::depth::depth_of;
 use crate::node::Node;
 use crate::rewrite::push_members;
 use crate::walk::{Items, Members};
@@ -236,6 +235,27 @@ impl<'v> View<'v> {
         ensures { OnOk result (out.new.items ≡ out.old.items ++ text_of self.now) }
     {
         write_value(alloc, self, out)
+    }
+}
+
+/// Computes how deep lists and objects nest: 0 for a scalar.
+#[cycle(depth_of)]
+#[tactic(auto, using(crate::proofs::Depths::items_weigh, crate::proofs::Depths::members_weigh, crate::proofs::Depths::list_nests, crate::proofs::Depths::object_nests))]
+fn depth_of(view: &View<'_>) -> u8
+    ensures { result ≡ nesting view.now }
+{
+    view.type_invariant();
+    let mut deepest = 0;
+    for item in view.items() {
+        deepest = deepest.max(depth_of(&item));
+    }
+    for member in view.members() {
+        deepest = deepest.max(depth_of(&member.value));
+    }
+    if view.is_list() || view.is_object() {
+        deepest + 1
+    } else {
+        0
     }
 }
 
