@@ -63,15 +63,10 @@ fn put_in_order(alloc: Global, rising: bool, flat: &mut Flat) -> Result<(), Allo
         &mut flat.spare,
     )?;
     swap(&mut flat.nodes, &mut flat.spare);
-    free_if_large(alloc, &mut flat.spare);
-    Ok(())
-}
-
-/// Frees the memory if it is for many nodes.
-fn free_if_large(alloc: Global, spare: &mut Vec<Node>) {
-    if spare.len() > MOST_SPARE {
-        *spare = Vec::new(alloc);
+    if flat.spare.len() > MOST_SPARE {
+        flat.spare = Vec::new(alloc);
     }
+    Ok(())
 }
 
 /// Appends a value, with the members of each object in order.
