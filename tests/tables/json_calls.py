@@ -24,8 +24,6 @@ CALLS = {
     "canonical": ["Json::read_canonical"],
     "quoted": ["quoted"],
     "apart": ["Json::read_apart", "ItemVisitor::begin", "ItemVisitor::take", "Json::read_next"],
-    "is_canonical": ["is_canonical"],
-    "spells_value": ["spells_value"],
     "read_to_limit": ["read_to_limit", "Source::read"],
     "read_rest": ["cadf_json::read_rest"],
     "borrow_next": ["Source::borrow_next"],
@@ -52,6 +50,7 @@ SPELLED = [
     ('{"é":2,"a":1,"B":{"d":[{"z":1,"y":{}}],"c":0},"aa":3,"":4}',
      '{"":4,"B":{"c":0,"d":[{"y":{},"z":1}]},"a":1,"aa":3,"é":2}'),
     (nested(127), nested(127)),
+    ('{"":{"a":[-9223372036854775808,18446744073709551615,0]},"a":1}', '{"":{"a":[-9223372036854775808,18446744073709551615,0]},"a":1}'),
 ]
 
 # Texts in which a name stands twice: the last one counts.
@@ -69,24 +68,25 @@ TWICE = [
      '{"m00":15,%s}' % ",".join('"m%02d":%d' % (place, place) for place in range(1, 15))),
 ]
 
-# Texts with a number that isn't whole, and whether a later member replaces each: the first and the last, one of many, one
-# in an object that is replaced, a name that comes back, a name with an escape, and more than one pass looks for.
+# Texts with a number that isn't whole, and the canonical text if a later member replaces each: the first and the last, one
+# of many, one in an object that is replaced, a name that comes back, a name with an escape.
 REPLACED = [
-    ('{"a":1.5,"b":1}', False),
-    ('{"a":1,"a":1.5}', False),
-    ('{"a":1.5,"a":1,"a":1.5}', False),
-    ('{"a":1.5,"\\u0061":1}', True),
-    ('[{"a":1.5,"a":1},{"a":1.5}]', False),
-    ('[{"a":{"b":1.5,"c":1},"a":{"b":1}},1.5]', False),
-    ('{"a":{"b":{"c":1.5},"b":0},"c":1}', True),
-    ('{"a":{"b":1.5,"c":1},"a":{"c":1}}', True),
-    ('{"a":[%s0],"a":0}' % (40 * "-0,"), True),
-    ('{"a":[%s0],"a":0,"b":-0}' % (40 * "-0,"), False),
-    ('{"b":-0,"a":[%s0],"a":0,"c":0}' % (40 * "-0,"), False),
-    ('{"b":-0,"a":[%s0],"a":0,"b":0}' % (40 * "-0,"), True),
-    ("{%s}" % ",".join('"%02d":%s' % (place, number) for number in ("-0", "0") for place in range(40)), True),
+    ('{"a":1.5,"b":1}', None),
+    ('{"a":1,"a":1.5}', None),
+    ('{"a":1.5,"a":1,"a":1.5}', None),
+    ('{"a":1.5,"\\u0061":1}', '{"a":1}'),
+    ('[{"a":1.5,"a":1},{"a":1.5}]', None),
+    ('[{"a":{"b":1.5,"c":1},"a":{"b":1}},1.5]', None),
+    ('{"a":{"b":{"c":1.5},"b":0},"c":1}', '{"a":{"b":0},"c":1}'),
+    ('{"a":{"b":1.5,"c":1},"a":{"c":1}}', '{"a":{"c":1}}'),
+    ('{"a":[%s0],"a":0}' % (40 * "-0,"), '{"a":0}'),
+    ('{"a":[%s0],"a":0,"b":-0}' % (40 * "-0,"), None),
+    ('{"b":-0,"a":[%s0],"a":0,"c":0}' % (40 * "-0,"), None),
+    ('{"b":-0,"a":[%s0],"a":0,"b":0}' % (40 * "-0,"), '{"a":0,"b":0}'),
+    ("{%s}" % ",".join('"%02d":%s' % (place, number) for number in ("-0", "0") for place in range(40)),
+     "{%s}" % ",".join('"%02d":0' % place for place in range(40))),
     ("{%s}" % ",".join('"%02d":%s' % (place, number) for number, places in (("-0", 40), ("0", 39)) for place in range(places)),
-     False),
+     None),
 ]
 
 # Numbers that refuse a value, and those that it keeps as they stand.
@@ -97,8 +97,12 @@ WHOLE = ["18446744073709551615", "-9223372036854775808", '"1.5"']
 NO_JSON = [b"[1.5", b'"\xff"', b'{"events":[', b"01", b"1 2", b"CADF", b"", b"[1]]", b"{} {}", b'{"a"}', b"[1,]",
            b'"\\ud800"', b"nul", b'"\x01"', b'"\xc0\x80"', nested(128).encode()]
 
-# Texts that are no canonical text, and why.
+# Texts that are no canonical text, and why: by an escape, a number, a blank, the order of names.
 NO_CANONICAL = [
+    ('"\\u001F"', "NotCanonical"), ('"\\u000a"', "NotCanonical"), ('"\\ud83d\\ude00"', "NotCanonical"),
+    ('["a","\\u0009"]', "NotCanonical"), ('{"a":1,"a":2}', "NotCanonical"), ('{"a":1.5,"a":1}', "NotCanonical"),
+    ("-0", "NotWhole"), ("1.0", "NotWhole"), ("1e2", "NotWhole"), ("[1.5]", "NotWhole"), ("18446744073709551616", "NotWhole"),
+    ("", "NotJson"), ("[", "NotJson"), ("[1,]", "NotJson"), ("{}{}", "NotJson"), ("nul", "NotJson"), (nested(128), "NotJson"),
     ("[1.50", "NotJson"), ("[ 1.50]", "NotWhole"), ('{"b":1,"a":2}', "NotCanonical"), ("[1, 2]", "NotCanonical"),
     ("1\n", "NotCanonical"), ('"\\u0041"', "NotCanonical"), ('"\\/"', "NotCanonical"), ('{"a":1,"a":1}', "NotCanonical"),
 ]
@@ -207,14 +211,6 @@ NOT_APART = ["", "[]", '{"list":[]', '{"list":[]} {}', '{"list":[1.5]}', '{"list
              '{"b":[0.5],"list":[]}', '{"list":[1.5],"list":[]}', '{"list":[],"list":7}', '{"b":[0.5]}', '{"list":[],"b":{"c":[-0]}}',
              '{"list":[],"x":%s}' % nested(127), '{"list":[%s]}' % nested(126), '{"list":[],"x":{"a":1e400,"a":1}}', '{"list":[],"x":[1,]}']
 
-# Canonical texts that are judged with no value, and how deep they nest.
-JUDGED = [("null", 0), ("[]", 1), ('"\\u0001\\t\\""', 0), ('{"":{"a":[-9223372036854775808,18446744073709551615,0]},"a":1}', 3),
-          ('{"type\\u0000":4,"type\\"x":1,"typeURI":2,"é":"\x7f"}', 1), (nested(100), 100), (nested(127), 127)]
-# Texts that are not canonical: by an escape, a number, a blank, the order of names, or since they are no JSON.
-NOT_JUDGED = ['"\\u0041"', '"\\/"', '"\\u001F"', '"\\u000a"', '"\\ud83d\\ude00"', '["a","\\u0009"]', "-0", "1.0", "1e2", "[1.5]",
-              "18446744073709551616", "-9223372036854775809", "[1, 2]", "1\n", '{"b":1,"a":2}', '{"a":1,"a":2}',
-              '{"a":1.5,"a":1}', "", "[", "[1,]", "{}{}", "nul", nested(128)]
-
 BYTES = b"twenty-two bytes long!"
 LONG = b"\x07" * 10000
 
@@ -316,18 +312,12 @@ def objects():
         yield "reused", [first, text], answer, VALUES
 
 
-def spelled():
-    """Texts that spell a value, and others: a number that isn't whole may be replaced, one without a double may not."""
-    for text, _ in SPELLED + TWICE:
-        yield "spells_value", [text], [True], CANONICAL
-    for number in WHOLE:
-        yield "spells_value", ["[%s ]" % number], [True], CANONICAL
-    for number in NOT_WHOLE:
-        yield "spells_value", ["[%s]" % number], [False], CANONICAL
-    for text, is_replaced in REPLACED:
-        yield "spells_value", [text], [is_replaced], CANONICAL
-    for text in ("1e400", '{"a":1e400,"a":1}', '{"a":1.5,"a":1}]', "[1,]", "1 2", "", nested(128)):
-        yield "spells_value", [text], [False], CANONICAL
+def replaced():
+    """Numbers that aren't whole: a later member may replace one, but not one without a double."""
+    for text, spelled in REPLACED:
+        yield "value", ["text", text], ["ok", spelled] if spelled else ["err", "NotWhole"], CANONICAL
+    for text in ('{"a":1e400,"a":1}', '{"a":1.5,"a":1}]'):
+        yield "value", ["text", text], ["err", "NotJson"], CANONICAL
 
 
 def made():
@@ -336,18 +326,11 @@ def made():
 
 
 def passed():
-    """Objects of which a list is taken, and texts that are judged."""
+    """Objects of which a list is taken."""
     for text, items, left in APART:
         yield "apart", [text], ["apart", len(items), *items, left], VALUES
     for text in NOT_APART:
         yield "apart", [text], ["no"], VALUES
-    for text, depth in JUDGED:
-        yield "is_canonical", [text, depth], [True], CANONICAL
-        yield "is_canonical", [text, 255], [True], CANONICAL
-        if depth:
-            yield "is_canonical", [text, depth - 1], [False], CANONICAL
-    for text in NOT_JUDGED:
-        yield "is_canonical", [text, 255], [False], CANONICAL
 
 
 def streams():
@@ -384,4 +367,4 @@ def times():
     for text, fault in NO_TIMES:
         yield "time", [text], ["err", fault], TIMES
 
-ROWS = [row for rows in (values, looks, objects, spelled, made, passed, streams, times) for row in rows()]
+ROWS = [row for rows in (values, looks, objects, replaced, made, passed, streams, times) for row in rows()]

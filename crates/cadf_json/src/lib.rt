@@ -30,7 +30,7 @@ pub use crate::plain_run::plain_length;
 pub use crate::spelling::push_quoted;
 pub use crate::stream::{Failed, FromStd, Sink, Source};
 pub use crate::transfer::{OutFault, ReadLimitFault, read_rest, read_to_limit, write_all};
-pub use crate::value::{Json, JsonFault, is_canonical, quoted, spells_value};
+pub use crate::value::{Json, JsonFault, quoted};
 pub use crate::view::View;
 pub use crate::walk::{Items, Member, Members};
 pub use std::alloc::AllocError as Memory;

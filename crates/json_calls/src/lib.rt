@@ -3,7 +3,6 @@
 
 mod apart;
 mod looks;
-mod passes;
 mod quotes;
 mod streams;
 mod times;
@@ -20,8 +19,6 @@ pub fn answered(alloc: Global, call: &Call) -> Result<String, Memory> {
         "canonical" => looks::canonical(alloc, call.text(1)),
         "quoted" => quotes::quoted(alloc, call.text(1)),
         "apart" => apart::read(alloc, call.text(1).as_bytes()),
-        "is_canonical" => passes::is_canonical(alloc, call.text(1), call.text(2)),
-        "spells_value" => passes::spells_value(alloc, call.text(1)),
         "read_to_limit" => streams::whole(alloc, call),
         "read_rest" => streams::rest(alloc, call),
         "borrow_next" => streams::borrowed(alloc, call),
