@@ -262,7 +262,7 @@ CALLS = [
         "document.take": take_document, "document.take_sightings": taking("E"), "document.take_entities": taking("RGM"),
         "document.take_properties": taking("P")}),
     (words.atom_words, {
-        "replica.put": put, "replica.put_parts": put,
+        "replica.put": put, "replica.put_after": put,
         "replica.holds": lambda word, line: [atom_of(line.encode()) in replica_of(word)[1]],
         "replica.atom_after": lambda word, line: atom_found(least_above(replica_of(word)[1], atom_of(line.encode())))}),
     (words.last_words, {"replica.push_if_last": push_if_last}),

@@ -23,7 +23,7 @@ CALLS = {
     "replica.atom_after": ["Replica::atom_after"],
     "replica.holds": ["Replica::holds"],
     "replica.put": ["Replica::put"],
-    "replica.put_parts": ["Replica::put_parts"],
+    "replica.put_after": ["Replica::put_after"],
     "replica.push_if_last": ["Replica::push_if_last"],
     "pair.same": ["Replica::same"],
     "pair.join": ["Replica::join"],
@@ -207,7 +207,7 @@ row("Atoms", "document.take_properties", [held(), ENTITIES], "ok", held(NORTH))
 FIRST, LAST = ('{"reporterId":"%s","role":"relay","x":"%s"}' % (who, "x" * 256) for who in "st")
 DEEP, OTHER = (line("E", "e1", B1, "C", *[FIRST] * 255, last) for last in (FIRST, LAST))
 row(REPLICA, "replica.put", [held(C1, OTHER), DEEP], "ok", held(C1, DEEP, OTHER))
-for call in ["replica.put", "replica.put_parts"]:
+for call in ["replica.put", "replica.put_after"]:
     row(REPLICA, call, [held(), C1], "ok", held(C1))
     row(REPLICA, call, [held(C1), K1], "ok", held(C1, K1))
     row(REPLICA, call, [held(C1, K1), C1], "ok", held(C1, K1))

@@ -54,7 +54,7 @@ fn told_of_atom(
         "holds" => told::truth(alloc, ours.holds(atom)),
         "atom_after" => found(alloc, ours.atom_after(Some(atom))),
         "put" => put(alloc, ours, atom),
-        "put_parts" => put_parts(alloc, ours, atom),
+        "put_after" => put_after(alloc, ours, atom),
         "push_if_last" => push_if_last(alloc, ours, atom),
         _ => answer(alloc, "no such call", &[]),
     }
@@ -96,9 +96,11 @@ fn put(alloc: Global, ours: &mut Replica, atom: &Atom) -> Result<String, Memory>
     told::changed(alloc, outcome, ours)
 }
 
-fn put_parts(alloc: Global, ours: &mut Replica, atom: &Atom) -> Result<String, Memory> {
-    let outcome = ours.put_parts(atom.parts());
-    told::changed(alloc, outcome, ours)
+fn put_after(alloc: Global, ours: &mut Replica, atom: &Atom) -> Result<String, Memory> {
+    match ours.put_after(atom.parts(), 0) {
+        Ok(_) => told::replica(alloc, ours),
+        Err(fault) => told::kept(alloc, fault, ours),
+    }
 }
 
 /// Answers whether the atom was appended, or why not, and the replica after it.
