@@ -21,7 +21,6 @@ pub mod HeldReplicas
 pub mod ShownAgain
 pub mod InventoryParts
 pub mod SketchParts
-pub mod Verdicts
 pub mod Brought
 pub mod RuledFiles
 pub mod ExchangeWithin

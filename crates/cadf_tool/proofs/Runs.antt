@@ -1,64 +1,109 @@
 -- The parts of a run, combined.
-use Rattle.std.proofs.Common.{◌≡◌, Result, Ok, Err, refl, sym, subst, inl, inr}
+use Rattle.std.proofs.Common.{◌≡◌, ℕ, List, map, Result, Ok, Err, IsErrAnd, refl, sym, ap, ◌∙◌, subst, inl, inr, arith}
+use Rattle.std.proofs.lemmas.Result.{err_from_is_err_and}
 use Rattle.cadf_json.specs.declared.stream.Sink.{Ghosts as Sink}
+use Rattle.cadf_json.specs.declared.stream.Source.{Ghosts as Source}
 use Rattle.cadf_join.specs.Contents.{Text}
+use Rattle.cadf_tool.specs.declared.input.Loaded.{Loaded}
 use Rattle.cadf_tool.specs.declared.fault.ToolFault.{ToolFault}
 use Rattle.cadf_tool.specs.declared.fault.ToolFault.TheVariants.{Memory}
 use Rattle.cadf_tool.specs.Faults.{FaultStage, Reading, Working, Writing, OutOfMemoryStage, fault_stage}
-use Rattle.cadf_tool.specs.Run.{Sources, both, IsFirstFault, IsFirstFaultBy, IsUnread, IsExpectedBy, IsWorkFaultBy, IsWorkedBy, IsRunBy}
+use Rattle.cadf_tool.specs.Inputs.{SourceState, source_state, AreReadWithin}
+use Rattle.cadf_tool.specs.Run.{SourceTransition, InputSpec, Sources, with_number, both, all_from, AreLoaded, IsReadAs, IsReadWithin, IsFirstFault}
+use Rattle.cadf_tool.specs.Run.{IsFirstFaultBy, IsUnread, IsExpectedBy, IsWorkFaultBy, IsWorkedBy, IsAnswer, IsRunBy}
+use Rattle.cadf_tool.proofs.LoadedLists.{none_failed, reads_first}
 
-module _ {A M : Type 0} (sources : Sources A) (work : A → Result M ToolFault → Type 0) where
-  not_worked : (a : A) (fault : ToolFault) (s : FaultStage) → sources.are a → sources.unfailed
-      → IsWorkFaultBy (work a) fault s → IsFirstFaultBy sources work fault s
-  not_worked a fault Working read unfailed h = (a, read, h)
-  not_worked a fault OutOfMemoryStage read unfailed h = unfailed
-  not_worked a fault _ read unfailed h = absurd h
+-- ---- what was read
 
-  -- the work on sources that were read
-  pub worked : (a : A) (expected : Result M ToolFault) → sources.bounded → sources.are a → sources.unfailed
-      → IsWorkedBy (work a) expected → IsExpectedBy sources work expected
-  worked a (Ok made) bounded read unfailed w = record { is = (a, read, w); bounded = bounded }
-  worked a (Err fault) bounded read unfailed w = record { is = not_worked a fault (fault_stage fault) read unfailed w; bounded = bounded }
+-- all were read
+pub record AreRead {A : Type 0} (sources : Sources A) (a : A) : Type 0 where
+  pub are : sources.are a
+  pub unfailed : sources.unfailed
+  pub bounded : sources.bounded
 
--- if there is nothing to write, nothing is written
-pub stopped : {A M W T : Type 0} {sources : Sources A} {work : A → Result M ToolFault → Type 0} {tell : M → Text} {sink : Sink W} {old : W}
-    {fault : ToolFault} → IsExpectedBy sources work (Err fault) → IsRunBy {T = T} sources work tell sink old old (Err fault)
-stopped {fault = fault} first = record { expected = Err fault; first = first; answer = (refl, refl) }
+-- none was read
+pub record AreUntouched {A : Type 0} (sources : Sources A) : Type 0 where
+  pub unread : sources.unread
+  pub unfailed : sources.unfailed
+  pub bounded : sources.bounded
 
--- ---- sources after others
+-- one was refused, or there was no memory
+pub record AreStopped {A : Type 0} (sources : Sources A) (fault : ToolFault) : Type 0 where
+  pub is : IsUnread sources fault
+  pub bounded : sources.bounded
 
-module _ {A B M : Type 0} (first : Sources A) (second : Sources B) (work : A × B → Result M ToolFault → Type 0)
-    (within : first.bounded) (within' : second.bounded) where
-  -- the work on all
-  pub both_worked : (a : A) (b : B) (expected : Result M ToolFault) → first.are a → first.unfailed → second.are b → second.unfailed
-      → IsWorkedBy (work (a, b)) expected → IsExpectedBy (both first second) work expected
-  both_worked a b expected read unfailed read' unfailed' w =
-      worked (both first second) work (a, b) expected (within, within') (read, read') (unfailed, unfailed') w
+module _ {T : Type 0} (number : ℕ) (reader : InputSpec T) where
+  pub one_read : (t : SourceTransition) → IsReadWithin reader.limit t → (value : T) → IsReadAs reader t value → AreRead (with_number number reader t) value
+  one_read t within value is = record { are = is; unfailed = is.1; bounded = within }
 
-  first_not_read_at : (fault : ToolFault) (s : FaultStage) → second.unread → second.unfailed → IsFirstFault first Ok fault s
-      → IsFirstFaultBy (both first second) work fault s
-  first_not_read_at fault (Reading n f) unread unfailed (is, refused) = (is, inl (refused, unread))
-  first_not_read_at fault Working unread unfailed (a, are, e) = absurd (cc)
-  first_not_read_at fault Writing unread unfailed h = h
-  first_not_read_at fault OutOfMemoryStage unread unfailed h = (h, unfailed)
+  pub one_untouched : (s : SourceState) → AreUntouched (with_number number reader (record { old = s; new = s }))
+  one_untouched s = record { unread = refl; unfailed = refl; bounded = omega arith }
 
-  -- not all of the first were read, and none of the second
-  pub first_not_read : (fault : ToolFault) → second.unread → second.unfailed → IsUnread first fault → IsExpectedBy (both first second) work (Err fault)
-  first_not_read fault unread unfailed h = record { is = first_not_read_at fault (fault_stage fault) unread unfailed h; bounded = (within, within') }
+module _ {S : Type 0} (first : ℕ) (source : Source S) where
+  pub all_read : (old new : List S) (ls : List Loaded) → AreReadWithin (map source.reads old) (map source.reads new)
+      → AreLoaded (map (source_state source) old) (map (source_state source) new) ls → AreRead (all_from first source old new) ls
+  all_read old new ls within are = record { are = are; unfailed = none_failed _ _ ls are; bounded = within }
 
-  second_not_read_at : (a : A) (fault : ToolFault) (s : FaultStage) → first.are a → first.unfailed → IsFirstFault second Ok fault s
-      → IsFirstFaultBy (both first second) work fault s
-  second_not_read_at a fault (Reading n f) read unfailed (is, refused) = (is, inr ((a, read), refused))
-  second_not_read_at a fault Working read unfailed (b, are, e) = absurd (cc)
-  second_not_read_at a fault Writing read unfailed h = h
-  second_not_read_at a fault OutOfMemoryStage read unfailed h = (unfailed, h)
+  pub all_untouched : (inputs : List S) → AreUntouched (all_from first source inputs inputs)
+  all_untouched inputs = record { unread = refl; unfailed = refl; bounded = reads_first source.reads inputs }
 
-  -- the first were read, and not all of the second
-  pub second_not_read : (a : A) (fault : ToolFault) → first.are a → first.unfailed → IsUnread second fault
-      → IsExpectedBy (both first second) work (Err fault)
-  second_not_read a fault read unfailed h = record { is = second_not_read_at a fault (fault_stage fault) read unfailed h; bounded = (within, within') }
+module _ {A B : Type 0} {first : Sources A} {second : Sources B} where
+  pub both_read : {a : A} {b : B} → AreRead first a → AreRead second b → AreRead (both first second) (a, b)
+  both_read f s = record { are = (f.are, s.are); unfailed = (f.unfailed, s.unfailed); bounded = (f.bounded, s.bounded) }
 
-  -- there was no memory
-  pub both_starved : (fault : ToolFault) → fault ≡ Memory → first.unfailed → second.unfailed → IsExpectedBy (both first second) work (Err fault)
-  both_starved fault is unfailed unfailed' =
-      subst (λ f. IsExpectedBy (both first second) work (Err f)) (sym is) (record { is = (unfailed, unfailed'); bounded = (within, within') })
+  pub both_untouched : AreUntouched first → AreUntouched second → AreUntouched (both first second)
+  both_untouched f s = record { unread = (f.unread, s.unread); unfailed = (f.unfailed, s.unfailed); bounded = (f.bounded, s.bounded) }
+
+  pub first_stopped : {fault : ToolFault} → AreStopped first fault → AreUntouched second → AreStopped (both first second) fault
+  first_stopped {fault} f s = record { is = at (fault_stage fault) f.is; bounded = (f.bounded, s.bounded) }
+    where
+      at : (stage : FaultStage) → IsFirstFault first Ok fault stage → IsFirstFault (both first second) Ok fault stage
+      at (Reading n g) (is, bad) = (is, inl (bad, s.unread))
+      at Working (a, are, e) = absurd (cc)
+      at Writing h = h
+      at OutOfMemoryStage h = (h, s.unfailed)
+
+  pub second_stopped : {a : A} {fault : ToolFault} → AreRead first a → AreStopped second fault → AreStopped (both first second) fault
+  second_stopped {a} {fault} f s = record { is = at (fault_stage fault) s.is; bounded = (f.bounded, s.bounded) }
+    where
+      at : (stage : FaultStage) → IsFirstFault second Ok fault stage → IsFirstFault (both first second) Ok fault stage
+      at (Reading n g) (is, bad) = (is, inr ((a, f.are), bad))
+      at Working (b, are, e) = absurd (cc)
+      at Writing h = h
+      at OutOfMemoryStage h = (f.unfailed, h)
+
+-- there was no memory
+pub starved : {A : Type 0} {sources : Sources A} {a : A} {fault : ToolFault} → fault ≡ Memory → AreRead sources a → AreStopped sources fault
+starved {sources = sources} is r = subst (AreStopped sources) (sym is) (record { is = r.unfailed; bounded = r.bounded })
+
+-- ---- a run, by what was read
+
+not_worked : {A M : Type 0} (sources : Sources A) (work : A → Result M ToolFault → Type 0) (a : A) (fault : ToolFault) (stage : FaultStage)
+    → AreRead sources a → IsWorkFaultBy (work a) fault stage → IsFirstFaultBy sources work fault stage
+not_worked sources work a fault Working r h = (a, r.are, h)
+not_worked sources work a fault OutOfMemoryStage r h = r.unfailed
+not_worked sources work a fault _ r h = absurd h
+
+module _ {A M : Type 0} {sources : Sources A} {work : A → Result M ToolFault → Type 0} where
+  pub worked : {a : A} (expected : Result M ToolFault) → AreRead sources a → IsWorkedBy (work a) expected → IsExpectedBy sources work expected
+  worked {a} (Ok made) r w = record { is = (a, r.are, w); bounded = r.bounded }
+  worked {a} (Err fault) r w = record { is = not_worked sources work a fault (fault_stage fault) r w; bounded = r.bounded }
+
+  pub worked_run : {W T : Type 0} {tell : M → Text} {sink : Sink W} {old new : W} {a : A} {result : Result T ToolFault} (expected : Result M ToolFault)
+      → AreRead sources a → IsWorkedBy (work a) expected → IsAnswer tell sink old new expected result → IsRunBy sources work tell sink old new result
+  worked_run expected r w answer = record { expected = expected; first = worked expected r w; answer = answer }
+
+  -- if there is nothing to write, nothing is written, and the fault is passed on
+  pub unwritten : {W T : Type 0} {tell : M → Text} {sink : Sink W} {old : W} (result : Result T ToolFault) (fault : ToolFault)
+      → IsErrAnd result (λ f. f ≡ fault) → IsExpectedBy sources work (Err fault) → IsRunBy sources work tell sink old old result
+  unwritten result fault passed first =
+      let p = err_from_is_err_and result passed in
+      record { expected = Err fault; first = first; answer = (p.1 ∙ ap Err p.2, refl) }
+
+  pub stopped : {W T : Type 0} {tell : M → Text} {sink : Sink W} {old : W} (result : Result T ToolFault) (fault : ToolFault)
+      → IsErrAnd result (λ f. f ≡ fault) → AreStopped sources fault → IsRunBy sources work tell sink old old result
+  stopped result fault passed s = unwritten result fault passed (record { is = at (fault_stage fault) s.is; bounded = s.bounded })
+    where
+      at : (stage : FaultStage) → IsFirstFault sources Ok fault stage → IsFirstFaultBy sources work fault stage
+      at Working (a, are, e) = absurd (cc)
+      at _ h = h

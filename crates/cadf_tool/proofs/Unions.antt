@@ -17,7 +17,7 @@ use Rattle.cadf_tool.specs.Run.{IsToldBy, IsRun}
 use Rattle.cadf_tool.specs.Told.{log_named, atoms_loaded, under_log, replica_model_of}
 use Rattle.cadf_tool.specs.laws.Engines.{IsOfReplica}
 use Rattle.cadf_tool.proofs.LoadedLists.{none_failed}
-use Rattle.cadf_tool.proofs.Runs.{worked}
+use Rattle.cadf_tool.proofs.Runs.{worked_run}
 use Rattle.cadf_tool.proofs.UnitingLemmas.{is_united, not_other}
 
 -- ---- a work after another
@@ -43,12 +43,8 @@ module _ {A H M W T : Type 0} (sources : Sources A) (read : A → Result H ToolF
       → IsToldBy (IsValueOf work h) tell sink old new result → IsRun sources whole tell sink old new result
   told_run unfailed h result expected told =
       let a = expected.is in
-      record {
-        expected = told.made;
-        first = worked sources (IsValueOf whole) a.0 told.made expected.bounded a.1 (unfailed a.0 a.1)
-            (subst (λ r. IsWorked r told.made) (sym (is a.0)) (on_value work (read a.0) h told.made a.2 told.worked));
-        answer = told.answer;
-      }
+      worked_run told.made (record { are = a.1; unfailed = unfailed a.0 a.1; bounded = expected.bounded })
+      (subst (λ r. IsWorked r told.made) (sym (is a.0)) (on_value work (read a.0) h told.made a.2 told.worked)) told.answer
 
   -- nothing was read
   pub refused_run : (fault : ToolFault) → new ≡ old → IsExpected sources read (Err fault) → IsRun {T = T} sources whole tell sink old new (Err fault)

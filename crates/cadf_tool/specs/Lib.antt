@@ -8,7 +8,6 @@ pub mod Run
 pub mod ModelInput
 pub mod Join
 pub mod JoinState
-pub mod Facts
 pub mod WrittenFile
 pub mod Missing
 pub mod MissingBy

@@ -7,8 +7,7 @@ use Rattle.cadf_seal.specs.ProofFile.{ProofModel, proof_of}
 use Rattle.cadf_sketch.specs.Answers.{inventory_of}
 use Rattle.cadf_tool.specs.declared.input.Loaded.{Loaded}
 use Rattle.cadf_tool.specs.declared.fault.ToolFault.{ToolFault}
-use Rattle.cadf_tool.specs.Facts.{facts_under}
-use Rattle.cadf_tool.specs.Join.{join_from, on_ok}
+use Rattle.cadf_tool.specs.Join.{join_from, facts_under, on_ok}
 
 -- the facts are taken under the log of the replica
 abbrev pub proof_for : ReplicaModel → Loaded → Result ProofModel ToolFault

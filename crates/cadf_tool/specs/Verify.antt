@@ -11,9 +11,8 @@ use Rattle.cadf_set.specs.Replica.{ReplicaModel}
 use Rattle.cadf_tool.specs.declared.input.Loaded.{Loaded}
 use Rattle.cadf_tool.specs.declared.fault.ToolFault.{ToolFault}
 use Rattle.cadf_tool.specs.declared.fault.ToolFault.TheVariants.{OtherLog}
-use Rattle.cadf_tool.specs.Facts.{facts_under}
 use Rattle.cadf_tool.specs.Faults.{of_verify}
-use Rattle.cadf_tool.specs.Join.{is_other, on_ok}
+use Rattle.cadf_tool.specs.Join.{is_other, facts_under, on_ok}
 use Rattle.cadf_tool.specs.Run.{Sources, SourceTransition, one, both, with_number, input_spec}
 use Rattle.cadf_tool.specs.ModelInput.{seal_spec, proof_spec}
 

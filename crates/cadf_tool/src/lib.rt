@@ -5,7 +5,6 @@ mod check;
 mod counting_sink;
 mod engine;
 pub mod exchange;
-mod facts;
 mod fault;
 mod input;
 mod inputs;

@@ -6,11 +6,10 @@ ghost use Rattle.cadf_tool.specs.JoinState.{IsJoinState};
 ghost use Rattle.cadf_tool.specs.Prove.{proof_for, proof_of_union};
 ghost use Rattle.cadf_tool.specs.Run.{one, all_from, both, transition_of, input_spec, IsWorked, IsRun};
 
-use crate::facts::facts_under;
 use crate::fault::{ToolFault, answered};
 use crate::input::Loaded;
 use crate::inputs::load_one;
-use crate::join::union_with;
+use crate::join::{facts_under, union_with};
 use crate::join_state::JoinState;
 use cadf_json::{Sink, Source};
 use cadf_linefile::write_model;

@@ -94,10 +94,7 @@ fn write_lines<W: Sink>(alloc: Global, sites: &[Replica], output: &mut W) -> Res
     ensures memory { result ≡ Err ToolFault.Memory → output.new ≡ output.old }
 {
     let text = lines(alloc, sites)?;
-    match write_all(output, text.as_bytes()) {
-        Ok(()) => Ok(()),
-        Err(_) => Err(ToolFault::WriteFault),
-    }
+    write_all(output, text.as_bytes()).or(Err(ToolFault::WriteFault))
 }
 
 /// Simulates the schedule of a script with `sites` sites of the log, and writes a line for each site from 0: `site I

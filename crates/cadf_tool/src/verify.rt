@@ -3,10 +3,10 @@ ghost use Rattle.std.specs.Prelude.{◌≡◌, Ok, Err, IfOk, IfErr};
 ghost use Rattle.cadf_tool.specs.Run.{transition_of, IsWorked, IsRun};
 ghost use Rattle.cadf_tool.specs.Verify.{verdict_of, sources_of};
 
-use crate::facts::facts_under;
 use crate::fault::ToolFault;
 use crate::input::Loaded;
 use crate::inputs::{load_model, load_one};
+use crate::join::facts_under;
 use cadf_json::{Sink, Source};
 use cadf_seal::{FactLines, Proof, Seal, VerifyFault, verified};
 use std::alloc::Global;
@@ -54,8 +54,5 @@ pub fn run_verify<R: Source, W: Sink>(
     let loaded = load_one(alloc, 2, facts)?;
     let proof = load_model(alloc, 3, proof)?;
     let lines = verdict(alloc, absent, &seal, loaded, &proof)?;
-    match lines.write(output) {
-        Ok(()) => Ok(()),
-        Err(_) => Err(ToolFault::WriteFault),
-    }
+    lines.write(output).or(Err(ToolFault::WriteFault))
 }
