@@ -4,9 +4,7 @@
 mod fault;
 mod names;
 mod numbers;
-mod units;
 
 pub use crate::fault::ArgumentFault;
-pub use crate::names::{check_letter, read_key, read_log, read_name};
+pub use crate::names::{check_letter, read_key, read_log, read_name, read_unit};
 pub use crate::numbers::{check_cells, check_place, check_salt, check_sites};
-pub use crate::units::read_unit;

@@ -1,11 +1,13 @@
-//! Names and letters.
-ghost use Rattle.std.specs.Prelude.{◌≡◌, true, is_ok, IfOk, IfErr, encode_utf8, if◌then◌else◌};
+//! Names, letters and units of time.
+ghost use Rattle.std.specs.Prelude.{◌≡◌, true, Some, None, is_ok, IfOk, IfErr, encode_utf8, if◌then◌else◌};
+ghost use Rattle.cadf_arguments.specs.Arguments.{unit_named};
 ghost use Rattle.cadf_event.specs.Names.{is_name};
 ghost use Rattle.cadf_line.specs.RulingTexts.{is_value_letter};
 
 use crate::fault::ArgumentFault;
 use cadf_atom::KeyKind;
 use cadf_event::{Name, is_valid_name};
+use cadf_split::Unit;
 use std::alloc::Global;
 
 /// Reads the text as a name. `refusal`: it is none. `Memory`: it is one, and an allocation failed.
@@ -17,10 +19,7 @@ pub fn read_name(alloc: Global, text: &str, refusal: ArgumentFault) -> Result<Na
     if !is_valid_name(text) {
         return Err(refusal);
     }
-    match Name::read(alloc, text) {
-        Ok(name) => Ok(name),
-        Err(_) => Err(ArgumentFault::Memory),
-    }
+    Name::read(alloc, text).or(Err(ArgumentFault::Memory))
 }
 
 /// Reads the identifier of a log. `LogName`: the text is no name. `Memory`: it is one, and an allocation failed.
@@ -50,5 +49,18 @@ pub fn check_letter(letter: char) -> Result<char, ArgumentFault>
     match KeyKind::of(letter) {
         Some(_) => Ok(letter),
         None => Err(ArgumentFault::Letter),
+    }
+}
+
+/// Reads the word of a unit of time. `Unit`: it is none's.
+pub fn read_unit(word: &[u8]) -> Result<Unit, ArgumentFault>
+    ensures ok { IfOk result (λ unit. unit_named word.now ≡ Some unit) }
+    ensures err { IfErr result (λ f. (f ≡ ArgumentFault.Unit) × (unit_named word.now ≡ None)) }
+{
+    match word {
+        b"month" => Ok(Unit::Month),
+        b"day" => Ok(Unit::Day),
+        b"hour" => Ok(Unit::Hour),
+        _ => Err(ArgumentFault::Unit),
     }
 }
