@@ -1,5 +1,5 @@
 -- Which statuses faults have, and what is told with each.
-use Rattle.std.proofs.Common.{◌≡◌, ◌≤◌, ◌⊎◌, inl, inr, ℕ, List, length, true, true≢false, refl, sym, ap, ◌∙◌, subst, Option, Some, None, Result, Ok, Err, IfErr, IsErrAnd, ℤ, pos, arith}
+use Rattle.std.proofs.Common.{◌≡◌, ◌≤◌, ◌⊎◌, inl, inr, ℕ, List, length, true, true≢false, refl, sym, ap, ◌∙◌, subst, Option, Some, None, Result, Ok, Err, IfOk, IfErr, IsErrAnd, ℤ, pos, arith}
 use Rattle.std.specs.Option.{option_map}
 use Rattle.cadf_arguments.specs.declared.fault.ArgumentFault.{ArgumentFault}
 use Rattle.cadf_arguments.specs.declared.fault.ArgumentFault.TheVariants.{LogName, Sites, Letter, Key, Place, Cells, Salt, Unit as NoUnit, Memory as NoMemory}
@@ -9,7 +9,9 @@ use Rattle.cadf_tool.specs.declared.fault.ToolFault.TheVariants.{Input, NoLog, O
 use Rattle.cadf_tool.specs.declared.fault.ToolFault.TheVariants.{ReadFault, WriteFault, Memory}
 use Rattle.cadf_tool.specs.Faults.{status_of}
 use Rattle.cadf_memory.specs.Refused.{is_of_memory}
+use Rattle.cadf_join.specs.Contents.{Text}
 use Rattle.cadf_memory.specs.Handed.{IsHandedOut}
+use Rattle.cadf_memory.proofs.Outcomes.{IsOutcome}
 use Rattle.cadf_c.specs.Arguments.{IsArgumentFault}
 use Rattle.cadf_c.specs.Statuses.{IsRefused, IsStatus, IsTold}
 
@@ -34,6 +36,16 @@ refused P (Ok v) h e = absurd e
 refused P (Err fault) h e = record { fault = fault; first = h; status = e }
 
 -- ---- what is told
+
+-- where the text was written
+pub handed : {P : Text → Type 0} {Q : ToolFault → Type 0} {made : Result ℕ ToolFault} {old last new : List ℕ} {count : ℕ}
+    → (made ≡ Ok count) × (new ≡ last) → IsOutcome P Q old last made → IsHandedOut P old new count
+handed {P} {Q} {made} {old} {last} {new} {count} w ran =
+    subst (λ ws. IsHandedOut P old ws count) (sym w.1) (subst (λ r. IfOk r (IsHandedOut P old last)) w.0 ran.ok)
+
+pub first_of : {P : Text → Type 0} {Q : ToolFault → Type 0} {made : Result ℕ ToolFault} {old last : List ℕ}
+    → IsErrAnd made (λ fault. status_of fault ≡ 1) → IsOutcome P Q old last made → IsRefused Q
+first_of {Q = Q} {made = made} e ran = refused Q made ran.err e
 
 -- where no argument is refused
 never_two : (status : ℤ) → IsStatus None status → status ≡ pos 2 → ⊥

@@ -1,13 +1,15 @@
 //! Arguments that are no inputs, as C hands them over. `Err`: the first that is refused, or `Memory`.
-ghost use Rattle.std.specs.Prelude.{◌≡◌, true, Some, None, IfOk, IfErr};
+ghost use Rattle.std.specs.Prelude.{◌≡◌, true, Some, None, IfOk, IfErr, map};
 ghost use Rattle.cadf_arguments.specs.Arguments.{unit_named};
+ghost use Rattle.cadf_memory.specs.Memory.{bytes_in, slice_left};
 ghost use Rattle.cadf_c.specs.Arguments.{log_given, number_given, spells_name, unless, log_refused, split_refused, ruling_refused, rehearsal_refused, sketch_refused, IsArgumentFault};
 
 use cadf_arguments::{
     ArgumentFault, check_cells, check_letter, check_place, check_salt, check_sites, read_name,
     read_unit,
 };
-use cadf_memory::{Cells, Name, Salt, Unit};
+use cadf_memory::{CadfBytes, SliceSource, sources};
+use cadf_tool::{Cells, Name, Salt, Unit};
 use std::alloc::Global;
 
 /// Reads the bytes as a name. `refusal`: they are none, or not UTF-8.
@@ -22,7 +24,7 @@ fn name_of_bytes(alloc: Global, bytes: &[u8], refusal: ArgumentFault) -> Result<
 }
 
 /// Reads the bytes as the identifier of a log. No bytes are no log.
-pub(crate) fn log_if_any(alloc: Global, bytes: &[u8]) -> Result<Option<Name>, ArgumentFault>
+fn log_if_any(alloc: Global, bytes: &[u8]) -> Result<Option<Name>, ArgumentFault>
     ensures ok { IfOk result (λ log. (log ≡ log_given bytes.now) × (log_refused bytes.now ≡ None)) }
     ensures err { IfErr result (IsArgumentFault (log_refused bytes.now)) }
 {
@@ -32,19 +34,37 @@ pub(crate) fn log_if_any(alloc: Global, bytes: &[u8]) -> Result<Option<Name>, Ar
     Ok(Some(name_of_bytes(alloc, bytes, ArgumentFault::LogName)?))
 }
 
-/// Returns the unit and the log of a split; they are checked in this order.
-pub(crate) fn split_given(
+/// Returns the log of a join, and a source for each of its inputs.
+pub(crate) fn join_given<'b>(
+    alloc: Global,
+    log: &[u8],
+    inputs: &[CadfBytes<'b>],
+) -> Result<(Option<Name>, Vec<SliceSource<'b>>), ArgumentFault>
+    ensures ok { IfOk result (λ given. (given.0 ≡ log_given log.now) × (map slice_left given.1.items ≡ bytes_in inputs.now)) }
+    ensures accepts { IfOk result (λ _. log_refused log.now ≡ None) }
+    ensures err { IfErr result (IsArgumentFault (log_refused log.now)) }
+{
+    let log = log_if_any(alloc, log)?;
+    match sources(alloc, inputs) {
+        Ok(sources) => Ok((log, sources)),
+        Err(_) => Err(ArgumentFault::Memory),
+    }
+}
+
+/// Returns the unit, the log and the sources of a split; they are checked in this order.
+pub(crate) fn split_given<'b>(
     alloc: Global,
     by: &[u8],
     log: &[u8],
-) -> Result<(Unit, Option<Name>), ArgumentFault>
-    ensures ok { IfOk result (λ given. (unit_named by.now ≡ Some given.0) × (given.1 ≡ log_given log.now)) }
+    inputs: &[CadfBytes<'b>],
+) -> Result<(Unit, Option<Name>, Vec<SliceSource<'b>>), ArgumentFault>
+    ensures ok { IfOk result (λ given. (unit_named by.now ≡ Some given.0) × (given.1 ≡ log_given log.now) × (map slice_left given.2.items ≡ bytes_in inputs.now)) }
     ensures accepts { IfOk result (λ _. split_refused by.now log.now ≡ None) }
     ensures err { IfErr result (IsArgumentFault (split_refused by.now log.now)) }
 {
     let unit = read_unit(by)?;
-    let log = log_if_any(alloc, log)?;
-    Ok((unit, log))
+    let (log, sources) = join_given(alloc, log, inputs)?;
+    Ok((unit, log, sources))
 }
 
 /// Returns the letter, the key and the place of a ruling; they are checked in this order.

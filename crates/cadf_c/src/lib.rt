@@ -1,5 +1,5 @@
 //! The engines over bytes in memory, for C. bindings/c/cadf.h declares them and says what each caller owes.
-#![tactic(auto)]
+#![tactic(auto, using(crate::proofs::Statuses::refused, crate::proofs::Statuses::answered, crate::proofs::Statuses::argument_refused))]
 
 ghost use Rattle.std.specs.Prelude.{◌≡◌, pos, Some, None, encode_utf8};
 ghost use Rattle.cadf_inventory.specs.InventoryFile.{inventory_file};
@@ -34,12 +34,13 @@ ghost use Rattle.cadf_c.specs.Arguments.{log_given, number_given, log_refused, s
 mod arguments;
 mod output;
 
-use crate::arguments::{log_if_any, rehearsal_given, ruling_given, sketch_given, split_given};
+use crate::arguments::{join_given, rehearsal_given, ruling_given, sketch_given, split_given};
 use crate::output::{answer, refuse};
 pub use cadf_memory::CadfBytes;
-use cadf_memory::{
-    InventoryEngine, RuleEngine, SealEngine, ShowEngine, SketchEngine, check, join, missing,
-    missing_by, missing_by_sketch, over_one, prove, rehearse, split, verify,
+use cadf_memory::{Buffer, over_one, prove, verify};
+use cadf_tool::{
+    InventoryEngine, RuleEngine, SealEngine, ShowEngine, SketchEngine, run_check, run_join,
+    run_missing, run_missing_by, run_missing_by_sketch, run_rehearse, run_split,
 };
 use std::alloc::Global;
 
@@ -57,7 +58,6 @@ pub extern "C" fn cadf_version() -> u32 {
 }
 
 /// Hands out the log of the input, or with `conflicts` the list of its conflicts.
-#[tactic(auto, using(crate::proofs::Statuses::refused, crate::proofs::Statuses::answered, crate::proofs::Statuses::argument_refused))]
 #[unsafe(no_mangle)]
 pub extern "C" fn cadf_show(
     alloc: Global,
@@ -72,12 +72,11 @@ pub extern "C" fn cadf_show(
     ensures refused { result ≡ pos 1 → IsRefused (IsFirstOf input_spec replica_model_of input.now.bytes.now) }
     ensures told { IsTold None result output.old output.new length.new }
 {
-    let made = over_one(alloc, &ShowEngine { conflicts }, input.bytes, output);
+    let made = over_one(alloc, &ShowEngine { conflicts }, input, output);
     answer(made, output, length)
 }
 
 /// Hands out the line that says what the input holds.
-#[tactic(auto, using(crate::proofs::Statuses::refused, crate::proofs::Statuses::answered, crate::proofs::Statuses::argument_refused))]
 #[unsafe(no_mangle)]
 pub extern "C" fn cadf_check(
     alloc: Global,
@@ -91,12 +90,12 @@ pub extern "C" fn cadf_check(
     ensures refused { result ≡ pos 1 → IsRefused (IsFirstOf input_spec replica_model_of input.now.bytes.now) }
     ensures told { IsTold None result output.old output.new length.new }
 {
-    let made = check(alloc, input.bytes, output);
-    answer(made, output, length)
+    let mut buffer = Buffer::new(output);
+    let run = run_check(alloc, &mut input.source(), &mut buffer);
+    answer(buffer.told(run), output, length)
 }
 
 /// Hands out the inventory file of the input.
-#[tactic(auto, using(crate::proofs::Statuses::refused, crate::proofs::Statuses::answered, crate::proofs::Statuses::argument_refused))]
 #[unsafe(no_mangle)]
 pub extern "C" fn cadf_inventory(
     alloc: Global,
@@ -110,12 +109,11 @@ pub extern "C" fn cadf_inventory(
     ensures refused { result ≡ pos 1 → IsRefused (IsFirstOf input_spec inventory_model_of input.now.bytes.now) }
     ensures told { IsTold None result output.old output.new length.new }
 {
-    let made = over_one(alloc, &InventoryEngine, input.bytes, output);
+    let made = over_one(alloc, &InventoryEngine, input, output);
     answer(made, output, length)
 }
 
 /// Hands out the seal file of the input.
-#[tactic(auto, using(crate::proofs::Statuses::refused, crate::proofs::Statuses::answered, crate::proofs::Statuses::argument_refused))]
 #[unsafe(no_mangle)]
 pub extern "C" fn cadf_seal(
     alloc: Global,
@@ -129,12 +127,11 @@ pub extern "C" fn cadf_seal(
     ensures refused { result ≡ pos 1 → IsRefused (IsFirstOf input_spec seal_model_of input.now.bytes.now) }
     ensures told { IsTold None result output.old output.new length.new }
 {
-    let made = over_one(alloc, &SealEngine, input.bytes, output);
+    let made = over_one(alloc, &SealEngine, input, output);
     answer(made, output, length)
 }
 
 /// Hands out the proof file, under the seal of all inputs, for the facts of `facts`, which is counted first.
-#[tactic(auto, using(crate::proofs::Statuses::refused, crate::proofs::Statuses::answered, crate::proofs::Statuses::argument_refused))]
 #[unsafe(no_mangle)]
 pub extern "C" fn cadf_prove(
     alloc: Global,
@@ -149,13 +146,12 @@ pub extern "C" fn cadf_prove(
     ensures refused { result ≡ pos 1 → IsRefused (IsFirstOfOneAndAll input_spec proof_of_union facts.now.bytes.now (bytes_in inputs.now)) }
     ensures told { IsTold None result output.old output.new length.new }
 {
-    let made = prove(alloc, facts.bytes, inputs, output);
+    let made = prove(alloc, facts, inputs, output);
     answer(made, output, length)
 }
 
 /// Hands out a line for each fact of `facts`, if the proof shows under the seal that each is in the sealed set; with
 /// `absent`, that none is.
-#[tactic(auto, using(crate::proofs::Statuses::refused, crate::proofs::Statuses::answered, crate::proofs::Statuses::argument_refused))]
 #[unsafe(no_mangle)]
 pub extern "C" fn cadf_verify(
     alloc: Global,
@@ -173,12 +169,11 @@ pub extern "C" fn cadf_verify(
         (IsFirstOfThree seal_spec input_spec proof_spec (verdict_of absent) seal.now.bytes.now facts.now.bytes.now proof.now.bytes.now) }
     ensures told { IsTold None result output.old output.new length.new }
 {
-    let made = verify(alloc, absent, seal.bytes, facts.bytes, proof.bytes, output);
+    let made = verify(alloc, absent, seal, facts, proof, output);
     answer(made, output, length)
 }
 
 /// Hands out the replica file of what `to` lacks of `from`.
-#[tactic(auto, using(crate::proofs::Statuses::refused, crate::proofs::Statuses::answered, crate::proofs::Statuses::argument_refused))]
 #[unsafe(no_mangle)]
 pub extern "C" fn cadf_missing(
     alloc: Global,
@@ -193,12 +188,12 @@ pub extern "C" fn cadf_missing(
     ensures refused { result ≡ pos 1 → IsRefused (IsFirstOfTwo input_spec input_spec delta_between from.now.bytes.now to.now.bytes.now) }
     ensures told { IsTold None result output.old output.new length.new }
 {
-    let made = missing(alloc, from.bytes, to.bytes, output);
-    answer(made, output, length)
+    let mut buffer = Buffer::new(output);
+    let run = run_missing(alloc, &mut from.source(), &mut to.source(), &mut buffer);
+    answer(buffer.told(run), output, length)
 }
 
 /// Hands out the replica file of what `from` has beyond the inventory.
-#[tactic(auto, using(crate::proofs::Statuses::refused, crate::proofs::Statuses::answered, crate::proofs::Statuses::argument_refused))]
 #[unsafe(no_mangle)]
 pub extern "C" fn cadf_missing_by(
     alloc: Global,
@@ -213,13 +208,13 @@ pub extern "C" fn cadf_missing_by(
     ensures refused { result ≡ pos 1 → IsRefused (IsFirstOfTwo input_spec inventory_spec part_by from.now.bytes.now held.now.bytes.now) }
     ensures told { IsTold None result output.old output.new length.new }
 {
-    let made = missing_by(alloc, from.bytes, held.bytes, output);
-    answer(made, output, length)
+    let mut buffer = Buffer::new(output);
+    let run = run_missing_by(alloc, &mut from.source(), &mut held.source(), &mut buffer);
+    answer(buffer.told(run), output, length)
 }
 
 /// Hands out the replica file of the input with one ruling more, for the value at that place of the key's
 /// values. Places count from 1.
-#[tactic(auto, using(crate::proofs::Statuses::refused, crate::proofs::Statuses::answered, crate::proofs::Statuses::argument_refused))]
 #[unsafe(no_mangle)]
 pub extern "C" fn cadf_rule(
     alloc: Global,
@@ -239,12 +234,7 @@ pub extern "C" fn cadf_rule(
     match ruling_given(alloc, letter, key.bytes, place) {
         Ok((letter, key, place)) => {
             let key = &key;
-            let made = over_one(
-                alloc,
-                &RuleEngine { letter, key, place },
-                input.bytes,
-                output,
-            );
+            let made = over_one(alloc, &RuleEngine { letter, key, place }, input, output);
             answer(made, output, length)
         }
         Err(fault) => refuse(fault, output, length),
@@ -252,7 +242,6 @@ pub extern "C" fn cadf_rule(
 }
 
 /// Hands out a line for each site of the log after the schedule of the script.
-#[tactic(auto, using(crate::proofs::Statuses::refused, crate::proofs::Statuses::answered, crate::proofs::Statuses::argument_refused))]
 #[unsafe(no_mangle)]
 pub extern "C" fn cadf_rehearse(
     alloc: Global,
@@ -270,15 +259,15 @@ pub extern "C" fn cadf_rehearse(
 {
     match rehearsal_given(alloc, log.bytes, sites) {
         Ok((log, sites)) => {
-            let made = rehearse(alloc, &log, sites, script.bytes, output);
-            answer(made, output, length)
+            let mut buffer = Buffer::new(output);
+            let run = run_rehearse(alloc, &log, sites, &mut script.source(), &mut buffer);
+            answer(buffer.told(run), output, length)
         }
         Err(fault) => refuse(fault, output, length),
     }
 }
 
 /// Hands out the sketch file of the input: of so many cells, 0 for 198, and with that salt, 0 for the input's own.
-#[tactic(auto, using(crate::proofs::Statuses::refused, crate::proofs::Statuses::answered, crate::proofs::Statuses::argument_refused))]
 #[unsafe(no_mangle)]
 pub extern "C" fn cadf_sketch(
     alloc: Global,
@@ -296,7 +285,7 @@ pub extern "C" fn cadf_sketch(
 {
     match sketch_given(cells, salt) {
         Ok((cells, salt)) => {
-            let made = over_one(alloc, &SketchEngine { cells, salt }, input.bytes, output);
+            let made = over_one(alloc, &SketchEngine { cells, salt }, input, output);
             answer(made, output, length)
         }
         Err(fault) => refuse(fault, output, length),
@@ -304,7 +293,6 @@ pub extern "C" fn cadf_sketch(
 }
 
 /// Hands out the replica file of what `from` has beyond the sketch.
-#[tactic(auto, using(crate::proofs::Statuses::refused, crate::proofs::Statuses::answered, crate::proofs::Statuses::argument_refused))]
 #[unsafe(no_mangle)]
 pub extern "C" fn cadf_missing_by_sketch(
     alloc: Global,
@@ -319,13 +307,13 @@ pub extern "C" fn cadf_missing_by_sketch(
     ensures refused { result ≡ pos 1 → IsRefused (IsFirstOfTwoBy input_spec sketch_spec IsPartBySketch from.now.bytes.now held.now.bytes.now) }
     ensures told { IsTold None result output.old output.new length.new }
 {
-    let made = missing_by_sketch(alloc, from.bytes, held.bytes, output);
-    answer(made, output, length)
+    let mut buffer = Buffer::new(output);
+    let run = run_missing_by_sketch(alloc, &mut from.source(), &mut held.source(), &mut buffer);
+    answer(buffer.told(run), output, length)
 }
 
 /// Hands out the replica file of what all inputs contribute, under the given log or else the first that an
 /// input names. A log of no bytes is none.
-#[tactic(auto, using(crate::proofs::Statuses::refused, crate::proofs::Statuses::answered, crate::proofs::Statuses::argument_refused))]
 #[unsafe(no_mangle)]
 pub extern "C" fn cadf_join(
     alloc: Global,
@@ -340,17 +328,17 @@ pub extern "C" fn cadf_join(
     ensures refused { result ≡ pos 1 → IsRefused (IsFirstOfAll (join_of (log_given log.now.bytes.now)) (bytes_in inputs.now)) }
     ensures told { IsTold (log_refused log.now.bytes.now) result output.old output.new length.new }
 {
-    match log_if_any(alloc, log.bytes) {
-        Ok(log) => {
-            let made = join(alloc, log, inputs, output);
-            answer(made, output, length)
+    match join_given(alloc, log.bytes, inputs) {
+        Ok((log, mut inputs)) => {
+            let mut buffer = Buffer::new(output);
+            let run = run_join(alloc, log, &mut inputs, &mut buffer);
+            answer(buffer.told(run), output, length)
         }
         Err(fault) => refuse(fault, output, length),
     }
 }
 
 /// Hands out the split file of what all inputs contribute, by the unit that has that word. The log is that of `cadf_join`.
-#[tactic(auto, using(crate::proofs::Statuses::refused, crate::proofs::Statuses::answered, crate::proofs::Statuses::argument_refused))]
 #[unsafe(no_mangle)]
 pub extern "C" fn cadf_split(
     alloc: Global,
@@ -366,10 +354,11 @@ pub extern "C" fn cadf_split(
     ensures refused { result ≡ pos 1 → IsRefused (IsFirstOfAll (join_of (log_given log.now.bytes.now)) (bytes_in inputs.now)) }
     ensures told { IsTold (split_refused by.now.bytes.now log.now.bytes.now) result output.old output.new length.new }
 {
-    match split_given(alloc, by.bytes, log.bytes) {
-        Ok((unit, log)) => {
-            let made = split(alloc, unit, log, inputs, output);
-            answer(made, output, length)
+    match split_given(alloc, by.bytes, log.bytes, inputs) {
+        Ok((unit, log, mut inputs)) => {
+            let mut buffer = Buffer::new(output);
+            let run = run_split(alloc, unit, log, &mut inputs, &mut buffer);
+            answer(buffer.told(run), output, length)
         }
         Err(fault) => refuse(fault, output, length),
     }

@@ -8,7 +8,7 @@ ghost use Rattle.cadf_c.specs.Statuses.{IsStatus};
 
 use arrayvec::ArrayString;
 use cadf_arguments::ArgumentFault;
-use cadf_memory::{ToolFault, status};
+use cadf_tool::{ToolFault, status};
 use std::fmt::Write;
 
 /// Copies what of the text fits, and sets `length` to that of the whole text.

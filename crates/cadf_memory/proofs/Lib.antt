@@ -1,7 +1,5 @@
-pub mod Made
-pub mod Refused
-pub mod Lists
-pub mod States
+pub mod SliceSources
+pub mod Outcomes
 pub mod Walks
 pub mod Stored
 pub mod Framed

@@ -1,7 +1,7 @@
 -- Bytes in memory that are read.
 use Rattle.std.specs.Prelude.{ℕ, List, map, Some}
 use Rattle.cadf_tool.specs.Inputs.{SourceState}
-use Rattle.cadf_memory.specs.declared.engines.CadfBytes.{CadfBytes}
+use Rattle.cadf_memory.specs.declared.slice_source.CadfBytes.{CadfBytes}
 use Rattle.cadf_memory.specs.declared.slice_source.SliceSource.{SliceSource}
 
 abbrev pub slice_left : SliceSource → List ℕ

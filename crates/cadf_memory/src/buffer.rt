@@ -1,14 +1,16 @@
 //! A buffer that is written to as far as it has room.
-ghost use Rattle.std.specs.Prelude.{◌≡◌, [], ◌∷◌, ◌++◌, Some, length as length_of};
+ghost use Rattle.std.specs.Prelude.{◌≡◌, [], ◌∷◌, ◌++◌, true, Some, Ok, Err, IfErr, MatchResult, length as length_of};
 ghost use Rattle.cadf_memory.specs.Handed.{handed};
+ghost use Rattle.cadf_memory.specs.Refused.{fault_in_memory_of, is_of_memory};
 
 use crate::ghost_bytes::{GhostBytes, Given};
 use cadf_json::{Failed, Sink};
+use cadf_tool::ToolFault;
 
 /// A buffer that is written to: bytes for which it has no room are counted. A write fails only if the count has no
 /// 64 bits.
 #[derive(Drop)]
-pub(crate) struct Buffer<'o> {
+pub struct Buffer<'o> {
     output: &'o mut [u8],
     length: usize,
     writes: u64,
@@ -23,7 +25,7 @@ impl<'o> Buffer<'o> {
     ghost use Rattle.cadf_memory.specs.Buffers.{buffer_name, buffer_before, buffer_text};
 
     /// Returns a buffer to which nothing was written.
-    pub(crate) fn new(output: &'o mut [u8]) -> Buffer<'o>
+    pub fn new(output: &'o mut [u8]) -> Buffer<'o>
         ensures same { buffer_name result ≡ output.entry.ghost_name }
         ensures before { buffer_before result ≡ output.old }
         ensures text { buffer_text result ≡ [] }
@@ -39,11 +41,17 @@ impl<'o> Buffer<'o> {
         }
     }
 
-    /// Returns how many bytes were written, with those that are only counted.
-    pub(crate) fn length(&self) -> usize
-        ensures { result ≡ length_of (buffer_text self.now) }
+    /// Returns the length of what an engine wrote, with the bytes that are only counted. `Err`: its fault; no read fails in
+    /// memory, and a text that is too long to count has no memory.
+    pub fn told(&self, run: Result<(), ToolFault>) -> Result<usize, ToolFault>
+        ensures same { MatchResult run (λ _. result ≡ Ok (length_of (buffer_text self.now))) (λ fault. result ≡ Err (fault_in_memory_of fault)) }
+        ensures only { IfErr result (λ fault. is_of_memory fault ≡ true) }
     {
-        self.length
+        match run {
+            Ok(()) => Ok(self.length),
+            Err(ToolFault::ReadFault(_) | ToolFault::WriteFault) => Err(ToolFault::Memory),
+            Err(fault) => Err(fault),
+        }
     }
 }
 

@@ -1,19 +1,12 @@
-//! The engines over bytes in memory.
+//! Bytes in memory as inputs of the engines, and a buffer for what they write.
 #![tactic(auto)]
 
 mod buffer;
 mod engines;
 mod ghost_bytes;
 pub mod laws;
-mod output;
 mod slice_source;
 
-pub use crate::engines::{
-    CadfBytes, check, join, missing, missing_by, missing_by_sketch, over_one, prove, rehearse,
-    split, verify,
-};
-pub use cadf_event::Name;
-pub use cadf_sketch::{Cells, Salt};
-pub use cadf_tool::{
-    InventoryEngine, RuleEngine, SealEngine, ShowEngine, SketchEngine, ToolFault, Unit, status,
-};
+pub use crate::buffer::Buffer;
+pub use crate::engines::{over_one, prove, verify};
+pub use crate::slice_source::{CadfBytes, SliceSource, sources};

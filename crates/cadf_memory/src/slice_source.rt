@@ -1,27 +1,44 @@
 //! Bytes in memory that are read.
-ghost use Rattle.std.specs.Prelude.{◌≡◌, Some};
+ghost use Rattle.std.specs.Prelude.{◌≡◌, Some, IfOk, map};
+ghost use Rattle.cadf_memory.specs.Memory.{slice_left, bytes_in};
 
-use cadf_json::{Failed, Source};
+use cadf_json::{Failed, Memory, Source};
+use std::alloc::Global;
 
-/// Bytes that are read, or borrowed without a copy. No read fails.
-#[derive(Drop)]
-pub(crate) struct SliceSource<'b> {
-    left: &'b [u8],
-    reads: u64,
+/// Bytes of the caller's: an address and a length, as C has them.
+#[repr(C)]
+pub struct CadfBytes<'b> {
+    pub bytes: &'b [u8],
 }
 
-impl<'b> SliceSource<'b> {
-    ghost use Rattle.cadf_memory.specs.Memory.{slice_left};
-
+impl<'b> CadfBytes<'b> {
     /// Returns a source that has all the bytes left.
-    pub(crate) fn new(bytes: &'b [u8]) -> SliceSource<'b>
-        ensures { slice_left result ≡ bytes.now }
+    pub fn source(&self) -> SliceSource<'b>
+        ensures { slice_left result ≡ self.now.bytes.now }
     {
         SliceSource {
-            left: bytes,
+            left: self.bytes,
             reads: 0,
         }
     }
+}
+
+/// Returns a source for each of the inputs.
+pub fn sources<'b>(alloc: Global, inputs: &[CadfBytes<'b>]) -> Result<Vec<SliceSource<'b>>, Memory>
+    ensures { IfOk result (λ sources. map slice_left sources.items ≡ bytes_in inputs.now) }
+{
+    let mut sources = Vec::new(alloc);
+    for input in inputs {
+        sources.push(input.source())?;
+    }
+    Ok(sources)
+}
+
+/// Bytes that are read, or borrowed without a copy. No read fails.
+#[derive(Drop)]
+pub struct SliceSource<'b> {
+    left: &'b [u8],
+    reads: u64,
 }
 
 impl<'b> Source for SliceSource<'b> {

@@ -1,6 +1,6 @@
 use Rattle.std.proofs.Common.{◌≡◌, ◌++◌, map, drop}
 use Rattle.cadf_memory.specs.Memory.{slice_left, bytes_in}
-use Rattle.cadf_memory.proofs.engines.sources.Given as goal
+use Rattle.cadf_memory.proofs.slice_source.sources.Given as goal
 
 -- a source of each input so far, and those to come
 abbrev pub invariant-loop-input : goal.invariant-loop-input
