@@ -15,227 +15,164 @@ use std::alloc::Global;
 use std::fs;
 use std::fs::Files;
 
-/// Opens the file at the path, which is input `number`. `ReadFault` if it can't be opened.
-fn open<R: Files>(rt: &R, path: &str, number: usize) -> Result<FromStd<R::File>, ToolFault> {
-    match fs::open(rt, path) {
-        Ok(file) => Ok(FromStd::new(file)),
-        Err(_) => Err(ToolFault::ReadFault(number)),
+/// Runs engines on files. `Err`: a refused argument, then a file that can't be opened, then the engine's fault.
+#[derive(Drop)]
+pub(crate) struct Runner<'r, R, W> {
+    pub(crate) rt: &'r R,
+    pub(crate) alloc: Global,
+    pub(crate) output: W,
+}
+
+impl<R: Files, W: Sink> Runner<'_, R, W> {
+    /// Opens the file at the path, which is input `number`. `ReadFault` if it can't be opened.
+    fn open(&self, path: &str, number: usize) -> Result<FromStd<R::File>, ToolFault> {
+        match fs::open(self.rt, path) {
+            Ok(file) => Ok(FromStd::new(file)),
+            Err(_) => Err(ToolFault::ReadFault(number)),
+        }
     }
-}
 
-/// Opens the files at these paths, which are the inputs after so many others. `ReadFault` names the first that can't be
-/// opened, `Memory` if an allocation fails.
-fn open_all<R: Files>(
-    rt: &R,
-    alloc: Global,
-    before: usize,
-    paths: &[&str],
-) -> Result<Vec<FromStd<R::File>>, ToolFault>
-    requires { before + length paths.now < 2 ^ 64 }
-    ensures { IfOk result (λ files. length files.items ≡ length paths.now) }
-{
-    let mut files = Vec::new(alloc);
-    for path in paths {
-        let file = open(rt, *path, before + files.len() + 1)?;
-        files.push(file)?;
+    /// Opens the files at these paths, which are the inputs after so many others. `ReadFault` names the first that can't
+    /// be opened, `Memory` if an allocation fails.
+    fn open_all(&self, before: usize, paths: &[&str]) -> Result<Vec<FromStd<R::File>>, ToolFault>
+        requires { before + length paths.now < 2 ^ 64 }
+        ensures { IfOk result (λ files. length files.items ≡ length paths.now) }
+    {
+        let mut files = Vec::new(self.alloc);
+        for path in paths {
+            let file = self.open(*path, before + files.len() + 1)?;
+            files.push(file)?;
+        }
+        Ok(files)
     }
-    Ok(files)
-}
 
-/// Runs the engine on the union of files.
-fn union<E: Engine, W: Sink>(
-    rt: &HostRuntime,
-    engine: &E,
-    paths: &[&str],
-    output: &mut W,
-) -> Result<(), Stop> {
-    let mut inputs = open_all(rt, rt.alloc(), 0, paths)?;
-    Ok(run_union(rt.alloc(), engine, inputs.as_mut_slice(), output)?)
-}
+    /// Runs the engine on the union of files.
+    fn union<E: Engine>(&mut self, engine: &E, paths: &[&str]) -> Result<(), Stop> {
+        let mut inputs = self.open_all(0, paths)?;
+        Ok(run_union(self.alloc, engine, &mut inputs, &mut self.output)?)
+    }
 
-/// Runs `join` on files.
-fn join<W: Sink>(
-    rt: &HostRuntime,
-    log: Option<&str>,
-    paths: &[&str],
-    output: &mut W,
-) -> Result<(), Stop> {
-    let log = log_given(rt.alloc(), log)?;
-    let mut inputs = open_all(rt, rt.alloc(), 0, paths)?;
-    Ok(run_join(rt.alloc(), log, inputs.as_mut_slice(), output)?)
-}
+    /// Runs `join` on files.
+    fn join(&mut self, log: Option<&str>, paths: &[&str]) -> Result<(), Stop> {
+        let log = log_given(self.alloc, log)?;
+        let mut inputs = self.open_all(0, paths)?;
+        Ok(run_join(self.alloc, log, &mut inputs, &mut self.output)?)
+    }
 
-/// Runs `split` on files.
-fn split<W: Sink>(
-    rt: &HostRuntime,
-    by: &str,
-    log: Option<&str>,
-    paths: &[&str],
-    output: &mut W,
-) -> Result<(), Stop> {
-    let unit = read_unit(by.as_bytes())?;
-    let log = log_given(rt.alloc(), log)?;
-    let mut inputs = open_all(rt, rt.alloc(), 0, paths)?;
-    Ok(run_split(rt.alloc(), unit, log, inputs.as_mut_slice(), output)?)
-}
+    /// Runs `split` on files.
+    fn split(&mut self, by: &str, log: Option<&str>, paths: &[&str]) -> Result<(), Stop> {
+        let unit = read_unit(by.as_bytes())?;
+        let log = log_given(self.alloc, log)?;
+        let mut inputs = self.open_all(0, paths)?;
+        Ok(run_split(self.alloc, unit, log, &mut inputs, &mut self.output)?)
+    }
 
-/// Runs `missing` on the files of both sides.
-fn missing<W: Sink>(
-    rt: &HostRuntime,
-    from: &[&str],
-    to: &[&str],
-    output: &mut W,
-) -> Result<(), Stop> {
-    let before = from.len();
-    let mut from = open_all(rt, rt.alloc(), 0, from)?;
-    let mut to = open_all(rt, rt.alloc(), before, to)?;
-    Ok(run_missing_unions(rt.alloc(), from.as_mut_slice(), to.as_mut_slice(), output)?)
-}
+    /// Runs `missing` on the files of both sides.
+    fn missing(&mut self, from: &[&str], to: &[&str]) -> Result<(), Stop> {
+        let before = from.len();
+        let mut from = self.open_all(0, from)?;
+        let mut to = self.open_all(before, to)?;
+        Ok(run_missing_unions(self.alloc, &mut from, &mut to, &mut self.output)?)
+    }
 
-/// Runs `missing-by` on files and an inventory file.
-fn missing_by<W: Sink>(
-    rt: &HostRuntime,
-    from: &[&str],
-    inventory: &str,
-    output: &mut W,
-) -> Result<(), Stop> {
-    let number = from.len() + 1;
-    let mut from = open_all(rt, rt.alloc(), 0, from)?;
-    let mut inventory = open(rt, inventory, number)?;
-    Ok(run_missing_by_union(rt.alloc(), from.as_mut_slice(), &mut inventory, output)?)
-}
+    /// Runs `missing-by` on files and an inventory file.
+    fn missing_by(&mut self, from: &[&str], inventory: &str) -> Result<(), Stop> {
+        let number = from.len() + 1;
+        let mut from = self.open_all(0, from)?;
+        let mut inventory = self.open(inventory, number)?;
+        Ok(run_missing_by_union(self.alloc, &mut from, &mut inventory, &mut self.output)?)
+    }
 
-/// Runs `sketch` on files. `options` are the number of cells and the salt, if they are given.
-fn sketch<W: Sink>(
-    rt: &HostRuntime,
-    options: [Option<&str>; 2],
-    paths: &[&str],
-    output: &mut W,
-) -> Result<(), Stop> {
-    let cells = options[0].map(cells_given).transpose()?;
-    let salt = options[1].map(salt_given).transpose()?;
-    union(rt, &SketchEngine { cells, salt }, paths, output)
-}
+    /// Runs `sketch` on files. `options` are the number of cells and the salt, if they are given.
+    fn sketch(&mut self, options: [Option<&str>; 2], paths: &[&str]) -> Result<(), Stop> {
+        let cells = options[0].map(cells_given).transpose()?;
+        let salt = options[1].map(salt_given).transpose()?;
+        self.union(&SketchEngine { cells, salt }, paths)
+    }
 
-/// Runs `missing-by-sketch` on files and a sketch file.
-fn missing_by_sketch<W: Sink>(
-    rt: &HostRuntime,
-    from: &[&str],
-    sketch: &str,
-    output: &mut W,
-) -> Result<(), Stop> {
-    let number = from.len() + 1;
-    let mut from = open_all(rt, rt.alloc(), 0, from)?;
-    let mut sketch = open(rt, sketch, number)?;
-    Ok(run_missing_by_sketch_union(rt.alloc(), from.as_mut_slice(), &mut sketch, output)?)
-}
+    /// Runs `missing-by-sketch` on files and a sketch file.
+    fn missing_by_sketch(&mut self, from: &[&str], sketch: &str) -> Result<(), Stop> {
+        let number = from.len() + 1;
+        let mut from = self.open_all(0, from)?;
+        let mut sketch = self.open(sketch, number)?;
+        Ok(run_missing_by_sketch_union(self.alloc, &mut from, &mut sketch, &mut self.output)?)
+    }
 
-/// Runs `prove` on a file of facts and on files.
-fn prove<W: Sink>(
-    rt: &HostRuntime,
-    facts: &str,
-    paths: &[&str],
-    output: &mut W,
-) -> Result<(), Stop> {
-    let mut facts = open(rt, facts, 1)?;
-    let mut inputs = open_all(rt, rt.alloc(), 1, paths)?;
-    Ok(run_prove(rt.alloc(), &mut facts, inputs.as_mut_slice(), output)?)
-}
+    /// Runs `prove` on a file of facts and on files.
+    fn prove(&mut self, facts: &str, paths: &[&str]) -> Result<(), Stop> {
+        let mut facts = self.open(facts, 1)?;
+        let mut inputs = self.open_all(1, paths)?;
+        Ok(run_prove(self.alloc, &mut facts, &mut inputs, &mut self.output)?)
+    }
 
-/// Runs `verify` on the files of a seal, of facts and of a proof.
-fn verify<W: Sink>(
-    rt: &HostRuntime,
-    absent: bool,
-    paths: [&str; 3],
-    output: &mut W,
-) -> Result<(), Stop> {
-    let mut seal = open(rt, paths[0], 1)?;
-    let mut facts = open(rt, paths[1], 2)?;
-    let mut proof = open(rt, paths[2], 3)?;
-    Ok(run_verify(
-        rt.alloc(),
-        &mut seal,
-        &mut facts,
-        &mut proof,
-        absent,
-        output,
-    )?)
-}
-
-/// Runs `rule` on files. `ruling` is the letter, the key and the place.
-fn rule<W: Sink>(
-    rt: &HostRuntime,
-    ruling: [&str; 3],
-    paths: &[&str],
-    output: &mut W,
-) -> Result<(), Stop> {
-    let letter = letter_given(ruling[0])?;
-    let key = read_key(rt.alloc(), ruling[1])?;
-    let place = place_given(ruling[2])?;
-    let key = &key;
-    union(rt, &RuleEngine { letter, key, place }, paths, output)
-}
-
-/// Runs `rehearse` on a script.
-fn rehearse<W: Sink>(
-    rt: &HostRuntime,
-    log: &str,
-    sites: &str,
-    script: &str,
-    output: &mut W,
-) -> Result<(), Stop> {
-    let log = read_log(rt.alloc(), log)?;
-    let sites = sites_given(sites)?;
-    let mut script = open(rt, script, 1)?;
-    Ok(run_rehearse(rt.alloc(), &log, sites, &mut script, output)?)
-}
-
-/// Runs `check` on files.
-fn check<W: Sink>(rt: &HostRuntime, paths: &[&str], output: &mut W) -> Result<(), Stop> {
-    let mut inputs = open_all(rt, rt.alloc(), 0, paths)?;
-    Ok(run_check_union(rt.alloc(), inputs.as_mut_slice(), output)?)
-}
-
-/// Runs the engine that the request names. `Err`: a refused argument, then a file that can't be opened, then the
-/// engine's fault.
-pub(crate) fn run_engine<W: Sink>(
-    rt: &HostRuntime,
-    request: &Request<'_>,
-    output: &mut W,
-) -> Result<(), Stop> {
-    match request {
-        Request::Join { log, files } => join(rt, *log, files.as_slice(), output),
-        Request::Split { by, log, files } => split(rt, by, *log, files.as_slice(), output),
-        Request::Missing { from, to } => missing(rt, from.as_slice(), to.as_slice(), output),
-        Request::MissingBy { from, inventory } => {
-            missing_by(rt, from.as_slice(), inventory, output)
-        }
-        Request::Inventory { files } => union(rt, &InventoryEngine, files.as_slice(), output),
-        Request::Sketch { cells, salt, files } => {
-            sketch(rt, [*cells, *salt], files.as_slice(), output)
-        }
-        Request::MissingBySketch { from, sketch } => {
-            missing_by_sketch(rt, from.as_slice(), sketch, output)
-        }
-        Request::Seal { files } => union(rt, &SealEngine, files.as_slice(), output),
-        Request::Prove { facts, files } => prove(rt, facts, files.as_slice(), output),
-        Request::Verify {
+    /// Runs `verify` on the files of a seal, of facts and of a proof.
+    fn verify(&mut self, absent: bool, paths: [&str; 3]) -> Result<(), Stop> {
+        let mut seal = self.open(paths[0], 1)?;
+        let mut facts = self.open(paths[1], 2)?;
+        let mut proof = self.open(paths[2], 3)?;
+        Ok(run_verify(
+            self.alloc,
+            &mut seal,
+            &mut facts,
+            &mut proof,
             absent,
-            seal,
-            facts,
-            proof,
-        } => verify(rt, *absent, [seal, facts, proof], output),
-        Request::Rule {
-            letter,
-            key,
-            place,
-            files,
-        } => rule(rt, [letter, key, place], files.as_slice(), output),
-        Request::Rehearse { log, sites, script } => rehearse(rt, log, sites, script, output),
-        Request::Show { conflicts, files } => {
-            let conflicts = *conflicts;
-            union(rt, &ShowEngine { conflicts }, files.as_slice(), output)
+            &mut self.output,
+        )?)
+    }
+
+    /// Runs `rule` on files. `ruling` is the letter, the key and the place.
+    fn rule(&mut self, ruling: [&str; 3], paths: &[&str]) -> Result<(), Stop> {
+        let letter = letter_given(ruling[0])?;
+        let key = read_key(self.alloc, ruling[1])?;
+        let place = place_given(ruling[2])?;
+        let key = &key;
+        self.union(&RuleEngine { letter, key, place }, paths)
+    }
+
+    /// Runs `rehearse` on a script.
+    fn rehearse(&mut self, log: &str, sites: &str, script: &str) -> Result<(), Stop> {
+        let log = read_log(self.alloc, log)?;
+        let sites = sites_given(sites)?;
+        let mut script = self.open(script, 1)?;
+        Ok(run_rehearse(self.alloc, &log, sites, &mut script, &mut self.output)?)
+    }
+
+    /// Runs `check` on files.
+    fn check(&mut self, paths: &[&str]) -> Result<(), Stop> {
+        let mut inputs = self.open_all(0, paths)?;
+        Ok(run_check_union(self.alloc, &mut inputs, &mut self.output)?)
+    }
+
+    /// Runs the engine that the request names.
+    pub(crate) fn run(&mut self, request: &Request<'_>) -> Result<(), Stop> {
+        match request {
+            Request::Join { log, files } => self.join(*log, files),
+            Request::Split { by, log, files } => self.split(by, *log, files),
+            Request::Missing { from, to } => self.missing(from, to),
+            Request::MissingBy { from, inventory } => self.missing_by(from, inventory),
+            Request::Inventory { files } => self.union(&InventoryEngine, files),
+            Request::Sketch { cells, salt, files } => self.sketch([*cells, *salt], files),
+            Request::MissingBySketch { from, sketch } => self.missing_by_sketch(from, sketch),
+            Request::Seal { files } => self.union(&SealEngine, files),
+            Request::Prove { facts, files } => self.prove(facts, files),
+            Request::Verify {
+                absent,
+                seal,
+                facts,
+                proof,
+            } => self.verify(*absent, [seal, facts, proof]),
+            Request::Rule {
+                letter,
+                key,
+                place,
+                files,
+            } => self.rule([letter, key, place], files),
+            Request::Rehearse { log, sites, script } => self.rehearse(log, sites, script),
+            Request::Show { conflicts, files } => {
+                let conflicts = *conflicts;
+                self.union(&ShowEngine { conflicts }, files)
+            }
+            Request::Check { files } => self.check(files),
         }
-        Request::Check { files } => check(rt, files.as_slice(), output),
     }
 }

@@ -9,7 +9,7 @@ mod engines;
 mod given;
 mod stop;
 
-use crate::engines::run_engine;
+use crate::engines::Runner;
 use crate::stop::{REFUSED, Stop, report};
 use cadf_json::FromStd;
 use cadf_tool::{CountingSink, FILE_LIMIT, OverLimit, ToolFault};
@@ -35,10 +35,14 @@ fn run_out(rt: &HostRuntime, request: &Request<'_>) -> Result<Option<OverLimit>,
     let Ok(buffer) = BufWriter::new(rt.alloc(), io::writer(rt)) else {
         return Err(Stop::Tool(ToolFault::Memory));
     };
-    let mut output = CountingSink::new(FromStd::new(buffer));
-    run_engine(rt, request, &mut output)?;
-    let over_limit = output.over_limit(FILE_LIMIT);
-    flushed(output.into_inner().into_inner())?;
+    let mut runner = Runner {
+        rt,
+        alloc: rt.alloc(),
+        output: CountingSink::new(FromStd::new(buffer)),
+    };
+    runner.run(request)?;
+    let over_limit = runner.output.over_limit(FILE_LIMIT);
+    flushed(runner.output.into_inner().into_inner())?;
     Ok(over_limit)
 }
 

@@ -1,5 +1,5 @@
 use Rattle.std.proofs.Common.{◌≡◌, length}
-use Rattle.cadf.proofs.engines.open_all.Given as goal
+use Rattle.cadf.proofs.engines.Runner.open_all.Given as goal
 
 -- a file for each path before the index
 abbrev pub invariant-loop-path : goal.invariant-loop-path
