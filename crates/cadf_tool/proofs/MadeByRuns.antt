@@ -1,5 +1,5 @@
 -- What engines write for derived files.
-use Rattle.std.proofs.Common.{◌≡◌, ℕ, List, map, ◌++◌, Option, Some, Ok, Err, Result, refl, ap, subst}
+use Rattle.std.proofs.Common.{◌≡◌, ℕ, List, map, ◌++◌, Option, Some, Ok, Err, Result, refl, ap, ◌∙◌, subst}
 use Rattle.std.specs.Io.KnownBytes.{Appends}
 use Rattle.cadf_json.specs.declared.stream.Source.{Ghosts as Source}
 use Rattle.cadf_json.specs.declared.stream.Sink.{Ghosts as Sink}
@@ -13,15 +13,14 @@ use Rattle.cadf_tool.specs.declared.fault.ToolFault.{ToolFault}
 use Rattle.cadf_tool.specs.Told.{log_named, atoms_loaded, replica_model_of}
 use Rattle.cadf_tool.specs.Inputs.{source_state}
 use Rattle.cadf_tool.specs.Run.{InputSpec, transition_of, Sources, one, two, all, input_spec, IsExpectedOfBy, IsAnswer, IsRun, IsRunBy}
-use Rattle.cadf_tool.specs.ModelInput.{sketch_spec}
-use Rattle.cadf_tool.specs.Sketch.{AreAsked, sketch_model_of, IsPartBySketch}
+use Rattle.cadf_tool.specs.Sketch.{AreAsked, sketch_model_of}
 use Rattle.cadf_tool.specs.Join.{join_of}
 use Rattle.cadf_tool.specs.Rule.{ruling_on, ruling_for, ruled_of}
 use Rattle.cadf_tool.specs.TwoTexts.{IsTextOfFile}
-use Rattle.cadf_tool.specs.Exchange.{Derivation, Joined, Ruled, Operands, IsFileOf, IsReadOf, IsDerived, IsOutputOf, IsSketchOf, IsPartBySketchOf}
+use Rattle.cadf_tool.specs.Exchange.{Derivation, Joined, Ruled, Operands, IsReadOf, IsDerived, IsOutputOf, IsSketchOf}
 use Rattle.cadf_tool.specs.Exchange.{GivesFile, AreSources}
 use Rattle.cadf_tool.proofs.RulingAdded.{ruled_is}
-use Rattle.cadf_tool.proofs.SketchParts.{sketched_is, held_named, answer_read}
+use Rattle.cadf_tool.proofs.SketchParts.{sketched_is, held_named}
 use Rattle.cadf_tool.proofs.ExchangeLaws.{read_of, are_read, written_behind}
 
 -- ---- a run that returned Ok
@@ -74,11 +73,11 @@ module _ {S W T : Type 0} (source : Source S) (sink : Sink W) (old new : W) (t :
       )
 
   -- an engine whose work makes a replica of an input and of what a second source encodes
-  pub part_makes : {U : Type 0} (spec : InputSpec U) (work : Loaded × U → Result ReplicaModel ToolFault) (from : Derivation) (P : List ℕ → Type 0)
+  pub part_makes : {U : Type 0} (spec : InputSpec U) (work : Loaded × U → Result ReplicaModel ToolFault → Type 0) (from : Derivation) (P : List ℕ → Type 0)
       (input other after other_after : S) → GivesFile (λ b. IsDerived from b) (source_state source input) → GivesFile P (source_state source other)
-      → IsRun (two input_spec (transition_of source input after) spec (transition_of source other other_after)) work written_file sink old new (Ok t)
+      → IsRunBy (two input_spec (transition_of source input after) spec (transition_of source other other_after)) work written_file sink old new (Ok t)
       → (bytes : List ℕ) × (sink.written new ≡ Some (before ++ bytes)) × ((one : Loaded) × (value : U) × IsReadOf (λ b. IsDerived from b) one
-      × ((b : List ℕ) × P b × spec.is b value) × IsFileOf (work (one, value)) bytes)
+      × ((b : List ℕ) × P b × spec.is b value) × ((h : ReplicaModel) × work (one, value) (Ok h) × (bytes ≡ written_file h)))
   part_makes spec work from P input other after other_after s u run =
       let r = run_ok _ _ _ _ _ _ _ run in (
         written_file r.made,
@@ -110,82 +109,29 @@ module _ {S W T : Type 0} (source : Source S) (sink : Sink W) (old new : W) (t :
         ),
       )
 
-  pub rule_makes : (letter key : Text) (place : ℕ) (m : Derivation) (input after : S) → GivesFile (λ b. IsDerived m b) (source_state source input)
-      → IsRun (one input_spec (transition_of source input after)) (ruled_of letter key place) written_file sink old new (Ok t)
-      → (value : Text) × (bytes : List ℕ) × (sink.written new ≡ Some (before ++ bytes))
-      × IsDerived (Ruled place (ruling_on letter key value) m) bytes
-  rule_makes letter key place m input after s run =
-      let r = run_ok _ _ _ _ _ _ _ run in
-      let ruled = ruled_is letter key place (log_named r.value) (atoms_loaded r.value) r.made r.worked in (
-        ruled.value,
-        written_file r.made,
-        behind (written_file r.made) r.written,
-        (
-          r.value,
-          read_of input_spec (λ b. IsDerived m b) (source_state source input) (source_state source after) r.value s r.are,
-          ap (ruling_for letter key) ruled.at_place,
-          (r.made, r.worked, refl),
-        ),
-      )
+-- ---- what an engine with one input wrote
 
-  pub sketch_makes : (cells salt : Option ℕ) (to : Derivation) (input after : S) → AreAsked cells salt
-      → GivesFile (λ b. IsDerived to b) (source_state source input)
-      → IsRun (one input_spec (transition_of source input after)) (sketch_model_of cells salt) sketch_file sink old new (Ok t)
-      → (noted : InventoryModel) × (bytes : List ℕ) × (sink.written new ≡ Some (before ++ bytes)) × IsSketchOf (λ b. IsDerived to b) noted bytes
-  sketch_makes cells salt to input after given s run =
-      let r = run_ok _ _ _ _ _ _ _ run in
-      let of_noted = sketched_is cells salt r.value r.made r.worked in (
-        of_noted.0,
-        sketch_file r.made,
-        behind (sketch_file r.made) r.written,
-        (
-          r.value,
-          cells,
-          salt,
-          given,
-          read_of input_spec (λ b. IsDerived to b) (source_state source input) (source_state source after) r.value s r.are,
-          of_noted.1,
-          ap sketch_file of_noted.2,
-        ),
-      )
+pub rule_wrote : (letter key : Text) (place : ℕ) (m : Derivation) (bytes : List ℕ)
+    → IsOutputOf (ruled_of letter key place) written_file (λ b. IsDerived m b) bytes
+    → (value : Text) × IsDerived (Ruled place (ruling_on letter key value) m) bytes
+rule_wrote letter key place m bytes (l, h, read, e, is) =
+    let ruled = ruled_is letter key place (log_named l) (atoms_loaded l) h e in
+    (ruled.value, (l, read, ap (ruling_for letter key) ruled.at_place, (h, e, is)))
 
-  pub missing_by_sketch_makes : (from to : Derivation) (sketched : InventoryModel) (input by after by_after : S)
-      → GivesFile (λ b. IsDerived from b) (source_state source input) → GivesFile (IsSketchOf (λ b. IsDerived to b) sketched) (source_state source by)
-      → IsRunBy (two input_spec (transition_of source input after) sketch_spec (transition_of source by by_after)) IsPartBySketch written_file sink old new (Ok t)
-      → (read : InventoryModel) × (bytes : List ℕ) × (sink.written new ≡ Some (before ++ bytes))
-      × IsPartBySketchOf (λ b. IsDerived from b) (λ b. IsDerived to b) sketched read bytes
-  missing_by_sketch_makes from to sketched input by after by_after s u run =
-      let r = run_ok _ _ _ _ _ _ _ run in
-      let of_read = answer_read r.value.0 r.value.1 r.made r.worked in (
-        of_read.0,
-        written_file r.made,
-        behind (written_file r.made) r.written,
-        (
-          r.value.0,
-          r.value.1,
-          r.made,
-          read_of input_spec (λ b. IsDerived from b) (source_state source input) (source_state source after) r.value.0 s r.are.0,
-          read_of sketch_spec (IsSketchOf (λ b. IsDerived to b) sketched) (source_state source by) (source_state source by_after) r.value.1 u r.are.1,
-          of_read.1,
-          refl,
-        ),
-      )
+pub sketch_wrote : (cells salt : Option ℕ) (to : List ℕ → Type 0) (bytes : List ℕ) → AreAsked cells salt
+    → IsOutputOf (sketch_model_of cells salt) sketch_file to bytes → (noted : InventoryModel) × IsSketchOf to noted bytes
+sketch_wrote cells salt to bytes asked (l, sketch, read, e, is) =
+    let of_noted = sketched_is cells salt l sketch e in
+    (of_noted.0, (l, cells, salt, asked, read, of_noted.1, is ∙ ap sketch_file of_noted.2))
 
-  -- an engine with one input, by the input's log and atoms
-  pub text_makes : (tell : ReplicaModel → Text) (m : Derivation) (input after : S) → GivesFile (λ b. IsDerived m b) (source_state source input)
-      → IsRun (one input_spec (transition_of source input after)) replica_model_of tell sink old new (Ok t)
-      → (text : Text) × (sink.written new ≡ Some (before ++ text)) × IsTextOfFile tell m text
-  text_makes tell m input after s run =
-      let r = run_ok _ _ _ _ _ _ _ run in
-      let file_read = read_of input_spec (λ b. IsDerived m b) (source_state source input) (source_state source after) r.value s r.are in
-      let named = held_named (log_named r.value) (atoms_loaded r.value) r.made r.worked in (
-        tell r.made,
-        behind (tell r.made) r.written,
-        record {
-          bytes = file_read.0;
-          made = file_read.1;
-          held = r.made;
-          read = record { loaded = r.value; input = file_read.2; named = named.0; atoms = named.1 };
-          written = refl;
-        },
-      )
+-- by the input's log and atoms
+pub text_wrote : (tell : ReplicaModel → Text) (m : Derivation) (text : Text) → IsOutputOf replica_model_of tell (λ b. IsDerived m b) text
+    → IsTextOfFile tell m text
+text_wrote tell m text (l, h, (bytes, made, input), e, is) =
+    let named = held_named (log_named l) (atoms_loaded l) h e in record {
+      bytes = bytes;
+      made = made;
+      held = h;
+      read = record { loaded = l; input = input; named = named.0; atoms = named.1 };
+      written = is;
+    }
