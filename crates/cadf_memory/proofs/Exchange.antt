@@ -1,5 +1,5 @@
 -- What engines make of derived files in memory.
-use Rattle.std.proofs.Common.{ℕ, List, [], ◌∷◌, map, append-nil, Option, Some, Result, refl, sym, ap, ◌∙◌}
+use Rattle.std.proofs.Common.{ℕ, List, [], ◌∷◌, map, append-nil, Option, Some, Result, refl, sym}
 use Rattle.cadf_join.specs.Contents.{Text}
 use Rattle.cadf_set.specs.Inventory.{InventoryModel}
 use Rattle.cadf_set.specs.Replica.{ReplicaModel}
@@ -7,7 +7,7 @@ use Rattle.cadf_sketch.specs.SketchFile.{sketch_file}
 use Rattle.cadf_tool.specs.WrittenFile.{written_file}
 use Rattle.cadf_tool.specs.declared.input.Loaded.{Loaded}
 use Rattle.cadf_tool.specs.declared.fault.ToolFault.{ToolFault}
-use Rattle.cadf_tool.specs.Told.{log_named, atoms_loaded, replica_model_of}
+use Rattle.cadf_tool.specs.Told.{replica_model_of}
 use Rattle.cadf_tool.specs.Inputs.{SourceState}
 use Rattle.cadf_tool.specs.Run.{input_spec, AreLoaded}
 use Rattle.cadf_tool.specs.ModelInput.{inventory_spec, sketch_spec}
@@ -15,12 +15,12 @@ use Rattle.cadf_tool.specs.Sketch.{AreAsked, sketch_model_of, IsPartBySketch}
 use Rattle.cadf_tool.specs.Join.{join_of}
 use Rattle.cadf_tool.specs.Missing.{delta_between}
 use Rattle.cadf_tool.specs.MissingBy.{part_by}
-use Rattle.cadf_tool.specs.Rule.{ruling_on, ruling_for, ruled_of}
+use Rattle.cadf_tool.specs.Rule.{ruling_on, ruled_of}
 use Rattle.cadf_tool.specs.TwoTexts.{IsTextOfFile}
 use Rattle.cadf_tool.specs.Exchange.{Derivation, Joined, Ruled, Operands}
 use Rattle.cadf_tool.specs.Exchange.{IsDerived, IsPartOf, IsOutputOf, IsInventoryOf, IsPartByOf, IsSketchOf, IsPartBySketchOf, AreSources}
-use Rattle.cadf_tool.proofs.RulingAdded.{ruled_is}
-use Rattle.cadf_tool.proofs.SketchParts.{sketched_is, held_named, answer_read}
+use Rattle.cadf_tool.proofs.SketchParts.{answer_read}
+use Rattle.cadf_tool.proofs.MadeByRuns.{sketch_wrote, rule_wrote, text_wrote}
 use Rattle.cadf_tool.proofs.ExchangeLaws.{are_read}
 use Rattle.cadf_memory.specs.Memory.{unread}
 use Rattle.cadf_memory.specs.Made.{IsMadeOf, IsMadeOfTwo, IsMadeOfTwoBy, IsMadeOfAll, AreInputs}
@@ -61,8 +61,7 @@ missing_by_makes from to a b text d e m = (m.value.0, m.value.1, (a, d, m.input.
 pub sketch_makes : (cells salt : Option ℕ) (to : Derivation) (b : List ℕ) (text : Text) → AreAsked cells salt → IsDerived to b
     → IsMadeOf input_spec (sketch_model_of cells salt) sketch_file b text → (noted : InventoryModel) × IsSketchOf (λ x. IsDerived to x) noted text
 sketch_makes cells salt to b text asked e m =
-    let of_noted = sketched_is cells salt m.value m.made m.worked in
-    (of_noted.0, (m.value, cells, salt, asked, (b, e, m.input), of_noted.1, m.told ∙ ap sketch_file of_noted.2))
+    sketch_wrote cells salt (λ x. IsDerived to x) text asked (output_makes (sketch_model_of cells salt) sketch_file to b text e m)
 
 pub missing_by_sketch_makes : (from to : Derivation) (sketched : InventoryModel) (a b : List ℕ) (text : Text) → IsDerived from a
     → IsSketchOf (λ x. IsDerived to x) sketched b → IsMadeOfTwoBy input_spec sketch_spec IsPartBySketch written_file a b text
@@ -73,17 +72,8 @@ missing_by_sketch_makes from to sketched a b text d e m =
 
 pub rule_makes : (letter key : Text) (place : ℕ) (m : Derivation) (b : List ℕ) (text : Text) → IsDerived m b
     → IsMadeOf input_spec (ruled_of letter key place) written_file b text → (value : Text) × IsDerived (Ruled place (ruling_on letter key value) m) text
-rule_makes letter key place of b text d m =
-    let ruled = ruled_is letter key place (log_named m.value) (atoms_loaded m.value) m.made m.worked in
-    (ruled.value, (m.value, (b, d, m.input), ap (ruling_for letter key) ruled.at_place, (m.made, m.worked, m.told)))
+rule_makes letter key place of b text d m = rule_wrote letter key place of text (output_makes (ruled_of letter key place) written_file of b text d m)
 
 pub text_makes : (tell : ReplicaModel → Text) (m : Derivation) (b : List ℕ) (text : Text) → IsDerived m b
     → IsMadeOf input_spec replica_model_of tell b text → IsTextOfFile tell m text
-text_makes tell of b text d m =
-    let named = held_named (log_named m.value) (atoms_loaded m.value) m.made m.worked in record {
-      bytes = b;
-      made = d;
-      held = m.made;
-      read = record { loaded = m.value; input = m.input; named = named.0; atoms = named.1 };
-      written = m.told;
-    }
+text_makes tell of b text d m = text_wrote tell of text (output_makes replica_model_of tell of b text d m)
