@@ -1,5 +1,5 @@
 -- The parts of a run, combined.
-use Rattle.std.proofs.Common.{◌≡◌, ℕ, List, map, Result, Ok, Err, IsErrAnd, refl, sym, ap, ◌∙◌, subst, inl, inr, arith}
+use Rattle.std.proofs.Common.{◌≡◌, ℕ, List, map, Result, Ok, Err, IsErrAnd, refl, sym, ap, ◌∙◌, subst, inl, inr}
 use Rattle.std.proofs.lemmas.Result.{err_from_is_err_and}
 use Rattle.cadf_json.specs.declared.stream.Sink.{Ghosts as Sink}
 use Rattle.cadf_json.specs.declared.stream.Source.{Ghosts as Source}
@@ -8,7 +8,7 @@ use Rattle.cadf_tool.specs.declared.input.Loaded.{Loaded}
 use Rattle.cadf_tool.specs.declared.fault.ToolFault.{ToolFault}
 use Rattle.cadf_tool.specs.declared.fault.ToolFault.TheVariants.{Memory}
 use Rattle.cadf_tool.specs.Faults.{FaultStage, Reading, Working, Writing, OutOfMemoryStage, fault_stage}
-use Rattle.cadf_tool.specs.Inputs.{SourceState, source_state, AreReadWithin}
+use Rattle.cadf_tool.specs.Inputs.{source_state, AreReadWithin}
 use Rattle.cadf_tool.specs.Run.{SourceTransition, InputSpec, Sources, with_number, both, all_from, AreLoaded, IsReadAs, IsReadWithin, IsFirstFault}
 use Rattle.cadf_tool.specs.Run.{IsFirstFaultBy, IsUnread, IsExpectedBy, IsWorkFaultBy, IsWorkedBy, IsAnswer, IsRunBy}
 use Rattle.cadf_tool.proofs.LoadedLists.{none_failed, reads_first}
@@ -32,12 +32,9 @@ pub record AreStopped {A : Type 0} (sources : Sources A) (fault : ToolFault) : T
   pub is : IsUnread sources fault
   pub bounded : sources.bounded
 
-module _ {T : Type 0} (number : ℕ) (reader : InputSpec T) where
-  pub one_read : (t : SourceTransition) → IsReadWithin reader.limit t → (value : T) → IsReadAs reader t value → AreRead (with_number number reader t) value
-  one_read t within value is = record { are = is; unfailed = is.1; bounded = within }
-
-  pub one_untouched : (s : SourceState) → AreUntouched (with_number number reader (record { old = s; new = s }))
-  one_untouched s = record { unread = refl; unfailed = refl; bounded = omega arith }
+pub one_read : {T : Type 0} (number : ℕ) (reader : InputSpec T) (t : SourceTransition) → IsReadWithin reader.limit t → (value : T)
+    → IsReadAs reader t value → AreRead (with_number number reader t) value
+one_read number reader t within value is = record { are = is; unfailed = is.1; bounded = within }
 
 module _ {S : Type 0} (first : ℕ) (source : Source S) where
   pub all_read : (old new : List S) (ls : List Loaded) → AreReadWithin (map source.reads old) (map source.reads new)
@@ -50,9 +47,6 @@ module _ {S : Type 0} (first : ℕ) (source : Source S) where
 module _ {A B : Type 0} {first : Sources A} {second : Sources B} where
   pub both_read : {a : A} {b : B} → AreRead first a → AreRead second b → AreRead (both first second) (a, b)
   both_read f s = record { are = (f.are, s.are); unfailed = (f.unfailed, s.unfailed); bounded = (f.bounded, s.bounded) }
-
-  pub both_untouched : AreUntouched first → AreUntouched second → AreUntouched (both first second)
-  both_untouched f s = record { unread = (f.unread, s.unread); unfailed = (f.unfailed, s.unfailed); bounded = (f.bounded, s.bounded) }
 
   pub first_stopped : {fault : ToolFault} → AreStopped first fault → AreUntouched second → AreStopped (both first second) fault
   first_stopped {fault} f s = record { is = at (fault_stage fault) f.is; bounded = (f.bounded, s.bounded) }

@@ -1,4 +1,4 @@
-use Rattle.std.proofs.Common.{◌+◌, length, None, sym, subst}
+use Rattle.std.proofs.Common.{rules, ◌+◌, length, None, sym, subst}
 use Rattle.cadf_tool.specs.JoinState.{IsJoinState, log_joined}
 use Rattle.cadf_tool.proofs.LoadedLists.{all_count}
 use Rattle.cadf_tool.proofs.Runs.{all_read, all_untouched, both_read, first_stopped, second_stopped, starved, stopped, worked_run}
@@ -6,9 +6,7 @@ use Rattle.cadf_tool.proofs.missing.run_missing_unions.Goals as goal
 
 pub returns-in_err-first : goal.returns-in_err-first
 returns-in_err-first g c =
-    let e = c.in_err-first.ensures in
-    stopped _ _ c.from_residual.ensures.1
-    (first_stopped (record { is = e.err; bounded = e.reads }) (all_untouched (length c.args.from.now + 1) g.R.Source c.args.to.now))
+    stopped _ _ c.from_residual.ensures.1 (first_stopped (search rules) (all_untouched (length c.args.from.now + 1) g.R.Source c.args.to.now))
 
 pub returns-in_err-start : goal.returns-in_err-start
 returns-in_err-start g c =
@@ -20,9 +18,7 @@ returns-in_err-start g c =
 pub returns-in_err-second : goal.returns-in_err-second
 returns-in_err-second g c =
     let f = c.in_ok-first.ensures in
-    let e = c.in_err-second.ensures in
-    stopped _ _ c.from_residual-in_err-second.ensures.1
-    (second_stopped (all_read 1 g.R.Source _ _ f.ok.0 f.reads f.ok.1) (record { is = e.err; bounded = e.reads }))
+    stopped _ _ c.from_residual-in_err-second.ensures.1 (second_stopped (all_read 1 g.R.Source _ _ f.ok.0 f.reads f.ok.1) (search rules))
 
 pub returns : goal.returns
 returns g c =

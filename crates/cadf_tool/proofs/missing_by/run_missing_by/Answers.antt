@@ -1,24 +1,18 @@
-use Rattle.std.proofs.Common.{None, [], ◌∷◌, subst}
-use Rattle.cadf_tool.specs.Inputs.{source_state}
+use Rattle.std.proofs.Common.{rules, None, [], ◌∷◌, subst}
 use Rattle.cadf_tool.specs.ModelInput.{inventory_spec}
 use Rattle.cadf_tool.specs.Run.{input_spec, IsWorked}
-use Rattle.cadf_tool.proofs.Runs.{one_read, one_untouched, both_read, first_stopped, second_stopped, stopped, worked_run}
+use Rattle.cadf_tool.proofs.Runs.{one_read, both_read, second_stopped, stopped, worked_run}
 use Rattle.cadf_tool.proofs.Unions.{first_place}
 use Rattle.cadf_tool.proofs.UnionDeltas.{part_by_one, number_two}
 use Rattle.cadf_tool.proofs.missing_by.run_missing_by.Goals as goal
 
 pub returns-in_err-first : goal.returns-in_err-first
-returns-in_err-first g c =
-    let e = c.in_err-first.ensures in
-    stopped _ _ c.from_residual.ensures.1
-    (first_stopped (record { is = e.err; bounded = e.reads }) (one_untouched 2 inventory_spec (source_state g.R.Source c.args.inventory.now)))
+returns-in_err-first g c = stopped _ _ c.from_residual.ensures.1 (search rules)
 
 pub returns-in_err-noted : goal.returns-in_err-noted
 returns-in_err-noted g c =
     let f = c.in_ok-first.ensures in
-    let e = c.in_err-noted.ensures in
-    stopped _ _ c.from_residual-in_err-noted.ensures.1
-    (second_stopped (one_read 1 input_spec _ f.reads f.ok.0 f.ok.1) (record { is = e.err; bounded = e.reads }))
+    stopped _ _ c.from_residual-in_err-noted.ensures.1 (second_stopped (one_read 1 input_spec _ f.reads f.ok.0 f.ok.1) (search rules))
 
 pub returns : goal.returns
 returns g c =

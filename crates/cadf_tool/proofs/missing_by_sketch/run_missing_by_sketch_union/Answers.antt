@@ -1,22 +1,16 @@
-use Rattle.std.proofs.Common.{◌+◌, None, sym, ap}
-use Rattle.cadf_tool.specs.Inputs.{source_state}
+use Rattle.std.proofs.Common.{rules, ◌+◌, None, sym, ap}
 use Rattle.cadf_tool.specs.ModelInput.{sketch_spec}
 use Rattle.cadf_tool.proofs.LoadedLists.{all_count}
-use Rattle.cadf_tool.proofs.Runs.{one_read, one_untouched, all_read, both_read, first_stopped, second_stopped, stopped, worked_run}
+use Rattle.cadf_tool.proofs.Runs.{one_read, all_read, both_read, second_stopped, stopped, worked_run}
 use Rattle.cadf_tool.proofs.missing_by_sketch.run_missing_by_sketch_union.Goals as goal
 
 pub returns-in_err-union : goal.returns-in_err-union
-returns-in_err-union g c =
-    let e = c.in_err-union.ensures in
-    stopped _ _ c.from_residual.ensures.1
-    (first_stopped (record { is = e.err; bounded = e.reads }) (one_untouched _ sketch_spec (source_state g.R.Source c.args.sketch.now)))
+returns-in_err-union g c = stopped _ _ c.from_residual.ensures.1 (search rules)
 
 pub returns-in_err-read : goal.returns-in_err-read
 returns-in_err-read g c =
     let f = c.in_ok-union.ensures in
-    let e = c.in_err-read.ensures in
-    stopped _ _ c.from_residual-in_err-read.ensures.1
-    (second_stopped (all_read 1 g.R.Source _ _ f.ok.0 f.reads f.ok.1) (record { is = e.err; bounded = e.reads }))
+    stopped _ _ c.from_residual-in_err-read.ensures.1 (second_stopped (all_read 1 g.R.Source _ _ f.ok.0 f.reads f.ok.1) (search rules))
 
 pub returns : goal.returns
 returns g c =

@@ -5,17 +5,12 @@ use Rattle.cadf_tool.proofs.Runs.{one_read, all_read, all_untouched, both_read, 
 use Rattle.cadf_tool.proofs.prove.run_prove.Goals as goal
 
 pub returns-in_err-asked : goal.returns-in_err-asked
-returns-in_err-asked g c =
-    let e = c.in_err-asked.ensures in
-    stopped _ _ c.from_residual.ensures.1
-    (first_stopped (record { is = e.err; bounded = e.reads }) (all_untouched 2 g.R.Source c.args.inputs.now))
+returns-in_err-asked g c = stopped _ _ c.from_residual.ensures.1 (first_stopped (search rules) (all_untouched 2 g.R.Source c.args.inputs.now))
 
 pub returns-in_err-union : goal.returns-in_err-union
 returns-in_err-union g c =
     let f = c.in_ok-asked.ensures in
-    let e = c.in_err-union.ensures in
-    stopped _ _ c.from_residual-in_err-union.ensures.1
-    (second_stopped (one_read 1 input_spec _ f.reads c.in_ok-asked.asked f.ok) (record { is = e.err; bounded = e.reads }))
+    stopped _ _ c.from_residual-in_err-union.ensures.1 (second_stopped (one_read 1 input_spec _ f.reads c.in_ok-asked.asked f.ok) (search rules))
 
 pub returns-in_err-proof : goal.returns-in_err-proof
 returns-in_err-proof g c =

@@ -1,32 +1,26 @@
-use Rattle.std.proofs.Common.{Ok, Err, refl, ap, ◌∙◌, arith}
+use Rattle.std.proofs.Common.{rules, Ok, Err, refl, ap, ◌∙◌, arith}
 use Rattle.std.proofs.lemmas.Grind.{common_steps}
 use Rattle.std.proofs.lemmas.Result.{err_from_is_err_and}
-use Rattle.cadf_tool.specs.Inputs.{source_state}
 use Rattle.cadf_tool.specs.Run.{input_spec}
 use Rattle.cadf_tool.specs.ModelInput.{seal_spec, proof_spec}
-use Rattle.cadf_tool.proofs.Runs.{one_read, one_untouched, both_read, both_untouched, first_stopped, second_stopped, stopped, worked_run}
+use Rattle.cadf_tool.proofs.Runs.{one_read, both_read, first_stopped, second_stopped, stopped, worked_run}
 use Rattle.cadf_tool.proofs.verify.run_verify.Goals as goal
 
 pub returns-in_err-seal-clause-verdict : goal.returns-in_err-seal-clause-verdict
-returns-in_err-seal-clause-verdict g c =
-    let e = c.in_err-seal.ensures in
-    stopped _ _ c.from_residual.ensures.1 (first_stopped (record { is = e.err; bounded = e.reads })
-    (both_untouched (one_untouched 2 input_spec (source_state g.R.Source c.args.facts.now)) (one_untouched 3 proof_spec (source_state g.R.Source c.args.proof.now))))
+returns-in_err-seal-clause-verdict g c = stopped _ _ c.from_residual.ensures.1 (search rules)
 
 pub returns-in_err-loaded-clause-verdict : goal.returns-in_err-loaded-clause-verdict
 returns-in_err-loaded-clause-verdict g c =
     let s = c.in_ok-seal.ensures in
-    let e = c.in_err-loaded.ensures in
     stopped _ _ c.from_residual-in_err-loaded.ensures.1 (second_stopped (one_read 1 seal_spec _ s.reads c.in_ok-seal.seal s.ok)
-    (first_stopped (record { is = e.err; bounded = e.reads }) (one_untouched 3 proof_spec (source_state g.R.Source c.args.proof.now))))
+    (first_stopped (search rules) (search rules)))
 
 pub returns-in_err-proof-clause-verdict : goal.returns-in_err-proof-clause-verdict
 returns-in_err-proof-clause-verdict g c =
     let s = c.in_ok-seal.ensures in
     let f = c.in_ok-loaded.ensures in
-    let e = c.in_err-proof.ensures in
     stopped _ _ c.from_residual-in_err-proof.ensures.1 (second_stopped (one_read 1 seal_spec _ s.reads c.in_ok-seal.seal s.ok)
-    (second_stopped (one_read 2 input_spec _ f.reads c.in_ok-loaded.loaded f.ok) (record { is = e.err; bounded = e.reads })))
+    (second_stopped (one_read 2 input_spec _ f.reads c.in_ok-loaded.loaded f.ok) (search rules)))
 
 pub returns-in_err-lines-clause-verdict : goal.returns-in_err-lines-clause-verdict
 returns-in_err-lines-clause-verdict g c =
