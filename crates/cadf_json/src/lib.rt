@@ -12,7 +12,6 @@ mod plain_run;
 mod push;
 mod read;
 mod rewrite;
-mod spelling;
 mod stream;
 mod transfer;
 mod value;
@@ -27,10 +26,10 @@ pub use crate::laws::{
     text_spells_its_value,
 };
 pub use crate::plain_run::plain_length;
-pub use crate::spelling::push_quoted;
 pub use crate::stream::{Failed, FromStd, Sink, Source};
 pub use crate::transfer::{OutFault, ReadLimitFault, read_rest, read_to_limit, write_all};
 pub use crate::value::{Json, JsonFault, quoted};
 pub use crate::view::View;
 pub use crate::walk::{Items, Member, Members};
+pub use crate::write::push_quoted;
 pub use std::alloc::AllocError as Memory;

@@ -5,7 +5,7 @@ use Rattle.json.specs.Run.{is_plain}
 use Rattle.json.specs.Token.{Token}
 use Rattle.json.specs.Print.{print, print_from, quoted, escape}
 use Rattle.cadf_json.proofs.PlainRuns.{spelled_whole}
-use Rattle.cadf_json.proofs.spelling.push_quoted.Goals as goal
+use Rattle.cadf_json.proofs.write.push_quoted.Goals as goal
 
 one_string : (s : List ℕ) → print (Token.string s ∷ []) ≡ quoted s
 unfolding print_from
