@@ -88,10 +88,7 @@ fn pass_members<'a, T: ItemVisitor>(
         let Some(key) = key else {
             break;
         };
-        if count == u32::MAX {
-            return Err(JsonFault::Memory);
-        }
-        count += 1;
+        count = count.checked_add(1).ok_or(JsonFault::Memory)?;
         rising = rises_to(rising, last, key);
         last = Some(key);
         push_string(key, flat)?;

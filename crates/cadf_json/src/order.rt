@@ -140,10 +140,7 @@ fn copy_members(
         if !is_replaced(member.name.text(), &sorted[at..]) {
             out.push(member.nodes[0])?;
             copy_value(alloc, &member.nodes[1..], texts, out)?;
-            if kept == u32::MAX {
-                return Err(AllocError);
-            }
-            kept += 1;
+            kept = kept.checked_add(1).ok_or(AllocError)?;
         }
     }
     let extent = extent_from(out, start, kept)?;

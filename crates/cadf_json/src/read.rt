@@ -53,10 +53,7 @@ fn read_items(reader: &mut Reader<'_>, depth: usize, flat: &mut Flat) -> Result<
     let mut rising = true;
     'items: while !reader.take_end_array() {
         rising = read_value(reader, depth, flat)? & rising;
-        if count == u32::MAX {
-            return Err(JsonFault::Memory);
-        }
-        count += 1;
+        count = count.checked_add(1).ok_or(JsonFault::Memory)?;
     }
     let extent = extent_from(&flat.nodes, at, count)?;
     flat.nodes[at] = Node::Array(extent);
@@ -91,10 +88,7 @@ fn read_members<'a>(
         rising = rises_to(rising, last, name);
         push_string(name, flat)?;
         rising = read_value(reader, depth, flat)? & rising;
-        if count == u32::MAX {
-            return Err(JsonFault::Memory);
-        }
-        count += 1;
+        count = count.checked_add(1).ok_or(JsonFault::Memory)?;
         last = Some(name);
     }
     let extent = extent_from(&flat.nodes, at, count)?;

@@ -5,7 +5,7 @@ use Rattle.json.specs.Json.{value, read_key}
 use Rattle.json.proofs.Grammar.{read_key-shorter}
 use Rattle.serde_json.specs.Data.{array, no_items}
 use Rattle.cadf_json.specs.declared.node.Node.TheVariants.{Object}
-use Rattle.cadf_json.specs.Reading.{Grown, StandsAsRead}
+use Rattle.cadf_json.specs.Reading.{Grown, StandsAsRead, is_name_above}
 use Rattle.cadf_json.proofs.Settling.{scalar}
 use Rattle.cadf_json.proofs.ReadValues.{rest_utf8, key_utf8}
 use Rattle.cadf_json.proofs.TakenApart.{Apart, apart_start, apart_other, apart_list, apart_over}
@@ -43,12 +43,14 @@ members-preserved g c =
     let sooner = read_key-shorter l.reader (Some k.now) s named in
     let later = done.shorter in
     let less : length r < length l.reader = omega (arith, sooner, later) in
+    let counted : l.count + 1 ≡ c.in_ok-count.count = grind arith in
     let read = done.ok in (
-      subst (λ b. Apart took l.taker name p start r old c.read_value.new.flat.nodes.items u c.read_value.new.flat.texts.items (l.count + 1) (Some k.now)
+      subst (λ b. Apart took l.taker name p start r old c.read_value.new.flat.nodes.items u c.read_value.new.flat.texts.items c.in_ok-count.count (Some k.now)
           (c.in_ok-rising.field-0 && b)) (sym c.rises_to-rising.ensures)
-          (apart_other took name p start old u l.taker l.reader s r l.flat.nodes.items c.push_string.new.flat.nodes.items c.read_value.new.flat.nodes.items l.flat.texts.items
+          (subst (λ n. Apart took l.taker name p start r old c.read_value.new.flat.nodes.items u c.read_value.new.flat.texts.items n (Some k.now)
+          (c.in_ok-rising.field-0 && (l.rising && is_name_above last k.now))) counted (apart_other took name p start old u l.taker l.reader s r l.flat.nodes.items c.push_string.new.flat.nodes.items c.read_value.new.flat.nodes.items l.flat.texts.items
           c.push_string.new.flat.texts.items c.read_value.new.flat.texts.items l.count last l.rising _ k.now read.0 l.invariant.0 other named c.in_ok-push_string.ensures
-          read.1.0 read.1.1 less),
+          read.1.0 read.1.1 less)),
       l.invariant.1,
       rest_utf8 c.args.depth s r read.0 (key_utf8 l.reader s (Some k.now) l.invariant.2 named) read.1.0,
     )
@@ -72,15 +74,17 @@ members-preserved-in_ok-pass_list g c =
     let sooner = read_key-shorter l.reader (Some k.now) s named in
     let later = done.shorter in
     let less : length r < length l.reader = omega (arith, sooner, later) in
+    let counted : l.count + 1 ≡ c.in_ok-count.count = grind arith in
     let list = done.ok in
     let w = c.push_string.new.flat.texts.items in
     let grown : Grown (λ u xs. StandsAsRead true u (array no_items) xs) c.push_string.new.flat.nodes.items c.pass_list.new.nodes.items w w =
     scalar (array no_items) refl (record { xs = _ ∷ []; more = []; nodes = list.1.2; texts = sym (append-nil w); stands = (_, ([], (refl, (refl, refl), refl))) }) in (
-      subst (λ b. Apart took c.pass_list.new.taker name p start r old c.pass_list.new.nodes.items u w (l.count + 1) (Some k.now) b)
+      subst (λ b. Apart took c.pass_list.new.taker name p start r old c.pass_list.new.nodes.items u w c.in_ok-count.count (Some k.now) b)
           (sym c.rises_to-rising.ensures)
-          (apart_list took name p start old u l.taker c.pass_list.new.taker l.reader s r l.flat.nodes.items c.push_string.new.flat.nodes.items
+          (subst (λ n. Apart took c.pass_list.new.taker name p start r old c.pass_list.new.nodes.items u w n (Some k.now)
+          (l.rising && is_name_above last k.now)) counted (apart_list took name p start old u l.taker c.pass_list.new.taker l.reader s r l.flat.nodes.items c.push_string.new.flat.nodes.items
           c.pass_list.new.nodes.items l.flat.texts.items w w l.count last l.rising k.now list.0 l.invariant.0 equal named c.in_ok-push_string.ensures
-          list.1.1 grown less list.1.0),
+          list.1.1 grown less list.1.0)),
       l.invariant.1,
       rest_utf8 c.args.depth s r (array list.0) (key_utf8 l.reader s (Some k.now) l.invariant.2 named) list.1.1,
     )

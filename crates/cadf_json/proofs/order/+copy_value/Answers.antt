@@ -144,15 +144,16 @@ copy_members-members-preserved-then-not-is_replaced t c =
     let later = take (length sorted - (l.at + 1)) (drop (l.at + 1) sorted) in
     let now = lasts_from sorted l.at false c.members-test.true
     (sym c.if-not-is_replaced.true ∙ c.is_replaced.ensures ∙ ap (λ k. is_replaced k later) (c.text.ensures ∙ ap (λ x. x.name) item)) in
+    let counted : l.kept + 1 ≡ c.in_ok-kept.kept = grind arith in
     let pushed : mid ≡ l.out.items ++ slice_index_or p.nodes.now 0 Null ∷ [] =
     c.in_ok-push-2.ensures.items ∙ ap (λ x. l.out.items ++ slice_index_or x.nodes.now 0 Null ∷ []) item in (
       (λ ms h.
           let f = first_kept c.args.texts.now (length c.args.members.now) now (l.invariant.0 ms h) in
           let tail = tail_is (Text f.place) c.index-sorted-at.result.nodes.now f.ys (ap (λ x. x.nodes.now) item ∙ f.nodes_are) in
-          named_more texts n ms old (p.name, p) rest l.out.items mid c.copy_value.new.out.items l.kept
+          subst (λ k. MembersCopied texts n ms rest old c.copy_value.new.out.items k) counted (named_more texts n ms old (p.name, p) rest l.out.items mid c.copy_value.new.out.items l.kept
           (subst (λ es. MembersCopied texts n ms es old l.out.items l.kept) now (l.invariant.0 ms h)) f
           (pushed ∙ ap (λ ns. l.out.items ++ slice_index_or ns 0 Null ∷ []) f.nodes_are)
-          (c.in_ok-copy_value.ensures f.value (subst (Stands texts f.value) (sym tail) f.stands))),
+          (c.in_ok-copy_value.ensures f.value (subst (Stands texts f.value) (sym tail) f.stands)))),
       l.invariant.1,
     )
 

@@ -108,9 +108,11 @@ read_items-items-preserved t c =
     let done = c.in_ok-rising.ensures in
     let r = c.read_value.new.reader in
     let less : length r < length l.reader = rw (← going.1) done.shorter in
+    let counted : l.count + 1 ≡ c.in_ok-count.count = grind arith in
     let read = done.ok in (
-      one_more_item p c.args.reader.now c.args.flat.now.nodes.items c.args.flat.now.texts.items l.reader r l.flat.nodes.items c.read_value.new.flat.nodes.items l.flat.texts.items
-          c.read_value.new.flat.texts.items l.count l.rising _ read.0 l.invariant.0 going.0 (rw (← going.1) read.1.0) read.1.1 less,
+      subst (λ n. ItemsRead p c.args.reader.now r c.args.flat.now.nodes.items c.read_value.new.flat.nodes.items c.args.flat.now.texts.items
+          c.read_value.new.flat.texts.items n (c.in_ok-rising.field-0 && l.rising)) counted (one_more_item p c.args.reader.now c.args.flat.now.nodes.items c.args.flat.now.texts.items l.reader r l.flat.nodes.items c.read_value.new.flat.nodes.items l.flat.texts.items
+          c.read_value.new.flat.texts.items l.count l.rising _ read.0 l.invariant.0 going.0 (rw (← going.1) read.1.0) read.1.1 less),
       l.invariant.1,
     )
 
@@ -172,11 +174,13 @@ read_members-members-preserved t c =
     let sooner = read_key-shorter l.reader (Some k.now) s named in
     let later = done.shorter in
     let less : length r < length l.reader = omega (arith, sooner, later) in
+    let counted : l.count + 1 ≡ c.in_ok-count.count = grind arith in
     let read = done.ok in (
-      subst (λ b. MembersRead (λ ms. ms) p start r old c.read_value.new.flat.nodes.items u c.read_value.new.flat.texts.items (l.count + 1) (Some k.now) (c.in_ok-rising.field-0 && b))
+      subst (λ b. MembersRead (λ ms. ms) p start r old c.read_value.new.flat.nodes.items u c.read_value.new.flat.texts.items c.in_ok-count.count (Some k.now) (c.in_ok-rising.field-0 && b))
           (sym c.rises_to-rising.ensures)
-          (one_more_member (λ ms. ms) p start old u l.reader s r l.flat.nodes.items c.push_string.new.flat.nodes.items c.read_value.new.flat.nodes.items l.flat.texts.items
+          (subst (λ n. MembersRead (λ ms. ms) p start r old c.read_value.new.flat.nodes.items u c.read_value.new.flat.texts.items n (Some k.now)
+          (c.in_ok-rising.field-0 && (l.rising && is_name_above last k.now))) counted (one_more_member (λ ms. ms) p start old u l.reader s r l.flat.nodes.items c.push_string.new.flat.nodes.items c.read_value.new.flat.nodes.items l.flat.texts.items
           c.push_string.new.flat.texts.items c.read_value.new.flat.texts.items l.count last l.rising _ _ k.now read.0 read.0 l.invariant.0 named
-          c.in_ok-push_string.ensures read.1.0 read.1.1 less refl (and_parts c.in_ok-rising.field-0 (l.rising && is_name_above last k.now))),
+          c.in_ok-push_string.ensures read.1.0 read.1.1 less refl (and_parts c.in_ok-rising.field-0 (l.rising && is_name_above last k.now)))),
       l.invariant.1,
     )
