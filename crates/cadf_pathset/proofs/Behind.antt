@@ -1,6 +1,6 @@
 -- The suffixes after a text in ascending lists, and the first texts of the lists.
 use Rattle.std.proofs.lemmas.Grind.{common_steps}
-use Rattle.std.proofs.Common.{◌≡◌, ℕ, suc, zero, true, false, cond, List, [], ◌∷◌, Option, Some, None, refl, sym, ap, ◌∙◌, subst, length, take, drop}
+use Rattle.std.proofs.Common.{◌≡◌, ◌≤◌, ℕ, suc, zero, true, false, cond, List, [], ◌∷◌, Option, Some, None, refl, sym, ap, ◌∙◌, subst, length, take, drop}
 use Rattle.std.proofs.Common.{get_or, map, ◌<◌, ◌+◌, arith}
 use Rattle.std.specs.Borrow.{Bor}
 use Rattle.std.proofs.lemmas.List.{at_drop_more}
@@ -117,7 +117,7 @@ module _ (t : Text) where
       by Equal k j = refl
       by Greater k j = absurd (true≢false (sym j))
 
-pub least_second : (ls : List Texts) → IsStrictlySortedBy texts_cmp ls → first_text (get_or ls 0 []) ≡ None
+least_second : (ls : List Texts) → IsStrictlySortedBy texts_cmp ls → first_text (get_or ls 0 []) ≡ None
     → find (is_after text_cmp None) (firsts ls) ≡ first_text (get_or ls 1 [])
 unfolding IsStrictlySortedBy
 least_second [] s e = refl
@@ -125,6 +125,15 @@ least_second ([] ∷ []) s e = refl
 least_second ([] ∷ [] ∷ ls) s e = grind (arith, common_steps)
 least_second ([] ∷ (u ∷ c) ∷ ls) s e = refl
 least_second ((u ∷ c) ∷ ls) s e = grind (arith, common_steps)
+
+-- of the first list that isn't empty
+pub least_at : (ls : List Texts) → IsStrictlySortedBy texts_cmp ls → (n : ℕ) → n ≤ 1 → (n ≡ 0 → first_text (get_or ls 0 []) ≡ None → ⊥)
+    → (n ≡ 1 → first_text (get_or ls 0 []) ≡ None) → find (is_after text_cmp None) (firsts ls) ≡ first_text (get_or ls n [])
+least_at [] s zero few some empty = absurd (some refl refl)
+least_at ([] ∷ ls) s zero few some empty = absurd (some refl refl)
+least_at ((u ∷ c) ∷ ls) s zero few some empty = refl
+least_at ls s (suc zero) few some empty = least_second ls s (empty refl)
+least_at ls s (suc (suc n)) few some empty = absurd (omega (arith, few))
 
 not_below : (t : Text) (c : Texts) (ls : List Texts) → AllByRecursion (λ l. texts_cmp (t ∷ c) l ≡ Less) ls
     → AllByRecursion (λ u. text_cmp t u ≡ Greater → ⊥) (firsts ls)

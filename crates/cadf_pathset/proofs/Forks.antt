@@ -8,7 +8,7 @@ use Rattle.cadf_join.specs.Contents.{Text, Texts, text_cmp, texts_cmp}
 use Rattle.cadf_join.specs.laws.Contents.{texts_total}
 use Rattle.cadf_pathset.specs.Fork.{IsFork, IsForkAt}
 use Rattle.cadf_pathset.specs.Nodes.{list_at}
-use Rattle.cadf_pathset.specs.declared.fork.Fork.{Fork}
+use Rattle.cadf_pathset.specs.declared.sort.Fork.{Fork}
 use Rattle.cadf_pathset.proofs.Orders.{cmp_ends, cmp_parts, then_equal}
 
 less_is_not : Less ≡ Equal → ⊥

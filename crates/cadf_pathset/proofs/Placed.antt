@@ -27,6 +27,6 @@ placed_all P [] xs h = tt
 placed_all P (i ∷ is) xs h = held_at P xs i (at_places is xs) h (placed_all P is xs h)
 
 -- one more index
-front_of : {A : Type 0} (o : Option A) (rest : List A) → cons_option o [] ++ rest ≡ cons_option o rest
+pub front_of : {A : Type 0} (o : Option A) (rest : List A) → cons_option o [] ++ rest ≡ cons_option o rest
 front_of None rest = refl
 front_of (Some x) rest = refl

@@ -6,7 +6,7 @@ use Rattle.std.specs.declared.cmp.Ordering.TheVariants.{Equal}
 use Rattle.std.specs.Ordering.{ordering_then}
 use Rattle.cadf_join.specs.Contents.{Texts, texts_cmp}
 use Rattle.cadf_pathset.specs.Nodes.{list_at}
-use Rattle.cadf_pathset.specs.declared.fork.Fork.{Fork}
+use Rattle.cadf_pathset.specs.declared.sort.Fork.{Fork}
 
 abbrev pub IsForkAt : List Texts → Fork → ℕ → ℕ → Type 0
 IsForkAt ls f p q = (f.order ≡ Equal → ⊥) → (x y : Texts)

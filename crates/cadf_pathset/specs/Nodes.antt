@@ -11,11 +11,10 @@
 --     Agree n a b                                   both lists have n texts or more, and the same first n
 --     IsClimb ls up l d                             the nodes up have as lists l, l without its last text, .. down to d + 1 texts
 --     shared a b                                    the length of the longest common prefix of two lists
-use Rattle.std.specs.Prelude.{◌≡◌, ℕ, ◌+◌, ◌-◌, ◌<◌, ◌≤◌, List, [], ◌∷◌, ◌++◌, length, take, drop, get_or, map, Option, Some, None}
+use Rattle.std.specs.Prelude.{◌≡◌, ℕ, ◌+◌, ◌-◌, ◌<◌, ◌≤◌, List, [], ◌∷◌, ◌++◌, length, take, drop, get_or, map}
 use Rattle.std.specs.List.{AllByRecursion}
-use Rattle.std.specs.declared.cmp.Ordering.{Ordering}
 use Rattle.std.specs.Ordering.{match_ordering}
-use Rattle.cadf_join.specs.Contents.{Text, Texts, text_cmp, texts_cmp}
+use Rattle.cadf_join.specs.Contents.{Text, Texts, text_cmp}
 
 abbrev pub list_at : List Texts → ℕ → Texts
 list_at ls n = get_or ([] ∷ ls) n []

@@ -3,59 +3,10 @@ ghost use Rattle.std.specs.Prelude.{◌≡◌, ◌≤◌, ◌↔◌, IsTrue, len
 ghost use Rattle.cadf_join.specs.Contents.{texts_cmp};
 ghost use Rattle.cadf_pathset.specs.Nodes.{Agree, list_at, shared};
 
-use crate::as_text::{AsText, text_at};
+use crate::lines::text_at;
 use crate::nodes::{Nodes, ancestor, depth};
 use std::cmp::Ordering;
-
-/// Up to this many texts are compared from the first on, each after a climb of its own. More texts are compared in one
-/// climb.
-const NEAR: usize = 8;
-
-/// Compares the node's list with another, if both are known to share their first `known` texts. Returns the order, and
-/// how many first texts they share.
-pub(crate) fn list_cmp<W: AsText>(
-    nodes: &Nodes,
-    node: usize,
-    list: &[W],
-    known: usize,
-) -> (Ordering, usize)
-    requires there { node ≤ length nodes.now }
-    requires known { Agree known (list_at nodes.now node) (map W.bytes list.now) }
-    ensures order { result.0 ≡ texts_cmp (list_at nodes.now node) (map W.bytes list.now) }
-    ensures agreed { result.1 ≡ shared (list_at nodes.now node) (map W.bytes list.now) }
-{
-    let has = depth(nodes, node);
-    if has.min(list.len()) - known > NEAR {
-        return cmp_up(nodes, node, has, list, known);
-    }
-    cmp_down(nodes, node, has, list, known)
-}
-
-/// Compares from the first texts on: the first difference decides.
-fn cmp_down<W: AsText>(
-    nodes: &Nodes,
-    node: usize,
-    has: usize,
-    list: &[W],
-    known: usize,
-) -> (Ordering, usize)
-    requires there { node ≤ length nodes.now }
-    requires has { has ≡ length (list_at nodes.now node) }
-    requires known { Agree known (list_at nodes.now node) (map W.bytes list.now) }
-    ensures order { result.0 ≡ texts_cmp (list_at nodes.now node) (map W.bytes list.now) }
-    ensures agreed { result.1 ≡ shared (list_at nodes.now node) (map W.bytes list.now) }
-{
-    let mut agreed = known;
-    while agreed < has && agreed < list.len() {
-        let at = ancestor(nodes, node, has, agreed + 1);
-        let order = nodes.text(at).cmp(text_at(list, agreed));
-        if !order.is_eq() {
-            return (order, agreed);
-        }
-        agreed += 1;
-    }
-    (has.cmp(&list.len()), agreed)
-}
+use std::convert::AsStr;
 
 /// Returns how many first texts two lists share: `here` if the texts at that index differ, otherwise `behind`, the
 /// number found so far after them.
@@ -66,20 +17,20 @@ fn parted(order: Ordering, here: usize, behind: usize) -> usize
     if order.is_eq() { behind } else { here }
 }
 
-/// Compares in one climb from the last texts up: the difference nearest to the root decides.
-fn cmp_up<W: AsText>(
+/// Compares the node's list with another, if both are known to share their first `known` texts. Returns the order, and
+/// how many first texts they share. One climb, from the last texts up: the difference nearest to the root decides.
+pub(crate) fn list_cmp<W: AsStr>(
     nodes: &Nodes,
     node: usize,
-    has: usize,
     list: &[W],
     known: usize,
 ) -> (Ordering, usize)
     requires there { node ≤ length nodes.now }
-    requires has { has ≡ length (list_at nodes.now node) }
-    requires known { Agree known (list_at nodes.now node) (map W.bytes list.now) }
-    ensures order { result.0 ≡ texts_cmp (list_at nodes.now node) (map W.bytes list.now) }
-    ensures agreed { result.1 ≡ shared (list_at nodes.now node) (map W.bytes list.now) }
+    requires known { Agree known (list_at nodes.now node) (map W.text list.now) }
+    ensures order { result.0 ≡ texts_cmp (list_at nodes.now node) (map W.text list.now) }
+    ensures agreed { result.1 ≡ shared (list_at nodes.now node) (map W.text list.now) }
 {
+    let has = depth(nodes, node);
     let mut found = has.cmp(&list.len());
     let mut at = ancestor(nodes, node, has, list.len());
     let mut depth = has.min(list.len());

@@ -1,15 +1,21 @@
-//! Copies some of the lists that a cursor visits.
+//! Copies some of the lists that a cursor visits: those that another set lacks, the carriers, and those chosen.
 ghost use Rattle.std.specs.Prelude.{◌≡◌, ◌≤◌, ◌++◌, [], ◌∷◌, OnOk, IfOk, cond, length, take, List};
 ghost use Rattle.cadf_join.specs.Prefixes.{texts_at};
 ghost use Rattle.cadf_pathset.specs.Lists.{chosen_of, is_above_last, last_of};
-ghost use Rattle.cadf_pathset.specs.Walks.{Advances, Place};
-ghost use Rattle.cadf_join.specs.Contents.{Texts};
+ghost use Rattle.cadf_pathset.specs.Walks.{Advances, Place, Steps};
+ghost use Rattle.cadf_join.specs.Contents.{Texts, texts_cmp};
 ghost use Rattle.cadf_pathset.specs.Nodes.{Agree};
+ghost use Rattle.cadf_pathset.specs.Merge.{sorted_without};
+ghost use Rattle.std.specs.List.Sorted.{IsStrictlySortedBy};
+ghost use Rattle.std.specs.declared.cmp.Ordering.TheVariants.{Less, Greater};
+ghost use Rattle.cadf_join.specs.Sets as set;
+ghost use Rattle.cadf_pathset.specs.Carriers.{carriers_in, with_carriers_by};
 
 use crate::Memory;
 use crate::cursor::Cursor;
 use crate::path_vec::PathVec;
 use std::alloc::Global;
+use std::cmp::Ordering;
 use std::marker::Model;
 
 /// A cursor, and copies of some of the lists that it has visited. Texts that a list shares with the last copy are not
@@ -118,4 +124,94 @@ pub(crate) fn chosen(rows: &PathVec, flags: &[bool]) -> Result<PathVec, Memory>
         }
     }
     Ok(copier.into_copies())
+}
+
+/// Returns whether there is a next list, of a cursor that has moved to it. If the list before shared its first `agreed`
+/// texts with another list, `agreed` becomes the number that the next one is known to share with it.
+fn stepped(common: Option<usize>, agreed: &mut usize) -> bool
+    ensures { (old new : Place) → Advances common old new → Steps result old new agreed.old agreed.new }
+{
+    match common {
+        Some(shared) => {
+            *agreed = (*agreed).min(shared);
+            true
+        }
+        None => false,
+    }
+}
+
+/// Copies the lists ahead of the first cursor that are not ahead of the second.
+fn copy_lacking(ours: &mut Copier<'_>, theirs: &mut Cursor<'_>) -> Result<(), Memory>
+    ensures { OnOk result (ours.new.1 ≡ ours.old.1 ++ sorted_without texts_cmp ours.old.0.1 theirs.old.1) }
+{
+    let mut agreed: usize = 0;
+    let mut more = stepped(ours.advance()?, &mut agreed);
+    let mut others = stepped(theirs.advance()?, &mut agreed);
+    while more && others {
+        let (order, both) = theirs.cmp(ours.path(), agreed);
+        agreed = both;
+        match order {
+            Ordering::Less => others = stepped(theirs.advance()?, &mut agreed),
+            Ordering::Equal => {
+                more = stepped(ours.advance()?, &mut agreed);
+                others = stepped(theirs.advance()?, &mut agreed);
+            }
+            Ordering::Greater => {
+                ours.copy()?;
+                more = stepped(ours.advance()?, &mut agreed);
+            }
+        }
+    }
+    while more {
+        ours.copy()?;
+        more = stepped(ours.advance()?, &mut agreed);
+    }
+    Ok(())
+}
+
+/// Returns the lists of the first set that the second lacks.
+pub(crate) fn without(a: &PathVec, b: &PathVec) -> Result<PathVec, Memory>
+    ensures { IfOk result (λ left. left ≡ sorted_without texts_cmp a.now b.now) }
+{
+    let mut ours = Copier::new(a.alloc(), a.cursor());
+    let mut theirs = b.cursor();
+    copy_lacking(&mut ours, &mut theirs)?;
+    Ok(ours.into_copies())
+}
+
+/// Determines the carrier of each list: a prefix of the list, or the whole list.
+pub trait Carrier {
+    /// The carrier of a list.
+    ghost carrier: { Texts → Texts };
+
+    /// Counts the texts of the list's carrier.
+    fn length(list: &[&str]) -> usize
+        ensures within { result ≤ length list.now }
+        ensures first { take result (texts_at list.now) ≡ carrier (texts_at list.now) };
+
+    /// The carriers of ascending lists don't descend.
+    ghost in_order: { (x y : Texts) → texts_cmp x y ≡ Less → texts_cmp (carrier x) (carrier y) ≡ Greater → ⊥ };
+}
+
+/// Returns the carriers of the lists, ascending, each once.
+fn carriers_of<C: Carrier>(rows: &PathVec) -> Result<PathVec, Memory>
+    ensures { IfOk result (λ all. all ≡ carriers_in C.carrier [] rows.now) }
+{
+    let mut copier = Copier::new(rows.alloc(), rows.cursor());
+    while let Some(_) = copier.advance()? {
+        copier.copy_if_above(C::length(copier.path()))?;
+    }
+    Ok(copier.into_copies())
+}
+
+/// Returns the lists, which are strictly ascending, with their carriers, in order.
+pub(crate) fn with_carriers<C: Carrier>(lists: PathVec) -> Result<PathVec, Memory>
+    requires { IsStrictlySortedBy texts_cmp lists }
+    ensures rising { IfOk result (λ all. IsStrictlySortedBy texts_cmp all) }
+    ensures set { IfOk result (λ all. set.from_list {R = texts_cmp} all ≡ with_carriers_by C.carrier (set.from_list lists)) }
+{
+    let carriers = carriers_of::<C>(&lists)?;
+    let mut all = lists;
+    all.join(&carriers)?;
+    Ok(all)
 }

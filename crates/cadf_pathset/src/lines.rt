@@ -1,13 +1,21 @@
 //! Lines: the nodes of the first 1, 2, .. texts of a list.
-ghost use Rattle.std.specs.Prelude.{◌≡◌, ◌<◌, ◌≤◌, ◌+◌, ◌++◌, [], ◌∷◌, List, OnOk, OnErr, IfOk, true, length, map, take, drop};
+ghost use Rattle.std.specs.Prelude.{◌≡◌, ◌<◌, ◌≤◌, ◌+◌, ◌++◌, [], ◌∷◌, List, OnOk, OnErr, IfOk, true, get_or, length, map, take};
 ghost use Rattle.cadf_join.specs.Contents.{Texts, texts_cmp};
 ghost use Rattle.cadf_pathset.specs.Lists.{last_of};
 ghost use Rattle.cadf_pathset.specs.Nodes.{Agree, AreThere, IsLine, last_node, list_at, lists_at, place, shared};
 
 use crate::Memory;
-use crate::as_text::{AsText, text_at};
 use crate::nodes::Nodes;
 use std::cmp::Ordering;
+use std::convert::AsStr;
+
+/// Returns the text at index `number`.
+pub(crate) fn text_at<W: AsStr>(list: &[W], number: usize) -> &str
+    requires { number < length list.now }
+    ensures { result.now ≡ get_or (map W.text list.now) number [] }
+{
+    list[number].as_str()
+}
 
 /// Returns the line's last node, or the root.
 pub(crate) fn end_of(line: &[usize]) -> usize
@@ -54,17 +62,17 @@ pub(crate) fn follow(
 
 /// Compares the line's list with the path, if both are known to share their first `known` texts. Returns the order, and
 /// how many first texts they share.
-pub(crate) fn cmp_from<W: AsText>(
+pub(crate) fn cmp_from<W: AsStr>(
     nodes: &Nodes,
     line: &[usize],
     path: &[W],
     known: usize,
 ) -> (Ordering, usize)
     requires line { IsLine nodes.now line.now (place nodes.now line.now) }
-    requires known { Agree known (place nodes.now line.now) (map W.bytes path.now) }
-    ensures order { result.0 ≡ texts_cmp (place nodes.now line.now) (map W.bytes path.now) }
-    ensures agreed { Agree result.1 (place nodes.now line.now) (map W.bytes path.now) }
-    ensures most { result.1 ≡ shared (place nodes.now line.now) (map W.bytes path.now) }
+    requires known { Agree known (place nodes.now line.now) (map W.text path.now) }
+    ensures order { result.0 ≡ texts_cmp (place nodes.now line.now) (map W.text path.now) }
+    ensures agreed { Agree result.1 (place nodes.now line.now) (map W.text path.now) }
+    ensures most { result.1 ≡ shared (place nodes.now line.now) (map W.text path.now) }
 {
     let mut agreed = known;
     while agreed < line.len() && agreed < path.len() {
@@ -78,80 +86,21 @@ pub(crate) fn cmp_from<W: AsText>(
 }
 
 /// Extends the line of a prefix of the path to the line of the whole path, by new nodes.
-pub(crate) fn extend<W: AsText>(
+pub(crate) fn extend<W: AsStr>(
     nodes: &mut Nodes,
     line: &mut Vec<usize>,
     path: &[W],
 ) -> Result<(), Memory>
-    requires line { IsLine nodes.old line.old.items (take (length line.old.items) (map W.bytes path.now)) }
+    requires line { IsLine nodes.old line.old.items (take (length line.old.items) (map W.text path.now)) }
     ensures kept { take (length nodes.old) nodes.new ≡ nodes.old }
     ensures line { IsLine nodes.new line.new.items (place nodes.new line.new.items) }
-    ensures ok { OnOk result (place nodes.new line.new.items ≡ map W.bytes path.now) }
+    ensures ok { OnOk result (place nodes.new line.new.items ≡ map W.text path.now) }
 {
     while line.len() < path.len() {
         let number = nodes.push(end_of(line.as_slice()), text_at(path, line.len()))?;
         line.push(number)?;
     }
     Ok(())
-}
-
-/// Replaces the line by that of the path, with new nodes after the texts that both share, and inserts the path's node
-/// at index `at` of the numbers. The first `known` texts are known to be shared.
-fn put<W: AsText>(
-    nodes: &mut Nodes,
-    line: &mut Vec<usize>,
-    path: &[W],
-    known: usize,
-    numbers: &mut Vec<usize>,
-    at: usize,
-) -> Result<(), Memory>
-    requires line { IsLine nodes.old line.old.items (place nodes.old line.old.items) }
-    requires known { Agree known (place nodes.old line.old.items) (map W.bytes path.now) }
-    requires there { AreThere nodes.old numbers.old.items }
-    requires within { at ≤ length numbers.old.items }
-    ensures kept { take (length nodes.old) nodes.new ≡ nodes.old }
-    ensures line { IsLine nodes.new line.new.items (place nodes.new line.new.items) }
-    ensures there { OnOk result (AreThere nodes.new numbers.new.items) }
-    ensures lists { OnOk result (lists_at nodes.new numbers.new.items
-        ≡ take at (lists_at nodes.old numbers.old.items) ++ map W.bytes path.now ∷ drop at (lists_at nodes.old numbers.old.items)) }
-    ensures err { OnErr result (numbers.new.items ≡ numbers.old.items) }
-{
-    let (_, agreed) = cmp_from(&*nodes, line.as_slice(), path, known);
-    line.truncate(agreed);
-    extend(nodes, line, path)?;
-    numbers.insert(at, end_of(line.as_slice()))?;
-    Ok(())
-}
-
-/// Inserts the path's node like `put`. After an `Err` it has removed its new nodes: nodes and numbers are as
-/// before, and the line is that of the empty list.
-pub(crate) fn put_or_restore<W: AsText>(
-    nodes: &mut Nodes,
-    line: &mut Vec<usize>,
-    path: &[W],
-    known: usize,
-    numbers: &mut Vec<usize>,
-    at: usize,
-) -> Result<(), Memory>
-    requires line { IsLine nodes.old line.old.items (place nodes.old line.old.items) }
-    requires known { Agree known (place nodes.old line.old.items) (map W.bytes path.now) }
-    requires there { AreThere nodes.old numbers.old.items }
-    requires within { at ≤ length numbers.old.items }
-    ensures line { IsLine nodes.new line.new.items (place nodes.new line.new.items) }
-    ensures there { AreThere nodes.new numbers.new.items }
-    ensures ok { OnOk result (lists_at nodes.new numbers.new.items
-        ≡ take at (lists_at nodes.old numbers.old.items) ++ map W.bytes path.now ∷ drop at (lists_at nodes.old numbers.old.items)) }
-    ensures err { OnErr result ((nodes.new ≡ nodes.old) × (numbers.new.items ≡ numbers.old.items)) }
-{
-    let count = nodes.count();
-    match put(nodes, line, path, known, numbers, at) {
-        Ok(()) => Ok(()),
-        Err(fault) => {
-            nodes.truncate(count);
-            line.clear();
-            Err(fault)
-        }
-    }
 }
 
 /// Returns whether the line is that of the last of the nodes.

@@ -12,18 +12,17 @@ ghost use Rattle.cadf_pathset.specs.Nodes.{Agree, AreThere, lists_at, shared, Is
 ghost use Rattle.cadf_join.specs.Sets as set;
 ghost use Rattle.cadf_pathset.specs.Merge.{sorted_merge};
 
-use crate::as_text::AsText;
 use crate::compare::{list_cmp, same_list};
-use crate::cursor::Cursor;
-use crate::lines::{cmp_from, follow, is_of_last, put_or_restore};
+use crate::cursor::{Cursor, visit_all};
+use crate::lines::{cmp_from, end_of, extend, follow, is_of_last};
 use crate::nodes::{Nodes, common_depth};
 use crate::sort::sorted;
 use crate::suffix_set::SuffixSet;
-use crate::union::merge_into;
-use crate::walk::visit_all;
+use crate::union::merge;
 use crate::{Memory, Visitor};
 use std::alloc::Global;
 use std::cmp::Ordering;
+use std::convert::AsStr;
 use std::marker::Model;
 use std::mem::replace;
 
@@ -64,22 +63,13 @@ impl PathVec {
     }
 
     /// Appends the list, whose first `shared` texts are those of the last one. After an `Err` the lists are as before.
-    pub fn push_after<W: AsText>(&mut self, path: &[W], shared: usize) -> Result<(), Memory>
-        requires { Agree shared (last_of [] self.old) (map W.bytes path.now) }
-        ensures ok { OnOk result (self.new ≡ self.old ++ map W.bytes path.now ∷ []) }
+    pub fn push_after<W: AsStr>(&mut self, path: &[W], shared: usize) -> Result<(), Memory>
+        requires { Agree shared (last_of [] self.old) (map W.text path.now) }
+        ensures ok { OnOk result (self.new ≡ self.old ++ map W.text path.now ∷ []) }
         ensures err { OnErr result (self.new ≡ self.old) }
     {
-        let is_last = is_of_last(self.line.as_slice(), self.numbers.as_slice());
-        let known = if is_last { shared } else { 0 };
         let at = self.numbers.len();
-        put_or_restore(
-            &mut self.nodes,
-            &mut self.line,
-            path,
-            known,
-            &mut self.numbers,
-            at,
-        )
+        self.put(at, path, shared)
     }
 
     /// Inserts the list at index `at`. After an `Err` the lists are as before.
@@ -93,21 +83,31 @@ impl PathVec {
         let mut up = Vec::new(self.alloc);
         follow(&self.nodes, near, &mut line, &mut up)?;
         self.line = line;
-        put_or_restore(
-            &mut self.nodes,
-            &mut self.line,
-            path,
-            0,
-            &mut self.numbers,
-            at,
-        )
+        self.put(at, path, 0)
+    }
+
+    /// Inserts the list, whose first `shared` texts are those of the last one, at index `at`. After an `Err` the lists
+    /// are as before.
+    fn put<W: AsStr>(&mut self, at: usize, path: &[W], shared: usize) -> Result<(), Memory>
+        requires within { at ≤ length self.old }
+        requires known { Agree shared (last_of [] self.old) (map W.text path.now) }
+        ensures ok { OnOk result (self.new ≡ take at self.old ++ map W.text path.now ∷ drop at self.old) }
+        ensures err { OnErr result (self.new ≡ self.old) }
+    {
+        let is_last = is_of_last(self.line.as_slice(), self.numbers.as_slice());
+        let known = if is_last { shared } else { 0 };
+        let (_, agreed) = cmp_from(&self.nodes, self.line.as_slice(), path, known);
+        self.line.truncate(agreed);
+        extend(&mut self.nodes, &mut self.line, path)?;
+        self.numbers.insert(at, end_of(self.line.as_slice()))?;
+        Ok(())
     }
 
     /// Returns whether the list is above the last one, with which it shares its first `shared` texts. True if there is
     /// none.
-    pub fn is_above_last<W: AsText>(&self, path: &[W], shared: usize) -> bool
-        requires { Agree shared (last_of [] self.now) (map W.bytes path.now) }
-        ensures { result ≡ is_above_last self.now (map W.bytes path.now) }
+    pub fn is_above_last<W: AsStr>(&self, path: &[W], shared: usize) -> bool
+        requires { Agree shared (last_of [] self.now) (map W.text path.now) }
+        ensures { result ≡ is_above_last self.now (map W.text path.now) }
     {
         if self.is_empty() {
             return true;
@@ -117,8 +117,8 @@ impl PathVec {
     }
 
     /// Returns whether the last list begins with the prefix.
-    pub fn last_starts_with<W: AsText>(&self, prefix: &[W]) -> bool
-        ensures { result ≡ last_starts_with self.now (map W.bytes prefix.now) }
+    pub fn last_starts_with<W: AsStr>(&self, prefix: &[W]) -> bool
+        ensures { result ≡ last_starts_with self.now (map W.text prefix.now) }
     {
         if self.is_empty() {
             return false;
@@ -129,11 +129,11 @@ impl PathVec {
 
     /// Compares the last list with another, with which it is known to share its first `known` texts. Returns the order,
     /// and how many first texts they share.
-    fn last_cmp<W: AsText>(&self, path: &[W], known: usize) -> (Ordering, usize)
+    fn last_cmp<W: AsStr>(&self, path: &[W], known: usize) -> (Ordering, usize)
         requires some { 0 < length self.now }
-        requires known { Agree known (last_of [] self.now) (map W.bytes path.now) }
-        ensures order { result.0 ≡ texts_cmp (last_of [] self.now) (map W.bytes path.now) }
-        ensures agreed { result.1 ≡ shared (last_of [] self.now) (map W.bytes path.now) }
+        requires known { Agree known (last_of [] self.now) (map W.text path.now) }
+        ensures order { result.0 ≡ texts_cmp (last_of [] self.now) (map W.text path.now) }
+        ensures agreed { result.1 ≡ shared (last_of [] self.now) (map W.text path.now) }
     {
         if is_of_last(self.line.as_slice(), self.numbers.as_slice()) {
             return cmp_from(&self.nodes, self.line.as_slice(), path, known);
@@ -143,11 +143,11 @@ impl PathVec {
 
     /// Compares the list at that index with another, with which it is known to share its first `known` texts. Returns
     /// the order, and how many first texts they share.
-    pub fn cmp_at<W: AsText>(&self, number: usize, list: &[W], known: usize) -> (Ordering, usize)
+    pub fn cmp_at<W: AsStr>(&self, number: usize, list: &[W], known: usize) -> (Ordering, usize)
         requires within { number < length self.now }
-        requires known { Agree known (get_or self.now number []) (map W.bytes list.now) }
-        ensures order { result.0 ≡ texts_cmp (get_or self.now number []) (map W.bytes list.now) }
-        ensures agreed { result.1 ≡ shared (get_or self.now number []) (map W.bytes list.now) }
+        requires known { Agree known (get_or self.now number []) (map W.text list.now) }
+        ensures order { result.0 ≡ texts_cmp (get_or self.now number []) (map W.text list.now) }
+        ensures agreed { result.1 ≡ shared (get_or self.now number []) (map W.text list.now) }
     {
         list_cmp(&self.nodes, self.numbers[number], list, known)
     }
@@ -160,8 +160,17 @@ impl PathVec {
         ensures ok { OnOk result (self.new ≡ sorted_merge texts_cmp true self.old other.now) }
         ensures err { OnErr result (self.new ≡ self.old) }
     {
-        self.numbers = merge_into(self.alloc, &mut self.nodes, self.numbers.as_slice(), other)?;
-        Ok(())
+        let count = self.nodes.count();
+        match merge(self.alloc, &mut self.nodes, self.numbers.as_slice(), other) {
+            Ok(all) => {
+                self.numbers = all;
+                Ok(())
+            }
+            Err(fault) => {
+                self.nodes.truncate(count);
+                Err(fault)
+            }
+        }
     }
 
     /// Sorts the lists, each once. Copies no text.
@@ -179,15 +188,6 @@ impl PathVec {
         ensures ahead { result.1 ≡ self.now }
     {
         Cursor::new(self.alloc, &self.nodes, self.numbers.as_slice())
-    }
-
-    /// Returns a cursor before the list at that index.
-    pub fn cursor_from(&self, at: usize) -> Cursor<'_>
-        requires { at ≤ length self.now }
-        ensures { result.1 ≡ drop at self.now }
-    {
-        let (_, numbers) = self.numbers.as_slice().split_at(at);
-        Cursor::new(self.alloc, &self.nodes, numbers)
     }
 
     /// Passes the lists at these indices, in the order of the indices, to the visitor, like `Walk::walk`. Passes over
@@ -212,13 +212,13 @@ impl PathVec {
 
     /// Returns the index of this list, or else of the first list above it. Binary search, which skips the texts that
     /// the lists at both bounds share with this one.
-    pub fn seek<W: AsText>(&self, list: &[W]) -> Result<usize, usize>
+    pub fn seek<W: AsStr>(&self, list: &[W]) -> Result<usize, usize>
         requires { IsStrictlySortedBy texts_cmp self.now }
-        ensures held { IfOk result (λ at. (at < length self.now) × (get_or self.now at [] ≡ map W.bytes list.now)) }
+        ensures held { IfOk result (λ at. (at < length self.now) × (get_or self.now at [] ≡ map W.text list.now)) }
         ensures small { IfOk result (λ at. at + 1 < 2 ^ 64) }
         ensures within { IfErr result (λ at. at ≤ length self.now) }
-        ensures below { IfErr result (λ at. AllByRecursion (λ l. texts_cmp l (map W.bytes list.now) ≡ Less) (take at self.now)) }
-        ensures above { IfErr result (λ at. AllByRecursion (λ l. texts_cmp (map W.bytes list.now) l ≡ Less) (drop at self.now)) }
+        ensures below { IfErr result (λ at. AllByRecursion (λ l. texts_cmp l (map W.text list.now) ≡ Less) (take at self.now)) }
+        ensures above { IfErr result (λ at. AllByRecursion (λ l. texts_cmp (map W.text list.now) l ≡ Less) (drop at self.now)) }
     {
         let mut low: usize = 0;
         let mut high = self.count();

@@ -1,5 +1,5 @@
 //! The suffixes after a prefix in a set, borrowed from the set.
-ghost use Rattle.std.specs.Prelude.{◌≡◌, ◌≤◌, ◌<◌, ℕ, [], ◌∷◌, IfOk, Some, None, true, false, length, take, drop, get_or, map, nat_le};
+ghost use Rattle.std.specs.Prelude.{◌≡◌, ◌≢◌, ◌≤◌, ◌<◌, ℕ, [], ◌∷◌, IfOk, Some, None, true, false, length, take, drop, get_or, map, nat_le};
 ghost use Rattle.std.specs.List.{AllByRecursion};
 ghost use Rattle.std.specs.List.Sorted.{IsStrictlySortedBy};
 ghost use Rattle.std.specs.Option.{option_copied, option_map};
@@ -85,28 +85,23 @@ impl<'a> SuffixSet<'a> {
     pub fn first_section(&self) -> Option<Section<'a>>
         ensures { sections_from result ≡ sections_of self.now }
     {
-        if let Some(text) = self.text(0) {
-            return Some(self.section_at(text, 0));
-        }
-        match self.text(1) {
-            Some(text) => Some(self.section_at(text, 1)),
-            None => None,
-        }
-    }
-
-    /// Returns the section of the text that begins the suffix at that index. A suffix before it is empty.
-    fn section_at(&self, text: &'a str, number: usize) -> Section<'a>
-        requires text { first_text (get_or (set.rising self.now) number []) ≡ Some text.now }
-        requires few { number ≤ 1 }
-        requires empty { number ≡ 1 → first_text (get_or (set.rising self.now) 0 []) ≡ None }
-        ensures { sections_from (Some result) ≡ sections_of self.now }
-    {
+        let number = self.first();
+        let text = self.text(number)?;
         let high = self.gallop(text, number + 1);
-        Section {
+        Some(Section {
             text,
             behind: self.between(number, high),
             above: self.above(high),
-        }
+        })
+    }
+
+    /// Returns the index of the first suffix that isn't empty: 1 if there is an empty one, otherwise 0.
+    fn first(&self) -> usize
+        ensures few { result ≤ 1 }
+        ensures some { result ≡ 0 → first_text (get_or (set.rising self.now) 0 []) ≢ None }
+        ensures empty { result ≡ 1 → first_text (get_or (set.rising self.now) 0 []) ≡ None }
+    {
+        if self.text(0).is_some() { 0 } else { 1 }
     }
 
     /// Returns the suffixes from index `low` to `high`, each without its first text.
@@ -149,13 +144,11 @@ impl<'a> SuffixSet<'a> {
     pub(crate) fn next_child(&self, text: Option<&str>) -> Option<&'a str>
         ensures { option_copied result ≡ next_after (heads self.now) (option_copied text.entry) }
     {
-        match text {
-            Some(text) => self.text(self.binary_search(text, true, 0, self.count())),
-            None => match self.text(0) {
-                Some(text) => Some(text),
-                None => self.text(1),
-            },
-        }
+        let number = match text {
+            Some(text) => self.binary_search(text, true, 0, self.count()),
+            None => self.first(),
+        };
+        self.text(number)
     }
 
     /// Returns the index, from `from` on, of the first suffix above those that begin with the text. Galloping search:
@@ -267,12 +260,10 @@ impl<'a> SuffixSet<'a> {
         ensures { option_map (λ n. get_or (set.rising self.now) n []) result ≡ longest_of (set.rising self.now) }
     {
         let mut best = None;
-        let mut number = 0;
-        while number < self.count() {
+        for number in 0..self.count() {
             if self.is_longer(number, best) {
                 best = Some(number);
             }
-            number += 1;
         }
         best
     }

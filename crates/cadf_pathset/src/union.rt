@@ -12,10 +12,10 @@ ghost use Rattle.cadf_pathset.specs.Walks.{Entered, IsLinePrefix};
 use crate::Memory;
 use crate::compare::list_cmp;
 use crate::cursor::Cursor;
-use crate::fork::goes_on;
 use crate::lines::{cmp_from, end_of, extend, follow};
 use crate::nodes::Nodes;
 use crate::path_vec::PathVec;
+use crate::sort::goes_on;
 use std::alloc::Global;
 use std::cmp::Ordering;
 
@@ -127,7 +127,7 @@ const LONG: usize = 8;
 
 /// Returns our lists and theirs, each once, in order. Copies no text of ours, and appends no node for a text that an
 /// adjacent list of ours has.
-fn merge(
+pub(crate) fn merge(
     alloc: Global,
     nodes: &mut Nodes,
     numbers: &[usize],
@@ -197,29 +197,4 @@ fn merge(
     let (_, rest) = numbers.split_at(at);
     all.extend_from_slice(rest)?;
     Ok(all)
-}
-
-/// Returns the lists of both, each once, in order, with nodes of our arena. After an `Err` our nodes are as before.
-pub(crate) fn merge_into(
-    alloc: Global,
-    nodes: &mut Nodes,
-    numbers: &[usize],
-    other: &PathVec,
-) -> Result<Vec<usize>, Memory>
-    requires there { AreThere nodes.old numbers.now }
-    requires rises { IsStrictlySortedBy texts_cmp (lists_at nodes.old numbers.now) }
-    ensures kept { take (length nodes.old) nodes.new ≡ nodes.old }
-    ensures there { IfOk result (λ all. AreThere nodes.new all.items) }
-    ensures merged { IfOk result (λ all. lists_at nodes.new all.items
-        ≡ sorted_merge texts_cmp true (lists_at nodes.old numbers.now) other.now) }
-    ensures err { OnErr result (nodes.new ≡ nodes.old) }
-{
-    let count = nodes.count();
-    match merge(alloc, nodes, numbers, other) {
-        Ok(all) => Ok(all),
-        Err(fault) => {
-            nodes.truncate(count);
-            Err(fault)
-        }
-    }
 }

@@ -15,7 +15,7 @@ loop-nodes-preserved g c =
     let h = c.loop-nodes.invariant.line in
     let kept : take (length ls) us ≡ ls = ap (take (length ls)) c.in_ok-number.ensures.ok ∙ kept_more ls ((list_at ls c.end_of.result ++ t ∷ []) ∷ []) in
     let more : IsLine us ms (place ls ns ++ t ∷ []) = line_grown ls us ns ms c.end_of.result c.in_ok-number.number t
-    (self_line ls ns (take (length ns) (map g.W.AsText.bytes c.args.path.now)) h) (c.end_of.ensures ∙ ap last_node c.as_slice.ensures.value)
+    (self_line ls ns (take (length ns) (map g.W.AsStr.text c.args.path.now)) h) (c.end_of.ensures ∙ ap last_node c.as_slice.ensures.value)
     c.in_ok-number.ensures.ok c.in_ok-number.ensures.number c.in_ok-push.ensures.items in
     grind (arith, common_steps, place_of, self_line, length-map, kept_again, line_on)
 
@@ -24,7 +24,7 @@ returns-in_err-push-clause-line g c =
     let ls = c.loop-nodes.nodes in
     let us = c.push.new.self in
     let ns = c.loop-nodes.line.items in
-    let l = take (length ns) (map g.W.AsText.bytes c.args.path.now) in
+    let l = take (length ns) (map g.W.AsStr.text c.args.path.now) in
     let kept : take (length ls) us ≡ ls = ap (take (length ls)) c.in_ok-number.ensures.ok
     ∙ kept_more ls ((list_at ls c.end_of.result ++ c.text_at.result.now ∷ []) ∷ []) in
     let line = self_line us ns l (line_kept ls us kept ns l c.loop-nodes.invariant.line) in

@@ -14,7 +14,7 @@ cmp_at-order-requires-clause-known g c =
     let w = h.within in
     let t = c.loop-low-test.true in
     let m : ℕ = c.loop-low.low + (c.loop-low.high - c.loop-low.low) / 2 in
-    known_between (map g.W.AsText.bytes c.args.list.now) c.args.self.now c.requires c.loop-low.low c.loop-low.high m c.loop-low.front c.loop-low.back c.min.result
+    known_between (map g.W.AsStr.text c.args.list.now) c.args.self.now c.requires c.loop-low.low c.loop-low.high m c.loop-low.front c.loop-low.back c.min.result
     h.front h.back (omega (arith, w, t)) (omega (arith, w, t)) c.min.ensures
 
 pub loop-low-preserved-in-Less : goal.loop-low-preserved-in-Less
@@ -23,7 +23,7 @@ loop-low-preserved-in-Less g c =
     let w = h.within in
     let e = h.ends in
     let t = c.loop-low-test.true in
-    let q = map g.W.AsText.bytes c.args.list.now in
+    let q = map g.W.AsStr.text c.args.list.now in
     let m : ℕ = c.loop-low.low + (c.loop-low.high - c.loop-low.low) / 2 in
     let one : m ≡ (m + 1) - 1 = omega arith in
     let both = agree_as (get_or c.args.self.now m []) q c.cmp_at-order.result.1 c.cmp_at-order.ensures.agreed in
@@ -42,7 +42,7 @@ loop-low-preserved g c =
     let w = h.within in
     let e = h.ends in
     let t = c.loop-low-test.true in
-    let q = map g.W.AsText.bytes c.args.list.now in
+    let q = map g.W.AsStr.text c.args.list.now in
     let m : ℕ = c.loop-low.low + (c.loop-low.high - c.loop-low.low) / 2 in
     let both = agree_as (get_or c.args.self.now m []) q c.cmp_at-order.result.1 c.cmp_at-order.ensures.agreed in
     record {
@@ -59,13 +59,13 @@ returns-in-Equal-clause-held g c =
     let w = c.loop-low.invariant.within in
     let e = c.loop-low.invariant.ends in
     let t = c.loop-low-test.true in
-    let q = map g.W.AsText.bytes c.args.list.now in
+    let q = map g.W.AsStr.text c.args.list.now in
     (omega (arith, w, e, t), texts_same _ q (sym c.cmp_at-order.ensures.order ∙ c.in-Equal.is))
 
 pub returns-clause-below : goal.returns-clause-below
-returns-clause-below g c = all_taken (λ l. texts_cmp l (map g.W.AsText.bytes c.args.list.now) ≡ Less) c.args.self.now c.loop-low.low
+returns-clause-below g c = all_taken (λ l. texts_cmp l (map g.W.AsStr.text c.args.list.now) ≡ Less) c.args.self.now c.loop-low.low
     (let w = c.loop-low.invariant.within in let e = c.loop-low.invariant.ends in omega (arith, w, e)) c.loop-low.invariant.below
 
 pub returns-clause-above : goal.returns-clause-above
-returns-clause-above g c = all_dropped (λ l. texts_cmp (map g.W.AsText.bytes c.args.list.now) l ≡ Less) c.args.self.now c.loop-low.low
+returns-clause-above g c = all_dropped (λ l. texts_cmp (map g.W.AsStr.text c.args.list.now) l ≡ Less) c.args.self.now c.loop-low.low
     (λ i b l. c.loop-low.invariant.above i (let t = c.loop-low-test.false in omega (arith, b, t)) l)

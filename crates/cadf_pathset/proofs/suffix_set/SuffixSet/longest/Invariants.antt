@@ -1,14 +1,9 @@
-use Rattle.std.proofs.Common.{◌≡◌, ◌≤◌, ◌-◌, [], length, get_or, drop}
+use Rattle.std.proofs.Common.{◌≡◌, [], get_or, drop}
 use Rattle.std.specs.Option.{option_map}
 use Rattle.cadf_join.specs.Sets as set
 use Rattle.cadf_join.specs.Longest.{longest_of, longest_with}
 use Rattle.cadf_pathset.proofs.suffix_set.SuffixSet.longest.Given as goal
 
 abbrev pub invariant-loop-number : goal.invariant-loop-number
-invariant-loop-number l = record {
-  within : l.number ≤ length (set.rising l.self);
-  longest : longest_with (option_map (λ n. get_or (set.rising l.self) n []) l.best) (drop l.number (set.rising l.self)) ≡ longest_of (set.rising l.self);
-}
-
-abbrev pub decreases-loop-number : goal.decreases-loop-number
-decreases-loop-number l = length (set.rising l.self) - l.number
+invariant-loop-number l =
+    longest_with (option_map (λ n. get_or (set.rising l.self) n []) l.best) (drop l.number (set.rising l.self)) ≡ longest_of (set.rising l.self)

@@ -1,7 +1,0 @@
-use Rattle.std.proofs.lemmas.Grind.{common_steps}
-use Rattle.std.proofs.Common.{arith}
-use Rattle.cadf_pathset.proofs.Replaced.{path_replaced}
-use Rattle.cadf_pathset.proofs.walk.replace_after.Goals as goal
-
-pub returns-clause-list : goal.returns-clause-list
-returns-clause-list c = grind (arith, common_steps, path_replaced)
