@@ -3,10 +3,8 @@ pub mod Longest
 pub mod MapWalks
 pub mod Members
 pub mod Membership
-pub mod Nodes
 pub mod Outcome
 pub mod Risings
-pub mod Seeks
 pub mod Shows
 pub mod Strings
 pub mod Walks

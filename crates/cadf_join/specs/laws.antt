@@ -3,5 +3,4 @@ pub mod Rising
 pub mod Sets
 pub mod Contents
 pub mod Maps
-pub mod Prefixes
 pub mod Chains

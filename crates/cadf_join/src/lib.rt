@@ -1,8 +1,6 @@
-//! The trait `Join`, and values that implement it: a set of texts, a map of such values, and a set of chains.
+//! The trait `Join`, and values that implement it: a set of texts, and a map of such values.
 #![tactic(auto)]
 
-mod chain_node;
-mod chain_tree;
 mod join_map;
 pub mod laws;
 pub mod prefix;
@@ -14,7 +12,6 @@ ghost use Rattle.cadf_join.specs.Sets as set;
 ghost use Rattle.cadf_join.specs.Contents.{Contents, IsBetween, IsLeastWith};
 ghost use Rattle.cadf_join.specs.Prefixes.{all_texts, chain_texts, continued, saturated};
 
-pub use chain_tree::ChainTree;
 pub use join_map::JoinMap;
 use std::alloc::AllocError;
 pub use text_set::TextSet;

@@ -4,18 +4,20 @@ pub mod Arena
 pub mod Behind
 pub mod Bounds
 pub mod CarrierLists
-pub mod FirstSections
+pub mod Chained
 pub mod Climbs
 pub mod Compared
 pub mod Copies
 pub mod Cuts
 pub mod Ends
 pub mod FirstNodes
+pub mod FirstSections
 pub mod Firsts
 pub mod Forks
 pub mod Grown
 pub mod Halving
 pub mod Inserts
+pub mod Membership
 pub mod Merges
 pub mod Merging
 pub mod Narrowed
@@ -28,4 +30,3 @@ pub mod Several
 pub mod Sorts
 pub mod Suffixes
 pub mod Threads
-pub mod Membership

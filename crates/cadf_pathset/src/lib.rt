@@ -1,6 +1,7 @@
 //! Sets of lists of texts that share the storage of common prefixes.
 #![tactic(auto)]
 
+mod chain_tree;
 mod compare;
 mod copier;
 mod cursor;
@@ -14,6 +15,7 @@ mod suffix_set;
 mod union;
 
 pub use cadf_join::{Join, Memory, Visitor, Walk};
+pub use chain_tree::ChainTree;
 pub use copier::Carrier;
 pub use path_set::{PathSet, PathSetBuilder};
 pub use suffix_set::{Section, SuffixSet};

@@ -73,9 +73,9 @@ impl PathVec {
     }
 
     /// Inserts the list at index `at`. After an `Err` the lists are as before.
-    pub fn insert(&mut self, at: usize, path: &[&str]) -> Result<(), Memory>
+    pub fn insert<W: AsStr>(&mut self, at: usize, path: &[W]) -> Result<(), Memory>
         requires { at ≤ length self.old }
-        ensures ok { OnOk result (self.new ≡ take at self.old ++ texts_at path.now ∷ drop at self.old) }
+        ensures ok { OnOk result (self.new ≡ take at self.old ++ map W.text path.now ∷ drop at self.old) }
         ensures err { OnErr result (self.new ≡ self.old) }
     {
         let near = nearest(&self.nodes, self.numbers.as_slice(), at, path);
@@ -326,7 +326,7 @@ fn push_at(numbers: &[usize], place: usize, found: &mut Vec<usize>) -> Result<()
 
 /// Finds the lists before and after that index, and returns the node of the one that shares more texts with the path.
 /// Returns the root if there is none.
-fn nearest(nodes: &Nodes, numbers: &[usize], at: usize, path: &[&str]) -> usize
+fn nearest<W: AsStr>(nodes: &Nodes, numbers: &[usize], at: usize, path: &[W]) -> usize
     requires there { AreThere nodes.now numbers.now }
     requires within { at ≤ length numbers.now }
     ensures { result ≤ length nodes.now }

@@ -1,8 +1,8 @@
 //! The kinds of values of `Join`, each made from lists.
 
 use crate::lists::{lent, lists};
-use cadf_join::{ChainTree, Join, JoinMap, Memory, TextSet};
-use cadf_pathset::PathSet;
+use cadf_join::{Join, JoinMap, Memory, TextSet};
+use cadf_pathset::{ChainTree, PathSet};
 use std::alloc::Global;
 
 /// A value that can be made from lists.

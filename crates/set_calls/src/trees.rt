@@ -3,7 +3,8 @@
 use crate::kinds::value_of;
 use crate::lists::list;
 use crate::told;
-use cadf_join::{ChainTree, Memory};
+use cadf_join::Memory;
+use cadf_pathset::ChainTree;
 use calls::{Call, answer, is_refused, push_answer};
 use std::alloc::Global;
 

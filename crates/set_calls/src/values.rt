@@ -3,8 +3,8 @@
 use crate::kinds::{Made, value_of};
 use crate::lists::list;
 use crate::told;
-use cadf_join::{ChainTree, JoinMap, Memory, TextSet};
-use cadf_pathset::PathSet;
+use cadf_join::{JoinMap, Memory, TextSet};
+use cadf_pathset::{ChainTree, PathSet};
 use calls::{Call, answer, is_refused, push_answer};
 use std::alloc::Global;
 
