@@ -11,6 +11,7 @@ use crate::{Memory, Visitor};
 use std::alloc::Global;
 use std::cmp::Ordering;
 use std::marker::Model;
+use std::mem::replace;
 
 /// A cursor: the list at which it is, and the lists after it.
 #[derive(Drop)]
@@ -20,6 +21,7 @@ pub struct Cursor<'a> {
     path: Vec<&'a str>,
     line: Vec<usize>,
     up: Vec<usize>,
+    alloc: Global,
 }
 
 impl<'a> Model for Cursor<'a> {
@@ -43,6 +45,7 @@ impl<'a> Cursor<'a> {
             path: Vec::new(alloc),
             line: Vec::new(alloc),
             up: Vec::new(alloc),
+            alloc,
         }
     }
 
@@ -58,28 +61,21 @@ impl<'a> Cursor<'a> {
     pub fn advance(&mut self) -> Result<Option<usize>, Memory>
         ensures { IfOk result (λ found. Advances found self.old self.new) }
     {
-        match self.numbers {
-            [number, numbers @ ..] => {
-                match advance(
-                    self.nodes,
-                    *number,
-                    &mut self.line,
-                    &mut self.path,
-                    &mut self.up,
-                ) {
-                    Ok(shared) => {
-                        self.numbers = numbers;
-                        Ok(Some(shared))
-                    }
-                    Err(fault) => {
-                        self.line.clear();
-                        self.path.clear();
-                        Err(fault)
-                    }
-                }
-            }
-            [] => Ok(None),
+        let [number, numbers @ ..] = self.numbers else {
+            return Ok(None);
+        };
+        let mut line = replace(&mut self.line, Vec::new(self.alloc));
+        let mut path = replace(&mut self.path, Vec::new(self.alloc));
+        let common = follow(self.nodes, *number, &mut line, &mut self.up)?;
+        let (_, shared) = cmp_from(self.nodes, line.as_slice(), path.as_slice(), common);
+        path.truncate(common);
+        while path.len() < line.len() {
+            path.push(self.nodes.text(line[path.len()]))?;
         }
+        self.line = line;
+        self.path = path;
+        self.numbers = numbers;
+        Ok(Some(shared))
     }
 
     /// Compares the list at the cursor with another, with which it is known to share its first `known` texts. Returns
@@ -91,29 +87,6 @@ impl<'a> Cursor<'a> {
     {
         cmp_from(self.nodes, self.line.as_slice(), list, known)
     }
-}
-
-/// Replaces the line and the path of one list by those of the node. Returns how many first texts the two lists share.
-fn advance<'a>(
-    nodes: &'a Nodes,
-    number: usize,
-    line: &mut Vec<usize>,
-    path: &mut Vec<&'a str>,
-    up: &mut Vec<usize>,
-) -> Result<usize, Memory>
-    requires there { number ≤ length nodes.now }
-    requires line { IsLine nodes.now line.old.items (texts_at path.old.items) }
-    ensures line { OnOk result (IsLine nodes.now line.new.items (texts_at path.new.items)) }
-    ensures list { OnOk result (texts_at path.new.items ≡ list_at nodes.now number) }
-    ensures shared { IfOk result (λ n. n ≡ shared (list_at nodes.now number) (texts_at path.old.items)) }
-{
-    let common = follow(nodes, number, line, up)?;
-    let (_, shared) = cmp_from(nodes, line.as_slice(), path.as_slice(), common);
-    path.truncate(common);
-    while path.len() < line.len() {
-        path.push(nodes.text(line[path.len()]))?;
-    }
-    Ok(shared)
 }
 
 /// Passes each list before which the cursor is, after the path, in order to the visitor, with the number of texts that

@@ -1,7 +1,8 @@
 use Rattle.std.proofs.lemmas.Grind.{common_steps}
-use Rattle.std.proofs.Common.{true, [], ap, sym, subst, ◌∙◌, arith}
+use Rattle.std.proofs.Common.{◌≡◌, true, [], ap, sym, subst, ◌∙◌, arith}
 use Rattle.std.specs.List.Sorted.{IsStrictlySortedBy}
 use Rattle.cadf_join.specs.Contents.{texts_cmp}
+use Rattle.cadf_join.specs.Sets as set
 use Rattle.cadf_join.specs.laws.Contents.{texts_total, texts_same}
 use Rattle.cadf_pathset.specs.Carriers.{carriers_in}
 use Rattle.cadf_pathset.specs.Merge.{sorted_merge}
@@ -11,14 +12,18 @@ use Rattle.cadf_pathset.proofs.copier.with_carriers.Goals as goal
 
 pub join-requires-clause-theirs : goal.join-requires-clause-theirs
 join-requires-clause-theirs g c =
-    subst (IsStrictlySortedBy texts_cmp) (sym c.in_ok-carriers.ensures)
-    (rises g.C.Carrier.carrier c.args.lists [] (nil_rises texts_total texts_same))
+    let found : c.into_copies-carriers.result ≡ carriers_in g.C.Carrier.carrier [] c.args.lists = grind (arith, common_steps) in
+    subst (IsStrictlySortedBy texts_cmp) (sym found) (rises g.C.Carrier.carrier c.args.lists [] (nil_rises texts_total texts_same))
 
 pub returns-clause-rising : goal.returns-clause-rising
 returns-clause-rising g c =
-    subst (IsStrictlySortedBy texts_cmp) (sym (c.in_ok-join.ensures.ok ∙ ap (sorted_merge texts_cmp true c.args.lists) c.in_ok-carriers.ensures))
+    let found : c.into_copies-carriers.result ≡ carriers_in g.C.Carrier.carrier [] c.args.lists = grind (arith, common_steps) in
+    subst (IsStrictlySortedBy texts_cmp) (sym (c.in_ok-join.ensures.ok ∙ ap (sorted_merge texts_cmp true c.args.lists) found))
     (merged_rises texts_total texts_same c.args.lists (carriers_in g.C.Carrier.carrier [] c.args.lists) c.requires
     (rises g.C.Carrier.carrier c.args.lists [] (nil_rises texts_total texts_same)))
 
 pub returns-clause-set : goal.returns-clause-set
-returns-clause-set g c = grind (arith, common_steps, with_theirs)
+returns-clause-set g c =
+    let found : c.into_copies-carriers.result ≡ carriers_in g.C.Carrier.carrier [] c.args.lists = grind (arith, common_steps) in
+    ap set.from_list (c.in_ok-join.ensures.ok ∙ ap (sorted_merge texts_cmp true c.args.lists) found)
+    ∙ with_theirs g.C.Carrier.carrier g.met.C.Carrier.in_order c.args.lists c.requires

@@ -2,7 +2,7 @@ use Rattle.std.proofs.lemmas.Grind.{common_steps}
 use Rattle.std.proofs.Common.{arith}
 use Rattle.cadf_pathset.proofs.Threads.{place_of}
 use Rattle.cadf_pathset.proofs.Compared.{cut_path}
-use Rattle.cadf_pathset.proofs.cursor.advance.Goals as goal
+use Rattle.cadf_pathset.proofs.cursor.Cursor.advance.Goals as goal
 
 pub loop-path-init : goal.loop-path-init
 loop-path-init c = grind (arith, common_steps, place_of, cut_path)
