@@ -59,38 +59,15 @@ impl<V: Join> JoinMap<V> {
         ensures err { OnErr result (IsBetween (contents_at V.contents self.old) (contents_at V.contents self.new)
             (set.union (contents_at V.contents self.old) (under key.now (V.contents value.now)))) }
     {
-        if self.join_held(key, value)? {
+        if let Some(part) = self.parts.get_mut(key) {
+            part.join(value)?;
             return Ok(());
         }
         let part = value.copy()?;
-        self.put_new(key, part)
-    }
-
-    /// Joins a value into that of the key, if the key is present, and returns whether it is.
-    fn join_held(&mut self, key: &str, value: &V) -> Result<bool, Memory>
-        ensures joined { result ≡ Ok true
-            → contents_at V.contents self.new ≡ set.union (contents_at V.contents self.old) (under key.now (V.contents value.now)) }
-        ensures none { result ≡ Ok false → (self.new ≡ self.old) × (fin.get self.old key.now ≡ None) }
-        ensures err { OnErr result (IsBetween (contents_at V.contents self.old) (contents_at V.contents self.new)
-            (set.union (contents_at V.contents self.old) (under key.now (V.contents value.now)))) }
-    {
-        let Some(part) = self.parts.get_mut(key) else {
-            return Ok(false);
-        };
-        part.join(value)?;
-        Ok(true)
-    }
-
-    /// Inserts a value at a key that is absent. An empty value changes nothing.
-    fn put_new(&mut self, key: &str, value: V) -> Result<(), Memory>
-        requires { fin.get self.old key.now ≡ None }
-        ensures ok { OnOk result (contents_at V.contents self.new ≡ set.union (contents_at V.contents self.old) (under key.now (V.contents value))) }
-        ensures err { OnErr result (self.new ≡ self.old) }
-    {
-        if value.is_empty() {
+        if part.is_empty() {
             return Ok(());
         }
-        self.put(key, value)
+        self.put(key, part)
     }
 
     /// Returns the least key above the given text, which may be absent; for `None` the least of all. Keys are ordered
