@@ -1,6 +1,6 @@
 -- A climb from a node, beside a list.
 use Rattle.std.proofs.lemmas.Grind.{common_steps}
-use Rattle.std.proofs.Common.{◌≡◌, ℕ, ◌+◌, ◌-◌, ◌<◌, ◌≤◌, min, [], ◌∷◌, ◌++◌, sym, ap, ◌∙◌, length, take, get_or, arith}
+use Rattle.std.proofs.Common.{◌≡◌, ℕ, ◌-◌, ◌<◌, ◌≤◌, min, [], ◌∷◌, ◌++◌, sym, ap, ◌∙◌, length, take, get_or, arith}
 use Rattle.std.proofs.lemmas.List.{length-take, take-take, take_at, take_min}
 use Rattle.std.specs.declared.cmp.Ordering.{Ordering}
 use Rattle.std.specs.declared.cmp.Ordering.TheVariants.{Less, Equal, Greater}
@@ -33,9 +33,6 @@ shares_step a b d agreed next Less h some x y e same here g =
 shares_step a b d agreed next Greater h some x y e same here g =
     here greater_is_not ∙ sym (parted (d - 1) a b Greater g (omega (arith, some, x)) (omega (arith, some, y)) e greater_is_not).1
 shares_step a b d agreed next Equal h some x y e same here g = grind (arith, common_steps, agree_more)
-
-pub text_up : (a l : Texts) (i : ℕ) → i < length a → l ≡ take (i + 1) a → last_text l ≡ get_or a i []
-text_up a l i fits front = grind (arith, common_steps, last_front)
 
 -- the order, once both are known to share the texts that were not compared
 pub cmp_known : (a b l : Texts) (d known : ℕ) (found r : Ordering) → l ≡ take d a → Agree known a b → d ≤ known

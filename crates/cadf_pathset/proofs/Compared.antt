@@ -64,11 +64,3 @@ module _ (l q : Texts) (len : ℕ) (long : length q ≡ len) (i : ℕ) (k : Agre
 
     pub list_parts : (r ≡ Equal → ⊥) → (texts_cmp l q ≡ r) × (shared l q ≡ i)
     list_parts n = parted i l q r k b list_reaches text_here n
-
-    pub list_agrees : r ≡ Equal → Agree (i + 1) l q
-    list_agrees e = agree_more i l q k b list_reaches (text_here ∙ e)
-
-  pub list_ends : (has : ℕ) → has ≡ length l → min has len ≤ i → (texts_cmp l q ≡ nat_cmp has len) × (shared l q ≡ i)
-  list_ends has e b =
-      let both = ended i l q k (omega (arith, e, long, b)) in
-      (both.0 ∙ (λ j. nat_cmp (sym e j) (long j)), both.1)

@@ -190,9 +190,6 @@ module _ (t : Text) (s : Contents) (i : ℕ) (few : i ≤ 1) (empty : i ≡ 1 �
   rises : IsStrictlySortedBy texts_cmp (set.rising s)
   rises = rising_is_sorted texts_total texts_same s
 
-  pub within_lists : i + 1 ≤ length (set.rising s)
-  within_lists = let in_them = begins_within t (set.rising s) i text in omega (arith, in_them)
-
   pub none_passed : (k : ℕ) → k < i + 1 → is_before (t ∷ []) true (get_or (set.rising s) k []) ≡ true
   none_passed = all_before (set.rising s) rises (t ∷ []) true i (begins_within t (set.rising s) i text)
       (begins_before t (get_or (set.rising s) i []) text)
