@@ -57,7 +57,7 @@ module _ (ts : List Texts) (d : ℕ) (numbers : List ℕ) (ls : List Texts) (vie
 
   module _ (there : AllByRecursion (IsThere ts) numbers) (further low : ℕ) (lists : List ℕ) (lists_are : lists ≡ drop low front)
       (deeper : (r : ℕ) → IsThere ts r → rest_of ts further r ≡ drop 1 (rest_of ts d r)) where
-    left_there : AllByRecursion (IsThere ts) lists
+    pub left_there : AllByRecursion (IsThere ts) lists
     left_there = subst (AllByRecursion (IsThere ts)) (sym (lists_are ∙ ap (drop low) front_is))
         (all_of_last (IsThere ts) (take high numbers) low (all_of_first (IsThere ts) numbers high there))
 

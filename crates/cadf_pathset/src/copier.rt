@@ -17,6 +17,7 @@ use crate::path_vec::PathVec;
 use std::alloc::Global;
 use std::cmp::Ordering;
 use std::marker::Model;
+use std::mem::replace;
 
 /// A cursor, and copies of some of the lists that it has visited. Texts that a list shares with the last copy are not
 /// compared again.
@@ -62,17 +63,13 @@ impl<'a> Copier<'a> {
         ensures place { IfOk result (λ found. Advances found self.old.0 self.new.0) }
         ensures same { self.new.1 ≡ self.old.1 }
     {
-        match self.cursor.advance() {
-            Ok(Some(shared)) => {
-                self.shared = self.shared.min(shared);
-                Ok(Some(shared))
-            }
-            Ok(None) => Ok(None),
-            Err(fault) => {
-                self.shared = 0;
-                Err(fault)
-            }
-        }
+        let known = replace(&mut self.shared, 0);
+        let found = self.cursor.advance()?;
+        self.shared = match found {
+            Some(shared) => known.min(shared),
+            None => known,
+        };
+        Ok(found)
     }
 
     /// Copies the list at the cursor.

@@ -207,7 +207,12 @@ impl PathVec {
         requires { IsStrictlySortedBy texts_cmp self.now }
         ensures { result ≡ set.from_list self.now }
     {
-        SuffixSet::new(self.alloc, &self.nodes, self.numbers.as_slice(), 0)
+        SuffixSet {
+            nodes: &self.nodes,
+            numbers: self.numbers.as_slice(),
+            depth: 0,
+            alloc: self.alloc,
+        }
     }
 
     /// Returns the index of this list, or else of the first list above it. Binary search, which skips the texts that

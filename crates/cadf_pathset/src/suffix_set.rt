@@ -22,10 +22,10 @@ use std::marker::Model;
 /// text is copied.
 #[derive(Drop)]
 pub struct SuffixSet<'a> {
-    nodes: &'a Nodes,
-    numbers: &'a [usize],
-    depth: usize,
-    alloc: Global,
+    pub(crate) nodes: &'a Nodes,
+    pub(crate) numbers: &'a [usize],
+    pub(crate) depth: usize,
+    pub(crate) alloc: Global,
 }
 
 /// The least first text of some suffixes, the suffixes that follow it, and those above all that begin with it.
@@ -54,25 +54,6 @@ impl<'a> Model for SuffixSet<'a> {
 }
 
 impl<'a> SuffixSet<'a> {
-    /// Makes the set of the nodes' lists, each without its first `depth` texts.
-    pub(crate) fn new(
-        alloc: Global,
-        nodes: &'a Nodes,
-        numbers: &'a [usize],
-        depth: usize,
-    ) -> SuffixSet<'a>
-        requires there { AreThere nodes.now numbers.now }
-        requires rising { IsStrictlySortedBy texts_cmp (map (rest_of nodes.now depth) numbers.now) }
-        ensures { result ≡ set.from_list (map (rest_of nodes.now depth) numbers.now) }
-    {
-        SuffixSet {
-            nodes,
-            numbers,
-            depth,
-            alloc,
-        }
-    }
-
     /// Returns the suffixes that follow the text: those that begin with it, without it. Binary search.
     pub fn section(&self, text: &str) -> SuffixSet<'a>
         ensures { result ≡ suffixes_of self.now text.now }
@@ -113,12 +94,11 @@ impl<'a> SuffixSet<'a> {
     {
         let (front, _) = self.numbers.split_at(high);
         let (_, numbers) = front.split_at(low);
-        SuffixSet::new(
-            self.alloc,
-            self.nodes,
+        SuffixSet {
             numbers,
-            self.nodes.next_depth(self.depth),
-        )
+            depth: self.nodes.next_depth(self.depth),
+            ..*self
+        }
     }
 
     /// Returns the suffixes from that index on.
@@ -127,7 +107,7 @@ impl<'a> SuffixSet<'a> {
         ensures { result ≡ set.from_list (drop number (set.rising self.now)) }
     {
         let (_, numbers) = self.numbers.split_at(number);
-        SuffixSet::new(self.alloc, self.nodes, numbers, self.depth)
+        SuffixSet { numbers, ..*self }
     }
 
     /// Returns whether there are two or more different first texts.
