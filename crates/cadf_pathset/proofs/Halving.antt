@@ -1,7 +1,7 @@
 -- The result of a binary search in strictly ascending lists.
 use Rattle.std.proofs.lemmas.Grind.{common_steps}
 use Rattle.std.proofs.Common.{◌≡◌, ℕ, ◌+◌, ◌≤◌, ◌<◌, Bool, true, false, List, [], ◌∷◌, ◌++◌}
-use Rattle.std.proofs.Common.{refl, sym, ap, ◌∙◌, suc, zero, length, take, drop, get_or, ◌||◌, arith, Some}
+use Rattle.std.proofs.Common.{refl, sym, ap, ◌∙◌, suc, zero, length, take, drop, get_or, ◌||◌, arith, None, Some}
 use mathlib.Core.Bool.{true≢false}
 use Rattle.std.specs.declared.cmp.Ordering.{Ordering}
 use Rattle.std.specs.declared.cmp.Ordering.TheVariants.{Less, Equal, Greater}
@@ -176,3 +176,18 @@ found_is_held q xs s (Err n) view held below above =
 pub each_passes : {A : Type 0} (P : A → Type 0) (xs : List A) → ((x : A) → P x) → AllByRecursion P xs
 each_passes P [] h = tt
 each_passes P (x ∷ xs) h = (h x, each_passes P xs h)
+
+-- the lists from some index on pass a test, and none before it
+abbrev pub Splits : (Texts → Bool) → List Texts → ℕ → Type 0
+Splits f xs n = (n ≤ length xs) × AllByRecursion (λ l. f l ≡ false) (take n xs) × AllByRecursion (λ l. f l ≡ true) (drop n xs)
+
+pub splits_behind : (q : Texts) (xs : List Texts) → IsStrictlySortedBy texts_cmp xs → (n : ℕ) → n < length xs → get_or xs n [] ≡ q
+    → Splits (is_after texts_cmp (Some q)) xs (n + 1)
+splits_behind q xs s n l e = (omega (arith, l), not_after_it q xs s n l e, after_it q xs s n l e)
+
+pub splits_between : (q : Texts) (xs : List Texts) (n : ℕ) → n ≤ length xs → AllByRecursion (λ l. texts_cmp l q ≡ Less) (take n xs)
+    → AllByRecursion (λ l. texts_cmp q l ≡ Less) (drop n xs) → Splits (is_after texts_cmp (Some q)) xs n
+splits_between q xs n l below above = (l, none_after q (take n xs) below, all_after q (drop n xs) above)
+
+pub splits_first : (xs : List Texts) → Splits (is_after texts_cmp None) xs 0
+splits_first xs = (omega arith, tt, each_passes _ xs (λ l. refl))

@@ -109,22 +109,14 @@ impl PathVec {
         requires { Agree shared (last_of [] self.now) (map W.text path.now) }
         ensures { result ≡ is_above_last self.now (map W.text path.now) }
     {
-        if self.is_empty() {
-            return true;
-        }
-        let (order, _) = self.last_cmp(path, shared);
-        order.is_lt()
+        self.is_empty() || self.last_cmp(path, shared).0.is_lt()
     }
 
     /// Returns whether the last list begins with the prefix.
     pub fn last_starts_with<W: AsStr>(&self, prefix: &[W]) -> bool
         ensures { result ≡ last_starts_with self.now (map W.text prefix.now) }
     {
-        if self.is_empty() {
-            return false;
-        }
-        let (_, agreed) = self.last_cmp(prefix, 0);
-        agreed == prefix.len()
+        !self.is_empty() && self.last_cmp(prefix, 0).1 == prefix.len()
     }
 
     /// Compares the last list with another, with which it is known to share its first `known` texts. Returns the order,
@@ -245,22 +237,6 @@ impl PathVec {
             }
         }
         Err(low)
-    }
-
-    /// Returns the index of the first list above the given one. For `None`, that of the first list.
-    pub fn after(&self, given: Option<&[String]>) -> usize
-        requires { IsStrictlySortedBy texts_cmp self.now }
-        ensures within { result ≤ length self.now }
-        ensures below { AllByRecursion (λ l. is_after texts_cmp (option_map chain_texts (option_copied given.entry)) l ≡ false) (take result self.now) }
-        ensures above { AllByRecursion (λ l. is_after texts_cmp (option_map chain_texts (option_copied given.entry)) l ≡ true) (drop result self.now) }
-    {
-        match given {
-            Some(list) => match self.seek(list) {
-                Ok(at) => at + 1,
-                Err(at) => at,
-            },
-            None => 0,
-        }
     }
 
     /// Returns whether there are no lists.

@@ -4,5 +4,5 @@ use Rattle.std.proofs.lemmas.List.{length-map}
 use Rattle.cadf_pathset.proofs.Suffixes.{last_begins}
 use Rattle.cadf_pathset.proofs.path_vec.PathVec.last_starts_with.Goals as goal
 
-pub returns : goal.returns
-returns g c = grind (arith, common_steps, last_begins, length-map)
+pub returns-then-not-is_empty : goal.returns-then-not-is_empty
+returns-then-not-is_empty g c = grind (arith, common_steps, last_begins, length-map)
