@@ -258,20 +258,18 @@ impl PathVec {
         let mut last: usize = 0;
         let mut its_last: usize = 0;
         while let [number, numbers @ ..] = left {
-            match rest {
-                [it, its @ ..] => {
-                    let ours = common_depth(&self.nodes, last, *number);
-                    let known = ours.min(common_depth(&other.nodes, its_last, *it));
-                    if !same_list(&self.nodes, *number, &other.nodes, *it, known) {
-                        return false;
-                    }
-                    last = *number;
-                    its_last = *it;
-                    left = numbers;
-                    rest = its;
-                }
-                [] => return false,
+            let [it, its @ ..] = rest else {
+                return false;
+            };
+            let ours = common_depth(&self.nodes, last, *number);
+            let known = ours.min(common_depth(&other.nodes, its_last, *it));
+            if !same_list(&self.nodes, *number, &other.nodes, *it, known) {
+                return false;
             }
+            last = *number;
+            its_last = *it;
+            left = numbers;
+            rest = its;
         }
         rest.is_empty()
     }

@@ -44,25 +44,23 @@ fn merged(alloc: Global, nodes: &Nodes, a: &[usize], b: &[usize]) -> Result<Vec<
     let mut theirs = b;
     let mut fork = Fork::unknown();
     while let [number, numbers @ ..] = ours {
-        match theirs {
-            [other, others @ ..] => match next_cmp(nodes, *number, *other, &mut fork) {
-                Ordering::Less => {
-                    all.push(*number)?;
-                    ours = numbers;
-                }
-                Ordering::Equal => {
-                    all.push(*number)?;
-                    ours = numbers;
-                    theirs = others;
-                }
-                Ordering::Greater => {
-                    all.push(*other)?;
-                    theirs = others;
-                }
-            },
-            [] => {
-                all.extend_from_slice(ours)?;
-                return Ok(all);
+        let [other, others @ ..] = theirs else {
+            all.extend_from_slice(ours)?;
+            return Ok(all);
+        };
+        match next_cmp(nodes, *number, *other, &mut fork) {
+            Ordering::Less => {
+                all.push(*number)?;
+                ours = numbers;
+            }
+            Ordering::Equal => {
+                all.push(*number)?;
+                ours = numbers;
+                theirs = others;
+            }
+            Ordering::Greater => {
+                all.push(*other)?;
+                theirs = others;
             }
         }
     }
