@@ -42,7 +42,7 @@ REFUSED = "err\tMemory\n"
 # Calls that change what a word of them spells: its place, and whether a refused one leaves it as it was.
 CHANGES = {
     "set value.join": (2, False), "set map.join_at": (2, False), "set texts.insert": (1, True), "set tree.insert": (1, True),
-    "set paths.insert": (1, True), "set paths.push": (1, True), "set paths.union_with": (1, True), "set paths.take": (1, True),
+    "set paths.insert": (1, True), "set paths.union_with": (1, True), "set paths.take": (1, True),
     "replica replica.put": (1, False), "replica replica.put_after": (1, False), "replica replica.push_if_last": (1, True),
     "replica pair.join": (1, False), "replica document.take": (1, False), "replica document.take_sightings": (1, False),
     "replica document.take_entities": (1, False), "replica document.take_properties": (1, False), "replica ruling.take": (1, False),

@@ -40,7 +40,6 @@ CALLS = {
     "paths.list_after": ["PathSet::list_after"],
     "paths.is_above": ["PathSet::is_above"],
     "paths.insert": ["PathSet::new", "PathSet::insert"],
-    "paths.push": ["PathSet::push"],
     "paths.suffixes": ["PathSet::suffixes"],
     "paths.least_text": ["PathSet::next_child"],
     "paths.next_child": ["PathSet::next_child"],
@@ -239,10 +238,9 @@ for written, given, above in [
         ("a b", "b/a", True), ("a b", "c", True), ("a b", "b", False), ("a b", "a/z", False), ("", "-", True), ("-", "-", False)]:
     row("paths.is_above", [lists(written), lst(given)], above)
 for written, given, after in [
-        ("b", "a", "a b"), ("a b", "a", "a b"), ("", "-", "-"), ("a b", "a/a", "a a/a b"), ("a", "-", "- a"), ("a", "b", "a b")]:
+        ("b", "a", "a b"), ("a b", "a", "a b"), ("", "-", "-"), ("a b", "a/a", "a a/a b"), ("a", "-", "- a"), ("a", "b", "a b"),
+        ("-", "a", "- a"), ("a a/b", "a/b/a", "a a/b a/b/a")]:
     row("paths.insert", [lists(written), lst(given)], "ok", lists(after))
-for written, given, after in [("", "-", "-"), ("-", "a", "- a"), ("a a/b", "a/b/a", "a a/b a/b/a"), ("a", "b", "a b")]:
-    row("paths.push", [lists(written), lst(given)], "ok", lists(after))
 for prefix, found in [
         ("-", FIVE), ("a", "- a b b/a"), ("a/b", "- a"), ("a/b/a", "-"), ("a/b/b", ""), ("b", ""), ("c", "-"), ("d", "")]:
     row("paths.suffixes", [lists(FIVE), lst(prefix)], "ok", lists(found))

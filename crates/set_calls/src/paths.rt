@@ -79,7 +79,6 @@ fn told_of_lent(
         "contains" => told::truth(alloc, ours.contains(given)),
         "is_above" => told::truth(alloc, ours.is_above(given)),
         "insert" => inserted(alloc, ours, given),
-        "push" => pushed(alloc, ours, given),
         "suffixes" => told::lists(alloc, &ours.suffixes(given)?),
         "least_text" => told::text(alloc, ours.next_child(given, None)),
         "next_child" => told::text(alloc, ours.next_child(given, Some(text))),
@@ -92,15 +91,6 @@ fn told_of_lent(
 
 fn inserted(alloc: Global, ours: &mut PathSet, list: &[&str]) -> Result<String, Memory> {
     let outcome = ours.insert(list);
-    told::left(alloc, outcome, ours)
-}
-
-/// Pushes the list; one that is not above all that are there is no word of this call.
-fn pushed(alloc: Global, ours: &mut PathSet, list: &[&str]) -> Result<String, Memory> {
-    if !ours.is_above(list) {
-        return answer(alloc, "not above", &[]);
-    }
-    let outcome = ours.push(list);
     told::left(alloc, outcome, ours)
 }
 
