@@ -17,7 +17,7 @@ use Rattle.cadf_rehearsal.specs.Federation.{at_or, at_number, held_at, log_at, m
 use Rattle.cadf_rehearsal.specs.declared.federation.Federation.{Federation}
 use Rattle.cadf_rehearsal.specs.declared.federation.Message.{Message}
 use Rattle.cadf_rehearsal.specs.declared.fault.RehearseFault.{RehearseFault}
-use Rattle.cadf_rehearsal.specs.declared.federation.Message.TheVariants.{Asked, Whole}
+use Rattle.cadf_rehearsal.specs.declared.federation.Message.TheVariants.{Asked}
 use Rattle.cadf_line.specs.Digest.{atom_digest}
 use Rattle.cadf_set.specs.Inventory.{InventoryModel}
 use Rattle.cadf_rehearsal.specs.declared.fault.RehearseFault.TheVariants.{NoSite, NoMessage, NotInventory}

@@ -1,9 +1,10 @@
-//! The state of a simulation: the sites of one log, and all messages so far.
-ghost use Rattle.std.specs.Prelude.{◌≡◌, ◌∷◌, [], ◌++◌, length, OnOk, IfOk, IfErr};
+//! The simulation of a schedule, from its first turn to its last: the sites of one log, and all messages so far.
+ghost use Rattle.std.specs.Prelude.{◌≡◌, ◌∷◌, [], ◌++◌, length, OnOk, IfOk, IfErr, reverse, Ok};
 ghost use Rattle.cadf_join.specs.Sets as set;
-ghost use Rattle.cadf_rehearsal.specs.Schedule.{start};
-ghost use Rattle.cadf_rehearsal.specs.Federation.{IsOneLog, HasOneLog, IsLater, TurnsTo, IsTurnFault, world_of};
+ghost use Rattle.cadf_rehearsal.specs.Schedule.{start, World, after};
+ghost use Rattle.cadf_rehearsal.specs.Federation.{IsOneLog, HasOneLog, IsLater, TurnsTo, IsTurnFault, world_of, IsFaultDue, left_by};
 ghost use Rattle.cadf_rehearsal.specs.declared.turn.Turn.TheVariants as turn;
+ghost use Rattle.cadf_line.specs.Digest.{atom_digest};
 
 use crate::fault::RehearseFault;
 use crate::turn::Turn;
@@ -32,30 +33,23 @@ pub(crate) struct Federation {
 
 impl Federation {
     /// Appends a message. `Memory` if an allocation fails.
-    fn post(&mut self, message: Message) -> Result<(), RehearseFault>
+    fn post(&mut self, message: Message) -> Result<(), Memory>
         ensures ok { OnOk result (self.new.messages.items ≡ self.old.messages.items ++ message ∷ []) }
         ensures rest { self.new.sites ≡ self.old.sites }
-        ensures only { IfErr result (λ fault. fault ≡ RehearseFault.Memory) }
     {
-        match self.messages.push(message) {
-            Ok(()) => Ok(()),
-            Err(_) => Err(RehearseFault::Memory),
-        }
+        self.messages.push(message)?;
+        Ok(())
     }
 
     /// Makes a federation of `count` sites of the log, without atoms and messages. `Memory` if an allocation fails.
-    pub(crate) fn new(alloc: Global, log: &Name, count: usize) -> Result<Federation, RehearseFault>
+    pub(crate) fn new(alloc: Global, log: &Name, count: usize) -> Result<Federation, Memory>
         ensures ok { IfOk result (λ f. length f.sites.items ≡ count) }
         ensures start { IfOk result (λ f. world_of f ≡ start) }
         ensures one_log { IfOk result (IsOneLog log.now) }
-        ensures only { IfErr result (λ fault. fault ≡ RehearseFault.Memory) }
     {
         let mut sites = Vec::new(alloc);
         for _ in 0..count {
-            let site = Replica::new(alloc, log.copy(alloc)?);
-            if sites.push(site).is_err() {
-                return Err(RehearseFault::Memory);
-            }
+            sites.push(Replica::new(alloc, log.copy(alloc)?))?;
         }
         Ok(Federation {
             sites,
@@ -188,16 +182,36 @@ impl Federation {
 }
 
 /// Joins a replica of the same log into the site. If an allocation fails, tries once more.
-fn joined(site: &mut Replica, part: &Replica) -> Result<(), RehearseFault>
+fn joined(site: &mut Replica, part: &Replica) -> Result<(), Memory>
     requires { part.now.log ≡ site.old.log }
     ensures log { site.new.log ≡ site.old.log }
     ensures ok { OnOk result (site.new.atoms ≡ set.union site.old.atoms part.now.atoms) }
-    ensures only { IfErr result (λ fault. fault ≡ RehearseFault.Memory) }
 {
     match site.join_twice(part) {
         Ok(()) => Ok(()),
-        Err(ReplicaFault::OtherLog) => unreachable!(),
-        Err(ReplicaFault::Ungrounded) => unreachable!(),
-        Err(ReplicaFault::Memory) => Err(RehearseFault::Memory),
+        Err(ReplicaFault::OtherLog | ReplicaFault::Ungrounded) => unreachable!(),
+        Err(ReplicaFault::Memory) => Err(Memory),
     }
+}
+
+/// Simulates the turns in order over `sites` sites of the log, which begin without atoms. Returns the replicas of the
+/// sites after the last turn. `Err`: the fault of the first turn that fails.
+///
+/// A delta is computed at its turn, for the inventory that it answers. If an allocation fails in the join of a
+/// delivery, the join is tried once more.
+pub fn rehearse(
+    alloc: Global,
+    log: &Name,
+    sites: usize,
+    turns: &[Turn],
+) -> Result<Vec<Replica>, RehearseFault>
+    ensures ok { IfOk result (λ left. (world : World)
+        × (after atom_digest log.now sites (reverse turns.now) ≡ Ok world) × (left.items ≡ left_by log.now sites world)) }
+    ensures err { IfErr result (λ fault. IsFaultDue fault (after atom_digest log.now sites (reverse turns.now))) }
+{
+    let mut federation = Federation::new(alloc, log, sites)?;
+    for (i, turn) in turns.iter().enumerate() {
+        federation.take(i + 1, turn)?;
+    }
+    Ok(federation.sites)
 }

@@ -4,9 +4,8 @@
 mod fault;
 mod federation;
 pub mod laws;
-mod play;
 mod turn;
 
 pub use fault::RehearseFault;
-pub use play::rehearse;
+pub use federation::rehearse;
 pub use turn::Turn;
