@@ -1,14 +1,17 @@
 -- Words separated by a space: there is one way to split them at the first.
 use Rattle.std.proofs.Common.{◌≡◌, ℕ, suc, ◌+◌, ◌<◌, ◌≤◌, List, [], ◌∷◌, ◌++◌, Bool, true, false, length, take, drop, get_or, cond, ◌-◌, length-drop}
-use Rattle.std.proofs.Common.{refl, sym, ap, ◌∙◌, subst, arith, true≢false}
-use Rattle.std.specs.Prelude.{◌==◌, ◌||◌, ◌^◌, decimal, not}
+use Rattle.std.proofs.Common.{refl, sym, ap, ◌∙◌, subst, arith, true≢false, Option, Some, None}
+use Rattle.std.proofs.lemmas.Grind.{common_steps}
+use Rattle.memchr.specs.Find.{IsFirstByte, is_byte}
+use Rattle.cadf_join.specs.laws.Sets.{false_from}
+use Rattle.std.specs.Prelude.{◌==◌, ◌||◌, ◌^◌, decimal, not, unwrap_or}
 use Rattle.std.specs.List.{position_or_len}
 use Rattle.std.specs.Str.Parse.{AllDigits, digits_value}
 use Rattle.std.specs.Int.{IsInRange}
 use Rattle.std.proofs.lemmas.Str.Parse.{IsNumeralModel, numerals_by_value, tells_digits}
 use Rattle.std.proofs.lemmas.Fmt.{digits_decimal}
 use Rattle.std.proofs.lemmas.List.{take_all}
-use Rattle.std.proofs.lemmas.List.Sums.{split_at_first, passes_at_first}
+use Rattle.std.proofs.lemmas.List.Sums.{split_at_first, passes_at_first, position_or_len_is}
 use Rattle.std.proofs.lemmas.Bool.Decides.{nat_tests}
 use Rattle.cadf_script.specs.Script.{IsScriptNumber, AreTwo, IsSiteAndText}
 use Rattle.cadf_script.specs.Words.{IsCut, has_blank}
@@ -62,6 +65,17 @@ module _ where
   decimal_unblank n small = digits_unblank (decimal n) (digits_decimal own n (omega (arith, small)))
 
 -- ---- the first space
+
+-- the place where a byte is found first, or the length
+pub place_of : (mark : ℕ) (bytes : List ℕ) (found : Option ℕ) → IsFirstByte (is_byte mark) bytes found
+    → unwrap_or found (length bytes) ≡ position_or_len (λ x. x == mark) bytes
+place_of mark bytes None h =
+    sym (position_or_len_is (λ x. x == mark) bytes (length bytes) 0 (omega arith) (λ k b. false_from _ (h k (omega arith) b)) (λ l. absurd (omega (arith, l))))
+place_of mark bytes (Some i) h = grind (arith, common_steps, position_or_len_is)
+
+pub place_within : (mark : ℕ) (bytes : List ℕ) (found : Option ℕ) → IsFirstByte (is_byte mark) bytes found → unwrap_or found (length bytes) ≤ length bytes
+place_within mark bytes None h = omega arith
+place_within mark bytes (Some i) h = omega (arith, h.0.high)
 
 unblank_front : (xs : List ℕ) → has_blank (take (position_or_len (λ x. x == 32) xs) xs) ≡ false
 unblank_front [] = refl

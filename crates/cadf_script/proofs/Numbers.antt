@@ -1,9 +1,10 @@
 -- A number's word: its digits, and nothing else.
-use Rattle.std.proofs.Common.{◌≡◌, ◌≢◌, ℕ, zero, suc, ◌<◌, ◌≤◌, List, [], ◌∷◌, true, false, length, get_or, Result, Ok, Err, sym, ap, ◌∙◌, subst}
+use Rattle.std.proofs.Common.{◌≡◌, ◌≢◌, ℕ, zero, suc, ◌<◌, ◌≤◌, List, [], ◌∷◌, true, false, length, get_or, Result, Ok, Some, None, sym, ap, ◌∙◌, subst}
 use Rattle.std.proofs.Common.{arith, true≢false}
 use Rattle.std.specs.Prelude.{◌^◌, decimal, IsUtf8}
 use Rattle.std.specs.Str.Parse.{ParsesUnsigned}
 use Rattle.std.specs.Int.{IsInRange}
+use Rattle.std.specs.Result.{result_ok}
 use Rattle.std.proofs.lemmas.Str.Parse.{digit_at, parse_plain, digits_value_short}
 use Rattle.std.proofs.lemmas.Fmt.{digits_decimal, decimal-digits_value, parse-decimal, length-decimal-le, decimal_nonempty, first_decimal}
 use Rattle.std.proofs.lemmas.Fmt.{decimal_digit, IsAscii-decimal}
@@ -70,8 +71,8 @@ is_number {E} w r n e plain parsed =
       sym (decimal-digits_value own w ok.0.0 p.some p.zero (omega (arith, value))) ∙ ap decimal (sym ok.1),
     )
 
-pub not_number : {E : Type 0} (w : List ℕ) (r : Result ℕ E) (e : E) → r ≡ Err e → ParsesUnsigned 32 10 w r → (n : ℕ) → ¬ IsScriptNumber w n
-not_number {E} w r e failed parsed n h = never r n e (parse-decimal 32 n w r (omega (arith, h.0)) (omega (arith, h.0)) h.1 parsed) failed
+pub not_number : {E : Type 0} (w : List ℕ) (r : Result ℕ E) → None ≡ result_ok r → ParsesUnsigned 32 10 w r → (n : ℕ) → ¬ IsScriptNumber w n
+not_number {E} w r failed parsed n h = never (failed ∙ ap result_ok (parse-decimal 32 n w r (omega (arith, h.0)) (omega (arith, h.0)) h.1 parsed))
   where
-    never : (r : Result ℕ E) (n : ℕ) (e : E) → r ≡ Ok n → r ≡ Err e → ⊥
-    never r n e ok err = cc
+    never : None ≡ Some n → ⊥
+    never e = cc

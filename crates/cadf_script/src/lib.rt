@@ -3,6 +3,5 @@
 
 mod line;
 mod script;
-mod words;
 
 pub use script::{ScriptFault, read_script};

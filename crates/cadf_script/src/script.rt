@@ -2,8 +2,7 @@
 ghost use Rattle.std.specs.Prelude.{IfOk, IfErr};
 ghost use Rattle.cadf_script.specs.Script.{IsScript, IsScriptFault};
 
-use crate::line::read_turn;
-use crate::words::place_of;
+use crate::line::{place_of, read_turn};
 use cadf_event::Memory;
 use cadf_rehearsal::Turn;
 use std::alloc::Global;
