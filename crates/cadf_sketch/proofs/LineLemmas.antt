@@ -20,7 +20,7 @@ use Rattle.cadf_sketch.specs.SketchFile.{spelled, head_line, counts_line, cell_l
 use Rattle.cadf_sketch.specs.SketchVerdict.{number_in, numbers_in, first_word, words_after, laid_out, headed, head_in_words, head_in}
 use Rattle.cadf_sketch.specs.SketchVerdict.{tally_in_numbers, counts_in_words, tally_in, cell_of_bytes, cell_in}
 use Rattle.cadf_sketch.specs.declared.cell.Cell.{Cell}
-use Rattle.cadf_sketch.specs.declared.head.Head.{Head}
+use Rattle.cadf_sketch.specs.declared.layout.Head.{Head}
 use Rattle.cadf_sketch.specs.declared.tally.Tally.{Tally}
 use Rattle.cadf_sketch.proofs.NumberLemmas.{number-only, number-again, number_of_none, numbers-again, numbers-only, decimal_unblank, first_is}
 use Rattle.cadf_sketch.proofs.NumberLemmas.{after_is, cut_cases}

@@ -10,7 +10,7 @@ use Rattle.cadf_sketch.specs.SketchFile.{head_line, counts_line, cell_line, IsHe
 use Rattle.cadf_sketch.specs.SketchVerdict.{head_in, tally_in, shape_unless, cells_of_head, cause_of_cell, cause_after, is_whole, sketch_of_parts}
 use Rattle.cadf_sketch.specs.SketchLines.{AreCellsOf, IsCellPut}
 use Rattle.cadf_sketch.specs.declared.cell.Cell.{Cell}
-use Rattle.cadf_sketch.specs.declared.head.Head.{Head}
+use Rattle.cadf_sketch.specs.declared.layout.Head.{Head}
 use Rattle.cadf_sketch.specs.declared.tally.Tally.{Tally}
 use Rattle.cadf_sketch.proofs.LineLemmas.{head-again, head-only, tally-only, cell-only}
 

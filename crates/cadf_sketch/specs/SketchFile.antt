@@ -17,7 +17,7 @@ use Rattle.cadf_linefile.specs.Verdict.{log_line, with_digest_line}
 use Rattle.cadf_sketch.specs.Layouts.{IsLayout}
 use Rattle.cadf_sketch.specs.Sketches.{SketchModel}
 use Rattle.cadf_sketch.specs.declared.cell.Cell.{Cell}
-use Rattle.cadf_sketch.specs.declared.head.Head.{Head}
+use Rattle.cadf_sketch.specs.declared.layout.Head.{Head}
 use Rattle.cadf_sketch.specs.declared.tally.Tally.{Tally}
 
 abbrev pub sketch_header : List ℕ

@@ -5,7 +5,7 @@ use Rattle.std.specs.Prelude.{◌≡◌, ◌≤◌, ◌<◌, ◌*◌, ℕ, List,
 use Rattle.std.specs.List.{AllByRecursion}
 use Rattle.cadf_sketch.specs.SketchFile.{head_line, counts_line, cell_line, IsHead, IsTally, IsCell}
 use Rattle.cadf_sketch.specs.SketchVerdict.{cell_in}
-use Rattle.cadf_sketch.specs.declared.head.Head.{Head}
+use Rattle.cadf_sketch.specs.declared.layout.Head.{Head}
 use Rattle.cadf_sketch.specs.declared.tally.Tally.{Tally}
 use Rattle.cadf_sketch.specs.declared.cell.Cell.{Cell}
 use Rattle.cadf_sketch.specs.declared.sketch_lines.Told.{Told}

@@ -25,7 +25,7 @@ use Rattle.cadf_sketch.specs.Layouts.{LayoutModel, layout_of}
 use Rattle.cadf_sketch.specs.Sketches.{SketchModel}
 use Rattle.cadf_sketch.specs.SketchFile.{sketch_header, sketch_body}
 use Rattle.cadf_sketch.specs.declared.cell.Cell.{Cell}
-use Rattle.cadf_sketch.specs.declared.head.Head.{Head}
+use Rattle.cadf_sketch.specs.declared.layout.Head.{Head}
 use Rattle.cadf_sketch.specs.declared.tally.Tally.{Tally}
 
 -- ---- numbers

@@ -1,6 +1,6 @@
-//! A cell of a sketch.
-ghost use Rattle.std.specs.Prelude.{◌≡◌, ◌≤◌, ◌<◌, ◌*◌, ◌^◌};
-ghost use Rattle.cadf_sketch.specs.Cells.{word, check, place_in, mixed, stands, is_lone, each_xor};
+//! The cells of a sketch: digests are mixed into them by XOR, which adds or removes them.
+ghost use Rattle.std.specs.Prelude.{◌≡◌, ◌≤◌, ◌<◌, ◌*◌, ◌^◌, length};
+ghost use Rattle.cadf_sketch.specs.Cells.{word, check, place_in, mixed, stands, is_lone, each_xor, toggled};
 
 use crate::layout::Layout;
 use std::simd::prelude::*;
@@ -82,4 +82,15 @@ fn stands(digest: &[u8; 32], place: usize, layout: Layout) -> bool
     place == place_in(0, digest, layout)
         || place == place_in(1, digest, layout)
         || place == place_in(2, digest, layout)
+}
+
+/// Mixes the digest into its cell of each table by XOR.
+#[tactic(auto, unfolding(crate::specs::Cells::toggled))]
+pub(crate) fn toggle(cells: &mut [Cell], digest: &[u8; 32], layout: Layout)
+    requires cells { length cells.old ≡ 3 * layout.size }
+    ensures { cells.new ≡ toggled cells.old digest.now layout }
+{
+    cells[place_in(0, digest, layout)].mix(digest);
+    cells[place_in(1, digest, layout)].mix(digest);
+    cells[place_in(2, digest, layout)].mix(digest);
 }

@@ -1,4 +1,4 @@
-//! How the cells of a sketch are laid out.
+//! How the cells of a sketch are laid out, and the contents of the third line of its file.
 ghost use Rattle.std.specs.Prelude.{◌≡◌, ◌<◌, ◌≤◌, ◌*◌, ◌/◌, ◌+◌, ◌^◌, if◌then◌else◌, Some, None};
 ghost use Rattle.cadf_sketch.specs.Cells.{word};
 ghost use Rattle.cadf_sketch.specs.Layouts.{are_cells, default_cells, is_salt, layout_with, IsLayout};
@@ -156,4 +156,11 @@ impl Layout {
     {
         self.salt
     }
+}
+
+/// The layout of the cells, and the digest of the inventory's file.
+#[derive(Clone, Copy)]
+pub struct Head {
+    pub layout: Layout,
+    pub digest: [u8; 32],
 }

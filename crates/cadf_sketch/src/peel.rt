@@ -4,9 +4,8 @@ ghost use Rattle.cadf_sketch.specs.Peeling.{Peels, HasNoLone, Awaits, ArePlaces,
 ghost use Rattle.cadf_sketch.specs.Layouts.{LayoutModel};
 ghost use Rattle.cadf_sketch.specs.declared.cell.Cell.{Cell};
 
-use crate::cell::{Cell, place_in};
+use crate::cell::{Cell, place_in, toggle};
 use crate::layout::Layout;
-use crate::toggle::toggle;
 use cadf_json::Memory;
 use std::alloc::Global;
 

@@ -1,15 +1,19 @@
-//! Finds the inventory of which a sketch was made.
-ghost use Rattle.std.specs.Prelude.{◌≡◌, IfOk, IfErr, OnOk};
+//! Finds the inventory of which a sketch was made, and the delta for its sender.
+ghost use Rattle.std.specs.Prelude.{◌≡◌, IfOk, IfErr, OnOk, ◌∷◌, [], map};
 ghost use Rattle.cadf_inventory.specs.InventoryFile.{inventory_digest};
 ghost use Rattle.cadf_sketch.specs.Flips.{apart};
 ghost use Rattle.cadf_sketch.specs.Refusals.{IsPeeled, IsReadFault};
+ghost use Rattle.cadf_join.specs.Sets as set;
+ghost use Rattle.std.specs.List.{AllByRecursion};
+ghost use Rattle.cadf_join.specs.Sets.{rising};
+ghost use Rattle.cadf_line.specs.Digest.{IsDigest, atom_digest};
+ghost use Rattle.cadf_sketch.specs.Answers.{inventory_of, IsAnswer};
 
-use crate::flip::flip;
 use crate::peel::peel;
 use crate::sketch::{Sketch, tally, toggle_all};
 use cadf_inventory::inventory_digest;
 use cadf_json::Memory;
-use cadf_set::Inventory;
+use cadf_set::{Inventory, Replica};
 use std::alloc::Global;
 use thiserror::Error;
 
@@ -76,4 +80,57 @@ pub fn read(alloc: Global, own: Inventory, sketch: &Sketch) -> Result<Inventory,
     }
     flip(&mut theirs, &taken)?;
     Err(ReadFault::TooFewCells(tally(&theirs).cells_to_ask(sketch.tally())))
+}
+
+/// Removes the digest if the inventory has it, otherwise adds it.
+fn flip_one(inventory: &mut Inventory, digest: &[u8; 32]) -> Result<(), Memory>
+    ensures log { inventory.new.log ≡ inventory.old.log }
+    ensures ok { OnOk result (inventory.new.digests ≡ apart inventory.old.digests (set.from_list (digest.now ∷ []))) }
+{
+    if inventory.has(digest) {
+        inventory.remove(digest);
+        return Ok(());
+    }
+    inventory.put(digest)
+}
+
+/// Removes those of the digests that the inventory has, and adds the others.
+pub(crate) fn flip(inventory: &mut Inventory, taken: &Inventory) -> Result<(), Memory>
+    ensures log { inventory.new.log ≡ inventory.old.log }
+    ensures ok { OnOk result (inventory.new.digests ≡ apart inventory.old.digests taken.now.digests) }
+{
+    for digest in taken.digests() {
+        flip_one(inventory, digest)?;
+    }
+    Ok(())
+}
+
+/// Makes the replica's inventory from the digests of its atoms.
+fn inventory_of(alloc: Global, replica: &Replica, digests: &[[u8; 32]]) -> Result<Inventory, Memory>
+    requires atoms { digests.now ≡ map atom_digest (rising replica.now.atoms) }
+    requires each { AllByRecursion IsDigest digests.now }
+    ensures { IfOk result (λ own. own ≡ inventory_of replica.now) }
+{
+    let log = replica.log().copy(alloc)?;
+    Inventory::of(alloc, log, Vec::from_slice(alloc, digests)?)
+}
+
+/// Returns the least replica that has the atoms whose digest the sketched inventory lacks. Each atom is hashed once.
+/// Its errors are those of `read`.
+pub fn missing_by_sketch(
+    alloc: Global,
+    replica: &Replica,
+    sketch: &Sketch,
+) -> Result<Replica, ReadFault>
+    ensures ok { IfOk result (λ part. IsAnswer replica.now sketch.now part) }
+    ensures err { IfErr result (IsReadFault (inventory_of replica.now) sketch.now) }
+{
+    let digests = replica.digests()?;
+    let own = inventory_of(alloc, replica, digests.as_slice())?;
+    let theirs = read(alloc, own, sketch)?;
+    theirs.type_invariant();
+    match replica.missing_by_digests(digests.as_slice(), &theirs) {
+        Ok(part) => Ok(part),
+        Err(_) => Err(ReadFault::Memory),
+    }
 }

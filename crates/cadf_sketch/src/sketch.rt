@@ -7,10 +7,9 @@ ghost use Rattle.cadf_sketch.specs.SketchFile.{HasParts};
 ghost use Rattle.cadf_sketch.specs.Sketches.{asked};
 ghost use Rattle.cadf_sketch.specs.Tallies.{tally_of};
 
-use crate::cell::Cell;
+use crate::cell::{Cell, toggle};
 use crate::layout::{Cells, Layout, Salt};
 use crate::tally::Tally;
-use crate::toggle::toggle;
 use cadf_event::Name;
 use cadf_inventory::inventory_digest;
 use cadf_json::Memory;

@@ -1,18 +1,17 @@
-//! The file of a sketch.
-
-ghost use Rattle.std.specs.Prelude.{◌≡◌, ◌≤◌, ◌*◌, IfErr, OnOk, length, refl};
+//! The file of a sketch: its lines decoded and made.
+ghost use Rattle.std.specs.Prelude.{◌≡◌, ◌≤◌, ◌*◌, IfErr, OnOk, length, refl, ◌∷◌, IfOk, ◌++◌, decimal, flat_map};
 ghost use Rattle.cadf_linefile.specs.Answers.{CauseIs};
-ghost use Rattle.cadf_sketch.specs.SketchFile.{cell_lines, IsSketch};
-ghost use Rattle.cadf_sketch.specs.SketchVerdict.{sketch_kind, cause_of_cell};
+ghost use Rattle.cadf_sketch.specs.SketchFile.{cell_lines, IsSketch, head_of, head_line, counts_line, cell_line};
+ghost use Rattle.cadf_sketch.specs.SketchVerdict.{sketch_kind, cause_of_cell, head_in, laid_out, number_in, tally_in, cell_in, cell_of_bytes};
 ghost use Rattle.cadf_sketch.specs.SketchLines.{told_lines, AreTold, IsCellPut};
 
 use crate::cell::Cell;
-use crate::head::Head;
-use crate::line_parts::{cell_in, head_in, tally_in};
+use crate::layout::{Cells, Head, Layout, Salt};
+use crate::numbers::{cut_at_blank, number_in, numbers_in};
 use crate::sketch::Sketch;
-use crate::sketch_write::{cell_line, counts_line, head_line};
 use crate::tally::Tally;
 use cadf_event::Name;
+use cadf_inventory::digest_of;
 use cadf_json::Memory;
 use cadf_linefile::{Cause, LineFault, ModelFile};
 use std::alloc::Global;
@@ -121,4 +120,118 @@ impl ModelFile for Sketch {
             _ => cell_line(alloc, &self.cells()[place - 2]),
         }
     }
+}
+
+/// Returns the layout whose number of cells and salt these words are. `None` if there is none.
+fn layout_in(cells: &[u8], salt: &[u8]) -> Option<Layout>
+    ensures { result ≡ laid_out (number_in cells.now) (number_in salt.now) }
+{
+    let cells = Cells::of(number_in(cells)?)?;
+    let salt = Salt::of(number_in(salt)?)?;
+    Some(Layout::of(cells, salt))
+}
+
+/// Decodes the line with the number of cells, the salt and the digest. `None` if it is no such line.
+pub(crate) fn head_in(line: &[u8]) -> Option<Head>
+    ensures { result ≡ head_in line.now }
+{
+    let words = line.strip_prefix(b"S ")?;
+    let (cells, words) = cut_at_blank(words)?;
+    let (salt, digest) = cut_at_blank(words)?;
+    let layout = layout_in(cells, salt)?;
+    let digest = digest_of(digest)?;
+    Some(Head { layout, digest })
+}
+
+/// Makes the counts from 65 numbers: the number of digests, then one for each bit.
+fn tally_of(numbers: &[u64]) -> Tally
+    requires { length numbers.now ≡ 65 }
+    ensures { numbers.now ≡ result.digests ∷ result.ones }
+{
+    let mut ones = [0u64; 64];
+    ones.copy_from_slice(&numbers[1..]);
+    Tally {
+        digests: numbers[0],
+        ones,
+    }
+}
+
+/// Decodes the line of the counts. `None` if it is no such line.
+pub(crate) fn tally_in(alloc: Global, line: &[u8]) -> Result<Option<Tally>, Memory>
+    ensures { IfOk result (λ found. found ≡ tally_in line.now) }
+{
+    let Some(words) = line.strip_prefix(b"C ") else {
+        return Ok(None);
+    };
+    let Some(numbers) = numbers_in(alloc, words, 64)? else {
+        return Ok(None);
+    };
+    Ok(Some(tally_of(numbers.as_slice())))
+}
+
+/// Returns the cell of these bytes: its digest, and its check.
+fn cell_of_bytes(bytes: &[u8; 40]) -> Cell
+    ensures { result ≡ cell_of_bytes bytes.now }
+{
+    let mut digest = [0u8; 32];
+    digest.copy_from_slice(&bytes[..32]);
+    let mut check = [0u8; 8];
+    check.copy_from_slice(&bytes[32..]);
+    Cell {
+        digest,
+        check: u64::from_be_bytes(check),
+    }
+}
+
+/// Decodes the line of a cell. `None` if it is no such line.
+#[tactic(auto, unfolding(crate::specs::SketchVerdict::cell_in))]
+pub(crate) fn cell_in(line: &[u8]) -> Option<Cell>
+    ensures { result ≡ cell_in line.now }
+{
+    let mut bytes = [0u8; 40];
+    hex::decode_to_slice(line, &mut bytes).ok()?;
+    let mut text = [0u8; 80];
+    hex::encode_to_slice(&bytes, &mut text).ok()?;
+    (line == text.as_slice()).then_some(cell_of_bytes(&bytes))
+}
+
+/// Makes the line with the number of cells, the salt and the digest.
+pub(crate) fn head_line(alloc: Global, sketch: &Sketch) -> Result<Vec<u8>, Memory>
+    ensures { IfOk result (λ line. line.items ≡ head_line (head_of sketch.now)) }
+{
+    let (cells, salt) = (sketch.layout().cells(), sketch.layout().salt());
+    let digest = hex::encode(alloc, sketch.digest())?;
+    Ok(format!(in alloc; "S {cells} {salt} {digest}")?.into_bytes())
+}
+
+/// Makes the line of the counts.
+pub(crate) fn counts_line(alloc: Global, tally: &Tally) -> Result<Vec<u8>, Memory>
+    ensures { IfOk result (λ line. line.items ≡ counts_line tally.now) }
+{
+    let digests = tally.digests;
+    let mut line = format!(in alloc; "C {digests}")?.into_bytes();
+    push_counts(&mut line, tally.ones.as_slice())?;
+    Ok(line)
+}
+
+/// Appends a space and the decimal number for each number.
+fn push_counts(line: &mut Vec<u8>, counts: &[u64]) -> Result<(), Memory>
+    ensures { OnOk result (line.new.items ≡ line.old.items ++ flat_map (λ m. 32 ∷ decimal m) counts.now) }
+{
+    let mut buffer = itoa::Buffer::new();
+    for count in counts {
+        line.push(b' ')?;
+        line.extend_from_slice(buffer.format(*count).as_bytes())?;
+    }
+    Ok(())
+}
+
+/// Makes the line of a cell.
+pub(crate) fn cell_line(alloc: Global, cell: &Cell) -> Result<Vec<u8>, Memory>
+    ensures { IfOk result (λ line. line.items ≡ cell_line cell.now) }
+{
+    let check = cell.check.to_be_bytes();
+    let mut bytes = Vec::from_slice(alloc, &cell.digest)?;
+    bytes.extend_from_slice(&check)?;
+    Ok(hex::encode(alloc, bytes.as_slice())?.into_bytes())
 }

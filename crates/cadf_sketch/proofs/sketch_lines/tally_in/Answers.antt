@@ -1,7 +1,7 @@
 use Rattle.std.proofs.Common.{◌∙◌, length, ap, sym}
 use Rattle.cadf_sketch.specs.SketchVerdict.{counts_in_words}
 use Rattle.cadf_sketch.proofs.LineLemmas.{prefixed, tally_missing, tally_read, counts_size}
-use Rattle.cadf_sketch.proofs.line_parts.tally_in.Goals as goal
+use Rattle.cadf_sketch.proofs.sketch_lines.tally_in.Goals as goal
 
 pub returns-in_default-2 : goal.returns-in_default-2
 returns-in_default-2 c =

@@ -1,6 +1,6 @@
 use Rattle.std.proofs.lemmas.Grind.{common_steps}
 use Rattle.std.proofs.Common.{arith}
-use Rattle.cadf_sketch.proofs.sketch_write.push_counts.Goals as goal
+use Rattle.cadf_sketch.proofs.sketch_lines.push_counts.Goals as goal
 
 pub loop-count-preserved : goal.loop-count-preserved
 loop-count-preserved c = grind (arith, common_steps)

@@ -1,6 +1,6 @@
 use Rattle.std.proofs.lemmas.Grind.{common_steps}
 use Rattle.std.proofs.Common.{arith}
-use Rattle.cadf_sketch.proofs.sketch_write.counts_line.Goals as goal
+use Rattle.cadf_sketch.proofs.sketch_lines.counts_line.Goals as goal
 
 pub returns : goal.returns
 returns c = grind (arith, common_steps)

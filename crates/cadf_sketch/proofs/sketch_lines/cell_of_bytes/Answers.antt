@@ -1,7 +1,7 @@
 use Rattle.std.proofs.Common.{◌∙◌, ap, drop, length-drop, arith}
 use Rattle.std.specs.Int.{w64, from_be_bytes}
 use Rattle.std.proofs.lemmas.List.{take_all}
-use Rattle.cadf_sketch.proofs.line_parts.cell_of_bytes.Goals as goal
+use Rattle.cadf_sketch.proofs.sketch_lines.cell_of_bytes.Goals as goal
 
 pub returns : goal.returns
 returns c =

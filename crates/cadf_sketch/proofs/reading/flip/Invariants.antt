@@ -1,7 +1,7 @@
 use Rattle.std.proofs.Common.{◌≡◌}
 use Rattle.cadf_join.specs.Sets as set
 use Rattle.cadf_sketch.proofs.FlipLemmas.{flipped_in_turn}
-use Rattle.cadf_sketch.proofs.flip.flip.Given as goal
+use Rattle.cadf_sketch.proofs.reading.flip.Given as goal
 
 abbrev pub invariant-loop-digest : goal.invariant-loop-digest
 invariant-loop-digest l =
