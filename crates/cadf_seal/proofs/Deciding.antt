@@ -12,7 +12,7 @@ use Rattle.cadf_join.specs.Contents.{Text, text_cmp}
 use Rattle.cadf_join.specs.laws.Contents.{text_total, text_same}
 use Rattle.cadf_seal.specs.ProofFile.{AreRising}
 use Rattle.cadf_seal.specs.Verified.{PlacesRise, leaves_below, leaves_above, past_last, lowest_place, is_shown, state}
-use Rattle.cadf_seal.specs.declared.leaf.Leaf.{Leaf}
+use Rattle.cadf_seal.specs.declared.tree.Leaf.{Leaf}
 use Rattle.cadf_seal.proofs.Rebuilding.{all_map}
 use Rattle.cadf_seal.proofs.Honest.{IsLess, less_trans, not_greater, not_less_itself, is_greater, is_equal}
 use Rattle.cadf_seal.proofs.Splitting.{later_point, first_part, second_part}

@@ -8,7 +8,7 @@ use Rattle.cadf_join.specs.Contents.{Text}
 use Rattle.cadf_seal.specs.Shown.{until, leaves_from, hidden, all_hidden}
 use Rattle.cadf_seal.specs.Tree.{tree}
 use Rattle.cadf_seal.proofs.Trees.{tree_any, below_power, within_more, first_part, second_part}
-use Rattle.cadf_seal.specs.declared.leaf.Leaf.{Leaf}
+use Rattle.cadf_seal.specs.declared.tree.Leaf.{Leaf}
 
 -- ---- room
 

@@ -20,7 +20,7 @@ use Rattle.cadf_set.specs.Inventory.{InventoryModel}
 use Rattle.cadf_seal.specs.Tree.{root}
 use Rattle.cadf_seal.specs.Shown.{first_leaf, is_above, is_below, needs, shown, hidden, all_hidden, rebuilt}
 use Rattle.cadf_seal.specs.Verified.{alone, root_from, proof_root, leaves_below, leaves_above, past_last, lowest_place, is_shown, state, first_digest, unneeded, IsAt, TellsAll}
-use Rattle.cadf_seal.specs.declared.leaf.Leaf.{Leaf}
+use Rattle.cadf_seal.specs.declared.tree.Leaf.{Leaf}
 use Rattle.cadf_seal.proofs.Trees.{root_none, root_tree, below_power}
 use Rattle.cadf_seal.proofs.Rebuilding.{all_map, all_kept, rebuilds}
 

@@ -12,7 +12,7 @@ use Rattle.cadf_join.specs.laws.Rising.{rising_is_sorted}
 use Rattle.cadf_line.specs.Missing.{Digests}
 use Rattle.cadf_seal.specs.Shown.{is_above, is_below, needs}
 use Rattle.cadf_seal.specs.Verified.{first_digest, unneeded}
-use Rattle.cadf_seal.specs.declared.leaf.Leaf.{Leaf}
+use Rattle.cadf_seal.specs.declared.tree.Leaf.{Leaf}
 use Rattle.cadf_seal.proofs.Honest.{IsLess, AreSorted, less_trans, sorted_above, sorted_rest}
 
 below_less : (behind : Option Text) (d e : Text) → IsLess d e → is_below behind e ≡ true → is_below behind d ≡ true

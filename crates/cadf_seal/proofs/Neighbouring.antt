@@ -17,7 +17,7 @@ use Rattle.cadf_seal.specs.Facts.{AreAscending}
 use Rattle.cadf_seal.specs.Neighbours.{first_from, last_from, HasPlace, FactHasPlace, FactNeeds, FactsNeed}
 use Rattle.cadf_seal.specs.Shown.{first_leaf, is_above, is_below, needs, shown}
 use Rattle.cadf_seal.proofs.ShownLemmas.{below_both}
-use Rattle.cadf_seal.specs.declared.leaf.Leaf.{Leaf}
+use Rattle.cadf_seal.specs.declared.tree.Leaf.{Leaf}
 
 -- ---- one fact
 

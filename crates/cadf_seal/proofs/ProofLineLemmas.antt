@@ -30,7 +30,7 @@ use Rattle.cadf_seal.specs.SealVerdict.{sealed_count}
 use Rattle.cadf_seal.specs.ProofFile.{ProofModel, proof_header, shown_line, hidden_line, proof_lines, proof_body, AreRising, IsLeafOf, HasProofParts, IsProof, ProofFileIsInjective}
 use Rattle.cadf_seal.specs.ProofVerdict.{leaf_of, leaf_in_words, shown_in, hidden_in, is_next, cause_of_line, cause_after, proof_model_in, proof_kind}
 use Rattle.cadf_seal.specs.ProofLines.{proof_values, with_shown, with_hidden, IsPut}
-use Rattle.cadf_seal.specs.declared.leaf.Leaf.{Leaf}
+use Rattle.cadf_seal.specs.declared.tree.Leaf.{Leaf}
 use Rattle.cadf_seal.proofs.SealLemmas.{count-again, count-only}
 use Rattle.cadf_linefile.specs.ModelKind.{AcceptsModels}
 use Rattle.cadf_linefile.proofs.ModelLemmas.{Plain, lines_of, Follows, Ends, IsModelKind, accepts-models, models-tell, name_is}

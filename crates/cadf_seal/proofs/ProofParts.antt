@@ -16,7 +16,7 @@ use Rattle.cadf_seal.specs.Facts.{AreAscending}
 use Rattle.cadf_seal.specs.ProofFile.{IsLeafOf, AreRising, HasProofParts, proof_of}
 use Rattle.cadf_seal.specs.Shown.{first_leaf, needs, shown, until, leaves_from, hidden, all_hidden}
 use Rattle.cadf_seal.specs.Tree.{tree}
-use Rattle.cadf_seal.specs.declared.leaf.Leaf.{Leaf}
+use Rattle.cadf_seal.specs.declared.tree.Leaf.{Leaf}
 
 -- ---- the leaves that are shown
 

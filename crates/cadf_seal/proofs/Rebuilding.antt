@@ -13,7 +13,7 @@ use Rattle.cadf_join.proofs.Members.{listed_left, listed_right}
 use Rattle.cadf_seal.specs.Tree.{leaf_hash, node_hash, tree, hashed, TextsDoNotCollide}
 use Rattle.cadf_seal.specs.Shown.{until, leaves_from, hidden, Rebuilt, next_hash, node_beside, node_of, rebuilt, hash_of, rest_of_rebuilt, rehashed}
 use Rattle.cadf_seal.specs.Verified.{IsAt, PlacesRise}
-use Rattle.cadf_seal.specs.declared.leaf.Leaf.{Leaf}
+use Rattle.cadf_seal.specs.declared.tree.Leaf.{Leaf}
 use Rattle.cadf_seal.proofs.Trees.{tree_beyond, doubled}
 use Rattle.cadf_seal.proofs.Determined.{node_text, of_halves, hashed_at, long, halves_of}
 

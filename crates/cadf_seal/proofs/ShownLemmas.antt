@@ -13,8 +13,8 @@ use Rattle.cadf_join.specs.laws.Sets.{bool_cases}
 use Rattle.std.proofs.lemmas.Bool.{false_from_ne_true}
 use Rattle.cadf_seal.specs.Facts.{facts_left, AreAscending, facts_above}
 use Rattle.cadf_seal.specs.Shown.{first_leaf, is_below, needs, shown}
-use Rattle.cadf_seal.specs.declared.leaf.Leaf.{Leaf}
-use Rattle.cadf_seal.specs.declared.shown_leaves.Facts.{Facts}
+use Rattle.cadf_seal.specs.declared.tree.Leaf.{Leaf}
+use Rattle.cadf_seal.specs.declared.proof.Facts.{Facts}
 
 -- ---- one fact
 

@@ -14,7 +14,7 @@ use Rattle.cadf_seal.specs.Tree.{root, hashed, TextsDoNotCollide}
 use Rattle.cadf_seal.specs.Shown.{Rebuilt, rebuilt, rehashed}
 use Rattle.cadf_seal.specs.ProofFile.{AreRising}
 use Rattle.cadf_seal.specs.Verified.{alone, root_from, proof_root, leaves_below, leaves_above, past_last, lowest_place, is_shown, state, IsAt, PlacesRise, ShowsLeaves, TellsTruth}
-use Rattle.cadf_seal.specs.declared.leaf.Leaf.{Leaf}
+use Rattle.cadf_seal.specs.declared.tree.Leaf.{Leaf}
 use Rattle.cadf_seal.proofs.Trees.{root_tree, below_power}
 use Rattle.cadf_seal.proofs.Rebuilding.{all_map, all_kept, shows}
 use Rattle.cadf_seal.proofs.Honest.{IsLess, AreSorted, not_less_itself, less_trans, sorted_above, sorted_rest, at_all, ahead_least, shown_listed}

@@ -12,7 +12,7 @@ use Rattle.cadf_join.specs.Contents.{Text}
 use Rattle.cadf_seal.specs.Shown.{until, leaves_from, rebuilt}
 use Rattle.cadf_seal.specs.ProofFile.{ProofModel}
 use Rattle.cadf_seal.specs.Verified.{PlacesRise, alone, root_from, proof_root}
-use Rattle.cadf_seal.specs.declared.leaf.Leaf.{Leaf}
+use Rattle.cadf_seal.specs.declared.tree.Leaf.{Leaf}
 use Rattle.cadf_seal.proofs.Rebuilding.{rise_kept}
 use Rattle.cadf_seal.proofs.Trees.{below_power, within_more}
 

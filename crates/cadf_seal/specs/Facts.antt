@@ -7,7 +7,7 @@ use Rattle.std.specs.List.{filter}
 use Rattle.std.specs.List.Sorted.{IsStrictlySortedBy}
 use Rattle.cadf_join.specs.Contents.{Text, text_cmp}
 use Rattle.cadf_seal.specs.Shown.{is_above}
-use Rattle.cadf_seal.specs.declared.shown_leaves.Facts.{Facts}
+use Rattle.cadf_seal.specs.declared.proof.Facts.{Facts}
 
 abbrev pub AreAscending : List Text → Type 0
 AreAscending fs = IsStrictlySortedBy text_cmp fs

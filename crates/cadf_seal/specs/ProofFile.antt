@@ -18,7 +18,7 @@ use Rattle.cadf_linefile.specs.Verdict.{log_line, with_digest_line}
 use Rattle.cadf_set.specs.Inventory.{InventoryModel}
 use Rattle.cadf_seal.specs.SealFile.{count_line}
 use Rattle.cadf_seal.specs.Shown.{shown, all_hidden}
-use Rattle.cadf_seal.specs.declared.leaf.Leaf.{Leaf}
+use Rattle.cadf_seal.specs.declared.tree.Leaf.{Leaf}
 
 pub record ProofModel : Type 0 where
   pub log : Text

@@ -6,7 +6,7 @@ use Rattle.std.specs.Prelude.{◌≡◌, ℕ, List, [], ◌∷◌, ◌++◌, Opt
 use Rattle.cadf_join.specs.Contents.{Text}
 use Rattle.cadf_seal.specs.ProofFile.{ProofModel, proof_lines, HasProofParts}
 use Rattle.cadf_seal.specs.ProofVerdict.{shown_in, hidden_in, cause_of_line}
-use Rattle.cadf_seal.specs.declared.leaf.Leaf.{Leaf}
+use Rattle.cadf_seal.specs.declared.tree.Leaf.{Leaf}
 use Rattle.cadf_seal.specs.declared.proof_lines.Told.{Told}
 use Rattle.cadf_seal.specs.declared.proof_lines.Told.TheVariants.{Nothing, Values}
 

@@ -18,7 +18,7 @@ use Rattle.cadf_sketch.specs.SketchVerdict.{number_in, first_word, words_after, 
 use Rattle.cadf_linefile.specs.ModelKind.{ModelKind, grammar_of, verdict_of}
 use Rattle.cadf_seal.specs.SealVerdict.{sealed_count}
 use Rattle.cadf_seal.specs.ProofFile.{ProofModel, proof_header, proof_body}
-use Rattle.cadf_seal.specs.declared.leaf.Leaf.{Leaf}
+use Rattle.cadf_seal.specs.declared.tree.Leaf.{Leaf}
 
 -- ---- lines
 

@@ -13,7 +13,7 @@ use Rattle.std.specs.List.{filter}
 use Rattle.std.specs.Ordering.{is_lt}
 use Rattle.cadf_join.specs.Contents.{Text, text_cmp}
 use Rattle.cadf_seal.specs.Tree.{leaf_hash, node_hash, tree}
-use Rattle.cadf_seal.specs.declared.leaf.Leaf.{Leaf}
+use Rattle.cadf_seal.specs.declared.tree.Leaf.{Leaf}
 
 -- ---- which leaves are shown
 

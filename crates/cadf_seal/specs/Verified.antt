@@ -34,7 +34,7 @@ use Rattle.cadf_seal.specs.Tree.{root, hashed, TextsDoNotCollide}
 use Rattle.cadf_seal.specs.SealFile.{SealModel, seal_of}
 use Rattle.cadf_seal.specs.ProofFile.{ProofModel, proof_of, IsProof}
 use Rattle.cadf_seal.specs.Shown.{Rebuilt, rebuilt, rehashed, is_above, is_below, needs}
-use Rattle.cadf_seal.specs.declared.leaf.Leaf.{Leaf}
+use Rattle.cadf_seal.specs.declared.tree.Leaf.{Leaf}
 use Rattle.cadf_seal.specs.declared.telling.Repeated.{Repeated}
 use Rattle.cadf_seal.specs.declared.verify.VerifyFault.{VerifyFault}
 use Rattle.cadf_seal.specs.declared.verify.VerifyFault.TheVariants.{OtherCount, OtherRoot, NotShown, NotNeeded, Absent, Present, Memory}

@@ -1,16 +1,11 @@
 //! Seals: the root of the Merkle tree over all digests of an inventory, and proofs of what is among them.
 #![tactic(auto)]
 
-mod hidden_subtrees;
 mod laws;
-mod leaf;
 mod proof;
 mod proof_lines;
-mod rebuilt;
 mod seal;
 mod seal_lines;
-mod seal_write;
-mod shown_leaves;
 mod telling;
 mod tree;
 mod verify;
@@ -20,9 +15,8 @@ pub use laws::{
     proof_shows_facts_or_neighbours, root_is_of_a_merkle_tree, seal_determines_inventory,
     seal_file_is_injective, seal_is_read_back,
 };
-pub use leaf::Leaf;
 pub use proof::Proof;
 pub use seal::Seal;
 pub use telling::FactLines;
-pub use tree::root_of;
+pub use tree::{Leaf, root_of};
 pub use verify::{VerifyFault, verified};

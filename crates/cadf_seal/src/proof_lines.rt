@@ -7,10 +7,9 @@ ghost use Rattle.cadf_seal.specs.ProofFile.{proof_lines, shown_line, IsProof};
 ghost use Rattle.cadf_seal.specs.ProofVerdict.{proof_kind, cause_of_line, is_next, shown_in, hidden_in};
 ghost use Rattle.cadf_seal.specs.ProofLines.{told_lines, AreTold, IsPut};
 
-use crate::leaf::Leaf;
 use crate::proof::Proof;
-use crate::seal_lines::count_in;
-use crate::seal_write::{count_line, digest_line};
+use crate::seal_lines::{count_in, count_line, digest_line};
+use crate::tree::Leaf;
 use cadf_event::Name;
 use cadf_inventory::digest_of;
 use cadf_json::Memory;

@@ -1,12 +1,11 @@
-//! The file of a seal.
-
-ghost use Rattle.std.specs.Prelude.{◌≡◌, refl};
-ghost use Rattle.cadf_seal.specs.SealFile.{seal_lines, IsSeal};
+//! The file of a seal, and the lines that it shares with a proof's.
+ghost use Rattle.std.specs.Prelude.{◌≡◌, refl, ◌++◌, IfOk};
+ghost use Rattle.cadf_seal.specs.SealFile.{seal_lines, IsSeal, count_line};
 ghost use Rattle.cadf_seal.specs.SealVerdict.{seal_kind, sealed_count, root_in};
 ghost use Rattle.cadf_seal.specs.SealLines.{told_lines, AreTold};
+ghost use Rattle.hex.specs.Hex.{encode_lower};
 
 use crate::seal::Seal;
-use crate::seal_write::{count_line, digest_line};
 use cadf_event::Name;
 use cadf_inventory::digest_of;
 use cadf_json::Memory;
@@ -109,4 +108,20 @@ impl ModelFile for Seal {
             digest_line(alloc, b"R ", self.root())
         }
     }
+}
+
+/// Makes the line of the count.
+pub(crate) fn count_line(alloc: Global, count: u64) -> Result<Vec<u8>, Memory>
+    ensures { IfOk result (λ line. line.items ≡ count_line count) }
+{
+    Ok(format!(in alloc; "N {count}")?.into_bytes())
+}
+
+/// Makes a line of a digest, which begins with the mark.
+pub(crate) fn digest_line(alloc: Global, mark: &[u8], digest: &[u8; 32]) -> Result<Vec<u8>, Memory>
+    ensures { IfOk result (λ line. line.items ≡ mark.now ++ encode_lower digest.now) }
+{
+    let mut line = Vec::from_slice(alloc, mark)?;
+    line.extend_from_slice(hex::encode(alloc, digest)?.as_bytes())?;
+    Ok(line)
 }

@@ -10,29 +10,12 @@ ghost use Rattle.cadf_line.specs.Digest.{IsDigest, atom_digest};
 ghost use Rattle.cadf_line.specs.Missing.{digests_of};
 ghost use Rattle.cadf_seal.specs.ProofFile.{AreRising, IsLeafOf};
 ghost use Rattle.cadf_seal.specs.Shown.{needs, is_below};
-ghost use Rattle.cadf_seal.specs.Verified.{
-  PlacesRise,
-  past_last,
-  lowest_place,
-  is_shown,
-  state,
-  is_state,
-  first_with,
-  first_digest,
-  unneeded,
-  is_root,
-  refusal_of_root,
-  refusal_of_facts,
-  not_as_asked,
-  verified,
-  VerifyFaultIs,
-};
+ghost use Rattle.cadf_seal.specs.Verified.{PlacesRise, past_last, lowest_place, is_shown, state, is_state, first_with, first_digest, unneeded, is_root, refusal_of_root, refusal_of_facts, not_as_asked, verified, VerifyFaultIs};
 
-use crate::leaf::Leaf;
 use crate::proof::Proof;
-use crate::rebuilt::root_of_proof;
 use crate::seal::Seal;
 use crate::telling::{FactLines, told};
+use crate::tree::{Leaf, root_of_proof};
 use cadf_json::Memory;
 use cadf_set::{Inventory, Replica};
 use std::alloc::Global;
@@ -76,11 +59,7 @@ fn state(count: u64, shown: &[Leaf], digest: &[u8; 32]) -> Option<bool>
     if is_first(&shown[split..], digest) {
         return Some(true);
     }
-    if behind(count, &shown[..split]) == ahead(count, &shown[split..]) {
-        Some(false)
-    } else {
-        None
-    }
+    (behind(count, &shown[..split]) == ahead(count, &shown[split..])).then_some(false)
 }
 
 /// Counts the shown leaves below a digest. These are the first ones.
@@ -120,10 +99,7 @@ fn ahead(count: u64, shown: &[Leaf]) -> u64
     requires leaves { AllByRecursion (λ s. s.place < count) shown.now }
     ensures { result ≡ lowest_place count shown.now }
 {
-    match shown {
-        [] => count,
-        [first, ..] => first.place,
-    }
+    shown.first().map_or(count, |first| first.place)
 }
 
 /// Finds the first of the digests of which the proof tells this, counted from 1.
@@ -207,8 +183,7 @@ pub fn verified(
     if let Some(fault) = refusal_of_facts(alloc, facts, proof, absent)? {
         return Err(fault);
     }
-    let lines = told(alloc, facts, absent)?;
-    Ok(lines)
+    Ok(told(alloc, facts, absent)?)
 }
 
 /// Returns why the proof is none under this seal, if it isn't one.

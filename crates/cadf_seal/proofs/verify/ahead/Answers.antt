@@ -3,5 +3,5 @@ use Rattle.std.proofs.Common.{arith}
 use Rattle.cadf_seal.proofs.Deciding.{ahead_first}
 use Rattle.cadf_seal.proofs.verify.ahead.Goals as goal
 
-pub returns-in-len1-up : goal.returns-in-len1-up
-returns-in-len1-up c = grind (arith, common_steps, ahead_first)
+pub returns : goal.returns
+returns c = grind (arith, common_steps, ahead_first)

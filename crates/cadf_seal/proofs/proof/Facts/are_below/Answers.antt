@@ -3,7 +3,7 @@ use Rattle.std.specs.Option.{option_copied}
 use Rattle.std.specs.Ordering.{is_lt}
 use Rattle.cadf_seal.specs.Shown.{is_below}
 use Rattle.cadf_seal.proofs.ShownLemmas.{none_left, some_left, no_fact, by_first}
-use Rattle.cadf_seal.proofs.shown_leaves.Facts.are_below.Goals as goal
+use Rattle.cadf_seal.proofs.proof.Facts.are_below.Goals as goal
 
 pub returns-in-None-default : goal.returns-in-None-default
 returns-in-None-default c = no_fact (option_copied c.args.leaf) _ (none_left c.args.self.now c.in-None-default.is-0)

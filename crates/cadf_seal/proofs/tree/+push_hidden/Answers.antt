@@ -3,7 +3,7 @@ use Rattle.std.proofs.Common.{◌∙◌, sym, arith, length-drop}
 use Rattle.cadf_join.proofs.Outcome.{on_ok_then}
 use Rattle.cadf_seal.proofs.HiddenLemmas.{both_hidden}
 use Rattle.cadf_seal.proofs.Trees.{half, halves}
-use Rattle.cadf_seal.proofs.hidden_subtrees.+push_hidden.Goals as goal
+use Rattle.cadf_seal.proofs.tree.+push_hidden.Goals as goal
 
 pub push_hidden-requires-3 : goal.push_hidden-requires-3
 push_hidden-requires-3 t c = grind (arith, common_steps, half, halves, length-drop)

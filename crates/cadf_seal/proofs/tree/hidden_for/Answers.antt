@@ -2,8 +2,8 @@ use Rattle.std.proofs.lemmas.Grind.{common_steps}
 use Rattle.std.proofs.Common.{arith}
 use Rattle.cadf_seal.proofs.HiddenLemmas.{hidden_all, none_hidden}
 use Rattle.cadf_seal.proofs.Sound.{places_rise}
-use Rattle.cadf_seal.proofs.hidden_subtrees.hidden_for.Goals as goal
-use Rattle.cadf_seal.proofs.hidden_subtrees.hidden_for.Goals.{then-count-gt0+in_ok-push_hidden, else-count-gt0}
+use Rattle.cadf_seal.proofs.tree.hidden_for.Goals as goal
+use Rattle.cadf_seal.proofs.tree.hidden_for.Goals.{then-count-gt0+in_ok-push_hidden, else-count-gt0}
 
 pub returns : goal.returns
 returns c = grind (arith, common_steps, hidden_all, else-count-gt0, none_hidden)

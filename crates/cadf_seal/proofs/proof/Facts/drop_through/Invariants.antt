@@ -1,6 +1,6 @@
 use Rattle.std.proofs.Common.{◌≡◌, length}
 use Rattle.cadf_seal.specs.Facts.{facts_left, AreAscending, facts_above}
-use Rattle.cadf_seal.proofs.shown_leaves.Facts.drop_through.Given as goal
+use Rattle.cadf_seal.proofs.proof.Facts.drop_through.Given as goal
 
 abbrev pub invariant-loop-self : goal.invariant-loop-self
 invariant-loop-self l = (facts_above l.leaf (facts_left l.self) ≡ facts_above l.leaf (facts_left l.fn.self)) × AreAscending (facts_left l.self)

@@ -1,4 +1,4 @@
-use Rattle.cadf_seal.proofs.rebuilt.+rebuilt.Given as goal
+use Rattle.cadf_seal.proofs.tree.+rebuilt.Given as goal
 
 abbrev pub decreases-rebuilt : goal.decreases-rebuilt
 decreases-rebuilt l = l.height

@@ -3,7 +3,7 @@ use Rattle.cadf_inventory.proofs.RisingLists.{rising_set}
 use Rattle.cadf_seal.specs.Facts.{facts_left, AreAscending}
 use Rattle.cadf_seal.specs.Shown.{first_leaf, needs, shown}
 use Rattle.cadf_seal.proofs.ShownLemmas.{shown_more, head_of, rest_of, tail_ascends, above_ascend, next_left}
-use Rattle.cadf_seal.proofs.shown_leaves.shown_for.Goals as goal
+use Rattle.cadf_seal.proofs.proof.shown_for.Goals as goal
 
 pub loop-leaf-init : goal.loop-leaf-init
 loop-leaf-init c =

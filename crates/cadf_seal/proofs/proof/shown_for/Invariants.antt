@@ -3,7 +3,7 @@ use Rattle.cadf_join.specs.Sets.{rising}
 use Rattle.cadf_seal.specs.Facts.{facts_left, AreAscending}
 use Rattle.cadf_seal.specs.ProofFile.{shown_for}
 use Rattle.cadf_seal.specs.Shown.{shown}
-use Rattle.cadf_seal.proofs.shown_leaves.shown_for.Given as goal
+use Rattle.cadf_seal.proofs.proof.shown_for.Given as goal
 
 -- the leaves so far and those that the facts left need of the leaves left are all
 abbrev pub invariant-loop-leaf : goal.invariant-loop-leaf

@@ -1,7 +1,7 @@
 use Rattle.std.proofs.lemmas.Grind.{common_steps}
 use Rattle.std.proofs.Common.{arith}
 use Rattle.cadf_seal.proofs.Trees.{half, halves}
-use Rattle.cadf_seal.proofs.rebuilt.+rebuilt.Goals as goal
+use Rattle.cadf_seal.proofs.tree.+rebuilt.Goals as goal
 
 pub rebuilt-requires-3 : goal.rebuilt-requires-3
 rebuilt-requires-3 t c = grind (arith, common_steps, half, halves)

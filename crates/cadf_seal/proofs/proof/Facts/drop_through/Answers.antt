@@ -1,7 +1,7 @@
 use Rattle.std.proofs.Common.{◌∙◌, sym, ap}
 use Rattle.std.specs.Ordering.{is_lt}
 use Rattle.cadf_seal.proofs.ShownLemmas.{some_left, kept_all, dropped_one, next_left}
-use Rattle.cadf_seal.proofs.shown_leaves.Facts.drop_through.Goals as goal
+use Rattle.cadf_seal.proofs.proof.Facts.drop_through.Goals as goal
 
 pub returns-then-is_lt : goal.returns-then-is_lt
 returns-then-is_lt c =

@@ -4,7 +4,7 @@ use Rattle.cadf_seal.specs.Shown.{rebuilt}
 use Rattle.cadf_seal.specs.Verified.{root_from, PlacesRise}
 use Rattle.cadf_seal.proofs.Sound.{places_rise}
 use Rattle.cadf_seal.proofs.Splitting.{alone_if, root_without, root_with}
-use Rattle.cadf_seal.proofs.rebuilt.root_of_proof.Goals as goal
+use Rattle.cadf_seal.proofs.tree.root_of_proof.Goals as goal
 
 pub returns-then-count-eq0 : goal.returns-then-count-eq0
 returns-then-count-eq0 c = grind (arith, common_steps, root_without)

@@ -3,7 +3,7 @@ use Rattle.std.specs.Prelude.{nat_le, nat_lt}
 use Rattle.std.proofs.lemmas.List.Sorted.{IsPartitionPoint-from_clause}
 use Rattle.cadf_seal.specs.Verified.{PlacesRise}
 use Rattle.cadf_seal.proofs.Splitting.{parted, not_before, yet_before, first_part, second_part, all_true, until_rises, from_rises}
-use Rattle.cadf_seal.proofs.leaf.shown_around.Goals as goal
+use Rattle.cadf_seal.proofs.tree.shown_around.Goals as goal
 
 pub returns : goal.returns
 returns c =
