@@ -105,18 +105,9 @@ pub(crate) fn flip(inventory: &mut Inventory, taken: &Inventory) -> Result<(), M
     Ok(())
 }
 
-/// Makes the replica's inventory from the digests of its atoms.
-fn inventory_of(alloc: Global, replica: &Replica, digests: &[[u8; 32]]) -> Result<Inventory, Memory>
-    requires atoms { digests.now ≡ map atom_digest (rising replica.now.atoms) }
-    requires each { AllByRecursion IsDigest digests.now }
-    ensures { IfOk result (λ own. own ≡ inventory_of replica.now) }
-{
-    let log = replica.log().copy(alloc)?;
-    Inventory::of(alloc, log, Vec::from_slice(alloc, digests)?)
-}
-
 /// Returns the least replica that has the atoms whose digest the sketched inventory lacks. Each atom is hashed once.
 /// Its errors are those of `read`.
+#[tactic(auto, using(cadf_line::proofs::SpelledLines::noted_rising))]
 pub fn missing_by_sketch(
     alloc: Global,
     replica: &Replica,
@@ -126,7 +117,8 @@ pub fn missing_by_sketch(
     ensures err { IfErr result (IsReadFault (inventory_of replica.now) sketch.now) }
 {
     let digests = replica.digests()?;
-    let own = inventory_of(alloc, replica, digests.as_slice())?;
+    let log = replica.log().copy(alloc)?;
+    let own = Inventory::of(alloc, log, Vec::from_slice(alloc, digests.as_slice())?)?;
     let theirs = read(alloc, own, sketch)?;
     theirs.type_invariant();
     match replica.missing_by_digests(digests.as_slice(), &theirs) {
