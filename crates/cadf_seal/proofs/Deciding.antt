@@ -1,21 +1,22 @@
 -- What shown leaves say of a digest, by the number of those that are below it.
 use Rattle.std.proofs.lemmas.Grind.{common_steps}
 use Rattle.std.proofs.Common.{◌≡◌, ◌∙◌, ◌<◌, ◌≤◌, ◌-◌, ℕ, zero, suc, Bool, true, false, List, [], ◌∷◌, Some, None, length, take, drop, refl, ap, sym, subst, arith, true≢false}
-use Rattle.std.specs.Prelude.{◌||◌, nat_eq, slice_index_or, if◌then◌else◌}
-use Rattle.std.specs.List.{AllByRecursion}
-use Rattle.std.specs.List.Sorted.{IsPartitionPoint, IsPartitionedBy}
-use Rattle.std.specs.Ordering.{is_lt, is_eq}
+use Rattle.std.specs.Prelude.{◌||◌, nat_eq, nat_lt, slice_index_or, if◌then◌else◌}
+use Rattle.std.specs.List.{AllByRecursion, HoldsAt}
+use Rattle.std.specs.List.Sorted.{IsNonDecreasingBy, IsPartitionPoint}
+use Rattle.std.specs.Ordering.{is_lt, is_eq, ordering_index}
 use Rattle.std.specs.Cmp.{tied_itself}
-use Rattle.std.proofs.lemmas.Bool.{false_from_ne_true}
+use Rattle.std.proofs.lemmas.Bool.{ltb-true, ltb-false}
 use Rattle.std.specs.declared.cmp.Ordering.{Ordering}
+use Rattle.std.specs.declared.cmp.Ordering.TheVariants.{Less, Equal, Greater}
 use Rattle.cadf_join.specs.Contents.{Text, text_cmp}
 use Rattle.cadf_join.specs.laws.Contents.{text_total, text_same}
 use Rattle.cadf_seal.specs.ProofFile.{AreRising}
 use Rattle.cadf_seal.specs.Verified.{PlacesRise, leaves_below, leaves_above, past_last, lowest_place, is_shown, state}
 use Rattle.cadf_seal.specs.declared.tree.Leaf.{Leaf}
 use Rattle.cadf_seal.proofs.Rebuilding.{all_map}
-use Rattle.cadf_seal.proofs.Honest.{IsLess, less_trans, not_greater, not_less_itself, is_greater, is_equal}
-use Rattle.cadf_seal.proofs.Splitting.{later_point, first_part, second_part}
+use Rattle.cadf_seal.proofs.Honest.{IsLess, is_less, less_trans, not_greater, is_greater, or_true}
+use Rattle.cadf_seal.proofs.Splitting.{first_part, second_part}
 
 -- digests rise
 abbrev DigestsRise : List Leaf → Type 0
@@ -32,22 +33,52 @@ some_above : (x : Text) (ss : List Leaf) (k : ℕ) (d : Leaf) → k < length ss 
 some_above x ss k d low h = grind (arith, common_steps)
 
 module _ (f : Text) where
-  parted_from : (ss : List Leaf) (i j : ℕ) (d : Leaf) → DigestsRise ss → i ≤ j → j < length ss → IsLess (slice_index_or ss j d).digest f
-      → IsLess (slice_index_or ss i d).digest f
-  parted_from (s ∷ ss) zero zero d rises low high h = h
-  parted_from (s ∷ ss) zero (suc j) d rises low high h =
-      less_trans s.digest (slice_index_or ss j d).digest f (some_above s.digest ss j d (omega (arith, high)) rises.0) h
-  parted_from (s ∷ ss) (suc i) (suc j) d rises low high h = parted_from ss i j d rises.1 (omega (arith, low)) (omega (arith, high)) h
-  parted_from _ _ _ d rises low high h = absurd (omega (arith, low, high))
+  abbrev order : Leaf → Ordering
+  order s = text_cmp s.digest f
 
-  pub digests_parted : (ss : List Leaf) → AreRising ss → IsPartitionedBy (λ s. is_lt (text_cmp s.digest f)) ss
-  digests_parted ss rises i j d low high h = parted_from ss i j d (digests_rise ss rises) low high h
+  index_rises : (x y : Text) → IsLess x y → ordering_index (text_cmp x f) ≤ ordering_index (text_cmp y f)
+  index_rises x y less = by (text_cmp y f) refl
+    where
+      at_most : (o : Ordering) → ordering_index o ≤ 2
+      at_most o = grind (arith, common_steps)
 
+      first : text_cmp x f ≡ Less → (n : ℕ) → ordering_index (text_cmp x f) ≤ n
+      first e n = omega (arith, ap ordering_index e)
+
+      by : (o : Ordering) → text_cmp y f ≡ o → ordering_index (text_cmp x f) ≤ ordering_index o
+      by Less e = first (text_total.trans x y f (is_less _ less) e) 0
+      by Equal e = first (is_less _ (subst (IsLess x) (text_same y f e) less)) 1
+      by Greater e = at_most (text_cmp x f)
+
+  index_from : (ss : List Leaf) (i j : ℕ) (d : Leaf) → DigestsRise ss → i ≤ j → j < length ss
+      → ordering_index (order (slice_index_or ss i d)) ≤ ordering_index (order (slice_index_or ss j d))
+  index_from (s ∷ ss) zero zero d rises low high = omega arith
+  index_from (s ∷ ss) zero (suc j) d rises low high =
+      index_rises s.digest (slice_index_or ss j d).digest (some_above s.digest ss j d (omega (arith, high)) rises.0)
+  index_from (s ∷ ss) (suc i) (suc j) d rises low high = index_from ss i j d rises.1 (omega (arith, low)) (omega (arith, high))
+  index_from _ _ _ d rises low high = absurd (omega (arith, low, high))
+
+  pub order_rises : (ss : List Leaf) → AreRising ss → IsNonDecreasingBy (λ s. ordering_index (order s)) ss
+  order_rises ss rises i j d low high = index_from ss i j d (digests_rise ss rises) low high
+
+  -- the leaves before the place are below the digest, and the others above it
   abbrev IsSplit : List Leaf → ℕ → Type 0
-  IsSplit ss i = IsPartitionPoint (λ s. is_lt (text_cmp s.digest f) ≡ true) (λ s. is_lt (text_cmp s.digest f) ≡ false) ss i
+  IsSplit ss i = IsPartitionPoint (λ s. order s ≡ Less) (λ s. order s ≡ Greater) ss i
 
-  pub below_part : (ss : List Leaf) (i : ℕ) → i ≤ length ss → IsSplit ss i → take i ss ≡ leaves_below f ss
-  below_part ss i low h = first_part (λ s. is_lt (text_cmp s.digest f)) (λ s. is_lt (text_cmp f s.digest)) ss i low h
+  parts : (ss : List Leaf) (i : ℕ) → IsSplit ss i
+      → IsPartitionPoint (λ s. is_lt (order s) ≡ true) (λ s. is_lt (order s) ≡ false) ss i
+  parts ss i h = ((λ k d low high. ap is_lt (h.0 k d low high)), (λ k d low high. ap is_lt (h.1 k d low high)))
+
+  none_shown : (ss : List Leaf) → ((k : ℕ) (d : Leaf) → k < length ss → is_eq (order (slice_index_or ss k d)) ≡ false) → is_shown ss f ≡ false
+  none_shown [] h = refl
+  none_shown (s ∷ ss) h = ap (λ b. b || is_shown ss f) (h 0 s (omega arith)) ∙ none_shown ss (λ k d low. h (suc k) d (omega (arith, low)))
+
+  split_unshown : (ss : List Leaf) (i : ℕ) → IsSplit ss i → is_shown ss f ≡ false
+  split_unshown ss i h = none_shown ss (λ k d high. by k d high (nat_lt k i) refl)
+    where
+      by : (k : ℕ) (d : Leaf) → k < length ss → (b : Bool) → nat_lt k i ≡ b → is_eq (order (slice_index_or ss k d)) ≡ false
+      by k d high true e = ap is_eq (h.0 k d (omega arith) (ltb-true k i e))
+      by k d high false e = ap is_eq (h.1 k d (ltb-false k i e) high)
 
   either : (a b : Bool) → (a || b) ≡ false → (a ≡ false) × (b ≡ false)
   either a b e = grind (arith, common_steps)
@@ -56,61 +87,34 @@ module _ (f : Text) where
   equal_itself x e = subst (λ y. is_eq (text_cmp x y) ≡ true) e (ap is_eq (tied_itself text_total x))
 
   -- no shown leaf is the digest
-  others : (ss : List Leaf) → is_shown ss f ≡ false → AllByRecursion (λ s. is_lt (text_cmp s.digest f) ≡ false → is_lt (text_cmp f s.digest) ≡ true) ss
+  others : (ss : List Leaf) → is_shown ss f ≡ false → AllByRecursion (λ s. is_lt (order s) ≡ false → is_lt (text_cmp f s.digest) ≡ true) ss
   others [] none = tt
   others (s ∷ ss) none =
-      let both = either (is_eq (text_cmp s.digest f)) (is_shown ss f) none in (
+      let both = either (is_eq (order s)) (is_shown ss f) none in (
         (λ h. is_greater s.digest f h (λ e. true≢false (sym (equal_itself s.digest e) ∙ both.0))),
         others ss both.1,
       )
 
-  pub above_part : (ss : List Leaf) (i : ℕ) → is_shown ss f ≡ false → i ≤ length ss → IsSplit ss i → drop i ss ≡ leaves_above f ss
-  above_part ss i none low h =
-      second_part (λ s. is_lt (text_cmp s.digest f)) (λ s. is_lt (text_cmp f s.digest)) ss i
-      (λ s less. not_greater s.digest f less) (others ss none) low h
+  pub shown_at : (ss : List Leaf) (k : ℕ) → k < length ss → HoldsAt (λ s. order s ≡ Equal) ss k → is_shown ss f ≡ true
+  shown_at (s ∷ ss) zero high h = ap (λ o. is_eq o || is_shown ss f) (h s)
+  shown_at (s ∷ ss) (suc k) high h = ap (λ b. is_eq (order s) || b) (shown_at ss k (omega (arith, high)) h) ∙ or_true (is_eq (order s))
+  shown_at _ _ high h = absurd (omega (arith, high))
 
-  -- whether the first leaf that isn't below is the digest
-  unlike_less : (o : Ordering) → is_lt o ≡ true → is_eq o ≡ false
-  unlike_less o e = grind (arith, common_steps)
-
-  not_equal : (x : Text) → IsLess f x → is_eq (text_cmp x f) ≡ false
-  not_equal x less = false_from_ne_true _ (λ is. not_less_itself f (subst (IsLess f) (text_same x f (is_equal _ is)) less))
-
-  none_shown : (ss : List Leaf) → AllByRecursion (λ t. IsLess f t.digest) ss → is_shown ss f ≡ false
-  none_shown [] h = refl
-  none_shown (s ∷ ss) h = ap (λ b. b || is_shown ss f) (not_equal s.digest h.0) ∙ none_shown ss h.1
-
-  only_first : (s : Leaf) (ss : List Leaf) → DigestsRise (s ∷ ss) → is_lt (text_cmp s.digest f) ≡ false → is_shown (s ∷ []) f ≡ is_shown (s ∷ ss) f
-  only_first s ss rises low = by (is_eq (text_cmp s.digest f)) refl
-    where
-      by : (b : Bool) → is_eq (text_cmp s.digest f) ≡ b → (b || false) ≡ (b || is_shown ss f)
-      by true is = refl
-      by false is =
-          let less = is_greater s.digest f low (λ e. true≢false (sym (equal_itself s.digest e) ∙ is)) in
-          sym (none_shown ss (all_map ss (λ t k. less_trans f s.digest t.digest less k) rises.0))
-
-  first_shown : (ss : List Leaf) (i : ℕ) → DigestsRise ss → i ≤ length ss → IsSplit ss i → is_shown (take 1 (drop i ss)) f ≡ is_shown ss f
-  first_shown [] zero rises low h = refl
-  first_shown [] (suc i) rises low h = refl
-  first_shown (s ∷ ss) zero rises low h = only_first s ss rises (h.1 0 s (omega arith) (omega arith))
-  first_shown (s ∷ ss) (suc i) rises low h =
-      first_shown ss i rises.1 (omega (arith, low))
-      (later_point (λ t. is_lt (text_cmp t.digest f)) (λ t. is_lt (text_cmp f t.digest)) s ss i h)
-      ∙ ap (λ b. b || is_shown ss f) (sym (unlike_less (text_cmp s.digest f) (h.0 0 s (omega arith) (omega arith))))
-
-  pub state_shown : (n : ℕ) (ss : List Leaf) (i : ℕ) → AreRising ss → i ≤ length ss → IsSplit ss i → is_shown (take 1 (drop i ss)) f ≡ true
-      → Some true ≡ state n ss f
+  pub state_shown : (n : ℕ) (ss : List Leaf) (k : ℕ) → k < length ss → HoldsAt (λ s. order s ≡ Equal) ss k → Some true ≡ state n ss f
   unfolding state
-  state_shown n ss i rises low h is =
+  state_shown n ss k high h =
       sym (ap (λ c. if c then Some true else if nat_eq (past_last (leaves_below f ss)) (lowest_place n (leaves_above f ss)) then Some false else None)
-      (sym (first_shown ss i (digests_rise ss rises) low h) ∙ is))
+      (shown_at ss k high h))
 
-  pub state_between : (n : ℕ) (ss : List Leaf) (i : ℕ) → AreRising ss → i ≤ length ss → IsSplit ss i → is_shown (take 1 (drop i ss)) f ≡ false
+  pub state_between : (n : ℕ) (ss : List Leaf) (i : ℕ) → i ≤ length ss → IsSplit ss i
       → (if nat_eq (past_last (take i ss)) (lowest_place n (drop i ss)) then Some false else None) ≡ state n ss f
   unfolding state
-  state_between n ss i rises low h is =
-      let none : is_shown ss f ≡ false = sym (first_shown ss i (digests_rise ss rises) low h) ∙ is in
-      (λ j. if nat_eq (past_last (below_part ss i low h j)) (lowest_place n (above_part ss i none low h j)) then Some false else None)
+  state_between n ss i low h =
+      let none = split_unshown ss i h in
+      let below = first_part (λ s. is_lt (order s)) (λ s. is_lt (text_cmp f s.digest)) ss i low (parts ss i h) in
+      let above = second_part (λ s. is_lt (order s)) (λ s. is_lt (text_cmp f s.digest)) ss i (λ s less. not_greater s.digest f less) (others ss none) low
+      (parts ss i h) in
+      (λ j. if nat_eq (past_last (below j)) (lowest_place n (above j)) then Some false else None)
       ∙ sym (ap (λ c. if c then Some true else if nat_eq (past_last (leaves_below f ss)) (lowest_place n (leaves_above f ss)) then Some false else None) none)
 
 -- ---- the last of some leaves, and the first

@@ -69,7 +69,7 @@ below_head d ds h = grind (arith, common_steps)
 
 -- ---- facts that need a leaf
 
-or_true : (b : Bool) → (b || true) ≡ true
+pub or_true : (b : Bool) → (b || true) ≡ true
 or_true b = grind (arith, common_steps)
 
 pub needs_listed : (before past_last : Option Text) (fs : List Text) (f : Text) → Listed f fs → is_above before f ≡ true → is_below past_last f ≡ true

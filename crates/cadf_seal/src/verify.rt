@@ -55,29 +55,11 @@ fn state(count: u64, shown: &[Leaf], digest: &[u8; 32]) -> Option<bool>
     requires leaves { AllByRecursion (IsLeafOf count) shown.now }
     ensures { result ≡ state count shown.now digest.now }
 {
-    let split = count_below(digest, shown);
-    if is_first(&shown[split..], digest) {
-        return Some(true);
-    }
-    (behind(count, &shown[..split]) == ahead(count, &shown[split..])).then_some(false)
-}
-
-/// Counts the shown leaves below a digest. These are the first ones.
-fn count_below(digest: &[u8; 32], shown: &[Leaf]) -> usize
-    requires { AreRising shown.now }
-    ensures bound { result ≤ length shown.now }
-    ensures split { IsPartitionPoint (λ s. is_lt (text_cmp s.digest digest.now) ≡ true) (λ s. is_lt (text_cmp s.digest digest.now) ≡ false) shown.now result }
-{
-    shown.partition_point(|leaf| leaf.digest.cmp(digest).is_lt())
-}
-
-/// Returns whether the first of these leaves is the digest.
-fn is_first(shown: &[Leaf], digest: &[u8; 32]) -> bool
-    ensures { result ≡ is_shown (take 1 shown.now) digest.now }
-{
-    match shown {
-        [] => false,
-        [first, ..] => first.digest.cmp(digest).is_eq(),
+    match shown.binary_search_by(|leaf| leaf.digest.cmp(digest)) {
+        Ok(_) => Some(true),
+        Err(split) => {
+            (behind(count, &shown[..split]) == ahead(count, &shown[split..])).then_some(false)
+        }
     }
 }
 

@@ -1,17 +1,22 @@
 use Rattle.std.proofs.lemmas.Grind.{common_steps}
-use Rattle.std.proofs.Common.{◌∙◌, take, ap, sym, arith}
-use Rattle.cadf_seal.specs.Verified.{is_shown}
+use Rattle.std.proofs.Common.{◌≡◌, ◌∙◌, ap, drop, rules, arith}
+use Rattle.std.proofs.lemmas.Fn.{always_returns_same}
+use Rattle.cadf_join.specs.Contents.{text_cmp}
+use Rattle.cadf_seal.specs.Verified.{lowest_place}
 use Rattle.cadf_seal.proofs.Rebuilding.{all_map}
 use Rattle.cadf_seal.proofs.Sound.{places_rise}
 use Rattle.cadf_seal.proofs.Splitting.{last_part}
-use Rattle.cadf_seal.proofs.Deciding.{state_shown, state_between, all_take, all_drop, rise_take, rise_drop}
+use Rattle.cadf_seal.proofs.Deciding.{order_rises, state_shown, state_between, all_take, all_drop, rise_take, rise_drop}
 use Rattle.cadf_seal.proofs.verify.state.Goals as goal
 
-pub returns-then-is_first : goal.returns-then-is_first
-returns-then-is_first c = grind (arith, common_steps, last_part, state_shown)
+pub returns-in-Ok : goal.returns-in-Ok
+returns-in-Ok c =
+    let ss = c.args.shown.now in
+    state_shown c.args.digest.now c.args.count ss _ c.in-Ok.ensures.bound
+    (c.in-Ok.ensures.position (λ s. text_cmp s.digest c.args.digest.now) (always_returns_same _ _ _ (λ a r q k. search rules)))
 
 pub behind-requires-clause-rising : goal.behind-requires-clause-rising
-behind-requires-clause-rising c = rise_take c.count_below-split.result c.args.shown.now (places_rise c.args.shown.now c.requires.rising)
+behind-requires-clause-rising c = rise_take c.in-Err.split c.args.shown.now (places_rise c.args.shown.now c.requires.rising)
 
 pub behind-requires-clause-leaves : goal.behind-requires-clause-leaves
 behind-requires-clause-leaves c = grind (arith, common_steps, all_take, all_map)
@@ -22,12 +27,13 @@ ahead-requires-clause-rising c = grind (arith, common_steps, last_part, rise_dro
 pub ahead-requires-clause-leaves : goal.ahead-requires-clause-leaves
 ahead-requires-clause-leaves c = grind (arith, common_steps, last_part, all_drop, all_map)
 
-pub returns : goal.returns
-returns c =
-    let i = c.count_below-split.result in
+pub returns-in-Err : goal.returns-in-Err
+returns-in-Err c =
+    let i = c.in-Err.split in
     let ss = c.args.shown.now in
     let n = c.args.count in
-    let rest = last_part i ss in
-    let between = state_between c.args.digest.now n ss i c.requires.rising c.count_below-split.ensures.bound c.count_below-split.ensures.split
-    (ap (λ l. is_shown (take 1 l) c.args.digest.now) (sym rest) ∙ sym c.is_first.ensures ∙ c.if-is_first.false) in
+    let between = state_between c.args.digest.now n ss i c.in-Err.ensures.bound
+    (c.in-Err.ensures.position (λ s. text_cmp s.digest c.args.digest.now) (always_returns_same _ _ _ (λ a r q k. search rules))
+    (order_rises c.args.digest.now ss c.requires.rising)) in
+    let high : c.ahead.result ≡ lowest_place n (drop i ss) = c.ahead.ensures ∙ ap (lowest_place n) (last_part i ss) in
     grind (arith, common_steps)
