@@ -45,7 +45,10 @@ pub(crate) fn subtree(leaves: &mut Iter<'_, [u8; 32]>, height: u32, count: usize
     ensures rest { leaves.new ≡ drop count leaves.old }
 {
     if height == 0 {
-        return next_leaf(leaves);
+        let Some(leaf) = leaves.next() else {
+            unreachable!();
+        };
+        return hash_of_leaf(leaf);
     }
     let half = 1usize << (height - 1);
     if count <= half {
@@ -54,18 +57,6 @@ pub(crate) fn subtree(leaves: &mut Iter<'_, [u8; 32]>, height: u32, count: usize
     let left = subtree(leaves, height - 1, half);
     let right = subtree(leaves, height - 1, count - half);
     hash_of_node(&left, &right)
-}
-
-/// Hashes the next leaf.
-fn next_leaf(leaves: &mut Iter<'_, [u8; 32]>) -> [u8; 32]
-    requires { 0 < length leaves.old }
-    ensures hash { result ≡ tree 0 (take 1 leaves.old) }
-    ensures rest { leaves.new ≡ drop 1 leaves.old }
-{
-    match leaves.next() {
-        Some(leaf) => hash_of_leaf(leaf),
-        None => unreachable!(),
-    }
 }
 
 /// Hashes a leaf.

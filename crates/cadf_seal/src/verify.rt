@@ -199,16 +199,11 @@ fn refusal_of_facts(
     if let Some(line) = first_unneeded(proof.shown(), &inventory) {
         return Ok(Some(VerifyFault::NotNeeded(line)));
     }
-    Ok(not_as_asked(absent, other))
-}
-
-/// Returns that the fact of this number, if there is one, isn't as asked.
-fn not_as_asked(absent: bool, number: Option<u64>) -> Option<VerifyFault>
-    ensures { result ≡ option_map (not_as_asked absent) number }
-{
-    match number {
-        Some(number) if absent => Some(VerifyFault::Present(number)),
-        Some(number) => Some(VerifyFault::Absent(number)),
-        None => None,
-    }
+    Ok(other.map(|number| {
+        if absent {
+            VerifyFault::Present(number)
+        } else {
+            VerifyFault::Absent(number)
+        }
+    }))
 }
