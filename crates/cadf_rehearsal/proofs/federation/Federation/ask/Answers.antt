@@ -1,5 +1,5 @@
 use Rattle.std.proofs.lemmas.Grind.{common_steps}
-use Rattle.std.proofs.Common.{◌<◌, length, Ok, ap, sym, ◌∙◌, arith}
+use Rattle.std.proofs.Common.{Ok, ap, sym, ◌∙◌, arith}
 use Rattle.cadf_join.specs.Sets as set
 use Rattle.cadf_line.specs.Missing.{digests_of}
 use Rattle.cadf_line.specs.Digest.{atom_digest}
@@ -12,9 +12,8 @@ use Rattle.cadf_rehearsal.proofs.federation.Federation.ask.Goals as goal
 pub returns-clause-ok : goal.returns-clause-ok
 returns-clause-ok c log one =
     let f = c.args.self.now in
-    let there : c.args.site < length f.sites.items = omega arith in
-    let own = at_or_read _ set.empty f.sites.items c.args.site c.index.result.now there c.index.ensures in
-    at_site f c.args.site c.args.number _ _ there (ap Ok (
+    let own = at_or_read _ set.empty f.sites.items c.args.site c.index.result.now (omega arith) c.index.ensures in
+    at_site f c.args.site c.args.number _ _ (omega arith) (ap Ok (
     ap (λ s. schedule.makes (world_of f) (schedule.Inventory c.args.site (digests_of atom_digest s))) own
     ∙ ap (λ d. schedule.makes (world_of f) (schedule.Inventory c.args.site d)) (sym (ap (λ i. i.digests) c.in_ok-held.ensures))
     ∙ seen_posted _ _ _ f.sites.items _ f.messages.items _ _ (ap (λ v. v.items) c.post.ensures.rest) c.in_ok-post.ensures.ok))

@@ -1,5 +1,5 @@
 use Rattle.std.proofs.lemmas.Grind.{common_steps}
-use Rattle.std.proofs.Common.{◌<◌, length, Ok, Err, ap, subst, ◌∙◌, cond, arith}
+use Rattle.std.proofs.Common.{Ok, Err, ap, subst, ◌∙◌, cond, arith}
 use Rattle.cadf_rehearsal.specs.Schedule as schedule
 use Rattle.cadf_rehearsal.specs.Federation.{world_of}
 use Rattle.cadf_rehearsal.specs.declared.fault.RehearseFault.TheVariants as fault
@@ -11,14 +11,13 @@ use Rattle.cadf_rehearsal.proofs.federation.Federation.learn.Goals as goal
 pub returns-in-Ok-clause-ok : goal.returns-in-Ok-clause-ok
 returns-in-Ok-clause-ok c log one =
     let f = c.args.self.now in
-    let there : c.args.site < length f.sites.items = omega arith in
     let site = c.index_mut.result.now in
-    let same = site_log log f c.args.site site one there c.index_mut.ensures.value in
+    let same = site_log log f c.args.site site one (omega arith) c.index_mut.ensures.value in
     let named = subst (λ x. IsOfLog x c.args.document.now.log) same c.in-Ok.ensures.ok.0 in
-    at_site f c.args.site c.args.number _ _ there
+    at_site f c.args.site c.args.number _ _ (omega arith)
     (ap (λ t. cond t (Ok (schedule.adds (world_of f) c.args.site (document_atoms c.args.document.now))) (Err (fault.OtherLog c.args.number)))
     (of_log log c.args.document.now.log named)
-    ∙ ap Ok (site_takes f c.args.site site c.take_document.new.self _ there c.index_mut.ensures.value c.in-Ok.ensures.ok.1))
+    ∙ ap Ok (site_takes f c.args.site site c.take_document.new.self _ (omega arith) c.index_mut.ensures.value c.in-Ok.ensures.ok.1))
 
 pub returns-in-Ok-clause-later : goal.returns-in-Ok-clause-later
 returns-in-Ok-clause-later c = grind (arith, common_steps, site_later, site_log)
