@@ -226,17 +226,3 @@ module _ (t first rest second last : List ℕ) (a : first ≡ first_word t) (b :
   pub head_read : (l : LayoutModel) (x : Text) → Some l ≡ laid_out (number_in first) (number_in second) → Some x ≡ digest_of last
       → Some (record { layout = l; digest = x }) ≡ head_in_words t
   head_read l x e f = (λ i. headed (e i) (f i)) ∙ words
-
-module _ {V : Type 0} (items : V → List ℕ) (t : List ℕ) (o : Option V) (all : option_map items o ≡ numbers_in 64 t) where
-  pub tally_missing : o ≡ None → None ≡ counts_in_words t
-  unfolding counts_in_words
-  tally_missing e = ap tally_in_numbers (sym (ap (option_map items) e) ∙ all)
-
-  pub tally_read : (v : V) (tally : Tally) → o ≡ Some v → items v ≡ tally.digests ∷ tally.ones → Some tally ≡ counts_in_words t
-  unfolding counts_in_words
-  tally_read v tally e f = ap tally_in_numbers (ap Some (sym f) ∙ sym (ap (option_map items) e) ∙ all)
-
-  pub counts_size : (v : V) → o ≡ Some v → length (items v) ≡ 65
-  counts_size v e =
-      let n = numbers-only 64 t (items v) (sym all ∙ ap (option_map items) e) in
-      ap length n.all ∙ ap suc n.size

@@ -1,7 +1,7 @@
 -- Numbers and the words that spell them.
 use Rattle.std.proofs.lemmas.Grind.{common_steps}
 use Rattle.std.proofs.Common.{◌≡◌, ℕ, zero, suc, ◌+◌, ◌<◌, List, [], ◌∷◌, ◌++◌, Bool, true, false, cond, length, take, drop, get_or, ◌≤◌, ◌⊎◌, inl}
-use Rattle.std.proofs.Common.{inr, Option, Some, None, Result, Ok, Err, refl, sym, ap, ◌∙◌, subst, arith, append-nil, length-drop, ◌-◌, rules}
+use Rattle.std.proofs.Common.{inr, Option, Some, None, Result, Ok, Err, refl, sym, ap, ◌∙◌, subst, arith, append-nil, length-drop, ◌-◌, slice_set, length-set}
 use Rattle.std.specs.Prelude.{◌==◌, ◌&&◌, ◌||◌, ◌^◌, not, decimal, nat_lt, flat_map, option_map, IsUtf8}
 use Rattle.std.specs.Int.{IsInRange}
 use Rattle.std.specs.List.{position_or_len, list_any}
@@ -18,11 +18,11 @@ use Rattle.std.proofs.lemmas.Bool.Decides.{nat_tests}
 use Rattle.std.proofs.lemmas.List.Sums.{split_at_first, passes_at_first, position_or_len_is}
 use Rattle.std.proofs.Math.ListN.{drop_of_length-le}
 use Rattle.std.proofs.Math.Seq.{take-append_seam, drop-append-add}
-use Rattle.std.proofs.lemmas.List.{take_all}
+use Rattle.std.proofs.lemmas.List.{take_all, take_more_set}
 use Rattle.memchr.specs.Find.{IsFirstByte, is_byte}
 use Rattle.cadf_join.specs.laws.Sets.{false_from}
 use Rattle.cadf_sketch.specs.SketchFile.{spelled, AreWords64}
-use Rattle.cadf_sketch.specs.SketchVerdict.{number_in, first_word, words_after, put_before, numbers_in}
+use Rattle.cadf_sketch.specs.SketchVerdict.{number_in, first_word, words_after, put_before, numbers_in, counts_in_words, tally_in_numbers}
 
 pub own : IsNumeralModel (AllDigits 10) (digits_value 10)
 own = numerals_by_value _ tells_digits
@@ -220,16 +220,35 @@ put_all xs o = option_map (λ ns. xs ++ ns) o
 more_put : (xs : List ℕ) (n : ℕ) (o : Option (List ℕ)) → put_all xs (put_before (Some n) o) ≡ put_all (xs ++ n ∷ []) o
 more_put xs n o = grind (arith, common_steps)
 
-module _ (xs : List ℕ) (count len : ℕ) (rest word after : List ℕ) (more : len < count) (word_is : word ≡ first_word rest) (after_is : after ≡ words_after rest) where
-  left : count - len ≡ suc (count - suc (len))
-  left = omega (arith, more)
+-- what is read so far, and the numbers that are left, are the counts of the text
+abbrev pub AreCounts : List ℕ → ℕ → List ℕ → List ℕ → Type 0
+AreCounts xs left rest text = tally_in_numbers (put_all xs (numbers_in left rest)) ≡ counts_in_words text
 
-  pub number_put : (n : ℕ) → Some n ≡ number_in word
-      → put_all xs (numbers_in (count - len) rest) ≡ put_all (xs ++ n ∷ []) (numbers_in (count - suc (len)) after)
-  number_put n read =
-      ap (λ k. put_all xs (numbers_in k rest)) left
-      ∙ (λ i. put_all xs (put_before ((ap number_in (sym word_is) ∙ sym read) i) (numbers_in (count - suc (len)) (sym after_is i))))
-      ∙ more_put xs n (numbers_in (count - suc (len)) after)
+put_none : (o : Option (List ℕ)) → put_all [] o ≡ o
+put_none o = grind (arith, common_steps)
 
-pub blank_missing : (xs : List ℕ) (count len : ℕ) (rest : List ℕ) → len < count → words_after rest ≡ [] → put_all xs (numbers_in (count - len) rest) ≡ None
-blank_missing xs count len rest more none = search (rules, numbers_uncut)
+pub counts_begin : (text : List ℕ) → AreCounts [] 64 text text
+unfolding counts_in_words
+counts_begin text = ap tally_in_numbers (put_none (numbers_in 64 text))
+
+module _ (xs : List ℕ) (left : ℕ) (rest text : List ℕ) (so_far : AreCounts xs (suc left) rest text) where
+  pub count_uncut : words_after rest ≡ [] → None ≡ counts_in_words text
+  count_uncut none = ap (λ o. tally_in_numbers (put_all xs o)) (sym (numbers_uncut left rest none)) ∙ so_far
+
+  module _ (word after : List ℕ) (word_is : word ≡ first_word rest) (after_is : after ≡ words_after rest) where
+    pub count_read : (n : ℕ) → Some n ≡ number_in word → AreCounts (xs ++ n ∷ []) left after text
+    count_read n read =
+        ap tally_in_numbers (sym (more_put xs n (numbers_in left after))
+        ∙ (λ i. put_all xs (put_before ((read ∙ ap number_in word_is) i) (numbers_in left (after_is i))))) ∙ so_far
+
+    pub count_missing : None ≡ number_in word → None ≡ counts_in_words text
+    count_missing none =
+        ap (λ o. tally_in_numbers (put_all xs (put_before o (numbers_in left (words_after rest))))) (none ∙ ap number_in word_is) ∙ so_far
+
+pub last_count : (xs rest text : List ℕ) (o : Option ℕ) → AreCounts xs 0 rest text → o ≡ number_in rest
+    → tally_in_numbers (put_all xs (put_before o (Some []))) ≡ counts_in_words text
+last_count xs rest text o so_far read = ap (λ p. tally_in_numbers (put_all xs (put_before p (Some [])))) read ∙ so_far
+
+pub last_set : (xs : List ℕ) (n : ℕ) → length xs ≡ 64 → slice_set xs 63 n ≡ take 63 xs ++ n ∷ []
+last_set xs n size =
+    sym (take_all 64 (slice_set xs 63 n) (omega (arith, size, length-set xs 63 n))) ∙ take_more_set xs 63 n (omega (arith, size))

@@ -95,7 +95,7 @@ fn flip_one(inventory: &mut Inventory, digest: &[u8; 32]) -> Result<(), Memory>
 }
 
 /// Removes those of the digests that the inventory has, and adds the others.
-pub(crate) fn flip(inventory: &mut Inventory, taken: &Inventory) -> Result<(), Memory>
+fn flip(inventory: &mut Inventory, taken: &Inventory) -> Result<(), Memory>
     ensures log { inventory.new.log ≡ inventory.old.log }
     ensures ok { OnOk result (inventory.new.digests ≡ apart inventory.old.digests taken.now.digests) }
 {

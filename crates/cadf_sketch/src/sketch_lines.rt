@@ -2,12 +2,12 @@
 ghost use Rattle.std.specs.Prelude.{◌≡◌, ◌≤◌, ◌*◌, IfErr, OnOk, length, refl, ◌∷◌, IfOk, ◌++◌, decimal, flat_map};
 ghost use Rattle.cadf_linefile.specs.Answers.{CauseIs};
 ghost use Rattle.cadf_sketch.specs.SketchFile.{cell_lines, IsSketch, head_of, head_line, counts_line, cell_line};
-ghost use Rattle.cadf_sketch.specs.SketchVerdict.{sketch_kind, cause_of_cell, head_in, laid_out, number_in, tally_in, cell_in, cell_of_bytes};
+ghost use Rattle.cadf_sketch.specs.SketchVerdict.{sketch_kind, cause_of_cell, head_in, laid_out, number_in, tally_in, cell_in, cell_of_bytes, counts_in_words};
 ghost use Rattle.cadf_sketch.specs.SketchLines.{told_lines, AreTold, IsCellPut};
 
 use crate::cell::Cell;
 use crate::layout::{Cells, Head, Layout, Salt};
-use crate::numbers::{cut_at_blank, number_in, numbers_in};
+use crate::numbers::{cut_at_blank, number_in};
 use crate::sketch::Sketch;
 use crate::tally::Tally;
 use cadf_event::Name;
@@ -74,7 +74,7 @@ impl ModelFile for Sketch {
             }
             Told::Beginning(head) => {
                 let head = *head;
-                let tally = tally_in(alloc, line)?.ok_or(LineFault::Here(Cause::Shape))?;
+                let tally = tally_in(line).ok_or(LineFault::Here(Cause::Shape))?;
                 *told = Told::Cells(head, tally, Vec::new(alloc));
                 Ok(())
             }
@@ -132,7 +132,7 @@ fn layout_in(cells: &[u8], salt: &[u8]) -> Option<Layout>
 }
 
 /// Decodes the line with the number of cells, the salt and the digest. `None` if it is no such line.
-pub(crate) fn head_in(line: &[u8]) -> Option<Head>
+fn head_in(line: &[u8]) -> Option<Head>
     ensures { result ≡ head_in line.now }
 {
     let words = line.strip_prefix(b"S ")?;
@@ -143,30 +143,27 @@ pub(crate) fn head_in(line: &[u8]) -> Option<Head>
     Some(Head { layout, digest })
 }
 
-/// Makes the counts from 65 numbers: the number of digests, then one for each bit.
-fn tally_of(numbers: &[u64]) -> Tally
-    requires { length numbers.now ≡ 65 }
-    ensures { numbers.now ≡ result.digests ∷ result.ones }
+/// Reads 65 numbers, separated by single spaces: the number of digests, then one for each bit. `None` for any other text.
+fn counts_in(text: &[u8]) -> Option<Tally>
+    ensures { result ≡ counts_in_words text.now }
 {
-    let mut ones = [0u64; 64];
-    ones.copy_from_slice(&numbers[1..]);
-    Tally {
-        digests: numbers[0],
-        ones,
+    let (first, mut rest) = cut_at_blank(text)?;
+    let digests = number_in(first)?;
+    let mut ones = [0; 64];
+    for bit in 0..63 {
+        let (word, others) = cut_at_blank(rest)?;
+        ones[bit] = number_in(word)?;
+        rest = others;
     }
+    ones[63] = number_in(rest)?;
+    Some(Tally { digests, ones })
 }
 
 /// Decodes the line of the counts. `None` if it is no such line.
-pub(crate) fn tally_in(alloc: Global, line: &[u8]) -> Result<Option<Tally>, Memory>
-    ensures { IfOk result (λ found. found ≡ tally_in line.now) }
+fn tally_in(line: &[u8]) -> Option<Tally>
+    ensures { result ≡ tally_in line.now }
 {
-    let Some(words) = line.strip_prefix(b"C ") else {
-        return Ok(None);
-    };
-    let Some(numbers) = numbers_in(alloc, words, 64)? else {
-        return Ok(None);
-    };
-    Ok(Some(tally_of(numbers.as_slice())))
+    counts_in(line.strip_prefix(b"C ")?)
 }
 
 /// Returns the cell of these bytes: its digest, and its check.
@@ -185,7 +182,7 @@ fn cell_of_bytes(bytes: &[u8; 40]) -> Cell
 
 /// Decodes the line of a cell. `None` if it is no such line.
 #[tactic(auto, unfolding(crate::specs::SketchVerdict::cell_in))]
-pub(crate) fn cell_in(line: &[u8]) -> Option<Cell>
+fn cell_in(line: &[u8]) -> Option<Cell>
     ensures { result ≡ cell_in line.now }
 {
     let mut bytes = [0u8; 40];
@@ -196,7 +193,7 @@ pub(crate) fn cell_in(line: &[u8]) -> Option<Cell>
 }
 
 /// Makes the line with the number of cells, the salt and the digest.
-pub(crate) fn head_line(alloc: Global, sketch: &Sketch) -> Result<Vec<u8>, Memory>
+fn head_line(alloc: Global, sketch: &Sketch) -> Result<Vec<u8>, Memory>
     ensures { IfOk result (λ line. line.items ≡ head_line (head_of sketch.now)) }
 {
     let (cells, salt) = (sketch.layout().cells(), sketch.layout().salt());
@@ -205,7 +202,7 @@ pub(crate) fn head_line(alloc: Global, sketch: &Sketch) -> Result<Vec<u8>, Memor
 }
 
 /// Makes the line of the counts.
-pub(crate) fn counts_line(alloc: Global, tally: &Tally) -> Result<Vec<u8>, Memory>
+fn counts_line(alloc: Global, tally: &Tally) -> Result<Vec<u8>, Memory>
     ensures { IfOk result (λ line. line.items ≡ counts_line tally.now) }
 {
     let digests = tally.digests;
@@ -227,7 +224,7 @@ fn push_counts(line: &mut Vec<u8>, counts: &[u64]) -> Result<(), Memory>
 }
 
 /// Makes the line of a cell.
-pub(crate) fn cell_line(alloc: Global, cell: &Cell) -> Result<Vec<u8>, Memory>
+fn cell_line(alloc: Global, cell: &Cell) -> Result<Vec<u8>, Memory>
     ensures { IfOk result (λ line. line.items ≡ cell_line cell.now) }
 {
     let check = cell.check.to_be_bytes();

@@ -21,7 +21,7 @@ returns-in_ok-tally-in-Beginning-clause-ok c =
     let t = c.in_ok-tally-in-Beginning.tally in
     rw c.in-Beginning.is
     (subst (λ cs. (cause_after (head_line h ∷ []) l ≡ None) × (lines_told h t cs ≡ head_line h ∷ l ∷ []) × AreCellsOf h t cs) (sym c.new.ensures.items)
-    (tally_told h l t (subst AreTold c.in-Beginning.is c.requires) (sym c.in_ok-tally-in-Beginning.ensures.ok_part ∙ c.in_ok-tally_in-in-Beginning.ensures)))
+    (tally_told h l t (subst AreTold c.in-Beginning.is c.requires) (sym c.in_ok-tally-in-Beginning.ensures.ok_part ∙ c.tally_in.ensures)))
 
 pub returns-in-Cells-clause-ok : goal.returns-in-Cells-clause-ok
 returns-in-Cells-clause-ok c = grind (arith, common_steps, on_ok, cell_told)
