@@ -142,7 +142,7 @@ fn push_if(shown: &mut Vec<Leaf>, needed: bool, place: u64, digest: &[u8; 32]) -
 
 /// Finds the leaves of the inventory's tree that the facts need, in one pass over both. `Memory` if an allocation
 /// fails.
-pub(crate) fn shown_for(
+fn shown_for(
     alloc: Global,
     facts: &Inventory,
     inventory: &Inventory,

@@ -27,7 +27,7 @@ pub fn root_of(inventory: &Inventory) -> [u8; 32]
 }
 
 /// Returns the height of a tree that has room for that many leaves.
-pub(crate) fn height_for(count: usize) -> u32
+fn height_for(count: usize) -> u32
     requires { count < 2 ^ 63 }
     ensures room { count ≤ 2 ^ result }
     ensures height { result ≤ 63 }
@@ -36,7 +36,7 @@ pub(crate) fn height_for(count: usize) -> u32
 }
 
 /// Hashes the next `count` leaves as a tree that has room for 2 to the power of `height`.
-pub(crate) fn subtree(leaves: &mut Iter<'_, [u8; 32]>, height: u32, count: usize) -> [u8; 32]
+fn subtree(leaves: &mut Iter<'_, [u8; 32]>, height: u32, count: usize) -> [u8; 32]
     requires some { 0 < count }
     requires room { count ≤ 2 ^ height }
     requires height { height ≤ 63 }
@@ -60,7 +60,7 @@ pub(crate) fn subtree(leaves: &mut Iter<'_, [u8; 32]>, height: u32, count: usize
 }
 
 /// Hashes a leaf.
-pub(crate) fn hash_of_leaf(leaf: &[u8; 32]) -> [u8; 32]
+fn hash_of_leaf(leaf: &[u8; 32]) -> [u8; 32]
     ensures { result ≡ leaf_hash leaf.now }
 {
     let mut hasher = Sha256::new();
@@ -70,7 +70,7 @@ pub(crate) fn hash_of_leaf(leaf: &[u8; 32]) -> [u8; 32]
 }
 
 /// Hashes a node from the hashes of its halves.
-pub(crate) fn hash_of_node(left: &[u8; 32], right: &[u8; 32]) -> [u8; 32]
+fn hash_of_node(left: &[u8; 32], right: &[u8; 32]) -> [u8; 32]
     ensures { result ≡ node_hash left.now right.now }
 {
     let mut hasher = Sha256::new();
@@ -88,7 +88,7 @@ pub struct Leaf {
 }
 
 /// Returns the shown leaves before the place, and the others.
-pub(crate) fn shown_around(shown: &[Leaf], place: u64) -> (&[Leaf], &[Leaf])
+fn shown_around(shown: &[Leaf], place: u64) -> (&[Leaf], &[Leaf])
     requires { PlacesRise shown.now }
     ensures until { result.0.now ≡ until place shown.now }
     ensures from { result.1.now ≡ leaves_from place shown.now }
