@@ -82,25 +82,17 @@ pub fn read(alloc: Global, own: Inventory, sketch: &Sketch) -> Result<Inventory,
     Err(ReadFault::TooFewCells(tally(&theirs).cells_to_ask(sketch.tally())))
 }
 
-/// Removes the digest if the inventory has it, otherwise adds it.
-fn flip_one(inventory: &mut Inventory, digest: &[u8; 32]) -> Result<(), Memory>
-    ensures log { inventory.new.log ≡ inventory.old.log }
-    ensures ok { OnOk result (inventory.new.digests ≡ apart inventory.old.digests (set.from_list (digest.now ∷ []))) }
-{
-    if inventory.has(digest) {
-        inventory.remove(digest);
-        return Ok(());
-    }
-    inventory.put(digest)
-}
-
 /// Removes those of the digests that the inventory has, and adds the others.
 fn flip(inventory: &mut Inventory, taken: &Inventory) -> Result<(), Memory>
     ensures log { inventory.new.log ≡ inventory.old.log }
     ensures ok { OnOk result (inventory.new.digests ≡ apart inventory.old.digests taken.now.digests) }
 {
     for digest in taken.digests() {
-        flip_one(inventory, digest)?;
+        if inventory.has(digest) {
+            inventory.remove(digest);
+        } else {
+            inventory.put(digest)?;
+        }
     }
     Ok(())
 }
