@@ -142,11 +142,7 @@ fn push_if(shown: &mut Vec<Leaf>, needed: bool, place: u64, digest: &[u8; 32]) -
 
 /// Finds the leaves of the inventory's tree that the facts need, in one pass over both. `Memory` if an allocation
 /// fails.
-fn shown_for(
-    alloc: Global,
-    facts: &Inventory,
-    inventory: &Inventory,
-) -> Result<Vec<Leaf>, Memory>
+fn shown_for(alloc: Global, facts: &Inventory, inventory: &Inventory) -> Result<Vec<Leaf>, Memory>
     ensures { IfOk result (λ shown. shown.items ≡ shown_for facts.now inventory.now) }
 {
     let mut rest = facts.digests();

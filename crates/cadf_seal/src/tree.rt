@@ -1,6 +1,6 @@
 //! The Merkle tree over the digests of an inventory: its root, the hashes of its greatest subtrees without a shown leaf,
 //! and its root by these and the leaves that are shown.
-ghost use Rattle.std.specs.Prelude.{◌≡◌, ◌≤◌, ◌<◌, ◌^◌, ◌++◌, List, ℕ, length, take, drop, ◌+◌, option_map, IfOk, OnOk};
+ghost use Rattle.std.specs.Prelude.{◌≡◌, ◌≤◌, ◌<◌, ◌^◌, ◌++◌, length, take, drop, ◌+◌, option_map, IfOk, OnOk};
 ghost use Rattle.cadf_join.specs.Sets.{rising};
 ghost use Rattle.cadf_seal.specs.Tree.{leaf_hash, node_hash, tree, root};
 ghost use Rattle.cadf_seal.specs.Shown.{until, leaves_from, rebuilt, hidden, all_hidden};

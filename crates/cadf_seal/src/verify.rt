@@ -1,16 +1,12 @@
 //! What a proof says of facts to a reader with a seal.
 
-ghost use Rattle.std.specs.Prelude.{◌≡◌, ◌≤◌, ◌<◌, length, take, map, option_map, true, false, None, Ok, IfOk, IfErr};
+ghost use Rattle.std.specs.Prelude.{◌≡◌, ◌<◌, map, true, false, None, Ok, IfOk, IfErr};
 ghost use Rattle.std.specs.List.{AllByRecursion};
-ghost use Rattle.std.specs.List.Sorted.{IsPartitionPoint};
 ghost use Rattle.std.specs.Ordering.{is_lt};
-ghost use Rattle.cadf_join.specs.Contents.{text_cmp};
 ghost use Rattle.cadf_join.specs.Sets.{rising};
-ghost use Rattle.cadf_line.specs.Digest.{IsDigest, atom_digest};
-ghost use Rattle.cadf_line.specs.Missing.{digests_of};
 ghost use Rattle.cadf_seal.specs.ProofFile.{AreRising, IsLeafOf};
 ghost use Rattle.cadf_seal.specs.Shown.{needs, is_below};
-ghost use Rattle.cadf_seal.specs.Verified.{PlacesRise, past_last, lowest_place, is_shown, state, is_state, first_with, first_digest, unneeded, is_root, refusal_of_root, refusal_of_facts, not_as_asked, verified, VerifyFaultIs};
+ghost use Rattle.cadf_seal.specs.Verified.{PlacesRise, past_last, lowest_place, state, first_with, first_digest, unneeded, refusal_of_root, refusal_of_facts, verified, VerifyFaultIs};
 
 use crate::proof::Proof;
 use crate::seal::Seal;

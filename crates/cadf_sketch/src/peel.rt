@@ -1,6 +1,6 @@
 //! Removes lone digests from the cells of a sketch, one after another.
 ghost use Rattle.std.specs.Prelude.{◌≡◌, ◌<◌, ◌≤◌, ◌*◌, ◌+◌, ◌⊎◌, ◌++◌, ◌∷◌, [], List, length, vec_len, OnOk, IfOk};
-ghost use Rattle.cadf_sketch.specs.Peeling.{Peels, HasNoLone, Awaits, ArePlaces, three_places};
+ghost use Rattle.cadf_sketch.specs.Peeling.{Peels, HasNoLone, Awaits, ArePlaces};
 ghost use Rattle.cadf_sketch.specs.Layouts.{LayoutModel};
 ghost use Rattle.cadf_sketch.specs.declared.cell.Cell.{Cell};
 

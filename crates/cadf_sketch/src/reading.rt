@@ -1,12 +1,8 @@
 //! Finds the inventory of which a sketch was made, and the delta for its sender.
-ghost use Rattle.std.specs.Prelude.{◌≡◌, IfOk, IfErr, OnOk, ◌∷◌, [], map};
+ghost use Rattle.std.specs.Prelude.{◌≡◌, IfOk, IfErr, OnOk};
 ghost use Rattle.cadf_inventory.specs.InventoryFile.{inventory_digest};
 ghost use Rattle.cadf_sketch.specs.Flips.{apart};
 ghost use Rattle.cadf_sketch.specs.Refusals.{IsPeeled, IsReadFault};
-ghost use Rattle.cadf_join.specs.Sets as set;
-ghost use Rattle.std.specs.List.{AllByRecursion};
-ghost use Rattle.cadf_join.specs.Sets.{rising};
-ghost use Rattle.cadf_line.specs.Digest.{IsDigest, atom_digest};
 ghost use Rattle.cadf_sketch.specs.Answers.{inventory_of, IsAnswer};
 
 use crate::peel::peel;
