@@ -133,24 +133,16 @@ fn push_line(alloc: Global, word: &[u8], list: &[&str], text: &mut Vec<u8>) -> R
 fn push_repeated(alloc: Global, line: &[u8], lines: &mut Vec<Repeated>) -> Result<(), Memory>
     ensures { OnOk result (repeated_text lines.new.items ≡ repeated_text lines.old.items ++ line.now) }
 {
-    let Some(last) = lines.pop() else {
-        return push_once(alloc, line, lines);
-    };
-    if last.count < usize::MAX && last.line.as_slice() == line {
-        lines.push(Repeated {
-            line: last.line,
-            count: last.count + 1,
-        })?;
-        return Ok(());
+    if let Some(last) = lines.pop() {
+        if last.count < usize::MAX && last.line.as_slice() == line {
+            lines.push(Repeated {
+                line: last.line,
+                count: last.count + 1,
+            })?;
+            return Ok(());
+        }
+        lines.push(last)?;
     }
-    lines.push(last)?;
-    push_once(alloc, line, lines)
-}
-
-/// Appends the line.
-fn push_once(alloc: Global, line: &[u8], lines: &mut Vec<Repeated>) -> Result<(), Memory>
-    ensures { OnOk result (repeated_text lines.new.items ≡ repeated_text lines.old.items ++ line.now) }
-{
     let line = Vec::from_slice(alloc, line)?;
     lines.push(Repeated { line, count: 1 })?;
     Ok(())
