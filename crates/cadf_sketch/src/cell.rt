@@ -1,6 +1,6 @@
 //! The cells of a sketch: digests are mixed into them by XOR, which adds or removes them.
 ghost use Rattle.std.specs.Prelude.{◌≡◌, ◌≤◌, ◌<◌, ◌*◌, ◌^◌, length};
-ghost use Rattle.cadf_sketch.specs.Cells.{word, check, place_in, mixed, stands, is_lone, each_xor, toggled};
+ghost use Rattle.cadf_sketch.specs.Cells.{word, check, place_in, mixed, stands, is_lone, toggled};
 
 use crate::layout::Layout;
 use std::simd::prelude::*;
@@ -44,13 +44,6 @@ pub(crate) fn place_in(table: usize, digest: &[u8; 32], layout: Layout) -> usize
     table * size as usize + ((spread * size) >> 32) as usize
 }
 
-/// Computes the XOR of both, byte by byte.
-fn each_xor(a: &[u8; 32], b: &[u8; 32]) -> [u8; 32]
-    ensures { result ≡ each_xor a.now b.now }
-{
-    (u8x32::from_array(*a) ^ u8x32::from_array(*b)).to_array()
-}
-
 impl Cell {
     /// The cell without a digest.
     pub(crate) const EMPTY: Cell = Cell {
@@ -63,7 +56,7 @@ impl Cell {
         ensures { self.new ≡ mixed self.old digest.now }
     {
         let check = check(digest);
-        self.digest = each_xor(&self.digest, digest);
+        self.digest = (u8x32::from_array(self.digest) ^ u8x32::from_array(*digest)).to_array();
         self.check ^= check;
     }
 
