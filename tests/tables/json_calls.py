@@ -72,7 +72,6 @@ TWICE = [
 # of many, one in an object that is replaced, a name that comes back, a name with an escape.
 REPLACED = [
     ('{"a":1.5,"b":1}', None),
-    ('{"a":1,"a":1.5}', None),
     ('{"a":1.5,"a":1,"a":1.5}', None),
     ('{"a":1.5,"\\u0061":1}', '{"a":1}'),
     ('[{"a":1.5,"a":1},{"a":1.5}]', None),
