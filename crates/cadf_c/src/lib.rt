@@ -1,5 +1,5 @@
 //! The engines over bytes in memory, for C. bindings/c/cadf.h declares them and says what each caller owes.
-#![tactic(auto, using(crate::proofs::Statuses::refused, crate::proofs::Statuses::answered, crate::proofs::Statuses::argument_refused))]
+#![tactic(auto)]
 
 ghost use Rattle.std.specs.Prelude.{◌≡◌, pos, Some, None, encode_utf8};
 ghost use Rattle.cadf_inventory.specs.InventoryFile.{inventory_file};
@@ -58,6 +58,7 @@ pub extern "C" fn cadf_version() -> u32 {
 }
 
 /// Hands out the log of the input, or with `conflicts` the list of its conflicts.
+#[tactic(auto, using(crate::proofs::Statuses::refused, crate::proofs::Statuses::answered, crate::proofs::Statuses::argument_refused))]
 #[unsafe(no_mangle)]
 pub extern "C" fn cadf_show(
     alloc: Global,
@@ -96,6 +97,7 @@ pub extern "C" fn cadf_check(
 }
 
 /// Hands out the inventory file of the input.
+#[tactic(auto, using(crate::proofs::Statuses::refused, crate::proofs::Statuses::answered, crate::proofs::Statuses::argument_refused))]
 #[unsafe(no_mangle)]
 pub extern "C" fn cadf_inventory(
     alloc: Global,
@@ -114,6 +116,7 @@ pub extern "C" fn cadf_inventory(
 }
 
 /// Hands out the seal file of the input.
+#[tactic(auto, using(crate::proofs::Statuses::refused, crate::proofs::Statuses::answered, crate::proofs::Statuses::argument_refused))]
 #[unsafe(no_mangle)]
 pub extern "C" fn cadf_seal(
     alloc: Global,
@@ -132,6 +135,7 @@ pub extern "C" fn cadf_seal(
 }
 
 /// Hands out the proof file, under the seal of all inputs, for the facts of `facts`, which is counted first.
+#[tactic(auto, using(crate::proofs::Statuses::refused, crate::proofs::Statuses::answered, crate::proofs::Statuses::argument_refused))]
 #[unsafe(no_mangle)]
 pub extern "C" fn cadf_prove(
     alloc: Global,
@@ -152,6 +156,7 @@ pub extern "C" fn cadf_prove(
 
 /// Hands out a line for each fact of `facts`, if the proof shows under the seal that each is in the sealed set; with
 /// `absent`, that none is.
+#[tactic(auto, using(crate::proofs::Statuses::refused, crate::proofs::Statuses::answered, crate::proofs::Statuses::argument_refused))]
 #[unsafe(no_mangle)]
 pub extern "C" fn cadf_verify(
     alloc: Global,
@@ -268,6 +273,7 @@ pub extern "C" fn cadf_rehearse(
 }
 
 /// Hands out the sketch file of the input: of so many cells, 0 for 198, and with that salt, 0 for the input's own.
+#[tactic(auto, using(crate::proofs::Statuses::refused, crate::proofs::Statuses::answered, crate::proofs::Statuses::argument_refused))]
 #[unsafe(no_mangle)]
 pub extern "C" fn cadf_sketch(
     alloc: Global,
