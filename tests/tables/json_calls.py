@@ -21,7 +21,7 @@ CALLS = {
     # On a text of which a part is repeated: what is before it, the part, how often, what is after it.
     "repeated value": ["Json::read"],
     "repeated apart": ["Json::read_next"],
-    "canonical": ["Json::read_canonical"],
+    "canonical": ["Json::read_canonical", "Json::read_canonical_with"],  # the first makes the second
     "quoted": ["quoted"],
     "apart": ["Json::read_apart", "ItemVisitor::begin", "ItemVisitor::take", "Json::read_next"],
     "read_to_limit": ["read_to_limit", "Source::read"],
