@@ -44,7 +44,7 @@ const FACTS: Word = (
 );
 
 /// Each command: its name, its help, and its words in their order.
-const COMMANDS: [(&str, &str, &[Word]); 14] = [
+const COMMANDS: &[(&str, &str, &[Word])] = &[
     (
         "join",
         "Merges the inputs into one replica file",
@@ -251,7 +251,7 @@ pub(crate) fn command<'a>(alloc: Global) -> Result<Command<'a>, Error> {
         .version("0.1.0")
         .about("Keeps replicas of a CADF log and makes them converge")
         .subcommand_required(true);
-    for (name, about, words) in COMMANDS {
+    for &(name, about, words) in COMMANDS {
         command = command.subcommand(subcommand(alloc, name, about, words)?)?;
     }
     Ok(command)
