@@ -1,7 +1,8 @@
 -- Deltas between unions of inputs, and of one input each.
+use Rattle.std.proofs.lemmas.Grind.{common_steps}
 use Rattle.std.proofs.Common.{◌≡◌, ◌+◌, ℕ, Bool, true, false, cond, List, [], ◌∷◌, length, Option, None, Some, Result, Ok, Err, refl, sym, ap, ◌∙◌}
 use Rattle.std.proofs.Common.{subst, arith}
-use Rattle.std.specs.Option.{option_or}
+use Rattle.std.specs.Option.{is_some, option_or}
 use Rattle.cadf_join.specs.Contents.{Text, Contents}
 use Rattle.cadf_join.specs.laws.Contents.{texts_total, texts_same}
 use Rattle.cadf_join.specs.laws.Sets as sets
@@ -13,7 +14,7 @@ use Rattle.cadf_sketch.specs.Sketches.{SketchModel}
 use Rattle.cadf_tool.specs.declared.input.Loaded.{Loaded}
 use Rattle.cadf_tool.specs.declared.input.Loaded.TheVariants.{Replica}
 use Rattle.cadf_tool.specs.declared.fault.ToolFault.{ToolFault}
-use Rattle.cadf_tool.specs.declared.fault.ToolFault.TheVariants.{OtherLog}
+use Rattle.cadf_tool.specs.declared.fault.ToolFault.TheVariants.{NoLog, OtherLog}
 use Rattle.cadf_tool.specs.declared.join_state.JoinState.{JoinState}
 use Rattle.cadf_tool.specs.declared.join_state.JoinState.TheVariants.{Unnamed, Given, United, Other}
 use Rattle.cadf_tool.specs.Faults.{FaultStage, Working, fault_stage}
@@ -25,12 +26,15 @@ use Rattle.cadf_tool.specs.Run.{IsWorkFaultBy, IsWorked, IsWorkedBy}
 use Rattle.cadf_tool.specs.Sketch.{IsAnswerOfResult, IsAnswerTo, IsPartBySketch, IsPartOfUnionBySketch}
 use Rattle.cadf_tool.specs.Told.{log_named, atoms_loaded, under_log}
 use Rattle.cadf_tool.proofs.Unions.{on_value, on_fault, join_one}
-use Rattle.cadf_tool.proofs.UnitingLemmas.{not_other, other_named}
+use Rattle.cadf_tool.proofs.UnitingLemmas.{not_other}
 
 -- ---- a delta between unions, by the states of their joins
 
 abbrev delta_of : (first : ℕ) (tos : List Loaded) → ReplicaModel → Result ReplicaModel ToolFault
 delta_of first tos h = on_ok (join_from first (Some h.log) tos) (λ k. missing_of (Replica h) (Replica k))
+
+pub none_named : (froms tos : List Loaded) (b : Bool) → b ≡ is_some (first_named tos) → b ≡ false → part_of_unions (froms, tos) ≡ Err NoLog
+none_named froms tos b e h = grind (arith, common_steps)
 
 module _ (froms tos : List Loaded) (from : JoinState) (joined : IsJoinState 1 None froms from) where
   abbrev next : ℕ
@@ -58,10 +62,11 @@ module _ (froms tos : List Loaded) (from : JoinState) (joined : IsJoinState 1 No
         let is : join_from next (Some h.log) tos ≡ Ok k = subst (λ o. join_from next o tos ≡ Ok k) (log_is h e) t.0 in
         subst (λ r. IsWorked r result) (sym (delta_is t.1 ∙ ap (λ r. on_ok r (λ m. missing_of (Replica h) (Replica m))) is)) w
 
-    pub to_other : (n : ℕ) → IsJoinState next (log_joined from) tos (Other n) → part_of_unions (froms, tos) ≡ Err (OtherLog n)
-    to_other n t =
-        let is : join_from next (Some h.log) tos ≡ Err (OtherLog n) = subst (λ o. join_from next o tos ≡ Err (OtherLog n)) (log_is h e) t in
-        delta_is (other_named next (log_joined from) tos n t) ∙ ap (λ r. on_ok r (λ m. missing_of (Replica h) (Replica m))) is
+    pub to_refused : (fault : ToolFault) → IsNamed tos → IsWorked (join_from next (log_joined from) tos) (Err fault)
+        → IsWorked (part_of_unions (froms, tos)) (Err fault)
+    to_refused fault named w =
+        subst (λ r. IsWorked r (Err fault)) (sym (delta_is named)) (on_fault (λ k. missing_of (Replica h) (Replica k)) (join_from next (Some h.log) tos) fault
+        (subst (λ o. IsWorked (join_from next o tos) (Err fault)) (log_is h e) w))
 
   pub from_refused : (fault : ToolFault) → IsNamed tos → IsWorked (join_of None froms) (Err fault) → IsWorked (part_of_unions (froms, tos)) (Err fault)
   from_refused fault named w = subst (λ r. IsWorked r (Err fault)) (sym (named_to named)) (on_fault (λ h. delta_of next tos h) (join_of None froms) fault w)

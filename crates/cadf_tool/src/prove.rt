@@ -1,7 +1,9 @@
 //! The engine of `prove`: the proof of which facts of an input are in a union of others, as a proof file.
-ghost use Rattle.std.specs.Prelude.{◌+◌, ◌≤◌, ◌^◌, length, List, None};
+ghost use Rattle.std.specs.Prelude.{◌+◌, ◌≤◌, ◌^◌, length, List, None, Ok};
 ghost use Rattle.cadf_seal.specs.ProofFile.{proof_file};
+ghost use Rattle.cadf_sketch.specs.Answers.{inventory_of};
 ghost use Rattle.cadf_tool.specs.declared.input.Loaded.{Loaded};
+ghost use Rattle.cadf_tool.specs.Join.{facts_under, on_ok};
 ghost use Rattle.cadf_tool.specs.JoinState.{IsJoinState};
 ghost use Rattle.cadf_tool.specs.Prove.{proof_for, proof_of_union};
 ghost use Rattle.cadf_tool.specs.Run.{one, all_from, both, transition_of, input_spec, IsWorked, IsRun};
@@ -11,19 +13,26 @@ use crate::input::Loaded;
 use crate::inputs::load_one;
 use crate::join::{facts_under, union_with};
 use crate::join_state::JoinState;
+use cadf_event::Name;
 use cadf_json::{Sink, Source};
 use cadf_linefile::write_model;
 use cadf_seal::Proof;
-use cadf_set::Replica;
+use cadf_set::{Inventory, Replica};
 use std::alloc::Global;
+
+/// Lists what the first input contributes to the log. `OtherLog` if that input names another log.
+fn asked_of(alloc: Global, log: &Name, facts: Loaded) -> Result<Inventory, ToolFault>
+    ensures { IsWorked (on_ok (facts_under 1 log.now facts) (λ f. Ok (inventory_of f))) result }
+{
+    Ok(facts_under(alloc, 1, log, facts)?.inventory()?)
+}
 
 /// Makes the proof, by the inventory of `held`, for what the first input contributes to its log. `OtherLog` if that
 /// input names another log.
 fn proof_for(alloc: Global, held: &Replica, facts: Loaded) -> Result<Proof, ToolFault>
     ensures { IsWorked (proof_for held.now facts) result }
 {
-    let facts = facts_under(alloc, 1, held.log().copy(alloc)?, facts)?;
-    let asked = facts.inventory()?;
+    let asked = asked_of(alloc, held.log(), facts)?;
     let inventory = held.inventory()?;
     Ok(Proof::of(alloc, &asked, &inventory)?)
 }

@@ -1,7 +1,7 @@
 //! The engine of `verify`: what a proof says, under a seal, of the facts of an input.
-ghost use Rattle.std.specs.Prelude.{◌≡◌, Ok, Err, IfOk, IfErr};
+ghost use Rattle.std.specs.Prelude.{◌≡◌, Err};
 ghost use Rattle.cadf_tool.specs.Run.{transition_of, IsWorked, IsRun};
-ghost use Rattle.cadf_tool.specs.Verify.{verdict_of, sources_of};
+ghost use Rattle.cadf_tool.specs.Verify.{verdict_lines, verdict_of, sources_of};
 
 use crate::fault::ToolFault;
 use crate::input::Loaded;
@@ -9,7 +9,29 @@ use crate::inputs::{load_model, load_one};
 use crate::join::facts_under;
 use cadf_json::{Sink, Source};
 use cadf_seal::{FactLines, Proof, Seal, VerifyFault, verified};
+use cadf_set::Replica;
 use std::alloc::Global;
+
+/// Makes the lines of facts that are taken under the log of the seal. `OtherLog`: the proof names another log.
+/// `Unverified`: the proof is refused, or a fact isn't as asked. `Memory` if an allocation fails.
+fn lines_of(
+    alloc: Global,
+    absent: bool,
+    seal: &Seal,
+    facts: &Replica,
+    proof: &Proof,
+) -> Result<FactLines, ToolFault>
+    ensures { IsWorked (verdict_lines absent seal.now facts.now proof.now) result }
+{
+    if proof.log().as_str() != seal.log().as_str() {
+        return Err(ToolFault::OtherLog(3));
+    }
+    match verified(alloc, seal, facts, proof, absent) {
+        Ok(lines) => Ok(lines),
+        Err(VerifyFault::Memory) => Err(ToolFault::Memory),
+        Err(fault) => Err(ToolFault::Unverified(fault)),
+    }
+}
 
 /// Takes the facts under the log of the seal, and makes their lines. `OtherLog`: the facts name another log, or the
 /// proof does. `Unverified`: the proof is refused, or a fact isn't as asked. `Memory` if an allocation fails.
@@ -20,18 +42,15 @@ fn verdict(
     facts: Loaded,
     proof: &Proof,
 ) -> Result<FactLines, ToolFault>
-    ensures ok { IfOk result (λ text. IsWorked (verdict_of absent (seal.now, (facts, proof.now))) (Ok text)) }
-    ensures err { IfErr result (λ fault. IsWorked (verdict_of absent (seal.now, (facts, proof.now))) (Err fault)) }
+    ensures { IsWorked (verdict_of absent (seal.now, (facts, proof.now))) result }
 {
-    let facts = facts_under(alloc, 2, seal.log().copy(alloc)?, facts)?;
-    if proof.log().as_str() != seal.log().as_str() {
-        return Err(ToolFault::OtherLog(3));
-    }
-    match verified(alloc, seal, &facts, proof, absent) {
-        Ok(lines) => Ok(lines),
-        Err(VerifyFault::Memory) => Err(ToolFault::Memory),
-        Err(fault) => Err(ToolFault::Unverified(fault)),
-    }
+    lines_of(
+        alloc,
+        absent,
+        seal,
+        &facts_under(alloc, 2, seal.log(), facts)?,
+        proof,
+    )
 }
 
 /// Writes a line for each fact of `facts`, in the order of atoms, if the proof shows under the seal that each is in the

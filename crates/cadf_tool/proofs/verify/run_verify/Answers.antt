@@ -30,7 +30,7 @@ returns-in_err-lines-clause-verdict g c =
     let p = err_from_is_err_and _ c.from_residual-in_err-lines.ensures.1 in
     worked_run (Err c.in_err-lines.field-0.0) (both_read (one_read 1 seal_spec _ s.reads c.in_ok-seal.seal s.ok)
     (both_read (one_read 2 input_spec _ f.reads c.in_ok-loaded.loaded f.ok) (one_read 3 proof_spec _ k.reads c.in_ok-proof.proof k.ok)))
-    c.in_err-lines.ensures.err (p.1 ∙ ap Err p.2, refl)
+    c.in_err-lines.ensures (p.1 ∙ ap Err p.2, refl)
 
 pub returns-clause-verdict : goal.returns-clause-verdict
 returns-clause-verdict g c =
@@ -39,4 +39,4 @@ returns-clause-verdict g c =
     let k = c.in_ok-proof.ensures in
     worked_run (Ok c.in_ok-lines.lines) (both_read (one_read 1 seal_spec _ s.reads c.in_ok-seal.seal s.ok)
     (both_read (one_read 2 input_spec _ f.reads c.in_ok-loaded.loaded f.ok) (one_read 3 proof_spec _ k.reads c.in_ok-proof.proof k.ok)))
-    c.in_ok-lines.ensures.ok (grind (arith, common_steps))
+    c.in_ok-lines.ensures (grind (arith, common_steps))
