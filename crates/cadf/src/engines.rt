@@ -83,10 +83,15 @@ impl<R: Files, W: Sink> Runner<'_, R, W> {
         Ok(run_missing_by_union(self.alloc, &mut from, &mut inventory, &mut self.output)?)
     }
 
-    /// Runs `sketch` on files. `options` are the number of cells and the salt, if they are given.
-    fn sketch(&mut self, options: [Option<&str>; 2], paths: &[&str]) -> Result<(), Stop> {
-        let cells = options[0].map(cells_given).transpose()?;
-        let salt = options[1].map(salt_given).transpose()?;
+    /// Runs `sketch` on files, with the number of cells and the salt that are given, if any.
+    fn sketch(
+        &mut self,
+        cells: Option<&str>,
+        salt: Option<&str>,
+        paths: &[&str],
+    ) -> Result<(), Stop> {
+        let cells = cells.map(cells_given).transpose()?;
+        let salt = salt.map(salt_given).transpose()?;
         self.union(&SketchEngine { cells, salt }, paths)
     }
 
@@ -106,10 +111,10 @@ impl<R: Files, W: Sink> Runner<'_, R, W> {
     }
 
     /// Runs `verify` on the files of a seal, of facts and of a proof.
-    fn verify(&mut self, absent: bool, paths: [&str; 3]) -> Result<(), Stop> {
-        let mut seal = self.open(paths[0], 1)?;
-        let mut facts = self.open(paths[1], 2)?;
-        let mut proof = self.open(paths[2], 3)?;
+    fn verify(&mut self, absent: bool, seal: &str, facts: &str, proof: &str) -> Result<(), Stop> {
+        let mut seal = self.open(seal, 1)?;
+        let mut facts = self.open(facts, 2)?;
+        let mut proof = self.open(proof, 3)?;
         Ok(run_verify(
             self.alloc,
             &mut seal,
@@ -120,11 +125,11 @@ impl<R: Files, W: Sink> Runner<'_, R, W> {
         )?)
     }
 
-    /// Runs `rule` on files. `ruling` is the letter, the key and the place.
-    fn rule(&mut self, ruling: [&str; 3], paths: &[&str]) -> Result<(), Stop> {
-        let letter = letter_given(ruling[0])?;
-        let key = read_key(self.alloc, ruling[1])?;
-        let place = place_given(ruling[2])?;
+    /// Runs `rule` on files.
+    fn rule(&mut self, letter: &str, key: &str, place: &str, paths: &[&str]) -> Result<(), Stop> {
+        let letter = letter_given(letter)?;
+        let key = read_key(self.alloc, key)?;
+        let place = place_given(place)?;
         let key = &key;
         self.union(&RuleEngine { letter, key, place }, paths)
     }
@@ -151,7 +156,7 @@ impl<R: Files, W: Sink> Runner<'_, R, W> {
             Request::Missing { from, to } => self.missing(from, to),
             Request::MissingBy { from, inventory } => self.missing_by(from, inventory),
             Request::Inventory { files } => self.union(&InventoryEngine, files),
-            Request::Sketch { cells, salt, files } => self.sketch([*cells, *salt], files),
+            Request::Sketch { cells, salt, files } => self.sketch(*cells, *salt, files),
             Request::MissingBySketch { from, sketch } => self.missing_by_sketch(from, sketch),
             Request::Seal { files } => self.union(&SealEngine, files),
             Request::Prove { facts, files } => self.prove(facts, files),
@@ -160,13 +165,13 @@ impl<R: Files, W: Sink> Runner<'_, R, W> {
                 seal,
                 facts,
                 proof,
-            } => self.verify(*absent, [seal, facts, proof]),
+            } => self.verify(*absent, seal, facts, proof),
             Request::Rule {
                 letter,
                 key,
                 place,
                 files,
-            } => self.rule([letter, key, place], files),
+            } => self.rule(letter, key, place, files),
             Request::Rehearse { log, sites, script } => self.rehearse(log, sites, script),
             Request::Show { conflicts, files } => {
                 let conflicts = *conflicts;
