@@ -1,6 +1,6 @@
 -- Steps of a merge of two ascending lists, and its invariants.
 use Rattle.std.proofs.lemmas.Grind.{common_steps}
-use Rattle.std.proofs.Common.{◌≡◌, ℕ, Bool, true, false, ◌+◌, ◌-◌, ◌<◌, ◌≤◌, List, [], ◌∷◌, ◌++◌, refl, sym, ap, ◌∙◌, subst, suc, zero, length, take}
+use Rattle.std.proofs.Common.{◌≡◌, ℕ, Bool, true, false, ◌+◌, ◌-◌, ◌<◌, ◌≤◌, List, [], ◌∷◌, ◌++◌, refl, sym, ap, ◌∙◌, subst, suc, zero, length, take, min}
 use Rattle.std.proofs.Common.{drop, get_or, arith}
 use Rattle.std.proofs.lemmas.List.{append_assoc, drop-drop, drop-map, length-take, take-take, take_all, map-append, drop_more, drop_all}
 use Rattle.cadf_pathset.proofs.Merges.{alone, merge_skip}
@@ -13,9 +13,9 @@ use Rattle.cadf_join.specs.Contents.{Texts, text_cmp, texts_cmp}
 use Rattle.cadf_join.specs.laws.Contents.{text_same, texts_same, texts_total}
 use Rattle.cadf_pathset.specs.Merge.{sorted_merge}
 use Rattle.cadf_pathset.specs.Nodes.{Agree, AreThere, IsLine, list_at, lists_at, place, shared}
-use Rattle.cadf_pathset.specs.Walks.{Entered, IsLinePrefix, Place, lists_ahead}
+use Rattle.cadf_pathset.specs.Walks.{IsLinePrefix, Place, lists_ahead}
 use Rattle.cadf_pathset.proofs.Agreement.{agree_less, agree_through, agree_turned}
-use Rattle.cadf_pathset.proofs.Threads.{agree_none, at_kept, line_cut, line_kept, lists_kept, no_line, nodes_fit, place_kept, root_line, self_line}
+use Rattle.cadf_pathset.proofs.Threads.{agree_none, at_kept, line_cut, line_kept, lists_kept, nodes_fit, place_kept, self_line}
 
 abbrev both : List Texts → List Texts → List Texts
 both xs ys = sorted_merge texts_cmp true xs ys
@@ -32,10 +32,6 @@ module _ (acc : List Texts) (x y : Texts) (xs ys total : List Texts) (h : acc ++
 
 pub step_alone : (acc : List Texts) (y : Texts) (ys total : List Texts) → acc ++ both [] (y ∷ ys) ≡ total → (acc ++ y ∷ []) ++ both [] ys ≡ total
 step_alone acc y ys total h = append_assoc acc (y ∷ []) ys ∙ h
-
-pub entered_ahead : (more : Bool) (a b : Place) (ns ms : List ℕ) (n m : ℕ) → Entered more a b ns ms n m → lists_ahead more b ≡ a.1
-entered_ahead true a b ns ms n m h = sym h.0
-entered_ahead false a b ns ms n m h = sym h.0
 
 pub agree_shared : (a b : Texts) → Agree (shared a b) a b
 agree_shared [] b = agree_none [] b
@@ -63,25 +59,15 @@ pub line_shared : (ls : List Texts) (ns : List ℕ) (a b : Texts) (s : ℕ) → 
     → IsLine ls (take s ns) (take (length (take s ns)) b)
 line_shared ls ns a b s h g = grind (arith, common_steps, length-take, take_all, take-take, agree_less, line_cut)
 
-pub front_entered : (ls : List Texts) (ns ms ks : List ℕ) (n k : ℕ) (a b : Place) → IsLinePrefix ls ns ms n a.0 → Entered true a b ms ks n k
-    → IsLinePrefix ls ns ks k b.0
-front_entered ls ns ms ks n k a b f e =
-    let s = shared b.0 a.0 in
-    let g = agree_turned s b.0 a.0 (agree_shared b.0 a.0) in
+pub front_entered : (ls : List Texts) (ns ms ks : List ℕ) (n k : ℕ) (a b : Texts) → IsLinePrefix ls ns ms n a → ks ≡ take (shared b a) ms → k ≡ min n (shared b a)
+    → IsLinePrefix ls ns ks k b
+front_entered ls ns ms ks n k a b f cut least =
+    let g = agree_turned (shared b a) b a (agree_shared b a) in
     record {
       line = f.line;
-      agrees = subst (λ j. Agree j (place ls ns) b.0) (sym e.2) (agree_through n s (place ls ns) a.0 b.0 f.agrees g);
-      out = subst (λ z. IsLine ls z (take (length z) b.0)) (sym e.1) (line_shared ls ms a.0 b.0 s f.out g);
+      agrees = subst (λ j. Agree j (place ls ns) b) (sym least) (agree_through n (shared b a) (place ls ns) a b f.agrees g);
+      out = subst (λ z. IsLine ls z (take (length z) b)) (sym cut) (line_shared ls ms a b (shared b a) f.out g);
     }
-
-pub front_stays : (ls : List Texts) (ns ms ks : List ℕ) (n k : ℕ) (a b : Place) → IsLinePrefix ls ns ms n a.0 → Entered false a b ms ks n k
-    → IsLinePrefix ls ns ks k b.0
-front_stays ls ns ms ks n k a b f e = grind (arith, common_steps)
-
-pub front_after : (more : Bool) (ls : List Texts) (ns ms ks : List ℕ) (n k : ℕ) (a b : Place) → IsLinePrefix ls ns ms n a.0 → Entered more a b ms ks n k
-    → IsLinePrefix ls ns ks k b.0
-front_after true ls ns ms ks n k a b f e = front_entered ls ns ms ks n k a b f e
-front_after false ls ns ms ks n k a b f e = front_stays ls ns ms ks n k a b f e
 
 pub front_put : (ls us : List Texts) (kept : take (length ls) us ≡ ls) (ns ms ks : List ℕ) (n : ℕ) (theirs : Texts) → IsLinePrefix ls ns ms n theirs
     → IsLine us ks theirs → IsLinePrefix us ns ks n theirs
@@ -147,26 +133,9 @@ pub ours_there : (ls first : List Texts) (kept : take (length first) ls ≡ firs
     → AreThere ls ms
 ours_there ls first kept ns ms n more h there = grind (arith, common_steps, nodes_fit, there_both)
 
--- no nodes of a line, and none of theirs
-pub front_none : (ls : List Texts) (ns ms : List ℕ) (q : Texts) → ns ≡ [] → ms ≡ [] → IsLinePrefix ls ns ms 0 q
-front_none ls ns ms q e f = grind (arith, common_steps, root_line, agree_none, no_line)
-
--- all invariants after a step of a merge
-pub front_ours : (more : Bool) (ls : List Texts) (ns ms ks : List ℕ) (n k : ℕ) (a b : Place) (theirs : Texts) → theirs ≡ a.0 → IsLinePrefix ls ns ms n theirs
-    → Entered more a b ms ks n k → IsLinePrefix ls ns ks k b.0
-front_ours more ls ns ms ks n k a b theirs e f m = front_after more ls ns ms ks n k a b (subst (IsLinePrefix ls ns ms n) e f) m
-
-pub front_theirs : (more : Bool) (ls us : List Texts) (kept : take (length ls) us ≡ ls) (ns ms js ks : List ℕ) (n k : ℕ) (a b : Place) (theirs path : Texts)
-    → theirs ≡ a.0 → path ≡ a.0 → IsLinePrefix ls ns ms n theirs → IsLine us js path → Entered more a b js ks n k → IsLinePrefix us ns ks k b.0
-front_theirs more ls us kept ns ms js ks n k a b theirs path e p f l m =
-    front_after more us ns js ks n k a b (front_put ls us kept ns ms js n a.0 (subst (IsLinePrefix ls ns ms n) e f) (subst (IsLine us js) p l)) m
-
-pub theirs_put : (acc now : List Texts) (path b : Texts) → now ≡ acc ++ path ∷ [] → path ≡ b → now ≡ acc ++ b ∷ []
-theirs_put acc now path b e p = e ∙ ap (λ z. acc ++ z ∷ []) p
-
-pub order_is : (ls first : List Texts) (kept : take (length first) ls ≡ first) (n : ℕ) (path b : Texts) (r s : Ordering) → n ≤ length first → path ≡ b
-    → r ≡ texts_cmp (list_at ls n) path → r ≡ s → texts_cmp (list_at first n) b ≡ s
-order_is ls first kept n path b r s there p e f = (λ i. texts_cmp (sym (at_kept first ls kept n there) i) (sym p i)) ∙ sym e ∙ f
+pub order_is : (ls first : List Texts) (kept : take (length first) ls ≡ first) (n : ℕ) (b : Texts) (r s : Ordering) → n ≤ length first
+    → r ≡ texts_cmp (list_at ls n) b → r ≡ s → texts_cmp (list_at first n) b ≡ s
+order_is ls first kept n b r s there e f = ap (λ l. texts_cmp l b) (sym (at_kept first ls kept n there)) ∙ sym e ∙ f
 
 -- some of our lists skipped
 pub turn_skip : (first : List Texts) (numbers : List ℕ) (at to : ℕ) (acc total : List Texts) (more : Bool) (a : Place) → more ≡ true

@@ -3,7 +3,7 @@
 --     Advances found a b     a cursor moved to the next list, which has `found` texts in common with the one before, or there is none
 --     Steps more a b n m     the same; m is the minimum of n and the number of texts in common, or n if there is no next list
 --     lists_ahead more a     the list at which a cursor is, if it is at one, and those after it
---     Entered, IsLinePrefix  the invariants of a merge, below
+--     IsLinePrefix           the invariant of a merge, below
 use Rattle.std.specs.Prelude.{◌≡◌, ℕ, Bool, true, false, List, [], ◌∷◌, length, take, min, Option, Some, None}
 use Rattle.cadf_join.specs.Contents.{Texts}
 use Rattle.cadf_pathset.specs.Nodes.{Agree, IsLine, place, shared}
@@ -22,11 +22,6 @@ Steps false old new n m = (old.1 ≡ []) × (new ≡ old) × (m ≡ n)
 abbrev pub lists_ahead : Bool → Place → List Texts
 lists_ahead true a = a.0 ∷ a.1
 lists_ahead false a = []
-
--- the cursor moved to the next list, or there is none; the nodes and the number are cut to the texts in common
-abbrev pub Entered : Bool → Place → Place → List ℕ → List ℕ → ℕ → ℕ → Type 0
-Entered true old new ns ms n m = (old.1 ≡ new.0 ∷ new.1) × (ms ≡ take (shared new.0 old.0) ns) × (m ≡ min n (shared new.0 old.0))
-Entered false old new ns ms n m = (old.1 ≡ []) × (new ≡ old) × (ms ≡ ns) × (m ≡ n)
 
 -- ns is the line of our list compared last, which has n texts in common with theirs; ms is the output's line of a prefix of theirs
 pub record IsLinePrefix (ls : List Texts) (ns ms : List ℕ) (n : ℕ) (theirs : Texts) : Type 0 where

@@ -1,18 +1,19 @@
-use Rattle.std.proofs.Common.{◌+◌, ◌-◌, ◌<◌, ℕ, [], length, arith, ap, sym, ◌∙◌}
+use Rattle.std.proofs.Common.{◌≡◌, ◌+◌, ◌-◌, ◌<◌, ℕ, [], length, get_or, arith, ap, subst, sym, ◌∙◌}
+use Rattle.std.specs.declared.cmp.Ordering.TheVariants.{Less}
 use Rattle.std.proofs.lemmas.List.{get_or-map, length-map}
 use Rattle.cadf_join.specs.Contents.{texts_cmp}
 use Rattle.cadf_join.specs.Prefixes.{texts_at}
 use Rattle.cadf_pathset.specs.Nodes.{list_at, lists_at}
 use Rattle.cadf_pathset.proofs.Bounds.{below_range, is_less}
 use Rattle.cadf_pathset.proofs.Halving.{below_here}
-use Rattle.cadf_pathset.proofs.union.skip.Goals as goal
+use Rattle.cadf_pathset.proofs.union.Merger.skip.Goals as goal
 
 pub loop-step-preserved : goal.loop-step-preserved
 loop-step-preserved c =
     let h = c.loop-step.invariant in
     let ls = c.args.nodes.now in
     let ns = c.args.numbers.now in
-    let q = texts_at c.args.path.now in
+    let q = texts_at c.path-path.result.now in
     let j : ℕ = c.loop-step.low + (c.loop-step.step - 1) in
     let b = h.behind in
     let w = h.within in
@@ -40,5 +41,5 @@ returns-clause-below c =
     let s = c.saturating_sub.ensures in
     let e = c.max-last.ensures in
     let r = c.requires.within in
-    below_range (texts_at c.args.path.now) (lists_at ls ns) c.args.at c.max-last.result (omega (arith, e)) (omega (arith, m, w, s, e, r))
-    (λ k f g. c.loop-step.invariant.below k f (omega (arith, f, g, s, e)))
+    below_range c.args.self.now.cursor.0 (lists_at ls ns) c.args.at c.max-last.result (omega (arith, e)) (omega (arith, m, w, s, e, r))
+    (λ k f g. subst (λ q. texts_cmp (get_or (lists_at ls ns) k []) q ≡ Less) c.path-path.ensures (c.loop-step.invariant.below k f (omega (arith, f, g, s, e))))

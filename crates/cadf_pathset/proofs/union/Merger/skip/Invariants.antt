@@ -3,7 +3,7 @@ use Rattle.cadf_join.specs.Prefixes.{texts_at}
 use Rattle.std.specs.declared.cmp.Ordering.TheVariants.{Less}
 use Rattle.cadf_join.specs.Contents.{texts_cmp}
 use Rattle.cadf_pathset.specs.Nodes.{lists_at}
-use Rattle.cadf_pathset.proofs.union.skip.Given as goal
+use Rattle.cadf_pathset.proofs.union.Merger.skip.Given as goal
 
 abbrev pub invariant-loop-step : goal.invariant-loop-step
 invariant-loop-step l = record {
