@@ -2,7 +2,7 @@
 ghost use Rattle.std.specs.Prelude.{◌≡◌, ◌≤◌, [], OnOk, IfOk, length, ◌+◌, ◌++◌, IfErr, take};
 ghost use Rattle.cadf_join.specs.Contents.{texts_cmp};
 ghost use Rattle.cadf_join.specs.Prefixes.{texts_at, continued};
-ghost use Rattle.cadf_pathset.specs.Nodes.{Agree, AreThere, IsLine, list_at, lists_at, shared};
+ghost use Rattle.cadf_pathset.specs.Nodes.{Agree, AreThere, IsLine, list_at, lists_at, place, shared};
 ghost use Rattle.cadf_pathset.specs.Walks.{Advances, Place};
 
 use crate::lines::{cmp_from, follow};
@@ -61,17 +61,15 @@ impl<'a> Cursor<'a> {
     pub fn advance(&mut self) -> Result<Option<usize>, Memory>
         ensures { IfOk result (λ found. Advances found self.old self.new) }
     {
+        let nodes = self.nodes;
         let [number, numbers @ ..] = self.numbers else {
             return Ok(None);
         };
         let mut line = replace(&mut self.line, Vec::new(self.alloc));
         let mut path = replace(&mut self.path, Vec::new(self.alloc));
-        let common = follow(self.nodes, *number, &mut line, &mut self.up)?;
-        let (_, shared) = cmp_from(self.nodes, line.as_slice(), path.as_slice(), common);
-        path.truncate(common);
-        while path.len() < line.len() {
-            path.push(self.nodes.text(line[path.len()]))?;
-        }
+        let common = follow(nodes, *number, &mut line, &mut self.up)?;
+        let (_, shared) = cmp_from(nodes, line.as_slice(), path.as_slice(), common);
+        read_line(nodes, line.as_slice(), common, &mut path)?;
         self.line = line;
         self.path = path;
         self.numbers = numbers;
@@ -87,6 +85,24 @@ impl<'a> Cursor<'a> {
     {
         cmp_from(self.nodes, self.line.as_slice(), list, known)
     }
+}
+
+/// Replaces the texts after the first `common` of the path by those of the line's nodes.
+fn read_line<'a>(
+    nodes: &'a Nodes,
+    line: &[usize],
+    common: usize,
+    path: &mut Vec<&'a str>,
+) -> Result<(), Memory>
+    requires line { IsLine nodes.now line.now (place nodes.now line.now) }
+    requires known { Agree common (texts_at path.old.items) (place nodes.now line.now) }
+    ensures { OnOk result (texts_at path.new.items ≡ place nodes.now line.now) }
+{
+    path.truncate(common);
+    while path.len() < line.len() {
+        path.push(nodes.text(line[path.len()]))?;
+    }
+    Ok(())
 }
 
 /// Passes each list before which the cursor is, after the path, in order to the visitor, with the number of texts that

@@ -1,11 +1,17 @@
 use Rattle.std.proofs.lemmas.Grind.{common_steps}
 use Rattle.std.proofs.Common.{arith}
-use Rattle.cadf_pathset.proofs.Threads.{place_of}
-use Rattle.cadf_pathset.proofs.Compared.{cut_path}
+use Rattle.cadf_pathset.proofs.Threads.{place_of, self_line}
+use Rattle.cadf_pathset.proofs.Agreement.{agree_turned}
 use Rattle.cadf_pathset.proofs.cursor.Cursor.advance.Goals as goal
 
-pub loop-path-init : goal.loop-path-init
-loop-path-init c = grind (arith, common_steps, place_of, cut_path)
+pub read_line-requires-clause-line : goal.read_line-requires-clause-line
+read_line-requires-clause-line c = grind (arith, common_steps, self_line)
 
-pub loop-path-preserved : goal.loop-path-preserved
-loop-path-preserved c = grind (arith, common_steps)
+pub read_line-requires-clause-known : goal.read_line-requires-clause-known
+read_line-requires-clause-known c = grind (arith, common_steps, place_of)
+
+pub cmp_from-shared-requires-clause-line : goal.cmp_from-shared-requires-clause-line
+cmp_from-shared-requires-clause-line c = grind (arith, common_steps, self_line)
+
+pub cmp_from-shared-requires-clause-known : goal.cmp_from-shared-requires-clause-known
+cmp_from-shared-requires-clause-known c = grind (arith, common_steps, place_of, agree_turned)

@@ -1,10 +1,10 @@
 use Rattle.std.proofs.Common.{◌≡◌, ◌-◌, length, take}
 use Rattle.cadf_join.specs.Prefixes.{texts_at}
 use Rattle.cadf_pathset.specs.Nodes.{place}
-use Rattle.cadf_pathset.proofs.cursor.Cursor.advance.Given as goal
+use Rattle.cadf_pathset.proofs.cursor.read_line.Given as goal
 
 abbrev pub invariant-loop-path : goal.invariant-loop-path
-invariant-loop-path l = texts_at l.path.items ≡ take (length l.path.items) (place l.self-inside.nodes.now l.line.items)
+invariant-loop-path l = texts_at l.path.items ≡ take (length l.path.items) (place l.nodes l.line)
 
 abbrev pub decreases-loop-path : goal.decreases-loop-path
-decreases-loop-path l = length l.line.items - length l.path.items
+decreases-loop-path l = length l.line - length l.path.items
