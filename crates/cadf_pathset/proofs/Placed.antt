@@ -1,7 +1,8 @@
 -- The members at some indices, of lists that are numbered.
-use Rattle.std.proofs.Common.{◌≡◌, ℕ, zero, suc, List, [], ◌∷◌, ◌++◌, map, refl, ◌∙◌, sym}
+use Rattle.std.proofs.Common.{◌≡◌, ◌<◌, ◌+◌, ℕ, zero, suc, List, [], ◌∷◌, ◌++◌, map, length, get_or, drop, refl, ap, ◌∙◌, sym}
 use Rattle.std.specs.Prelude.{Option, Some, None, slice_get, option_map}
 use Rattle.std.specs.List.{AllByRecursion, cons_option}
+use Rattle.std.proofs.lemmas.List.{append_assoc, drop_more}
 use Rattle.std.proofs.lemmas.Option.{slice_get-map}
 use Rattle.cadf_pathset.specs.Lists.{at_places}
 
@@ -27,6 +28,15 @@ placed_all P [] xs h = tt
 placed_all P (i ∷ is) xs h = held_at P xs i (at_places is xs) h (placed_all P is xs h)
 
 -- one more index
-pub front_of : {A : Type 0} (o : Option A) (rest : List A) → cons_option o [] ++ rest ≡ cons_option o rest
-front_of None rest = refl
-front_of (Some x) rest = refl
+pub placed_next : {A : Type 0} (xs fs gs : List A) (is : List ℕ) (i : ℕ) → i < length is → gs ≡ fs ++ cons_option (slice_get xs (get_or is i 0)) []
+    → gs ++ at_places (drop (i + 1) is) xs ≡ fs ++ at_places (drop i is) xs
+placed_next {A} xs fs gs is i h e =
+    ap (λ z. z ++ rest) e ∙ append_assoc fs (cons_option (slice_get xs (get_or is i 0)) []) rest
+    ∙ ap (λ z. fs ++ z) (front_of (slice_get xs (get_or is i 0))) ∙ ap (λ z. fs ++ at_places z xs) (sym (drop_more is i 0 h))
+  where
+    rest : List A
+    rest = at_places (drop (i + 1) is) xs
+
+    front_of : (o : Option A) → cons_option o [] ++ rest ≡ cons_option o rest
+    front_of None = refl
+    front_of (Some x) = refl

@@ -190,17 +190,24 @@ pub trait Carrier {
     ghost in_order: { (x y : Texts) → texts_cmp x y ≡ Less → texts_cmp (carrier x) (carrier y) ≡ Greater → ⊥ };
 }
 
+/// Returns the carriers of the lists, without each that isn't above the one before.
+fn carriers_of<C: Carrier>(lists: &PathVec) -> Result<PathVec, Memory>
+    ensures { IfOk result (λ found. found ≡ carriers_in C.carrier [] lists.now) }
+{
+    let mut copier = Copier::new(lists.alloc(), lists.cursor());
+    while let Some(_) = copier.advance()? {
+        copier.copy_if_above(C::length(copier.path()))?;
+    }
+    Ok(copier.into_copies())
+}
+
 /// Returns the lists, which are strictly ascending, with their carriers, in order.
 pub(crate) fn with_carriers<C: Carrier>(lists: PathVec) -> Result<PathVec, Memory>
     requires { IsStrictlySortedBy texts_cmp lists }
     ensures rising { IfOk result (λ all. IsStrictlySortedBy texts_cmp all) }
     ensures set { IfOk result (λ all. set.from_list {R = texts_cmp} all ≡ with_carriers_by C.carrier (set.from_list lists)) }
 {
-    let mut copier = Copier::new(lists.alloc(), lists.cursor());
-    while let Some(_) = copier.advance()? {
-        copier.copy_if_above(C::length(copier.path()))?;
-    }
-    let carriers = copier.into_copies();
+    let carriers = carriers_of::<C>(&lists)?;
     let mut all = lists;
     all.join(&carriers)?;
     Ok(all)

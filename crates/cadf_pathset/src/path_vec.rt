@@ -188,10 +188,7 @@ impl PathVec {
         ensures shown { OnOk result (S.takes visitor.old (at_places places.now self.now) visitor.new) }
         ensures stopped { IfErr result (λ f. S.stops visitor.old (at_places places.now self.now) f visitor.new) }
     {
-        let mut numbers = Vec::with_capacity(self.alloc, places.len())?;
-        for place in places {
-            push_at(self.numbers.as_slice(), *place, &mut numbers)?;
-        }
+        let numbers = numbers_at(self.alloc, self.numbers.as_slice(), places)?;
         let cursor = Cursor::new(self.alloc, &self.nodes, numbers.as_slice());
         let mut path = Vec::new(self.alloc);
         visit_all(cursor, &mut path, visitor)
@@ -280,6 +277,17 @@ impl PathVec {
     {
         self.numbers.len()
     }
+}
+
+/// Returns the numbers at these indices, in the order of the indices. Passes over an index that is too great.
+fn numbers_at(alloc: Global, numbers: &[usize], places: &[usize]) -> Result<Vec<usize>, Memory>
+    ensures { IfOk result (λ found. found.items ≡ at_places places.now numbers.now) }
+{
+    let mut found = Vec::with_capacity(alloc, places.len())?;
+    for place in places {
+        push_at(numbers, *place, &mut found)?;
+    }
+    Ok(found)
 }
 
 /// Appends the number at that index, if there is one.

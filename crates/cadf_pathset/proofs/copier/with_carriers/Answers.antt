@@ -1,5 +1,4 @@
-use Rattle.std.proofs.lemmas.Grind.{common_steps}
-use Rattle.std.proofs.Common.{◌≡◌, true, [], ap, sym, subst, ◌∙◌, arith}
+use Rattle.std.proofs.Common.{[], true, ap, sym, subst, ◌∙◌}
 use Rattle.std.specs.List.Sorted.{IsStrictlySortedBy}
 use Rattle.cadf_join.specs.Contents.{texts_cmp}
 use Rattle.cadf_join.specs.Sets as set
@@ -12,18 +11,15 @@ use Rattle.cadf_pathset.proofs.copier.with_carriers.Goals as goal
 
 pub join-requires-clause-theirs : goal.join-requires-clause-theirs
 join-requires-clause-theirs g c =
-    let found : c.into_copies-carriers.result ≡ carriers_in g.C.Carrier.carrier [] c.args.lists = grind (arith, common_steps) in
-    subst (IsStrictlySortedBy texts_cmp) (sym found) (rises g.C.Carrier.carrier c.args.lists [] (nil_rises texts_total texts_same))
+    subst (IsStrictlySortedBy texts_cmp) (sym c.in_ok-carriers.ensures) (rises g.C.Carrier.carrier c.args.lists [] (nil_rises texts_total texts_same))
 
 pub returns-clause-rising : goal.returns-clause-rising
 returns-clause-rising g c =
-    let found : c.into_copies-carriers.result ≡ carriers_in g.C.Carrier.carrier [] c.args.lists = grind (arith, common_steps) in
-    subst (IsStrictlySortedBy texts_cmp) (sym (c.in_ok-join.ensures.ok ∙ ap (sorted_merge texts_cmp true c.args.lists) found))
+    subst (IsStrictlySortedBy texts_cmp) (sym (c.in_ok-join.ensures.ok ∙ ap (sorted_merge texts_cmp true c.args.lists) c.in_ok-carriers.ensures))
     (merged_rises texts_total texts_same c.args.lists (carriers_in g.C.Carrier.carrier [] c.args.lists) c.requires
     (rises g.C.Carrier.carrier c.args.lists [] (nil_rises texts_total texts_same)))
 
 pub returns-clause-set : goal.returns-clause-set
 returns-clause-set g c =
-    let found : c.into_copies-carriers.result ≡ carriers_in g.C.Carrier.carrier [] c.args.lists = grind (arith, common_steps) in
-    ap set.from_list (c.in_ok-join.ensures.ok ∙ ap (sorted_merge texts_cmp true c.args.lists) found)
+    ap set.from_list (c.in_ok-join.ensures.ok ∙ ap (sorted_merge texts_cmp true c.args.lists) c.in_ok-carriers.ensures)
     ∙ with_theirs g.C.Carrier.carrier g.met.C.Carrier.in_order c.args.lists c.requires
