@@ -29,3 +29,12 @@ returns-in_err-push-clause-line g c =
     ∙ kept_more ls ((list_at ls c.end_of.result ++ c.text_at.result.now ∷ []) ∷ []) in
     let line = self_line us ns l (line_kept ls us kept ns l c.loop-nodes.invariant.line) in
     grind (arith, common_steps)
+
+pub returns-in_err-number-clause-line : goal.returns-in_err-number-clause-line
+returns-in_err-number-clause-line g c = grind (arith, common_steps, self_line)
+
+pub returns-clause-line : goal.returns-clause-line
+returns-clause-line g c = self_line c.loop-nodes.nodes c.loop-nodes.line.items _ c.loop-nodes.invariant.line
+
+pub returns-clause-ok : goal.returns-clause-ok
+returns-clause-ok g c = grind (arith, common_steps, place_of, length-map)
