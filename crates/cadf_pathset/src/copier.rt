@@ -107,19 +107,27 @@ impl<'a> Copier<'a> {
     }
 }
 
-/// Returns the lists whose flags are set. Flags and lists are in the same order.
-pub(crate) fn chosen(rows: &PathVec, flags: &[bool]) -> Result<PathVec, Memory>
-    ensures { IfOk result (λ some. some ≡ chosen_of flags.now rows.now) }
+/// Copies the lists ahead of the cursor whose flags are set. Flags and lists are in the same order.
+fn copy_chosen(copier: &mut Copier<'_>, flags: &[bool]) -> Result<(), Memory>
+    ensures { OnOk result (copier.new.1 ≡ copier.old.1 ++ chosen_of flags.now copier.old.0.1) }
 {
-    let mut copier = Copier::new(rows.alloc(), rows.cursor());
     for flag in flags {
         if copier.advance()?.is_none() {
-            return Ok(copier.into_copies());
+            return Ok(());
         }
         if *flag {
             copier.copy()?;
         }
     }
+    Ok(())
+}
+
+/// Returns the lists whose flags are set. Flags and lists are in the same order.
+pub(crate) fn chosen(rows: &PathVec, flags: &[bool]) -> Result<PathVec, Memory>
+    ensures { IfOk result (λ some. some ≡ chosen_of flags.now rows.now) }
+{
+    let mut copier = Copier::new(rows.alloc(), rows.cursor());
+    copy_chosen(&mut copier, flags)?;
     Ok(copier.into_copies())
 }
 
@@ -202,13 +210,12 @@ fn carriers_of<C: Carrier>(lists: &PathVec) -> Result<PathVec, Memory>
 }
 
 /// Returns the lists, which are strictly ascending, with their carriers, in order.
-pub(crate) fn with_carriers<C: Carrier>(lists: PathVec) -> Result<PathVec, Memory>
+pub(crate) fn with_carriers<C: Carrier>(mut lists: PathVec) -> Result<PathVec, Memory>
     requires { IsStrictlySortedBy texts_cmp lists }
     ensures rising { IfOk result (λ all. IsStrictlySortedBy texts_cmp all) }
     ensures set { IfOk result (λ all. set.from_list {R = texts_cmp} all ≡ with_carriers_by C.carrier (set.from_list lists)) }
 {
     let carriers = carriers_of::<C>(&lists)?;
-    let mut all = lists;
-    all.join(&carriers)?;
-    Ok(all)
+    lists.join(&carriers)?;
+    Ok(lists)
 }

@@ -2,7 +2,7 @@ use Rattle.std.proofs.lemmas.Grind.{common_steps}
 use Rattle.std.proofs.Common.{arith}
 use Rattle.std.proofs.lemmas.List.{append-nil}
 use Rattle.cadf_pathset.proofs.Copies.{chosen_none}
-use Rattle.cadf_pathset.proofs.copier.chosen.Goals as goal
+use Rattle.cadf_pathset.proofs.copier.copy_chosen.Goals as goal
 
 pub returns-then-is_none : goal.returns-then-is_none
 returns-then-is_none c = grind (arith, common_steps, append-nil, chosen_none)

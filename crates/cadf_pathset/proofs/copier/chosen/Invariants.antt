@@ -1,6 +1,0 @@
-use Rattle.std.proofs.Common.{◌≡◌, ◌++◌, drop}
-use Rattle.cadf_pathset.specs.Lists.{chosen_of}
-use Rattle.cadf_pathset.proofs.copier.chosen.Given as goal
-
-abbrev pub invariant-loop-flag : goal.invariant-loop-flag
-invariant-loop-flag l = l.copier.1 ++ chosen_of (drop l.flag-index l.flags) l.copier.0.1 ≡ chosen_of l.flags l.rows
