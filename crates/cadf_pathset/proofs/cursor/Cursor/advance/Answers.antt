@@ -15,3 +15,9 @@ cmp_from-shared-requires-clause-line c = grind (arith, common_steps, self_line)
 
 pub cmp_from-shared-requires-clause-known : goal.cmp_from-shared-requires-clause-known
 cmp_from-shared-requires-clause-known c = grind (arith, common_steps, place_of, agree_turned)
+
+pub invariant_of-self-2 : goal.invariant_of-self-2
+invariant_of-self-2 c = grind (arith, common_steps, self_line)
+
+pub returns : goal.returns
+returns c = grind (arith, common_steps, place_of)
