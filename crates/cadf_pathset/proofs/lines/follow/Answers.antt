@@ -25,3 +25,9 @@ loop-next-init c = grind (arith, common_steps)
 
 pub returns-clause-common : goal.returns-clause-common
 returns-clause-common c = grind (arith, common_steps)
+
+pub loop-at-preserved-then-top-at : goal.loop-at-preserved-then-top-at
+loop-at-preserved-then-top-at c = grind (arith, common_steps)
+
+pub returns-clause-line : goal.returns-clause-line
+returns-clause-line c = grind (arith, common_steps)
