@@ -23,6 +23,9 @@ loop-more-init c =
       lists = λ i. lists_at ls (c.requires.none i) ++ sorted_merge texts_cmp true (lists_at ls c.args.numbers.now) (c.in_ok-more.ensures.ahead i);
     }
 
+pub loop-more-preserved-in-Less : goal.loop-more-preserved-in-Less
+loop-more-preserved-in-Less c = grind (arith, common_steps)
+
 pub loop-more-preserved-in-Equal : goal.loop-more-preserved-in-Equal
 loop-more-preserved-in-Equal c =
     let h = c.loop-more.invariant in

@@ -28,3 +28,6 @@ returns-in_ok-extend_from_slice-clause-front c =
       agrees = subst (λ z. Agree c.cmp_from-order.result.1 z b) (sym (place_of ls c.follow.new.line.items l line)) both;
       out = front_out ls c.follow.new.line.items c.extend_from_slice.new.self.items c.cmp_from-order.result.1 l b line cut both;
     }
+
+pub returns-else-both-len-clause-front : goal.returns-else-both-len-clause-front
+returns-else-both-len-clause-front c = grind (arith, common_steps)
