@@ -34,20 +34,6 @@ pub(crate) struct Merger<'a> {
 }
 
 impl<'a> Merger<'a> {
-    /// Starts before the first of their lists. Allocates nothing.
-    fn new(alloc: Global, cursor: Cursor<'a>) -> Merger<'a>
-        ensures cursor { result.cursor ≡ cursor.entry }
-        ensures front { (ls : List Texts) → IsMerging ls result }
-    {
-        Merger {
-            cursor,
-            line: Vec::new(alloc),
-            up: Vec::new(alloc),
-            agreed: 0,
-            out: Vec::new(alloc),
-        }
-    }
-
     /// Compares one of our lists with theirs. Skips the first texts that both are known to share.
     fn compare(&mut self, nodes: &Nodes, number: usize) -> Result<Ordering, Memory>
         requires there { number ≤ length nodes.now }
@@ -211,7 +197,13 @@ pub(crate) fn merge(
         ≡ sorted_merge texts_cmp true (lists_at nodes.old numbers.now) other.now) }
 {
     let mut all = Vec::with_capacity(alloc, numbers.len().saturating_add(other.count()))?;
-    let mut merger = Merger::new(alloc, other.cursor());
+    let mut merger = Merger {
+        cursor: other.cursor(),
+        line: Vec::new(alloc),
+        up: Vec::new(alloc),
+        agreed: 0,
+        out: Vec::new(alloc),
+    };
     merger.append_all(nodes, numbers, &mut all)?;
     Ok(all)
 }

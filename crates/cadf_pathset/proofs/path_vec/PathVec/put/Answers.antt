@@ -1,6 +1,6 @@
 use Rattle.std.proofs.lemmas.Grind.{common_steps}
-use Rattle.std.proofs.Common.{◌∙◌, ap, arith, map, sym, subst}
-use Rattle.cadf_pathset.specs.Nodes.{Agree, AreThere, IsLine, IsThere, last_node, place}
+use Rattle.std.proofs.Common.{◌∙◌, ap, arith, sym, subst}
+use Rattle.cadf_pathset.specs.Nodes.{AreThere, IsThere, last_node, place}
 use Rattle.cadf_pathset.proofs.Inserts.{all_put, map_put}
 use Rattle.cadf_pathset.proofs.Merging.{front_out}
 use Rattle.cadf_pathset.proofs.Threads.{last_there, lists_kept, place_of, there_kept}
@@ -28,22 +28,5 @@ invariant_of-self-2 g c =
 pub returns-clause-ok : goal.returns-clause-ok
 returns-clause-ok g c = grind (arith, common_steps, lists_kept, map_put, place_of)
 
-pub cmp_from-agreed-requires-clause-line : goal.cmp_from-agreed-requires-clause-line
-cmp_from-agreed-requires-clause-line g c =
-    subst (λ z. IsLine c.self.inside.nodes z (place c.self.inside.nodes z)) (sym c.as_slice-3.ensures.value) c.self.invariant.1
-
-pub cmp_from-agreed-requires-clause-known : goal.cmp_from-agreed-requires-clause-known
-cmp_from-agreed-requires-clause-known g c = grind (arith, common_steps)
-
 pub extend-requires : goal.extend-requires
-extend-requires g c =
-    let ls = c.self.inside.nodes in
-    let line = c.self.inside.line.items in
-    let agreed = subst (λ z. Agree c.cmp_from-agreed.result.1 (place ls z) (map g.W.AsStr.text c.args.path.now)) c.as_slice-3.ensures.value c.cmp_from-agreed.ensures.agreed in
-    record {
-      line = front_out ls line c.truncate.new.self.items c.cmp_from-agreed.result.1 (place ls line) (map g.W.AsStr.text c.args.path.now) c.self.invariant.1
-          c.truncate.ensures.items agreed;
-    }
-
-pub invariant_of-self : goal.invariant_of-self
-invariant_of-self g c = (there_kept c.self.inside.nodes c.extend.new.nodes c.extend.ensures.kept c.self.inside.numbers.items c.self.invariant.0, c.extend.ensures.line)
+extend-requires g c = grind (arith, common_steps, front_out)

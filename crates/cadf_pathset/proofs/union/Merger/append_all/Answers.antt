@@ -36,14 +36,13 @@ loop-more-preserved-in-Equal c =
     let n : ℕ = get_or ns c.loop-more.at 0 in
     let there : n ≤ length first = there_at first ns c.loop-more.at c.requires.ours lt in
     let put = c.in_ok-push-in-Equal.ensures.items in
-    let total = sorted_merge texts_cmp true (lists_at first ns) c.args.self.now.cursor.1 in
     record {
       kept = h.kept;
       within = omega (arith, lt);
       short = omega arith;
       there = ours_there ls first h.kept c.loop-more.all.items c.push-in-Equal.new.self.items n put h.there there;
       front = c.in_ok-more-in-Equal.ensures.front ls c.in_ok-compare.ensures.front;
-      lists = turn_equal first ns c.loop-more.at (lists_at ls c.loop-more.all.items) total c.loop-more.more c.loop-more.self.cursor c.loop-more-test.true h.lists
+      lists = turn_equal first ns c.loop-more.at (lists_at ls c.loop-more.all.items) _ c.loop-more.more c.loop-more.self.cursor c.loop-more-test.true h.lists
           lt n refl (lists_at ls c.push-in-Equal.new.self.items) c.in_ok-more-in-Equal.more c.enter-in-Equal.new.self.cursor
           (ours_put ls first h.kept c.loop-more.all.items c.push-in-Equal.new.self.items n put there)
           (order_is ls first h.kept n c.loop-more.self.cursor.0 _ Equal there c.in_ok-compare.ensures.order c.in-Equal.is)
@@ -61,14 +60,13 @@ loop-more-preserved-in-Greater c =
     let n : ℕ = get_or ns c.loop-more.at 0 in
     let there : n ≤ length first = there_at first ns c.loop-more.at c.requires.ours lt in
     let put = c.in_ok-more-in-Greater.ensures in
-    let total = sorted_merge texts_cmp true (lists_at first ns) c.args.self.now.cursor.1 in
     record {
       kept = kept_again first ls us h.kept put.kept;
       within = h.within;
       short = omega arith;
       there = put.there;
       front = put.front;
-      lists = turn_greater first ns c.loop-more.at (lists_at ls c.loop-more.all.items) total c.loop-more.more c.loop-more.self.cursor c.loop-more-test.true h.lists
+      lists = turn_greater first ns c.loop-more.at (lists_at ls c.loop-more.all.items) _ c.loop-more.more c.loop-more.self.cursor c.loop-more-test.true h.lists
           lt n refl (lists_at us c.append.new.all.items) c.in_ok-more-in-Greater.more c.append.new.self.cursor
           (put.lists ∙ ap (λ p. lists_at ls c.loop-more.all.items ++ p.0 ∷ []) c.compare.ensures.cursor)
           (order_is ls first h.kept n c.loop-more.self.cursor.0 _ Greater there c.in_ok-compare.ensures.order c.in-Greater.is)
