@@ -1,3 +1,4 @@
+use Rattle.std.proofs.lemmas.Grind.{common_steps}
 use Rattle.std.proofs.Common.{◌≡◌, ◌∙◌, ℕ, ◌++◌, length, take, ap, arith, rules, append_assoc, length-append, length-take}
 use Rattle.cadf_json.proofs.Known.{consumes_more}
 use Rattle.cadf_json.proofs.transfer.read_rest.Goals as goal
@@ -26,3 +27,33 @@ returns-then-is_err-clause-memory g c =
       consumes_more _ _ _ before.0 piece before.1 c.in-Ok.ensures.bytes.0,
       omega (arith, before.3, ap length before.2, length-append {A = ℕ}, length-take {A = ℕ}, bound.0, bound.1),
     )
+
+pub returns-in-Ok-eq0-clause-failures : goal.returns-in-Ok-eq0-clause-failures
+returns-in-Ok-eq0-clause-failures g c = grind (arith, common_steps)
+
+pub returns-in-Err-clause-read_fault : goal.returns-in-Err-clause-read_fault
+returns-in-Err-clause-read_fault g c = grind (arith, common_steps)
+
+pub returns-in-Err-clause-failures : goal.returns-in-Err-clause-failures
+returns-in-Err-clause-failures g c = grind (arith, common_steps)
+
+pub returns-then-is_err-clause-failures : goal.returns-then-is_err-clause-failures
+returns-then-is_err-clause-failures g c = grind (arith, common_steps)
+
+pub returns-clause-too_large : goal.returns-clause-too_large
+returns-clause-too_large g c = grind (arith, common_steps)
+
+pub returns-clause-failures : goal.returns-clause-failures
+returns-clause-failures g c = grind (arith, common_steps)
+
+pub returns-in-Ok-eq0-clause-reads : goal.returns-in-Ok-eq0-clause-reads
+returns-in-Ok-eq0-clause-reads g c = grind (arith, common_steps)
+
+pub returns-in-Err-clause-reads : goal.returns-in-Err-clause-reads
+returns-in-Err-clause-reads g c = grind (arith, common_steps)
+
+pub returns-then-is_err-clause-reads : goal.returns-then-is_err-clause-reads
+returns-then-is_err-clause-reads g c = grind (arith, common_steps)
+
+pub returns-clause-reads : goal.returns-clause-reads
+returns-clause-reads g c = grind (arith, common_steps)
