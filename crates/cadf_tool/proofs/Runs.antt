@@ -1,5 +1,5 @@
 -- The parts of a run, combined.
-use Rattle.std.proofs.Common.{◌≡◌, ℕ, List, map, Result, Ok, Err, IsErrAnd, refl, sym, ap, ◌∙◌, subst, inl, inr}
+use Rattle.std.proofs.Common.{◌≡◌, ℕ, List, map, Result, Ok, Err, IfOk, IfErr, IsErrAnd, refl, sym, ap, ◌∙◌, subst, inl, inr}
 use Rattle.std.proofs.lemmas.Result.{err_from_is_err_and}
 use Rattle.cadf_json.specs.declared.stream.Sink.{Ghosts as Sink}
 use Rattle.cadf_json.specs.declared.stream.Source.{Ghosts as Source}
@@ -9,6 +9,7 @@ use Rattle.cadf_tool.specs.declared.fault.ToolFault.{ToolFault}
 use Rattle.cadf_tool.specs.declared.fault.ToolFault.TheVariants.{Memory}
 use Rattle.cadf_tool.specs.Faults.{FaultStage, Reading, Working, Writing, OutOfMemoryStage, fault_stage}
 use Rattle.cadf_tool.specs.Inputs.{source_state, AreReadWithin}
+use Rattle.cadf_tool.specs.JoinState.{IsOnOk}
 use Rattle.cadf_tool.specs.Run.{SourceTransition, InputSpec, Sources, with_number, both, all_from, AreLoaded, IsReadAs, IsReadWithin, IsFirstFault}
 use Rattle.cadf_tool.specs.Run.{IsFirstFaultBy, IsUnread, IsExpectedBy, IsWorkFaultBy, IsWorkedBy, IsAnswer, IsRunBy}
 use Rattle.cadf_tool.proofs.LoadedLists.{none_failed, reads_first}
@@ -94,10 +95,42 @@ module _ {A M : Type 0} {sources : Sources A} {work : A → Result M ToolFault �
       let p = err_from_is_err_and result passed in
       record { expected = Err fault; first = first; answer = (p.1 ∙ ap Err p.2, refl) }
 
-  pub stopped : {W T : Type 0} {tell : M → Text} {sink : Sink W} {old : W} (result : Result T ToolFault) (fault : ToolFault)
-      → IsErrAnd result (λ f. f ≡ fault) → AreStopped sources fault → IsRunBy sources work tell sink old old result
-  stopped result fault passed s = unwritten result fault passed (record { is = at (fault_stage fault) s.is; bounded = s.bounded })
+  unread : (fault : ToolFault) → AreStopped sources fault → IsExpectedBy sources work (Err fault)
+  unread fault s = record { is = at (fault_stage fault) s.is; bounded = s.bounded }
     where
       at : (stage : FaultStage) → IsFirstFault sources Ok fault stage → IsFirstFaultBy sources work fault stage
       at Working (a, are, e) = absurd (cc)
       at _ h = h
+
+  pub stopped : {W T : Type 0} {tell : M → Text} {sink : Sink W} {old : W} (result : Result T ToolFault) (fault : ToolFault)
+      → IsErrAnd result (λ f. f ≡ fault) → AreStopped sources fault → IsRunBy sources work tell sink old old result
+  stopped result fault passed s = unwritten result fault passed (unread fault s)
+
+-- nothing is made if the last source was not read
+module _ {A B M W T : Type 0} {sources : Sources A} {number : ℕ} {t : SourceTransition} {work : A → Result M ToolFault → Type 0} {tell : M → Text}
+    {sink : Sink W} {old new : W} {result : Result T ToolFault} where
+  pub last_run : (reader : InputSpec B) (all : B → A) (r : Result B ToolFault) (made : Result M ToolFault)
+      → ((b : B) → AreRead (with_number number reader t) b → AreRead sources (all b))
+      → ((fault : ToolFault) → AreStopped (with_number number reader t) fault → AreStopped sources fault)
+      → IfOk r (IsReadAs reader t) → IfErr r (IsUnread (with_number number reader t)) → IsReadWithin reader.limit t
+      → IsOnOk r (λ b. IsWorkedBy (work (all b))) made → IsAnswer tell sink old new made result → IsRunBy sources work tell sink old new result
+  last_run reader all (Ok b) made read stop ok err reads is answer = worked_run made (read b (one_read number reader t reads b ok)) is answer
+  last_run reader all (Err fault) made read stop ok err reads is answer = record {
+    expected = Err fault;
+    first = unread fault (stop fault (record { is = err; bounded = reads }));
+    answer = subst (λ r. IsAnswer tell sink old new r result) is answer;
+  }
+
+-- the last is the second, or the third
+module _ {A B M W T : Type 0} {first : Sources A} {number : ℕ} {t : SourceTransition} {work : A × B → Result M ToolFault → Type 0} {tell : M → Text}
+    {sink : Sink W} {old new : W} {a : A} {result : Result T ToolFault} where
+  pub second_run : (reader : InputSpec B) (r : Result B ToolFault) (made : Result M ToolFault) → AreRead first a → IfOk r (IsReadAs reader t)
+      → IfErr r (IsUnread (with_number number reader t)) → IsReadWithin reader.limit t → IsOnOk r (λ b. IsWorkedBy (work (a, b))) made
+      → IsAnswer tell sink old new made result → IsRunBy (both first (with_number number reader t)) work tell sink old new result
+  second_run reader r made f = last_run reader (λ b. (a, b)) r made (λ b k. both_read f k) (λ fault k. second_stopped f k)
+
+-- by what is told of a result
+pub on_ok_more : {A M : Type 0} (P Q : A → Result M ToolFault → Type 0) (r : Result A ToolFault) (made : Result M ToolFault) → IsOnOk r P made
+    → ((a : A) → P a made → Q a made) → IsOnOk r Q made
+on_ok_more P Q (Ok a) made is more = more a is
+on_ok_more P Q (Err fault) made is more = is

@@ -16,10 +16,10 @@ use Rattle.cadf_tool.specs.declared.input.Loaded.TheVariants.{Replica}
 use Rattle.cadf_tool.specs.declared.fault.ToolFault.{ToolFault}
 use Rattle.cadf_tool.specs.declared.fault.ToolFault.TheVariants.{NoLog, OtherLog}
 use Rattle.cadf_tool.specs.declared.join_state.JoinState.{JoinState}
-use Rattle.cadf_tool.specs.declared.join_state.JoinState.TheVariants.{Unnamed, Given, United, Other}
+use Rattle.cadf_tool.specs.declared.join_state.JoinState.TheVariants.{Unnamed, Joined, Other}
 use Rattle.cadf_tool.specs.Faults.{FaultStage, Working, fault_stage}
 use Rattle.cadf_tool.specs.Join.{first_named, is_other, union_of, unless_other, join_in, join_from, join_of, on_ok}
-use Rattle.cadf_tool.specs.JoinState.{IsNamed, IsJoinState, log_joined}
+use Rattle.cadf_tool.specs.JoinState.{IsJoinState, log_joined, IsOnOk}
 use Rattle.cadf_tool.specs.Missing.{under_one_log_at, missing_of, delta_between, if_named, part_of_unions}
 use Rattle.cadf_tool.specs.MissingBy.{missing_by_at, part_by, part_by_union}
 use Rattle.cadf_tool.specs.Run.{IsWorkFaultBy, IsWorked, IsWorkedBy}
@@ -33,67 +33,71 @@ use Rattle.cadf_tool.proofs.UnitingLemmas.{not_other}
 abbrev delta_of : (first : ℕ) (tos : List Loaded) → ReplicaModel → Result ReplicaModel ToolFault
 delta_of first tos h = on_ok (join_from first (Some h.log) tos) (λ k. missing_of (Replica h) (Replica k))
 
-pub none_named : (froms tos : List Loaded) (b : Bool) → b ≡ is_some (first_named tos) → b ≡ false → part_of_unions (froms, tos) ≡ Err NoLog
+none_named : (froms tos : List Loaded) (b : Bool) → b ≡ is_some (first_named tos) → b ≡ false → part_of_unions (froms, tos) ≡ Err NoLog
 none_named froms tos b e h = grind (arith, common_steps)
 
 module _ (froms tos : List Loaded) (from : JoinState) (joined : IsJoinState 1 None froms from) where
   abbrev next : ℕ
   next = length froms + 1
 
-  named_to : IsNamed tos → part_of_unions (froms, tos) ≡ on_ok (join_of None froms) (λ h. delta_of next tos h)
-  named_to (log, e) = ap (λ o. if_named o (on_ok (join_of None froms) (λ h. delta_of next tos h))) e
+  named_to : is_some (first_named tos) ≡ true → part_of_unions (froms, tos) ≡ on_ok (join_of None froms) (λ h. delta_of next tos h)
+  named_to named = grind (arith, common_steps)
 
   log_is : (h : ReplicaModel) → join_of None froms ≡ Ok h → log_joined from ≡ Some h.log
   log_is h e = by from joined
     where
       by : (s : JoinState) → IsJoinState 1 None froms s → log_joined s ≡ Some h.log
       by (Unnamed ds) j = let f = sym (ap (λ o. join_in 1 o froms) j.0) ∙ e in absurd (cc)
-      by (Given k) j = let f = j.0 in absurd (cc)
-      by (United k) j = let f = sym j.0 ∙ e in let same : k ≡ h = cc in ap (λ (m : ReplicaModel). Some m.log) same
+      by (Joined k is_named) j = let f = sym j.0 ∙ e in let same : k ≡ h = cc in ap (λ (m : ReplicaModel). Some m.log) same
       by (Other n) j = let f = sym j ∙ e in absurd (cc)
 
   module _ (h : ReplicaModel) (e : join_of None froms ≡ Ok h) where
-    delta_is : IsNamed tos → part_of_unions (froms, tos) ≡ delta_of next tos h
+    delta_is : is_some (first_named tos) ≡ true → part_of_unions (froms, tos) ≡ delta_of next tos h
     delta_is named = named_to named ∙ ap (λ r. on_ok r (λ k. delta_of next tos k)) e
 
-    pub to_united : (k : ReplicaModel) (result : Result ReplicaModel ToolFault) → IsJoinState next (log_joined from) tos (United k)
+    to_united : (k : ReplicaModel) (result : Result ReplicaModel ToolFault) → is_some (first_named tos) ≡ true → join_from next (log_joined from) tos ≡ Ok k
         → IsWorked (missing_of (Replica h) (Replica k)) result → IsWorked (part_of_unions (froms, tos)) result
-    to_united k result t w =
-        let is : join_from next (Some h.log) tos ≡ Ok k = subst (λ o. join_from next o tos ≡ Ok k) (log_is h e) t.0 in
-        subst (λ r. IsWorked r result) (sym (delta_is t.1 ∙ ap (λ r. on_ok r (λ m. missing_of (Replica h) (Replica m))) is)) w
+    to_united k result named t w =
+        let is : join_from next (Some h.log) tos ≡ Ok k = subst (λ o. join_from next o tos ≡ Ok k) (log_is h e) t in
+        subst (λ r. IsWorked r result) (sym (delta_is named ∙ ap (λ r. on_ok r (λ m. missing_of (Replica h) (Replica m))) is)) w
 
-    pub to_refused : (fault : ToolFault) → IsNamed tos → IsWorked (join_from next (log_joined from) tos) (Err fault)
+    to_refused : (fault : ToolFault) → is_some (first_named tos) ≡ true → IsWorked (join_from next (log_joined from) tos) (Err fault)
         → IsWorked (part_of_unions (froms, tos)) (Err fault)
     to_refused fault named w =
         subst (λ r. IsWorked r (Err fault)) (sym (delta_is named)) (on_fault (λ k. missing_of (Replica h) (Replica k)) (join_from next (Some h.log) tos) fault
         (subst (λ o. IsWorked (join_from next o tos) (Err fault)) (log_is h e) w))
 
-  pub from_refused : (fault : ToolFault) → IsNamed tos → IsWorked (join_of None froms) (Err fault) → IsWorked (part_of_unions (froms, tos)) (Err fault)
+  from_refused : (fault : ToolFault) → is_some (first_named tos) ≡ true → IsWorked (join_of None froms) (Err fault) → IsWorked (part_of_unions (froms, tos)) (Err fault)
   from_refused fault named w = subst (λ r. IsWorked r (Err fault)) (sym (named_to named)) (on_fault (λ h. delta_of next tos h) (join_of None froms) fault w)
+
+  -- by the results of both joins
+  pub parted : (h k result : Result ReplicaModel ToolFault) (named : Bool) → IsWorked (join_of None froms) h → IsWorked (join_from next (log_joined from) tos) k
+      → named ≡ is_some (first_named tos) → (named ≡ true → IsOnOk h (λ f. IsOnOk k (λ t. IsWorked (missing_of (Replica f) (Replica t)))) result)
+      → (named ≡ false → result ≡ Err NoLog) → IsWorked (part_of_unions (froms, tos)) result
+  parted h k result false f t e made none = subst (IsWorked (part_of_unions (froms, tos))) (sym (none refl)) (none_named froms tos false e refl)
+  parted (Err fault) k result true f t e made none = subst (IsWorked (part_of_unions (froms, tos))) (sym (made refl)) (from_refused fault (sym e) f)
+  parted (Ok h) (Err fault) result true f t e made none =
+      subst (IsWorked (part_of_unions (froms, tos))) (sym (made refl)) (to_refused h f fault (sym e) t)
+  parted (Ok h) (Ok k) result true f t e made none = to_united h f k result (sym e) t (made refl)
 
 -- ---- a delta against an inventory
 
-module _ (froms : List Loaded) where
-  pub by_inventory : (number : ℕ) (noted : InventoryModel) → number ≡ length froms + 1 → (h : ReplicaModel) (result : Result ReplicaModel ToolFault)
-      → join_of None froms ≡ Ok h → IsWorked (missing_by_at number (Replica h) noted) result → IsWorked (part_by_union (froms, noted)) result
-  by_inventory number noted is h result e w =
-      on_value (λ k. missing_by_at (length froms + 1) (Replica k) noted) (join_of None froms) h result e
-      (subst (λ n. IsWorked (missing_by_at n (Replica h) noted) result) is w)
-
-  pub by_no_inventory : (noted : InventoryModel) (fault : ToolFault) → IsWorked (join_of None froms) (Err fault)
-      → IsWorked (part_by_union (froms, noted)) (Err fault)
-  by_no_inventory noted fault w = on_fault (λ k. missing_by_at (length froms + 1) (Replica k) noted) (join_of None froms) fault w
+pub by_inventory : (froms : List Loaded) (number : ℕ) (noted : InventoryModel) → number ≡ length froms + 1 → (h result : Result ReplicaModel ToolFault)
+    → IsWorked (join_of None froms) h → IsOnOk h (λ k. IsWorked (missing_by_at number (Replica k) noted)) result → IsWorked (part_by_union (froms, noted)) result
+by_inventory froms number noted is (Ok h) result e w =
+    on_value (λ k. missing_by_at (length froms + 1) (Replica k) noted) (join_of None froms) h result e
+    (subst (λ n. IsWorked (missing_by_at n (Replica h) noted) result) is w)
+by_inventory froms number noted is (Err fault) result e w =
+    subst (IsWorked (part_by_union (froms, noted))) (sym w) (on_fault (λ k. missing_by_at (length froms + 1) (Replica k) noted) (join_of None froms) fault e)
 
 -- ---- a delta against a sketch
 
 module _ (froms : List Loaded) (number : ℕ) (sketch : SketchModel) (is : number ≡ length froms + 1) where
-  pub by_sketch : (h : ReplicaModel) (result : Result ReplicaModel ToolFault) → join_of None froms ≡ Ok h
-      → IsWorkedBy (IsAnswerTo number sketch h) result → IsWorkedBy (IsPartOfUnionBySketch (froms, sketch)) result
-  by_sketch h result e w = subst (λ n. IsWorkedBy (IsAnswerOfResult n sketch (join_of None froms)) result) is
+  pub by_sketch : (h result : Result ReplicaModel ToolFault) → IsWorked (join_of None froms) h → IsOnOk h (λ k. IsWorkedBy (IsAnswerTo number sketch k)) result
+      → IsWorkedBy (IsPartOfUnionBySketch (froms, sketch)) result
+  by_sketch (Ok h) result e w = subst (λ n. IsWorkedBy (IsAnswerOfResult n sketch (join_of None froms)) result) is
       (subst (λ r. IsWorkedBy (IsAnswerOfResult number sketch r) result) (sym e) w)
-
-  pub by_no_sketch : (fault : ToolFault) → IsWorked (join_of None froms) (Err fault) → IsWorkedBy (IsPartOfUnionBySketch (froms, sketch)) (Err fault)
-  by_no_sketch fault w = at (fault_stage fault) w
+  by_sketch (Err fault) result e w = subst (IsWorkedBy (IsPartOfUnionBySketch (froms, sketch))) (sym w) (at (fault_stage fault) e)
     where
       at : (s : FaultStage) → IsWorkFaultBy (λ r. join_of None froms ≡ r) fault s → IsWorkFaultBy (IsPartOfUnionBySketch (froms, sketch)) fault s
       at Working h = subst (λ r. IsAnswerOfResult (length froms + 1) sketch r (Err fault)) (sym h) refl

@@ -25,7 +25,7 @@ impl Engine for InventoryEngine {
     ghost of_replica = { λ _. of_inventory };
 
     fn make(&self, _alloc: Global, replica: Replica) -> Result<Inventory, ToolFault> {
-        Ok(replica.inventory()?)
+        replica.inventory().or(Err(ToolFault::Memory))
     }
 
     fn write<W: Sink>(

@@ -2,9 +2,10 @@
 ghost use Rattle.std.specs.Prelude.{◌≡◌, ◌+◌, ◌<◌, ◌^◌, length, List, None};
 ghost use Rattle.cadf_tool.specs.WrittenFile.{written_file};
 ghost use Rattle.cadf_tool.specs.declared.input.Loaded.{Loaded};
+ghost use Rattle.cadf_tool.specs.declared.input.Loaded.TheVariants as loaded;
 ghost use Rattle.cadf_tool.specs.ModelInput.{inventory_spec};
-ghost use Rattle.cadf_tool.specs.JoinState.{IsJoinState};
-ghost use Rattle.cadf_tool.specs.MissingBy.{part_by, part_by_union};
+ghost use Rattle.cadf_tool.specs.JoinState.{IsJoinState, IsOnOk};
+ghost use Rattle.cadf_tool.specs.MissingBy.{missing_by_at, part_by, part_by_union};
 ghost use Rattle.cadf_tool.specs.Run.{all, both, with_number, two, transition_of, input_spec, IsWorked, IsRun};
 
 use crate::fault::ToolFault;
@@ -15,18 +16,37 @@ use cadf_json::{Sink, Source};
 use cadf_set::{Inventory, Replica, ReplicaFault};
 use std::alloc::Global;
 
-/// Returns the delta of the union for the inventory, which is input `number`. `NoLog`: no input of the union names a
-/// log. `OtherLog`: an input or the inventory is of another log.
-fn part(number: usize, from: JoinState, inventory: &Inventory) -> Result<Replica, ToolFault>
-    ensures { (froms : List Loaded) → number ≡ length froms + 1 → IsJoinState 1 None froms from
-        → IsWorked (part_by_union (froms, inventory.now)) result }
+/// Returns the delta of the replica for the inventory, which is input `number`, if there are both. `OtherLog` if they are
+/// of different logs.
+fn lacked(
+    number: usize,
+    from: &Result<Replica, ToolFault>,
+    inventory: &Result<Inventory, ToolFault>,
+) -> Result<Replica, ToolFault>
+    ensures { IsOnOk inventory.now (λ noted. IsOnOk from.now (λ h. IsWorked (missing_by_at number (loaded.Replica h) noted))) result }
 {
-    let from = from.end()?;
-    match from.missing_by(inventory) {
-        Ok(part) => Ok(part),
-        Err(ReplicaFault::OtherLog) => Err(ToolFault::OtherLog(number)),
-        Err(_) => Err(ToolFault::Memory),
+    match (inventory, from) {
+        (Err(fault), _) => Err(*fault),
+        (Ok(_), Err(fault)) => Err(*fault),
+        (Ok(inventory), Ok(from)) => match from.missing_by(inventory) {
+            Ok(part) => Ok(part),
+            Err(ReplicaFault::OtherLog) => Err(ToolFault::OtherLog(number)),
+            Err(_) => Err(ToolFault::Memory),
+        },
     }
+}
+
+/// Returns the delta of the union for the inventory, which is input `number`, if it was read. `NoLog`: no input of the
+/// union names a log. `OtherLog`: an input or the inventory is of another log.
+fn part(
+    number: usize,
+    from: JoinState,
+    inventory: &Result<Inventory, ToolFault>,
+) -> Result<Replica, ToolFault>
+    ensures { (froms : List Loaded) → number ≡ length froms + 1 → IsJoinState 1 None froms from
+        → IsOnOk inventory.now (λ noted. IsWorked (part_by_union (froms, noted))) result }
+{
+    lacked(number, &from.end(), inventory)
 }
 
 /// Writes the replica file of the delta of `from` against `inventory`: the least replica that has each atom whose
@@ -42,7 +62,7 @@ pub fn run_missing_by<R: Source, W: Sink>(
         part_by written_file W.Sink output.old output.new result }
 {
     let first = next(alloc, JoinState::new(alloc, None), 1, from)?;
-    let noted = load_inventory(alloc, 2, inventory)?;
+    let noted = load_inventory(alloc, 2, inventory);
     write_result(alloc, part(2, first, &noted), output)
 }
 
@@ -61,6 +81,6 @@ pub fn run_missing_by_union<R: Source, W: Sink>(
 {
     let number = from.len() + 1;
     let union = union_with(alloc, JoinState::new(alloc, None), 1, from)?;
-    let noted = load_inventory(alloc, number, inventory)?;
+    let noted = load_inventory(alloc, number, inventory);
     write_result(alloc, part(number, union, &noted), output)
 }

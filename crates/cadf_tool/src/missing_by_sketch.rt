@@ -2,8 +2,8 @@
 ghost use Rattle.std.specs.Prelude.{◌≡◌, ◌+◌, ◌<◌, ◌^◌, length, List, None};
 ghost use Rattle.cadf_tool.specs.WrittenFile.{written_file};
 ghost use Rattle.cadf_tool.specs.declared.input.Loaded.{Loaded};
-ghost use Rattle.cadf_tool.specs.JoinState.{IsJoinState};
-ghost use Rattle.cadf_tool.specs.Sketch.{IsPartBySketch, IsPartOfUnionBySketch};
+ghost use Rattle.cadf_tool.specs.JoinState.{IsJoinState, IsOnOk};
+ghost use Rattle.cadf_tool.specs.Sketch.{IsAnswerTo, IsPartBySketch, IsPartOfUnionBySketch};
 ghost use Rattle.cadf_tool.specs.ModelInput.{sketch_spec};
 ghost use Rattle.cadf_tool.specs.Run.{all, both, with_number, two, transition_of, input_spec, IsWorkedBy, IsRunBy};
 
@@ -16,24 +16,40 @@ use cadf_set::Replica;
 use cadf_sketch::{ReadFault, Sketch, missing_by_sketch};
 use std::alloc::Global;
 
-/// Returns the delta of the union for the sketch, which is input `number`. `NoLog`: no input of the union names a log.
-/// `OtherLog`: an input or the sketch is of another log. `TooFewCells`: the sketch has too few cells.
+/// Returns the delta of the replica for the sketch, which is input `number`, if there are both. `OtherLog` if they are of
+/// different logs. `TooFewCells`: the sketch has too few cells.
+fn lacked(
+    alloc: Global,
+    number: usize,
+    from: &Result<Replica, ToolFault>,
+    sketch: &Result<Sketch, ToolFault>,
+) -> Result<Replica, ToolFault>
+    ensures { IsOnOk sketch.now (λ read. IsOnOk from.now (λ h. IsWorkedBy (IsAnswerTo number read h))) result }
+{
+    match (sketch, from) {
+        (Err(fault), _) => Err(*fault),
+        (Ok(_), Err(fault)) => Err(*fault),
+        (Ok(sketch), Ok(from)) => match missing_by_sketch(alloc, from, sketch) {
+            Ok(part) => Ok(part),
+            Err(ReadFault::OtherLog) => Err(ToolFault::OtherLog(number)),
+            Err(ReadFault::TooFewCells(cells)) => Err(ToolFault::TooFewCells(number, cells)),
+            Err(ReadFault::Memory) => Err(ToolFault::Memory),
+        },
+    }
+}
+
+/// Returns the delta of the union for the sketch, which is input `number`, if it was read. `NoLog`: no input of the union
+/// names a log. `OtherLog`: an input or the sketch is of another log. `TooFewCells`: the sketch has too few cells.
 fn part(
     alloc: Global,
     number: usize,
     from: JoinState,
-    sketch: &Sketch,
+    sketch: &Result<Sketch, ToolFault>,
 ) -> Result<Replica, ToolFault>
     ensures { (froms : List Loaded) → number ≡ length froms + 1 → IsJoinState 1 None froms from
-        → IsWorkedBy (IsPartOfUnionBySketch (froms, sketch.now)) result }
+        → IsOnOk sketch.now (λ read. IsWorkedBy (IsPartOfUnionBySketch (froms, read))) result }
 {
-    let held = from.end()?;
-    match missing_by_sketch(alloc, &held, sketch) {
-        Ok(part) => Ok(part),
-        Err(ReadFault::OtherLog) => Err(ToolFault::OtherLog(number)),
-        Err(ReadFault::TooFewCells(cells)) => Err(ToolFault::TooFewCells(number, cells)),
-        Err(ReadFault::Memory) => Err(ToolFault::Memory),
-    }
+    lacked(alloc, number, &from.end(), sketch)
 }
 
 /// Writes the replica file of the delta of `from` against `sketch`: what `run_missing_by` writes for the inventory that
@@ -49,7 +65,7 @@ pub fn run_missing_by_sketch<R: Source, W: Sink>(
         IsPartBySketch written_file W.Sink output.old output.new result }
 {
     let first = next(alloc, JoinState::new(alloc, None), 1, from)?;
-    let read = load_model(alloc, 2, sketch)?;
+    let read = load_model(alloc, 2, sketch);
     write_result(alloc, part(alloc, 2, first, &read), output)
 }
 
@@ -68,6 +84,6 @@ pub fn run_missing_by_sketch_union<R: Source, W: Sink>(
 {
     let number = from.len() + 1;
     let union = union_with(alloc, JoinState::new(alloc, None), 1, from)?;
-    let read = load_model(alloc, number, sketch)?;
+    let read = load_model(alloc, number, sketch);
     write_result(alloc, part(alloc, number, union, &read), output)
 }

@@ -24,7 +24,9 @@ use std::alloc::Global;
 fn asked_of(alloc: Global, log: &Name, facts: Loaded) -> Result<Inventory, ToolFault>
     ensures { IsWorked (on_ok (facts_under 1 log.now facts) (λ f. Ok (inventory_of f))) result }
 {
-    Ok(facts_under(alloc, 1, log, facts)?.inventory()?)
+    facts_under(alloc, 1, log, facts)?
+        .inventory()
+        .or(Err(ToolFault::Memory))
 }
 
 /// Makes the proof, by the inventory of `held`, for what the first input contributes to its log. `OtherLog` if that
@@ -34,7 +36,7 @@ fn proof_for(alloc: Global, held: &Replica, facts: Loaded) -> Result<Proof, Tool
 {
     let asked = asked_of(alloc, held.log(), facts)?;
     let inventory = held.inventory()?;
-    Ok(Proof::of(alloc, &asked, &inventory)?)
+    Proof::of(alloc, &asked, &inventory).or(Err(ToolFault::Memory))
 }
 
 /// Makes the same proof, by the inventory of the union. `NoLog`: no input of the union names a log. `OtherLog`: one

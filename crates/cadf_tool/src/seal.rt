@@ -1,5 +1,7 @@
 //! The engine of `seal`: the seal of the inventory of the union of inputs, as a seal file.
 ghost use Rattle.cadf_seal.specs.SealFile.{seal_file};
+ghost use Rattle.cadf_tool.specs.declared.input.Loaded.TheVariants as loaded;
+ghost use Rattle.cadf_tool.specs.Run.{IsWorked};
 ghost use Rattle.cadf_tool.specs.Seal.{seal_model_of};
 ghost use Rattle.cadf_tool.specs.laws.Engines.{of_seal};
 
@@ -10,6 +12,14 @@ use cadf_linefile::write_model;
 use cadf_seal::Seal;
 use cadf_set::Replica;
 use std::alloc::Global;
+
+/// Makes the seal of a replica's inventory. `Memory` if an allocation fails.
+fn sealed(alloc: Global, replica: &Replica) -> Result<Seal, ToolFault>
+    ensures { IsWorked (seal_model_of (loaded.Replica replica.now)) result }
+{
+    let inventory = replica.inventory()?;
+    Seal::of(alloc, &inventory).or(Err(ToolFault::Memory))
+}
 
 /// Makes the seal of a replica's inventory, and writes its file: its log, how many atoms it has, and the root of the tree
 /// over their digests.
@@ -26,8 +36,7 @@ impl Engine for SealEngine {
     ghost of_replica = { λ _. of_seal };
 
     fn make(&self, alloc: Global, replica: Replica) -> Result<Seal, ToolFault> {
-        let inventory = replica.inventory()?;
-        Ok(Seal::of(alloc, &inventory)?)
+        sealed(alloc, &replica)
     }
 
     fn write<W: Sink>(&self, alloc: Global, made: &Seal, output: &mut W) -> Result<(), ToolFault> {

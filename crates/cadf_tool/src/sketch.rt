@@ -1,5 +1,7 @@
 //! The engine of `sketch`: a short sketch of the inventory of the union of inputs, as a sketch file.
 ghost use Rattle.cadf_sketch.specs.SketchFile.{sketch_file};
+ghost use Rattle.cadf_tool.specs.declared.input.Loaded.TheVariants as loaded;
+ghost use Rattle.cadf_tool.specs.Run.{IsWorked};
 ghost use Rattle.cadf_tool.specs.Sketch.{sketch_model_of};
 ghost use Rattle.cadf_tool.specs.laws.Engines.{of_sketch};
 
@@ -20,6 +22,17 @@ pub struct SketchEngine {
     pub salt: Option<Salt>,
 }
 
+impl SketchEngine {
+    /// Makes the sketch of a replica's inventory. `Memory` if an allocation fails.
+    fn sketched(&self, alloc: Global, replica: &Replica) -> Result<Sketch, ToolFault>
+        ensures { IsWorked (sketch_model_of self.now.cells self.now.salt (loaded.Replica replica.now)) result }
+    {
+        let inventory = replica.inventory()?;
+        let cells = self.cells.unwrap_or(Cells::by_default());
+        Sketch::of(alloc, &inventory, cells, self.salt).or(Err(ToolFault::Memory))
+    }
+}
+
 impl Engine for SketchEngine {
     type Made = Sketch;
 
@@ -30,9 +43,7 @@ impl Engine for SketchEngine {
     ghost of_replica = { λ e. of_sketch e.cells e.salt };
 
     fn make(&self, alloc: Global, replica: Replica) -> Result<Sketch, ToolFault> {
-        let inventory = replica.inventory()?;
-        let cells = self.cells.unwrap_or(Cells::by_default());
-        Ok(Sketch::of(alloc, &inventory, cells, self.salt)?)
+        self.sketched(alloc, &replica)
     }
 
     fn write<W: Sink>(

@@ -1,6 +1,7 @@
 //! The engine of `verify`: what a proof says, under a seal, of the facts of an input.
 ghost use Rattle.std.specs.Prelude.{◌≡◌, Err};
-ghost use Rattle.cadf_tool.specs.Run.{transition_of, IsWorked, IsRun};
+ghost use Rattle.cadf_tool.specs.JoinState.{IsOnOk};
+ghost use Rattle.cadf_tool.specs.Run.{transition_of, IsWorked, IsAnswer, IsRun};
 ghost use Rattle.cadf_tool.specs.Verify.{verdict_lines, verdict_of, sources_of};
 
 use crate::fault::ToolFault;
@@ -33,17 +34,21 @@ fn lines_of(
     }
 }
 
-/// Takes the facts under the log of the seal, and makes their lines. `OtherLog`: the facts name another log, or the
+/// Takes the facts under the log of the seal, and makes their lines, if the proof was read. `OtherLog`: the facts name another log, or the
 /// proof does. `Unverified`: the proof is refused, or a fact isn't as asked. `Memory` if an allocation fails.
 fn verdict(
     alloc: Global,
     absent: bool,
     seal: &Seal,
     facts: Loaded,
-    proof: &Proof,
+    proof: &Result<Proof, ToolFault>,
 ) -> Result<FactLines, ToolFault>
-    ensures { IsWorked (verdict_of absent (seal.now, (facts, proof.now))) result }
+    ensures { IsOnOk proof.now (λ given. IsWorked (verdict_of absent (seal.now, (facts, given)))) result }
 {
+    let proof = match proof {
+        Ok(proof) => proof,
+        Err(fault) => return Err(*fault),
+    };
     lines_of(
         alloc,
         absent,
@@ -51,6 +56,17 @@ fn verdict(
         &facts_under(alloc, 2, seal.log(), facts)?,
         proof,
     )
+}
+
+/// Writes the lines that were made. `Err`: why none were made, or `WriteFault`.
+fn write_lines<W: Sink>(
+    lines: Result<FactLines, ToolFault>,
+    output: &mut W,
+) -> Result<(), ToolFault>
+    ensures written { IsAnswer (λ text. text) W.Sink output.old output.new lines result }
+    ensures memory { result ≡ Err ToolFault.Memory → output.new ≡ output.old }
+{
+    lines?.write(output).or(Err(ToolFault::WriteFault))
 }
 
 /// Writes a line for each fact of `facts`, in the order of atoms, if the proof shows under the seal that each is in the
@@ -71,7 +87,6 @@ pub fn run_verify<R: Source, W: Sink>(
 {
     let seal = load_model(alloc, 1, seal)?;
     let loaded = load_one(alloc, 2, facts)?;
-    let proof = load_model(alloc, 3, proof)?;
-    let lines = verdict(alloc, absent, &seal, loaded, &proof)?;
-    lines.write(output).or(Err(ToolFault::WriteFault))
+    let proof = load_model(alloc, 3, proof);
+    write_lines(verdict(alloc, absent, &seal, loaded, &proof), output)
 }
