@@ -1,5 +1,4 @@
-use Rattle.std.proofs.Common.{None, Ok, Err, refl, rules, ap, ◌∙◌, arith}
-use Rattle.std.proofs.lemmas.Grind.{common_steps}
+use Rattle.std.proofs.Common.{None, Ok, Err, refl, rules, ap, ◌∙◌}
 use Rattle.std.proofs.lemmas.Result.{err_from_is_err_and}
 use Rattle.cadf_tool.specs.Run.{input_spec}
 use Rattle.cadf_tool.proofs.Runs.{one_read, all_read, all_untouched, both_read, first_stopped, second_stopped, stopped, worked_run}
@@ -28,4 +27,4 @@ returns g c =
     let u = c.in_ok-union.ensures in
     worked_run (Ok c.in_ok-proof.proof)
     (both_read (one_read 1 input_spec _ f.reads c.in_ok-asked.asked f.ok) (all_read 2 g.R.Source _ _ u.ok.0 u.reads u.ok.1))
-    (c.in_ok-proof.ensures u.ok.0 (u.ok.2 None (c.new.ensures 2))) (grind (arith, common_steps))
+    (c.in_ok-proof.ensures u.ok.0 (u.ok.2 None (c.new.ensures 2))) (search rules)
