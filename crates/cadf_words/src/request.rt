@@ -92,19 +92,17 @@ fn first_and_more<'a>(
     Ok(files)
 }
 
-/// Makes the request of a command of seals and proofs. `Unnamed` for any other name, `Memory` if an allocation fails.
+/// Makes the request of a command of seals and proofs, with its files. `None` for any other name.
 fn sealing_of<'a>(
-    alloc: Global,
     name: &str,
     matches: &ArgMatches<'a>,
-) -> Result<Request<'a>, Reply> {
-    Ok(match name {
-        "seal" => Request::Seal {
-            files: files(alloc, matches)?,
-        },
+    files: Vec<&'a str>,
+) -> Option<Request<'a>> {
+    Some(match name {
+        "seal" => Request::Seal { files },
         "prove" => Request::Prove {
             facts: word(matches, "FACTS"),
-            files: files(alloc, matches)?,
+            files,
         },
         "verify" => Request::Verify {
             absent: matches.get_flag("absent"),
@@ -112,13 +110,49 @@ fn sealing_of<'a>(
             facts: word(matches, "FACTS"),
             proof: word(matches, "PROOF"),
         },
-        _ => return Err(Reply::Unnamed),
+        _ => return None,
     })
 }
 
-/// Makes the request of a command that writes a delta, or what a receiver sends to ask for one; else that of a command
-/// of seals and proofs. `Unnamed` for any other name, `Memory` if an allocation fails.
-fn exchange_of<'a>(
+/// Makes the request of a command that works on the union of its files. `None` for any other name.
+fn request_of_files<'a>(
+    name: &str,
+    matches: &ArgMatches<'a>,
+    files: Vec<&'a str>,
+) -> Option<Request<'a>> {
+    Some(match name {
+        "join" => Request::Join {
+            log: matches.get_str("log"),
+            files,
+        },
+        "split" => Request::Split {
+            by: word(matches, "by"),
+            log: matches.get_str("log"),
+            files,
+        },
+        "inventory" => Request::Inventory { files },
+        "sketch" => Request::Sketch {
+            cells: matches.get_str("cells"),
+            salt: matches.get_str("salt"),
+            files,
+        },
+        "rule" => Request::Rule {
+            letter: word(matches, "LETTER"),
+            key: word(matches, "KEY"),
+            place: word(matches, "PLACE"),
+            files,
+        },
+        "show" => Request::Show {
+            conflicts: matches.get_flag("conflicts"),
+            files,
+        },
+        "check" => Request::Check { files },
+        _ => return sealing_of(name, matches, files),
+    })
+}
+
+/// Makes the request of the command of that name. `Unnamed` if there is none, `Memory` if an allocation fails.
+fn request_of<'a>(
     alloc: Global,
     name: &str,
     matches: &ArgMatches<'a>,
@@ -132,57 +166,16 @@ fn exchange_of<'a>(
             from: first_and_more(alloc, matches, "FROM", "from")?,
             inventory: word(matches, "INVENTORY"),
         },
-        "inventory" => Request::Inventory {
-            files: files(alloc, matches)?,
-        },
-        "sketch" => Request::Sketch {
-            cells: matches.get_str("cells"),
-            salt: matches.get_str("salt"),
-            files: files(alloc, matches)?,
-        },
         "missing-by-sketch" => Request::MissingBySketch {
             from: first_and_more(alloc, matches, "FROM", "from")?,
             sketch: word(matches, "SKETCH"),
-        },
-        _ => return sealing_of(alloc, name, matches),
-    })
-}
-
-/// Makes the request of the command of that name. `Unnamed` if there is none, `Memory` if an allocation fails.
-fn request_of<'a>(
-    alloc: Global,
-    name: &str,
-    matches: &ArgMatches<'a>,
-) -> Result<Request<'a>, Reply> {
-    Ok(match name {
-        "join" => Request::Join {
-            log: matches.get_str("log"),
-            files: files(alloc, matches)?,
-        },
-        "split" => Request::Split {
-            by: word(matches, "by"),
-            log: matches.get_str("log"),
-            files: files(alloc, matches)?,
-        },
-        "rule" => Request::Rule {
-            letter: word(matches, "LETTER"),
-            key: word(matches, "KEY"),
-            place: word(matches, "PLACE"),
-            files: files(alloc, matches)?,
         },
         "rehearse" => Request::Rehearse {
             log: word(matches, "LOG"),
             sites: word(matches, "SITES"),
             script: word(matches, "SCRIPT"),
         },
-        "show" => Request::Show {
-            conflicts: matches.get_flag("conflicts"),
-            files: files(alloc, matches)?,
-        },
-        "check" => Request::Check {
-            files: files(alloc, matches)?,
-        },
-        _ => return exchange_of(alloc, name, matches),
+        _ => request_of_files(name, matches, files(alloc, matches)?).ok_or(Reply::Unnamed)?,
     })
 }
 
