@@ -34,8 +34,9 @@ fn lines_of(
     }
 }
 
-/// Takes the facts under the log of the seal, and makes their lines, if the proof was read. `OtherLog`: the facts name another log, or the
-/// proof does. `Unverified`: the proof is refused, or a fact isn't as asked. `Memory` if an allocation fails.
+/// Takes the facts under the log of the seal, and makes their lines, if the proof was read. `OtherLog`: the facts name
+/// another log, or the proof does. `Unverified`: the proof is refused, or a fact isn't as asked. `Memory` if an
+/// allocation fails.
 fn verdict(
     alloc: Global,
     absent: bool,
