@@ -127,8 +127,7 @@ pub(crate) fn chosen(rows: &PathVec, flags: &[bool]) -> Result<PathVec, Memory>
     ensures { IfOk result (λ some. some ≡ chosen_of flags.now rows.now) }
 {
     let mut copier = Copier::new(rows.alloc(), rows.cursor());
-    copy_chosen(&mut copier, flags)?;
-    Ok(copier.into_copies())
+    copy_chosen(&mut copier, flags).and(Ok(copier.into_copies()))
 }
 
 /// Returns whether there is a next list, of a cursor that has moved to it. If the list before shared its first `agreed`
@@ -180,8 +179,7 @@ pub(crate) fn without(a: &PathVec, b: &PathVec) -> Result<PathVec, Memory>
 {
     let mut ours = Copier::new(a.alloc(), a.cursor());
     let mut theirs = b.cursor();
-    copy_lacking(&mut ours, &mut theirs)?;
-    Ok(ours.into_copies())
+    copy_lacking(&mut ours, &mut theirs).and(Ok(ours.into_copies()))
 }
 
 /// Determines the carrier of each list: a prefix of the list, or the whole list.
@@ -198,15 +196,22 @@ pub trait Carrier {
     ghost in_order: { (x y : Texts) → texts_cmp x y ≡ Less → texts_cmp (carrier x) (carrier y) ≡ Greater → ⊥ };
 }
 
+/// Copies the carriers of the lists ahead of the cursor, without each that isn't above the last copy.
+fn copy_carriers<C: Carrier>(copier: &mut Copier<'_>) -> Result<(), Memory>
+    ensures { OnOk result (copier.new.1 ≡ carriers_in C.carrier copier.old.1 copier.old.0.1) }
+{
+    while let Some(_) = copier.advance()? {
+        copier.copy_if_above(C::length(copier.path()))?;
+    }
+    Ok(())
+}
+
 /// Returns the carriers of the lists, without each that isn't above the one before.
 fn carriers_of<C: Carrier>(lists: &PathVec) -> Result<PathVec, Memory>
     ensures { IfOk result (λ found. found ≡ carriers_in C.carrier [] lists.now) }
 {
     let mut copier = Copier::new(lists.alloc(), lists.cursor());
-    while let Some(_) = copier.advance()? {
-        copier.copy_if_above(C::length(copier.path()))?;
-    }
-    Ok(copier.into_copies())
+    copy_carriers::<C>(&mut copier).and(Ok(copier.into_copies()))
 }
 
 /// Returns the lists, which are strictly ascending, with their carriers, in order.
@@ -216,6 +221,5 @@ pub(crate) fn with_carriers<C: Carrier>(mut lists: PathVec) -> Result<PathVec, M
     ensures set { IfOk result (λ all. set.from_list {R = texts_cmp} all ≡ with_carriers_by C.carrier (set.from_list lists)) }
 {
     let carriers = carriers_of::<C>(&lists)?;
-    lists.join(&carriers)?;
-    Ok(lists)
+    lists.join(&carriers).and(Ok(lists))
 }

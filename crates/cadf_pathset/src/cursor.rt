@@ -11,7 +11,6 @@ use crate::{Memory, Visitor};
 use std::alloc::Global;
 use std::cmp::Ordering;
 use std::marker::Model;
-use std::mem::replace;
 
 /// A cursor: the list at which it is, and the lists after it.
 #[derive(Drop)]
@@ -61,19 +60,26 @@ impl<'a> Cursor<'a> {
     pub fn advance(&mut self) -> Result<Option<usize>, Memory>
         ensures { IfOk result (λ found. Advances found self.old self.new) }
     {
-        let nodes = self.nodes;
         let [number, numbers @ ..] = self.numbers else {
             return Ok(None);
         };
-        let mut line = replace(&mut self.line, Vec::new(self.alloc));
-        let mut path = replace(&mut self.path, Vec::new(self.alloc));
-        let common = follow(nodes, *number, &mut line, &mut self.up)?;
-        let (_, shared) = cmp_from(nodes, line.as_slice(), path.as_slice(), common);
-        read_line(nodes, line.as_slice(), common, &mut path)?;
-        self.line = line;
-        self.path = path;
-        self.numbers = numbers;
-        Ok(Some(shared))
+        match turn(
+            self.nodes,
+            *number,
+            &mut self.line,
+            &mut self.path,
+            &mut self.up,
+        ) {
+            Ok(shared) => {
+                self.numbers = numbers;
+                Ok(Some(shared))
+            }
+            Err(fault) => {
+                self.line.clear();
+                self.path.clear();
+                Err(fault)
+            }
+        }
     }
 
     /// Compares the list at the cursor with another, with which it is known to share its first `known` texts. Returns
@@ -85,6 +91,26 @@ impl<'a> Cursor<'a> {
     {
         cmp_from(self.nodes, self.line.as_slice(), list, known)
     }
+}
+
+/// Replaces a line, and the path of its texts, by those of the node. Returns how many first texts both lists share.
+fn turn<'a>(
+    nodes: &'a Nodes,
+    node: usize,
+    line: &mut Vec<usize>,
+    path: &mut Vec<&'a str>,
+    up: &mut Vec<usize>,
+) -> Result<usize, Memory>
+    requires there { node ≤ length nodes.now }
+    requires line { IsLine nodes.now line.old.items (texts_at path.old.items) }
+    ensures line { OnOk result (IsLine nodes.now line.new.items (list_at nodes.now node)) }
+    ensures path { OnOk result (texts_at path.new.items ≡ list_at nodes.now node) }
+    ensures shared { IfOk result (λ n. n ≡ shared (list_at nodes.now node) (texts_at path.old.items)) }
+{
+    let common = follow(nodes, node, line, up)?;
+    let (_, shared) = cmp_from(nodes, line.as_slice(), path.as_slice(), common);
+    read_line(nodes, line.as_slice(), common, path)?;
+    Ok(shared)
 }
 
 /// Replaces the texts after the first `common` of the path by those of the line's nodes.

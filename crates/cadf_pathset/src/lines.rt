@@ -29,7 +29,7 @@ pub(crate) fn end_of(line: &[usize]) -> usize
 
 /// Replaces the line by that of the node, and returns how many nodes of the line it kept: the ancestors that both
 /// share. Since parents have smaller numbers than their children, it steps back from the greater number. Collects in
-/// `up` the nodes below those ancestors. After an `Err` the line is that of no list.
+/// `up` the nodes below those ancestors. After an `Err` the line is that of another list.
 pub(crate) fn follow(
     nodes: &Nodes,
     node: usize,
@@ -38,7 +38,8 @@ pub(crate) fn follow(
 ) -> Result<usize, Memory>
     requires there { node ≤ length nodes.now }
     requires line { IsLine nodes.now line.old.items (place nodes.now line.old.items) }
-    ensures line { OnOk result (IsLine nodes.now line.new.items (list_at nodes.now node)) }
+    ensures line { IsLine nodes.now line.new.items (place nodes.now line.new.items) }
+    ensures list { OnOk result (IsLine nodes.now line.new.items (list_at nodes.now node)) }
     ensures common { IfOk result (λ n. Agree n (place nodes.now line.old.items) (list_at nodes.now node)) }
 {
     up.clear();

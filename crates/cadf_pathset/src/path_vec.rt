@@ -24,7 +24,6 @@ use std::alloc::Global;
 use std::cmp::Ordering;
 use std::convert::AsStr;
 use std::marker::Model;
-use std::mem::replace;
 
 /// Lists of texts, each as the number of its last node. Lists with a common prefix share its nodes.
 #[derive(Drop)]
@@ -79,10 +78,8 @@ impl PathVec {
         ensures err { OnErr result (self.new ≡ self.old) }
     {
         let near = nearest(&self.nodes, self.numbers.as_slice(), at, path);
-        let mut line = replace(&mut self.line, Vec::new(self.alloc));
         let mut up = Vec::new(self.alloc);
-        follow(&self.nodes, near, &mut line, &mut up)?;
-        self.line = line;
+        follow(&self.nodes, near, &mut self.line, &mut up)?;
         self.put(at, path, 0)
     }
 

@@ -204,6 +204,5 @@ pub(crate) fn merge(
         agreed: 0,
         out: Vec::new(alloc),
     };
-    merger.append_all(nodes, numbers, &mut all)?;
-    Ok(all)
+    merger.append_all(nodes, numbers, &mut all).and(Ok(all))
 }

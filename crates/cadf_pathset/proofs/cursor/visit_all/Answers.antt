@@ -120,3 +120,9 @@ returns-in_err-visit-clause-stopped g c =
     (subst (λ x. g.S.Visitor.stops c.loop-cursor.visitor (x ∷ []) f c.visit.new.self) (ap texts_at c.as_slice.ensures.value ∙ longer)
     (subst (λ e. g.S.Visitor.stops c.loop-cursor.visitor (texts_at c.as_slice.result.now ∷ []) e c.visit.new.self) (sym is) c.in_err-visit.ensures.err)))
     c.from_residual-in_err-visit.ensures.1
+
+pub returns-clause-path : goal.returns-clause-path
+returns-clause-path g c = grind (arith, common_steps)
+
+pub returns-clause-shown : goal.returns-clause-shown
+returns-clause-shown g c = grind (arith, common_steps)

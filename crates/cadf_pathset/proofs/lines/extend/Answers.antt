@@ -38,3 +38,9 @@ returns-clause-line g c = self_line c.loop-nodes.nodes c.loop-nodes.line.items _
 
 pub returns-clause-ok : goal.returns-clause-ok
 returns-clause-ok g c = grind (arith, common_steps, place_of, length-map)
+
+pub push-requires : goal.push-requires
+push-requires g c = grind (arith, common_steps)
+
+pub returns-in_err-push-clause-kept : goal.returns-in_err-push-clause-kept
+returns-in_err-push-clause-kept g c = grind (arith, common_steps)

@@ -1,7 +1,7 @@
 use Rattle.std.proofs.lemmas.Grind.{common_steps}
 use Rattle.std.proofs.Common.{arith, length, take, subst, sym}
-use Rattle.cadf_pathset.specs.Nodes.{IsClimb, IsLine, list_at}
-use Rattle.cadf_pathset.proofs.Threads.{climb_less, climb_line}
+use Rattle.cadf_pathset.specs.Nodes.{IsClimb, IsLine, list_at, place}
+use Rattle.cadf_pathset.proofs.Threads.{climb_less, climb_line, line_cut, self_line}
 use Rattle.cadf_pathset.proofs.lines.follow.Goals as goal
 
 pub loop-next-preserved : goal.loop-next-preserved
@@ -29,5 +29,21 @@ returns-clause-common c = grind (arith, common_steps)
 pub loop-at-preserved-then-top-at : goal.loop-at-preserved-then-top-at
 loop-at-preserved-then-top-at c = grind (arith, common_steps)
 
+pub returns-in_err-push-clause-line : goal.returns-in_err-push-clause-line
+returns-in_err-push-clause-line c =
+    let ls = c.args.nodes.now in
+    let old = c.args.line.now.items in
+    let ns = c.loop-at.line.items in
+    subst (λ z. IsLine ls z (place ls z)) (sym c.loop-at.invariant.cut)
+    (self_line ls (take (length ns) old) (take (length ns) (place ls old)) (line_cut ls old (place ls old) c.requires.line (length ns)))
+
+pub returns-in_err-push-2-clause-line : goal.returns-in_err-push-2-clause-line
+returns-in_err-push-2-clause-line c =
+    let ls = c.args.nodes.now in
+    subst (λ z. IsLine ls z (place ls z)) (sym c.in_err-push-2.ensures.items) (self_line ls c.loop-next.line.items _ c.loop-next.invariant.line)
+
 pub returns-clause-line : goal.returns-clause-line
-returns-clause-line c = grind (arith, common_steps)
+returns-clause-line c = self_line c.args.nodes.now c.loop-next.line.items _ c.loop-next.invariant.line
+
+pub returns-clause-list : goal.returns-clause-list
+returns-clause-list c = grind (arith, common_steps)

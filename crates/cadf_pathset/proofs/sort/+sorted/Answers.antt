@@ -1,4 +1,5 @@
-use Rattle.std.proofs.Common.{◌≡◌, map, true}
+use Rattle.std.proofs.lemmas.Grind.{common_steps}
+use Rattle.std.proofs.Common.{◌≡◌, map, true, arith}
 use Rattle.std.specs.List.Sorted.{IsStrictlySortedBy}
 use Rattle.cadf_join.specs.Contents.{texts_cmp}
 use Rattle.cadf_join.specs.Sets as set
@@ -26,3 +27,9 @@ returns-clause-same t c =
     c.as_slice.ensures.value c.as_slice-2.ensures.value (map f all.items) e c.args.numbers.now c.split_at.result.0.now c.split_at.result.1.now _
     c.split_at.ensures.front c.split_at.ensures.back c.in_ok-front.ensures.same c.in_ok-back.ensures.same)
     c.merged.ensures.merged
+
+pub returns-then-is_rising-clause-rises : goal.returns-then-is_rising-clause-rises
+returns-then-is_rising-clause-rises t c = grind (arith, common_steps)
+
+pub returns-then-is_rising-clause-same : goal.returns-then-is_rising-clause-same
+returns-then-is_rising-clause-same t c = grind (arith, common_steps)

@@ -30,3 +30,6 @@ returns-clause-ok g c = grind (arith, common_steps, lists_kept, map_put, place_o
 
 pub extend-requires : goal.extend-requires
 extend-requires g c = grind (arith, common_steps, front_out)
+
+pub cmp_from-agreed-requires-clause-known : goal.cmp_from-agreed-requires-clause-known
+cmp_from-agreed-requires-clause-known g c = grind (arith, common_steps)

@@ -125,3 +125,18 @@ loop-more-preserved-then-run-eq-LONG c =
           (lists_at ls c.skip.new.all.items) (put.lists ∙ ap (λ z. lists_at ls c.loop-more.all.items ++ take (to - c.loop-more.at) (drop c.loop-more.at z)) same)
           (subst (λ z. AllByRecursion (λ l. texts_cmp l c.loop-more.self.cursor.0 ≡ Less) (take (to - c.loop-more.at) (drop c.loop-more.at z))) same put.below);
     }
+
+pub loop-more-smaller-then-run-eq-LONG : goal.loop-more-smaller-then-run-eq-LONG
+loop-more-smaller-then-run-eq-LONG c = grind (arith, common_steps)
+
+pub loop-more-smaller-in-Less : goal.loop-more-smaller-in-Less
+loop-more-smaller-in-Less c = grind (arith, common_steps)
+
+pub loop-more-smaller-in-Equal : goal.loop-more-smaller-in-Equal
+loop-more-smaller-in-Equal c = grind (arith, common_steps)
+
+pub loop-more-smaller-in-Greater : goal.loop-more-smaller-in-Greater
+loop-more-smaller-in-Greater c = grind (arith, common_steps)
+
+pub loop-more-smaller : goal.loop-more-smaller
+loop-more-smaller c = grind (arith, common_steps)

@@ -16,10 +16,10 @@ returns-in_ok-extend_from_slice-clause-front c =
     let ls = c.args.nodes.now in
     let l : Texts = list_at c.args.nodes.now c.args.number in
     let b : Texts = c.args.self.now.cursor.0 in
-    let here : place ls c.as_slice.result.now ≡ l = ap (place ls) c.as_slice.ensures.value ∙ place_of ls c.follow.new.line.items l c.in_ok-common.ensures.line in
+    let here : place ls c.as_slice.result.now ≡ l = ap (place ls) c.as_slice.ensures.value ∙ place_of ls c.follow.new.line.items l c.in_ok-common.ensures.list in
     let both : Agree c.cmp_from-order.result.1 l b = subst (Agree c.cmp_from-order.result.1 l) c.path.ensures
     (subst (λ z. Agree c.cmp_from-order.result.1 z (texts_at c.path.result.now)) here c.cmp_from-order.ensures.agreed) in
-    let line : IsLine ls c.follow.new.line.items l = c.in_ok-common.ensures.line in
+    let line : IsLine ls c.follow.new.line.items l = c.in_ok-common.ensures.list in
     let cut : c.extend_from_slice.new.self.items ≡ take c.cmp_from-order.result.1 c.follow.new.line.items =
     c.in_ok-extend_from_slice.ensures.items ∙ (λ i. c.clear.ensures.items i ++ c.split_at.ensures.front i)
     ∙ ap (take c.cmp_from-order.result.1) c.as_slice-then-both-len.ensures.value in
@@ -31,3 +31,9 @@ returns-in_ok-extend_from_slice-clause-front c =
 
 pub returns-else-both-len-clause-front : goal.returns-else-both-len-clause-front
 returns-else-both-len-clause-front c = grind (arith, common_steps)
+
+pub returns-in_ok-extend_from_slice-clause-order : goal.returns-in_ok-extend_from_slice-clause-order
+returns-in_ok-extend_from_slice-clause-order c = grind (arith, common_steps, place_of)
+
+pub returns-else-both-len-clause-order : goal.returns-else-both-len-clause-order
+returns-else-both-len-clause-order c = grind (arith, common_steps, place_of)

@@ -1,3 +1,4 @@
+use Rattle.std.proofs.lemmas.Grind.{common_steps}
 use Rattle.std.proofs.Common.{◌≡◌, ◌+◌, ◌-◌, ◌<◌, ℕ, [], length, get_or, arith, ap, subst, sym, ◌∙◌}
 use Rattle.std.specs.declared.cmp.Ordering.TheVariants.{Less}
 use Rattle.std.proofs.lemmas.List.{get_or-map, length-map}
@@ -43,3 +44,9 @@ returns-clause-below c =
     let r = c.requires.within in
     below_range c.args.self.now.cursor.0 (lists_at ls ns) c.args.at c.max-last.result (omega (arith, e)) (omega (arith, m, w, s, e, r))
     (λ k f g. subst (λ q. texts_cmp (get_or (lists_at ls ns) k []) q ≡ Less) c.path-path.ensures (c.loop-step.invariant.below k f (omega (arith, f, g, s, e))))
+
+pub list_cmp-order-requires-clause-known : goal.list_cmp-order-requires-clause-known
+list_cmp-order-requires-clause-known c = grind (arith, common_steps)
+
+pub returns-clause-lists : goal.returns-clause-lists
+returns-clause-lists c = grind (arith, common_steps)

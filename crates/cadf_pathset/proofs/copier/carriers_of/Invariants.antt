@@ -1,9 +1,0 @@
-use Rattle.std.proofs.Common.{◌≡◌, [], length}
-use Rattle.cadf_pathset.specs.Carriers.{carriers_in}
-use Rattle.cadf_pathset.proofs.copier.carriers_of.Given as goal
-
-abbrev pub invariant-loop-copier : goal.invariant-loop-copier
-invariant-loop-copier g l = carriers_in g.C.Carrier.carrier l.copier.1 l.copier.0.1 ≡ carriers_in g.C.Carrier.carrier [] l.lists
-
-abbrev pub decreases-loop-copier : goal.decreases-loop-copier
-decreases-loop-copier g l = length l.copier.0.1
