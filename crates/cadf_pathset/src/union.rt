@@ -204,5 +204,6 @@ pub(crate) fn merge(
         agreed: 0,
         out: Vec::new(alloc),
     };
-    merger.append_all(nodes, numbers, &mut all).and(Ok(all))
+    merger.append_all(nodes, numbers, &mut all)?;
+    Ok(all)
 }

@@ -18,3 +18,12 @@ cmp_from-shared-requires-clause-known c = grind (arith, common_steps, place_of, 
 
 pub returns-clause-shared : goal.returns-clause-shared
 returns-clause-shared c = grind (arith, common_steps, place_of)
+
+pub returns-clause-line : goal.returns-clause-line
+returns-clause-line c = grind (arith, common_steps)
+
+pub returns-clause-path : goal.returns-clause-path
+returns-clause-path c = grind (arith, common_steps)
+
+pub follow-requires-clause-line : goal.follow-requires-clause-line
+follow-requires-clause-line c = grind (arith, common_steps, self_line)

@@ -50,3 +50,18 @@ list_cmp-order-requires-clause-known c = grind (arith, common_steps)
 
 pub returns-clause-lists : goal.returns-clause-lists
 returns-clause-lists c = grind (arith, common_steps)
+
+pub returns-clause-there : goal.returns-clause-there
+returns-clause-there c = grind (arith, common_steps)
+
+pub overflow_add-low : goal.overflow_add-low
+overflow_add-low c = grind (arith, common_steps)
+
+pub overflow_add-probe : goal.overflow_add-probe
+overflow_add-probe c = grind (arith, common_steps)
+
+pub overflow_sub-numbers : goal.overflow_sub-numbers
+overflow_sub-numbers c = grind (arith, common_steps)
+
+pub bounds-numbers-probe : goal.bounds-numbers-probe
+bounds-numbers-probe c = grind (arith, common_steps)
