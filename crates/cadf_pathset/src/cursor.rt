@@ -20,7 +20,6 @@ pub struct Cursor<'a> {
     path: Vec<&'a str>,
     line: Vec<usize>,
     up: Vec<usize>,
-    alloc: Global,
 }
 
 impl<'a> Model for Cursor<'a> {
@@ -44,7 +43,6 @@ impl<'a> Cursor<'a> {
             path: Vec::new(alloc),
             line: Vec::new(alloc),
             up: Vec::new(alloc),
-            alloc,
         }
     }
 
