@@ -9,6 +9,7 @@ ghost use Rattle.cadf_json.specs.Value.{IsValue};
 use crate::Memory;
 use crate::node::{Extent, Node};
 use crate::order::settle;
+use crate::packed::PackedNode;
 use crate::push::{Flat, extent_from, push_string};
 use crate::read::{MAX_DEPTH, read_value, rises_to};
 use crate::value::{Json, JsonFault};
@@ -38,7 +39,7 @@ fn pass_list<T: ItemVisitor>(
     depth: usize,
     item: &mut Json,
     taker: &mut T,
-    nodes: &mut Vec<Node>,
+    nodes: &mut Vec<PackedNode>,
 ) -> Result<(), JsonFault>
     requires depth { depth ≤ 127 }
     requires utf8 { HaveUtf8 reader.old }
@@ -56,7 +57,7 @@ fn pass_list<T: ItemVisitor>(
         item.read_next(alloc, reader, depth - 1)?;
         taker.take(&item.view())?;
     }
-    nodes.push(Node::Array(Extent { size: 1, count: 0 }))?;
+    nodes.push(PackedNode::of(Node::Array(Extent { size: 1, count: 0 }))?)?;
     Ok(())
 }
 
@@ -76,7 +77,7 @@ fn pass_members<'a, T: ItemVisitor>(
         AppendsMembers T.took taker.new name.now rising depth reader.old reader.new flat.old.nodes.items flat.new.nodes.items flat.old.texts.items flat.new.texts.items) }
 {
     let at = flat.nodes.len();
-    flat.nodes.push(Node::Null)?;
+    flat.nodes.push(PackedNode::of(Node::Null)?)?;
     let mut item = Json::new(alloc);
     let mut count: u32 = 0;
     let mut last: Option<&'a str> = None;
@@ -99,7 +100,7 @@ fn pass_members<'a, T: ItemVisitor>(
         }
     }
     let extent = extent_from(&flat.nodes, at, count)?;
-    flat.nodes[at] = Node::Object(extent);
+    flat.nodes[at] = PackedNode::of(Node::Object(extent))?;
     Ok(rising)
 }
 
@@ -127,7 +128,7 @@ fn read_flat_apart<T: ItemVisitor>(
         return Err(JsonFault::NotJson);
     }
     settle(alloc, rising, &mut flat)?;
-    Ok(Json { flat })
+    Ok(Json::of(flat))
 }
 
 impl Json {

@@ -8,6 +8,7 @@ mod laws;
 mod node;
 mod number;
 mod order;
+mod packed;
 mod plain_run;
 mod push;
 mod read;

@@ -16,7 +16,7 @@ pub(crate) struct Extent {
     pub(crate) count: u32,
 }
 
-/// A node, of 12 bytes.
+/// A node.
 #[derive(Clone, Copy, Drop)]
 pub(crate) enum Node {
     Null,

@@ -8,6 +8,7 @@ ghost use Rattle.cadf_json.specs.Reading.{StandsAsRead, Copied, AreNamed, put_na
 
 use crate::front::Fronted;
 use crate::node::Node;
+use crate::packed::PackedNode;
 use crate::push::{Flat, extent_from};
 use crate::value::JsonFault;
 use crate::walk::first_member;
@@ -21,7 +22,7 @@ const MOST_SPARE: usize = 1 << 12;
 #[derive(Drop)]
 struct Named<'v> {
     name: Fronted<'v>,
-    nodes: &'v [Node],
+    nodes: &'v [PackedNode],
 }
 
 /// Puts the members of each object in order. `NotWhole` if a number that is left isn't whole.
@@ -39,10 +40,12 @@ pub(crate) fn settle(alloc: Global, rising: bool, flat: &mut Flat) -> Result<(),
 }
 
 /// Returns whether a number isn't whole.
-fn has_fraction(nodes: &[Node]) -> bool
+fn has_fraction(nodes: &[PackedNode]) -> bool
     ensures { result ≡ have_fraction nodes.now }
 {
-    nodes.iter().any(|node| matches!(node, Node::Fraction))
+    nodes
+        .iter()
+        .any(|node| matches!(node.node(), Node::Fraction))
 }
 
 /// Puts the members of each object in the order of their names, unless all rise; of two with the same name the later one
@@ -73,15 +76,15 @@ fn put_in_order(alloc: Global, rising: bool, flat: &mut Flat) -> Result<(), Allo
 #[cycle(copy_value)]
 fn copy_value(
     alloc: Global,
-    value: &[Node],
+    value: &[PackedNode],
     texts: &[u8],
-    out: &mut Vec<Node>,
+    out: &mut Vec<PackedNode>,
 ) -> Result<(), AllocError>
     requires { (d : Data) × Stands texts.now d value.now }
     ensures { OnOk result ((d : Data) → Stands texts.now d value.now → Copied texts.now (settled d) out.old.items out.new.items) }
 {
     let first = value[0];
-    match first {
+    match first.node() {
         Node::Array(extent) => copy_items(alloc, extent.count, &value[1..], texts, out),
         Node::Object(extent) => copy_members(alloc, extent.count, &value[1..], texts, out),
         _ => Ok(out.push(first)?),
@@ -93,24 +96,24 @@ fn copy_value(
 fn copy_items(
     alloc: Global,
     count: u32,
-    items: &[Node],
+    items: &[PackedNode],
     texts: &[u8],
-    out: &mut Vec<Node>,
+    out: &mut Vec<PackedNode>,
 ) -> Result<(), AllocError>
     requires { (ds : Items) × ItemsStand texts.now ds items.now }
     ensures { OnOk result ((ds : Items) → ItemsStand texts.now ds items.now → count ≡ items_count ds
         → Copied texts.now (array (settled_items ds)) out.old.items out.new.items) }
 {
     let at = out.len();
-    out.push(Node::Null)?;
+    out.push(PackedNode::of(Node::Null)?)?;
     let mut rest = items;
     'items: while !rest.is_empty() {
-        let (item, later) = rest.split_at(rest[0].size());
+        let (item, later) = rest.split_at(rest[0].node().size());
         copy_value(alloc, item, texts, out)?;
         rest = later;
     }
     let extent = extent_from(out, at, count)?;
-    out[at] = Node::Array(extent);
+    out[at] = PackedNode::of(Node::Array(extent))?;
     Ok(())
 }
 
@@ -119,16 +122,16 @@ fn copy_items(
 fn copy_members(
     alloc: Global,
     count: u32,
-    members: &[Node],
+    members: &[PackedNode],
     texts: &[u8],
-    out: &mut Vec<Node>,
+    out: &mut Vec<PackedNode>,
 ) -> Result<(), AllocError>
     requires { (ms : Members) × MembersStand texts.now ms members.now }
     ensures { OnOk result ((ms : Members) → MembersStand texts.now ms members.now
         → Copied texts.now (object (put_all (settled_members ms) no_members)) out.old.items out.new.items) }
 {
     let start = out.len();
-    out.push(Node::Null)?;
+    out.push(PackedNode::of(Node::Null)?)?;
     let mut named = by_name(alloc, count, members, texts)?;
     sort(&mut named)?;
     let sorted = named.as_slice();
@@ -144,7 +147,7 @@ fn copy_members(
         }
     }
     let extent = extent_from(out, start, kept)?;
-    out[start] = Node::Object(extent);
+    out[start] = PackedNode::of(Node::Object(extent))?;
     Ok(())
 }
 
@@ -152,7 +155,7 @@ fn copy_members(
 fn by_name<'v>(
     alloc: Global,
     count: u32,
-    members: &'v [Node],
+    members: &'v [PackedNode],
     texts: &'v [u8],
 ) -> Result<Vec<Named<'v>>, AllocError>
     requires { (ms : Members) × MembersStand texts.now ms members.now }

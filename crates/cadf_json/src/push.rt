@@ -9,16 +9,17 @@ ghost use Rattle.cadf_json.specs.Reading.{Grown, IsNumberRead};
 
 use crate::node::{Extent, Node, Place};
 use crate::number::Number;
+use crate::packed::PackedNode;
 use crate::value::JsonFault;
 use std::alloc::{AllocError, Global};
 
 /// The nodes of a value, and its decoded texts.
 #[derive(Drop)]
 pub(crate) struct Flat {
-    pub(crate) nodes: Vec<Node>,
+    pub(crate) nodes: Vec<PackedNode>,
     pub(crate) texts: Vec<u8>,
     /// The memory in which members are put in order.
-    pub(crate) spare: Vec<Node>,
+    pub(crate) spare: Vec<PackedNode>,
 }
 
 impl Flat {
@@ -60,7 +61,7 @@ pub(crate) fn push_string(text: &str, flat: &mut Flat) -> Result<(), AllocError>
     ensures { OnOk result (Grown (λ u xs. TextStands u text.now xs) flat.old.nodes.items flat.new.nodes.items flat.old.texts.items flat.new.texts.items) }
 {
     let place = push_text(text, &mut flat.texts)?;
-    flat.nodes.push(Node::Text(place))?;
+    flat.nodes.push(PackedNode::of(Node::Text(place))?)?;
     Ok(())
 }
 
@@ -74,7 +75,7 @@ pub(crate) fn push_number(text: &str, flat: &mut Flat) -> Result<(), JsonFault>
     match Number::parse(text) {
         Some(Number::Unsigned(n)) => Ok(push_whole(buffer.format(n), flat)?),
         Some(Number::Negative(n)) => Ok(push_whole(buffer.format(n), flat)?),
-        Some(Number::Float(_)) => Ok(flat.nodes.push(Node::Fraction)?),
+        Some(Number::Float(_)) => Ok(flat.nodes.push(PackedNode::of(Node::Fraction)?)?),
         None => Err(JsonFault::NotJson),
     }
 }
@@ -85,12 +86,16 @@ fn push_whole(spelled: &str, flat: &mut Flat) -> Result<(), AllocError>
         → Grown (λ u xs. NumberStands u n xs) flat.old.nodes.items flat.new.nodes.items flat.old.texts.items flat.new.texts.items) }
 {
     let place = push_text(spelled, &mut flat.texts)?;
-    flat.nodes.push(Node::Whole(place))?;
+    flat.nodes.push(PackedNode::of(Node::Whole(place))?)?;
     Ok(())
 }
 
 /// Returns the extent of a list or an object whose parts were appended after the node at `at`. `Memory` past 2^32 nodes.
-pub(crate) fn extent_from(nodes: &Vec<Node>, at: usize, count: u32) -> Result<Extent, AllocError>
+pub(crate) fn extent_from(
+    nodes: &Vec<PackedNode>,
+    at: usize,
+    count: u32,
+) -> Result<Extent, AllocError>
     requires { at ≤ vec_len nodes.now }
     ensures { IfOk result (λ e. (e.size ≡ vec_len nodes.now - at) × (e.count ≡ count)) }
 {

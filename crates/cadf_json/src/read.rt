@@ -3,6 +3,7 @@ ghost use Rattle.std.specs.Prelude.{◌≡◌, ◌≢◌, ◌<◌, ◌&&◌, len
 ghost use Rattle.cadf_json.specs.Reading.{ReadsValue, IsNoValue, AreItemsRead, AreNoItems, AreMembersRead, AreNoMembers, is_name_above};
 
 use crate::node::Node;
+use crate::packed::PackedNode;
 use crate::push::{Flat, extent_from, push_number, push_string};
 use crate::value::JsonFault;
 use json::{Reader, Token};
@@ -29,8 +30,8 @@ pub(crate) fn read_value(
     match token {
         Token::String(text) => push_string(text, flat)?,
         Token::Number(text) => push_number(text, flat)?,
-        Token::Bool(b) => flat.nodes.push(Node::Bool(b))?,
-        Token::Null => flat.nodes.push(Node::Null)?,
+        Token::Bool(b) => flat.nodes.push(PackedNode::of(Node::Bool(b))?)?,
+        Token::Null => flat.nodes.push(PackedNode::of(Node::Null)?)?,
         Token::BeginArray if depth > 0 => return Ok(read_items(reader, depth - 1, flat)?),
         Token::BeginObject if depth > 0 => return Ok(read_members(reader, depth - 1, flat)?),
         _ => return Err(JsonFault::NotJson),
@@ -48,7 +49,7 @@ fn read_items(reader: &mut Reader<'_>, depth: usize, flat: &mut Flat) -> Result<
     ensures shorter { OnOk result (length reader.new < length reader.old) }
 {
     let at = flat.nodes.len();
-    flat.nodes.push(Node::Null)?;
+    flat.nodes.push(PackedNode::of(Node::Null)?)?;
     let mut count: u32 = 0;
     let mut rising = true;
     'items: while !reader.take_end_array() {
@@ -56,7 +57,7 @@ fn read_items(reader: &mut Reader<'_>, depth: usize, flat: &mut Flat) -> Result<
         count = count.checked_add(1).ok_or(JsonFault::Memory)?;
     }
     let extent = extent_from(&flat.nodes, at, count)?;
-    flat.nodes[at] = Node::Array(extent);
+    flat.nodes[at] = PackedNode::of(Node::Array(extent))?;
     Ok(rising)
 }
 
@@ -74,7 +75,7 @@ fn read_members<'a>(
     ensures shorter { OnOk result (length reader.new < length reader.old) }
 {
     let at = flat.nodes.len();
-    flat.nodes.push(Node::Null)?;
+    flat.nodes.push(PackedNode::of(Node::Null)?)?;
     let mut count: u32 = 0;
     let mut last: Option<&'a str> = None;
     let mut rising = true;
@@ -92,7 +93,7 @@ fn read_members<'a>(
         last = Some(name);
     }
     let extent = extent_from(&flat.nodes, at, count)?;
-    flat.nodes[at] = Node::Object(extent);
+    flat.nodes[at] = PackedNode::of(Node::Object(extent))?;
     Ok(rising)
 }
 

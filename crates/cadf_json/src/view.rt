@@ -9,6 +9,7 @@ ghost use Rattle.cadf_json.specs.Flat.{decode, Stands};
 
 use crate::Memory;
 use crate::node::Node;
+use crate::packed::PackedNode;
 use crate::rewrite::push_members;
 use crate::walk::{Items, Members};
 use crate::write::{as_text, bytes_of, write_value};
@@ -18,7 +19,7 @@ use std::marker::Model;
 /// A part of a `Json`.
 #[derive(Drop)]
 pub struct View<'v> {
-    pub(crate) nodes: &'v [Node],
+    pub(crate) nodes: &'v [PackedNode],
     pub(crate) texts: &'v [u8],
 }
 
@@ -42,7 +43,7 @@ impl<'v> View<'v> {
     pub fn as_text(&self) -> Option<&'v str>
         ensures { option_map (λ s. s.now) result ≡ as_str self.now }
     {
-        match self.nodes[0] {
+        match self.nodes[0].node() {
             Node::Text(place) => Some(as_text(bytes_of(self.texts, place))),
             _ => None,
         }
@@ -52,28 +53,28 @@ impl<'v> View<'v> {
     pub fn is_null(&self) -> bool
         ensures { result ≡ is_some (as_null self.now) }
     {
-        matches!(self.nodes[0], Node::Null)
+        matches!(self.nodes[0].node(), Node::Null)
     }
 
     /// Returns whether the part is an object, which may be empty.
     pub fn is_object(&self) -> bool
         ensures { result ≡ is_object self.now }
     {
-        matches!(self.nodes[0], Node::Object(_))
+        matches!(self.nodes[0].node(), Node::Object(_))
     }
 
     /// Returns whether the part is a list, which may be empty.
     pub fn is_list(&self) -> bool
         ensures { result ≡ is_some (as_array self.now) }
     {
-        matches!(self.nodes[0], Node::Array(_))
+        matches!(self.nodes[0].node(), Node::Array(_))
     }
 
     /// Counts the items or members: 0 for a scalar.
     pub fn len(&self) -> usize
         ensures { result ≡ length (parts_in self.now) }
     {
-        match self.nodes[0] {
+        match self.nodes[0].node() {
             Node::Array(extent) => extent.count as usize,
             Node::Object(extent) => extent.count as usize,
             _ => 0,

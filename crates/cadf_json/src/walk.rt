@@ -9,6 +9,7 @@ ghost use Rattle.cadf_json.specs.Flat.{MembersStand};
 ghost use Rattle.cadf_json.specs.Reading.{IsFirstMember};
 
 use crate::node::{Node, Place};
+use crate::packed::PackedNode;
 use crate::view::View;
 use crate::write::as_text;
 use std::marker::Model;
@@ -16,7 +17,7 @@ use std::marker::Model;
 /// An iterator over items.
 #[derive(Drop)]
 pub struct Items<'v> {
-    pub(crate) nodes: &'v [Node],
+    pub(crate) nodes: &'v [PackedNode],
     pub(crate) texts: &'v [u8],
 }
 
@@ -62,7 +63,7 @@ impl<'v> Iterator for Items<'v> {
         if self.nodes.is_empty() {
             return None;
         }
-        let (first, rest) = self.nodes.split_at(self.nodes[0].size());
+        let (first, rest) = self.nodes.split_at(self.nodes[0].node().size());
         self.nodes = rest;
         Some(View {
             nodes: first,
@@ -83,7 +84,7 @@ pub struct Member<'v> {
 /// An iterator over members, in the order of their names.
 #[derive(Drop)]
 pub struct Members<'v> {
-    pub(crate) nodes: &'v [Node],
+    pub(crate) nodes: &'v [PackedNode],
     pub(crate) texts: &'v [u8],
 }
 
@@ -133,9 +134,9 @@ impl<'v> Iterator for Members<'v> {
 pub(crate) struct FirstMember<'v> {
     pub(crate) name: &'v [u8],
     /// The nodes of the name and of the value.
-    pub(crate) nodes: &'v [Node],
-    pub(crate) value: &'v [Node],
-    pub(crate) rest: &'v [Node],
+    pub(crate) nodes: &'v [PackedNode],
+    pub(crate) value: &'v [PackedNode],
+    pub(crate) rest: &'v [PackedNode],
 }
 
 /// Returns the place of a name.
@@ -150,13 +151,13 @@ fn place_of(node: Node) -> Place
 
 /// Splits the first member from the others.
 #[inline(always)]
-pub(crate) fn first_member<'v>(nodes: &'v [Node], texts: &'v [u8]) -> FirstMember<'v>
+pub(crate) fn first_member<'v>(nodes: &'v [PackedNode], texts: &'v [u8]) -> FirstMember<'v>
     requires { (k : ListOf ℕ) × ((d : Data) × ((ms : MembersOf) × MembersStand texts.now (member k d ms) nodes.now)) }
     ensures { (k : ListOf ℕ) (d : Data) (ms : MembersOf) → MembersStand texts.now (member k d ms) nodes.now
         → IsFirstMember texts.now nodes.now k d ms result }
 {
-    let place = place_of(nodes[0]);
-    let size = nodes[1].size();
+    let place = place_of(nodes[0].node());
+    let size = nodes[1].node().size();
     let end = size + 1;
     let (member, rest) = nodes.split_at(end);
     FirstMember {

@@ -19,7 +19,7 @@ use std::alloc::Global;
 pub(crate) fn write_value(alloc: Global, view: &View<'_>, out: &mut Vec<u8>) -> Result<(), Memory>
     ensures { OnOk result (out.new.items ≡ out.old.items ++ text_of view.now) }
 {
-    match view.nodes[0] {
+    match view.nodes[0].node() {
         Node::Null => out.extend_from_slice(b"null"),
         Node::Bool(true) => out.extend_from_slice(b"true"),
         Node::Bool(false) => out.extend_from_slice(b"false"),

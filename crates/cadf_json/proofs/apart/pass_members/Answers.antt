@@ -4,7 +4,6 @@ use Rattle.std.proofs.Common.{arith, rules, append-nil}
 use Rattle.json.specs.Json.{value, read_key}
 use Rattle.json.proofs.Grammar.{read_key-shorter}
 use Rattle.serde_json.specs.Data.{array, no_items}
-use Rattle.cadf_json.specs.declared.node.Node.TheVariants.{Object}
 use Rattle.cadf_json.specs.Reading.{Grown, StandsAsRead, is_name_above}
 use Rattle.cadf_json.proofs.Settling.{scalar}
 use Rattle.cadf_json.proofs.ReadValues.{rest_utf8, key_utf8}
@@ -21,8 +20,9 @@ returns g c =
     let over : read_key l.reader ≡ Some (None, s) = c.in-Ok.ensures.value ∙ ap (λ o. Some (option_map (λ x. x.now) o, s)) c.in_default-key.is in
     let len = l.flat.nodes.ok.0 in
     apart_over g.T.ItemVisitor.took c.args.name.now (value c.args.depth) c.args.reader.now c.args.flat.now.nodes.items c.args.flat.now.texts.items l.taker l.reader s
-    l.flat.nodes.items (set l.flat.nodes.items c.len-at.result (Object c.in_ok-extent.extent)) l.flat.texts.items l.count c.len-at.result l.flat.nodes.len
-    (option_map (λ x. x.now) l.last) l.rising c.in_ok-extent.extent l.invariant.0 over l.invariant.1 (omega (arith, len)) c.in_ok-extent.ensures refl
+    l.flat.nodes.items _ l.flat.texts.items l.count c.len-at.result l.flat.nodes.len
+    (option_map (λ x. x.now) l.last) l.rising c.in_ok-extent.extent l.invariant.0 over l.invariant.1 (omega (arith, len)) c.in_ok-extent.ensures
+    (ap (set l.flat.nodes.items c.len-at.result) c.in_ok-flat.ensures)
 
 pub members-preserved : goal.members-preserved
 members-preserved g c =

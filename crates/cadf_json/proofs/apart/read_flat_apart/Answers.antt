@@ -36,10 +36,10 @@ returns g c =
     let whole = opened ∙ ap (parse_map object) got.1.0 ∙ ap (λ r. Some (object ms, r)) none in
     let e = object (emptied_in c.args.name.now ms) in
     let s = c.in_ok-settle.ensures.ok e (from_none c.in_ok-rising.rising e c.requires got.1.2) in
-    (ms, ((utf8, whole_read (value 127 (tokens bytes)) (object ms) whole, sym (float_in c.args.name.now ms) ∙ s.is_whole), s.decodes, got.1.1))
+    (ms, ((utf8, whole_read (value 127 (tokens bytes)) (object ms) whole, sym (float_in c.args.name.now ms) ∙ s.is_whole), c.of.ensures ∙ s.decodes, got.1.1))
 
-pub invariant_of-result : goal.invariant_of-result
-invariant_of-result g c =
+pub of-requires : goal.of-requires
+of-requires g c =
     let bytes = c.args.bytes.now in
     let same : c.in-Ok.text.now ≡ bytes = search rules in
     let utf8 : IsUtf8 bytes = search rules in

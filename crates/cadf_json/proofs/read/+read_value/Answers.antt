@@ -6,7 +6,6 @@ use Rattle.json.proofs.Grammar.{value_is, value-begin_array, value-begin_object,
 use Rattle.serde_json.specs.Data.{null, boolean, number, string}
 use Rattle.serde_json.specs.Read.{of_json, converted}
 use Rattle.cadf_json.proofs.Turns.{converted-array, converted-object}
-use Rattle.cadf_json.specs.declared.node.Node.TheVariants.{Array, Object}
 use Rattle.cadf_json.specs.declared.value.JsonFault.TheVariants.{NotJson}
 use Rattle.json.specs.Reads.{opens}
 use Rattle.std.proofs.lemmas.Bool.{and_parts}
@@ -121,8 +120,8 @@ read_items-returns-clause-ok t c =
     let l = c.items in
     let len = l.flat.nodes.ok.0 in
     all_items (value c.args.depth) c.args.reader.now c.args.flat.now.nodes.items c.args.flat.now.texts.items l.reader c.take_end_array.new.self l.flat.nodes.items
-    (set l.flat.nodes.items c.len-at.result (Array c.in_ok-extent.extent)) l.flat.texts.items l.count c.len-at.result l.flat.nodes.len l.rising c.in_ok-extent.extent l.invariant.0 (grind arith)
-    l.invariant.1 (omega (arith, len)) c.in_ok-extent.ensures refl
+    _ l.flat.texts.items l.count c.len-at.result l.flat.nodes.len l.rising c.in_ok-extent.extent l.invariant.0 (grind arith)
+    l.invariant.1 (omega (arith, len)) c.in_ok-extent.ensures (ap (set l.flat.nodes.items c.len-at.result) c.in_ok-flat.ensures)
 
 -- ---- members
 
@@ -144,8 +143,9 @@ read_members-returns-clause-ok t c =
     let len = l.flat.nodes.ok.0 in (
       put_all l.invariant.0.got no_members,
       all_members (λ ms. ms) (value c.args.depth) c.args.reader.now c.args.flat.now.nodes.items c.args.flat.now.texts.items l.reader s l.flat.nodes.items
-          (set l.flat.nodes.items c.len-at.result (Object c.in_ok-extent.extent)) l.flat.texts.items l.count c.len-at.result l.flat.nodes.len
-          (option_map (λ x. x.now) l.last) l.rising c.in_ok-extent.extent l.invariant.0 over l.invariant.1 (omega (arith, len)) c.in_ok-extent.ensures refl,
+          _ l.flat.texts.items l.count c.len-at.result l.flat.nodes.len
+          (option_map (λ x. x.now) l.last) l.rising c.in_ok-extent.extent l.invariant.0 over l.invariant.1 (omega (arith, len)) c.in_ok-extent.ensures
+          (ap (set l.flat.nodes.items c.len-at.result) c.in_ok-flat.ensures),
     )
 
 pub read_members-returns-in_err-rising-clause-not_json : goal.read_members-returns-in_err-rising-clause-not_json

@@ -36,10 +36,11 @@ returns-clause-ok c =
     let none : c.read_value.new.reader ≡ [] = grind arith in
     let whole = text_read bytes got.0 _ _ (c.in_ok-reader.ensures.ok ∙ ap tokens same) got.1.0 none in
     let s = c.in_ok-settle.ensures.ok got.0 (from_none c.in_ok-rising.rising got.0 empty got.1.1) in
-    (utf8, whole ∙ ap Some (sym s.decodes), ap has_float s.decodes ∙ s.is_whole)
+    let is = c.of.ensures ∙ s.decodes in
+    (utf8, whole ∙ ap Some (sym is), ap has_float is ∙ s.is_whole)
 
-pub invariant_of-result : goal.invariant_of-result
-invariant_of-result c =
+pub of-requires : goal.of-requires
+of-requires c =
     let bytes = c.args.bytes.now in
     let same : c.in-Ok.text.now ≡ bytes = search rules in
     let utf8 : IsUtf8 bytes = search rules in

@@ -1,5 +1,5 @@
 use Rattle.std.proofs.lemmas.Grind.{common_steps}
-use Rattle.std.proofs.Common.{◌+◌, ◌-◌, slice_index_or, take, drop, ap, ◌∙◌, arith, refl, length-append}
+use Rattle.std.proofs.Common.{◌≡◌, ◌+◌, ◌-◌, slice_index_or, take, drop, ap, ◌∙◌, arith, refl, length-append}
 use Rattle.cadf_json.specs.declared.node.Node.TheVariants.{Null}
 use Rattle.cadf_json.specs.Flat.{size_of}
 use Rattle.cadf_json.proofs.Firsts.{opens, first_of}
@@ -25,7 +25,9 @@ returns c = λ k d ms h.
     let t = c.args.texts.now in
     let nodes = c.args.nodes.now in
     let o = opens t nodes k d ms h in
-    let place = c.place_of-place.ensures o.place (ap (λ ns. slice_index_or ns 0 Null) o.is) in
-    let sized = c.size-size.ensures.value ∙ ap (λ ns. size_of (slice_index_or ns 1 Null)) o.is in
+    let first : c.node.result ≡ slice_index_or nodes 0 Null = grind (arith, common_steps, slice_index_or) in
+    let second : c.node-2.result ≡ slice_index_or nodes 1 Null = grind (arith, common_steps, slice_index_or) in
+    let place = c.place_of-place.ensures o.place (first ∙ ap (λ ns. slice_index_or ns 0 Null) o.is) in
+    let sized = c.size-size.ensures.value ∙ ap size_of second ∙ ap (λ ns. size_of (slice_index_or ns 1 Null)) o.is in
     first_of t nodes k d ms _ _ o (ap (λ n. n + 1) sized) (ap (λ p. take (p.end - p.start) (drop p.start t)) place)
     c.split_at.ensures.front refl c.split_at.ensures.back

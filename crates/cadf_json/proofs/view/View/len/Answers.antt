@@ -1,10 +1,16 @@
-use Rattle.std.proofs.Common.{length, ap, ◌∙◌}
+use Rattle.std.proofs.lemmas.Grind.{common_steps}
+use Rattle.std.proofs.Common.{◌≡◌, length, slice_index_or, arith, ap, ◌∙◌}
+use Rattle.cadf_json.specs.declared.node.Node.TheVariants.{Null, Array, Object}
 use Rattle.cadf_json.specs.Parts.{parts_in}
 use Rattle.cadf_json.proofs.Counts.{list_count, object_count}
 use Rattle.cadf_json.proofs.view.View.len.Goals as goal
 
 pub returns-in-Array : goal.returns-in-Array
-returns-in-Array c = list_count _ _ _ c.in-Array.extent c.self.invariant.0 c.in-Array.is ∙ ap (λ d. length (parts_in d)) c.self.view_is
+returns-in-Array c =
+    let is : slice_index_or c.self.inside.nodes.now 0 Null ≡ Array c.in-Array.extent = grind (arith, common_steps, slice_index_or) in
+    list_count _ _ _ c.in-Array.extent c.self.invariant.0 is ∙ ap (λ d. length (parts_in d)) c.self.view_is
 
 pub returns-in-Object : goal.returns-in-Object
-returns-in-Object c = object_count _ _ _ c.in-Object.extent c.self.invariant.0 c.in-Object.is ∙ ap (λ d. length (parts_in d)) c.self.view_is
+returns-in-Object c =
+    let is : slice_index_or c.self.inside.nodes.now 0 Null ≡ Object c.in-Object.extent = grind (arith, common_steps, slice_index_or) in
+    object_count _ _ _ c.in-Object.extent c.self.invariant.0 is ∙ ap (λ d. length (parts_in d)) c.self.view_is
