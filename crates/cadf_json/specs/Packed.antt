@@ -1,8 +1,11 @@
 -- Nodes in two numbers.
---     node_of first rest     the node that the numbers are
---     numbers_of node        the numbers of a node
---     IsPacked first rest    the numbers are those of their node, the end of whose text is below 2^32
---     Spans node             the text, if the node has one, doesn't end before it begins
+--     place_from start length    a text of so many bytes
+--     extent_with size count     so many nodes in all, and so many items
+--     node_of first rest         the node that the numbers are; plain_node if it's no text, list or object
+--     numbers_of node            the numbers of a node
+--     EndsBelow node             the text, if the node has one, ends below 2^32
+--     IsPacked first rest        the numbers are those of their node, and its text ends below 2^32
+--     Spans node                 the text, if the node has one, doesn't end before it begins
 use Rattle.std.specs.Prelude.{◌≡◌, ℕ, zero, suc, ◌+◌, ◌*◌, ◌-◌, ◌/◌, ◌%◌, ◌<◌, ◌≤◌, ◌^◌, ◌==◌, true, false, cond, ⊤}
 use Rattle.cadf_json.specs.declared.node.Place.{Place}
 use Rattle.cadf_json.specs.declared.node.Extent.{Extent}
@@ -15,7 +18,6 @@ place_from start length = record { start = start; end = start + length }
 abbrev pub extent_with : ℕ → ℕ → Extent
 extent_with size count = record { size = size; count = count }
 
--- what has no text, and whole numbers
 abbrev pub plain_node : ℕ → ℕ → Node
 plain_node first zero = Null
 plain_node first (suc zero) = Truth false

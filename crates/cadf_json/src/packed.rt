@@ -1,6 +1,6 @@
 //! A node in 8 bytes.
-ghost use Rattle.std.specs.Prelude.{◌≡◌, IfOk};
-ghost use Rattle.cadf_json.specs.Packed.{Spans};
+ghost use Rattle.std.specs.Prelude.{◌≡◌, ◌≤◌, ◌^◌, IfOk, IfErr};
+ghost use Rattle.cadf_json.specs.Packed.{numbers_of, Spans};
 
 use crate::node::{Extent, Node, Place};
 use std::alloc::AllocError;
@@ -38,11 +38,12 @@ impl PackedNode {
     /// `null`.
     pub(crate) const NULL: PackedNode = PackedNode { first: 0, rest: 0 };
 
-    /// Packs a node. `Memory` if its text has a GiB or more, or it has 2^30 items or more.
+    /// Packs a node. `Memory` if and only if its second number has no room: its text has a GiB, or it has 2^30 items.
     #[inline(always)]
     pub(crate) fn of(node: Node) -> Result<PackedNode, AllocError>
         requires { Spans node }
-        ensures { IfOk result (λ packed. packed ≡ node) }
+        ensures ok { IfOk result (λ packed. packed ≡ node) }
+        ensures err { IfErr result (λ _. 2 ^ 32 ≤ (numbers_of node).1) }
     {
         let (first, more, kind) = match node {
             Node::Null => (0, 0, 0),

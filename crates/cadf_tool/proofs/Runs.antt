@@ -129,7 +129,7 @@ module _ {A B M W T : Type 0} {first : Sources A} {number : ℕ} {t : SourceTran
       → IsAnswer tell sink old new made result → IsRunBy (both first (with_number number reader t)) work tell sink old new result
   second_run reader r made f = last_run reader (λ b. (a, b)) r made (λ b k. both_read f k) (λ fault k. second_stopped f k)
 
--- by what is told of a result
+-- by what follows from what is known of a result
 pub on_ok_more : {A M : Type 0} (P Q : A → Result M ToolFault → Type 0) (r : Result A ToolFault) (made : Result M ToolFault) → IsOnOk r P made
     → ((a : A) → P a made → Q a made) → IsOnOk r Q made
 on_ok_more P Q (Ok a) made is more = more a is
