@@ -86,3 +86,11 @@ def test_branches_go_with_their_answer(mutants):
     first, second = "pub returns : goal.returns\nreturns c = elim c [ | then-a w ↦ w ]\n", "pub other : goal.other\nother c = c\n"
     assert mutants.without_answers(head + branches + first + second, {"returns"}) == head + second
     assert mutants.without_answers(head + branches + second + first, {"other"}) == head + branches + first
+
+
+def test_folders_of_proofs(mutants):
+    """A function of the crate's root has its folder in proofs/, each other one in the folder of its module."""
+    root = corpus.Row("cadf_c", ["src/lib.rt cadf_check", "- answer(", "+ refuse("])
+    other = corpus.Row("cadf_c", ["src/output.rt hand_out", "- *length = text.len()", "+ *length = 0"])
+    assert mutants.is_of(root, "proofs/cadf_check") and mutants.is_of(other, "proofs/output/hand_out")
+    assert not mutants.is_of(root, "proofs/output/cadf_check") and not mutants.is_of(other, "proofs/hand_out")
