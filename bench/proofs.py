@@ -5,7 +5,8 @@
 
 Prints a row of a table in Markdown for each commit: the seconds of the clock and of all processors for
 `build/command`, the same for `rt ci --anew`, and the ratios to the first commit's. Each call has a clone of its own, so
-that nothing is kept from one to the next. On 4 processors a commit takes an hour; nothing else may run beside it.
+that nothing is kept from one to the next. On 4 processors a commit takes an hour; nothing else may run beside it. Where
+the kit wasn't used since the machine started, the first build also reads it from the disk: build something before.
 """
 import os
 import subprocess
