@@ -3,6 +3,8 @@ import re
 
 LEAST, GREATEST = -2 ** 63, 2 ** 64 - 1
 DEEPEST = 127
+WITHOUT_DOUBLE = 2 ** 1024 - 2 ** 970  # from here on no finite double is the nearest
+LENGTH = len(str(WITHOUT_DOUBLE))
 FRACTION = object()  # a number that isn't whole, until it is known whether the bytes are JSON at all
 
 BLANKS = re.compile(rb"[ \t\n\r]*")
@@ -123,30 +125,24 @@ class InputSpec:
             number = int(sign + digits)
             if LEAST <= number <= GREATEST and (number or not sign):
                 return number
-        if is_infinite(digits, fraction or b"", int(exponent or 0)):
+        if has_no_double(digits, fraction or b"", exponent or b""):
             raise NotJson
         return FRACTION
 
 
-def is_infinite(digits, fraction, exponent):
-    """Whether `serde_json`, which holds such a number as a float, finds none for it.
-
-    It gathers digits while they fit in 64 bits, and then multiplies once.
-    """
-    gathered = 0
-    for place, digit in enumerate(digits):
-        if gathered * 10 + digit - 48 > GREATEST:
-            exponent += len(digits) - place
-            break
-        gathered = gathered * 10 + digit - 48
-    for digit in fraction:
-        if gathered * 10 + digit - 48 > GREATEST:
-            break
-        gathered = gathered * 10 + digit - 48
-        exponent -= 1
-    if gathered == 0 or exponent < 0:
+def has_no_double(digits, fraction, exponent):
+    """Whether a number's magnitude is `WITHOUT_DOUBLE` or more: its digits around the point, times ten to the exponent's text."""
+    spelled = (digits + fraction).lstrip(b"0")
+    if not spelled:
         return False
-    return exponent > 308 or float(gathered) * float("1e%d" % exponent) == float("inf")
+    powers = exponent.lstrip(b"+-0") or b"0"
+    if len(powers) > 10:  # more than an input's digits can make up for
+        return not exponent.startswith(b"-")
+    power = -int(powers) if exponent.startswith(b"-") else int(powers)
+    before_point = len(spelled) - len(fraction) + power
+    if before_point != LENGTH:
+        return before_point > LENGTH
+    return int(spelled[:LENGTH].ljust(LENGTH, b"0")) >= WITHOUT_DOUBLE
 
 
 def all_whole(value):

@@ -88,13 +88,21 @@ REPLACED = [
      None),
 ]
 
+# Numbers below the least magnitude that has no finite double, and from it on.
+INFINITE_FROM = 2 ** 1024 - 2 ** 970
+FINITE = ["17976931348623158e292", "1.7976931348623158079e308", "%d" % (INFINITE_FROM - 1), "-%d.9" % (INFINITE_FROM - 1),
+          "%d0e-2" % INFINITE_FROM, "0.%s%de708" % ("0" * 400, INFINITE_FROM), "0e400", "1e-400", "9007199254740993e292"]
+INFINITE = ["179769313486231581e291", "1.7976931348623158080e308", "%d" % INFINITE_FROM, "-%d.0" % INFINITE_FROM,
+            "%d000e-3" % INFINITE_FROM, "0.%s%de709" % ("0" * 400, INFINITE_FROM), "1e309", "1e99999999999", "1e400"]
+
 # Numbers that refuse a value, and those that it keeps as they stand.
 NOT_WHOLE = ["1.5", "1e3", "1.0", "1E2", "0.5", "18446744073709551616", "-9223372036854775809", "-0", "-0.0"]
 WHOLE = ["18446744073709551615", "-9223372036854775808", '"1.5"']
 
 # Bytes that no JSON spells.
 NO_JSON = [b"[1.5", b'"\xff"', b'{"events":[', b"01", b"1 2", b"CADF", b"", b"[1]]", b"{} {}", b'{"a"}', b"[1,]",
-           b'"\\ud800"', b"nul", b'"\x01"', b'"\xc0\x80"', nested(128).encode()]
+           b'"\\ud800"', b'"\\udc00"', b'"\\ud800\\ud800"', b'"\\ud800x"', b'"\\ud83d\\u0041"', b'"\xed\xa0\x80"', b"nul",
+           b'"\x01"', b'"\xc0\x80"', nested(128).encode()]
 
 # Texts that are no canonical text, and why: by an escape, a number, a blank, the order of names.
 NO_CANONICAL = [
@@ -289,7 +297,6 @@ def values():
         yield "value", ["text", data], ["err", "NotJson"], CANONICAL
     yield "value", ["text", LATE[64]], ["ok", '{"a":1,' + LATE[64][1:].replace(',"a":1', "")], CANONICAL
     yield "value", ["text", LATE[65]], ["ok", '{"a":1,' + LATE[65][1:].replace(',"a":1', "")], CANONICAL
-    yield "value", ["text", "1e400"], ["err", "NotJson"], CANONICAL
     for text, fault in NO_CANONICAL:
         yield "canonical", [text], ["err", fault], CANONICAL
 
@@ -315,8 +322,17 @@ def replaced():
     """Numbers that aren't whole: a later member may replace one, but not one without a double."""
     for text, spelled in REPLACED:
         yield "value", ["text", text], ["ok", spelled] if spelled else ["err", "NotWhole"], CANONICAL
-    for text in ('{"a":1e400,"a":1}', '{"a":1.5,"a":1}]'):
-        yield "value", ["text", text], ["err", "NotJson"], CANONICAL
+    yield "value", ["text", '{"a":1.5,"a":1}]'], ["err", "NotJson"], CANONICAL
+
+
+def without_double():
+    """Numbers at the least magnitude without a finite double, alone and replaced by a later member."""
+    for number in FINITE:
+        yield "value", ["text", number], ["err", "NotWhole"], CANONICAL
+        yield "value", ["text", '{"a":%s,"a":1}' % number], ["ok", '{"a":1}'], CANONICAL
+    for number in INFINITE:
+        for text in (number, '{"a":%s,"a":1}' % number):
+            yield "value", ["text", text], ["err", "NotJson"], CANONICAL
 
 
 def made():
@@ -366,4 +382,4 @@ def times():
     for text, fault in NO_TIMES:
         yield "time", [text], ["err", fault], TIMES
 
-ROWS = [row for rows in (values, looks, objects, replaced, made, passed, streams, times) for row in rows()]
+ROWS = [row for rows in (values, looks, objects, replaced, without_double, made, passed, streams, times) for row in rows()]
