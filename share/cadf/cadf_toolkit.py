@@ -561,6 +561,16 @@ def another_program(kind, name=None):
     return Fault("%s: what it writes is no %s" % (name_shown(name or CADF), kind))
 
 
+def command_version():
+    """Returns what CADF says of its version: `cadf` with a version, or `cadf, second implementation`."""
+    with started([CADF, "--version"], stdin=subprocess.DEVNULL, stdout=subprocess.PIPE, stderr=subprocess.PIPE) as child:
+        said, fault = child.communicate()
+    check_end(child, fault, [])
+    if not re.fullmatch(rb"cadf(?: [^ \n]+|, second implementation)\n", said):
+        raise another_program("answer of `cadf --version`")
+    return said.decode("utf-8", "replace").strip()
+
+
 def check_written(command, first, last=None):
     """Raises that what CADF has written doesn't begin as what this command writes or, if its last bytes are given, doesn't end so."""
     kind, begin = WRITTEN.get(command, ("", b""))

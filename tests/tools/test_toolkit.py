@@ -280,6 +280,22 @@ def test_refused_words_that_nobody_hears():
     assert (done.returncode, done.stdout) == (2, b"")
 
 
+@pytest.mark.parametrize("said, version", [
+    ("cadf 0.1.0\\n", "cadf 0.1.0"), ("cadf, second implementation\\n", "cadf, second implementation"),
+    ("cadf\\n", None), ("cadf 0.1.0", None), ("cadf 0.1.0\\nmore\\n", None), ("cadfs 0.1.0\\n", None), ("cadf, another\\n", None), ("", None),
+])
+def test_version_of_the_command(kit, tmp_path, said, version):
+    """A tool takes the built command and the second implementation, and no other program."""
+    kit.CADF = str(tmp_path / "cadf")
+    (tmp_path / "cadf").write_text("#!/bin/sh\n[ \"$*\" = --version ] && printf '%s'\n" % said)
+    (tmp_path / "cadf").chmod(0o755)
+    if version:
+        assert kit.command_version() == version
+    else:
+        with pytest.raises(kit.Fault, match="what it writes is no answer of `cadf --version`"):
+            kit.command_version()
+
+
 @pytest.mark.parametrize("unbuffered", ["", "1"])
 @pytest.mark.parametrize("words", ["--help", "--version"])
 def test_help_that_cannot_be_written(words, unbuffered):
