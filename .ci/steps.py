@@ -1,13 +1,14 @@
 """Runs the steps of the gate: what needs no build, then `rt ci`, then what runs what it has built, side by side; `test` beside all.
 
-    .ci/run [--no-skips]
+    .ci/run [--no-skips] [--allow-skip NAME]..
     .ci/run --list       what each step runs and shows, in the words of its program; nothing is run
 
 Prints a line a step with its times as the step ends, all that a failed step has written, and at the end a table of all
 steps with the kit's name, why something was skipped, and `N passed, M failed, K skipped`. A step of pytest counts as its
-tests do, any other is one. With --no-skips what was skipped has failed. The first time is that of the clock, the second
-that of all processors. A failed stage ends the run: what comes after it stands on it. A call that is answered wrongly
-ends the proofs too.
+tests do, any other is one. What was skipped has failed, unless its reason begins with a name of .ci/allowed-skips or
+one that is given; with --no-skips always. The last line but one has the names for which nothing was skipped. The first
+time is that of the clock, the second that of all processors. A failed stage ends the run: what comes after it stands on
+it. A call that is answered wrongly ends the proofs too.
 Each step writes to a folder of its own, and leaves nothing in the tree but crates/*/out.
 """
 import argparse
@@ -31,7 +32,7 @@ sys.path.insert(0, TOP)
 
 from build import record
 from build.proving import JOB_MEMORY, PROOF_MEMORY, free_memory
-from tests import text_of
+from tests import skips, text_of
 
 CADF = "crates/cadf/out/cadf"
 # What the system says of a group of processes that may use all processors and all memory.
@@ -142,10 +143,12 @@ def lanes_of_proofs():
 ENVIRONMENT = {**lanes_of_proofs(), **os.environ, "PATH": os.path.dirname(sys.executable) + os.pathsep + os.environ["PATH"],
                "PYTHONDONTWRITEBYTECODE": "1"}
 # What a step says of what it leaves out, itself or by pytest, and how pytest counts.
-SKIPPED = re.compile(r"(?m)^(?:skipped: |SKIPPED \[(\d+)\] )(.*)$")
+SKIPPED = re.compile(r"(?m)^(?:skipped: |SKIPPED \[(\d+)\] [^:\n]*(?::\d+)?: )(.*)$")
 COUNTED = re.compile(r"(\d+) (passed|failed|errors?)\b")
 PLUGINS = "pytest, xdist, pytest_timeout"
-WITHOUT_PYTEST = "skipped: pytest with xdist and timeout (Debian: python3-pytest, python3-pytest-xdist, python3-pytest-timeout)"
+WITHOUT_PYTEST = "pytest isn't there, or not with xdist and timeout: sudo apt-get install python3-pytest python3-pytest-xdist python3-pytest-timeout"
+PIECE = 4096  # of what a step has written
+ABSENT = 127  # the status of a step whose program isn't there, as a shell has it
 
 
 def pytest_words():
@@ -197,8 +200,9 @@ def wait_for(child):
 class Gate:
     """The steps so far, and those that run now."""
 
-    def __init__(self):
-        self.ended, self.running, self.lock, self.pytest = [], set(), threading.Lock(), pytest_words()
+    def __init__(self, allowed=()):
+        self.ended, self.running, self.lock, self.pytest = [], {}, threading.Lock(), pytest_words()
+        self.allowed = list(allowed)  # what may be skipped beside the names of the list
         self.is_ended = False  # whether a step that fails now ends all others
         self.is_over = False
 
@@ -209,21 +213,32 @@ class Gate:
         is_many = words[0] == "pytest"
         if is_many:
             if not self.pytest:
-                return self.say(Ended(name, 0, 0, 0, WITHOUT_PYTEST, is_many))
-            words[:1] = self.pytest + workers(words)
+                return self.say(Ended(name, 0, 0, 0, "skipped: %s\n" % WITHOUT_PYTEST, is_many))
+            words[:1] = self.pytest + workers(words) + ["--allow-skip=" + name for name in self.allowed]
             environment = {**ENVIRONMENT, "PATH": os.path.dirname(self.pytest[0]) + os.pathsep + ENVIRONMENT["PATH"]}  # for the tools too
         with tempfile.TemporaryFile("w+", errors="replace") as log:
-            child = subprocess.Popen(words, cwd=TOP, env=environment, stdin=subprocess.DEVNULL, stdout=log,
-                                     stderr=subprocess.STDOUT, start_new_session=True)
+            try:
+                child = subprocess.Popen(words, cwd=TOP, env=environment, stdin=subprocess.DEVNULL, stdout=log,
+                                         stderr=subprocess.STDOUT, start_new_session=True)
+            except OSError as error:
+                return self.say(Ended(name, ABSENT, 0, 0, "%s can't be started: %s\n" % (words[0], error.strerror), is_many))
             with self.lock:
-                self.running.add(child.pid)
+                self.running[child.pid] = name, log
             if self.is_over:
                 self.end()
             status, processors = wait_for(child)
             with self.lock:
-                self.running.discard(child.pid)
+                del self.running[child.pid]
             log.seek(0)
             return self.say(Ended(name, status, time.monotonic() - begun, processors, log.read(), is_many))
+
+    def told(self):
+        """The names of the steps that run, those of pytest with how much is done."""
+        with self.lock:
+            for name, log in self.running.values():
+                end = os.fstat(log.fileno()).st_size
+                done = re.findall(rb"\[ *(\d+)%\]", os.pread(log.fileno(), PIECE, max(0, end - PIECE)))  # moves no place of the file
+                yield name + (" %d %%" % int(done[-1]) if done else "")
 
     def say(self, ended):
         """Prints a step's line, and what it wrote where it failed."""
@@ -273,24 +288,33 @@ class Gate:
             print(step.line())
         used = sum(step.processors for step in self.ended)
         print("%-12s %7.1f s %8.1f s" % ("all", time.monotonic() - begun, used))
-        skips = [(step.name, *skip) for step in self.ended for skip in step.skips()]
-        for name, _, why in skips:
-            print("skipped: %s: %s" % (name, why))
+        left_out = [(step.name, *skip) for step in self.ended for skip in step.skips()]
+        names = [*skips.allowed(), *self.allowed]
+        found = {why: skips.name_of(why, names) for _, _, why in left_out}
+        for name, _, why in left_out:
+            print("%s: %s: %s" % ("skipped" if found[why] else "skipped, and %s doesn't name it" % skips.LIST, name, why))
+        print("allowed, and not skipped: " + " ".join(name for name in names if name not in found.values()))
         passed, failed = map(sum, zip(*(step.counts() for step in self.ended)))
-        print("%d passed, %d failed, %d skipped" % (passed, failed, sum(number for _, number, _ in skips)))
-        return 1 if failed or skips and not may_skip else 0
+        print("%d passed, %d failed, %d skipped" % (passed, failed, sum(number for _, number, _ in left_out)))
+        return 1 if failed or left_out and not may_skip or None in found.values() else 0
+
+
+def stop_with(gate):
+    """Ends what a gate has started where this program is ended."""
+    for number in (signal.SIGINT, signal.SIGTERM):
+        signal.signal(number, gate.stop)
 
 
 def main():
     parser = argparse.ArgumentParser(description=__doc__, formatter_class=argparse.RawDescriptionHelpFormatter)
     parser.add_argument("--no-skips", action="store_true", help="what was skipped has failed")
     parser.add_argument("--list", action="store_true", help="say what each step runs and shows, and run nothing")
+    parser.add_argument("--allow-skip", action="append", default=[], metavar="NAME", help="allow skips for this too")
     options = parser.parse_args()
     if options.list:
         return show_list()
-    gate, begun = Gate(), time.monotonic()
-    for number in (signal.SIGINT, signal.SIGTERM):
-        signal.signal(number, gate.stop)
+    gate, begun = Gate(options.allow_skip), time.monotonic()
+    stop_with(gate)
     gate.run_stages(*STAGES)
     return gate.table(begun, not options.no_skips)
 

@@ -127,7 +127,7 @@ def main():
         count += len(of_command)
         failed += failures("command", of_command, by_command(of_command))
     else:
-        print("skipped: the command itself: rt, of the Rattle kit, isn't there")
+        print("skipped: rt, of the Rattle kit, isn't there: the command itself")
     print("%d passed, %d failed" % (count - failed, failed))
     return 1 if failed else 0
 

@@ -1,4 +1,4 @@
-"""What the tests share under pytest: the built command, and what a test needs to be there."""
+"""What the tests share under pytest: the built command, what a test needs to be there, which skips are allowed, and for how long it may run."""
 import os
 import shutil
 import signal
@@ -6,6 +6,7 @@ import threading
 
 import pytest
 
+from tests import patience, skips
 from tests.machine import built
 
 try:
@@ -36,6 +37,7 @@ def pytest_configure(config):
 def pytest_addoption(parser):
     parser.addoption("--binary", default=built("cadf"), help="the command that is tried; crates/cadf/out/cadf unless given")
     parser.addoption("--release", action="store_true", help="run what runs before a release too")
+    parser.addoption("--allow-skip", action="append", default=[], metavar="NAME", help="allow skips for this too, beside those of .ci/allowed-skips")
 
 
 def slowness(item):
@@ -45,8 +47,16 @@ def slowness(item):
     return SLOW.index(name) if name in SLOW else len(SLOW)
 
 
+def longest(config, item):
+    """How long a test may take here, in seconds: its own limit, or that of pytest.ini."""
+    own = item.get_closest_marker("timeout")
+    return patience.seconds(float(own.args[0] if own else config.getini("timeout") or 0))
+
+
 def pytest_collection_modifyitems(config, items):
     """Marks each test by whether it runs the built command, so that `-m unbuilt` is what can run before a build. Slow ones come first.
+
+    Limits of time are longer on a machine that is slow or busy.
 
     A broker takes ten seconds to start, so those that have one run together, after the build. Leaves out those of a release,
     which are no skips: CONTRIBUTING has them among what runs on demand.
@@ -57,6 +67,26 @@ def pytest_collection_modifyitems(config, items):
     for item in items:
         is_later = {"cadf", "drivers"} & set(item.fixturenames) or item.get_closest_marker("broker")
         item.add_marker("built" if is_later else "unbuilt")
+        if config.pluginmanager.hasplugin("timeout"):
+            item.add_marker(pytest.mark.timeout(longest(config, item)), append=False)
+
+
+def refuse_unnamed(config, report):
+    """Has a test or a file of tests failed that was skipped for what the list doesn't name."""
+    if report.skipped and not hasattr(report, "wasxfail"):
+        reason = report.longrepr[2].partition("Skipped: ")[2]
+        if skips.name_of(reason, [*skips.allowed(), *config.getoption("--allow-skip")]) is None:
+            report.outcome, report.longrepr = "failed", "skipped, and %s has no name for it: %s" % (skips.LIST, reason)
+
+
+@pytest.hookimpl(hookwrapper=True)
+def pytest_runtest_makereport(item, call):
+    refuse_unnamed(item.config, (yield).get_result())
+
+
+@pytest.hookimpl(hookwrapper=True)
+def pytest_make_collect_report(collector):
+    refuse_unnamed(collector.config, (yield).get_result())
 
 
 def pytest_runtest_setup(item):
@@ -67,14 +97,14 @@ def pytest_runtest_setup(item):
         if shutil.which(program) is None:
             pytest.skip("%s isn't there" % program)
     if item.get_closest_marker("root") and os.geteuid():
-        pytest.skip("it needs root")
+        pytest.skip("root is needed")
 
 
 @pytest.fixture(scope="session")
 def drivers():
     """The path of the program that makes the calls of tests/tables, as `rt ci` builds it."""
     if not os.path.exists(built("drivers")):
-        pytest.skip("%s isn't there: rt ci builds it" % built("drivers"))
+        pytest.skip("drivers: %s isn't there: rt ci builds it" % built("drivers"))
     return built("drivers")
 
 
@@ -83,5 +113,5 @@ def cadf(pytestconfig):
     """The path of the built command."""
     binary = os.path.abspath(pytestconfig.getoption("--binary"))
     if not os.path.exists(binary):
-        pytest.skip("%s isn't there: run build/command, or give --binary" % binary)
+        pytest.skip("cadf: %s isn't there: run build/command, or give --binary" % binary)
     return binary

@@ -5,10 +5,10 @@ import subprocess
 import threading
 from typing import NamedTuple, Optional
 
-from tests import TOP
+from tests import TOP, patience
 
 CRATES = os.path.join(TOP, "crates")
-SECONDS = 60
+SECONDS = 60  # on an idle machine
 REFUSED, REFUSED_UNTOLD = 2, (2,)  # exit statuses of a refused command line
 
 
@@ -64,9 +64,9 @@ def put(folder, name, content):
 def ended(binary, words, **options):
     """What the binary answers."""
     try:
-        done = subprocess.run([binary, *words], capture_output=True, timeout=SECONDS, **options)
+        done = subprocess.run([binary, *words], capture_output=True, timeout=patience.seconds(SECONDS), **options)
     except subprocess.TimeoutExpired:
-        return Answer(None, b"", b"no answer in %d seconds" % SECONDS)
+        return Answer(None, b"", b"no answer in %d seconds" % patience.seconds(SECONDS))
     return Answer(done.returncode, done.stdout, done.stderr)
 
 

@@ -98,7 +98,7 @@ def allowing(cadf, tmp_path):
         allowed = "".join("ALLOW(%s)" % call for call in sorted(calls))
         confined = compiled(tmp_path, "confined", CONFINED, "-DALLOWED=" + allowed, '-DPROGRAM="%s"' % cadf)
         if ended(confined, ["--version"]).status == NOT_ALLOWED:
-            pytest.skip("a filter of system calls isn't allowed")
+            pytest.skip("seccomp: a filter of system calls isn't allowed")
         return confined
 
     return made

@@ -131,7 +131,7 @@ def main():
         absent |= its
         print("shown: %s: %d commands do what it shows" % (name, count))
     for program in sorted(absent):
-        print("skipped: the blocks that run %s, which isn't there" % program)
+        print("skipped: %s isn't there, and blocks run it" % program)
 
 
 if __name__ == "__main__":

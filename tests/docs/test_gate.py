@@ -11,7 +11,7 @@ import types
 
 import pytest
 
-from tests import TOP, conftest, text_of, tracked
+from tests import TOP, conftest, skips, text_of, tracked
 from tests.conftest import SLOW
 from tests.machine import side_by_side
 
@@ -98,6 +98,59 @@ def test_table_without_the_kit(monkeypatch, tmp_path, capsys):
     monkeypatch.setenv("PATH", str(tmp_path))
     assert gate.table(0, True) == 0
     assert capsys.readouterr().out.endswith("\n1 passed, 0 failed, 0 skipped\n")
+
+
+def test_a_program_that_is_not_there(capsys):
+    """It is a row of the table, and no traceback: the other steps run."""
+    gate = STEPS["Gate"]()
+    gate.run_all({"first": "/no/such/program", "second": "/bin/true"}, False)
+    assert gate.table(0, True) == 1
+    lines = capsys.readouterr().out.splitlines()
+    assert "/no/such/program can't be started: No such file or directory" in lines
+    assert {line.split()[0]: line[-6:] for line in lines if line.endswith(("FAILED: status 127", "  passed"))} == {"first": "us 127", "second": "passed"}
+    assert lines[-1].startswith("1 passed, 1 failed")
+
+
+@pytest.mark.parametrize("said, allowed, may_skip, wanted", [
+    ("skipped: strace isn't there", [], True, 0), ("skipped: strace isn't there", [], False, 1), ("skipped: straces aren't there", [], True, 1),
+    ("skipped: the moon: it's full", [], True, 1), ("skipped: the moon: it's full", ["the moon"], True, 0),
+    ("SKIPPED [3] tests/x/test_y.py:12: strace isn't there", [], True, 0), ("SKIPPED [3] tests/x/test_y.py:12: too slow", [], True, 1),
+])
+def test_skips_of_the_gate(tmp_path, capsys, said, allowed, may_skip, wanted):
+    """A step may leave out what the list names, and what the caller allows. The end says for which names nothing was skipped."""
+    (tmp_path / "step").write_text('#!/bin/sh\necho "%s"\n' % said)
+    (tmp_path / "step").chmod(0o755)
+    gate = STEPS["Gate"](allowed)
+    gate.run_all({"first": str(tmp_path / "step")}, False)
+    assert gate.table(0, may_skip) == wanted
+    line = next(line for line in capsys.readouterr().out.splitlines() if line.startswith("allowed, and not skipped: "))
+    assert " zsh" in line and (" strace" in line) == ("strace isn't" not in said)
+
+
+SKIPPING = "import pytest\n\n\n%s\ndef test_something():\n    pytest.skip(%r)\n"
+
+
+@pytest.mark.parametrize("above, reason, words, wanted", [
+    ("", "strace isn't there", [], 0), ("", "too slow", [], 1), ("", "too slow", ["--allow-skip=too slow"], 0),
+    ('@pytest.mark.skip(reason="later")', "", [], 1), ('@pytest.mark.skip(reason="zsh: later")', "", [], 0), ('pytest.importorskip("no_such")', "", [], 2),
+])
+def test_skips_of_pytest(tmp_path, above, reason, words, wanted):
+    """A test, or a file of them, that is skipped for what the list doesn't name has failed."""
+    (tmp_path / "test_it.py").write_text(SKIPPING % (above, reason))
+    (tmp_path / "pytest.ini").write_text("[pytest]\nmarkers = unbuilt: x\n")
+    done = subprocess.run([sys.executable, "-m", "pytest", "-q", "-p", "tests.conftest", "-p", "no:cacheprovider", *words, str(tmp_path)],
+                          cwd=TOP, check=False, stdout=subprocess.PIPE, universal_newlines=True)
+    assert done.returncode == wanted and ("has no name for it" in done.stdout) == bool(wanted), done.stdout
+
+
+def test_each_reason_is_on_the_list():
+    """What a test of this tree skips for, as far as its text says it, begins with a name of the list."""
+    texts = {name: text_of(name) for name in tracked() if re.match(r"(tests|examples)/.*\.py$", name)}
+    said = [(name, reason) for name, text in texts.items() for reason in
+            re.findall(r'(?:pytest\.skip\(|skipif\(.*reason=|importorskip\(.*reason=|print\("skipped: )"?([^"%][^"]*)"', text)]
+    needed = [(name, program) for name, text in texts.items() for words in re.findall(r"mark\.needs\(([^)]*)\)", text) for program in re.findall(r'"([^"]+)"', words)]
+    assert len(said) > 20 and len(needed) > 20
+    assert [each for each in said + needed if skips.name_of(each[1], [*skips.allowed(), "gcc", "git"]) is None] == []
 
 
 LOADED = """

@@ -16,7 +16,7 @@ def test_page(cadf, name):
     count, absent = shown.run_page(path, os.path.dirname(cadf))
     assert count > 0
     if absent:
-        pytest.skip("blocks of %s run %s, which isn't there" % (name, " and ".join(sorted(absent))))
+        pytest.skip("%s isn't there, which blocks of %s run" % (" and ".join(sorted(absent)), name))
 
 
 @pytest.mark.parametrize("right, wrong", [("    a\n", "    b\n"), ("    ..\n", ""), ("    x\n\n", "    y\n\n"), ("$ true", "$ echo x")])

@@ -9,7 +9,7 @@ import tempfile
 
 import pytest
 
-from tests import TOP
+from tests import TOP, patience
 from tests.generated.compare import alike, put_all
 from tests.machine import SECONDS, Answer, side_by_side
 from tests.reference.command import answer
@@ -40,7 +40,7 @@ def answered(binary, files):
     with tempfile.TemporaryDirectory(prefix="cadf-case-") as folder:
         put_all(folder, files)
         statuses = subprocess.run(["/bin/sh", "-c", EACH, binary, *files], cwd=folder, stdin=subprocess.DEVNULL, check=True,
-                                  stdout=subprocess.PIPE, timeout=SECONDS).stdout.split()
+                                  stdout=subprocess.PIPE, timeout=patience.seconds(SECONDS)).stdout.split()
         for name, status in zip(files, statuses):
             yield Answer(int(status), *(read(os.path.join(os.fsencode(folder), name + end)) for end in (b".output", b".error")))
 

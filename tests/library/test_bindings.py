@@ -39,7 +39,7 @@ def prefix(cadf, tmp_path_factory):
     if os.path.isdir(os.path.join(TOP, "crates", "cadf_memory", "out", "rlib")):
         ran(os.path.join(TOP, "build", "library"), "--over-ci", seconds=None)
     elif not os.path.exists(library_files.archive(TOP)):
-        pytest.skip("the library isn't built: rt ci, or build/library")
+        pytest.skip("library: it isn't built: rt ci, or build/library")
     folder = str(tmp_path_factory.mktemp("library"))
     ran(os.path.join(TOP, "install", "install"), "--any", folder)
     return folder

@@ -59,7 +59,7 @@ def noting():
 def test_wrappers(tmp_path, language, words):
     """In C99, C11 and C++11 each function takes NULL for what is nothing, and hands all else on in its order."""
     if language == "c++" and subprocess.run(["gcc", "-x", "c++", "-fsyntax-only", os.devnull], stderr=subprocess.DEVNULL).returncode:
-        pytest.skip("gcc has no C++ here (Debian: g++)")
+        pytest.skip("g++ isn't there: gcc has no C++ here")
     calls = [call(name, kinds, is_given) for name, kinds, _ in declared() if kinds for is_given in (True, False)]
     (tmp_path / "main").write_text(PROGRAM % "".join(made for made, _ in calls))
     (tmp_path / "noting.c").write_text(noting())

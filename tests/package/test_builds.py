@@ -146,7 +146,7 @@ def built(tree):
     return tree
 
 
-@pytest.mark.skipif(free_memory() < 3 * (PROOF_MEMORY + JOB_MEMORY), reason="there is no memory for three proofs at once")
+@pytest.mark.skipif(free_memory() < 3 * (PROOF_MEMORY + JOB_MEMORY), reason="memory: there is none for three proofs at once")
 def test_from_scratch(tree):
     """It keeps to its processors, and proves two crates side by side in their order; what none waits for has one job."""
     status, said = tree.build("3", PAUSE="1")

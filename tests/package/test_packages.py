@@ -336,7 +336,7 @@ def test_versions(copy):
 def made_static(first, second, cadf):
     """The static command and its bill of materials, made twice."""
     if not has_object(cadf):
-        pytest.skip("the object that the command was linked from isn't there")
+        pytest.skip("object: what the command was linked from isn't there")
     return packed_twice(first, second, "--static")
 
 

@@ -28,7 +28,7 @@ ssl_options.keyfile = %s
 def missing():
     """What isn't there of all that a broker needs, or None."""
     if amqp is None:
-        return "python3-kombu"
+        return "kombu"
     if not os.path.exists(os.path.join(PROGRAMS, "rabbitmq-server")) or not shutil.which("epmd"):
         return "rabbitmq-server"
     return None

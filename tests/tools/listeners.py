@@ -6,7 +6,7 @@ import subprocess
 import sys
 import time
 
-from tests import TOP
+from tests import TOP, patience
 from tests.tools import broker
 from tests.tools.programs import tool
 
@@ -94,7 +94,7 @@ class Listeners:
 
     def wait_for(self, what, happens, seconds=60):
         """Waits until something has happened."""
-        end = time.monotonic() + seconds
+        end = time.monotonic() + patience.seconds(seconds)
         while not happens():
             assert time.monotonic() < end, what
             time.sleep(0.02)

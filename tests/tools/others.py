@@ -45,7 +45,7 @@ def shared(folder, *paths):
     subprocess.run(["chmod", "-R", "a+rX", *copies], check=True)
     for copy in copies:
         if subprocess.run(as_user(SENDER, GROUP, PYTHON, "-c", "import os, sys; sys.exit(not os.access(sys.argv[1], os.R_OK))", copy), check=False).returncode:
-            pytest.skip("other users can't read %s" % copy)
+            pytest.skip("others can't read %s" % copy)
     return copies
 
 

@@ -37,7 +37,7 @@ def test_peeled(agree, name):
         data = file.read()
     _, sketch = sketch_files.read_sketch(data)
     assert peeled(agree, data, sketch.cells) == sketch_files.peeled(list(sketch.cells), sketch.layout)
-    hypothesis = pytest.importorskip("hypothesis")
+    hypothesis = pytest.importorskip("hypothesis", reason="hypothesis isn't there (Debian: python3-hypothesis)")
     choices = hypothesis.strategies
 
     @hypothesis.settings(max_examples=50)

@@ -504,7 +504,7 @@ NAMES = [*EVENT, "initiatorId", "targetId", "reporterchain", "reporterchains", "
 
 def test_checks(texts):
     """The tool finds the first fault of an event that the second implementation finds, where up to three members are odd."""
-    hypothesis = pytest.importorskip("hypothesis")
+    hypothesis = pytest.importorskip("hypothesis", reason="hypothesis isn't there (Debian: python3-hypothesis)")
     choices, faults_of = hypothesis.strategies, loaded(TOOL).faults_of
     base = [json.loads(line, parse_float=str, parse_constant=str) for line in texts]
     odd = choices.one_of(choices.just("absent"), choices.sampled_from(ODD), choices.integers(97, 104).map(nested))

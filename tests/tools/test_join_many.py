@@ -55,7 +55,7 @@ def python_with_dask():
     for python in PYTHONS:
         if subprocess.run([python, "-c", "import distributed"], capture_output=True).returncode == 0:
             return python
-    return pytest.skip("dask.distributed isn't there (Debian: python3-distributed)")
+    return pytest.skip("distributed isn't there (Debian: python3-distributed)")
 
 
 def environment(cadf):

@@ -135,7 +135,7 @@ DELIVERY = frame(60, 60, words=b"\1t" + b"\0" * 8 + b"\0\0\1q", channel=1)
 def test_a_link_that_is_cut_in_silence(program, monkeypatch, last):
     """What the broker doesn't answer is a fault in the end, also if a part of a frame came before the link was cut."""
     if program.amqp is None:
-        pytest.skip("python3-kombu isn't there")
+        pytest.skip("kombu isn't there (Debian: python3-kombu)")
     monkeypatch.setattr(program, "ANSWER", 1)
     with socket.create_server(("127.0.0.1", 0)) as server:
         def speak():

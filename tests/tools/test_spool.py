@@ -515,7 +515,7 @@ def test_full_spool(spools):
     done = ended("unshare", ["-rm", "sh", "-c", script, "-", sys.executable, spools.tool, "--log", "g", "s.cadf", "spool"],
                  cwd=folder, env={**os.environ, "CADF": spools.cadf})
     if b"unshare:" in done.error or b"mount:" in done.error:
-        pytest.skip("no file system of one's own can be mounted")
+        pytest.skip("unshare: no file system of one's own can be mounted")
     waits = "a.jsonl: waits: cadf-from-openstack: spool/taking/.work/0-0001.json: write fault: No space left on device"
     assert (done.status, done.error.decode().splitlines()) == (3, ["cadf-spool: " + waits, "cadf-spool: taken 0, set aside 0, waiting 1"])
 
@@ -633,7 +633,7 @@ def test_long_paths(spools):
 def test_confined(spools):
     """A program that judges a file writes nowhere but into files of the working folder, where the system has Landlock."""
     if ctypes.CDLL(None).syscall(444, None, 0, 1) <= 0:
-        pytest.skip("this kernel has no Landlock")
+        pytest.skip("Landlock: this kernel has none")
     folder, site = spools.site(**{"a.json": document("e1")}), spools.joined(document("e0"))
     put(os.path.join(folder, "s.cadf"), site)
     odd = spools.command(folder, 'if [ "$3" = a.json ]; then (cd %s; for each in s.cadf other spool/taken/other spool/taking/a.json; do echo x >>$each; done; '

@@ -22,7 +22,7 @@ import time
 
 import pytest
 
-from tests import TOP
+from tests import TOP, patience
 from tests.machine import ended, side_by_side
 from tests.reference.events import document
 from tests.reference.inventory_files import inventory_of
@@ -55,8 +55,8 @@ def facts(*keys, log="g"):
 class Sites:
     """A folder with sites, and the tool over them."""
 
-    def __init__(self, path, cadf=REFERENCE, tools=TOOLS, patience=20):
-        self.path, self.cadf, self.tools, self.patience = path, cadf, tools, patience
+    def __init__(self, path, cadf=REFERENCE, tools=TOOLS, wait=20):
+        self.path, self.cadf, self.tools, self.patience = path, cadf, tools, round(patience.seconds(wait))
 
     def put(self, name, atoms, log="g"):
         (self.path / name).write_bytes(file_of(log, atoms))
@@ -155,7 +155,7 @@ def synced_read_alone(folders, here, there):
     answer = ended("unshare", ["-rm", "sh", "-c", "mount --bind still still && mount -o remount,bind,ro still && exec \"$@\"", "-", *words],
                    env=folders.environment(), cwd=folders.path)
     if b"unshare:" in answer.error or b"mount:" in answer.error:
-        pytest.skip("no file system of one's own can be mounted")
+        pytest.skip("unshare: no file system of one's own can be mounted")
     return answer.status, answer.output, said(answer)
 
 
@@ -550,7 +550,7 @@ def test_room_is_asked_for_before_a_message_is_read(sites, tmp_path):
     answer = ended("unshare", ["-rm", "sh", "-c", "mount -t tmpfs -o size=1m none small && TMPDIR=$PWD/small exec \"$@\"", "-", *words],
                    env=sites.environment(), cwd=sites.path)
     if b"unshare:" in answer.error or b"mount:" in answer.error:
-        pytest.skip("no file system of one's own can be mounted")
+        pytest.skip("unshare: no file system of one's own can be mounted")
     assert (answer.status, said(answer)) == (3, "cadf-sync: %s/small: No space left on device for 1000000000 bytes: "
                                              "make room there, or name another folder by TMPDIR\n" % tmp_path)
 
@@ -586,12 +586,12 @@ def test_a_far_shell_that_leaves_a_program(sites):
     """Whoever is left there with standard error, as an agent, is not waited for."""
     sites.put("here.cadf", facts(1))
     sites.put("there.cadf", facts(2))
-    (sites.path / "shell").write_text('#!/bin/sh\nsleep 30 </dev/null >/dev/null &\necho $! >left\nPATH=%s:$PATH exec sh -c "$3"\n' % shlex.quote(sites.tools))
+    (sites.path / "shell").write_text('#!/bin/sh\nsleep 3600 </dev/null >/dev/null &\necho $! >left\nPATH=%s:$PATH exec sh -c "$3"\n' % shlex.quote(sites.tools))
     (sites.path / "shell").chmod(0o755)
     begun = time.monotonic()
     answer = sites.sync("--quiet", "--rsh=./shell", "here.cadf", "h:there.cadf")
     os.kill(int((sites.path / "left").read_text()), signal.SIGKILL)
-    assert answer == (0, b"", b"") and time.monotonic() - begun < 20
+    assert answer == (0, b"", b"") and time.monotonic() - begun < patience.seconds(20)
 
 
 # ---- A caller that lies
@@ -1459,14 +1459,14 @@ WRONG_OF_FOLDERS = [
 def test_wrong_tools_are_caught(tmp_path, number):
     *texts, check = WRONG[number]
     (tmp_path / "sites").mkdir()
-    is_caught(tmp_path, texts, check, lambda tools: Sites(tmp_path / "sites", tools=tools, patience=3))
+    is_caught(tmp_path, texts, check, lambda tools: Sites(tmp_path / "sites", tools=tools, wait=3))
 
 
 @pytest.mark.parametrize("number", range(len(WRONG_OF_FOLDERS)))
 def test_wrong_tools_over_folders_are_caught(tmp_path, cadf, number):
     *texts, check = WRONG_OF_FOLDERS[number]
     (tmp_path / "sites").mkdir()
-    is_caught(tmp_path, texts, check, lambda tools: Folders(tmp_path / "sites", tools=tools, patience=3, cadf=cadf))
+    is_caught(tmp_path, texts, check, lambda tools: Folders(tmp_path / "sites", tools=tools, wait=3, cadf=cadf))
 
 
 # ---- By a real sshd, on loopback

@@ -193,7 +193,7 @@ def test_access_stays(folder, wanted, mode, of_lock):
         try:
             os.setxattr("s.cadf", "system.posix_acl_access", wanted)
         except OSError:
-            pytest.skip("this file system has no access control lists")
+            pytest.skip("acl: this file system has no access control lists")
     ends(folder.take("s.cadf", "two.json"), 0)
     leaves(folder.both, folder.one)
     for name, right in (("s.cadf", mode), ("s.cadf.before", mode), ("s.cadf.lock", of_lock)):
@@ -219,7 +219,7 @@ def test_an_owner_that_a_user_namespace_does_not_have(folder):
     os.chmod("s.cadf", 0o660)
     done = ended("unshare", ["-r", folder.tool, "s.cadf", "two.json"], env={**os.environ, "CADF": folder.cadf})
     if b"unshare:" in done.error:
-        pytest.skip("no user namespace can be made")
+        pytest.skip("unshare: no user namespace can be made")
     ends(done, 0)
     assert held("s.cadf") == folder.both and (os.stat("s.cadf").st_uid, mode_of("s.cadf")) == (0, 0o660)
 

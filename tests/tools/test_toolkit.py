@@ -312,7 +312,7 @@ def test_a_machine_without_proc(tmp_path):
     done = subprocess.run(["unshare", "-rm", "sh", "-c", 'mount -t tmpfs none /proc && exec "$@"', "-", *words], cwd=tmp_path, stderr=subprocess.PIPE, timeout=60,
                           env=dict(os.environ, CADF=os.path.join(TOP, "tests", "reference", "cadf")), check=False)
     if b"unshare:" in done.stderr or b"mount:" in done.stderr:
-        pytest.skip("no file system of one's own can be mounted")
+        pytest.skip("unshare: no file system of one's own can be mounted")
     assert done.returncode == 3 and re.fullmatch(rb"/dev/fd/\d+: not there, and files are given to cadf by it: mount /proc\n", done.stderr), done.stderr
 
 

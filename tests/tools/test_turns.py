@@ -10,6 +10,7 @@ import time
 
 import pytest
 
+from tests import patience
 from tests.tools.odd_logs import EVENT
 from tests.tools.programs import tool
 
@@ -35,7 +36,7 @@ def joined(cadf, *names):
 
 
 def wait_until(is_so):
-    end = time.monotonic() + 60
+    end = time.monotonic() + patience.seconds(60)
     while not is_so():
         assert time.monotonic() < end
         time.sleep(0.02)
