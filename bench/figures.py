@@ -67,15 +67,13 @@ FIGURES = {
     README: [
         ("`show` of 100 MB takes {} s of user time and {} MB. A take of one event into a folder of 1,000 MB takes {} s and {} MB, into one file of that size {} s.",
          (SHOW, "`cadf show`", "User"), (SHOW, "`cadf show`", "Memory"), *((TAKES, "1,000 MB, 1 event", column) for column in ("Folder", "Folder:1", "File"))),
-        ("a sketch has {/1000} KB, an inventory {/1000000} MB, and the answer {/1000} KB.",
-         *((SKETCHES, "100, 65", column) for column in ("Sketch", "Inventory", "Inventory:1"))),
     ],
 }
 # What the pages say with units that is no measurement.
 LIMITS = {
     PERFORMANCE: ["2.5 GHz", "a site of 1,000 MB", "65 bytes a fact", "81 bytes a cell"],
     GUIDE: ["65 bytes a fact", "81 bytes a cell", "at most 16 MB of them", "of 1 MB together"],
-    README: ["2.5 GHz", "Python 3.9", "65 bytes a fact", "160 bytes a difference", "1 to 1,024 bytes"],
+    README: ["2.5 GHz", "Python 3.9", "8 s  unbuilt"],
 }
 CHART = (("inventory", "sketch", "rdiff", "rdiff -b 1024"), "\n1,000,000 facts:\n", 1 << 10)  # bytes of the first column
 SIZES = ((1000 ** 3, "GB"), (1000 ** 2, "MB"), (1000, "KB"))
