@@ -17,13 +17,12 @@ import itertools
 import json
 import os
 import re
-import resource
 import stat
 import subprocess
 import tempfile
 
-from cadf_toolkit import (CADF, FAILED, IN_THE_WAY, LARGEST, LAST, REFUSED, Fault, Input, Refusal, another_program, as_input, cadf, check_end, check_lock,
-                          grouped, last_digest, log_name, most_files, name_shown, new_lock, open_descriptor, opened_file, other_log, say, started_cadf, sync,
+from cadf_toolkit import (CADF, FAILED, IN_THE_WAY, LARGEST, LAST, REFUSED, Fault, Input, Refusal, allow_inputs, another_program, as_input, cadf, check_end,
+                          check_lock, grouped, last_digest, log_name, name_shown, new_lock, open_descriptor, opened_file, other_log, say, started_cadf, sync,
                           wait_for_lock, with_digest)
 
 UNITS = {"month": len("2024-03"), "day": len("2024-03-01"), "hour": len("2024-03-01T12")}  # with the length of a window's name
@@ -39,6 +38,7 @@ WINDOW_FILE = re.compile(r"%s\.%s\.cadf" % (PART, DIGITS))
 NOTHING = 3  # lines of a replica file without facts
 LONGEST_INDEX = 2 ** 28  # bytes
 TRIES = 100  # of a reader, before takes that never end are a fault
+FEWER_FILES = "raise that (ulimit -n), or settle the site"
 CHANGED = "%%s: it changed at each of %d looks: try again" % TRIES
 MOST_NEW = 400  # windows that a take begins, unless more are allowed
 TOO_MANY_NEW = "the files make more than %d new windows: if that is meant, allow it by --windows N"
@@ -258,13 +258,6 @@ def is_folder(name):
     return name.endswith("/") or os.path.isdir(name)
 
 
-def allow_files(count):
-    """Has the system allow as many open files. Refuses more than it can."""
-    most = most_files()
-    if most != resource.RLIM_INFINITY and count > most:
-        raise Fault("%d files are to be open, and the system allows %d: raise that (ulimit -n), or settle the site" % (count, most))
-
-
 @contextlib.contextmanager
 def opened_parts(folder, parts):
     """Opens the files that the folder's `site` names at one moment, or those of some parts, which are different ones.
@@ -275,7 +268,7 @@ def opened_parts(folder, parts):
         for _ in range(TRIES):
             index, inputs, missing = folder.site(), {}, None
             entries = index.entries() if parts is None else [(part, digest) for part in parts for digest in index.digests(part)]
-            allow_files(2 * len(entries) + 64)  # `cadf` opens each once more
+            allow_inputs(len(entries), FEWER_FILES)
             for entry in entries:
                 try:
                     inputs[entry] = folder.input(file_name(*entry))

@@ -3,6 +3,7 @@
 A tool imports it from ../share/cadf beside the folder that the tool is in, so in the sources and under any prefix.
 """
 import argparse
+import codecs
 import contextlib
 import errno
 import fcntl
@@ -35,6 +36,8 @@ NOT_REGULAR = "not a regular file; what a pipe brings is taken from standard inp
 FULL = (errno.ENOSPC, errno.EDQUOT, errno.EFBIG)  # of a write for which there is no room
 NO_ROOM = ": make room there, or name another folder by TMPDIR"
 NOT_NOW = "it can't be started now: try again, or allow more files and processes"
+MORE_FILES = "allow more open files (ulimit -n), or give fewer at once"
+BESIDE_INPUTS = 64  # files that are open beside inputs
 IN_THE_WAY = "in the way of a new file: move it away, and make the call again"
 OUT_OF_MEMORY = "out of memory"  # made once: no text is made while memory is out
 
@@ -120,8 +123,33 @@ def name_shown(name):
 
 
 def printable(text):
-    """The text with escapes in the place of what can't be printed."""
-    return "".join(each if each.isprintable() else ascii(each)[1:-1] for each in text)
+    """The text with escapes of JSON in the place of what can't be printed, as what a terminal takes for a command, and what turns other characters."""
+    return text if text.isprintable() else "".join(each if each.isprintable() else json.dumps(each)[1:-1] for each in text)
+
+
+def printable_lines(text):
+    """The same of each line of a text."""
+    return "\n".join(map(printable, text.split("\n")))
+
+
+class Terminal(io.RawIOBase):
+    """A terminal that is written to, by its descriptor and its encoding: what can't be printed is escaped."""
+
+    def __init__(self, file, encoding):
+        self.file, self.encoding, self.decode = file, encoding, codecs.getincrementaldecoder("utf-8")("backslashreplace").decode
+
+    def writable(self):
+        return True
+
+    def isatty(self):
+        return True
+
+    def fileno(self):
+        return self.file
+
+    def write(self, data):
+        write_all(self.file, printable_lines(self.decode(bytes(data))).encode(self.encoding, "backslashreplace"))
+        return len(data)
 
 
 def is_log_name(text):
@@ -144,7 +172,7 @@ def tool():
 
 def note(text):
     """Writes what was found, as a line on standard error."""
-    print("%s%s" % (CLEARED if Progress.shown else "", text), file=sys.stderr, flush=True)
+    print("%s%s" % (CLEARED if Progress.shown else "", printable_lines(str(text))), file=sys.stderr, flush=True)
 
 
 def say(text):
@@ -155,6 +183,8 @@ def say(text):
 
 def why(fault):
     """The name of the file and the system's words of an OSError. One without a name is of what is printed, unless something isn't there."""
+    if fault.errno in (errno.EMFILE, errno.ENFILE) and NOT_NOW not in fault.strerror:  # no file is at fault, whatever its name
+        return "%s: %s" % (fault.strerror, MORE_FILES)
     if isinstance(fault.filename, str):
         return "%s: %s" % (name_shown(fault.filename), fault.strerror)
     if fault.errno == errno.ENOENT:
@@ -219,7 +249,7 @@ class Progress:
 
     def write_line(self, text):
         with contextlib.suppress(OSError):
-            os.write(2, (CLEARED + text[:(os.get_terminal_size(2).columns or 80) - 1]).encode("utf-8", "replace"))
+            os.write(2, (CLEARED + printable(text)[:(os.get_terminal_size(2).columns or 80) - 1]).encode("utf-8", "replace"))
 
 
 # ---- Words
@@ -443,13 +473,21 @@ def most_files():
     return resource.getrlimit(resource.RLIMIT_NOFILE)[0]
 
 
+def allow_inputs(count, advice=MORE_FILES):
+    """Has the system allow as many inputs to be open. Refuses more than it can, which says nothing of any of them."""
+    most = most_files()
+    wanted = 2 * count + BESIDE_INPUTS  # `cadf` opens each once more
+    if most != resource.RLIM_INFINITY and wanted > most:
+        raise Fault("%d files are to be open, and the system allows %d: %s" % (wanted, most, advice))
+
+
 @contextlib.contextmanager
 def opened(names, pipes=False):
     """Opens the files of these names for a call. `-` is standard input, which is copied, since it can be read once.
 
-    Fault: one of them can't be opened.
+    Fault: one of them can't be opened, or they are more than may be open.
     """
-    most_files()
+    allow_inputs(len(names))
     with contextlib.ExitStack() as files:
         inputs = []
         for name in names:
@@ -801,7 +839,10 @@ def prepare_streams():
             os.set_blocking(number, True)
     if isinstance(getattr(sys.stdout, "buffer", None), io.RawIOBase):  # as with PYTHONUNBUFFERED
         sys.stdout = open(1, "w", encoding=sys.stdout.encoding, closefd=False)
-    if isinstance(sys.stdout, io.TextIOWrapper):
+    if sys.stdout.isatty():
+        raw = io.BufferedWriter(Terminal(1, sys.stdout.encoding))
+        sys.stdout = io.TextIOWrapper(raw, encoding="utf-8", errors="backslashreplace", line_buffering=True)
+    elif isinstance(sys.stdout, io.TextIOWrapper):
         sys.stdout.reconfigure(errors="backslashreplace")  # as standard error does, whatever PYTHONIOENCODING says
     if sys.stdin is None:
         os.open(os.devnull, os.O_WRONLY)  # what reads it fails
@@ -823,6 +864,7 @@ def ended(run, *words):
             if sys.stdout is None:
                 raise OSError(errno.EBADF, os.strerror(errno.EBADF))
             prepare_streams()
+            most_files()
             status = run(*words)
             sys.stdout.flush()
             return status

@@ -288,7 +288,7 @@ def test_faults(reports):
         status, output, said = reports.answer(*words)
         assert (status, output) == (2, b""), "usage %s" % words
         assert said[-1].startswith("cadf-report: error: "), "usage %s" % words
-    assert reports.answer("both", "--x\x1b[2J\u202e")[2][-1] == "cadf-report: error: unrecognized arguments: --x\\x1b[2J\\u202e"
+    assert reports.answer("both", "--x\x1b[2J\u202e")[2][-1] == "cadf-report: error: unrecognized arguments: --x\\u001b[2J\\u202e"
     for descriptor in (1, 2):
         closed = ended("bash", ["-c", 'exec "$0" "$1" both %d>&-' % descriptor, sys.executable, TOOL], env=reports.environment)
         said = {1: b"cadf-report: standard output: write fault: Bad file descriptor\n"}.get(descriptor, b"")

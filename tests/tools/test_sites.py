@@ -293,7 +293,7 @@ def test_refused_words(sites, tool, words):
 @pytest.mark.parametrize("tool", ["conflicts", "which", "agree"])
 def test_refused_words_that_are_odd(sites, tool):
     status, _, said = sites.tool(tool, "a.json", "b.json", "--x\x1b[2J\u202e")
-    assert (status, said[-1]) == (2, "cadf-%s: error: unrecognized arguments: --x\\x1b[2J\\u202e" % tool)
+    assert (status, said[-1]) == (2, "cadf-%s: error: unrecognized arguments: --x\\u001b[2J\\u202e" % tool)
 
 
 def test_log_that_begins_with_a_dash(sites):

@@ -384,7 +384,7 @@ LIES = {
     "log 7": (first(log=7), 1, "no text in the first line: log"),
     "other log": (first(log="h"), 1, 'other log: "h"'),
     "read only": (first(writes=False), 1, "use --pull"),
-    "a fault at first": (first(fault="1 \x1b]0;title\x07no"), 1, "\\x1b]0;title\\x07no"),
+    "a fault at first": (first(fault="1 \x1b]0;title\x07no"), 1, "\\u001b]0;title\\u0007no"),
     "a fault of no status": (first(fault="no"), 3, "h:there.cadf: "),
     "a fault that is no text": (first(fault="1 \ud800"), 1, "h:there.cadf: \\ud800"),
     "another word": (FIRST + message(b"answer"), 1, "no message that it may send"),
@@ -405,7 +405,7 @@ LIES = {
     "too many windows": (first(unit="day") + message(b"list", b"".join(
         b"W %04d-01-01 %s\n" % (year, DIGEST) for year in range(1000, 1500))), 1, "allow them by --windows 500"),
     "no line feed at last": (FIRST + message(b"list", b"W all %s" % DIGEST), 1, "no list of windows"),
-    "a fault with escapes": (FIRST + message(b"fault", b"4 \x1b[2J"), 4, "\\x1b[2J"),
+    "a fault with escapes": (FIRST + message(b"fault", b"4 \x1b[2J"), 4, "\\u001b[2J"),
     "no items": (FIRST + LIST + message(b"answer"), 1, "no items that may answer"),
     "lengths that lie": (FIRST + LIST + message(b"answer", b"all facts 900\n\nx"), 1, "no items that may answer"),
     "no kind": (answered((b"all", b"shell", b"")), 1, "no items that may answer"),
@@ -429,7 +429,7 @@ LIES = {
     "an inventory that is damaged": (answered((b"all", b"none", b""), (b"all", b"inventory", inventory_of("g", [])[:-2] + b"x\n")), 1, LEFT_OUT % ("inventory", "digest")),
     "an inventory of another log": (answered((b"all", b"none", b""), (b"all", b"inventory", inventory_of("h", []))), 1, LEFT_OUT % ("inventory", "other log")),
     "a sketch that is none": (answered((b"all", b"none", b""), (b"all", b"sketch", b"x\n")), 1, LEFT_OUT % ("sketch", "version")),
-    "damage": (answered((b"all", b"fault", b"3 \x1b[2Jbroken"), SKETCHED), 1, "left out all: h:there.cadf: \\x1b[2Jbroken\n"),
+    "damage": (answered((b"all", b"fault", b"3 \x1b[2Jbroken"), SKETCHED), 1, "left out all: h:there.cadf: \\u001b[2Jbroken\n"),
     "damage of no status": (answered((b"all", b"fault", b""), (b"all", b"fault", b"1 " + b"x" * 9000)), 1, "left out all: h:there.cadf: \n"),
     "a number that is none": (answered((b"all", b"none", b""), SKETCHED) + message(b"taken", b"-1\n"), 1, "no number of facts"),
 }
@@ -725,6 +725,27 @@ def test_a_caller_without_an_end(sites):
     (sites.path / "hello").write_bytes(hello())
     answer = ended("sh", ["shell"], env=sites.environment(), cwd=sites.path)
     assert answer.status == 3 and b"\nfault " in answer.output and b"the peer: the session has lasted 3 seconds" in answer.output
+
+
+@pytest.mark.parametrize("wrong", ["{}['x']", "int('x')", "[][0]", "None.digests", "(lambda n: n(n))(lambda n: n(n))"])
+def test_whatever_the_serving_end_meets_is_told(sites, wrong):
+    """A fault of its own program too ends the exchange by a line that says so, and not by a connection that is gone."""
+    sites.tools = copied(str(sites.path / "wrong"), "        found = self.end.digests(self.since)\n", "        found = %s\n" % wrong)
+    sites.put("here.cadf", facts(1))
+    answer = sites.served(hello() + message(b"list"))
+    assert (answer.status, answer.error) == (3, b"") and answer.output.startswith(FIRST.replace(b"60", b"20") + b"fault "), answer
+    assert answer.output.endswith(b": cadf-sync itself is at fault, and no file: report this line"), answer
+
+
+def test_a_serving_end_that_is_stopped_says_so(sites):
+    sites.put("here.cadf", facts(1))
+    with subprocess.Popen([sys.executable, os.path.join(sites.tools, "cadf-sync"), "--serve", "here.cadf"], stdin=subprocess.PIPE, stdout=subprocess.PIPE,
+                          stderr=subprocess.PIPE, cwd=sites.path, env=sites.environment()) as child:
+        child.stdin.write(hello() + message(b"list"))
+        child.stdin.flush()
+        assert [child.stdout.readline() for _ in range(3)][1] == b"list 71\n"
+        child.terminate()
+        assert child.stdout.read() == message(b"fault", b"3 stopped by SIGTERM") and child.wait(30) == 143
 
 
 # ---- Folders, by the built command

@@ -1,9 +1,11 @@
 """How a tool ends, by share/cadf/cadf_toolkit.py, for what no test can make a machine do."""
+import contextlib
 import errno
 import fcntl
 import io
 import json
 import os
+import pty
 import re
 import resource
 import signal
@@ -127,6 +129,51 @@ def test_as_many_files_as_the_system_allows(kit, monkeypatch):
     with kit.opened([TOOLKIT]) as (found,):
         assert found.name == TOOLKIT
     assert kit.most_files() == resource.getrlimit(resource.RLIMIT_NOFILE)[0]
+
+
+def test_more_inputs_than_may_be_open(tmp_path):
+    """The soft limit is raised to the hard one; beyond that the message says so, and no input is at fault."""
+    text = json.dumps({"id": "g", "events": [dict(EVENT, id="e")]})
+    names = ["%d.json" % number for number in range(40)]
+    for name in names:
+        (tmp_path / name).write_text(text)
+
+    def run(hard):
+        return subprocess.run([os.path.join(TOP, "tools", "cadf-take"), "new.cadf", *names], cwd=tmp_path, stdin=subprocess.DEVNULL, stdout=subprocess.DEVNULL,
+                              stderr=subprocess.PIPE, env=dict(os.environ, CADF=os.path.join(TOP, "tests", "reference", "cadf")), timeout=120, check=False,
+                              preexec_fn=lambda: resource.setrlimit(resource.RLIMIT_NOFILE, (30, hard)))
+
+    assert run(400).returncode == 0
+    done = run(60)
+    assert done.returncode == 3 and not any(name in done.stderr.decode() for name in names) and b"ulimit -n" in done.stderr, done
+
+
+SHOWN = "".join(map(chr, [9, 27, 127, 155, 0x202a, 0x202e, 0x2066, 0x2069]))
+
+
+@pytest.mark.parametrize("words", [["cadf-events"], ["cadf-conflicts", "--values"], ["cadf-seal", "--verify", "seal", "facts.json"], ["cadf-which"]])
+def test_what_a_terminal_gets(tmp_path, words):
+    """No tool writes to a terminal what that takes for a command, or what turns other characters; elsewhere texts are what they are."""
+    cadf = os.path.join(TOP, "tests", "reference", "cadf")
+    events = [dict(EVENT, id="e" + SHOWN[3:], action="a" + SHOWN[3:], x=SHOWN, outcome=outcome) for outcome in ("success", "failure")] + [dict(EVENT, id="x" + SHOWN[3:])]
+    (tmp_path / "facts.json").write_text(json.dumps({"id": "g" + SHOWN[4:], "events": events}))
+    for command, name, *files in (["seal", "seal", "facts.json"], ["prove", "facts.proof", "facts.json", "facts.json"]):
+        (tmp_path / name).write_bytes(subprocess.run([cadf, command, *files], cwd=tmp_path, stdout=subprocess.PIPE, check=True).stdout)
+    call = [os.path.join(TOP, "tools", words[0]), *words[1:], "facts.proof" if "--verify" in words else "facts.json"]
+    options = {"cwd": tmp_path, "env": dict(os.environ, CADF=cadf), "stdin": subprocess.DEVNULL}
+    ours, theirs = pty.openpty()
+    with subprocess.Popen(call, stdout=theirs, stderr=theirs, **options) as child:
+        os.close(theirs)
+        data = b""
+        with contextlib.suppress(OSError):  # until nobody has the terminal any more
+            while True:
+                data += os.read(ours, 4096)
+    os.close(ours)
+    text = data.decode().replace("\r\n", "")
+    assert text.isprintable() and child.returncode in (0, 5), text
+    piped = subprocess.run(call, stdout=subprocess.PIPE, stderr=subprocess.PIPE, check=False, **options)
+    if words[0] == "cadf-events" or "--verify" in words:
+        assert all(each.encode() in piped.stdout for each in SHOWN[3:]) and all("\\u%04x" % ord(each) in text for each in SHOWN[3:])
 
 
 @pytest.mark.parametrize("words", [["--plain="], ["--plain", ""], ["--kind="], ["--list=a", "--list="], ["--one="], ["SITE", "--chosen="], [""]])
