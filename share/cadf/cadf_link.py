@@ -21,7 +21,8 @@ FIRST_WORD = b"CADF-SYNC "
 FIRST = re.compile(rb"CADF-SYNC ([1-9][0-9]{0,5}) (\{.*\})")
 HEAD = re.compile(rb"([a-z]{1,16}) (0|[1-9][0-9]{0,9})")
 ENTRY = re.compile((r"(all|%s) ([a-z]{1,16}) (0|[1-9][0-9]{0,9})\n" % PART).encode())
-LEAST = 2 ** 10  # bytes, below which no limit of a message may be
+LEAST = 2 ** 20  # bytes, below which no limit of a message may be
+MOST_FACTS = 2 ** 26  # bytes of an item of facts, unless more are allowed
 ENOUGH = 2 ** 24  # bytes after which another message begins: what it brought is taken before a link may be cut
 LONGEST = 86400  # seconds of silence
 LONGEST_FIRST, LONGEST_HEAD, LONGEST_ENTRY = 2 ** 15, 32, 64  # bytes of a line
@@ -97,6 +98,11 @@ class Store:
         begin, self.end = self.end, os.fstat(self.file.fileno()).st_size
         return Item(part, kind, self.file, begin, self.end - begin)
 
+    def renew(self, most):
+        """Has another file for what comes next, if this one has more bytes: it goes with its items."""
+        if self.end > most:
+            self.file, self.end = tempfile.TemporaryFile(buffering=0), 0
+
     def put(self, part, kind, content=b""):
         """Writes an item of these bytes."""
         write_all(self.begin(), content)
@@ -109,11 +115,6 @@ class Store:
         for block in item.blocks():
             write_all(file, block)
         return self.item(item.part, item.kind)
-
-
-def most_of_item(limit):
-    """The bytes that an item may have in a message of so many."""
-    return limit - LONGEST_ENTRY - len("\n")
 
 
 def batches(items, limit):
@@ -157,11 +158,12 @@ class Message(NamedTuple):
 
 
 class Limits(NamedTuple):
-    """Bytes of a message, seconds of silence, bytes and seconds of a session."""
+    """Bytes of a message, seconds of silence, bytes and seconds of a session, bytes of an item of facts."""
     limit: int
     timeout: int
     most: int
     session: int
+    facts: int
 
 
 class Told(Fault):
@@ -181,7 +183,7 @@ class Link:
     def __init__(self, reading, writing, peer, limits):
         self.reading, self.writing, self.peer, self.limits = reading, writing, peer, limits
         self.ahead, self.received, self.sent, self.is_stopped, self.faults = b"", 0, 0, False, []
-        self.limit, self.beat = LARGEST, BEAT  # for the other end: bytes of a message, seconds between two signs of life
+        self.limit, self.facts, self.beat = LARGEST, LARGEST, BEAT  # for the other end: bytes of a message and of facts, seconds between two signs of life
         self.progress, self.begun = lambda: None, time.monotonic()
 
     # ---- Bytes
@@ -336,6 +338,13 @@ class Link:
             raise Wrong("%s: it answers before it was asked" % self.peer)
         return found
 
+    def checked(self, items):
+        """The items, of which none has more facts than this end takes at once."""
+        for each in items:
+            if each.kind in ("facts", "some") and each.length > self.limits.facts:
+                raise Wrong("%s: %s: facts of %d bytes, and --facts is %d" % (self.peer, each.part, each.length, self.limits.facts))
+        return items
+
     def answer(self, word):
         """The answer to a request that was sent, which has that word. Raises the fault that the other end tells."""
         found = self.message((word, "fault"))
@@ -353,11 +362,12 @@ class Link:
 
     def own(self, **members):
         """The members of a first line, with the limits of this end."""
-        return dict(members, limit=self.limits.limit, timeout=self.limits.timeout)
+        return dict(members, limit=self.limits.limit, facts=self.limits.facts, timeout=self.limits.timeout)
 
     def keep_to(self, members):
         """Keeps to the limits of the other end, by the members of its first line."""
         self.limit = number_of(members, "limit", LEAST, LARGEST)
+        self.facts = number_of({"facts": self.limit, **members}, "facts", LEAST, LARGEST)
         self.beat = min(BEAT, number_of(members, "timeout", 1, LONGEST) / 4)
 
     def first(self):
@@ -377,11 +387,16 @@ class Link:
             return line
 
 
+def most_of_facts(limit, facts):
+    """The bytes that an item of facts may have, for an end that reads so many of a message, and so many of such an item."""
+    return min(limit - LONGEST_ENTRY - len("\n"), facts)
+
+
 def number_of(members, name, least, most):
     """The number of a first line's member."""
     value = members.get(name)
     if type(value) is not int or not least <= value <= most:
-        raise Wrong("no %s in the first line" % name)
+        raise Wrong("no %s from %d to %d in the first line" % (name, least, most))
     return value
 
 
@@ -406,6 +421,6 @@ def told_fault(fault):
 def fault_of(peer, told):
     """The fault that the other end tells by a text, a message or an item: a digit, the status, and a text."""
     text = told if isinstance(told, str) else told.content(4 * LONGEST_TEXT).decode("utf-8", "backslashreplace")
-    status = int(text[0]) if text[:1] in ("1", "3", "4") else FAILED
+    status = int(text[0]) if text[:1] in ("1", "3", "4", "5") else FAILED
     said = printable(text[2:LONGEST_TEXT])
     return Told(said if said.startswith(peer + ": ") else "%s: %s" % (peer, said), status)

@@ -24,6 +24,7 @@ import time
 
 DONE, REFUSED, USAGE, FAILED, MEMORY, DIFFERS = range(6)  # the manual page says what each means
 CADF = os.environ.get("CADF") or "cadf"
+CONFINE = None  # what a tool has each `cadf` do before it begins, as cadf_budget has it
 HERE = os.path.dirname(os.path.realpath(__file__))
 sys.executable = sys.executable or os.path.realpath("/proc/self/exe")  # Python can't tell if PATH isn't set
 STOPPING = (signal.SIGHUP, signal.SIGINT, signal.SIGTERM)
@@ -582,12 +583,14 @@ def started_cadf(words, inputs, output, keep=(), union=1):
     more = [word for path in paths[1:union] for word in ("--from", path)]
     # With the signals that Python ignores, a limit on a file's size is a failed write of the command, not its end.
     return started([CADF, *words, *more, "--", *paths[:1], *paths[union:]], stdin=subprocess.DEVNULL, stdout=output,
-                   stderr=subprocess.PIPE, restore_signals=False, pass_fds=[*keep, *(each.file.fileno() for each in inputs)])
+                   stderr=subprocess.PIPE, restore_signals=False, preexec_fn=CONFINE, pass_fds=[*keep, *(each.file.fileno() for each in inputs)])
 
 
 def check_end(child, said, inputs):
     """Raises the Refusal of `cadf`, which has written `said` to standard error, or the Fault that it ended otherwise, if it did."""
     status = child.wait()
+    if status == -signal.SIGXCPU:
+        raise Fault("%s: it took more processor time than it may: give more by --time" % CADF)
     if status not in (DONE, REFUSED, USAGE, FAILED, MEMORY):
         raise Fault("%s: ended by %s" % (CADF, "status %d" % status if status > 0 else "signal %d" % -status))
     if status:

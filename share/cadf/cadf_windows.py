@@ -15,8 +15,9 @@ import subprocess
 import tempfile
 
 import cadf_site
-from cadf_link import Item, Store
-from cadf_toolkit import (LAST, LAST_LINE, REFUSED, Fault, Input, Refusal, another_program, cadf, check_end, last_digest, naming, opened_file, started_cadf,
+from cadf_link import ENOUGH, Item, Store
+from cadf_logs import UNREADABLE, atoms
+from cadf_toolkit import (DIFFERS, LAST, LAST_LINE, REFUSED, Fault, Input, Refusal, another_program, cadf, check_end, last_digest, naming, opened_file, started_cadf,
                           with_digest)
 
 ALL, SHARED = "all", cadf_site.SHARED
@@ -339,35 +340,52 @@ class Piece:
         return self.store.item(part, kind)
 
 
-def pieces(store, item, most):
+def pieces(store, item, most, leave_out):
     """Yields the item; or if it is longer than so many bytes, items that are not, and have its facts together: all but the last are `some`.
 
-    Each has as many of its lines as go into it, after those of the nodes above its first.
+    Each has as many of its lines as go into it, after those of the nodes above its first. It is made when it is asked for. A fact
+    that goes into none, or has more above it than half of one, is left out, so that the items together have at most twice the bytes:
+    `leave_out` is told how many it has.
     """
     if item.length <= most:
         yield item
         return
-    piece, above, unmarked = None, [], []
+    piece, above, done, room = None, [], 0, most - LAST_LINE  # the nodes on the way to a fact, and how many of them the piece has
     with open("/dev/fd/%d" % item.file.fileno(), "rb") as lines:
         lines.seek(item.begin)
         head = lines.readline() + lines.readline()
         for line in itertools.takewhile(lambda line: not line.startswith(b"Z"), lines):
             depth, mark = NODE.match(line).groups()
             above[int(depth) - 1:] = [line]
-            unmarked.append(line)
+            done = min(done, int(depth) - 1)
             if mark == b"0":
                 continue
-            new, unmarked = b"".join(unmarked), []
-            if piece and piece.size + len(new) > most - LAST_LINE:
-                yield piece.item(item.part, "some")
-                piece = None
-            if piece:
-                piece.put(new)
-            else:
-                piece = Piece(store, head + b"".join(above))
-            if piece.size > most - LAST_LINE:
-                raise Fault("%s: a fact of %d bytes, and a message has fewer: raise --limit at both ends" % (item.part, piece.size), REFUSED)
-    yield piece.item(item.part, "facts")
+            if piece is None or piece.size + sum(map(len, above[done:])) > room:
+                before = len(head) + sum(map(len, above[:-1]))
+                if before > room // 2 or before + len(line) > room:
+                    leave_out(before + len(line))
+                    continue
+                if piece:
+                    yield piece.item(item.part, "some")
+                    store.renew(ENOUGH)
+                piece, done = Piece(store, head), 0
+            piece.put(b"".join(above[done:]))
+            done = len(above)
+    yield (piece or Piece(store, head)).item(item.part, "facts")
+
+
+def too_long(left_out, most):
+    """The fault that facts of these bytes were left out, of which an end reads fewer at once."""
+    return Fault("left out %d facts, of %d bytes at most: the end that lacks them reads %d at once: raise --limit and --facts there"
+                 % (len(left_out), max(left_out), most), DIFFERS)
+
+
+def first_fact(item):
+    """The first fact of a replica file of format 2, as texts; None if it has none, or is no such file."""
+    with open("/dev/fd/%d" % item.file.fileno(), "rb") as lines, contextlib.suppress(TypeError, *UNREADABLE):
+        lines.seek(item.begin)
+        return next(atoms(itertools.takewhile(lambda line: not line.startswith(b"Z"), lines)), None)
+    return None
 
 
 class Held:

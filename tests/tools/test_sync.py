@@ -9,6 +9,7 @@ import json
 import os
 import pathlib
 import random
+import re
 import resource
 import shlex
 import shutil
@@ -31,8 +32,10 @@ from tests.reference.replica_files import file_of, read_file
 from tests.reference.split_files import parts_of
 from tests.tools import others
 from tests.tools.copies import copied, is_caught
+from tests.tools.programs import loaded
 
 sys.path.insert(0, os.path.join(TOP, "share", "cadf"))
+import cadf_link
 import cadf_site
 import cadf_windows
 
@@ -41,7 +44,9 @@ REFERENCE = os.path.join(TOP, "tests", "reference", "cadf")
 FAR = os.path.join(TOP, "tests", "tools", "far_side.py")
 MOST_DIFFERING, MOST_EQUAL, MOST_TURNS = 100000, 40000, 6  # bytes both ways beyond the answers, turns of the line
 CUTS, MADE_AGAIN = 50, 5  # random bytes at which a link is cut; each of so many calls is made again
-FIRST = b'CADF-SYNC 1 {"keeps":true,"limit":1073741824,"log":"g","next":true,"timeout":60,"unit":null,"writes":true}\n'
+FIRST = b'CADF-SYNC 1 {"facts":67108864,"keeps":true,"limit":1073741824,"log":"g","next":true,"timeout":60,"unit":null,"writes":true}\n'
+# Tools that know messages of few bytes, so that few facts make many of them, and whose commands may note their calls.
+TRIED = ("LEAST = 2 ** 20", "LEAST = 2 ** 10", "        change_only(None)\n", "")
 EVENT = {"eventType": "activity", "action": "read", "outcome": "success", "initiatorId": "u1", "targetId": "t1",
          "observerId": "s1"}
 
@@ -93,9 +98,9 @@ class Sites:
 
 @pytest.fixture(scope="session")
 def tools(tmp_path_factory):
-    """The tools, with what they import compiled: most of these tests are starts of them."""
+    """The tools, with what they import compiled: most of these tests are starts of them. They are TRIED."""
     folder = str(tmp_path_factory.mktemp("tools"))
-    return copied(folder)
+    return copied(folder, *TRIED)
 
 
 @pytest.fixture
@@ -374,7 +379,8 @@ LIES = {
     "version 0": (b"CADF-SYNC 0 {}\n", 1, "the far shell prints"),
     "no object": (b"CADF-SYNC 1 []\n", 1, "the far shell prints"),
     "deep": (b"CADF-SYNC 1 {\"a\":" + b"[" * 9000 + b"]" * 9000 + b"}\n", 1, "the far shell prints"),
-    "no limit": (b"CADF-SYNC 1 {}\n", 1, "no limit"),
+    "no limit": (b"CADF-SYNC 1 {}\n", 1, "no limit from "),
+    "facts -1": (first(facts=-1), 1, "no facts from "),
     "limit -1": (first(limit=-1), 1, "no limit"),
     "limit true": (first(limit=True), 1, "no limit"),
     "limit 2^40": (first(limit=2 ** 40), 1, "no limit"),
@@ -406,6 +412,7 @@ LIES = {
         b"W %04d-01-01 %s\n" % (year, DIGEST) for year in range(1000, 1500))), 1, "allow them by --windows 500"),
     "no line feed at last": (FIRST + message(b"list", b"W all %s" % DIGEST), 1, "no list of windows"),
     "a fault with escapes": (FIRST + message(b"fault", b"4 \x1b[2J"), 4, "\\u001b[2J"),
+    "a fault of two lines": (FIRST + message(b"fault", b"4 no\ncadf-sync: all is well"), 4, "no\\ncadf-sync: all is well"),
     "no items": (FIRST + LIST + message(b"answer"), 1, "no items that may answer"),
     "lengths that lie": (FIRST + LIST + message(b"answer", b"all facts 900\n\nx"), 1, "no items that may answer"),
     "no kind": (answered((b"all", b"shell", b"")), 1, "no items that may answer"),
@@ -415,12 +422,15 @@ LIES = {
     "cells after an inventory": (answered((b"all", b"more", b"300")), 1, "no answer for inventory of all: more of all"),
     "facts that are none": (answered((b"all", b"facts", b"\x7fELF"), SKETCHED), 1, "all from h:there.cadf: not JSON"),
     "facts of another log": (answered((b"all", b"facts", OTHER), SKETCHED), 1, 'other log: "h"'),
-    "facts that are held, and more to come": (first() + LIST + message(b"answer", items((b"all", b"some", file_of("g", facts(1))), SKETCHED)), 1, "it sends again what is held"),
+    "more to come, and no way to ask for it": (first() + LIST + message(b"answer", items((b"all", b"some", file_of("g", facts(1))))), 1, "no answer for inventory of all: some of all"),
+    "more facts than are read at once": (answered((b"all", b"facts", b"x" * 70000000)), 1, "all: facts of 70000000 bytes, and --facts is 67108864"),
     "more to come, and another item": (answered((b"all", b"some", GOOD), SKETCHED), 1, "no answer for inventory of all: some of all"),
     "nothing more where more was to come": (handed_out(GOOD) + message(b"answer", items((b"all", b"none", b""))), 1, "no answer for next of all: none of all"),
     "more of another part": (handed_out(GOOD) + message(b"answer", items((b"shared", b"facts", GOOD))), 1, "no answer for next of all: facts of shared"),
-    "a piece again and again": (handed_out(GOOD, GOOD), 1, "all: it sends again what it sent, and says that more is to come"),
-    "pieces that come round again": (handed_out(*PIECES[:2], *PIECES[2:] * 9), 1, "all: it sends again what it sent, and says that more is to come"),
+    "a piece again and again": (handed_out(GOOD, GOOD), 1, "all: it sends again what it sent, or nothing, and says that more is to come"),
+    "pieces without facts": (handed_out(file_of("g", set())), 1, "all: it sends again what it sent, or nothing, and says that more is to come"),
+    "pieces that fall": (handed_out(*PIECES[:0:-1]), 1, "all: it sends again what it sent, or nothing, and says that more is to come"),
+    "pieces without an end": (handed_out(*PIECES), 1, "all: it sends little at a time, and says that more is to come"),
     "pieces that are cut": (handed_out(GOOD) + message(b"answer", items((b"all", b"facts", PIECES[0][:-9]), )) + NO_MORE, 1, "all from h:there.cadf: truncated" + CAME_SO),
     "pieces of another log": (handed_out(GOOD) + message(b"answer", items((b"all", b"facts", OTHER))) + NO_MORE, 1, 'other log: "h"'),
     "facts that are cut": (answered((b"all", b"facts", GOOD[:-9]), SKETCHED), 1, "all from h:there.cadf: truncated" + CAME_SO),
@@ -730,7 +740,7 @@ def test_a_caller_without_an_end(sites):
 @pytest.mark.parametrize("wrong", ["{}['x']", "int('x')", "[][0]", "None.digests", "(lambda n: n(n))(lambda n: n(n))"])
 def test_whatever_the_serving_end_meets_is_told(sites, wrong):
     """A fault of its own program too ends the exchange by a line that says so, and not by a connection that is gone."""
-    sites.tools = copied(str(sites.path / "wrong"), "        found = self.end.digests(self.since)\n", "        found = %s\n" % wrong)
+    sites.tools = copied(str(sites.path / "wrong"), *TRIED, "        found = self.end.digests(self.since)\n", "        found = %s\n" % wrong)
     sites.put("here.cadf", facts(1))
     answer = sites.served(hello() + message(b"list"))
     assert (answer.status, answer.error) == (3, b"") and answer.output.startswith(FIRST.replace(b"60", b"20") + b"fault "), answer
@@ -1322,23 +1332,6 @@ def test_pieces_of_a_window_whose_inventory_is_longer_than_a_message(sites):
     assert (sites.path / "here.cadf").read_bytes() == file_of("g", union)
 
 
-OLDER = {"serving": (", next=True", "", '"whole", "next", "tell"))', '"whole", "tell"))'), "calling": ('members.get("next") is True', "False")}
-
-
-@pytest.mark.parametrize("older", OLDER)
-def test_pieces_with_an_older_end(sites, older):
-    """An end that hands out no pieces, or asks for none, is asked for them, or asks, by inventories."""
-    tools = {"calling": sites.tools, "serving": sites.tools, older: copied(str(sites.path / "older"), *OLDER[older])}
-    sites.put("here.cadf", facts(1, 2))
-    sites.put("there.cadf", facts(*range(2, 80)))
-    has_counted_calls(sites)
-    has_shell(sites, tools["serving"], "there.cadf")
-    sites.tools = tools["calling"]
-    assert sites.sync("--quiet", "--pull", "--limit=%d" % PIECE_BYTES, "--rsh=./shell", "here.cadf", "h:there.cadf") == (0, b"", b"")
-    assert (sites.path / "here.cadf").read_bytes() == file_of("g", facts(*range(1, 80)))
-    assert (sites.path / "calls").read_text().split().count("missing-by") > 3
-
-
 NOT_KEPT = {"serving": (", keeps=True", "", '("facts", "some"))', '("facts",))'), "calling": ("if after and self.keeps:", "if False:")}
 
 
@@ -1348,7 +1341,7 @@ def test_messages_into_a_file_are_joined_together(folders, older):
     union = facts(*range(1, 40))
     tools = dict.fromkeys(("calling", "serving"), folders.tools)
     if older:
-        tools[older] = copied(str(folders.path / "older"), *NOT_KEPT[older])
+        tools[older] = copied(str(folders.path / "older"), *NOT_KEPT[older], *TRIED)
     folders.put("here.cadf", union)
     folders.put("there.cadf", facts(1, 2))
     has_counted_calls(folders)
@@ -1359,6 +1352,127 @@ def test_messages_into_a_file_are_joined_together(folders, older):
     assert (folders.path / "there.cadf").read_bytes() == file_of("g", union)
     takes = (folders.path / "calls").read_text().split().count("missing")
     assert takes > 2 if older else takes == 1
+
+
+def pieces_of(data, most):
+    """What cadf_windows makes of a replica file of these bytes: the items as files, with their kinds; what was left out; the most bytes at a time."""
+    store, left_out, found, held = cadf_link.Store(), [], [], 0
+    store.put("all", "facts", data)
+    for each in cadf_windows.pieces(cadf_link.Store(), cadf_link.Item("all", "facts", store.file, 0, len(data)), most, left_out.append):
+        found.append((each.kind, each.content()))
+        held = max(held, os.fstat(each.file.fileno()).st_size)
+    return found, left_out, held
+
+
+@pytest.mark.parametrize("body, tags, most", [(500, 2000, 4000), (1500, 900, 4000), (3000, 900, 4000), (5000, 900, 4000), (10, 400, 1024)])
+def test_pieces_cost_their_bytes(body, tags, most):
+    """A small limit, and an event whose body each tag has above it: the pieces have all facts but those that are left out, and few bytes."""
+    event = dict(EVENT, id="e1", eventTime="2024-03-01T12:00:00Z", x="y" * body, tags=["%07d" % number for number in range(tags)])
+    atoms = document({"id": "g", "events": [event, dict(EVENT, id="e2", eventTime="2024-03-01T12:00:00Z")]})[1]
+    data = file_of("g", atoms)
+    found, left_out, _ = pieces_of(data, most)
+    held = [read_file(each)[1] for _, each in found]
+    assert [kind for kind, _ in found] == ["some"] * (len(found) - 1) + ["facts"] and max(len(each) for _, each in found) <= most
+    assert sum(len(each) for _, each in found) <= 3 * len(data) + most
+    assert len(set().union(*held)) == len(atoms) - len(left_out) and (not left_out) is (body < most // 2)
+    assert any(atom[1] == "e2" for atom in set().union(*held))
+
+
+@pytest.mark.parametrize("right, wrong", [("before > room // 2 or ", ""), ("                    leave_out(before + len(line))\n", "")])
+def test_wrong_pieces_are_caught(monkeypatch, tmp_path, right, wrong):
+    monkeypatch.setattr(sys.modules[__name__], "cadf_windows", loaded(os.path.join(copied(str(tmp_path), right, wrong), "..", "share", "cadf", "cadf_windows.py")))
+    with pytest.raises(AssertionError):
+        test_pieces_cost_their_bytes(3000, 900, 4000)
+
+
+def test_pieces_are_made_as_they_are_sent(sites):
+    """Pushed in many messages, no temporary file has more bytes than what one end may hold of them: three messages, and what differs."""
+    sites.put("here.cadf", facts(*range(1, 2000)))
+    sites.put("there.cadf", facts(1))
+    data = os.path.getsize(sites.path / "here.cadf")
+    found, left_out, held = pieces_of((sites.path / "here.cadf").read_bytes(), PIECE_BYTES)
+    assert len(found) > 100 and not left_out and held < 2 * data  # the files of pieces that are gone, go
+    begun = []
+    made = cadf_windows.pieces(Counted(begun), *counted_item(sites.path / "here.cadf"), PIECE_BYTES, None)
+    next(made)
+    assert len(begun) == 1  # the others aren't written before they are asked for
+
+
+class Counted(cadf_link.Store):
+    """A store that notes each item that is begun."""
+
+    def __init__(self, begun):
+        super().__init__()
+        self.begun = begun
+
+    def begin(self):
+        self.begun.append(self.end)
+        return super().begin()
+
+
+def counted_item(path):
+    file = open(path, "rb")
+    return [cadf_link.Item("all", "facts", file, 0, os.path.getsize(path))]
+
+
+def test_a_fact_that_is_too_long_is_left_out(sites):
+    """Pushed, and pulled: its window is named with what to do, all other facts are exchanged, and the status is 5."""
+    long = document({"id": "g", "events": [dict(EVENT, id="long", eventTime="2024-03-01T12:00:00Z", x="y" * PIECE_BYTES)]})[1]
+    for way, here, there in ("--push", "full.cadf", "new1.cadf"), ("--pull", "new2.cadf", "full.cadf"):
+        sites.put("full.cadf", facts(*range(1, 60)) | long)
+        has_shell(sites, sites.tools, "--limit=%d" % PIECE_BYTES, there)
+        answer = sites.sync("--json", way, "--limit=%d" % PIECE_BYTES, "--rsh=./shell", here, "h:" + there)
+        assert answer.status == 5 and json.loads(answer.output)["windows_left_out"] == 1, answer
+        assert re.fullmatch(r"cadf-sync: all: (h:full.cadf: )?left out 1 facts, of \d+ bytes at most: the end that lacks them reads %d at once: raise --limit and --facts there\n"
+                            % (PIECE_BYTES - 65), said(answer)), answer
+        assert sites.holds("new1.cadf" if way == "--push" else "new2.cadf") == facts(*range(1, 60))
+
+
+SPENT = {"memory": ("--memory=1", "out of memory: have more of it, or give more by --memory"), "time": ("--time=1", "it took more processor time than it may: give more by --time")}
+
+
+@pytest.mark.parametrize("kind", SPENT)
+def test_budget_of_an_exchange(sites, kind):
+    """A program that takes more than it may is ended, at either end, and the line says how to give more. It changes no file."""
+    word, part = SPENT[kind]
+    for name in ("here.cadf", "there.cadf"):
+        sites.put(name, facts(len(name)))
+    (sites.path / "dear").write_text(DEAR % ("data = bytearray(2 ** 33)" if kind == "memory" else "while True: pass"))
+    (sites.path / "dear").chmod(0o755)
+    sites.cadf, sites.tools = str(sites.path / "dear"), TOOLS
+    if kind == "memory":
+        word = "--memory=%d" % 2 ** 31
+    answer = sites.sync(word, "here.cadf", "there.cadf")
+    assert (answer.status, said(answer).count("\n")) == (4 if kind == "memory" else 3, 1) and said(answer).endswith(part + "\n"), answer
+
+
+DEAR = """#!/usr/bin/python3
+import os, sys
+try:
+    %s
+except MemoryError:
+    sys.stderr.write("cadf: out of memory\\n")
+    sys.exit(4)
+"""
+
+
+def test_no_program_of_an_exchange_changes_a_file(sites, tools=TOOLS):
+    """Where the system has Landlock, what reads a peer's bytes makes, changes and removes nothing."""
+    from cadf_budget import LIBC, MAKE_RULES
+    if LIBC is None or LIBC.syscall(MAKE_RULES, None, 0, 1) < 1:
+        pytest.skip("the system has no Landlock")
+    for name in ("here.cadf", "there.cadf"):
+        sites.put(name, facts(len(name)))
+    (sites.path / "odd").write_text("#!/bin/sh\n(echo x >made; echo x >>here.cadf; rm -f there.cadf) 2>/dev/null\nexec %s \"$@\"\n" % shlex.quote(REFERENCE))
+    (sites.path / "odd").chmod(0o755)
+    sites.cadf, sites.tools = str(sites.path / "odd"), tools
+    answer = sites.sync("--push", "--quiet", "here.cadf", "none/there.cadf")  # the far end judges the facts, and can't take them
+    assert answer.status == 3 and not (sites.path / "made").exists() and sites.holds("here.cadf") == facts(len("here.cadf")) and sites.holds("there.cadf"), answer
+
+
+def test_programs_that_change_files_are_caught(sites):
+    with pytest.raises(AssertionError):
+        test_no_program_of_an_exchange_changes_a_file(sites, sites.tools)  # which are TRIED
 
 
 def large(number):
@@ -1448,7 +1562,7 @@ WRONG = [
      lambda sites: test_a_far_side_that_lies(sites, "another part")),
     ("said if said.startswith(peer + \": \") else ", "", test_a_refusal_of_the_far_end_is_one_line),
     ("printable(text[2:LONGEST_TEXT])", "text[2:LONGEST_TEXT]",
-     lambda sites: test_a_far_side_that_lies(sites, "a fault with escapes")),
+     lambda sites: test_a_far_side_that_lies(sites, "a fault of two lines")),
     ("shlex.join([\"cadf-sync\", *serve, site])", "\" \".join([\"cadf-sync\", *serve, site])", test_names_are_quoted_for_the_far_shell),
     ("            while not done.wait(self.beat):\n", "            while not done.wait(1000):\n",
      lambda sites: test_signs_of_life(sites.path, "--pull", sites.tools)),
@@ -1458,20 +1572,20 @@ WRONG = [
     ("part == SHARED or since is None or part >= since", "True", test_since_leaves_older_windows),
     (" and not (is_over.is_set() and line == b\"cadf-sync: stopped by SIGTERM\\n\")", "",
      lambda sites: test_refused_sites(sites, None, None, (), "neither site is there")),
-    ("self.pushed += self.pieces(", "self.pulled += self.pieces(", lambda sites: test_two_files(sites, (), (1, 2, 3, 4), (1, 2, 3, 4))),
+    ("self.pushed.append(found)", "self.pulled.append(found)", lambda sites: test_two_files(sites, (), (1, 2, 3, 4), (1, 2, 3, 4))),
     ("        if found is None or found.part != part:\n", "        if found is None:\n",
      lambda sites: test_more_of_what_is_not_handed_out(sites, (), b"shared")),
     ("            return self.handed_out(each.part)\n        self.rest = iter(())\n", "            return self.handed_out(each.part)\n",
      lambda sites: test_more_of_what_is_not_handed_out(sites, ((b"2024-03-02", b"tell", b"3"),), b"2024-03-02")),
-    ("            kept = kept if number & number - 1 else digest\n", "", lambda sites: test_a_far_side_that_lies(sites, "a piece again and again")),
-    ("            kept = kept if number & number - 1 else digest\n", "            kept = digest\n",
-     lambda sites: test_a_far_side_that_lies(sites, "pieces that come round again")),
+    (" or before and fact <= before[0]:", ":", lambda sites: test_a_far_side_that_lies(sites, "a piece again and again")),
+    ("            if before and before[1] + answer.length < least:\n", "            if False:\n", lambda sites: test_a_far_side_that_lies(sites, "pieces without an end")),
+    (" or not self.hands_out)", ")", lambda sites: test_a_far_side_that_lies(sites, "more to come, and no way to ask for it")),
 ]
 
 
 WRONG_OF_FOLDERS = [
     ("piece.item(item.part, \"some\")", "piece.item(item.part, \"facts\")", lambda folders: test_a_window_larger_than_a_file_may_be(folders, "--pull", ())),
-    ("head + b\"\".join(above)", "head + new", lambda folders: test_a_window_larger_than_a_file_may_be(folders, "--push", ())),
+    ("piece, done = Piece(store, head), 0", "piece, done = Piece(store, head), max(done, 1)", lambda folders: test_a_window_larger_than_a_file_may_be(folders, "--push", ())),
     ("\"ruled\" not in value", "True", test_metrics_of_folders),
 ]
 
@@ -1480,14 +1594,14 @@ WRONG_OF_FOLDERS = [
 def test_wrong_tools_are_caught(tmp_path, number):
     *texts, check = WRONG[number]
     (tmp_path / "sites").mkdir()
-    is_caught(tmp_path, texts, check, lambda tools: Sites(tmp_path / "sites", tools=tools, wait=3))
+    is_caught(tmp_path, [*texts, *TRIED], check, lambda tools: Sites(tmp_path / "sites", tools=tools, wait=3))
 
 
 @pytest.mark.parametrize("number", range(len(WRONG_OF_FOLDERS)))
 def test_wrong_tools_over_folders_are_caught(tmp_path, cadf, number):
     *texts, check = WRONG_OF_FOLDERS[number]
     (tmp_path / "sites").mkdir()
-    is_caught(tmp_path, texts, check, lambda tools: Folders(tmp_path / "sites", tools=tools, wait=3, cadf=cadf))
+    is_caught(tmp_path, [*texts, *TRIED], check, lambda tools: Folders(tmp_path / "sites", tools=tools, wait=3, cadf=cadf))
 
 
 # ---- By a real sshd, on loopback
