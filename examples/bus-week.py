@@ -143,7 +143,7 @@ class Site:
         self.take()
 
     def take(self):
-        if self.spool_step().wait() != 0:
+        if self.spool_step().wait() != 0 or os.listdir(os.path.join(self.spool, "set-aside")):
             self.week.fail("%s: something was refused: see %s" % (self.name, self.folder))
 
     def send(self, other):

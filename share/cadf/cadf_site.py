@@ -21,10 +21,12 @@ import stat
 import subprocess
 import tempfile
 
+from cadf_times import Bounds
 from cadf_toolkit import (CADF, FAILED, IN_THE_WAY, LARGEST, LAST, REFUSED, Fault, Input, Refusal, allow_inputs, another_program, as_input, cadf, check_end,
                           check_lock, grouped, last_digest, log_name, name_shown, new_lock, open_descriptor, opened_file, other_log, say, started_cadf, sync,
-                          wait_for_lock, with_digest)
+                          wait_for_lock, whole_number, with_digest)
 
+ALL = 10 ** 9 - 1  # windows that a take may begin if a person allows all
 UNITS = {"month": len("2024-03"), "day": len("2024-03-01"), "hour": len("2024-03-01T12")}  # with the length of a window's name
 INDEX, LOCK, WORKING = "site", ".lock", ".new"
 HEAD = re.compile(rb"CADF-SITE 1\nL (.*)\nB (month|day|hour)\n")
@@ -41,7 +43,8 @@ TRIES = 100  # of a reader, before takes that never end are a fault
 FEWER_FILES = "raise that (ulimit -n), or settle the site"
 CHANGED = "%%s: it changed at each of %d looks: try again" % TRIES
 MOST_NEW = 400  # windows that a take begins, unless more are allowed
-TOO_MANY_NEW = "the files make more than %d new windows: if that is meant, allow it by --windows N"
+TOO_MANY_NEW = "the files make more than %d new windows: if that is meant, allow it by --windows N; --rest FILE has all else taken"
+OUTSIDE = "the files have events of the window %s, which --not-before or --not-after leaves out: --rest FILE has all else taken"
 MOST_STRANGERS = 20  # that are named
 PIECE = 2 ** 16  # bytes of a line that are held at once
 MOST_AT_ONCE = 2 ** 28  # bytes of inputs that are split at once, if there are several, so that a part's file doesn't grow with their number
@@ -252,6 +255,11 @@ class Folder:
         return Fault("%s: %s" % (self.shown(), NO_SITE), REFUSED)
 
 
+def number_of_windows(text):
+    """Reads how many windows may be begun: a number, or `all`."""
+    return ALL if text == "all" else whole_number(0, ALL)(text)
+
+
 # ---- Reading
 
 def is_folder(name):
@@ -319,6 +327,16 @@ def check_window(index, entry, file):
         found = [(part, parts.copy(nothing)) for part in parts.names()]
     if found != [entry]:
         raise Fault("%s: %s" % (file.name, OTHER_CONTENT), REFUSED)
+
+
+def check_labels(unit, log, labels, inputs):
+    """Raises that inputs hold facts of another part than these, which they are said to be of."""
+    with split(["--by", unit, "--log=" + log], inputs) as parts, open(os.devnull, "wb") as nothing:
+        parts.head()
+        others = [part for part in parts.names() if (part not in labels, parts.copy(nothing))[0]]
+    if others:
+        names, advice = ", ".join(sorted({each.name for each in inputs})), inputs[0].advice
+        raise Fault("%s: it has facts of %s%s" % (names, ", ".join(others[:MOST_STRANGERS]), ": " + advice if advice else ""), REFUSED)
 
 
 def without_facts(log, name):
@@ -425,7 +443,7 @@ class Taking:
         except BaseException:
             os.close(self.lock)
             raise
-        self.changed, self.begun, self.made = {}, set(), set()
+        self.changed, self.made = {}, set()
 
     def __enter__(self):
         return self
@@ -559,20 +577,22 @@ class Taking:
 
     # The steps of a take
 
-    def add(self, words, inputs, most_new):
-        """Writes each part of what the inputs hold as a new file, unless the part's files hold it already."""
+    def words(self, unit, log):
+        """The words of a split, by the site's unit and log, or these ones, if there is no site yet."""
+        unit, log = (self.index.unit, self.index.name()) if self.index else (unit, log)
+        return ["--by", unit, *([] if log is None else ["--log=" + log])]
+
+    def add(self, words, inputs, limits):
+        """Writes each part of what the inputs hold as a new file, unless the part's files hold it already, or the limits keep it apart."""
         with split(words, inputs, [self.lock]) as parts:
             log, unit = parts.head()
             if self.index is None:
                 self.put(Index(log, unit))
             for part in parts.names():
-                if not self.digests(part):
-                    self.begun.add(part)
-                if len(self.begun) > most_new:
-                    raise Fault(TOO_MANY_NEW % most_new, REFUSED)
-                with self.new_file() as output:
-                    digest = parts.copy(output)
-                self.keep(part, digest)
+                if part == SHARED or not limits.keeps(part, parts, bool(self.digests(part))):
+                    with self.new_file() as output:
+                        digest = parts.copy(output)
+                    self.keep(part, digest)
 
     def keep(self, part, digest):
         """Keeps the new file as one of a part's, unless these hold it already. Each of them has to be there."""
@@ -696,8 +716,31 @@ def taking(name, unit, log, wait):
                 yield found
 
 
-def take(name, inputs, unit=None, log=None, wait=None, most_new=MOST_NEW):
-    """Takes the inputs into the folder of that name, all or none of them. Makes it, by the unit, if it is not there yet."""
+class Limits:
+    """The limits of a take that is of all or nothing: how many windows it may begin, and of which times they are."""
+
+    def __init__(self, most=MOST_NEW, bounds=Bounds()):
+        self.most, self.bounds, self.begun = most, bounds, set()
+
+    def keeps(self, part, _, is_there):
+        """Raises why nothing is taken, as the next part shows. Keeps none apart."""
+        if not self.bounds.has(part):
+            raise Fault(OUTSIDE % part, REFUSED)
+        if not is_there:
+            self.begun.add(part)
+        if len(self.begun) > self.most:
+            raise Fault(TOO_MANY_NEW % self.most, REFUSED)
+        return False
+
+    @contextlib.contextmanager
+    def finished(self, *_):
+        """Nothing was kept apart."""
+        yield
+
+
+def take(name, inputs, unit=None, log=None, wait=None, limits=None):
+    """Takes the inputs into the folder of that name, within the limits. Makes it, by the unit, if it is not there yet."""
+    limits = limits or Limits()
     if unit is not None:
         with contextlib.suppress(FileExistsError):
             os.mkdir(name, 0o700)
@@ -706,10 +749,10 @@ def take(name, inputs, unit=None, log=None, wait=None, most_new=MOST_NEW):
             with contextlib.suppress(PermissionError):  # who may go through a folder may not read it
                 sync(os.path.dirname(os.path.abspath(name)))
         for group in grouped(inputs, lambda each: os.fstat(each.file.fileno()).st_size, MOST_AT_ONCE):
-            by, named = (found.index.unit, found.index.name()) if found.index else (unit, log)
-            found.add(["--by", by, *([] if named is None else ["--log=" + named])], group, most_new)
-        found.join_by_size()
-        found.put_changed()
+            found.add(found.words(unit, log), group, limits)
+        with limits.finished(found, inputs):
+            found.join_by_size()
+            found.put_changed()
 
 
 def settle(name, wait=None):

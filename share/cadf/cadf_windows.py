@@ -220,13 +220,13 @@ def keep_unions(folder, unions):
         os.rename(working, UNIONS, src_dir_fd=folder.descriptor, dst_dir_fd=folder.descriptor)
 
 
-def count_parts(name):
-    """How many parts a site has that is a folder."""
+def parts_of(name):
+    """The names of the parts of a site that is a folder; of another, none."""
     if not os.path.isdir(name):
-        return 0
+        return set()
     with cadf_site.Folder(name) as folder:
         index = folder.index()
-    return len(index.parts()) if index else 0
+    return set(index.parts()) if index else set()
 
 
 @contextlib.contextmanager

@@ -199,7 +199,7 @@ def test_swallowing(cadf, listeners):
     spooled = subprocess.run([sys.executable, tool("cadf-spool"), "--log", "audit", site, listeners.path("swallow")],
                              env=dict(os.environ, CADF=cadf), capture_output=True)
     shown = subprocess.run([cadf, "show", site], stdout=subprocess.PIPE)
-    assert (spooled.returncode, [event["id"] for event in json.loads(shown.stdout or b'{"events":[]}')["events"]]) == (1, [identifier])
+    assert (spooled.returncode, [event["id"] for event in json.loads(shown.stdout or b'{"events":[]}')["events"]]) == (0, [identifier])
 
 
 def events_of(*words):

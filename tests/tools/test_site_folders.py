@@ -394,7 +394,7 @@ def test_words(site):
         assert b"--settle goes with one SITE, and with --wait alone" in site.take("--settle", *words).error
     for name in (file, str(site.path / "new.cadf")):
         answer = ended(site.tool, ["--windows", "400", name, file], env=site.environment)
-        assert answer.status == 2 and b"--windows goes with a SITE that is a folder, or with --by" in answer.error and len(os.listdir(site.path)) == 1
+        assert answer.status == 2 and b"--windows, --not-before, --not-after and --rest go with a SITE that is a folder, or with --by" in answer.error and len(os.listdir(site.path)) == 1
     site.folder.mkdir()
     for answer in (site.take(files=[file]), site.take("--settle")):
         assert answer.status == 1 and b"no site in it: `cadf-take --by day SITE/ FILE..` makes one" in answer.error

@@ -830,8 +830,8 @@ def test_sender_that_writes_on(shared):
     while not os.path.exists(os.path.join(place, "begun")) and sender.poll() is None:
         time.sleep(0.01)
     done = shared.takes_own(cadf=odd)
-    sender.kill() if done.status != 1 else None
-    assert (done.status, sender.wait(), last_line(done)) == (1, 0, counted(2, 1))
+    sender.kill() if done.status != 0 else None
+    assert (done.status, sender.wait(), last_line(done)) == (0, 0, counted(2, 1))
     assert content(shared.own) == shared.joined(document("e0", "e1", "e2"))
     assert held(shared.spool)["taken/a.jsonl"] == message("e1") + b"no event\n" and content(os.path.join(place, "seen")) == b""
 

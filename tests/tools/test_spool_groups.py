@@ -37,11 +37,11 @@ def test_groups(program, tmp_path):
 
 
 def test_in_part(cadf, tmp_path):
-    """A file of which something was set aside is no success."""
+    """A file of which lines were set aside was taken: they wait for a person, and the run has not failed."""
     spool = tmp_path / "spool"
     spool.mkdir()
     (spool / "lines.jsonl").write_text("".join(json.dumps(dict(EVENT, id=key)) + "\n" for key in ("e1", "")))
     done = subprocess.run([tool("cadf-spool"), "--unchanged", "0", "--log", "g", tmp_path / "site.cadf", spool],
                           env={**os.environ, "CADF": cadf}, stderr=subprocess.PIPE)
-    assert done.returncode == 1 and b"taken 1, set aside 1, waiting 0" in done.stderr
-    assert os.listdir(spool / "taken") == os.listdir(spool / "set-aside") == ["lines.jsonl"]
+    assert done.returncode == 0 and b"taken 1, set aside 1, waiting 0" in done.stderr
+    assert os.listdir(spool / "taken") == ["lines.jsonl"] and sorted(os.listdir(spool / "set-aside")) == [".senders", "lines.jsonl"]

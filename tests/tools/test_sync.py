@@ -44,7 +44,7 @@ REFERENCE = os.path.join(TOP, "tests", "reference", "cadf")
 FAR = os.path.join(TOP, "tests", "tools", "far_side.py")
 MOST_DIFFERING, MOST_EQUAL, MOST_TURNS = 100000, 40000, 6  # bytes both ways beyond the answers, turns of the line
 CUTS, MADE_AGAIN = 50, 5  # random bytes at which a link is cut; each of so many calls is made again
-FIRST = b'CADF-SYNC 1 {"facts":67108864,"keeps":true,"limit":1073741824,"log":"g","next":true,"timeout":60,"unit":null,"writes":true}\n'
+FIRST = b'CADF-SYNC 1 {"facts":67108864,"keeps":true,"limit":1073741824,"log":"g","next":true,"timeout":60,"unit":null,"windows":400,"writes":true}\n'
 # Tools that know messages of few bytes, so that few facts make many of them, and whose commands may note their calls.
 TRIED = ("LEAST = 2 ** 20", "LEAST = 2 ** 10", "        change_only(None)\n", "")
 EVENT = {"eventType": "activity", "action": "read", "outcome": "success", "initiatorId": "u1", "targetId": "t1",
@@ -408,8 +408,7 @@ LIES = {
     "twice": (FIRST + message(b"list", b"W all %s\n" % DIGEST * 2), 1, "no list of windows"),
     "windows that fall": (first(unit="day") + message(b"list", b"W 2024-03-02 %s\nW 2024-03-01 %s\n" % (DIGEST, DIGEST)), 1, "no list"),
     "a day that is a path": (first(unit="day") + message(b"list", b"W 2024-03-0/ %s\n" % DIGEST), 1, "no list of windows"),
-    "too many windows": (first(unit="day") + message(b"list", b"".join(
-        b"W %04d-01-01 %s\n" % (year, DIGEST) for year in range(1000, 1500))), 1, "allow them by --windows 500"),
+    "no number of windows": (first(windows=-1), 1, "no windows in the first line"),
     "no line feed at last": (FIRST + message(b"list", b"W all %s" % DIGEST), 1, "no list of windows"),
     "a fault with escapes": (FIRST + message(b"fault", b"4 \x1b[2J"), 4, "\\u001b[2J"),
     "a fault of two lines": (FIRST + message(b"fault", b"4 no\ncadf-sync: all is well"), 4, "no\\ncadf-sync: all is well"),
@@ -974,7 +973,7 @@ def test_a_bad_inventory_leaves_out_its_window(folders):
     folders.put("here/", facts(1))
     listed = b"".join(b"W %s %s\n" % (part, DIGEST if part == bad else parts[part][-65:-1]) for part in (shared, bad, good))
     (folders.path / "lie").write_bytes(first(unit="day") + message(b"list", listed) + message(b"answer", items(
-        (good, b"facts", parts[good]), (bad, b"none", b""), (bad, b"inventory", inventory_of("g", [])[:-2] + b"x\n"))))
+        (bad, b"none", b""), (bad, b"inventory", inventory_of("g", [])[:-2] + b"x\n"), (good, b"facts", parts[good]))))
     answer = folders.sync(folders.far("says", folders.path / "lie"), "here/", "h:there/")
     assert answer.status == 1 and folders.holds("here/") == facts(1, 2)
     assert said(answer).splitlines()[0] + "\n" == "cadf-sync: left out 2024-03-02: the inventory of 2024-03-02 from h:there/: digest" + CAME_SO
@@ -982,38 +981,88 @@ def test_a_bad_inventory_leaves_out_its_window(folders):
 
 @pytest.mark.parametrize("there", ["there/", "h:there/"])
 def test_new_windows_are_counted_where_they_begin(folders, there):
-    """What --windows allows holds for the far site too, on this machine and on another."""
+    """What --windows allows holds for the far site too, on this machine and on another: those nearest to now go, and the others with the next call."""
     folders.put("here/", facts(1, 2, 3))
     (folders.path / "shell").write_text("#!/bin/sh\nPATH=%s:$PATH exec sh -c \"$3\"\n" % shlex.quote(folders.tools))
     (folders.path / "shell").chmod(0o755)
-    answer = folders.sync("--push", "--windows=3", "--rsh=./shell", "here/", there)
-    assert answer.status == 1 and "%s: more than the 3 new windows that --windows allows a call, of which 0 were taken: " % there in said(answer)
-    assert not os.path.exists(folders.path / "there" / "site")
+    words = ["--push", "--windows=2", "--rsh=./shell", "here/", there]
+    answer = folders.sync(*words)
+    assert answer.status == 5 and said(answer).startswith("cadf-sync: %s: left out 1 of 3 windows that are new there, and sent the 2 nearest to now: " % there)
+    assert b"; 4 of 4 windows differed; 1 were left out; " in answer.output and folders.holds("there/") == facts(2, 3)
+    assert folders.sync(*words).status == 0 and folders.holds("there/") == facts(1, 2, 3)
 
 
-def test_new_windows_after_a_part_was_taken(folders, monkeypatch):
-    """The line says how many windows may be new, and how many were taken before; called again with as many as are new it completes."""
+def test_a_far_end_that_begins_few_windows(folders, monkeypatch):
+    """A command that is fixed there has a limit of its own, whatever the caller allows."""
     folders.put("here/", facts(*range(1, 9)))
-    (folders.path / "shell").write_text("#!/bin/sh\nexec %s --serve --limit=1024 --windows=$WINDOWS there/\n" % (
+    (folders.path / "shell").write_text("#!/bin/sh\nexec %s --serve --windows=$WINDOWS there/\n" % (
         shlex.join([sys.executable, os.path.join(folders.tools, "cadf-sync")])))
     (folders.path / "shell").chmod(0o755)
     monkeypatch.setenv("WINDOWS", "3")
-    answer = folders.sync("--push", "--rsh=./shell", "here/", "h:there/")
-    taken = len(folders.files("there/")) - 1
-    assert 0 < taken <= 3 and answer.status == 1
-    assert said(answer) == "cadf-sync: h:there/: more than the 3 new windows that --windows allows a call, of which %d were taken: " \
-        "if more are meant, make the call again with a greater --windows; taken before that: at least 0 facts here, %d there\n" % (taken, 2 * taken - 1)
+    answer = folders.sync("--push", "--windows=all", "--rsh=./shell", "here/", "h:there/")
+    assert answer.status == 5 and "h:there/: left out 5 of 8 windows that are new there, and sent the 3 nearest to now: " in said(answer)
+    assert folders.holds("there/") == facts(6, 7, 8)
     monkeypatch.setenv("WINDOWS", "9")
     assert folders.sync("--push", "--rsh=./shell", "here/", "h:there/").status == 0
     assert folders.holds("there/") == facts(*range(1, 9))
+    monkeypatch.setenv("WINDOWS", "all")
+    assert "--serve always has a limit" in said(folders.sync("--push", "--rsh=./shell", "here/", "h:there/"))
+
+
+@pytest.mark.parametrize("ends", [("south/", "north/"), ("north/", "south/")])
+def test_two_files_stop_no_exchange(folders, ends):
+    """A site with more new windows than a call may begin: those that both have are exchanged, and of the new ones the nearest to now."""
+    folders.put("south/", facts(1))
+    folders.put("north/", facts(1, 29, *range(3, 8)))
+    answer = folders.sync("--windows=3", *ends)
+    assert answer.status == 5 and ": left out 2 of 5 windows that are new " in said(answer) and b"2 were left out" in answer.output
+    assert folders.holds("south/") == facts(1, 29, 5, 6, 7)
+    assert folders.sync("--windows=3", *ends).status == 0 and folders.holds("south/") == facts(1, 29, *range(3, 8))
+
+
+def test_a_first_exchange_on_this_machine_has_no_limit(folders, tmp_path):
+    """As of a site of many days with its backup. A later one has it, unless a person allows all."""
+    folders.tools = copied(tmp_path / "few", "MOST_NEW = 400", "MOST_NEW = 2")
+    folders.put("here/", facts(1, 2, 3))
+    folders.equal("--push", "here/", "backup/")
+    folders.put("more.cadf", facts(*range(1, 9)))
+    folders.takes("here/", "--windows=9", ["more.cadf"])
+    assert folders.sync("--push", "here/", "backup/").status == 5 and folders.holds("backup/") == facts(1, 2, 3, 7, 8)
+    folders.equal("--push", "--windows=all", "here/", "backup/")
+    assert folders.holds("backup/") == facts(*range(1, 9))
+
+
+def test_facts_of_another_window_than_they_say(folders):
+    """A window that is left as it is by --since can't be changed under another's name, and no conflict be hidden: nothing of it is taken."""
+    folders.put("here/", facts(1))
+    before = folders.files("here/")
+    lie = parts_of(facts(29) | failed(1), "day")["2024-03-02"]
+    (folders.path / "lie").write_bytes(first(unit="day") + message(b"list", b"W 2024-03-05 %s\n" % DIGEST) + message(b"answer", items(
+        (b"2024-03-05", b"facts", file_of("g", lie)))))
+    answer = folders.sync("--since=2024-03-05", "--pull", folders.far("says", folders.path / "lie"), "here/", "h:there/")
+    assert (answer.status, folders.files("here/")) == (1, before)
+    assert said(answer) == "cadf-sync: 2024-03-05 from h:there/: it has facts of 2024-03-02" + CAME_SO
+
+
+def test_a_caller_that_sends_more_windows_than_it_may(folders):
+    """The end that is served takes what is of windows that are there, and of new ones the nearest to now."""
+    folders.put("here/", facts(1))
+    parts = parts_of(facts(29, 3, 4), "day")
+    sent = [(part.encode(), b"facts", file_of("g", atoms)) for part, atoms in parts.items() if part != "shared"]
+    hello = b'CADF-SYNC 1 {"limit":1073741824,"log":"g","site":"here/","timeout":20,"unit":"day","since":null}\n'
+    answer = folders.runs("cadf-sync", "--serve", "--timeout=20", "--windows=1", "here/", input=hello + message(b"take", items(*sent)))
+    assert answer.status == 0 and answer.output.endswith(message(b"taken", b"4\n")) and b'"windows":1,' in answer.output
+    assert said(answer) == "cadf-sync: the caller: left out 1 new windows, beyond the 1 that a call may begin\n" and folders.holds("here/") == facts(1, 29, 4)
 
 
 def test_a_push_that_is_refused_says_what_was_pulled(folders):
-    """The facts that were taken here stay, though the other end refuses those of this one."""
+    """The facts that were taken here stay, though the other end can't take those of this one."""
     folders.put("here/", facts(1, 2, 3))
     folders.put("there/", facts(4))
-    answer = folders.sync("--windows=2", "here/", "there/")
-    assert answer.status == 1 and said(answer).endswith("; taken before that: at least 2 facts here, 0 there\n")
+    (folders.path / "there" / ".lock").touch(0o644)
+    (folders.path / "there" / ".lock").chmod(0o644)
+    answer = folders.sync("here/", "there/")
+    assert answer.status == 3 and said(answer).endswith("; taken before that: at least 2 facts here, 0 there\n")
     assert folders.holds("here/") == facts(1, 2, 3, 4) and folders.holds("there/") == facts(4)
 
 
@@ -1128,7 +1177,7 @@ def test_metrics_of_a_spool(folders):
 
 @pytest.mark.parametrize("words, part", [
     (("--since=2024-03", "here/", "there/"), "name such a one"), (("here/", "months/"), "have both by one unit"),
-    (("--windows=2", "few/", "there/"), "allow them by --windows 3"), (("there/", "--", "few/"), None),
+    (("there/", "--", "few/"), None),
 ])
 def test_refused_folders(folders, words, part):
     folders.put("here/", facts(1, 2))
@@ -1587,6 +1636,10 @@ WRONG_OF_FOLDERS = [
     ("piece.item(item.part, \"some\")", "piece.item(item.part, \"facts\")", lambda folders: test_a_window_larger_than_a_file_may_be(folders, "--pull", ())),
     ("piece, done = Piece(store, head), 0", "piece, done = Piece(store, head), max(done, 1)", lambda folders: test_a_window_larger_than_a_file_may_be(folders, "--push", ())),
     ("\"ruled\" not in value", "True", test_metrics_of_folders),
+    ("windows = nearest((part for part in parts if part != cadf_site.SHARED), now())", "windows = [part for part in parts if part != cadf_site.SHARED]",
+     lambda folders: test_two_files_stop_no_exchange(folders, ("south/", "north/"))),
+    ("            if self.unit is not None:\n                self.check_labels(items, inputs)\n", "", test_facts_of_another_window_than_they_say),
+    ("        items = self.within_limit(items, peer)\n", "", test_a_caller_that_sends_more_windows_than_it_may),
 ]
 
 

@@ -354,14 +354,16 @@ def test_a_damaged_window_lets_what_arrives_wait(sites):
     assert (sites.path / "spool" / "taking" / "a.json").exists() and (sites.path / "spool" / "taken" / "b.json").exists()
 
 
-def test_spool_sets_aside_what_begins_many_windows(sites):
+def test_spool_keeps_what_begins_many_windows(sites):
+    """A file of more new windows than one sender may begin is taken as far as it may be, and the rest waits; the others are taken."""
     sites.north.takes(contents(0))
     times = ["%04d-01-01T00:00:00Z" % year for year in range(1000, 1402)]
     arrives(sites, "many.json", {"id": "g", "events": [dict(EVENT, id=time, eventTime=time) for time in times]})
     arrives(sites, "other.json", contents(2))
     status, _, said = sites.run("spool", "north", "spool")
-    assert status == 1 and [line for line in said if "set aside: it can't be taken: " in line and "--windows" in line]
-    assert sites.north.atoms() == atoms_of(contents(0, 2)) and sites.north.left() == []
+    assert status == 0 and [line for line in said if ": 303 facts wait, of 303 new windows beyond the limits: " in line]
+    nearest = {"id": "g", "events": [dict(EVENT, id=time, eventTime=time) for time in times[-99:]]}  # the 100th is the other file's
+    assert sites.north.atoms() == atoms_of(contents(0, 2), nearest) and sites.north.left() == []
 
 
 @pytest.mark.parametrize("check, right, wrong", [

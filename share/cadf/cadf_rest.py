@@ -1,0 +1,134 @@
+"""What a take into a folder leaves: events of windows beyond its limits and out of its bounds of time, which go to a file of each sender.
+
+The windows that are there are taken, and of new ones those that are nearest to now, of the senders in turn.
+"""
+import contextlib
+import os
+import re
+import subprocess
+
+import cadf_site
+from cadf_link import Store
+from cadf_times import chosen
+from cadf_toolkit import LARGEST, REFUSED, USAGE, Fault, another_program, cadf, grouped, name_shown, new_file, opened, say, sync
+
+AT_ONCE = 200  # files that are joined at once
+COUNTED = re.compile(rb" atoms (\d+) conflicts \d+\n$")  # what cadf says of a file that it checks
+WHAT_NEXT = ": look at their "
+THERE = "it is there: name another file by --rest, or move it away"
+
+
+class Parts:
+    """Parts of split files, by their names, in a private file."""
+
+    def __init__(self):
+        self.store, self.items = Store(), {}
+
+    def put(self, part, parts):
+        """Copies the next part of a split file."""
+        with open(self.store.begin(), "wb", closefd=False) as output:
+            parts.copy(output)
+        self.items.setdefault(part, []).append(self.store.item(part, "facts"))
+
+
+class Rest:
+    """The limits of a take that leaves what is beyond them to files: the limits, the files, and how many inputs in turn each sender has."""
+
+    def __init__(self, name, most, each, bounds, senders):
+        self.most, self.each, self.bounds, self.senders = most, each, bounds, senders
+        self.names = [name] if len(senders) == 1 else ["%s.%d" % (name, number) for number in range(1, len(senders) + 1)]
+        self.apart, self.left = Parts(), []
+        for file in filter(os.path.lexists, self.names):
+            raise Fault("%s: %s" % (name_shown(file), THERE), USAGE)
+
+    def is_apart(self, part, is_there):
+        return part != cadf_site.SHARED and not (is_there and self.bounds.has(part))
+
+    def keeps(self, part, parts, is_there):
+        """Keeps the next part apart that is a new window, or out of bounds. False: it is to be taken."""
+        if self.is_apart(part, is_there):
+            self.apart.put(part, parts)
+            return True
+        return False
+
+    @contextlib.contextmanager
+    def finished(self, taking, inputs):
+        """Takes the windows that are chosen, and has the rest on the disk before the site names them. A take that fails leaves no rest."""
+        new = [part for part in self.apart.items if self.bounds.has(part)]
+        is_all = len(new) == len(self.apart.items) and len(new) <= min(self.most, self.each)
+        senders = [self.apart] if is_all or len(self.senders) == 1 else list(self.parts_of_senders(taking, inputs))
+        taken = chosen([[part for part in new if part in each.items] for each in senders], self.most, self.each)
+        for part in sorted(taken):
+            for item in self.apart.items[part]:
+                with taking.new_file() as output:
+                    output.writelines(item.blocks())
+                taking.keep(part, digest_of(item))
+        left = [{part: items for part, items in each.items.items() if part not in taken} for each in senders]
+        try:
+            for name, parts in zip(self.names, left):
+                if parts:
+                    self.write(name, parts, inputs)
+            yield
+        except BaseException:
+            for name, *_ in self.left:
+                os.unlink(name)
+            raise
+
+    def parts_of_senders(self, taking, inputs):
+        """Yields what was kept apart of each sender's inputs."""
+        inputs = iter(inputs)
+        for count in self.senders:
+            found = Parts()
+            own = [next(inputs) for _ in range(count)]
+            for group in grouped(own, lambda each: os.fstat(each.file.fileno()).st_size, cadf_site.MOST_AT_ONCE):
+                with cadf_site.split(taking.words(None, None), group, [taking.lock]) as parts, open(os.devnull, "wb") as nothing:
+                    parts.head()
+                    for part in parts.names():
+                        if part in self.apart.items:
+                            found.put(part, parts)
+                        else:
+                            parts.copy(nothing)
+            yield found
+
+    def write(self, name, parts, inputs):
+        """Writes what is left of a sender, and notes how much it is."""
+        with new_file(name + ".new", inputs) as file:
+            join([item for items in parts.values() for item in items], file, name)
+            if os.fstat(file).st_size > LARGEST:
+                raise Fault("%s: the files leave more than 2^30 bytes: give fewer" % name_shown(name), REFUSED)
+            os.fsync(file)
+            try:
+                os.link(name + ".new", name)  # which replaces nothing
+            except FileExistsError:
+                raise Fault("%s: %s" % (name_shown(name), THERE), USAGE) from None
+        with opened([name]) as found:
+            counted = COUNTED.search(cadf(["check"], found, subprocess.PIPE))
+        if not counted:
+            raise another_program("answer of `cadf check`")
+        self.left.append((name, int(counted[1]), sum(map(self.bounds.has, parts)), len(parts)))
+        sync(os.path.dirname(os.path.abspath(name)))
+
+    def tell(self):
+        """Says what is left, a line a file. Returns whether there is some."""
+        for name, facts, new, windows in self.left:
+            why = [words for count, words in ((new, "%d new windows beyond the limits" % new), (windows - new, "%d windows out of bounds" % (windows - new))) if count]
+            say("%s: %d facts wait, of %s%stimes; `cadf-take --windows all SITE FILE` takes them" % (name_shown(name), facts, " and ".join(why), WHAT_NEXT))
+        return bool(self.left)
+
+
+def digest_of(item):
+    """The digits on the last line of a replica file."""
+    return os.pread(item.file.fileno(), 64, item.begin + item.length - 65).decode()
+
+
+def join(items, output, where):
+    """Writes the union of replica files to an open file, of which `where` is the name."""
+    store = Store()
+    while len(items) > AT_ONCE:
+        groups = [items[at:at + AT_ONCE] for at in range(0, len(items), AT_ONCE)]
+        items = []
+        for group in groups:
+            join(group, store.begin(), where)
+            items.append(store.item("what is left", "facts"))
+    with contextlib.ExitStack() as files:
+        cadf(["join"], [files.enter_context(each.opened(each.part)) for each in items], output, where=where)
