@@ -17,7 +17,7 @@ import tempfile
 import cadf_site
 from cadf_link import ENOUGH, Item, Store
 from cadf_logs import UNREADABLE, atoms
-from cadf_toolkit import (DIFFERS, LAST, LAST_LINE, REFUSED, Fault, Input, Refusal, another_program, cadf, check_end, last_digest, naming, opened_file, started_cadf,
+from cadf_toolkit import (DIFFERS, LAST, LAST_LINE, Fault, Input, Refusal, another_program, cadf, check_end, last_digest, naming, opened_file, started_cadf,
                           with_digest)
 
 ALL, SHARED = "all", cadf_site.SHARED
