@@ -70,7 +70,6 @@ fn answer(rt: &HostRuntime, reply: &Reply) -> ExitCode {
             let _ = message.print(rt);
             ExitCode::from(REFUSED)
         }
-        Reply::Unnamed => report(rt, &Stop::Command),
     }
 }
 

@@ -15,9 +15,6 @@ pub(crate) enum Stop {
     /// A name, a number or a letter is refused.
     #[error(transparent)]
     Argument(#[from] ArgumentFault),
-    /// The first word names no command.
-    #[error("command")]
-    Command,
 }
 
 /// Reports on standard error why the command failed, and returns the exit status.
@@ -26,6 +23,5 @@ pub(crate) fn report(rt: &HostRuntime, stop: &Stop) -> ExitCode {
     ExitCode::from(match stop {
         Stop::Tool(fault) => status(fault),
         Stop::Argument(fault) => fault.status(),
-        Stop::Command => REFUSED,
     })
 }

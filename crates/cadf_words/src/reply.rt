@@ -1,4 +1,8 @@
 //! The reply to words that are not parsed to a request.
+ghost use Rattle.std.specs.Prelude.{◌≡◌};
+ghost use Rattle.cadf_words.specs.declared.reply.Reply.TheVariants.{Memory};
+ghost use Rattle.cadf_words.specs.Synopsis.{AnswersError};
+
 use clap::Error;
 use clap::error::ErrorKind;
 use std::alloc::AllocError;
@@ -32,11 +36,11 @@ pub enum Reply {
     Help(Message),
     /// The words are refused.
     Refused(Message),
-    /// The words name no command. `clap` refuses such words, so this does not occur.
-    Unnamed,
 }
 
 impl From<Error> for Reply {
+    ghost from_gives = { AnswersError };
+
     fn from(error: Error) -> Reply {
         match error.kind() {
             ErrorKind::OutOfMemory => Reply::Memory,
@@ -47,6 +51,8 @@ impl From<Error> for Reply {
 }
 
 impl From<AllocError> for Reply {
+    ghost from_gives = { λ _ reply. reply ≡ Memory };
+
     fn from(_error: AllocError) -> Reply {
         Reply::Memory
     }

@@ -1,4 +1,13 @@
 //! The request that a command line makes.
+ghost use Rattle.std.specs.Prelude.{◌≡◌, ◌⊎◌, [], ◌∷◌, true, map, option_map, IfOk, MatchResult};
+ghost use Rattle.clap.specs.Matches.{found_of};
+ghost use Rattle.clap.specs.Walk.{first_of, rows_of, texts};
+ghost use Rattle.clap.specs.Values.{kind_of};
+ghost use Rattle.clap.specs.declared.error.kind.ErrorKind.TheVariants.{OutOfMemory};
+ghost use Rattle.cadf_words.specs.Synopsis.{AreFiles, HasKindOf, IsAsked, IsFlag, IsTold, MakesRequest};
+ghost use Rattle.cadf_words.specs.Synopsis.{value_of, values_of};
+ghost use Rattle.cadf_words.specs.Table.{AreMatches, command_names, is_among, names_with_files, sealing_names};
+
 use crate::reply::Reply;
 use crate::table::command;
 use clap::{ArgMatches, Error};
@@ -69,14 +78,39 @@ pub enum Request<'a> {
     },
 }
 
+/// Returns the word of that name, if it is given.
+fn option<'a>(matches: &ArgMatches<'a>, name: &str) -> Option<&'a str>
+    ensures { option_map (λ s. s.now) result ≡ first_of name.now (rows_of (found_of matches.now)) }
+{
+    matches.get_str(name)
+}
+
 /// Returns the word of that name, empty if there is none.
-fn word<'a>(matches: &ArgMatches<'a>, name: &str) -> &'a str {
+fn word<'a>(matches: &ArgMatches<'a>, name: &str) -> &'a str
+    ensures { result.now ≡ value_of name.now (rows_of (found_of matches.now)) }
+{
     matches.get_str(name).unwrap_or_default()
 }
 
+/// Returns whether the flag of that name is given.
+fn flag(matches: &ArgMatches<'_>, name: &str) -> bool
+    ensures { IsFlag name.now (rows_of (found_of matches.now)) result }
+{
+    matches.get_flag(name)
+}
+
+/// Returns the words of that name.
+fn words<'m, 'a>(matches: &'m ArgMatches<'a>, name: &str) -> &'m [&'a str]
+    ensures { texts result.now ≡ values_of name.now (rows_of (found_of matches.now)) }
+{
+    matches.get_strs(name).unwrap_or_default()
+}
+
 /// Copies the words of the name `FILE`. `Err` if an allocation fails.
-fn files<'a>(alloc: Global, matches: &ArgMatches<'a>) -> Result<Vec<&'a str>, AllocError> {
-    Vec::from_slice(alloc, matches.get_strs("FILE").unwrap_or_default())
+fn files<'a>(alloc: Global, matches: &ArgMatches<'a>) -> Result<Vec<&'a str>, AllocError>
+    ensures { IfOk result (λ v. AreFiles (rows_of (found_of matches.now)) v.items) }
+{
+    Vec::from_slice(alloc, words(matches, "FILE"))
 }
 
 /// Returns the word of the name `first`, then the words of the option `more`. `Err` if an allocation fails.
@@ -85,55 +119,57 @@ fn first_and_more<'a>(
     matches: &ArgMatches<'a>,
     first: &str,
     more: &str,
-) -> Result<Vec<&'a str>, AllocError> {
+) -> Result<Vec<&'a str>, AllocError>
+    ensures { IfOk result (λ v. texts v.items
+        ≡ value_of first.now (rows_of (found_of matches.now)) ∷ values_of more.now (rows_of (found_of matches.now))) }
+{
     let mut files = Vec::new(alloc);
     files.push(word(matches, first))?;
-    files.extend_from_slice(matches.get_strs(more).unwrap_or_default())?;
+    files.extend_from_slice(words(matches, more))?;
     Ok(files)
 }
 
-/// Makes the request of a command of seals and proofs, with its files. `None` for any other name.
-fn sealing_of<'a>(
-    name: &str,
-    matches: &ArgMatches<'a>,
-    files: Vec<&'a str>,
-) -> Option<Request<'a>> {
-    Some(match name {
+/// Makes the request of a command of seals and proofs, with its files.
+fn sealing_of<'a>(name: &str, matches: &ArgMatches<'a>, files: Vec<&'a str>) -> Request<'a>
+    requires known { is_among sealing_names name.now ≡ true }
+    requires found { AreFiles (rows_of (found_of matches.now)) files.items }
+    ensures { IsAsked name.now (rows_of (found_of matches.now)) result }
+{
+    match name {
         "seal" => Request::Seal { files },
         "prove" => Request::Prove {
             facts: word(matches, "FACTS"),
             files,
         },
-        "verify" => Request::Verify {
-            absent: matches.get_flag("absent"),
+        _ => Request::Verify {
+            absent: flag(matches, "absent"),
             seal: word(matches, "SEAL"),
             facts: word(matches, "FACTS"),
             proof: word(matches, "PROOF"),
         },
-        _ => return None,
-    })
+    }
 }
 
-/// Makes the request of a command that works on the union of its files. `None` for any other name.
-fn request_of_files<'a>(
-    name: &str,
-    matches: &ArgMatches<'a>,
-    files: Vec<&'a str>,
-) -> Option<Request<'a>> {
-    Some(match name {
+/// Makes the request of a command that works on the union of its files, or of seals and proofs.
+fn request_of_files<'a>(name: &str, matches: &ArgMatches<'a>, files: Vec<&'a str>) -> Request<'a>
+    requires known { is_among names_with_files name.now ≡ true }
+    requires found { AreFiles (rows_of (found_of matches.now)) files.items }
+    ensures { IsAsked name.now (rows_of (found_of matches.now)) result }
+{
+    match name {
         "join" => Request::Join {
-            log: matches.get_str("log"),
+            log: option(matches, "log"),
             files,
         },
         "split" => Request::Split {
             by: word(matches, "by"),
-            log: matches.get_str("log"),
+            log: option(matches, "log"),
             files,
         },
         "inventory" => Request::Inventory { files },
         "sketch" => Request::Sketch {
-            cells: matches.get_str("cells"),
-            salt: matches.get_str("salt"),
+            cells: option(matches, "cells"),
+            salt: option(matches, "salt"),
             files,
         },
         "rule" => Request::Rule {
@@ -143,20 +179,23 @@ fn request_of_files<'a>(
             files,
         },
         "show" => Request::Show {
-            conflicts: matches.get_flag("conflicts"),
+            conflicts: flag(matches, "conflicts"),
             files,
         },
         "check" => Request::Check { files },
-        _ => return sealing_of(name, matches, files),
-    })
+        _ => sealing_of(name, matches, files),
+    }
 }
 
-/// Makes the request of the command of that name. `Unnamed` if there is none, `Memory` if an allocation fails.
+/// Makes the request of the command of that name. `Err` if an allocation fails.
 fn request_of<'a>(
     alloc: Global,
     name: &str,
     matches: &ArgMatches<'a>,
-) -> Result<Request<'a>, Reply> {
+) -> Result<Request<'a>, AllocError>
+    requires { is_among command_names name.now ≡ true }
+    ensures { IfOk result (IsAsked name.now (rows_of (found_of matches.now))) }
+{
     Ok(match name {
         "missing" => Request::Missing {
             from: first_and_more(alloc, matches, "FROM", "from")?,
@@ -175,21 +214,27 @@ fn request_of<'a>(
             sites: word(matches, "SITES"),
             script: word(matches, "SCRIPT"),
         },
-        _ => request_of_files(name, matches, files(alloc, matches)?).ok_or(Reply::Unnamed)?,
+        _ => request_of_files(name, matches, files(alloc, matches)?),
     })
 }
 
-/// Parses the words by `clap`.
-fn matches_of<'a>(alloc: Global, words: &'a [String]) -> Result<ArgMatches<'a>, Error> {
+/// Parses the words by `clap`. `Err`: memory ran out, or what is wrong with the words or asked by them.
+fn matches_of<'a>(alloc: Global, words: &'a [String]) -> Result<ArgMatches<'a>, Error>
+    ensures { MatchResult result (AreMatches (map (λ s. s.bytes.items) words.now))
+        (λ e. (kind_of e ≡ OutOfMemory) ⊎ HasKindOf (map (λ s. s.bytes.items) words.now) (kind_of e)) }
+{
     command(alloc)?.try_get_matches_from(words)
 }
 
 /// Parses the words of a command line, of which the first is the program's name. Returns the request that they make;
 /// `Err`: the text to print for them, or `Reply::Memory`.
-pub fn parse<'a>(alloc: Global, words: &'a [String]) -> Result<Request<'a>, Reply> {
+pub fn parse<'a>(alloc: Global, words: &'a [String]) -> Result<Request<'a>, Reply>
+    ensures { MatchResult result (MakesRequest (map (λ s. s.bytes.items) words.now))
+        (IsTold (map (λ s. s.bytes.items) words.now)) }
+{
     let matches = matches_of(alloc, words)?;
     match matches.subcommand() {
-        Some((name, matches)) => request_of(alloc, name, matches),
-        None => Err(Reply::Unnamed),
+        Some((name, matches)) => Ok(request_of(alloc, name, matches)?),
+        None => unreachable!(),
     }
 }

@@ -1,7 +1,13 @@
 //! The commands and their words, as tables.
+ghost use Rattle.std.specs.Prelude.{◌≡◌, false, IfOk, map};
+ghost use Rattle.clap.specs.Words.{app_of, rule_of, shape_of};
+ghost use Rattle.clap.specs.declared.builder.command.Command.TheViews.{out-Command};
+ghost use Rattle.cadf_words.specs.Synopsis.{IsCommandLine, rule_of_word, shape_of_command};
+ghost use Rattle.cadf_words.specs.Table.{word_of};
+
 use clap::builder::ValueParser;
-use clap::{Arg, ArgAction, Command, Error};
-use std::alloc::Global;
+use clap::{Arg, ArgAction, Command};
+use std::alloc::{AllocError, Global};
 
 /// How a word is given.
 #[derive(Clone, Copy, PartialEq, Eq)]
@@ -204,20 +210,20 @@ const COMMANDS: &[(&str, &str, &[Word])] = &[
 ];
 
 /// The units of time.
-const UNITS: [&str; 3] = ["month", "day", "hour"];
+const UNITS: &[&str] = &["month", "day", "hour"];
 
-/// Makes the argument of a word.
-fn argument<'a>(alloc: Global, word: Word) -> Arg<'a> {
+/// Makes the argument of a word. `units` takes the names of the units of time.
+fn argument<'a>(alloc: Global, word: Word, units: ValueParser<'a>) -> Arg<'a>
+    ensures rule { rule_of result ≡ rule_of_word units.entry (word_of word.entry) }
+    ensures local { result.global ≡ false }
+{
     let (name, kind, help) = word;
     let argument = Arg::new(alloc, name).help(help);
     match kind {
         Kind::File => argument.required(true),
         Kind::Files => argument.required(true).num_args(1..),
-        Kind::Text => argument.required(true).value_parser(ValueParser::string()),
-        Kind::Option(value) => argument
-            .long(name)
-            .value_name(value)
-            .value_parser(ValueParser::string()),
+        Kind::Text => argument.required(true),
+        Kind::Option(value) => argument.long(name).value_name(value),
         Kind::More => argument
             .long(name)
             .value_name("FILE")
@@ -226,33 +232,41 @@ fn argument<'a>(alloc: Global, word: Word) -> Arg<'a> {
             .long(name)
             .value_name("UNIT")
             .required(true)
-            .value_parser(ValueParser::Names(&UNITS)),
+            .value_parser(units),
         Kind::Flag => argument.long(name).action(ArgAction::SetTrue),
     }
 }
 
-/// Makes the command of that name, with its words.
+/// Makes the command of that name, with its words. `Err` if an allocation fails.
 fn subcommand<'a>(
     alloc: Global,
     name: &'a str,
     about: &'a str,
     words: &[Word],
-) -> Result<Command<'a>, Error> {
+    units: ValueParser<'a>,
+) -> Result<Command<'a>, AllocError>
+    ensures shape { IfOk result (λ c. shape_of c
+        ≡ shape_of_command units.entry (name.entry.now, map word_of words.now)) }
+    ensures local { IfOk result (λ c. (out-Command c).has_globals ≡ false) }
+{
     let mut command = Command::new(alloc, name).about(about);
     for word in words {
-        command = command.arg(argument(alloc, *word))?;
+        command = command.arg(argument(alloc, *word, units))?;
     }
     Ok(command)
 }
 
-/// Makes the command line's parser.
-pub(crate) fn command<'a>(alloc: Global) -> Result<Command<'a>, Error> {
+/// Makes the command line's parser. `Err` if an allocation fails.
+pub(crate) fn command<'a>(alloc: Global) -> Result<Command<'a>, AllocError>
+    ensures { IfOk result (λ c. IsCommandLine (app_of c)) }
+{
     let mut command = Command::new(alloc, "cadf")
         .version("0.1.0")
         .about("Keeps replicas of a CADF log and makes them converge")
         .subcommand_required(true);
+    let units = ValueParser::Names(UNITS);
     for &(name, about, words) in COMMANDS {
-        command = command.subcommand(subcommand(alloc, name, about, words)?)?;
+        command = command.subcommand(subcommand(alloc, name, about, words, units)?)?;
     }
     Ok(command)
 }

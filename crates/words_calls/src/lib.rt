@@ -130,6 +130,5 @@ pub fn answered(alloc: Global, call: &Call) -> Result<String, Memory> {
         Err(Reply::Memory) => calls::answer(alloc, "err", &["Memory"]),
         Err(Reply::Help(message)) => told(alloc, "help", &message),
         Err(Reply::Refused(message)) => told(alloc, "refused", &message),
-        Err(Reply::Unnamed) => calls::answer(alloc, "err", &["Unnamed"]),
     }
 }

@@ -1,0 +1,4 @@
+pub mod Rows
+pub mod Entered
+pub mod Found
+pub mod Getters

@@ -1,0 +1,2 @@
+pub mod Synopsis
+pub mod Table
