@@ -20,6 +20,7 @@ import time
 
 from tests import TOP, text_of
 from tests.machine import built
+from tests.mutation.operators import is_right
 from tests.release.planted import NOT_PLANTED, ROWS
 
 SECONDS = 600  # for a test and a fault
@@ -45,15 +46,14 @@ def copied_tree(folder, binary):
     return folder
 
 
-def run(aim, top):
-    """Runs a test, by the words of pytest, in a tree. Returns its status, None if it takes too long, and what it said."""
-    words = [PYTHON, "-m", "pytest", "-q", "-x", "-rs", "-p", "no:cacheprovider", *aim.split()]
+def waited(words, top, seconds):
+    """Runs a command in a tree. Returns its status, None if it takes longer, and what it said."""
     with tempfile.TemporaryFile() as said:
         child = subprocess.Popen(words, cwd=top, stdin=subprocess.DEVNULL, stdout=said, stderr=subprocess.STDOUT, start_new_session=True,
                                  env={**os.environ, "PYTHONDONTWRITEBYTECODE": "1"})
         RUNNING.add(child.pid)
         try:
-            status = child.wait(SECONDS)
+            status = child.wait(seconds)
         except subprocess.TimeoutExpired:
             os.killpg(child.pid, signal.SIGKILL)
             child.wait()
@@ -61,6 +61,11 @@ def run(aim, top):
         RUNNING.discard(child.pid)
         said.seek(0)
         return status, said.read().decode(errors="replace")
+
+
+def run(aim, top):
+    """Runs a test, by the words of pytest, in a tree. Returns its status, None if it takes too long, and what it said."""
+    return waited([PYTHON, "-m", "pytest", "-q", "-x", "-rs", "-p", "no:cacheprovider", *aim.split()], top, SECONDS)
 
 
 def is_skipped(said):
@@ -101,15 +106,22 @@ class Planter:
         text = text_of(path)
         if text.count(row.right) != 1:
             return False, begun, "%s: the text is there %d times" % (row.file, text.count(row.right))
-        write(path, text.replace(row.right, row.wrong))
+        wrong = text.replace(row.right, row.wrong)
+        if is_python(row.file, text) and not is_right(wrong):
+            return False, begun, "%s: what is planted is no Python" % row.file
+        write(path, wrong)
         status, said = run(row.aim, top)
         write(path, text)
-        return status != 0, begun, "it hangs" if status is None else last_reason(said)
+        return status not in (0, None), begun, "it takes too long" if status is None else last_reason(said)
 
     def say(self, rows, is_seen, begun, said):
         for row in rows:
             print("%-34s %-6s %4.0f s  %s" % (row.name, "seen" if is_seen else "UNSEEN", time.monotonic() - begun, said), flush=True)
             self.unseen += [] if is_seen else [row.name]
+
+
+def is_python(name, text):
+    return name.endswith(".py") or text.startswith("#!/usr/bin/env python3\n")
 
 
 def write(path, text):
