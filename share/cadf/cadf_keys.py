@@ -19,6 +19,7 @@ from cadf_toolkit import REFUSED, Fault, Input, cadf, in_order, most_files, open
 AT_ONCE = 256  # files that one call is given, where as many may be open
 LARGEST = 2 ** 28  # bytes of windows whose common keys are put together at once
 KEY, NODES, RULINGS = b"\n[2,0,", b'\n[1,0,"E"]\n', b'\n[1,0,"U"]\n'
+RULED, RULED_KEY = b'\n[2,0,"E"]\n', b"\n[3,0,"  # in a file of rulings
 
 
 # ---- The files of windows
@@ -47,14 +48,23 @@ def lines_of(data, keys):
     return [lines for key, lines in keys_in(data) if key in keys]
 
 
-def keys_in(data):
+def keys_in(data, begin=KEY):
     """Yields the keys of a window's file in their order, as JSON texts, each with its lines."""
-    place, end = data.find(KEY) + 1, len(data)
+    place, end = data.find(begin) + 1, len(data)
     while 0 < place < end:
-        after = data.find(KEY, place) + 1 or end
+        after = data.find(begin, place) + 1 or end
         lines = data[place:after]
-        yield lines[len(KEY) - 1:lines.index(b"\n") - 1], lines
+        yield lines[len(begin) - 1:lines.index(b"\n") - 1], lines
         place = after
+
+
+def rulings_in(name):
+    """Yields the keys of events in a file of rulings, each with its lines."""
+    with open(name, "rb") as file:
+        data = undigested(file.read())
+    place = data.find(RULED)
+    end = data.find(KEY, place + 1) + 1 or len(data)
+    yield from keys_in(data[place:end], RULED_KEY) if place >= 0 else ()
 
 
 # ---- What is put together
@@ -115,13 +125,13 @@ class Windows(Files):
     `common` has the keys that are in several windows, as JSON texts, `facts` the names of replica files that have all of
     their facts, each key in one file, and `rulings` that of one of all rulings of the site, if there are any. `made` has by
     part, in order, what `make` gives of the windows of a range, and of the shared part if that is wanted. It is given this
-    object and the files of a part as inputs. Only those are open meanwhile: a program that is started costs as much as there
+    object, a part with the digests of its files, and these as inputs. Only those are open meanwhile: a program that is started costs as much as there
     are open files.
     """
 
     def __init__(self, name, limits, folder, make, with_shared=True):
         super().__init__(folder)
-        self.make, self.kept = make, {}
+        self.make, self.kept, self.split = make, {}, ([], {})
         with Folder(name) as site:
             for _ in range(TRIES):
                 index = site.site()
@@ -162,8 +172,22 @@ class Windows(Files):
         known = key, tuple(self.rulings), common
         if known not in self.kept:
             facts = [self.put([NODES[1:], *lines]) for lines in (lines_of(contents(*each), common) for each in files.items() if common) if lines]
-            self.kept[known] = key, self.make(self, list(files.values())) if part in self.wanted else None, facts
+            self.kept[known] = key, self.make(self, key, list(files.values())) if part in self.wanted else None, facts
         return self.kept[known]
+
+    def ruled(self, window):
+        """The name of a file of the rulings of the keys of a window, which alone settle what it shows, in a list. It is named with its files."""
+        if window not in self.kept:
+            return []  # it has changed since it was read, so what is made of it isn't used
+        with open(self.kept[window].keys, "rb") as keys:
+            return self.ruled_of(key[:-1] for key in keys)
+
+    def ruled_of(self, keys):
+        """The name of a file of the rulings of these keys of events, in a list that is empty if there are none."""
+        if self.rulings != self.split[0]:
+            self.split = self.rulings, {key: lines for name in self.rulings for key, lines in rulings_in(name)}
+        lines = [self.split[1][key] for key in sorted(set(keys) & self.split[1].keys(), key=json.loads)] if self.split[1] else []
+        return [self.put([RULINGS[1:], RULED[1:], *lines])] if lines else []
 
     def within(self, limits, parts):
         """The windows among the parts that have an instant of the range, in order of time."""
@@ -223,7 +247,7 @@ def opened_within(names, limits, folder):
         found = []
         for name in names:
             if is_folder(name):
-                windows = Windows(name, limits, folder, Files.join)
+                windows = Windows(name, limits, folder, lambda windows, _, inputs: windows.join(inputs))
                 together, = windows.joined([windows.put([]), *windows.made.values(), *windows.facts])
                 found.append(Input(name, files.enter_context(opened([together]))[0].file))
             else:

@@ -46,9 +46,12 @@ class Range:
         self.is_all = first is None and until is None
 
     def has(self, event):
+        return self.is_all or self.has_time(event["eventTime"])
+
+    def has_time(self, text):
         if self.is_all:
             return True
-        at = instant(event["eventTime"])
+        at = instant(text)
         return (self.first is None or at >= self.first) and (self.until is None or at < self.until)
 
     def words(self):

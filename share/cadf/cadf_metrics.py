@@ -2,7 +2,10 @@
 
 A run that succeeds replaces the file whole. One that fails leaves it, so the time of the last success grows old.
 """
+import collections
 import contextlib
+import hashlib
+import itertools
 import os
 import re
 import stat
@@ -13,8 +16,8 @@ import time
 
 import cadf_site
 from cadf_keys import Files, at_once
-from cadf_logs import UNREADABLE, Text
-from cadf_toolkit import (DIFFERS, DONE, FAILED, MEMORY, REFUSED, Fault, another_program, cadf, name_shown, naming, new_file, opened, started,
+from cadf_logs import atoms
+from cadf_toolkit import (DIFFERS, DONE, FAILED, MEMORY, REFUSED, Fault, cadf, name_shown, naming, new_file, opened, started,
                           temporary_folder, tool)
 
 HELP = {
@@ -102,19 +105,20 @@ def open_conflicts(name, parts=None):
 
 
 def shown_conflicts(inputs):
-    """How many open keys cadf shows of the union of some inputs."""
+    """How many open keys the union of some inputs has. Of their values no text is made that `show` would write again and again."""
     with tempfile.TemporaryFile() as file:
-        cadf(["show", "--conflicts"], inputs, file.fileno())
+        cadf(["join"], inputs, file.fileno())
         file.seek(0)
-        text, count = Text(file), 0
-        try:
-            for member in text.names():
-                for _ in text.items() if member == "conflicts" else [None]:
-                    value, _ = text.take()
-                    count += member == "conflicts" and "ruled" not in value
-        except UNREADABLE:
-            raise another_program("conflict list") from None
-    return count
+        several, ruled = {}, collections.defaultdict(set)
+        for key, group in itertools.groupby(atoms(file), lambda atom: atom[:2]):
+            if key[0] == "U":
+                for _, letter, name, digest in group:
+                    ruled[letter, name].add(digest)
+            else:
+                digests = {hashlib.sha256(atom[2].encode()).hexdigest() for atom in group if len(atom) == 3}
+                if len(digests) > 1:
+                    several[key] = digests
+    return sum(len(digests & ruled[key]) != 1 for key, digests in several.items())
 
 
 def listed_conflicts(name):

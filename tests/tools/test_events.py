@@ -108,6 +108,8 @@ def test_file_and_folder_show_the_same(cadf, tmp_path, seed):
 @pytest.mark.parametrize("right, wrong", [
     ("own.of([*inputs, *rulings], windows.common)", "own.of([*inputs, *rulings])"),
     ("own.of([*inputs, *rulings], windows.common)", "own.of(inputs, windows.common)"),
+    ("opened(windows.ruled(window))", "opened([])"),
+    ("opened(windows.ruled_of(windows.common))", "opened([])"),
     ("        return name, own.left_out", "        return name, 0"),
     ("self.of([*facts, *rulings])", "self.of([*facts])"),
     (", *(self.of_facts(name, rulings) for name in windows.facts))", ")"),

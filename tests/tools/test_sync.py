@@ -1635,7 +1635,7 @@ WRONG = [
 WRONG_OF_FOLDERS = [
     ("piece.item(item.part, \"some\")", "piece.item(item.part, \"facts\")", lambda folders: test_a_window_larger_than_a_file_may_be(folders, "--pull", ())),
     ("piece, done = Piece(store, head), 0", "piece, done = Piece(store, head), max(done, 1)", lambda folders: test_a_window_larger_than_a_file_may_be(folders, "--push", ())),
-    ("\"ruled\" not in value", "True", test_metrics_of_folders),
+    ("len(digests & ruled[key]) != 1", "1", test_metrics_of_folders),
     ("windows = nearest((part for part in parts if part != cadf_site.SHARED), now())", "windows = [part for part in parts if part != cadf_site.SHARED]",
      lambda folders: test_two_files_stop_no_exchange(folders, ("south/", "north/"))),
     ("            if self.unit is not None:\n                self.check_labels(items, inputs)\n", "", test_facts_of_another_window_than_they_say),

@@ -1,0 +1,213 @@
+"""What a stranger sends costs later calls of the tools no more than its bytes: counted in programs started, and in bytes that these read and write.
+
+Nothing is timed. Each call is made over a folder of honest facts, and again over one to which a stranger has sent something.
+"""
+import hashlib
+import json
+import os
+import re
+import resource
+import shlex
+import shutil
+import subprocess
+import sys
+
+import pytest
+
+from tests import TOP
+from tests.machine import ended
+from tests.reference.events import document
+from tests.reference.replica_files import file_of
+from tests.tools.copies import copied
+from tests.tools.test_sync import TRIED
+
+DAYS, EVENTS = 6, 20  # windows of the honest site, and events of each
+SHARE = 4  # what a byte of a stranger's may cost, beside an honest one
+STARTS = 12  # programs that a call may start more
+EVENT = {"eventType": "activity", "action": "read", "outcome": "success", "initiatorId": "u1", "targetId": "t1", "observerId": "s1"}
+# Notes of each call its command, the bytes of the files that it is given, and what it writes.
+COUNTING = """#!/bin/sh
+size=0
+for each; do case $each in /dev/fd/*) size=$((size + $(stat -L -c %%s "$each"))) ;; esac; done
+out=$(mktemp %s/out.XXXXXX)
+%s "$@" >$out
+status=$?
+echo "$1 $size $(stat -c %%s $out)" >>%s/count
+cat $out
+rm $out
+exit $status
+"""
+
+
+def honest(day, number, **more):
+    return dict(EVENT, id="e%d.%d" % (day, number), eventTime="2024-03-%02dT12:%02d:00Z" % (day, number), requestPath="/v3/" + "p" * 200, **more)
+
+
+def facts(*events):
+    return document({"id": "g", "events": list(events)})[1]
+
+
+def shared_step(size):
+    """An event of whose chains each has one step that is large: of n bytes some n * n / 200 are shown."""
+    chains = [[{"reporterId": "%06d" % number, "role": "relay"}] for number in range(size // 2 // 90)]
+    [body] = facts(honest(1, 0, tags=[]))
+    step = json.dumps({"reporterId": "s", "role": "observer", "x": "y" * (size // 2)}, separators=(",", ":"))
+    body = (body[0], "long", body[2])
+    return {body, *((*body, "C", step, json.dumps(each, separators=(",", ":"))) for chain in chains for each in chain)}
+
+
+def rulings(count):
+    """Rulings of keys that nobody has."""
+    return {("U", "E", "k%07d" % number, hashlib.sha256(b"%d" % number).hexdigest()) for number in range(count)}
+
+
+ATTACKS = {"chains that share a large step": lambda: shared_step(120000), "rulings of no key": lambda: rulings(2000),
+           "events of a day": lambda: facts(*(dict(honest(2, 0), id="x%d" % number) for number in range(100)))}
+
+
+class Place:
+    """A folder with the tools, a site that is a folder, and a command that counts."""
+
+    def __init__(self, path, cadf, tools):
+        self.path, self.tools, self.cadf = path, tools, cadf
+        self.put("honest.cadf", facts(*(honest(day, number) for day in range(1, DAYS + 1) for number in range(EVENTS))))
+        self.put("more.cadf", facts(dict(honest(3, 0), id="more")))
+        self.run("cadf-take", "--by=day", "site/", "honest.cadf")
+        self.run("cadf-take", "--by=day", "other/", "honest.cadf", "more.cadf")
+
+    def put(self, name, atoms):
+        (self.path / name).write_bytes(file_of("g", atoms))
+
+    def run(self, tool, *words, cadf=None, **options):
+        found = ended(sys.executable, [os.path.join(self.tools, tool), *words], env=dict(os.environ, CADF=cadf or self.cadf), cwd=self.path, **options)
+        assert found.status in (0, 5), found
+        return found
+
+    def counted(self, tool, *words):
+        """How many programs a call starts, and how many bytes these read and write."""
+        counting = self.path / "counting"
+        counting.write_text(COUNTING % (self.path, shlex.quote(self.cadf), self.path))
+        counting.chmod(0o755)
+        (self.path / "count").write_text("")
+        self.run(tool, *words, cadf=str(counting))
+        calls = [line.split() for line in (self.path / "count").read_text().splitlines()]
+        return len(calls), sum(int(read) + int(written) for _, read, written in calls)
+
+
+# Each of the calls, over the folder `site/`; what they change is a copy.
+CALLS = {
+    "events": ("cadf-events", "site/"), "events of a day": ("cadf-events", "--from=2024-03-02", "--until=2024-03-03", "site/"), "seal": ("cadf-seal", "site/"),
+    "conflicts": ("cadf-conflicts", "site/"), "report": ("cadf-report", "site/"), "agree": ("cadf-agree", "site/", "other/"),
+    "sync": ("cadf-sync", "--conflicts", "site/", "other/"), "take": ("cadf-take", "site/", "more.cadf")}
+
+
+@pytest.fixture(scope="module")
+def tools(tmp_path_factory):
+    """The tools, whose commands may note their calls."""
+    return copied(str(tmp_path_factory.mktemp("tools")), *TRIED[2:])
+
+
+def costs(path, cadf, tools, attack=None, names=tuple(CALLS)):
+    """What calls cost after an attack, by their names; and the bytes of the site, and of the attack."""
+    place = Place(path, cadf, tools)
+    size = sum(each.stat().st_size for each in (path / "site").iterdir())
+    if attack:
+        place.put("sent.cadf", ATTACKS[attack]())
+        for site in "site/", "other/":
+            place.run("cadf-take", site, "sent.cadf")
+    found = {}
+    for name in names:
+        shutil.copytree(path / "site", path / "kept")
+        shutil.copytree(path / "other", path / "kept-other")
+        found[name] = place.counted(*CALLS[name])
+        for each in "site", "other":
+            shutil.rmtree(path / each)
+        (path / "kept").rename(path / "site")
+        (path / "kept-other").rename(path / "other")
+    return found, size, (path / "sent.cadf").stat().st_size if attack else 0
+
+
+@pytest.fixture(scope="module")
+def before(tmp_path_factory, cadf, tools):
+    """What the calls cost without any attack."""
+    return costs(tmp_path_factory.mktemp("before"), cadf, tools)[0]
+
+
+def check_costs(path, cadf, tools, attack, before, names=tuple(CALLS)):
+    after, size, sent = costs(path, cadf, tools, attack, names)
+    shares = {name: sent / (size / DAYS if name == "events of a day" else size) for name in names}  # of the bytes that the call reads
+    dear = {name: (before[name], found) for name, found in after.items()
+            if found[0] > before[name][0] + STARTS or found[1] > before[name][1] * (1 + SHARE * shares[name]) + 2 ** 16}
+    assert dear == {}, "honest %d bytes, sent %d" % (size, sent)
+
+
+@pytest.mark.xdist_group("costs")
+@pytest.mark.parametrize("attack", ATTACKS)
+def test_what_a_stranger_sends_costs_its_bytes(tmp_path, cadf, tools, before, attack):
+    check_costs(tmp_path, cadf, tools, attack, before)
+
+
+@pytest.mark.xdist_group("costs")
+@pytest.mark.parametrize("attack, right, wrong", [
+    ("chains that share a large step", "return {key: each for key, each in found.items() if each[0] > most}", "return {}"),
+    ("rulings of no key", "opened(windows.ruled(window))", "opened(windows.rulings)")])
+def test_tools_that_cost_more_are_caught(tmp_path, cadf, before, attack, right, wrong):
+    wrongs = copied(str(tmp_path / "copy"), right, wrong, *TRIED[2:])
+    (tmp_path / "place").mkdir()
+    with pytest.raises(AssertionError):
+        check_costs(tmp_path / "place", cadf, wrongs, attack, before, ("events",))
+
+
+# ---- An event whose texts are long
+
+SAID = r'(?m)^cadf-[a-z]+: left out the event "long", whose texts have \d+ bytes: give more by --largest, or have `cadf show` write it$'
+
+
+@pytest.mark.parametrize("is_folder", [True, False])
+@pytest.mark.parametrize("tool", ["cadf-events", "cadf-report"])
+def test_an_event_whose_texts_are_long_is_left_out(tmp_path, cadf, tools, tool, is_folder):
+    """It is named, all others are there, the status is 5, and memory is that of the bytes: 200 KB of the event would be 170 MB of text."""
+    place = Place(tmp_path, cadf, tools)
+    place.put("sent.cadf", shared_step(200000))
+    place.run("cadf-take", "site/", "sent.cadf")
+    subprocess.run([cadf, "join", "honest.cadf", "sent.cadf"], cwd=tmp_path, stdout=open(tmp_path / "file.cadf", "wb"), check=True)
+    limits = {"preexec_fn": lambda: resource.setrlimit(resource.RLIMIT_AS, (2 ** 29, 2 ** 29))}
+    found = place.run(tool, "site/" if is_folder else "file.cadf", **limits)
+    assert found.status == 5 and len(re.findall(SAID, found.error.decode())) == 1, found
+    if tool == "cadf-events":
+        assert len(found.output.splitlines()) == DAYS * EVENTS and b'"id":"long"' not in found.output
+        none = place.run(tool, "--from=2024-03-05", "site/" if is_folder else "file.cadf", **limits)
+        assert none.status == 0 and none.error == b""  # it is of no event of the range
+    else:
+        assert b"Left out: 1 events whose texts are long." in found.output and b'"long"' not in found.output
+
+
+@pytest.mark.parametrize("kind", ["replica", "document", "several files"])
+def test_largest(tmp_path, cadf, tools, kind):
+    """Of each kind of file an event is left out just if its texts have more bytes, and facts that two files have count once."""
+    place = Place(tmp_path, cadf, tools)
+    event = dict(honest(1, 0), id="long", tags=["t%05d" % number for number in range(3000)])
+    (tmp_path / "long.json").write_text(json.dumps({"id": "g", "events": [event, honest(1, 1)]}))
+    [body] = [atom[2] for atom in facts(event) if len(atom) == 3]
+    size = len(body) + 1 + 3000 * len("t00000,")
+    names = ["long.json"]
+    if kind == "replica":
+        (tmp_path / "long.cadf").write_bytes(subprocess.run([cadf, "join", "long.json"], cwd=tmp_path, stdout=subprocess.PIPE, check=True).stdout)
+        names = ["long.cadf"]
+    elif kind == "several files":
+        place.put("one.cadf", facts(dict(event, tags=event["tags"][:2000])))
+        place.put("two.cadf", facts(dict(event, tags=event["tags"][1000:]), honest(1, 1)))
+        for name in "one.cadf", "two.cadf":
+            place.run("cadf-take", "--by=day", "long/", name)
+        names = ["long/"]
+    for most, status in (size, 0), (size - 1, 5):
+        found = place.run("cadf-events", "--largest=%d" % most, *names)
+        assert (found.status, len(found.output.splitlines())) == (status, 2 if status == 0 else 1), (found, most)
+
+
+def test_all_events_of_a_file_are_long(tmp_path, cadf, tools):
+    """What is left is the file of the other facts."""
+    place = Place(tmp_path, cadf, tools)
+    place.put("long.cadf", shared_step(20000) | document({"id": "g", "events": [], "name": "x"})[1])
+    found = place.run("cadf-events", "--largest=20000", "long.cadf")
+    assert (found.status, found.output) == (5, b"")
