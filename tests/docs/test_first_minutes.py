@@ -17,6 +17,9 @@ SAID = {"second": "The command that runs is tests/reference/cadf, the second imp
         "installed": r"The command that runs is .*/cadf, cadf 9\.9\."}
 
 
+LONG = r"(?:about a minute|some \d+ minutes)"
+
+
 def part(heading):
     """A part of README by its heading."""
     return re.split(r"(?m)^## ", text_of("README.md").split("\n## %s\n" % heading)[1])[0]
@@ -110,7 +113,7 @@ def program(monkeypatch):
 def test_steps_that_are_named():
     status, text = said(os.path.join(TOP, "test"), "--no-build", "rows", "vectors")
     lines = text.splitlines()
-    assert status == 0 and re.fullmatch(r"test: what needs no build: a part of some \d+ minutes?", lines[0]), text
+    assert status == 0 and re.fullmatch(r"test: what needs no build: a part of %s" % LONG, lines[0]), text
     assert {line.split()[0] for line in lines if re.search(r"\d s  passed: ", line)} == {"rows", "vectors"}
     assert lines[-2:] == ["2 passed, 0 failed, 0 skipped", "test: not tried: what needs a build: --no-build was given"]
     assert said(os.path.join(TOP, "test"), "nothing")[0] == 2
@@ -145,14 +148,14 @@ def test_progress_of_pytest(program):
     ([], True, ["what needs no build"], "the command itself: crates/cadf/out/cadf isn't there, nor is rt, of the Rattle kit, which builds it"),
     (["rt"], True, ["what needs no build", "the command before any proof, by the kit"],
      "the built command: crates/cadf/out/cadf isn't there; build/command makes it, in half an hour on 4 idle processors"),
-    (["crates/cadf/out/cadf"], True, ["what needs no build", "the built command"], None),
+    (["crates/cadf/out/cadf", "crates.txt"], True, ["what needs no build", "the built command, of other sources (nothing says what crates/cadf/out/cadf was built of)"], None),
     (["crates/cadf/out/cadf", "rt"], False, ["what needs no build"], "what needs a build: --no-build was given"),
 ])
 def test_parts(program, monkeypatch, tmp_path, there, with_build, titles, wanted):
     """What can be tried is, and what can't is told with the reason."""
     for name in there:
         (tmp_path / name).parent.mkdir(parents=True, exist_ok=True)
-        (tmp_path / name).write_text("")
+        (tmp_path / name).write_text("cadf:\n" * (name == "crates.txt"))
         (tmp_path / name).chmod(0o755)
     monkeypatch.setattr(program, "TOP", str(tmp_path))
     monkeypatch.setenv("PATH", str(tmp_path))
@@ -164,5 +167,5 @@ def test_output_of_test(program, monkeypatch, tmp_path):
     first, beat, *_, counts, last = blocks("See it, test it")[1].splitlines()
     monkeypatch.setattr(program, "TOP", str(tmp_path))
     monkeypatch.setenv("PATH", str(tmp_path))
-    assert re.fullmatch(r"test: %s: some \d+ minutes?" % program.NO_BUILD[0], first) and re.fullmatch(r" +\d s  (\w+) \d+ %", beat).group(1) in program.NO_BUILD[2]
+    assert re.fullmatch(r"test: %s: %s" % (program.NO_BUILD[0], LONG), first) and re.fullmatch(r" +\d s  (\w+) \d+ %", beat).group(1) in program.NO_BUILD[2]
     assert re.fullmatch(r"\d+ passed, 0 failed, 0 skipped", counts) and last == "test: not tried: " + program.left_out(True)
