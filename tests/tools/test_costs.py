@@ -14,7 +14,6 @@ import sys
 
 import pytest
 
-from tests import TOP
 from tests.machine import ended
 from tests.reference.events import document
 from tests.reference.replica_files import file_of
