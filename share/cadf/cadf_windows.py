@@ -381,11 +381,18 @@ def too_long(left_out, most):
 
 
 def first_fact(item):
-    """The first fact of a replica file of format 2, as texts; None if it has none, or is no such file."""
+    """The first fact of a replica file of format 2 that is not above the one after it, as texts; None if it has none, or is no such file.
+
+    Of pieces that are handed out these rise, though several may begin with one event's body.
+    """
+    found = None
     with open("/dev/fd/%d" % item.file.fileno(), "rb") as lines, contextlib.suppress(TypeError, *UNREADABLE):
         lines.seek(item.begin)
-        return next(atoms(itertools.takewhile(lambda line: not line.startswith(b"Z"), lines)), None)
-    return None
+        for fact in atoms(itertools.takewhile(lambda line: not line.startswith(b"Z"), lines)):
+            if found is not None and fact[:len(found)] != found:
+                break
+            found = fact
+    return found
 
 
 class Held:

@@ -472,6 +472,19 @@ def test_a_far_side_without_an_end(sites, mode, data, words, part):
     assert answer.status in (1, 3) and part in said(answer), answer
 
 
+def test_a_small_limit_is_refused(sites):
+    """One below 2^20 bytes of a message, of a peer's or of this end's own."""
+    sites.put("here.cadf", facts(1))
+    sites.tools = TOOLS
+    answer = sites.lied_to(first(limit=2 ** 20 - 1))
+    assert (answer.status, said(answer)) == (1, "cadf-sync: no limit from 1048576 to 1073741824 in the first line\n")
+    answer = sites.served(hello(limit=2 ** 20 - 1))
+    assert answer.status == 1 and b"no limit from 1048576 to 1073741824 in the first line" in answer.output
+    for word in "--limit", "--facts":
+        answer = sites.sync("%s=%d" % (word, 2 ** 20 - 1), "here.cadf", "there.cadf")
+        assert answer.status == 2 and "not a whole number from 1048576 to 1073741824" in said(answer)
+
+
 def test_limits_of_the_far_end(sites):
     """What the caller allows holds there too, unless a key fixes the command there."""
     sites.put("here.cadf", facts(1))
@@ -1371,6 +1384,20 @@ def test_each_piece_costs_one_short_request(sites, here):
     assert calls.count("missing-by") == bool(here) and calls.count("inventory") <= 3, calls
 
 
+@pytest.mark.parametrize("way", ["--pull", "--push"])
+def test_an_event_of_many_pieces(sites, way):
+    """Each piece begins with the event's body, and the chains above its first fact, and gets on all the same."""
+    steps = [{"reporterId": "r%d" % number, "role": "relay"} for number in range(4)]
+    event = dict(EVENT, id="e1", eventTime="2024-03-01T12:00:00Z", tags=["%07d" % number for number in range(900)],
+                 reporterchains=[steps[:2], steps[:3], steps, *([steps[0], {"reporterId": "s%03d" % number, "role": "relay"}] for number in range(200))])
+    union = document({"id": "g", "events": [event]})[1]
+    names = ("new.cadf", "full.cadf") if way == "--pull" else ("full.cadf", "new.cadf")
+    sites.put("full.cadf", union)
+    has_shell(sites, sites.tools, "--limit=%d" % PIECE_BYTES, names[1])
+    assert sites.sync("--quiet", way, "--limit=%d" % PIECE_BYTES, "--rsh=./shell", names[0], "h:" + names[1]) == (0, b"", b"")
+    assert sites.holds("new.cadf") == union
+
+
 def test_pieces_of_a_window_whose_inventory_is_longer_than_a_message(sites):
     """A site that has nothing of a window gets it, whatever both ends allow of a message."""
     union = facts(*range(1, 60))
@@ -1626,6 +1653,7 @@ WRONG = [
      lambda sites: test_more_of_what_is_not_handed_out(sites, (), b"shared")),
     ("            return self.handed_out(each.part)\n        self.rest = iter(())\n", "            return self.handed_out(each.part)\n",
      lambda sites: test_more_of_what_is_not_handed_out(sites, ((b"2024-03-02", b"tell", b"3"),), b"2024-03-02")),
+    (" and fact[:len(found)] != found:", ":", lambda sites: test_an_event_of_many_pieces(sites, "--pull")),
     (" or before and fact <= before[0]:", ":", lambda sites: test_a_far_side_that_lies(sites, "a piece again and again")),
     ("            if before and before[1] + answer.length < least:\n", "            if False:\n", lambda sites: test_a_far_side_that_lies(sites, "pieces without an end")),
     (" or not self.hands_out)", ")", lambda sites: test_a_far_side_that_lies(sites, "more to come, and no way to ask for it")),
