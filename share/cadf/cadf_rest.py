@@ -10,7 +10,7 @@ import subprocess
 import cadf_site
 from cadf_link import Store
 from cadf_times import chosen
-from cadf_toolkit import LARGEST, REFUSED, USAGE, Fault, another_program, cadf, grouped, name_shown, new_file, opened, say, sync
+from cadf_toolkit import LARGEST, REFUSED, USAGE, Fault, another_program, cadf, grouped, name_shown, naming_temporary, new_file, opened, say, sync
 
 AT_ONCE = 200  # files that are joined at once
 COUNTED = re.compile(rb" atoms (\d+) conflicts \d+\n$")  # what cadf says of a file that it checks
@@ -26,7 +26,7 @@ class Parts:
 
     def put(self, part, parts):
         """Copies the next part of a split file."""
-        with open(self.store.begin(), "wb", closefd=False) as output:
+        with naming_temporary(), open(self.store.begin(), "wb", closefd=False) as output:
             parts.copy(output)
         self.items.setdefault(part, []).append(self.store.item(part, "facts"))
 
@@ -70,8 +70,9 @@ class Rest:
                     self.write(name, parts, inputs)
             yield
         except BaseException:
-            for name, *_ in self.left:
-                os.unlink(name)
+            for name in self.names:
+                with contextlib.suppress(FileNotFoundError):
+                    os.unlink(name)
             raise
 
     def parts_of_senders(self, taking, inputs):
@@ -97,10 +98,7 @@ class Rest:
             if os.fstat(file).st_size > LARGEST:
                 raise Fault("%s: the files leave more than 2^30 bytes: give fewer" % name_shown(name), REFUSED)
             os.fsync(file)
-            try:
-                os.link(name + ".new", name)  # which replaces nothing
-            except FileExistsError:
-                raise Fault("%s: %s" % (name_shown(name), THERE), USAGE) from None
+            os.rename(name + ".new", name)
         with opened([name]) as found:
             counted = COUNTED.search(cadf(["check"], found, subprocess.PIPE))
         if not counted:
@@ -121,14 +119,14 @@ def digest_of(item):
     return os.pread(item.file.fileno(), 64, item.begin + item.length - 65).decode()
 
 
-def join(items, output, where):
-    """Writes the union of replica files to an open file, of which `where` is the name."""
+def join(items, output, where=None):
+    """Writes the union of replica files to an open file, of which `where` is the name if it isn't a temporary one."""
     store = Store()
     while len(items) > AT_ONCE:
         groups = [items[at:at + AT_ONCE] for at in range(0, len(items), AT_ONCE)]
         items = []
         for group in groups:
-            join(group, store.begin(), where)
+            join(group, store.begin())
             items.append(store.item("what is left", "facts"))
     with contextlib.ExitStack() as files:
         cadf(["join"], [files.enter_context(each.opened(each.part)) for each in items], output, where=where)

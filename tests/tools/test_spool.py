@@ -627,7 +627,7 @@ def test_long_paths(spools):
     """A line whose numbers have long paths, which take 5 GB if each is kept."""
     deep = json.dumps({"x" * 300000: [1.5] * 50000}).encode()
     done = spools.takes(spools.site(**{"a.json": document("e1"), "deep.jsonl": deep}), "--memory", str(2 ** 29))
-    assert done.status == 1 and b"set aside" in done.error and b"waiting 0" in done.error
+    assert done.status == 0 and b"set aside in part" in done.error and b"taken 2, set aside 1, waiting 0" in done.error
 
 
 def test_confined(spools):
@@ -834,6 +834,19 @@ def test_sender_that_writes_on(shared):
     assert (done.status, sender.wait(), last_line(done)) == (0, 0, counted(2, 1))
     assert content(shared.own) == shared.joined(document("e0", "e1", "e2"))
     assert held(shared.spool)["taken/a.jsonl"] == message("e1") + b"no event\n" and content(os.path.join(place, "seen")) == b""
+
+
+@others.needed
+def test_owners_take_turns(spools):
+    """Who sends many files, whose names sort first, goes before nobody."""
+    names = ["a1", "a2", "a3", "z1", "z2"]
+    folder, program = spools.site(**{name: message(name) for name in names}), spools.program()
+    for name in names:
+        os.chown(os.path.join(folder, "spool", name), others.SENDER if name.startswith("a") else others.CALLER, -1)
+    spool = program.Spool(os.path.join(folder, "spool"))
+    for name in names:
+        spool.claim(name)
+    assert spool.claimed() == ["a1", "z1", "a2", "z2", "a3"]
 
 
 @others.needed
