@@ -1,0 +1,250 @@
+"""The index beside the windows of a site that is a folder: which keys of which windows may answer a question.
+
+It is an SQLite file that is made of the windows alone, so it may be removed at any time, and a call without it gives the same answer.
+Of each body of an event it has a row: the window, 16 bytes of the digest of its key, its instant, and what a pattern may match of
+it, by numbers of texts. No instant and the number 0 stand for what isn't known: such a row may answer any question. So who looks in
+the files for what the index names lacks nothing, and what is shown is what the files have.
+
+cadf_index_file has where it is, and whether it is trusted.
+"""
+import collections
+import contextlib
+import hashlib
+import json
+import sqlite3
+
+from cadf_keys import contents, keys_in, spelled
+from cadf_logs import UNREADABLE, instant, utc
+from cadf_question import LENGTHS, traits
+from cadf_site import CHANGED, SHARED, TRIES, opened_parts
+from cadf_times import SECOND
+from cadf_toolkit import Progress
+
+APPLICATION, VERSION = int.from_bytes(b"CADF", "big"), 1
+COLUMNS = ("initiator", "target", "others")  # of bodies, with numbers of texts
+SCHEMA = [
+    "CREATE TABLE windows (id INTEGER PRIMARY KEY, name TEXT NOT NULL UNIQUE, files BLOB NOT NULL)",
+    "CREATE TABLE texts (id INTEGER PRIMARY KEY, hash INTEGER NOT NULL, text TEXT NOT NULL)",
+    "CREATE INDEX texts_by_hash ON texts (hash)",
+    "CREATE TABLE several (key BLOB PRIMARY KEY) WITHOUT ROWID",
+    "CREATE TABLE bodies (window INTEGER NOT NULL, key BLOB NOT NULL, second INTEGER, nanosecond INTEGER NOT NULL,"
+    " initiator INTEGER NOT NULL, target INTEGER NOT NULL, others INTEGER NOT NULL)",
+    "CREATE INDEX bodies_by_window ON bodies (window)",
+    "CREATE INDEX bodies_by_key ON bodies (key, window)",
+    *("CREATE INDEX bodies_by_%s ON bodies (%s, window)" % (column, column) for column in COLUMNS)]
+PRAGMAS = ("trusted_schema = off", "secure_delete = on", "temp_store = memory", "cell_size_check = on", "cache_size = -16384")
+HAS_SEVERAL = "key IN several"  # its key has several bodies
+IS_COUNTED = "(second IS NOT NULL AND initiator AND target AND others AND key NOT IN several)"  # all is known of it
+IS_ODD = "NOT " + IS_COUNTED
+KEY_BYTES, LONGEST_TEXT, LARGEST_BODY = 16, 2 ** 12, 2 ** 24
+ROWS_AT_ONCE, PATTERNS_AT_ONCE = 2 ** 14, 64
+MALFORMED = (*UNREADABLE, AttributeError, KeyError, TypeError)
+
+
+class Untrusted(Exception):
+    """Why an index isn't used; no words if another one is, as a matter of course."""
+
+
+def key_of(identifier):
+    """What stands for a key of an event, by its JSON text in bytes."""
+    return hashlib.sha256(b'["E",%s]' % identifier).digest()[:KEY_BYTES]
+
+
+def files_of(digests):
+    """What stands for the files of a window."""
+    return hashlib.sha256(" ".join(sorted(digests)).encode()).digest()
+
+
+# ---- What a window has
+
+def bodies_in(files):
+    """The bodies of each key in files of a window, as lines, by the key's JSON text; and of each body the lines of its steps."""
+    found = {}
+    for data in files:
+        for key, lines in keys_in(data):
+            own, steps, is_chain = found.setdefault(key, {}), set(), False
+            for line in lines.split(b"\n"):
+                if line.startswith(b"[3,"):
+                    steps, is_chain = own.setdefault(line, set()), False
+                elif line.startswith(b"[4,"):
+                    is_chain = line == b'[4,0,"C"]'
+                elif is_chain and line:
+                    steps.add(line)
+    return found
+
+
+def value_in(line):
+    """The value whose canonical text a node's line has."""
+    return json.loads(json.loads(line)[2])
+
+
+def row_of(body, steps):
+    """The second, nanosecond and texts of a body that can be read; None and no texts of any other."""
+    with contextlib.suppress(MALFORMED):
+        if sum(map(len, (body, *steps))) <= LARGEST_BODY:
+            event = value_in(body)
+            found = traits(event, map(value_in, steps))
+            texts = [json.dumps(each, ensure_ascii=False) for each in (found.pop("initiator"), found.pop("target"), found)]
+            "".join(texts).encode()
+            return (*divmod(instant(event["eventTime"]), SECOND), *texts)
+    return None, 0, None, None, None
+
+
+# ---- The index
+
+class EventIndex:
+    """An index that is open. What isn't as it has to be raises a fault of SQLite's, Untrusted, or one of MALFORMED."""
+
+    def __init__(self, connection):
+        self.connection, self.run, self.numbers = connection, connection.execute, {}
+        for each in PRAGMAS:
+            self.run("PRAGMA " + each)
+        if not self.schema():
+            with self.changing():
+                if not self.schema():  # no other call has made it meanwhile
+                    for each in (*SCHEMA, "PRAGMA application_id = %d" % APPLICATION, "PRAGMA user_version = %d" % VERSION):
+                        self.run(each)
+        numbers = [self.run("PRAGMA " + each).fetchone()[0] for each in ("application_id", "user_version")]
+        if self.schema() != sorted(SCHEMA) or numbers != [APPLICATION, VERSION]:
+            raise Untrusted("it is no index of this version")
+
+    def schema(self):
+        return sorted(str(each) for each, in self.run("SELECT sql FROM sqlite_master WHERE sql IS NOT NULL"))
+
+    @contextlib.contextmanager
+    def changing(self, begin="BEGIN IMMEDIATE"):
+        """A change, of which all is kept or nothing; or what is read at one moment."""
+        self.run(begin)
+        try:
+            yield
+            self.run("COMMIT")
+        except BaseException:
+            with contextlib.suppress(sqlite3.Error):
+                self.run("ROLLBACK")
+            raise
+
+    # What it is made of
+
+    @contextlib.contextmanager
+    def renewed(self, folder):
+        """Has it be the index of the folder's `site` as it is now, of which it yields what that says. All in the context is read at one moment."""
+        with Progress("the index") as progress:
+            for _ in range(TRIES):
+                site = folder.site()
+                wanted = {part: files_of(files) for part, files in site.parts().items() if part != SHARED}
+                with self.changing("BEGIN"):
+                    kept = dict(self.run("SELECT name, files FROM windows"))
+                    stale = [part for part in sorted({*wanted, *kept}) if wanted.get(part) != kept.get(part)]
+                    if not stale:
+                        yield site
+                        return
+                while stale:
+                    progress.count(len(stale), "windows to read")
+                    with self.changing():
+                        self.put_some(folder, stale)
+        raise Untrusted(CHANGED % folder.shown())
+
+    def put_some(self, folder, stale):
+        """Puts rows of the last ones of these windows in the place of those that they have, and takes the windows off the list."""
+        self.numbers, count = {}, 0  # another call may have removed texts
+        self.run("CREATE TEMP TABLE touched (key BLOB PRIMARY KEY) WITHOUT ROWID")
+        self.run("CREATE TEMP TABLE freed (id INTEGER PRIMARY KEY)")
+        while stale and count < ROWS_AT_ONCE:
+            part = stale.pop()
+            self.remove(part)
+            with opened_parts(folder, [part]) as (_, inputs):
+                count += self.put(part, {digest: each for (_, digest), each in inputs.items()})
+        self.run("DELETE FROM several WHERE key IN touched")
+        self.run("INSERT INTO several SELECT key FROM bodies WHERE key IN touched GROUP BY key HAVING count(*) > 1")
+        self.run("DELETE FROM texts WHERE id IN freed" + "".join(
+            " AND NOT EXISTS (SELECT 1 FROM bodies WHERE %s = texts.id)" % column for column in COLUMNS))
+        for name in ("touched", "freed"):
+            self.run("DROP TABLE temp." + name)
+
+    def remove(self, part):
+        for number, in self.run("SELECT id FROM windows WHERE name = ?", (part,)).fetchall():
+            self.run("INSERT OR IGNORE INTO touched SELECT key FROM bodies WHERE window = ?", (number,))
+            for column in COLUMNS:
+                self.run("INSERT OR IGNORE INTO freed SELECT %s FROM bodies WHERE window = ?" % column, (number,))
+            self.run("DELETE FROM bodies WHERE window = ?", (number,))
+            self.run("DELETE FROM windows WHERE id = ?", (number,))
+
+    def put(self, part, inputs):
+        """Puts the rows of a window's files, by digest, if there are any. Returns how many."""
+        rows = []
+        if inputs:
+            number = self.run("INSERT INTO windows (name, files) VALUES (?, ?)", (part, files_of(inputs))).lastrowid
+            for key, bodies in bodies_in(contents(*each) for each in inputs.items()).items():
+                for body, steps in (bodies or {b"": ()}).items():
+                    second, nanosecond, *texts = row_of(body, steps)
+                    rows.append((number, key_of(key), second, nanosecond, *map(self.number_of, texts)))
+        self.connection.executemany("INSERT INTO bodies VALUES (?, ?, ?, ?, ?, ?, ?)", rows)
+        self.connection.executemany("INSERT OR IGNORE INTO touched VALUES (?)", ((row[1],) for row in rows))
+        return len(rows)
+
+    def number_of(self, text):
+        """The number of a text, which it may get now; 0 of one that isn't kept."""
+        if text is None or len(text) > LONGEST_TEXT:
+            return 0
+        if text not in self.numbers:
+            words = int.from_bytes(hashlib.sha256(text.encode()).digest()[:8], "big", signed=True), text
+            found = self.run("SELECT id FROM texts WHERE hash = ? AND text = ?", words).fetchone()
+            self.numbers[text] = found[0] if found else self.run("INSERT INTO texts (hash, text) VALUES (?, ?)", words).lastrowid
+        return self.numbers[text]
+
+    # What it says of a question
+
+    def ask(self, question):
+        """Prepares what is asked. The identifiers of a question are left to who reads the files, unless all are whole."""
+        self.where, self.words = ["1"], []
+        for column in COLUMNS:
+            kinds = [kind for kind in question.patterns if (kind if kind in ("id", *COLUMNS) else "others") == column]
+            if kinds:
+                self.table(column, self.texts_of(column, question, kinds[0]))
+        if question.has_ids and "id" in question.patterns:
+            self.table("key", (key_of(spelled(each.parts[0])) for each in question.patterns["id"]))
+        for sign, at in ((">=", question.limits.first), ("<", question.limits.until)):
+            if at is not None:
+                self.where.append("coalesce((second, nanosecond) %s (?, ?), 1)" % sign)
+                self.words += divmod(at, SECOND)
+
+    def table(self, column, values):
+        """Has the rows be wanted whose column has one of these values."""
+        self.run("CREATE TEMP TABLE asked_%s (value PRIMARY KEY) WITHOUT ROWID" % column)
+        self.connection.executemany("INSERT OR IGNORE INTO asked_%s VALUES (?)" % column, ((each,) for each in values))
+        self.where.append("%s IN asked_%s" % (column, column))
+
+    def texts_of(self, column, question, kind):
+        """Yields the numbers of the texts of a column that may answer, and 0. Few have to be read of those that lack what a pattern has."""
+        yield 0
+        least = [pattern.longest() for pattern in question.patterns[kind]]
+        least = least if len(least) <= PATTERNS_AT_ONCE else [""]
+        for number, text in self.run("SELECT id, text FROM texts WHERE " + " OR ".join(["instr(text, ?)"] * len(least)), least).fetchall():
+            found = json.loads(text)
+            found = found if column == "others" else {column: found}
+            if isinstance(found, dict) and question.has_traits(found):
+                yield number
+
+    def keys(self, part, test="1"):
+        """The keys of a window that may answer, one after another, of which a test holds: one of those above."""
+        found = self.run("SELECT DISTINCT key FROM bodies WHERE window = (SELECT id FROM windows WHERE name = ?) AND %s AND %s" % (
+            " AND ".join(self.where), test), (part, *self.words))
+        return b"".join(key for key, in found)
+
+    def several(self):
+        """The keys that have several bodies, each with the windows that it is in."""
+        found = collections.defaultdict(set)
+        for key, part in self.run("SELECT key, name FROM bodies JOIN windows ON windows.id = window WHERE key IN several"):
+            found[key].add(part)
+        return dict(found)
+
+    def counts(self, by):
+        """How many events answer, of those that can be counted, by an hour or a day, or by what they have for a pattern of this kind first."""
+        column, counts = by if by in COLUMNS else "second / %d" % LENGTHS[by] if by in LENGTHS else "others", collections.Counter()
+        for number, count in self.run("SELECT %s, count(*) FROM bodies WHERE %s AND %s GROUP BY 1" % (column, " AND ".join(self.where), IS_COUNTED), self.words):
+            if by in LENGTHS:
+                counts[utc(number * LENGTHS[by] * SECOND)] = count
+            else:
+                found = json.loads(self.run("SELECT text FROM texts WHERE id = ?", (number,)).fetchone()[0])
+                counts[(found if by in COLUMNS else found[by])[0]] += count
+        return counts

@@ -1,0 +1,94 @@
+"""The file of the index of a site that is a folder: where it is, whether it is trusted, and what is made by it.
+
+It is `.index` in the folder, trusted as `site` is: it has the same owner or is the caller's, and nobody may do more with it. Who may
+not write there has one of their own in $XDG_CACHE_HOME, or else ~/.cache. Any other is passed over.
+"""
+import contextlib
+import hashlib
+import os
+import sqlite3
+import stat
+import urllib.parse
+
+from cadf_index import MALFORMED, EventIndex, Untrusted
+from cadf_site import INDEX
+from cadf_toolkit import name_shown, open_descriptor, say
+
+NAME, JOURNAL = ".index", ".index-journal"
+MADE = "an index is made there, since none can be written beside the site"
+PATIENCE = 5  # seconds that a call waits for another one that writes
+
+
+def check(found, owners, mode):
+    """Raises that a file is another's, or anything else than a file that has one name."""
+    if not stat.S_ISREG(found.st_mode) or found.st_nlink != 1:
+        raise Untrusted("it is no file, or has several names")
+    if found.st_uid not in owners or stat.S_IMODE(found.st_mode) & ~mode:
+        raise Untrusted("others could have written it: its owner or its mode isn't that of the site")
+
+
+@contextlib.contextmanager
+def connected(path, mode):
+    """The index of that path, opened to read and write (`rw`) or to read (`ro`)."""
+    with open(path, "rb", opener=lambda name, flags: os.open(name, flags | os.O_NOFOLLOW | os.O_NONBLOCK)) as file:
+        if file.read(100)[18:20] not in (b"", b"\1\1"):
+            raise Untrusted("it is no index, or has a log beside it")
+    uri = "file:%s?mode=%s" % (urllib.parse.quote(os.fsencode(os.path.abspath(path))), mode)
+    with contextlib.closing(sqlite3.connect(uri, uri=True, timeout=PATIENCE, isolation_level=None)) as connection:
+        yield EventIndex(connection)
+
+
+def may_write(folder, name):
+    return os.access(name, os.W_OK, dir_fd=folder.descriptor, effective_ids=True)
+
+
+def beside(folder):
+    """The path of the index in a folder, which is made if it can be, and how it can be opened."""
+    site = os.stat(INDEX, dir_fd=folder.descriptor, follow_symlinks=False)
+    is_ours = may_write(folder, ".")
+    with contextlib.suppress(FileExistsError):
+        if is_ours:
+            with open_descriptor(folder.open(NAME, os.O_WRONLY | os.O_CREAT | os.O_EXCL)) as file:
+                folder.give(file, stat.S_IMODE(site.st_mode))
+    for name in (NAME, JOURNAL):
+        try:
+            found = os.stat(name, dir_fd=folder.descriptor, follow_symlinks=False)
+        except FileNotFoundError:
+            if name == NAME:
+                raise Untrusted from None
+            continue
+        check(found, (site.st_uid, os.geteuid()), stat.S_IMODE(site.st_mode))
+    return folder.path(NAME), "rw" if is_ours and may_write(folder, NAME) else "ro"
+
+
+def cached(folder):
+    """The path of the caller's own index of a folder, which is made if it can be, and how it can be opened."""
+    base = os.environ.get("XDG_CACHE_HOME") or os.path.expanduser("~/.cache")
+    own = os.path.join(base, "cadf")
+    if not os.path.isabs(own):
+        raise Untrusted
+    os.makedirs(own, 0o700, exist_ok=True)
+    found = os.lstat(own)
+    if not stat.S_ISDIR(found.st_mode) or found.st_uid != os.geteuid() or found.st_mode & 0o022:
+        raise Untrusted("%s: others can write there" % name_shown(own))
+    path = os.path.join(own, hashlib.sha256(os.fsencode(os.path.realpath(folder.name))).hexdigest()[:32] + ".index")
+    with contextlib.suppress(FileExistsError):
+        os.close(os.open(path, os.O_WRONLY | os.O_CREAT | os.O_EXCL, 0o600))
+        say("%s: %s" % (name_shown(path), MADE))
+    check(os.lstat(path), (os.geteuid(),), 0o600)
+    return path, "rw"
+
+
+def planned(folder, make):
+    """What is made by an index of an open folder, and of what its `site` says at that moment. None: there is no index to be had."""
+    folder.site()
+    for place in (beside, cached):
+        path, mode = folder.path(NAME), "rw"
+        try:
+            path, mode = place(folder)
+            with connected(path, mode) as index, index.renewed(folder) as site:
+                return make(index, site)
+        except (sqlite3.Error, OSError, Untrusted, *MALFORMED) as fault:
+            if str(fault) and mode == "rw":
+                say("%s: %s: it is passed over" % (name_shown(path), fault))
+    return None

@@ -1,0 +1,301 @@
+"""The index beside a site's windows: what it says beside plain Python over the site's facts, and what a wrong one does."""
+import collections
+import os
+import random
+import shutil
+import sqlite3
+import subprocess
+import sys
+
+import pytest
+
+from tests import TOP
+from tests.reference.events import document
+from tests.reference.shown_texts import event_shown, parts_by_carrier
+from tests.reference.split_files import parts_of
+from tests.reference.times import time_of
+from tests.tools.asked import LOG, TRAITS, answers, event, facts, posed, question, traits
+from tests.tools.test_events import folder_of
+
+import cadf_index
+import cadf_index_file
+from cadf_keys import spelled
+from cadf_logs import instant, utc
+from cadf_site import Folder
+
+UNITS = ("month", "day", "hour")
+KEPT = [each for each in TRAITS if each != "id"]
+DAY = 86400 * 10 ** 9
+PASSED = "it is passed over"
+MAKE = """
+import sys
+sys.path.insert(0, sys.argv[1])
+import cadf_index_file, cadf_site
+cadf_index_file.PATIENCE = 0.1
+with cadf_site.Folder(sys.argv[2]) as folder:
+    print(cadf_index_file.planned(folder, lambda index, site: sorted(index.several())))
+"""
+
+
+@pytest.fixture(autouse=True)
+def cache(monkeypatch, tmp_path):
+    """No index of the caller's own is made elsewhere."""
+    monkeypatch.setenv("XDG_CACHE_HOME", str(tmp_path / "cache"))
+    return tmp_path / "cache" / "cadf"
+
+
+def planned(folder, make=lambda index, _: rows_of(index)):
+    with Folder(str(folder)) as site:
+        return cadf_index_file.planned(site, make)
+
+
+def rows_of(index):
+    """All that it has, without its numbers."""
+    texts = dict(index.run("SELECT id, text FROM texts"))
+    bodies = index.run("SELECT name, key, second, nanosecond, initiator, target, others FROM bodies JOIN windows ON windows.id = window").fetchall()
+    assert set(texts) == {number for row in bodies for number in row[4:]} - {0}
+    return sorted((*row[:4], *(texts.get(number) for number in row[4:])) for row in bodies), sorted(index.several().items())
+
+
+def bodies_of(atoms):
+    """Each body, as an event that a log would show."""
+    parts = parts_by_carrier(atoms)
+    return [event_shown(*atom[1:], parts) for atom in sorted(atoms) if atom[0] == "E" and len(atom) == 3]
+
+
+def key(each):
+    return cadf_index.key_of(spelled(each["id"]))
+
+
+# ---- What it says
+
+@pytest.mark.parametrize("seed", range(6))
+def test_keys_and_counts(tmp_path, seed):
+    """Of each question it names the keys of each window that have a body that answers, and counts those that have no other body."""
+    chance = random.Random(seed)
+    atoms, unit = facts(chance, 60), UNITS[seed % 3]
+    folder, every, windows = folder_of(tmp_path / "site", atoms, unit, chance), bodies_of(atoms), collections.defaultdict(list)
+    for part, own in parts_of(atoms, unit).items():
+        windows[part] = bodies_of(own) if part != "shared" else []
+    counts = collections.Counter(each["id"] for each in every)
+    for _ in range(40):
+        options = [(name, value) for name, value in question(chance, atoms) if name[2:] in (*KEPT, "since", "until")]
+
+        def check(index, site, options=options):
+            index.ask(posed(options))
+            for part, own in windows.items():
+                answering = {key(each) for each in own if answers(options, each)}
+                assert keys_in(index.keys(part)) == answering, (options, part)
+                assert keys_in(index.keys(part, cadf_index.IS_ODD)) == {key(each) for each in own if answers(options, each) and counts[each["id"]] > 1}
+                assert index.keys(part, cadf_index.IS_ODD) == index.keys(part, cadf_index.HAS_SEVERAL)
+            plain = [each for each in every if answers(options, each) and counts[each["id"]] == 1]
+            for by in ("action", "outcome", "type"):
+                assert index.counts(by) == collections.Counter(traits(each)[by].pop() for each in plain)
+            assert sum(index.counts("hour").values()) == sum(index.counts("initiator").values()) == len(plain)
+            assert index.counts("day") == collections.Counter(day_of(each) for each in plain)
+            return True
+
+        assert planned(folder, check)
+    several = {name: {part for part, own in windows.items() if name in [each["id"] for each in own]} for name, count in counts.items() if count > 1}
+    assert planned(folder, lambda index, _: index.several()) == {key({"id": name}): parts for name, parts in several.items()}
+
+
+def day_of(each):
+    """The day in which an event is, by its first instant."""
+    return utc(instant("1970-01-01") + time_of(each["eventTime"]).instant // DAY * DAY)
+
+
+def keys_in(joined):
+    assert len(joined) % 16 == 0
+    return {joined[place:place + 16] for place in range(0, len(joined), 16)}
+
+
+@pytest.mark.parametrize("identifiers", [["e1"], ["e1", "e2"], ["e1", "nobody"], ["e*"]])
+def test_identifiers(tmp_path, identifiers):
+    """Whole identifiers are looked up; patterns of them are left to who reads the files."""
+    atoms = facts(random.Random(1))
+    folder = folder_of(tmp_path / "site", atoms, "day", random.Random(1))
+
+    def check(index, site):
+        index.ask(posed([("--id", each) for each in identifiers]))
+        found = set().union(*(keys_in(index.keys(part)) for part in site.parts()))
+        assert found == {key(each) for each in bodies_of(atoms) if each["id"] in identifiers or identifiers == ["e*"]}
+        return True
+
+    assert planned(folder, check)
+
+
+def test_what_is_not_known_may_answer(tmp_path, monkeypatch):
+    """A body that is too large to be looked at, or has a text too long to be kept, may answer any question, and isn't counted."""
+    atoms = facts(random.Random(2))
+    for name, value in (("LARGEST_BODY", 100), ("LONGEST_TEXT", 30)):
+        monkeypatch.setattr(cadf_index, name, value)
+        folder = folder_of(tmp_path / name, atoms, "day", random.Random(2))
+
+        def check(index, site):
+            index.ask(posed([("--action", "read"), ("--since", "2024-03-01"), ("--initiator", "alice")]))
+            least = {key(each) for each in bodies_of(atoms) if answers([("--action", "read"), ("--since", "2024-03-01"), ("--initiator", "alice")], each)}
+            assert least <= set().union(*(keys_in(index.keys(part, cadf_index.IS_ODD)) for part in site.parts())) and not index.counts("action")
+            return True
+
+        assert planned(folder, check)
+
+
+# ---- How it is kept
+
+def change(folder, atoms):
+    """Has the folder be one of these facts."""
+    for each in folder.iterdir():
+        if not each.name.startswith("."):
+            each.unlink()
+    folder_of(folder.parent / "other", atoms, "day", random.Random(4))
+    shutil.copytree(folder.parent / "other", folder, dirs_exist_ok=True)
+    shutil.rmtree(folder.parent / "other")
+
+
+def test_only_changed_windows_are_read_again(tmp_path, monkeypatch):
+    """It becomes what a new one is, and reads the files of those windows that have others; nothing is left of what went."""
+    chance, read_files = random.Random(3), []
+    contents = cadf_index.contents
+    monkeypatch.setattr(cadf_index, "contents", lambda digest, each: read_files.append(digest) or contents(digest, each))
+    atoms = frozenset(facts(chance, 60))
+    folder = tmp_path / "site"
+    folder_of(folder, atoms, "day", random.Random(4))
+    for step in range(4):
+        planned(folder)
+        before, read_files[:] = windows_in(folder), []
+        part = chance.choice([name for name in parts_of(atoms, "day") if name != "shared"])
+        more = dict(event(chance, "new%d" % step), eventTime="2024-05-05T00:00:00Z")
+        atoms = (atoms - set(parts_of(atoms, "day")[part])) | document({"id": LOG, "events": [more]})[1]
+        change(folder, atoms)
+        now = windows_in(folder)
+        rows = planned(folder)
+        assert sorted(read_files) == sorted(digest for name, digests in now.items() if before.get(name) != digests for digest in digests)
+        shutil.copytree(folder, tmp_path / ("new%d" % step), ignore=lambda *_: [".index"])
+        assert rows == planned(tmp_path / ("new%d" % step))
+    read_files[:] = []
+    assert planned(folder) == rows and not read_files
+
+
+def windows_in(folder):
+    with Folder(str(folder)) as site:
+        return {part: digests for part, digests in site.site().parts().items() if part != "shared"}
+
+
+def test_nothing_is_left_of_a_person_who_went(tmp_path):
+    folder = tmp_path / "site"
+    person = document({"id": LOG, "events": [dict(event(random.Random(0), "e1"), initiatorId="Rosalind", eventTime="2024-03-01T00:00:00Z")]})[1]
+    folder_of(folder, person | facts(random.Random(5)), "day", random.Random(5))
+    planned(folder)
+    assert b"Rosalind" in (folder / ".index").read_bytes()
+    change(folder, facts(random.Random(5)))
+    planned(folder)
+    assert b"Rosalind" not in (folder / ".index").read_bytes() and not (folder / ".index-journal").exists()
+
+
+def test_a_quarter_of_the_bytes(tmp_path):
+    """Of events as OpenStack's services write them the index has at most a quarter of the bytes."""
+    chance = random.Random(6)
+
+    def name(count):
+        """One of so many identifiers."""
+        return "%032x" % random.Random(chance.randrange(count)).getrandbits(128)
+
+    events = [{"id": name(10 ** 9), "eventType": "activity", "eventTime": "2024-03-%02dT%02d:%02d:%02d.%06dZ" % (
+        1 + number // 1500, chance.randrange(24), chance.randrange(60), chance.randrange(60), chance.randrange(10 ** 6)),
+        "action": chance.choice(["read/list", "create", "authenticate", "update/add"]), "outcome": chance.choice(["success", "success", "failure"]),
+        "initiator": {"id": name(200), "name": "user%d" % chance.randrange(200), "typeURI": "service/security/account/user", "project_id": name(20),
+                      "host": {"address": "10.0.%d.%d" % (chance.randrange(9), chance.randrange(250)), "agent": "python-keystoneclient " + name(9)}},
+        "target": {"id": name(10 ** 9), "typeURI": "service/compute/servers", "name": "server-%d" % chance.randrange(10 ** 4)},
+        "observer": {"id": name(3), "name": "nova", "typeURI": "service/compute"}, "requestPath": "/v2.1/servers/" + name(10 ** 9),
+        "reason": {"reasonCode": "200", "reasonType": "HTTP"}, "tags": ["correlation_id?value=" + name(10 ** 9)],
+        "reporterchain": [{"role": "modifier", "reporterTime": "2024-03-31T00:00:00.%06dZ" % chance.randrange(10 ** 6), "reporterId": name(3)}]}
+        for number in range(4500)]
+    folder = tmp_path / "site"
+    folder_of(folder, document({"id": LOG, "events": events})[1], "day", random.Random(0))
+    planned(folder)
+    size = sum(each.stat().st_size for each in folder.iterdir() if each.name.endswith(".cadf"))
+    assert (folder / ".index").stat().st_size < size / 4
+
+
+# ---- Which one is trusted
+
+def plant(wrong, path):
+    """Has an index be wrong in one way."""
+    if wrong == "wider":
+        os.chmod(path, 0o666)
+    elif wrong == "link":
+        os.rename(path, str(path) + "ed")
+        os.symlink(os.path.basename(path) + "ed", path)
+    elif wrong == "names":
+        os.link(path, str(path) + "ed")
+    elif wrong == "fifo":
+        os.unlink(path)
+        os.mkfifo(path, 0o600)
+    elif wrong == "folder":
+        os.unlink(path)
+        os.mkdir(path, 0o700)
+    elif wrong == "journal":
+        os.symlink("site", str(path) + "-journal")
+    elif wrong == "owner":
+        os.chown(path, 65534, -1)
+    elif wrong == "text":
+        with open(path, "wb") as file:
+            file.write(b"\0" * 4096)
+    elif wrong == "cut":
+        os.truncate(path, os.path.getsize(path) // 2)
+    else:
+        with sqlite3.connect(path) as connection:
+            connection.execute(wrong)
+        connection.close()
+
+
+@pytest.mark.parametrize("wrong", ["wider", "link", "names", "fifo", "folder", "journal", "text", "cut", pytest.param("owner", marks=pytest.mark.root),
+                                   "PRAGMA user_version = 2", "PRAGMA application_id = 7", "PRAGMA journal_mode = wal", "DROP TABLE several",
+                                   "CREATE VIEW odd AS SELECT 1", "CREATE TRIGGER odd AFTER DELETE ON texts BEGIN DELETE FROM bodies; END"])
+def test_a_wrong_one_is_passed_over(tmp_path, capsys, cache, wrong):
+    """It is told, stays as it is, and the answer is that of one elsewhere."""
+    folder = tmp_path / "site"
+    folder_of(folder, facts(random.Random(7)), "day", random.Random(7))
+    rows = planned(folder)
+    plant(wrong, folder / ".index")
+    names = sorted(os.listdir(folder))
+    assert not capsys.readouterr().err and planned(folder) == rows
+    said = capsys.readouterr().err.splitlines()
+    assert len(said) == 2 and str(folder / ".index") in said[0] and said[0].endswith(PASSED) and cadf_index_file.MADE in said[1], said
+    assert sorted(os.listdir(folder)) == names and os.listdir(cache)
+    os.chmod(cache, 0o777)
+    assert planned(folder) is None and len(capsys.readouterr().err.splitlines()) == 2
+
+
+@pytest.mark.parametrize("page", range(0, 12))
+def test_a_damaged_page(tmp_path, capsys, page):
+    """Where SQLite says that it is damaged, another one is made."""
+    folder = tmp_path / "site"
+    folder_of(folder, facts(random.Random(8)), "day", random.Random(8))
+    rows = planned(folder)
+    with open(folder / ".index", "r+b") as file:
+        file.seek(4096 * page)
+        file.write(random.Random(page).randbytes(64))
+    assert planned(folder) == rows and capsys.readouterr().err.count(PASSED) <= 1
+
+
+@pytest.mark.needs("strace")
+@pytest.mark.parametrize("fault, step", [("signal=KILL", 1), ("error=ENOSPC", 3), ("error=EIO", 5)])
+def test_each_write_is_the_last_or_fails(tmp_path, capsys, fault, step):
+    """Whatever call to change the disk ends the program or fails, the next call has the right answer by the same index."""
+    begun, calls = tmp_path / "begun", "pwrite64,write,fsync,fdatasync,unlink,ftruncate"
+    folder_of(begun, facts(random.Random(9), 40), "day", random.Random(9))
+    right = planned(shutil.copytree(begun, tmp_path / "right"))
+    for number in range(1, 200, step):
+        folder = shutil.copytree(begun, tmp_path / str(number))
+        names = [word for name in (".index", ".index-journal") for word in ("-P", str(folder / name))]
+        done = subprocess.run(["strace", "-qq", "-f", "-o", "/dev/null", *names, "-e", "trace=" + calls, "-e", "inject=%s:%s:when=%d" % (calls, fault, number),
+                               sys.executable, "-c", MAKE, os.path.join(TOP, "share", "cadf"), str(folder)], stdout=subprocess.PIPE, stderr=subprocess.PIPE)
+        if b"ptrace" in done.stderr:
+            pytest.skip("strace isn't allowed")
+        assert planned(folder) == right and capsys.readouterr().err == "" and b"Traceback" not in done.stderr, number
+        shutil.rmtree(folder)
+        if done.returncode == 0 and not done.stderr:
+            break
+    assert 20 < number < 199
