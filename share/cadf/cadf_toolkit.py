@@ -286,6 +286,7 @@ class Parser(argparse.ArgumentParser):
         if sys.getfilesystemencoding() != "utf-8":  # as cadf has words and names, whatever the locale says
             os.execv(sys.executable, [sys.executable, "-X", "utf8", *sys.argv])
         super().__init__(prog=tool(), description=description, usage=usage, allow_abbrev=False, formatter_class=Help)
+        self._negative_number_matcher = re.compile("-[0-9]{1,6}(s|min|h|d|w)")  # a time before now is no option
         self.add_argument("--version", action=Version, nargs=0, help="print the version and the commit, and exit")
 
     def parse_args(self, args=None, namespace=None):

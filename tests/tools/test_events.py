@@ -51,9 +51,9 @@ def folder_of(path, atoms, unit, chance):
     lines = []
     for part in in_order(parts := parts_of(atoms, unit)):
         shares = [set() for _ in range(chance.randrange(1, 4))]
-        for atom in parts[part]:
+        for atom in sorted(parts[part]):
             chance.choice(shares).update({atom, atom[:3] if atom[0] == "E" else atom})
-        for data in {file_of(LOG, share) for share in shares if share}:
+        for data in sorted({file_of(LOG, share) for share in shares if share}):
             digest = data[-65:-1].decode()
             (path / ("%s.%s.cadf" % (part, digest))).write_bytes(data)
             lines.append((part != "shared", part, digest))
@@ -79,7 +79,7 @@ def wanted(atoms, limits):
 
 
 def events(tools, cadf, site, limits, *words):
-    bounds = [word for name, bound in zip(("--from", "--until"), limits) if bound is not None for word in (name, bound)]
+    bounds = [word for name, bound in zip(("--since", "--until"), limits) if bound is not None for word in (name, bound)]
     return ended(os.path.join(tools, "cadf-events"), [*bounds, *words, "--", site], env=dict(os.environ, CADF=cadf))
 
 
@@ -89,14 +89,14 @@ def differs(tools, cadf, tmp_path, seed):
     atoms = facts(chance)
     (tmp_path / ("%d.cadf" % seed)).write_bytes(file_of(LOG, atoms))
     unit = ("month", "day", "hour")[seed % 3]
-    sites = str(tmp_path / ("%d.cadf" % seed)), folder_of(tmp_path / str(seed), atoms, unit, chance)
+    folder = folder_of(tmp_path / str(seed), atoms, unit, chance)
     for limits in RANGES:
         lines, left_out = wanted(atoms, limits)
-        for site in sites:
-            answer = events(tools, cadf, site, limits)
+        for site, *words in [str(tmp_path / ("%d.cadf" % seed))], [folder], [folder, "--no-index"]:
+            answer = events(tools, cadf, site, limits, *words)
             said = ("cadf-events: %s%d; `cadf-conflicts` lists them\n" % (OPEN, left_out)).encode() if left_out else b""
             if answer != (5 if left_out else 0, lines, said):
-                return limits, site, answer, lines, said
+                return limits, site, words, answer, lines, said
     return None
 
 
@@ -106,17 +106,17 @@ def test_file_and_folder_show_the_same(cadf, tmp_path, seed):
 
 
 @pytest.mark.parametrize("right, wrong", [
-    ("own.of([*inputs, *rulings], windows.common)", "own.of([*inputs, *rulings])"),
-    ("own.of([*inputs, *rulings], windows.common)", "own.of(inputs, windows.common)"),
+    ("own.of([*inputs, *rulings], lambda identifier: spelled(identifier) in windows.common)", "own.of([*inputs, *rulings])"),
+    ("own.of([*inputs, *rulings], lambda", "own.of(inputs, lambda"),
+    ("        rulings = windows.ruled_of(windows.common)\n", "        rulings = []\n"),
     ("opened(windows.ruled(window))", "opened([])"),
-    ("opened(windows.ruled_of(windows.common))", "opened([])"),
-    ("        return name, own.left_out", "        return name, 0"),
+    ("        return name, own.open, own.long", "        return name, 0, own.long"),
     ("self.of([*facts, *rulings])", "self.of([*facts])"),
-    (", *(self.of_facts(name, rulings) for name in windows.facts))", ")"),
+    (", *(self.of_facts(name, inputs) for name in facts),", ","),
     ("utc(limits.until - 1)[:length]", "utc(limits.until - 1)[:length - 1]"),
     ("            if len(parts) > 1:", "            if len(parts) > 2:"),
-    ("yield at, identifier, text", 'yield event["eventTime"], identifier, text'),
-    ('any(map(self.limits.has, conflict["values"]))', "1"),
+    ("    return at, identifier, line, bodies", '    return event["eventTime"], identifier, line, bodies'),
+    ("self.open += bool(answering)", "self.open += 1"),
 ])
 def test_wrong_versions_are_caught(cadf, tmp_path, right, wrong):
     tools = copied(tmp_path / "copy", right, wrong)
@@ -141,7 +141,7 @@ def test_another_program_that_imitates_the_command(cadf, tmp_path, wrong):
     atoms = document({"id": LOG, "events": [dict(EVENT, id="e", eventTime=TIMES[4])]})[1]
     (tmp_path / "file").write_bytes(file_of(LOG, atoms))
     for site in str(tmp_path / "file"), folder_of(tmp_path / "folder", atoms, "day", random.Random(0)):
-        for words in [["--bulk", "audit"], ["--from", "2024-03-01"]]:
+        for words in [["--no-index", "--bulk", "audit"], ["--no-index", "--since", "2024-03-01"]]:
             answer = ended(os.path.join(TOP, "tools", "cadf-events"), [*words, "--", site], env=dict(os.environ, CADF=str(tmp_path / "imitation")))
             assert (answer.status, answer.error.decode()) == (3, "cadf-events: %s: what it writes is no log\n" % (tmp_path / "imitation")), answer
 
