@@ -20,6 +20,8 @@ from tests.tools import broker
 from tests.tools.copies import copied
 from tests.tools.listeners import LISTEN, Listeners, lines_of, lost, recorded
 from tests.tools.programs import tool
+from tests.tools.test_rest import Place, atoms_of, message
+from tests.tools.test_strangers import BASE, HONEST, JUNK, MOST, STRANGERS
 
 pytestmark = [pytest.mark.broker, pytest.mark.xdist_group("broker"), pytest.mark.timeout(600),
               pytest.mark.skipif(broker.missing() is not None, reason="%s isn't there" % broker.missing())]
@@ -80,6 +82,18 @@ def test_full_disk(listeners, wrong, limit):
     """A disk that is full at an exact byte: the right listener loses nothing, the wrong one does."""
     assert lost_on_full_disk(listeners, LISTEN, limit) == 0
     assert lost_on_full_disk(listeners, wrong, limit) > 0
+
+
+@pytest.mark.parametrize("stranger", STRANGERS)
+def test_one_stranger_on_the_bus_keeps_no_honest_event_out(listeners, cadf, tmp_path, stranger):
+    """What a stranger sends, events or what is none, comes before the honest message: after one run that is in the site."""
+    queue = "stranger-%d" % list(STRANGERS).index(stranger)
+    listeners.publish(queue, [*JUNK.values(), *(message(each).encode() for each in [*STRANGERS[stranger], HONEST])])
+    assert listeners.ended(listeners.start("spool", "--queue", queue, "--until-empty", "0.3")) == 0
+    place = Place(cadf, tmp_path)
+    place.takes("--by=day", "site/", place.put("base.json", BASE))
+    done = place.spool("--windows=%d" % MOST)
+    assert done.status in (0, 5) and atoms_of(HONEST) <= place.site(), done
 
 
 def huge_messages():
