@@ -590,10 +590,9 @@ def started_cadf(words, inputs, output, keep=(), union=1):
 def check_end(child, said, inputs):
     """Raises the Refusal of `cadf`, which has written `said` to standard error, or the Fault that it ended otherwise, if it did."""
     status = child.wait()
-    if status == -signal.SIGXCPU:
-        raise Fault("%s: it took more processor time than it may: give more by --time" % CADF)
     if status not in (DONE, REFUSED, USAGE, FAILED, MEMORY):
-        raise Fault("%s: ended by %s" % (CADF, "status %d" % status if status > 0 else "signal %d" % -status))
+        why_ended = ": it took more processor time than it may: give more by --time" if status == -signal.SIGXCPU else ""
+        raise Fault("%s: ended by %s%s" % (CADF, "status %d" % status if status > 0 else "signal %d" % -status, why_ended))
     if status:
         raise refusal(said.decode("utf-8", "backslashreplace"), status, inputs)
 
