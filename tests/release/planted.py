@@ -80,7 +80,7 @@ ROWS = [
     Row("spool: one group", "tools/cadf-spool", "is_full = size", "is_full = False and size", "tests/tools/test_spool_groups.py -k test_groups"),
     Row("spool: 1 for a file in part", "tools/cadf-spool", 'self.note("set aside", DONE)\n            say(', 'self.note("set aside", REFUSED)\n            say(', "tests/tools/test_spool_groups.py -k test_in_part"),
     Row("spool: documents stay", "tools/cadf-spool", "            if os.sep in path:\n", "            if False:\n", "tests/tools/test_spool.py -k test_documents_go"),
-    Row("spool: folders of a judged file's program", "tools/cadf-spool", "0x1ff2, 0x122, 1 << 14", "0x1ff2, 0x1ff2, 1 << 14", "tests/tools/test_spool.py -k test_confined"),
+    Row("spool: folders of a judged file's program", "share/cadf/cadf_budget.py", "0x1ff2, 0x122, 1 << 14", "0x1ff2, 0x1ff2, 1 << 14", "tests/tools/test_spool.py -k test_confined"),
     Row("spool: a reason that can't be written ends the run", "tools/cadf-spool", "            except OSError as error:\n                fault = Waits(\"%s;", "            except ZeroDivisionError as error:\n                fault = Waits(\"%s;", "tests/tools/test_spool.py -k test_not_set_aside"),
     Row("tools: words by the locale", "share/cadf/cadf_toolkit.py", 'if sys.getfilesystemencoding() != "utf-8":', "if False:", "tests/tools/test_spool.py -k test_locale"),
     Row("openstack: set aside, not synced", "tools/cadf-from-openstack", "                os.fsync(self.descriptor)\n", "                pass\n", CRASH + "test_from_openstack"),

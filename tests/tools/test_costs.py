@@ -48,11 +48,11 @@ def facts(*events):
 
 def shared_step(size):
     """An event of whose chains each has one step that is large: of n bytes some n * n / 200 are shown."""
-    chains = [[{"reporterId": "%06d" % number, "role": "relay"}] for number in range(size // 2 // 90)]
+    last = [{"reporterId": "%06d" % number, "role": "relay"} for number in range(size // 2 // 90)]
     [body] = facts(honest(1, 0, tags=[]))
     step = json.dumps({"reporterId": "s", "role": "observer", "x": "y" * (size // 2)}, separators=(",", ":"))
     body = (body[0], "long", body[2])
-    return {body, *((*body, "C", step, json.dumps(each, separators=(",", ":"))) for chain in chains for each in chain)}
+    return {body, *((*body, "C", step, json.dumps(each, separators=(",", ":"))) for each in last)}
 
 
 def rulings(count):
@@ -169,7 +169,7 @@ def test_an_event_whose_texts_are_long_is_left_out(tmp_path, cadf, tools, tool, 
     place = Place(tmp_path, cadf, tools)
     place.put("sent.cadf", shared_step(200000))
     place.run("cadf-take", "site/", "sent.cadf")
-    subprocess.run([cadf, "join", "honest.cadf", "sent.cadf"], cwd=tmp_path, stdout=open(tmp_path / "file.cadf", "wb"), check=True)
+    (tmp_path / "file.cadf").write_bytes(subprocess.run([cadf, "join", "honest.cadf", "sent.cadf"], cwd=tmp_path, stdout=subprocess.PIPE, check=True).stdout)
     limits = {"preexec_fn": lambda: resource.setrlimit(resource.RLIMIT_AS, (2 ** 29, 2 ** 29))}
     found = place.run(tool, "site/" if is_folder else "file.cadf", **limits)
     assert found.status == 5 and len(re.findall(SAID, found.error.decode())) == 1, found
