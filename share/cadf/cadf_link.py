@@ -418,9 +418,9 @@ def told_fault(fault):
     return b"%d %s" % (fault.status, str(fault).encode("utf-8", "backslashreplace"))
 
 
-def fault_of(peer, told):
-    """The fault that the other end tells by a text, a message or an item: a digit, the status, and a text."""
+def fault_of(peer, told, statuses="134"):
+    """The fault that the other end tells by a text, a message or an item: a digit, the status, which is one of these, and a text."""
     text = told if isinstance(told, str) else told.content(4 * LONGEST_TEXT).decode("utf-8", "backslashreplace")
-    status = int(text[0]) if text[:1] in ("1", "3", "4", "5") else FAILED
+    status = int(text[0]) if text[:1] and text[0] in statuses else FAILED
     said = printable(text[2:LONGEST_TEXT])
     return Told(said if said.startswith(peer + ": ") else "%s: %s" % (peer, said), status)

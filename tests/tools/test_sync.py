@@ -411,6 +411,7 @@ LIES = {
     "no number of windows": (first(windows=-1), 1, "no windows in the first line"),
     "no line feed at last": (FIRST + message(b"list", b"W all %s" % DIGEST), 1, "no list of windows"),
     "a fault with escapes": (FIRST + message(b"fault", b"4 \x1b[2J"), 4, "\\u001b[2J"),
+    "a fault that says all is done": (FIRST + message(b"fault", b"5 all is done"), 3, "h:there.cadf: all is done"),
     "a fault of two lines": (FIRST + message(b"fault", b"4 no\ncadf-sync: all is well"), 4, "no\\ncadf-sync: all is well"),
     "no items": (FIRST + LIST + message(b"answer"), 1, "no items that may answer"),
     "lengths that lie": (FIRST + LIST + message(b"answer", b"all facts 900\n\nx"), 1, "no items that may answer"),
