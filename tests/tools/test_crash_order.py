@@ -86,18 +86,18 @@ def spooled(cadf, folder, name, content, calls):
 
 def test_spool_in_part(cadf, tmp_path):
     """What is set aside of a file is on the disk under its name before the rest is taken, and that before the file is let go."""
-    calls = {"a": r"write\(\d+<TMP/spool/taking/\.work/0-aside>", "s": r"fsync\(\d+<TMP/spool/taking/\.work/0-aside>", "m": r"renameat\(.*set-aside>, ",
+    calls = {"a": r"write\(\d+<TMP/spool/taking/\.work/0-aside>", "s": r"fsync\(\d+<TMP/spool/taking/\.work/0-aside>", "m": r"renameat\(.*taking.*set-aside>, ",
              "F": r"fsync\(\d+<TMP/spool/set-aside>", "r": r"rename(at|at2)?\(.*site\.cadf\.new", "d": r"fsync\(\d+<TMP>", "t": r"renameat\(.*taken>, ",
              "T": r"fsync\(\d+<TMP/spool/taken>"}
     status, told = spooled(cadf, tmp_path, "lines.jsonl", GOOD + "\n" + BAD + "\n", calls)
-    assert status == 1 and re.fullmatch("a+smFrdtT", told), told
+    assert status == 0 and re.fullmatch("a+smFrdtT", told), told
 
 
 def test_spool_refuses(cadf, tmp_path):
     """A copy is on the disk before it is in the place of what was sent. So is why it is set aside before it is, and then its name."""
     calls = {"c": r"write\(\d+<TMP/spool/taking/\.work/copy>", "y": r"fsync\(\d+<TMP/spool/taking/\.work/copy>", "x": r'renameat\(.*"copy", .*taking>, ',
              "w": r"write\(\d+<TMP/spool/set-aside/cut\.json\.reason>", "s": r"fsync\(\d+<TMP/spool/set-aside/cut\.json\.reason>",
-             "m": r"renameat\(.*set-aside>, ", "F": r"fsync\(\d+<TMP/spool/set-aside>"}
+             "m": r"renameat\(.*taking.*set-aside>, ", "F": r"fsync\(\d+<TMP/spool/set-aside>"}
     status, told = spooled(cadf, tmp_path, "cut.json", "{", calls)
     assert status == 1 and re.fullmatch("c+yxw+smF", told), told
 
