@@ -95,7 +95,8 @@ class Place:
 
 # Each of the calls, over the folder `site/`; what they change is a copy.
 CALLS = {
-    "events": ("cadf-events", "site/"), "events of a day": ("cadf-events", "--from=2024-03-02", "--until=2024-03-03", "site/"), "seal": ("cadf-seal", "site/"),
+    "events": ("cadf-events", "--no-index", "site/"), "events by an index": ("cadf-events", "site/"),
+    "events of a day": ("cadf-events", "--since=2024-03-02", "--until=2024-03-03", "site/"), "seal": ("cadf-seal", "site/"),
     "conflicts": ("cadf-conflicts", "site/"), "report": ("cadf-report", "site/"), "agree": ("cadf-agree", "site/", "other/"),
     "sync": ("cadf-sync", "--conflicts", "site/", "other/"), "take": ("cadf-take", "site/", "more.cadf")}
 
