@@ -408,7 +408,7 @@ LIES = {
     "twice": (FIRST + message(b"list", b"W all %s\n" % DIGEST * 2), 1, "no list of windows"),
     "windows that fall": (first(unit="day") + message(b"list", b"W 2024-03-02 %s\nW 2024-03-01 %s\n" % (DIGEST, DIGEST)), 1, "no list"),
     "a day that is a path": (first(unit="day") + message(b"list", b"W 2024-03-0/ %s\n" % DIGEST), 1, "no list of windows"),
-    "no number of windows": (first(windows=-1), 1, "no windows in the first line"),
+    "no number of windows": (first(windows=-1), 1, "no windows from 0 to 1000000 in the first line"),
     "no line feed at last": (FIRST + message(b"list", b"W all %s" % DIGEST), 1, "no list of windows"),
     "a fault with escapes": (FIRST + message(b"fault", b"4 \x1b[2J"), 4, "\\u001b[2J"),
     "a fault that says all is done": (FIRST + message(b"fault", b"5 all is done"), 3, "h:there.cadf: all is done"),
