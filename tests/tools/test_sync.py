@@ -550,9 +550,9 @@ LARGE = 2 ** 21  # bytes for which there is no room
 def test_no_room_after_a_part_was_taken(folders):
     """The line has the folder that is full, what to do, and what was taken, which stays."""
     parts = {part.encode(): file_of("g", own) for part, own in parts_of(facts(1, 2), "day").items()}
-    days = sorted(set(parts) - {b"shared"})
+    days = sorted(set(parts) - {b"shared"}, reverse=True)  # as they are asked for: the nearest to now first
     folders.put("here/", facts())
-    listed = b"".join(b"W %s %s\n" % (part, parts[part][-65:-1] if part == b"shared" else DIGEST) for part in [b"shared", *days])
+    listed = b"".join(b"W %s %s\n" % (part, parts[part][-65:-1] if part == b"shared" else DIGEST) for part in [b"shared", *reversed(days)])
     (folders.path / "lie").write_bytes(
         first(unit="day") + message(b"list", listed) + message(b"answer", items((days[0], b"facts", parts[days[0]])))
         + message(b"answer", items((days[1], b"facts", b"0" * LARGE))))
