@@ -26,7 +26,7 @@ HELP = {
     "facts_lacked_by_peer": "Facts that the peer lacked when the last run compared.",
     "files": "Files of the last run, by what became of them.",
     "set_aside_files": "Files that wait in set-aside/ for a person.",
-    "set_aside_bytes": "Bytes of these files.",
+    "set_aside_bytes": "Bytes of these files and of the reasons beside them.",
     "open_conflicts": "Open conflicts of the windows that the last run changed; with --conflicts, of the site.",
     "largest_window_bytes": "Bytes of the site's largest window.",
     "last_success_timestamp_seconds": "When the last run that succeeded ended.",

@@ -1186,6 +1186,7 @@ def test_metrics_of_a_spool(folders):
     assert folders.runs("cadf-spool", *words).status == 1
     assert numbers(folders.path / "m.prom", '{tool="cadf-spool",site="here/"}') == {
         "facts_taken": 7, "open_conflicts": 1, 'files{,became="taken"}': 1, 'files{,became="set aside"}': 1, 'files{,became="waiting"}': 0,
+        "set_aside_files": 1, "set_aside_bytes": len(file_of("g", facts(3))[:-9]) + len((folders.path / "spool" / "set-aside" / "bad.cadf.reason").read_bytes()),
         "largest_window_bytes": len(file_of("g", facts(2) - facts() | failed(2)))}
 
 
