@@ -38,12 +38,12 @@ pub one_read : {T : Type 0} (number : ℕ) (reader : InputSpec T) (t : SourceTra
 one_read number reader t within value is = record { are = is; unfailed = is.1; bounded = within }
 
 module _ {S : Type 0} (first : ℕ) (source : Source S) where
-  pub all_read : (old new : List S) (ls : List Loaded) → AreReadWithin (map source.reads old) (map source.reads new)
+  pub all_read : (old new : List S) (ls : List Loaded) → AreReadWithin (map (source_state source) old) (map (source_state source) new)
       → AreLoaded (map (source_state source) old) (map (source_state source) new) ls → AreRead (all_from first source old new) ls
   all_read old new ls within are = record { are = are; unfailed = none_failed _ _ ls are; bounded = within }
 
   pub all_untouched : (inputs : List S) → AreUntouched (all_from first source inputs inputs)
-  all_untouched inputs = record { unread = refl; unfailed = refl; bounded = reads_first source.reads inputs }
+  all_untouched inputs = record { unread = refl; unfailed = refl; bounded = reads_first (source_state source) inputs }
 
 module _ {A B : Type 0} {first : Sources A} {second : Sources B} where
   pub both_read : {a : A} {b : B} → AreRead first a → AreRead second b → AreRead (both first second) (a, b)

@@ -18,6 +18,7 @@ pub mod Verify
 pub mod Rule
 pub mod Rehearse
 pub mod Sites
+pub mod Request
 pub mod CountingSink
 pub mod Exchange
 pub mod TwoTexts

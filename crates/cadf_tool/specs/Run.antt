@@ -117,14 +117,18 @@ pub record IsRefusedAt (first : ℕ) (old new : List SourceState) (number : ℕ)
   pub loaded : AreLoaded (take (length before) old) (take (length before) new) before
   pub refused : IsRefusedFirst (drop (length before) old) (drop (length before) new) f
 
-abbrev pub all_from : {S : Type 0} → ℕ → Source S → List S → List S → Sources (List Loaded)
-all_from first source old new = record {
-  are = AreLoaded (map (source_state source) old) (map (source_state source) new);
-  refused = IsRefusedAt first (map (source_state source) old) (map (source_state source) new);
-  unread = map (source_state source) new ≡ map (source_state source) old;
-  unfailed = NoneFailed (map (source_state source) old) (map (source_state source) new);
-  bounded = AreReadWithin (map source.reads old) (map source.reads new);
+-- sources that are seen as these before and after a run, of which the first has that number
+abbrev pub inputs_from : ℕ → List SourceState → List SourceState → Sources (List Loaded)
+inputs_from first old new = record {
+  are = AreLoaded old new;
+  refused = IsRefusedAt first old new;
+  unread = new ≡ old;
+  unfailed = NoneFailed old new;
+  bounded = AreReadWithin old new;
 }
+
+abbrev pub all_from : {S : Type 0} → ℕ → Source S → List S → List S → Sources (List Loaded)
+all_from first source old new = inputs_from first (map (source_state source) old) (map (source_state source) new)
 
 abbrev pub all : {S : Type 0} → Source S → List S → List S → Sources (List Loaded)
 all source old new = all_from 1 source old new

@@ -1,4 +1,5 @@
 //! The engine of `inventory`: the digests of the atoms of the union of inputs, as an inventory file.
+ghost use Rattle.std.specs.Prelude.{false};
 ghost use Rattle.cadf_inventory.specs.InventoryFile.{inventory_file};
 ghost use Rattle.cadf_tool.specs.MissingBy.{inventory_model_of};
 ghost use Rattle.cadf_tool.specs.laws.Engines.{of_inventory};
@@ -21,6 +22,8 @@ impl Engine for InventoryEngine {
     ghost work = { λ _. inventory_model_of };
 
     ghost tell = { λ _. inventory_file };
+
+    ghost is_whole = { false };
 
     ghost of_replica = { λ _. of_inventory };
 

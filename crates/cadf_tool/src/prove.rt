@@ -1,10 +1,12 @@
 //! The engine of `prove`: the proof of which facts of an input are in a union of others, as a proof file.
-ghost use Rattle.std.specs.Prelude.{◌+◌, ◌≤◌, ◌^◌, length, List, None, Ok};
+ghost use Rattle.std.specs.Prelude.{◌+◌, ◌≤◌, ◌^◌, length, map, List, None, Ok};
 ghost use Rattle.cadf_seal.specs.ProofFile.{proof_file};
 ghost use Rattle.cadf_sketch.specs.Answers.{inventory_of};
 ghost use Rattle.cadf_tool.specs.declared.input.Loaded.{Loaded};
 ghost use Rattle.cadf_tool.specs.Join.{facts_under, on_ok};
 ghost use Rattle.cadf_tool.specs.JoinState.{IsJoinState};
+ghost use Rattle.cadf_tool.specs.Inputs.{source_state};
+ghost use Rattle.cadf_tool.specs.Request.{one_and_others};
 ghost use Rattle.cadf_tool.specs.Prove.{proof_for, proof_of_union};
 ghost use Rattle.cadf_tool.specs.Run.{one, all_from, both, transition_of, input_spec, IsWorked, IsRun};
 
@@ -65,4 +67,18 @@ pub fn run_prove<R: Source, W: Sink>(
     let union = union_with(alloc, JoinState::new(alloc, None), 2, inputs)?;
     let proof = proof_by(alloc, union, asked)?;
     answered(write_model(alloc, &proof, output))
+}
+
+/// Writes the same for the first input, under the seal of the union of the others.
+pub(crate) fn write_proof<R: Source, W: Sink>(
+    alloc: Global,
+    inputs: &mut [R],
+    output: &mut W,
+) -> Result<(), ToolFault>
+    requires { 1 ≤ length inputs.old }
+    ensures { IsRun (one_and_others (map (source_state R.Source) inputs.old) (map (source_state R.Source) inputs.new))
+        proof_of_union proof_file W.Sink output.old output.new result }
+{
+    let (facts, others) = inputs.split_at_mut(1);
+    run_prove(alloc, &mut facts[0], others, output)
 }

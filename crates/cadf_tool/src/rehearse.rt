@@ -1,6 +1,8 @@
 //! The engine of `rehearse`: simulates the schedule of a script, and writes the state of each site.
-ghost use Rattle.std.specs.Prelude.{◌≡◌, IfOk, IfErr, Ok, string_bytes};
+ghost use Rattle.std.specs.Prelude.{◌≡◌, length, map, IfOk, IfErr, Ok, Err, string_bytes};
 ghost use Rattle.cadf_tool.specs.Rehearse.{bytes_spec, script_spec, turns_of, replicas_after, final_sites as played_of};
+ghost use Rattle.cadf_tool.specs.Inputs.{source_state};
+ghost use Rattle.cadf_tool.specs.Request.{first_as};
 ghost use Rattle.cadf_tool.specs.Run.{one, transition_of, IsReadAs, IsReadWithin, IsUnread, IsExpected, IsWorked, IsWritten, IsRun};
 ghost use Rattle.cadf_tool.specs.Sites.{is_same, place_of as place_in, sites_text as text_of_sites};
 
@@ -114,4 +116,20 @@ pub fn run_rehearse<R: Source, W: Sink>(
     let turns = turns(alloc, script)?;
     let left = left(alloc, log, sites, turns.as_slice())?;
     write_lines(alloc, left.as_slice(), output)
+}
+
+/// Writes the same of the only source, a script.
+pub(crate) fn write_rehearsal<R: Source, W: Sink>(
+    alloc: Global,
+    log: &Name,
+    sites: usize,
+    sources: &mut [R],
+    output: &mut W,
+) -> Result<(), ToolFault>
+    requires { length sources.old ≡ 1 }
+    ensures final_sites { IsRun (first_as 1 script_spec (map (source_state R.Source) sources.old) (map (source_state R.Source) sources.new))
+        (played_of log.now sites) text_of_sites W.Sink output.old output.new result }
+    ensures memory { result ≡ Err ToolFault.Memory → output.new ≡ output.old }
+{
+    run_rehearse(alloc, log, sites, &mut sources[0], output)
 }

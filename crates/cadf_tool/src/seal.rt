@@ -1,4 +1,5 @@
 //! The engine of `seal`: the seal of the inventory of the union of inputs, as a seal file.
+ghost use Rattle.std.specs.Prelude.{false};
 ghost use Rattle.cadf_seal.specs.SealFile.{seal_file};
 ghost use Rattle.cadf_tool.specs.declared.input.Loaded.TheVariants as loaded;
 ghost use Rattle.cadf_tool.specs.Run.{IsWorked};
@@ -32,6 +33,8 @@ impl Engine for SealEngine {
     ghost work = { λ _. seal_model_of };
 
     ghost tell = { λ _. seal_file };
+
+    ghost is_whole = { false };
 
     ghost of_replica = { λ _. of_seal };
 

@@ -1,4 +1,5 @@
 //! The engine of `sketch`: a short sketch of the inventory of the union of inputs, as a sketch file.
+ghost use Rattle.std.specs.Prelude.{false};
 ghost use Rattle.cadf_sketch.specs.SketchFile.{sketch_file};
 ghost use Rattle.cadf_tool.specs.declared.input.Loaded.TheVariants as loaded;
 ghost use Rattle.cadf_tool.specs.Run.{IsWorked};
@@ -39,6 +40,8 @@ impl Engine for SketchEngine {
     ghost work = { λ e. sketch_model_of e.cells e.salt };
 
     ghost tell = { λ _. sketch_file };
+
+    ghost is_whole = { false };
 
     ghost of_replica = { λ e. of_sketch e.cells e.salt };
 

@@ -10,8 +10,23 @@ use cadf_json::{Sink, Source};
 use cadf_split::{Unit, write_split};
 use std::alloc::Global;
 
-/// Writes the split file by that unit of the union of all inputs, with the given log or, if none is given, the first
-/// that an input names. Writes nothing before all inputs are accepted. `Err`: why nothing was written, or only a prefix.
+/// Writes the split file by that unit of the union of all inputs, under the log that is given or else the first that an
+/// input names. `Err`: why nothing was written, or only a prefix.
+pub(crate) fn write_split_file<R: Source, W: Sink>(
+    alloc: Global,
+    unit: Unit,
+    log: &Option<Name>,
+    inputs: &mut [R],
+    output: &mut W,
+) -> Result<(), ToolFault>
+    ensures { IsRun (all R.Source inputs.old inputs.new) (join_of log.now) (split_text unit)
+        W.Sink output.old output.new result }
+{
+    let replica = join(alloc, log, inputs)?;
+    answered(write_split(alloc, unit, &replica, output))
+}
+
+/// Writes the same under a log that is handed over.
 pub fn run_split<R: Source, W: Sink>(
     alloc: Global,
     unit: Unit,
@@ -22,6 +37,5 @@ pub fn run_split<R: Source, W: Sink>(
     ensures { IsRun (all R.Source inputs.old inputs.new) (join_of log) (split_text unit)
         W.Sink output.old output.new result }
 {
-    let replica = join(alloc, log, inputs)?;
-    answered(write_split(alloc, unit, &replica, output))
+    write_split_file(alloc, unit, &log, inputs, output)
 }

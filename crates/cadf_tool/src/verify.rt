@@ -1,6 +1,8 @@
 //! The engine of `verify`: what a proof says, under a seal, of the facts of an input.
-ghost use Rattle.std.specs.Prelude.{◌≡◌, Err};
+ghost use Rattle.std.specs.Prelude.{◌≡◌, length, map, Err};
+ghost use Rattle.cadf_tool.specs.Inputs.{source_state};
 ghost use Rattle.cadf_tool.specs.JoinState.{IsOnOk};
+ghost use Rattle.cadf_tool.specs.Request.{seal_facts_proof};
 ghost use Rattle.cadf_tool.specs.Run.{transition_of, IsWorked, IsAnswer, IsRun};
 ghost use Rattle.cadf_tool.specs.Verify.{verdict_lines, verdict_of, sources_of};
 
@@ -90,4 +92,28 @@ pub fn run_verify<R: Source, W: Sink>(
     let loaded = load_one(alloc, 2, facts)?;
     let proof = load_model(alloc, 3, proof);
     write_lines(verdict(alloc, absent, &seal, loaded, &proof), output)
+}
+
+/// Writes the same of three sources: a seal, facts and a proof.
+pub(crate) fn write_verdict<R: Source, W: Sink>(
+    alloc: Global,
+    absent: bool,
+    sources: &mut [R],
+    output: &mut W,
+) -> Result<(), ToolFault>
+    requires { length sources.old ≡ 3 }
+    ensures verdict { IsRun (seal_facts_proof (map (source_state R.Source) sources.old) (map (source_state R.Source) sources.new))
+        (verdict_of absent) (λ text. text) W.Sink output.old output.new result }
+    ensures memory { result ≡ Err ToolFault.Memory → output.new ≡ output.old }
+{
+    let (seal, others) = sources.split_at_mut(1);
+    let (facts, proof) = others.split_at_mut(1);
+    run_verify(
+        alloc,
+        &mut seal[0],
+        &mut facts[0],
+        &mut proof[0],
+        absent,
+        output,
+    )
 }
